@@ -5,14 +5,15 @@ use Rattle.ebml_numbers.specs.Number.{uint_of, int_of}
 use Rattle.mkv_schema.specs.declared.ids.TheConstants.{BLOCK, BLOCK_DURATION, REFERENCE_BLOCK, VOID, CRC_32}
 use Rattle.mkv_io.specs.declared.damage.Damage.{Damage}
 use Rattle.mkv_schema.specs.declared.element.Header.{Header}
-use Rattle.mkv_schema.specs.Element.{stated_end}
-use Rattle.mkv_schema.specs.Elements.{Run}
+use Rattle.mkv_schema.specs.Element.{in_master, stated_end}
+use Rattle.mkv_schema.specs.Elements.{Run, children_in}
 use Rattle.mkv_schema.specs.Value.{body_of, first_of}
 use Rattle.block_format.specs.declared.limits.TheConstants.{SLICES, MOST_REFERENCES}
 use Rattle.block_format.specs.Elements.{group_refusal, references_among, is_kept, kept_of}
 use Rattle.block_records.specs.declared.gathered.Gathered.{Gathered}
 use Rattle.block_records.specs.declared.gathered.Part.{Part}
 use Rattle.block_records.specs.declared.gathered.Part.TheVariants as part
+use Rattle.elements.specs.Body.{IfBody, end_behind}
 
 -- the first Block, the ticks of the first BlockDuration and of the ReferenceBlocks that a reader takes, the
 -- first that is one too many, and the octets of what is kept
@@ -27,6 +28,10 @@ pub record Gathers (bytes : List ℕ) (children : List Header) (g : Gathered) : 
 abbrev pub GathersRun : {T : Type 0} → List ℕ → Run → Gathered → Result T Damage → Type 0
 GathersRun bytes run g (Ok done) = (group_refusal bytes run ≡ None) × Gathers bytes run.list g
 GathersRun bytes run g (Err d) = group_refusal bytes run ≡ Some d
+
+-- the same of the body of a BlockGroup that begins there
+abbrev pub GathersBody : {T : Type 0} → ℕ → ℕ → List ℕ → Gathered → Result T Damage → Type 0
+GathersBody base total body g found = IfBody base total body (λ bytes. GathersRun bytes (children_in in_master bytes base (end_behind base body)) g found)
 
 -- what a child of this ID is to its block
 abbrev pub IsPart : ℕ → Part → Type 0

@@ -7,7 +7,7 @@ ghost use Rattle.mkv_schema.specs.Elements.{children_in};
 ghost use Rattle.mkv_schema.specs.Value.{is_known_value};
 ghost use Rattle.elements.specs.Body.{IsBody};
 ghost use Rattle.block_format.specs.Elements.{element_octets};
-ghost use Rattle.block_records.specs.Group.{Gathers, GathersRun, IsInside, IsPart};
+ghost use Rattle.block_records.specs.Group.{Gathers, GathersBody, GathersRun, IsInside, IsPart};
 ghost use Rattle.mkv_io.specs.declared.outside.TheConstants.{LONGEST_FILE};
 ghost use Rattle.block_records.specs.Says.{GathersChild, GathersReference};
 
@@ -124,8 +124,7 @@ impl Gathered {
         total: u64,
     ) -> Result<Result<(), Damage>, AllocError>
         requires { base + length body.now ≤ LONGEST_FILE }
-        ensures exact { IfOk result (λ found. (bytes : List ℕ) → IsBody bytes base total body.now
-            → GathersRun bytes (children_in in_master bytes base (base + length body.now)) self.new found) }
+        ensures exact { IfOk result (GathersBody base total body.now self.new) }
         ensures block { IfSome self.new.block (IsInside base (base + length body.now)) }
         ensures kept { length self.new.kept.items ≤ length body.now }
     {

@@ -58,3 +58,11 @@ turns_to_leave (Some c) = 1
 -- a bound on the turns that are left from a place on
 abbrev pub turns_left : Place → ℕ
 turns_left p = 2 * (p.end - p.at) + turns_to_leave p.cluster
+
+-- the end of a Segment
+abbrev pub at_end : Place → Place
+at_end p = record p { at = p.end; cluster = None }
+
+-- the place behind a child of a Cluster, whose Timestamp is known or not
+abbrev pub behind_child : Place → Inside → Header → Option ℕ → Place
+behind_child p c child timestamp = record p { at = end_in c.end child; cluster = Some (record c { timestamp = timestamp }) }

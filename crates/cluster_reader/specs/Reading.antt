@@ -1,5 +1,5 @@
 -- A file's blocks as they are read, one after the other.
-use Rattle.std.specs.Prelude.{◌≡◌, ◌<◌, ◌≤◌, ⊤, ℕ, ◌+◌, true, false, Bool, List, [], ◌∷◌, None, Result, Ok, Err, IfOk}
+use Rattle.std.specs.Prelude.{◌≡◌, ◌<◌, ◌≤◌, ⊤, ℕ, ◌+◌, true, false, Bool, List, [], ◌∷◌, length, None, Result, Ok, Err, IfOk}
 use Rattle.mkv_io.specs.declared.outside.FileId.{FileId}
 use Rattle.mkv_io.specs.declared.outside.ReadEnd.{ReadEnd}
 use Rattle.mkv_io.specs.declared.damage.Damage.{Damage}
@@ -12,7 +12,7 @@ use Rattle.mkv_schema.specs.declared.element.Header.{Header}
 use Rattle.elements.specs.Window.{ReadAhead, Holds, HasNotPassed, end_ahead}
 use Rattle.block_format.specs.Block.{Block as AnyBlock}
 use Rattle.block_format.specs.Elements.{with_limits}
-use Rattle.block_format.specs.Events.{Event, block, damaged, stopped}
+use Rattle.block_format.specs.Events.{Event, block, damaged, events_of, stopped}
 use Rattle.block_records.specs.Buffered.{Buffered, block_of}
 use Rattle.block_records.specs.Lendable.{IsLendable, LendsNothing}
 use Rattle.cluster_reader.specs.Left.{left}
@@ -181,3 +181,11 @@ pub record Spends {T : Type 0} (size : ℕ) (old new : Reading) (before now : �
 -- the same of the file of a cursor
 abbrev pub SpendsIn : {S T : Type 0} → Ghosts S → S → S → Reading → Reading → Result T ReadEnd → Type 0
 SpendsIn r src src' old new result = Spends (file_size r src old.file) old new (r.octets_read src) (r.octets_read src') result
+
+-- All blocks and damages of a file of `total` octets are left, where its Segment is this.
+abbrev pub HasAllLeft : {E : Type 0} → ℕ → Header → ℕ → Result Reading E → Type 0
+HasAllLeft scale segment total result = (bytes : List ℕ) → total ≡ length bytes → IfOk result (λ c. left_of bytes c ≡ events_of (with_limits scale) bytes segment)
+
+-- They can be read wherever the file is live and has that length.
+abbrev pub CanReadWhereLive : {E : Type 0} → FileId → ℕ → Result Reading E → Type 0
+CanReadWhereLive file total result = (files : LiveFiles) → files.live file.n ≡ true → files.size file.n ≡ total → IfOk result (CanRead files)

@@ -1,12 +1,12 @@
 -- A walk over the Elements of a file, one turn after the other.
-use Rattle.std.specs.Prelude.{◌≡◌, ◌≤◌, ◌<◌, ⊤, ℕ, ◌==◌, ◌||◌, Bool, false, if◌then◌else◌, List, [], ◌∷◌, length, Option, Some, Result, Ok, Err, IfOk, IsTrue}
+use Rattle.std.specs.Prelude.{◌≡◌, ◌≤◌, ◌<◌, ⊤, ℕ, true, not, ◌==◌, ◌||◌, Bool, false, if◌then◌else◌, List, [], ◌∷◌, length, Option, Some, Result, Ok, Err, IfOk, IsTrue}
 use Rattle.mkv_io.specs.declared.damage.Damage.{Damage}
 use Rattle.mkv_io.specs.declared.outside.ReadEnd.{ReadEnd}
 use Rattle.mkv_io.specs.declared.reads.Reads.{Ghosts}
 use Rattle.mkv_io.specs.Sources.{IfTold, file_size}
-use Rattle.mkv_schema.specs.Element.{known, stated_end}
+use Rattle.mkv_schema.specs.Element.{Setting, element_at, in_master, known, stated_end}
 use Rattle.mkv_schema.specs.Value.{body_of}
-use Rattle.elements.specs.Looks.{Goes}
+use Rattle.elements.specs.Looks.{FindsAt, Goes, GoesTo}
 use Rattle.elements.specs.Window.{Holds, ReadAhead}
 use Rattle.block_records.specs.Front.{HasHead}
 use Rattle.block_records.specs.declared.front.FrontHead.{FrontHead}
@@ -16,9 +16,9 @@ use Rattle.mkv_schema.specs.declared.element.Header.{Header}
 use Rattle.block_format.specs.Elements.{Rules, with_limits, simple_block, block_group}
 use Rattle.block_format.specs.Events.{Found, found_at, timestamp_behind}
 use Rattle.block_records.specs.Buffered.{Buffered}
-use Rattle.cluster_reader.specs.Places.{IsPlace, turns_left}
+use Rattle.cluster_reader.specs.Places.{IsPlace, at_end, behind_damage, turns_left}
 use Rattle.cluster_reader.specs.Reading.{Reading, GivesWanted, GoesOn, LendsWanted, Notes, CanRead, IsSameSegment, Pays, left_of}
-use Rattle.cluster_reader.specs.Takes.{FindsBlock, MakesBlock, MakesWanted}
+use Rattle.cluster_reader.specs.Takes.{FindsBlock, IsPassedWhere, MakesBlock, MakesWanted, settled_in}
 use Rattle.cluster_reader.specs.declared.place.Place.{Place}
 use Rattle.cluster_reader.specs.declared.step.Step.{Step}
 use Rattle.cluster_reader.specs.declared.takes.Takes.{Takes}
@@ -28,6 +28,7 @@ use Rattle.cluster_reader.specs.declared.turn.Turn.TheVariants as turn
 use Rattle.cluster_reader.specs.declared.turn.Child.{Child}
 use Rattle.cluster_reader.specs.declared.turn.Child.TheVariants as child
 use Rattle.cluster_reader.specs.declared.walk.Walk.{Walk}
+use Rattle.cluster_reader.specs.declared.place.Inside.{Inside}
 
 -- what a cursor shows of a walk, which has given nothing yet
 abbrev pub shown : Walk → Reading
@@ -147,3 +148,34 @@ PaysFor r src src' old new result = Pays (file_size r src old.file) (shown old) 
 -- The way through the body of an Element with this header pays for what the window of a walk read of it.
 abbrev pub ReadsBody : {S T E : Type 0} → Ghosts S → S → S → Walk → Walk → Header → Result T E → Type 0
 ReadsBody r src src' old new h result = Goes r old.file h.body (λ _. stated_end h) old.window new.window src src' result
+
+-- The way stays at the body of an Element, and pays for what the window of a walk read of it.
+abbrev pub StaysAtBody : {S T E : Type 0} → Ghosts S → S → S → Walk → Walk → Header → Result T E → Type 0
+StaysAtBody r src src' old new h result = GoesTo r old.file h.body h.body old.window new.window src src' result
+
+-- In the file of a walk this Element stands at its place, in a Cluster that ends there.
+abbrev pub StandsInCluster : {S : Type 0} → Ghosts S → S → Walk → ℕ → Header → Type 0
+StandsInCluster r src w end h = IfTold r src w.file (λ bytes. Ok h ≡ element_at in_master bytes w.place.at end)
+
+-- The Element at the place of a walk is what is answered, or what is wrong there.
+abbrev pub FindsNext : {S E : Type 0} → Ghosts S → S → Walk → Setting → ℕ → Result (Result Header Damage) E → Type 0
+FindsNext r src w s end result = FindsAt r src w.file s w.place.at end result
+
+-- What a child gives is found, whatever is wanted.
+abbrev pub FindsForAll : {S : Type 0} → Ghosts S → S → Walk → Walk → Option ℕ → Header → Child → Type 0
+FindsForAll r src old new timestamp h found = (takes : Takes) → FindsIn r src old new timestamp h takes found
+
+-- What a walk gives is that of its file, where this is wanted.
+abbrev pub GivesIn : {S : Type 0} → Ghosts S → S → Takes → Walk → Walk → Result Step ReadEnd → Type 0
+GivesIn r src takes old new result = IfTold r src old.file (λ bytes. GivesWanted takes bytes (shown old) (shown new) result)
+
+-- a walk that went on to where a damage leaves it, and one that ended
+abbrev pub broken_off : Inside → Walk → Walk
+broken_off c w = record w { place = behind_damage w.place c; stopped = not c.closed }
+
+abbrev pub ended : Walk → Walk
+ended w = record w { place = at_end w.place; stopped = true }
+
+-- A block is passed exactly where its front, as far as the window of a walk holds it, settles what is wanted of it.
+abbrev pub PassesWhereSettled : Takes → ℕ → Header → Walk → Walk → Bool → Type 0
+PassesWhereSettled takes ticks h old new passed = IsPassedWhere (settled_in takes old.scale ticks h new.window) new.block passed

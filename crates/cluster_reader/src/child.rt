@@ -10,7 +10,7 @@ ghost use Rattle.block_format.specs.Elements.{timestamp_for, with_limits};
 ghost use Rattle.block_records.specs.Lendable.{HasSmallTimes};
 ghost use Rattle.cluster_reader.specs.Reading.{LendsWanted};
 ghost use Rattle.cluster_reader.specs.Takes.{IsPassedWhere, held_front, settled_by, settled_in, wants};
-ghost use Rattle.cluster_reader.specs.Walks.{IsReady, KeepsWalk, LendsForChild, FindsIn, MakesIn, PassesIn, ReadsBody, SettlesHeld};
+ghost use Rattle.cluster_reader.specs.Walks.{FindsForAll, FindsIn, IsReady, KeepsWalk, LendsForChild, MakesIn, PassesIn, PassesWhereSettled, ReadsBody, SettlesHeld, StaysAtBody};
 ghost use Rattle.cluster_reader.specs.declared.step.Step.TheVariants as StepOf;
 ghost use Rattle.cluster_reader.specs.declared.takes.Takes.{Takes};
 
@@ -74,7 +74,7 @@ fn timestamp_child<R: Reads>(
     requires whole { is_unknown header.now.size ≡ false }
     requires inside { stated_end header.now ≤ walk.old.place.end }
     requires id { header.now.id ≡ TIMESTAMP }
-    ensures ok { IfOk result (λ child. (takes : Takes) → FindsIn R.Reads src.old walk.old walk.new timestamp header.now takes child) }
+    ensures ok { IfOk result (FindsForAll R.Reads src.old walk.old walk.new timestamp header.now) }
     ensures lends { IfOk result (λ child. (takes : Takes) → LendsForChild takes child walk.new.block) }
     ensures only { walk.new ≡ record walk.old { window = walk.new.window } }
     ensures holds { IfTold R.Reads src.old walk.old.file (λ bytes. Holds bytes walk.new.window) }
@@ -156,13 +156,13 @@ fn passes<R: Reads>(
     requires few { known header.now.size ≤ MOST_OF_BLOCK }
     requires whole { is_unknown header.now.size ≡ false }
     requires inside { stated_end header.now ≤ walk.old.place.end }
-    ensures exact { IfOk result (IsPassedWhere (settled_in takes walk.old.scale ticks header.now walk.new.window) walk.new.block) }
+    ensures exact { IfOk result (PassesWhereSettled takes ticks header.now walk.old walk.new) }
     ensures found { IfOk result (PassesIn R.Reads src.old walk.old walk.new ticks header.now takes) }
     ensures only { walk.new ≡ record walk.old { block = walk.new.block; window = walk.new.window } }
     ensures holds { IfTold R.Reads src.old walk.old.file (λ bytes. Holds bytes walk.new.window) }
     ensures standing { R.standing src.new ≡ R.standing src.old }
     ensures cause { HasCause is_read_fault (R.reading_faults src.old) (R.reading_faults src.new) result }
-    ensures goes { Goes R.Reads walk.old.file header.now.body (λ _. header.now.body) walk.old.window walk.new.window src.old src.new result }
+    ensures goes { StaysAtBody R.Reads src.old src.new walk.old walk.new header.now result }
 {
     if header.id != SIMPLE_BLOCK || takes == Takes::All {
         return Ok(false);

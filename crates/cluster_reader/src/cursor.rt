@@ -10,7 +10,7 @@ ghost use Rattle.block_records.specs.Lendable.{HasSmallTimes};
 ghost use Rattle.block_records.specs.Time.{IsSmallTime};
 ghost use Rattle.block_format.specs.Elements.{with_limits};
 ghost use Rattle.block_format.specs.Events.{events_of};
-ghost use Rattle.cluster_reader.specs.Reading.{Begins, Counts, Gives, GivesWanted, CanRead, Moves, MovesWanted, left_of, with_given, SpendsIn};
+ghost use Rattle.cluster_reader.specs.Reading.{Begins, CanRead, CanReadWhereLive, Counts, Gives, GivesWanted, HasAllLeft, Moves, MovesWanted, SpendsIn, left_of, with_given};
 ghost use Rattle.block_format.specs.declared.limits.TheConstants.{MOST_REFERENCES};
 
 use crate::next_step::next_step;
@@ -63,12 +63,10 @@ impl Cursor {
     ) -> Result<Cursor, AllocError>
         requires { 1 ≤ scale }
         ensures begins { IfOk result (Begins file scale (O.segment outline.now) (O.total outline.now)) }
-        ensures left { (bytes : List ℕ) → O.total outline.now ≡ length bytes
-            → IfOk result (λ c. left_of bytes c ≡ events_of (with_limits scale) bytes (O.segment outline.now)) }
+        ensures left { HasAllLeft scale (O.segment outline.now) (O.total outline.now) result }
 
         // It may be advanced in a live file of that length.
-        ensures stands { (files : LiveFiles) → files.live file.n ≡ true → files.size file.n ≡ O.total outline.now
-            → IfOk result (CanRead files) }
+        ensures stands { CanReadWhereLive file (O.total outline.now) result }
     {
         let walk = Walk {
             window: Window::new(alloc)?,

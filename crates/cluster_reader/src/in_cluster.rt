@@ -5,7 +5,7 @@ ghost use Rattle.mkv_io.specs.Faults.{HasCause, is_read_fault};
 ghost use Rattle.mkv_io.specs.Sources.{IfTold, live_files};
 ghost use Rattle.mkv_schema.specs.Element.{element_at, in_master, is_unknown, stated_end};
 ghost use Rattle.cluster_reader.specs.Left.{ends_children};
-ghost use Rattle.cluster_reader.specs.Walks.{IsReady, PaysFor, TakesTurn, Turns};
+ghost use Rattle.cluster_reader.specs.Walks.{IsReady, PaysFor, StandsInCluster, TakesTurn, Turns};
 
 use crate::child::read_child;
 use crate::place::Inside;
@@ -72,7 +72,7 @@ fn turn_child<R: Reads>(
     requires later { walk.old.place.at < header.now.body }
     requires whole { is_unknown header.now.size ≡ false }
     requires within { stated_end header.now ≤ cluster.end }
-    requires found { IfTold R.Reads src.old walk.old.file (λ bytes. Ok header.now ≡ element_at in_master bytes walk.old.place.at cluster.end) }
+    requires found { StandsInCluster R.Reads src.old walk.old cluster.end header.now }
     requires goes { ends_children cluster.unknown header.now.id ≡ false }
     ensures gives { IfTold R.Reads src.old walk.old.file (λ bytes. Turns takes bytes walk.old walk.new result) }
     ensures takes { TakesTurn takes walk.old walk.new result }

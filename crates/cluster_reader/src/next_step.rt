@@ -4,7 +4,7 @@ ghost use Rattle.std.specs.Prelude.{◌≡◌};
 ghost use Rattle.mkv_io.specs.Faults.{HasCause, is_read_fault};
 ghost use Rattle.mkv_io.specs.Sources.{IfTold, live_files};
 ghost use Rattle.cluster_reader.specs.Reading.{GivesWanted};
-ghost use Rattle.cluster_reader.specs.Walks.{IsReady, PaysFor, TakesStep, TakesTurn, Turns, shown};
+ghost use Rattle.cluster_reader.specs.Walks.{GivesIn, IsReady, PaysFor, TakesStep, TakesTurn, Turns, shown};
 
 use crate::at_level_1::turn_at_level_1;
 use crate::in_cluster::turn_in_cluster;
@@ -17,7 +17,7 @@ use mkv_io::{ReadEnd, Reads};
 /// The next block or damage, up to which a walk goes on, by which blocks are wanted.
 pub fn next_step<R: Reads>(walk: &mut Walk, src: &mut R, takes: Takes) -> Result<Step, ReadEnd>
     requires { IsReady (live_files R.Reads src.old) walk.old }
-    ensures gives { IfTold R.Reads src.old walk.old.file (λ bytes. GivesWanted takes bytes (shown walk.old) (shown walk.new) result) }
+    ensures gives { GivesIn R.Reads src.old takes walk.old walk.new result }
     ensures takes { TakesStep takes walk.old walk.new result }
     ensures ready { IsReady (live_files R.Reads src.new) walk.new }
     ensures standing { R.standing src.new ≡ R.standing src.old }

@@ -3,7 +3,7 @@
 ghost use Rattle.std.specs.Prelude.{◌≡◌, ◌≤◌, Some, None};
 ghost use Rattle.mkv_schema.specs.Element.{end_in};
 ghost use Rattle.block_format.specs.Events.{is_closed};
-ghost use Rattle.cluster_reader.specs.Places.{bound_in, cluster_in, first_place};
+ghost use Rattle.cluster_reader.specs.Places.{behind_child, bound_in, cluster_in, first_place};
 ghost use Rattle.mkv_io.specs.declared.outside.TheConstants.{LONGEST_FILE};
 
 use ebml_numbers::Size;
@@ -79,7 +79,7 @@ impl Place {
 
     /// The place behind a child of a Cluster, where this Timestamp then stands before the next one.
     pub fn passed(self, cluster: Inside, child: &Header, timestamp: Option<u64>) -> Place
-        ensures { result ≡ record self { at = end_in cluster.end child.now; cluster = Some (record cluster { timestamp = timestamp }) } }
+        ensures { result ≡ behind_child self cluster child.now timestamp }
     {
         Place {
             at: end_in(child, cluster.end),

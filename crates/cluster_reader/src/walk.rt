@@ -2,12 +2,12 @@
 
 ghost use Rattle.std.specs.Prelude.{◌≡◌, ◌≤◌, ◌<◌, true, not, None, IfOk};
 ghost use Rattle.mkv_io.specs.Faults.{HasCause, is_read_fault};
-ghost use Rattle.mkv_io.specs.Sources.{IfTold, live_files};
+ghost use Rattle.mkv_io.specs.Sources.{IfRead, IfTold, live_files};
 ghost use Rattle.mkv_schema.specs.Element.{element_at};
 ghost use Rattle.mkv_schema.specs.Placed.{StandsAt, IsWhole};
 ghost use Rattle.elements.specs.Parent.{setting_of};
 ghost use Rattle.cluster_reader.specs.Places.{behind_damage};
-ghost use Rattle.cluster_reader.specs.Walks.{IsReady, PaysFor};
+ghost use Rattle.cluster_reader.specs.Walks.{FindsNext, IsReady, PaysFor, broken_off, ended};
 
 use crate::place::{Inside, Place};
 use block_records::BlockBuffer;
@@ -43,7 +43,7 @@ impl Walk {
         requires ready { IsReady (live_files R.Reads src.old) self.old }
         requires before { self.old.place.at < end }
         requires within { end ≤ self.old.place.end }
-        ensures ok { IfOk result (λ found. IfTold R.Reads src.old self.old.file (λ bytes. found ≡ element_at (setting_of parent) bytes self.old.place.at end)) }
+        ensures ok { FindsNext R.Reads src.old self.old (setting_of parent) end result }
         ensures placed { IfOk result (λ found. IfOk found (StandsAt self.old.place.at end)) }
         ensures whole { IfOk result (λ found. IfOk found (IsWhole (setting_of parent) end)) }
         ensures only { self.new ≡ record self.old { window = self.new.window } }
@@ -63,7 +63,7 @@ impl Walk {
 
     /// Goes on behind a Cluster in which something is wrong, where it is closed, else to the end.
     pub fn break_off(&mut self, cluster: &Inside)
-        ensures { self.new ≡ record self.old { place = behind_damage self.old.place cluster.now; stopped = not cluster.now.closed } }
+        ensures { self.new ≡ broken_off cluster.now self.old }
     {
         let at = if cluster.closed {
             cluster.end
@@ -76,7 +76,7 @@ impl Walk {
 
     /// Nothing is left behind this damage.
     pub fn stop(&mut self)
-        ensures { self.new ≡ record self.old { place = record self.old.place { at = self.old.place.end; cluster = None }; stopped = true } }
+        ensures { self.new ≡ ended self.old }
     {
         self.place = self.place.outside(self.place.end);
         self.stopped = true;

@@ -1,15 +1,20 @@
 -- Octets that are appended to a file, some of them read from others.
-use Rattle.std.specs.Prelude.{◌≡◌, ◌≤◌, ℕ, ◌+◌, List, [], ◌∷◌, length, Result, Ok, Err, OnOk}
+use Rattle.std.specs.Prelude.{◌≡◌, ◌≤◌, ℕ, ◌+◌, List, [], ◌∷◌, ◌++◌, length, map, sum_by, Result, Ok, Err, OnOk}
 use Rattle.mkv_io.specs.declared.outside.FileId.{FileId}
 use Rattle.mkv_io.specs.Contents.{with_appended}
 use Rattle.mkv_io.specs.Names.{Names, with_change}
-use Rattle.mkv_io.specs.Sources.{file_size}
+use Rattle.mkv_io.specs.Sources.{content_of, file_size, live_files}
 use Rattle.mkv_io.specs.Writing.{KeepsOthers}
 use Rattle.mkv_io.specs.declared.reads.Reads.{Ghosts}
 use Rattle.mkv_io.specs.declared.files.Files as writing
 use Rattle.mkv_io.specs.Ends.{HasRemuxCause}
 use Rattle.mkv_io.specs.declared.remux_end.RemuxEnd.{RemuxEnd}
 use Rattle.mkv_outputs.specs.Written.{PassesSome}
+use Rattle.mkv_io.specs.LiveFiles.{LiveFiles}
+use Rattle.output_model.specs.declared.attachment.Attachment.{Attachment}
+use Rattle.output_model.specs.Attached.{attached_file, octets_told}
+use Rattle.output_model.specs.Element.{joined, octets_of}
+use Rattle.output_model.specs.Document.{tree_element}
 
 -- Octets are appended to the content of a name, and no other name changes. After a refusal some first of them are.
 abbrev pub IsAppended : {T E : Type 0} → Names → Names → List ℕ → List ℕ → Result T E → Type 0
@@ -23,3 +28,27 @@ pub record AppendsOnly {S T : Type 0} (r : Ghosts S) (f : writing.Ghosts S) (fil
   pub kept : KeepsOthers r f (f.holder old file.n ∷ []) old new
   pub cause : HasRemuxCause r f old new result
   pub reads : r.octets_read new ≤ r.octets_read old + most
+
+-- The AttachedFile of an attachment is appended, with the data of its file.
+abbrev pub AppendsAttachment : {S T : Type 0} → Ghosts S → writing.Ghosts S → FileId → Attachment → S → S → Result T RemuxEnd → Type 0
+AppendsAttachment r f file a old new result = AppendsOnly r f file (octets_of (tree_element (attached_file (live_files r old) a))) a.len old new result
+
+-- octets of all AttachedFiles, and how many of them are data
+abbrev pub attached_octets : LiveFiles → List Attachment → List ℕ
+attached_octets files attachments = joined (map tree_element (map (attached_file files) attachments))
+
+abbrev pub data_octets : List Attachment → ℕ
+data_octets attachments = sum_by (λ (a : Attachment). a.len) attachments
+
+-- Those of all attachments are, behind these octets.
+abbrev pub AppendsAttached : {S T : Type 0} → Ghosts S → writing.Ghosts S → FileId → List ℕ → List Attachment → S → S → Result T RemuxEnd → Type 0
+AppendsAttached r f file before attachments old new result =
+    AppendsOnly r f file (before ++ attached_octets (live_files r old) attachments) (data_octets attachments) old new result
+
+-- Octets of another live file are, from a place on.
+abbrev pub AppendsCopy : {S T : Type 0} → Ghosts S → writing.Ghosts S → FileId → FileId → ℕ → ℕ → S → S → Result T RemuxEnd → Type 0
+AppendsCopy r f to from at len old new result = AppendsOnly r f to (octets_told (content_of r old from) at len) len old new result
+
+-- Octets are appended to the name of a live file.
+abbrev pub AppendsTo : {S T E : Type 0} → writing.Ghosts S → FileId → List ℕ → S → S → Result T E → Type 0
+AppendsTo f file octets old new result = IsAppended (f.names old) (f.names new) (f.holder old file.n) octets result

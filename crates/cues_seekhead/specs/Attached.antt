@@ -44,3 +44,7 @@ behind_data a = flat_map octets (without FILE_DATA (drop (data_place (children a
 -- The data of each are as many octets as it says.
 abbrev pub HaveData : LiveFiles → List Attachment → Type 0
 HaveData files attachments = All (λ (a : Attachment). length (data_of files a) ≡ a.len) attachments
+
+-- the same of Attachments behind octets of which the first stands at a place
+abbrev pub seeks_behind : ℕ → List ℕ → List Attachment → List Seek
+seeks_behind at out attachments = attachments_seeks (at + length out) attachments

@@ -1,5 +1,5 @@
 -- What stands of an output whose last writes may be refused.
-use Rattle.std.specs.Prelude.{◌≡◌, ◌≤◌, ℕ, ◌-◌, List, [], ◌∷◌, ◌++◌, length, Result, Ok, Err}
+use Rattle.std.specs.Prelude.{◌≡◌, ◌≤◌, ℕ, ◌+◌, ◌-◌, List, [], ◌∷◌, ◌++◌, length, Result, Ok, Err}
 use Rattle.mkv_io.specs.declared.outside.FileId.{FileId}
 use Rattle.mkv_io.specs.Names.{Names, with_content}
 use Rattle.mkv_io.specs.declared.files.Files.{Ghosts}
@@ -9,6 +9,9 @@ use Rattle.output_model.specs.Element.{joined}
 use Rattle.output_model.specs.SeekHead.{area_elements}
 use Rattle.output_model.specs.Document.{Document, seeks_of, elements_behind_area, segment_size, opened}
 use Rattle.cues_seekhead.specs.Front.{body_start}
+use Rattle.cues_seekhead.specs.declared.ending.Ending.{Ending}
+use Rattle.output_model.specs.declared.TheConstants.{AREA}
+use Rattle.ebml_numbers.specs.Number.{size_octets}
 
 -- Under the name of a draft stands what becomes of it on the way, and every other name has what it had before.
 pub record StandsDrafted (before now : Names) (d : Draft) : Type 0 where
@@ -38,3 +41,7 @@ Drafts f file least back patches old new (Ok _) =
 Drafts f file least back patches old new (Err _) =
     (before : Names) (content : List ℕ) → least ≤ length content → f.names old ≡ with_content before (f.holder old file.n) content
     → StandsDrafted before (f.names new) (record { name = f.holder old file.n; appended = content ++ back; patches = patches })
+
+-- Those of an ending are the Segment's area and its size, whose body begins there.
+abbrev pub DraftsEnd : {S T E : Type 0} → Ghosts S → FileId → ℕ → Ending → S → S → Result T E → Type 0
+DraftsEnd f file start e old new result = Drafts f file (start + AREA) e.back (patches_at start e.area (size_octets e.total 8)) old new result

@@ -1,8 +1,8 @@
 -- An output that is being written.
-use Rattle.std.specs.Prelude.{◌≡◌, ◌≢◌, ◌≤◌, ℕ, ◌+◌, Bool, List, [], ◌∷◌, ◌++◌, length}
+use Rattle.std.specs.Prelude.{◌≡◌, ◌≢◌, ◌<◌, ◌≤◌, ℕ, ◌+◌, Bool, List, [], ◌∷◌, ◌++◌, length}
 use Rattle.mkv_io.specs.declared.outside.FileId.{FileId}
 use Rattle.mkv_io.specs.Names.{Names, with_content}
-use Rattle.mkv_io.specs.Sources.{IsLive, file_size}
+use Rattle.mkv_io.specs.Sources.{IsLive, file_size, live_files}
 use Rattle.mkv_io.specs.declared.reads.Reads.{Ghosts}
 use Rattle.mkv_io.specs.declared.files.Files as writing
 use Rattle.mkv_schema.specs.declared.ids.TheConstants.{ATTACHED_FILE}
@@ -15,6 +15,9 @@ use Rattle.output_model.specs.SeekHead.{seeks_from}
 use Rattle.output_model.specs.Document.{Front, front_elements, clusters_at, opened_with}
 use Rattle.cues_seekhead.specs.Front.{body_start}
 use Rattle.cues_seekhead.specs.Places.{AreIds}
+use Rattle.mkv_outputs.specs.Starts.{StandsInPart}
+use Rattle.output_model.specs.Front.{front_with}
+use Rattle.output_model.specs.declared.front.Front.{Front as GivenFront}
 
 -- The file; whether it is WebM; how many octets the Segment's body has so far; where the Elements in front of the
 -- Clusters stand; and the cue points so far.
@@ -67,3 +70,16 @@ pub record CanAttach {S : Type 0} (r : Ghosts S) (f : writing.Ghosts S) (files :
   pub live : IsLive r files a.file
   pub inside : a.at + a.len ≤ file_size r files a.file
   pub apart : f.holder files a.file.n ≢ name
+
+-- An output of this name was begun: under it stands what is in front of the Clusters; or a first part of that.
+abbrev pub BeginsWith : {S : Type 0} → Ghosts S → writing.Ghosts S → List ℕ → GivenFront → S → S → OpenOutput → Type 0
+BeginsWith r f name front old new out = StandsOpen r f (f.names old) name (front_with (live_files r old) front) [] new out
+
+abbrev pub BeginsInPart : {S : Type 0} → Ghosts S → writing.Ghosts S → List ℕ → GivenFront → S → S → Type 0
+BeginsInPart r f name front old new =
+    StandsInPart (f.names old) (f.names new) (record { name = name; content = opened_with (front_with (live_files r old) front) [] } ∷ [])
+
+-- A cue point at the next place is kept behind the others, where there may be one more.
+abbrev pub KeepsPoint : ℕ → ℕ → ℕ → OpenOutput → OpenOutput → Type 0
+KeepsPoint tick lane relative old new =
+    length old.cues < MOST_CUES → new ≡ with_cue old (record { tick = tick; lane = lane; cluster = old.len; relative = relative })

@@ -1,12 +1,12 @@
 //! Attached files that are written, each with its data.
 
-ghost use Rattle.std.specs.Prelude.{◌≤◌, All, length, map, sum_by};
+ghost use Rattle.std.specs.Prelude.{[], ◌≤◌, All, length, map, sum_by};
 ghost use Rattle.mkv_io.specs.Sources.{IsLive, live_files};
 ghost use Rattle.output_model.specs.declared.attachment.Attachment.{Attachment as AttachmentSeen};
 ghost use Rattle.output_model.specs.Attached.{attached_file};
 ghost use Rattle.output_model.specs.Element.{joined, octets_of};
 ghost use Rattle.output_model.specs.Document.{tree_element};
-ghost use Rattle.cues_seekhead.specs.Appending.{AppendsOnly};
+ghost use Rattle.cues_seekhead.specs.Appending.{AppendsAttached, AppendsAttachment, AppendsOnly};
 ghost use Rattle.cues_seekhead.specs.OpenOutput.{CanAttach};
 
 use crate::attached::{octets_before_data, octets_behind_data};
@@ -29,8 +29,7 @@ fn add_attachment<F: Files>(
     requires live { IsLive F.Reads files.old file }
     requires attached { CanAttach F.Reads F.Files.own files.old (F.holder files.old file.n) attachment.now }
     requires buffer { 1 ≤ length buffer.old }
-    ensures { AppendsOnly F.Reads F.Files.own file
-        (octets_of (tree_element (attached_file (live_files F.Reads files.old) attachment.now))) attachment.now.len files.old files.new result }
+    ensures { AppendsAttachment F.Reads F.Files.own file attachment.now files.old files.new result }
 {
     let before = octets_before_data(alloc, attachment)?;
     let behind = octets_behind_data(alloc, attachment)?;
@@ -57,8 +56,7 @@ fn add_each<F: Files>(
     requires live { IsLive F.Reads files.old file }
     requires attached { All (CanAttach F.Reads F.Files.own files.old (F.holder files.old file.n)) attachments.now }
     requires buffer { 1 ≤ length buffer.old }
-    ensures { AppendsOnly F.Reads F.Files.own file (joined (map tree_element (map (attached_file (live_files F.Reads files.old)) attachments.now)))
-        (sum_by (λ (a : AttachmentSeen). a.len) attachments.now) files.old files.new result }
+    ensures { AppendsAttached F.Reads F.Files.own file [] attachments.now files.old files.new result }
 {
     for attachment in attachments {
         add_attachment(alloc, files, file, attachment, buffer)?;
@@ -75,8 +73,7 @@ pub(crate) fn add_attachments<F: Files>(
 ) -> Result<(), OutEnd>
     requires live { IsLive F.Reads files.old file }
     requires attached { All (CanAttach F.Reads F.Files.own files.old (F.holder files.old file.n)) attachments.now }
-    ensures { AppendsOnly F.Reads F.Files.own file (joined (map tree_element (map (attached_file (live_files F.Reads files.old)) attachments.now)))
-        (sum_by (λ (a : AttachmentSeen). a.len) attachments.now) files.old files.new result }
+    ensures { AppendsAttached F.Reads F.Files.own file [] attachments.now files.old files.new result }
 {
     if attachments.is_empty() {
         return Ok(());

@@ -7,7 +7,7 @@ ghost use Rattle.tree_format.specs.NormalForm.{is_filler};
 ghost use Rattle.output_model.specs.declared.TheConstants.{MOST_CUES};
 ghost use Rattle.output_model.specs.Cues.{cues_elements};
 ghost use Rattle.output_model.specs.Document.{tree_elements, back_with};
-ghost use Rattle.cues_seekhead.specs.Places.{Adds};
+ghost use Rattle.cues_seekhead.specs.Places.{Adds, AddsBack};
 
 use crate::cues::put_cues;
 use crate::places::{add_seek, add_tree};
@@ -64,7 +64,7 @@ pub fn back_octets(
     requires points { length points.now ≤ MOST_CUES }
     requires chapters { IfSome chapters.now (λ n. id_of n ≡ CHAPTERS) }
     requires tags { IfSome tags.now (λ n. id_of n ≡ TAGS) }
-    ensures { IfOk result (λ out. Adds at (back_with points.now chapters.now tags.now) [] out seeks.old.items seeks.new.items) }
+    ensures { IfOk result (λ out. AddsBack at points.now chapters.now tags.now seeks.old.items seeks.new.items out) }
 {
     let mut out = Bytes::new(alloc);
     add_cues(&mut out, seeks, at, points)?;

@@ -3,7 +3,7 @@
 ghost use Rattle.std.specs.Prelude.{◌≢◌, ◌+◌, ◌≤◌, length};
 ghost use Rattle.mkv_io.specs.Sources.{IsLive, file_size, live_files};
 ghost use Rattle.output_model.specs.Attached.{octets_told};
-ghost use Rattle.cues_seekhead.specs.Appending.{AppendsOnly};
+ghost use Rattle.cues_seekhead.specs.Appending.{AppendsCopy, AppendsOnly};
 
 use mkv_io::{FileId, Files, Reads, RemuxEnd as OutEnd};
 
@@ -27,8 +27,7 @@ fn copy_chunk<F: Files>(
     requires from { IsLive F.Reads files.old from }
     requires to { IsLive F.Reads files.old to }
     requires inside { at + length chunk.old ≤ file_size F.Reads files.old from }
-    ensures { AppendsOnly F.Reads F.Files.own to
-        (octets_told ((live_files F.Reads files.old).content from.n) at (length chunk.old)) (length chunk.old) files.old files.new result }
+    ensures { AppendsCopy F.Reads F.Files.own to from at (length chunk.old) files.old files.new result }
 {
     match files.read_at(from, at, chunk) {
         Ok(()) => append(files, to, chunk),
@@ -50,8 +49,7 @@ pub fn copy_data<F: Files>(
     requires apart { F.holder files.old from.n ≢ F.holder files.old to.n }
     requires inside { at + len ≤ file_size F.Reads files.old from }
     requires buffer { 1 ≤ length buffer.old }
-    ensures { AppendsOnly F.Reads F.Files.own to
-        (octets_told ((live_files F.Reads files.old).content from.n) at len) len files.old files.new result }
+    ensures { AppendsCopy F.Reads F.Files.own to from at len files.old files.new result }
 {
     let mut done = 0;
     while done < len {

@@ -13,7 +13,7 @@ ghost use Rattle.output_model.specs.declared.TheConstants.{AREA, MOST_CUES};
 ghost use Rattle.output_model.specs.SeekHead.{area_elements, seeks_from};
 ghost use Rattle.output_model.specs.Document.{back_with};
 ghost use Rattle.cues_seekhead.specs.Places.{AreIds};
-ghost use Rattle.cues_seekhead.specs.Draft.{Drafts, patches_at};
+ghost use Rattle.cues_seekhead.specs.Draft.{Drafts, DraftsEnd, patches_at};
 ghost use Rattle.cues_seekhead.specs.Ending.{IsEnding};
 
 use crate::area::area_octets;
@@ -73,8 +73,7 @@ impl Ending {
         requires start { 8 ≤ start }
         requires area { length self.now.area ≡ AREA }
         requires total { self.now.total ≤ longest }
-        ensures drafts { Drafts F.Files.own file (start + AREA) self.now.back
-            (patches_at start self.now.area (size_octets self.now.total 8)) files.old files.new result }
+        ensures drafts { DraftsEnd F.Files.own file start self.now files.old files.new result }
         ensures only { WritesOnly F.Reads F.Files.own (F.holder files.old file.n ∷ []) files.old files.new }
         ensures cause { HasRemuxCause F.Reads F.Files.own files.old files.new result }
     {

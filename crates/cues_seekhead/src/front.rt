@@ -8,7 +8,7 @@ ghost use Rattle.tree_format.specs.NormalForm.{longest};
 ghost use Rattle.output_model.specs.Element.{octets_of};
 ghost use Rattle.output_model.specs.SeekHead.{open_area};
 ghost use Rattle.output_model.specs.Document.{ebml_element, unknown_size, file_with};
-ghost use Rattle.cues_seekhead.specs.Attached.{attached_total, attachments_header, attachments_seeks};
+ghost use Rattle.cues_seekhead.specs.Attached.{attached_total, attachments_header, attachments_seeks, seeks_behind};
 ghost use Rattle.cues_seekhead.specs.Front.{IsOpening, body_start};
 ghost use Rattle.cues_seekhead.specs.Places.{AreIds};
 
@@ -99,7 +99,7 @@ fn add_attachments(
     attachments: &[Attachment],
 ) -> Result<u64, AllocError>
     ensures octets { OnOk result (out.new ≡ out.old ++ attachments_header attachments.now) }
-    ensures places { OnOk result (seeks.new.items ≡ seeks.old.items ++ attachments_seeks (at + length out.old) attachments.now) }
+    ensures places { OnOk result (seeks.new.items ≡ seeks.old.items ++ seeks_behind at out.old attachments.now) }
     ensures len { IfOk result (λ len. len ≡ sum_by attached_total attachments.now) }
     ensures most { IfOk result (λ len. len ≤ longest) }
 {

@@ -14,10 +14,11 @@ ghost use Rattle.output_model.specs.Element.{joined};
 ghost use Rattle.output_model.specs.declared.TheConstants.{MOST_CUES as MOST};
 ghost use Rattle.output_model.specs.Document.{opened_with, tree_element};
 ghost use Rattle.output_model.specs.Front.{front_with};
-ghost use Rattle.cues_seekhead.specs.Appending.{AppendsOnly, IsAppended};
+ghost use Rattle.cues_seekhead.specs.Appending.{AppendsAttached, AppendsOnly, AppendsTo, IsAppended, data_octets};
 ghost use Rattle.cues_seekhead.specs.Finished.{Finishes};
 ghost use Rattle.cues_seekhead.specs.Made.{Makes, WritesAndEnds};
-ghost use Rattle.cues_seekhead.specs.OpenOutput.{CanAttach, IsOpen, StandsOpen, grown, with_cue};
+ghost use Rattle.cues_seekhead.specs.OpenOutput.{BeginsInPart, BeginsWith, CanAttach, IsOpen, KeepsPoint, StandsOpen, grown, with_cue};
+ghost use Rattle.mkv_io.specs.Bounds.{ReadsUpTo};
 
 use crate::attaching::add_attachments;
 use crate::copying::append;
@@ -65,15 +66,12 @@ impl OutFile {
         requires info { id_of front.now.info ≡ INFO }
         requires tracks { id_of front.now.tracks ≡ TRACKS }
         requires attached { All (CanAttach F.Reads F.Files.own files.old name.now) front.now.attachments }
-        ensures ok { IfOk result (StandsOpen F.Reads F.Files.own (F.names files.old) name.now
-            (front_with (live_files F.Reads files.old) front.now) [] files.new) }
+        ensures ok { IfOk result (BeginsWith F.Reads F.Files.own name.now front.now files.old files.new) }
         ensures cues { IfOk result (λ out. out.cues ≡ []) }
-        ensures err { OnErr result (StandsInPart (F.names files.old) (F.names files.new)
-            (record { name = name.now; content = opened_with (front_with (live_files F.Reads files.old) front.now) [] } ∷ [])) }
+        ensures err { OnErr result (BeginsInPart F.Reads F.Files.own name.now front.now files.old files.new) }
         ensures made { Makes F.Reads F.Files.own name.now files.old files.new result }
         ensures cause { HasRemuxCause F.Reads F.Files.own files.old files.new result }
-        ensures reads { F.octets_read files.new ≤ F.octets_read files.old
-            + sum_by (λ (a : AttachmentSeen). a.len) front.now.attachments }
+        ensures reads { ReadsUpTo F.Reads files.old files.new (data_octets front.now.attachments) }
     {
         let opening = open_octets(alloc, front)?;
         let Opening { octets, seeks, len } = opening;
@@ -97,8 +95,7 @@ impl OutFile {
     /// Adds a cue point to a block of the Cluster that is written next, which stands `relative` octets behind that
     /// Cluster's header. Of more than 1,048,576 points the first are kept.
     pub fn cue(&mut self, tick: u64, lane: u8, relative: u64) -> Result<(), AllocError>
-        ensures ok { OnOk result (length self.old.cues < MOST
-            → self.new ≡ with_cue self.old (record { tick = tick; lane = lane; cluster = self.old.len; relative = relative })) }
+        ensures ok { OnOk result (KeepsPoint tick lane relative self.old self.new) }
         ensures err { OnErr result (self.new ≡ self.old) }
         ensures full { MOST ≤ length self.old.cues → IsOk result × (self.new ≡ self.old) }
         ensures most { length self.new.cues ≤ MOST }
@@ -117,7 +114,7 @@ impl OutFile {
     /// Adds the octets of a Cluster.
     pub fn cluster<F: Files>(&mut self, files: &mut F, bytes: &[u8]) -> Result<(), OutEnd>
         requires { IsOpen F.Reads files.old self.old }
-        ensures appended { IsAppended (F.names files.old) (F.names files.new) (F.holder files.old self.old.file.n) bytes.now result }
+        ensures appended { AppendsTo F.Files.own self.old.file bytes.now files.old files.new result }
         ensures ok { OnOk result (self.new ≡ grown self.old (length bytes.now)) }
         ensures open { OnOk result (IsOpen F.Reads files.new self.new) }
         ensures err { OnErr result (self.new ≡ self.old) }
@@ -214,9 +211,7 @@ fn write_front<F: Files>(
 ) -> Result<(), OutEnd>
     requires live { IsLive F.Reads files.old file }
     requires attached { All (CanAttach F.Reads F.Files.own files.old (F.holder files.old file.n)) front.now.attachments }
-    ensures { AppendsOnly F.Reads F.Files.own file
-        (octets.now ++ joined (map tree_element (map (attached_file (live_files F.Reads files.old)) front.now.attachments)))
-        (sum_by (λ (a : AttachmentSeen). a.len) front.now.attachments) files.old files.new result }
+    ensures { AppendsAttached F.Reads F.Files.own file octets.now front.now.attachments files.old files.new result }
 {
     append(files, file, octets)?;
     add_attachments(alloc, files, file, front.attachments.as_slice())

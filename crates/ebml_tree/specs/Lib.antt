@@ -4,3 +4,4 @@ pub mod Outcome
 pub mod Texts
 pub mod Building
 pub mod Leaves
+pub mod Again

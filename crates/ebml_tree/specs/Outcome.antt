@@ -1,9 +1,10 @@
 -- What the crate's calls answer.
-use Rattle.std.specs.Prelude.{◌≡◌, Result, Ok, Err}
+use Rattle.std.specs.Prelude.{◌≡◌, ℕ, List, Result, Ok, Err}
 use Rattle.mkv_io.specs.declared.damage.Damage.{Damage as Harm}
 use Rattle.tree_format.specs.Node.{Node}
 use Rattle.ebml_tree.specs.declared.end.TreeEnd.{TreeEnd}
 use Rattle.ebml_tree.specs.declared.end.TreeEnd.TheVariants.{Damage, Memory}
+use Rattle.tree_format.specs.Reading.{Grove, Grown}
 
 -- A refusal is the definition's damage, or there is no memory.
 abbrev pub Refuses : {A : Type 0} → TreeEnd → Result A Harm → Type 0
@@ -14,3 +15,10 @@ Refuses Memory read = Unit {0}
 abbrev pub ReadsTree : Result Node TreeEnd → Result Node Harm → Type 0
 ReadsTree (Ok tree) read = read ≡ Ok tree
 ReadsTree (Err end) read = Refuses end read
+
+-- The definition reads this tree, or these, and leaves room for so many nodes.
+abbrev pub GivesTree : Result Grown Harm → ℕ → Node → Type 0
+GivesTree read left tree = read ≡ Ok (record { tree = tree; left = left })
+
+abbrev pub GivesTrees : Result Grove Harm → ℕ → List Node → Type 0
+GivesTrees read left trees = read ≡ Ok (record { trees = trees; left = left })

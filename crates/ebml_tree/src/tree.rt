@@ -62,6 +62,7 @@ impl Tree {
     ghost use Rattle.tree_format.specs.Node.{Node, id_of, offset_of, children, with_children, leaf, master, nodes_of, body_of, count, depth, depth_all, deepest, HasRoom, IsMaster};
     ghost use Rattle.tree_format.specs.NormalForm.{content, octets, kept_octets, longest};
     ghost use Rattle.tree_format.specs.Standing.{IsSound, StandsIn, IsReadAgain, IsReadWithoutLimits, kept, placed_in};
+    ghost use Rattle.ebml_tree.specs.Again.{FailsIfTooLong, HasInt, HasUint, IsReadWhole, StaysReadable};
     ghost use Rattle.tree_format.specs.Text.{HasNoZero};
     ghost use Rattle.tree_format.specs.Changes.{with_child, without, HasChild, AreTooLong};
     ghost use Rattle.ebml_numbers.specs.Number.{is_id, uint_octets, int_of, int_octets, magnitude};
@@ -75,10 +76,8 @@ impl Tree {
         ensures full { longest < length bytes.now → IsErr result }
 
         // A value that is put is read back.
-        ensures uint { (value : ℕ) → value < 2 ^ 64 → bytes.now ≡ uint_octets value
-            → IfOk result (λ tree. uint_value id (body_of tree) ≡ value) }
-        ensures int { (value : ℤ) → magnitude value < 2 ^ 63 → bytes.now ≡ int_octets value
-            → IfOk result (λ tree. int_of (body_of tree) ≡ value) }
+        ensures uint { HasUint id bytes.now result }
+        ensures int { HasInt bytes.now result }
         ensures text { HasNoZero bytes.now → IfOk result (λ tree. text_of (body_of tree) ≡ bytes.now) }
     {
         Tree::of_body(alloc, id, 0, bytes)
@@ -222,15 +221,13 @@ impl Tree {
         // It is refused where the children would be too long. In another's place it takes no memory, and
         // is refused only there.
         ensures full { AreTooLong (with_child child (children self.old)) → IsErr result }
-        ensures replaced { HasChild (id_of child) (children self.old) → IsErr result
-            → AreTooLong (with_child child (children self.old)) }
+        ensures replaced { FailsIfTooLong self.old child result }
 
         // It stays a master. A child that may stand here keeps it sound, and what `put` writes of it is
         // read again.
         ensures master { IsMaster self.new }
         ensures sound { IsSound self.old → StandsIn (id_of self.old) child → IsSound self.new }
-        ensures again { (nodes : ℕ) → IsSound self.old → StandsIn (id_of self.old) child
-            → kept self.new ≤ nodes → IsReadAgain nodes self.new }
+        ensures again { StaysReadable self.old child self.new }
     {
         let others = written_without(child.id(), self.content.kids());
         let written = others + child.written_len();
@@ -256,8 +253,7 @@ impl Tree {
         // read again.
         ensures master { IsMaster self.new }
         ensures sound { IsSound self.old → StandsIn (id_of self.old) child → IsSound self.new }
-        ensures again { (nodes : ℕ) → IsSound self.old → StandsIn (id_of self.old) child
-            → kept self.new ≤ nodes → IsReadAgain nodes self.new }
+        ensures again { StaysReadable self.old child self.new }
     {
         let written = self.written + child.written_len();
         let depth = self.depth.max(child.depth + 1);
@@ -309,8 +305,7 @@ impl Tree {
 
         // A sound master is read again from what is written behind its header, with a limit on nodes and
         // without. Its new places, and what was left out, are nothing to what is written.
-        ensures again { (nodes : ℕ) → IsMaster self.now → IsSound self.now → kept self.now ≤ nodes
-            → IsReadAgain nodes self.now }
+        ensures again { IsReadWhole self.now }
         ensures free { IsMaster self.now → IsSound self.now → IsReadWithoutLimits self.now }
         ensures stable { (offset base : ℕ) → octets (placed_in offset base self.now) ≡ octets self.now }
     {

@@ -7,7 +7,13 @@ use Rattle.edit_changes.specs.declared.refusal.Refusal.{Refusal}
 use Rattle.edit_plan.specs.declared.plan_end.PlanEnd.{PlanEnd}
 use Rattle.edit_plan.specs.declared.plan_end.PlanEnd.TheVariants as end
 use Rattle.edit_plan.specs.declared.write.Write.{Write}
-use Rattle.edit_plan.specs.Shown.{written}
+use Rattle.edit_plan.specs.Shown.{writes_in, written}
+use Rattle.mkv_io.specs.Sources.{IfTold}
+use Rattle.mkv_io.specs.declared.reads.Reads.{Ghosts}
+use Rattle.mkv_io.specs.declared.outside.FileId.{FileId}
+use Rattle.element_reader.specs.Outline.{FileOutline}
+use Rattle.edit_plan.specs.declared.part.Part.{Part}
+use Rattle.edit_plan.specs.declared.rewriting.Rewriting.{Rewriting}
 
 -- These are the writes, or this refuses them; a read may fail, and there may be no memory.
 abbrev pub Answers : Result (List disk.Write) Refusal → Result (Vec Write Global) PlanEnd → Type 0
@@ -28,3 +34,7 @@ Gives found (Ok x) = found ≡ Ok x
 Gives found (Err (end.Refused r)) = found ≡ Err r
 Gives found (Err end.ReadFault) = ⊤
 Gives found (Err end.Memory) = ⊤
+
+-- What is answered is what is written of parts of a file, where its content is told.
+abbrev pub WritesParts : {S : Type 0} → Ghosts S → S → FileId → Rewriting → FileOutline → List Part → Result (Vec Write Global) PlanEnd → Type 0
+WritesParts r src file rewriting outline parts result = IfTold r src file (λ bytes. Answers (writes_in rewriting bytes outline parts) result)

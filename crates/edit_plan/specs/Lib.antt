@@ -6,3 +6,4 @@ pub mod Moving
 pub mod Answer
 pub mod Opening
 pub mod Record
+pub mod Made

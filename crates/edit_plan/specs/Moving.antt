@@ -11,15 +11,16 @@ use Rattle.edit_changes.specs.Span.{fitted}
 use Rattle.edit_changes.specs.Plan.{Part, appended, first_refusal, lacks, length_moving, moves, moving, part_writes, room_of, seek_head, size_refusal, size_width, tail_refusal, too_large, twin_refusal}
 use Rattle.edit_plan.specs.declared.prepared.Prepared.{Prepared}
 use Rattle.edit_plan.specs.Shown.{written}
+use Rattle.edit_plan.specs.Made.{in_room, size_refused, tail_refused}
 
 -- the first that refuses parts, where so many octets are written, so many are added to the file, and the SeekHead needs and has so many
 abbrev pub refused : FileOutline → List Part → ℕ → ℕ → ℕ → ℕ → Option Refusal
 refused o ps length added need room =
     first_refusal (too_large length ps
-    ∷ (if list_any moves ps then tail_refusal o else None)
+    ∷ tail_refused o ps
     ∷ twin_refusal o.others (moving ps)
     ∷ lacks SeekHead need room
-    ∷ (if list_any moves ps then size_refusal o.segment (o.total + added) else None) ∷ [])
+    ∷ size_refused o ps added ∷ [])
 
 -- The ends that headers state have 64 bits, and the Segment's size has eight octets at most.
 pub record CanMove (o : FileOutline) : Type 0 where
@@ -28,7 +29,7 @@ pub record CanMove (o : FileOutline) : Type 0 where
 
 -- What is written of parts and of a SeekHead that tells of these IDs, whether it is refused or not.
 pub record IsPrepared (ids : List ℕ) (o : FileOutline) (ps : List Part) (old : Option SeekHeadAt) (p : Prepared) : Type 0 where
-  pub head : p.head.items ≡ unwrap_or (fitted (seek_head ids o ps old) (room_of old o.others)) (octets_of (seek_head ids o ps old))
+  pub head : p.head.items ≡ in_room (seek_head ids o ps old) (room_of old o.others)
   pub need : p.need ≡ length (octets_of (seek_head ids o ps old))
   pub room : p.room ≡ room_of old o.others
   pub places : map written p.places.items ≡ part_writes ps

@@ -1,9 +1,16 @@
 -- The outline of a file that can be edited.
-use Rattle.std.specs.Prelude.{ℕ, List, Result}
+use Rattle.std.specs.Prelude.{◌≡◌, ℕ, List, Result, Ok}
 use Rattle.mkv_io.specs.declared.damage.Damage.{Damage}
 use Rattle.mkv_io.specs.Results.{and_then, unless}
 use Rattle.element_reader.specs.Outline.{FileOutline, outline_in}
+use Rattle.mkv_io.specs.Sources.{IfTold}
+use Rattle.mkv_io.specs.declared.reads.Reads.{Ghosts}
+use Rattle.mkv_io.specs.declared.outside.FileId.{FileId}
 
 -- the outline, unless level 1 is damaged
 abbrev pub opening : List ℕ → Result FileOutline Damage
 opening bytes = and_then (outline_in 0 bytes) (λ (o : FileOutline). unless o.damage o)
+
+-- a fact of a file's content, where it is told and this is its outline
+abbrev pub IfOutline : {S : Type 0} → Ghosts S → S → FileId → FileOutline → (List ℕ → Type 0) → Type 0
+IfOutline r src file outline P = IfTold r src file (λ bytes. outline_in 0 bytes ≡ Ok outline → P bytes)

@@ -1,12 +1,13 @@
 -- The record of what edits write.
-use Rattle.std.specs.Prelude.{ℕ, List, map, flat_map, Result, Ok}
+use Rattle.std.specs.Prelude.{◌≡◌, ℕ, List, map, flat_map, Result, Ok}
 use Rattle.word_values.specs.declared.edit.Edit.{Edit}
-use Rattle.sidecar_edit.specs.Fields.{Planned}
+use Rattle.sidecar_edit.specs.Fields.{AreInOrder, Planned, last_end}
 use Rattle.sidecar_edit.specs.Plan.{planned}
 use Rattle.sidecar_edit.specs.Writes.{Write, extent}
 use Rattle.edit_changes.specs.declared.refusal.Refusal.{Refusal}
 use Rattle.mkv_io.specs.Results.{and_then}
 use Rattle.edit_changes.specs.Plan.{place, plan_of, recorded}
+use Rattle.sidecar_edit.specs.declared.place.Place.{Place}
 
 -- of some writes over a file of so many octets that begins with these
 abbrev pub record_over : ℕ → List ℕ → List Write → Planned
@@ -15,3 +16,7 @@ record_over old_len first ws = planned old_len (extent old_len ws) first (map pl
 -- of what edits write to a file of this content, or the first that refuses them
 abbrev pub record_of : List ℕ → List Edit → Result Planned Refusal
 record_of bytes edits = and_then (plan_of bytes edits) (λ ws. Ok (recorded bytes ws))
+
+-- The places are in order, and this is the end of the last.
+abbrev pub EndsInOrder : ℕ → ℕ → List Place → ℕ → Type 0
+EndsInOrder old_len from places end = AreInOrder old_len from places × (end ≡ last_end from places)

@@ -8,6 +8,7 @@ ghost use Rattle.element_reader.specs.Collected.{IsInFile};
 ghost use Rattle.edit_changes.specs.Change as change;
 ghost use Rattle.edit_changes.specs.Plan as spec;
 ghost use Rattle.edit_plan.specs.Shown.{shown};
+ghost use Rattle.edit_plan.specs.Made.{AddsParts};
 
 use crate::counting::{kept_all, sum};
 use crate::part::Part;
@@ -69,8 +70,7 @@ fn add_part(
     requires id { IsTrue (is_id id) }
     requires other { (id == CLUSTER) ≡ false }
     requires short { outline.now.total ≤ 2 ^ 48 }
-    ensures { OnOk result (map shown parts.new.items
-        ≡ map shown parts.old.items ++ spec.part_of true id outline.now.others nodes.now) }
+    ensures { OnOk result (AddsParts (spec.part_of true id outline.now.others nodes.now) parts.old.items parts.new.items) }
 {
     if let Some(header) = outline.first(id) {
         parts.push(part(alloc, outline, &header, nodes)?)?;

@@ -12,6 +12,7 @@ ghost use Rattle.edit_changes.specs.Span as span;
 ghost use Rattle.edit_plan.specs.Found.{found};
 ghost use Rattle.edit_plan.specs.Shown.{shown, written};
 ghost use Rattle.edit_plan.specs.Sought.{AreSought};
+ghost use Rattle.edit_plan.specs.Made.{IsSeekHead, in_room};
 
 use crate::found::SeekHead;
 use crate::moving::any_moves;
@@ -46,8 +47,7 @@ pub fn new_seek_head(
     head: &Option<SeekHead>,
 ) -> Result<Bytes, AllocError>
     requires { AreSought ids.now }
-    ensures exact { IfOk result (λ body. element SEEK_HEAD_ID body
-        ≡ spec.seek_head ids.now outline.now (map shown parts.now) (option_map found head.now)) }
+    ensures exact { IfOk result (λ body. IsSeekHead ids.now outline.now parts.now head.now body) }
     ensures short { IfOk result (λ body. length body ≤ 2 ^ 48) }
 {
     let seeks = seeks(alloc, ids, outline, parts)?;
@@ -90,8 +90,7 @@ pub fn fitted_or_whole(
     requires id { IsTrue (is_id id) }
     requires short { length body.now ≤ 2 ^ 48 }
     requires room { room ≤ 2 ^ 48 }
-    ensures { IfOk result (λ octets. octets.items
-        ≡ unwrap_or (span.fitted (element id body.now) room) (octets_of (element id body.now))) }
+    ensures { IfOk result (λ octets. octets.items ≡ in_room (element id body.now) room) }
 {
     match fit(alloc, id, body, room)? {
         Some(octets) => Ok(octets),

@@ -8,6 +8,7 @@ ghost use Rattle.edit_plan.specs.Moving.{CanMove, IsPrepared};
 ghost use Rattle.edit_plan.specs.Shown.{shown, written};
 ghost use Rattle.edit_plan.specs.Sought.{AreSought};
 ghost use Rattle.edit_plan.specs.Answer.{Answers, is_plan_fault};
+ghost use Rattle.edit_plan.specs.Made.{BeginsWithSize, writes_moving};
 
 use crate::counting::sum;
 use crate::found::SeekHead;
@@ -110,8 +111,7 @@ fn assembled(
     requires end { end ≤ 2 ^ 50 }
     requires body { segment.now.body ≤ 2 ^ 48 }
     requires fits { spec.size_refusal segment.now end ≡ None }
-    ensures { spec.size_width segment.now ≤ 8 → IfOk result (λ all. map written all.items
-        ≡ spec.size_writes segment.now end ++ map written writes.items ++ written last ∷ []) }
+    ensures { BeginsWithSize segment.now end (map written writes.items ++ written last ∷ []) result }
 {
     let mut all = joined(size_write(alloc, segment, end)?, writes)?;
     all.push(last)?;
@@ -129,8 +129,7 @@ pub fn moving_writes(
     requires sought { AreSought ids.now }
     requires short { outline.now.total ≤ 2 ^ 48 }
     requires inside { IfSome head.now (λ s. IsInFile outline.now.total s.header) }
-    ensures exact { CanMove outline.now
-        → Answers (spec.writes_moving ids.now outline.now (map shown parts.now) (option_map found head.now)) result }
+    ensures exact { CanMove outline.now → Answers (writes_moving ids.now outline.now parts.now head.now) result }
     ensures cause { IfErr result (λ end. is_plan_fault end ≡ false) }
 {
     let new = prepared(alloc, ids, outline, parts, head)?;

@@ -10,8 +10,9 @@ ghost use Rattle.sidecar_edit.specs.Fields.{AreInOrder, IsPlan, last_end, sum_of
 ghost use Rattle.sidecar_edit.specs.Writes as disk;
 ghost use Rattle.edit_changes.specs.Plan as spec;
 ghost use Rattle.edit_plan.specs.Answer.{Gives, is_plan_fault};
-ghost use Rattle.edit_plan.specs.Record.{record_of, record_over};
+ghost use Rattle.edit_plan.specs.Record.{EndsInOrder, record_of, record_over};
 ghost use Rattle.edit_plan.specs.Shown.{written};
+ghost use Rattle.mkv_io.specs.Bounds.{ReadsOf};
 
 use crate::plan_end::PlanEnd;
 use crate::planning::edit_writes;
@@ -52,8 +53,7 @@ fn end_behind(old_len: u64, from: u64, places: &[Place]) -> Option<u64>
     requires short { old_len ≤ LONGEST }
     requires small { sum_of places.now ≤ MOST }
     requires from { from + sum_of places.now ≤ LONGEST + MOST }
-    ensures { MatchOption result (AreInOrder old_len from places.now → ⊥)
-        (λ end. AreInOrder old_len from places.now × (end ≡ last_end from places.now)) }
+    ensures { MatchOption result (AreInOrder old_len from places.now → ⊥) (EndsInOrder old_len from places.now) }
 {
     let [place, rest @ ..] = places else {
         return Some(from);
@@ -109,8 +109,7 @@ pub fn plan<D: Disk>(alloc: Global, disk: &mut D, edits: &List<Edit>) -> Result<
     ensures some { IfOk result (λ plan. 1 ≤ length plan.head.places) }
     ensures standing { D.standing disk.new ≡ D.standing disk.old }
     ensures cause { HasCause is_plan_fault (D.reading_faults disk.old) (D.reading_faults disk.new) result }
-    ensures octets { D.octets_read disk.new
-        ≤ D.octets_read disk.old + (25 * file_size D.Reads disk.old MEDIA + KEPT_OCTETS) }
+    ensures octets { ReadsOf D.Reads disk.old disk.new MEDIA (λ size. 25 * size + KEPT_OCTETS) }
 {
     let writes = edit_writes(alloc, disk, MEDIA, edits)?;
     let mut first = [0; KEPT as usize];

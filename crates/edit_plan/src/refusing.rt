@@ -7,6 +7,7 @@ ghost use Rattle.edit_changes.specs.declared.refusal.TheConstants.{MOST_WRITTEN 
 ghost use Rattle.edit_changes.specs.Ends.{EndsFit};
 ghost use Rattle.edit_plan.specs.Moving.{refused};
 ghost use Rattle.edit_plan.specs.Shown.{shown};
+ghost use Rattle.edit_plan.specs.Made.{size_refused, tail_refused};
 
 use crate::moving::{any_moves, most_nodes, twins};
 use crate::part::Part;
@@ -28,8 +29,7 @@ pub fn too_large(length: u64, parts: &[Part]) -> Option<Refusal>
 
 /// Nothing may be added at the end of the file, and something is appended.
 fn end_refusal(outline: &Outline, parts: &[Part]) -> Option<Refusal>
-    ensures { EndsFit outline.now → result
-        ≡ if list_any spec.moves (map shown parts.now) then spec.tail_refusal outline.now else None }
+    ensures { EndsFit outline.now → result ≡ tail_refused outline.now (map shown parts.now) }
 {
     if any_moves(parts) {
         return tail_refusal(outline);
@@ -40,8 +40,7 @@ fn end_refusal(outline: &Outline, parts: &[Part]) -> Option<Refusal>
 /// Something is appended, and the Segment's size, where it then ends so many octets later, needs more than it has.
 fn growth_refusal(outline: &Outline, parts: &[Part], added: u64) -> Option<Refusal>
     requires { outline.now.total + added ≤ 2 ^ 50 }
-    ensures { result ≡ if list_any spec.moves (map shown parts.now)
-        then spec.size_refusal outline.now.segment (outline.now.total + added) else None }
+    ensures { result ≡ size_refused outline.now (map shown parts.now) added }
 {
     if any_moves(parts) {
         return size_refusal(&outline.segment(), outline.total() + added);

@@ -1,12 +1,13 @@
 -- What is kept of the Elements of level 1 that were met.
-use Rattle.std.specs.Prelude.{◌≡◌, ℕ, ◌+◌, ◌≤◌, ◌==◌, not, false, if◌then◌else◌, List, [], ◌∷◌, filter, Option, None}
+use Rattle.std.specs.Prelude.{◌≡◌, ℕ, ◌+◌, ◌≤◌, ◌==◌, not, false, if◌then◌else◌, List, [], ◌∷◌, ◌++◌, filter, Option, None}
 use Rattle.std.specs.List.{last_or}
 use Rattle.mkv_schema.specs.declared.ids.TheConstants.{CLUSTER}
 use Rattle.mkv_schema.specs.declared.element.Header.{Header}
 use Rattle.mkv_schema.specs.Element.{is_unknown, known, stated_end}
 use Rattle.mkv_schema.specs.Value.{first_of}
-use Rattle.mkv_schema.specs.Outline.{is_described, described}
+use Rattle.mkv_schema.specs.Outline.{described, first_damage, is_described, limit_causes}
 use Rattle.element_reader.specs.declared.collected.Collected.{Collected}
+use Rattle.mkv_io.specs.declared.damage.Damage.{Damage}
 
 -- the Elements other than Clusters
 abbrev pub others_of : List Header → List Header
@@ -35,3 +36,18 @@ pub record Keeps (held : ℕ) (list : List Header) (kept : Collected) : Type 0 w
   pub first : kept.cluster ≡ first_of CLUSTER list
   pub last : kept.last ≡ last_of list
   pub octets : kept.held ≡ held + described list
+
+-- What is said of each list of which this is kept.
+abbrev pub OfKept : Collected → (ℕ → List Header → Type 0) → Type 0
+OfKept kept P = (held : ℕ) (list : List Header) → Keeps held list kept → P held list
+
+-- An Element that nothing refuses is kept behind those of a list, and one that is no Cluster among the others.
+abbrev pub KeepsAlso : Header → Collected → Collected → Option Damage → Type 0
+KeepsAlso h old new refusal = refusal ≡ None → OfKept old (λ held list. Keeps held (list ++ h ∷ []) new)
+
+abbrev pub AddsOther : Header → Collected → Collected → Option Damage → Type 0
+AddsOther h old new refusal = refusal ≡ None → new.others.items ≡ old.others.items ++ kept_of h
+
+-- the limit that an Element behind those of a list passes, if it does
+abbrev pub RefusesAs : Header → Collected → Option Damage → Type 0
+RefusesAs h kept refusal = OfKept kept (λ held list. refusal ≡ first_damage (limit_causes held list h))

@@ -1,13 +1,14 @@
 -- The children of an EBML header, and what refuses them: RFC 8794, section 11.2 (EBML Header Elements).
-use Rattle.std.specs.Prelude.{◌≡◌, true, ℕ, ◌≤◌, List, [], ◌∷◌, length, Option}
-use Rattle.mkv_schema.specs.declared.ids.TheConstants.{EBML, EBML_READ_VERSION, DOC_TYPE_READ_VERSION, EBML_MAX_ID_LENGTH, EBML_MAX_SIZE_LENGTH}
+use Rattle.std.specs.Prelude.{◌≡◌, true, ℕ, ◌+◌, ◌≤◌, List, [], ◌∷◌, length, Option, None}
+use Rattle.mkv_schema.specs.declared.ids.TheConstants.{DOC_TYPE, DOC_TYPE_READ_VERSION, EBML, EBML_MAX_ID_LENGTH, EBML_MAX_SIZE_LENGTH, EBML_READ_VERSION}
 use Rattle.mkv_io.specs.declared.damage.Damage.{Damage}
 use Rattle.mkv_io.specs.declared.damage.Kind.TheVariants.{ReadVersion, MaxLengths}
 use Rattle.mkv_schema.specs.declared.element.Header.{Header}
 use Rattle.mkv_schema.specs.Element.{in_tree}
 use Rattle.mkv_schema.specs.Elements.{Run, children_in}
-use Rattle.mkv_schema.specs.Value.{is_known_value}
-use Rattle.mkv_schema.specs.Outline.{first_damage, bad_value, wrong_doc_type, above}
+use Rattle.mkv_schema.specs.Value.{is_known_value, text_in}
+use Rattle.mkv_schema.specs.Outline.{above, bad_value, first_damage, header_causes, header_children, wrong_doc_type}
+use Rattle.elements.specs.Body.{IsBody}
 
 -- the children of the EBML header, from a place on
 abbrev pub children : List ℕ → ℕ → ℕ → Run
@@ -30,3 +31,22 @@ value_causes bytes list =
     above bytes EBML_MAX_ID_LENGTH 4 MaxLengths list ∷
     above bytes EBML_MAX_SIZE_LENGTH 8 MaxLengths list ∷
     []
+
+-- a body of an EBML header that begins there: its children
+abbrev pub in_body : List ℕ → ℕ → List ℕ → Run
+in_body bytes base body = children bytes base (base + length body)
+
+-- a fact of each file in which these octets stand so, and whose children nothing refuses
+abbrev pub IfSound : ℕ → ℕ → List ℕ → (List ℕ → Type 0) → Type 0
+IfSound base total body P = (bytes : List ℕ) → IsBody bytes base total body → child_refusal bytes (in_body bytes base body) ≡ None → P bytes
+
+-- what refuses the values among the children of a body, and the document type in it
+abbrev pub value_refusal : List ℕ → Run → Option Damage
+value_refusal bytes run = first_damage (value_causes bytes run.list)
+
+abbrev pub doc_type_in : List ℕ → Run → Option (List ℕ)
+doc_type_in bytes run = text_in bytes DOC_TYPE run.list
+
+-- what refuses an EBML header
+abbrev pub header_refusal : List ℕ → Header → Option Damage
+header_refusal bytes h = first_damage (header_causes bytes h (header_children bytes h))

@@ -1,5 +1,6 @@
 -- What is collected of the Elements of level 1 of a Segment.
-use Rattle.std.specs.Prelude.{◌≡◌, ℕ, List, [], ◌∷◌, Option, Some, None, Result, Ok, Err}
+use Rattle.std.specs.Prelude.{◌≡◌, ℕ, if◌then◌else◌, List, [], ◌∷◌, length, Option, Some, None, Result, Ok, Err}
+use Rattle.std.specs.Option.{option_map_or}
 use Rattle.mkv_io.specs.declared.damage.Damage.{Damage}
 use Rattle.mkv_schema.specs.declared.element.Header.{Header}
 use Rattle.mkv_schema.specs.Elements.{Run, in_front}
@@ -7,6 +8,7 @@ use Rattle.mkv_schema.specs.Outline.{limits_from, segment_run, segment_end}
 use Rattle.element_reader.specs.Collected.{Keeps}
 use Rattle.element_reader.specs.declared.collected.Collected.{Collected}
 use Rattle.element_reader.specs.declared.level.Level.{Level}
+use Rattle.mkv_schema.specs.Element.{is_unknown, end_in}
 
 -- The Elements of level 1 of a Segment, of which none passes a limit: what is kept of them, the damage
 -- that ends them, and where the Segment ends.
@@ -36,3 +38,12 @@ pub record IsOnWay (held : ℕ) (whole left : Run) (kept : Collected) : Type 0 w
   pub keeps : Keeps held given kept
   pub split : whole ≡ all_in_front given left
   pub limits : limits_from held [] whole.list ≡ limits_from held given left.list
+
+-- where a Segment of known size ends; of one of unknown size, the place where the run ended, or the file's end behind a damage
+abbrev pub end_met : ℕ → Header → ℕ → Option Damage → ℕ
+end_met total segment at damage = if is_unknown segment.size then option_map_or (λ _. total) damage at else end_in total segment
+
+-- At the end of the way through the Segment of a file these are its Elements of level 1.
+abbrev pub EndsWay : ℕ → Header → ℕ → Option Damage → Collected → Level → Type 0
+EndsWay total segment at damage kept level = (held : ℕ) (bytes : List ℕ) → total ≡ length bytes
+    → IsOnWay held (segment_run bytes segment) (nothing_left at damage) kept → HasLevel held bytes segment level

@@ -1,5 +1,5 @@
 -- The Elements of level 1 of a Segment, given one after the other.
-use Rattle.std.specs.Prelude.{◌≡◌, true, ℕ, ◌<◌, ◌≤◌, if◌then◌else◌, List, [], ◌∷◌, Option, Some, None}
+use Rattle.std.specs.Prelude.{◌≡◌, true, ℕ, ◌<◌, ◌≤◌, if◌then◌else◌, List, [], ◌∷◌, length, Option, Some, None}
 use Rattle.ebml_numbers.specs.declared.number.Size.{Size}
 use Rattle.mkv_io.specs.declared.outside.FileId.{FileId}
 use Rattle.mkv_io.specs.LiveFiles.{LiveFiles}
@@ -8,6 +8,8 @@ use Rattle.mkv_schema.specs.declared.element.Header.{Header}
 use Rattle.mkv_schema.specs.Element.{end_in, is_unknown}
 use Rattle.mkv_schema.specs.Elements.{level_1}
 use Rattle.elements.specs.Window.{ReadAhead, Holds, nothing_at}
+use Rattle.mkv_schema.specs.Outline.{segment_run}
+use Rattle.element_reader.specs.declared.outline.Outline.{Outline}
 
 -- A place among the Elements of level 1 of a Segment: its file, the size that the Segment states, the
 -- next Element's place, the place up to which the Segment may reach, and what is held of the file.
@@ -63,3 +65,7 @@ pub record StandsOn (files : LiveFiles) (old new : Listing) : Type 0 where
   pub segment : IsSameSegment old new
   pub inside : new.at ≤ new.end
   pub reads : CanRead files new
+
+-- All Elements of level 1 are left of a file that has this outline.
+abbrev pub HasAllLeft : Outline → Listing → Type 0
+HasAllLeft outline p = (bytes : List ℕ) → outline.total ≡ length bytes → left bytes p ≡ (segment_run bytes outline.segment).list

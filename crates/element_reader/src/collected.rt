@@ -53,7 +53,7 @@ fn described_octets(header: &Header) -> u64
 }
 
 impl Collected {
-    ghost use Rattle.element_reader.specs.Collected.{Keeps, kept_of};
+    ghost use Rattle.element_reader.specs.Collected.{AddsOther, Keeps, KeepsAlso, OfKept, RefusesAs, kept_of};
 
     /// Nothing is kept yet, and earlier inputs have held so many octets.
     pub fn new(alloc: Global, held: u64) -> Collected
@@ -70,9 +70,9 @@ impl Collected {
 
     /// Keeps an Element, or answers the limit that it passes.
     pub fn add(&mut self, header: Header) -> Result<Option<Damage>, AllocError>
-        ensures refusal { IfOk result (λ refusal. (held : ℕ) (list : List Placed) → Keeps held list self.old → refusal ≡ first_damage (limit_causes held list header)) }
-        ensures others { IfOk result (λ refusal. refusal ≡ None → self.new.others.items ≡ self.old.others.items ++ kept_of header) }
-        ensures kept { IfOk result (λ refusal. refusal ≡ None → (held : ℕ) (list : List Placed) → Keeps held list self.old → Keeps held (list ++ header ∷ []) self.new) }
+        ensures refusal { IfOk result (RefusesAs header self.old) }
+        ensures others { IfOk result (AddsOther header self.old self.new) }
+        ensures kept { IfOk result (KeepsAlso header self.old self.new) }
     {
         if let Some(damage) = self.refusal(&header) {
             return Ok(Some(damage));
@@ -89,7 +89,7 @@ impl Collected {
 
     // The limit that an Element passes with those before it.
     fn refusal(&self, header: &Header) -> Option<Damage>
-        ensures exact { (held : ℕ) (list : List Placed) → Keeps held list self.now → result ≡ first_damage (limit_causes held list header.now) }
+        ensures exact { RefusesAs header.now self.now result }
         ensures room { result ≡ None → self.now.held + described_octets header.now < 2 ^ 64 }
     {
         if self.passes_size(header) {
@@ -102,7 +102,7 @@ impl Collected {
     }
 
     fn passes_size(&self, header: &Header) -> bool
-        ensures exact { (held : ℕ) (list : List Placed) → Keeps held list self.now → result ≡ passes_size held list header.now }
+        ensures exact { OfKept self.now (λ held list. result ≡ passes_size held list header.now) }
         ensures room { result ≡ false → self.now.held + described_octets header.now < 2 ^ 64 }
     {
         let size = known(header.size);

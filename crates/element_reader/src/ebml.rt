@@ -7,8 +7,8 @@ ghost use Rattle.mkv_schema.specs.Element.{known, stated_end};
 ghost use Rattle.mkv_schema.specs.Outline.{ebml_header, first_damage, first_element, header_causes, header_children};
 ghost use Rattle.elements.specs.Looks.{Goes};
 ghost use Rattle.elements.specs.Window.{Holds, nothing_at};
-ghost use Rattle.elements.specs.Body.{IsBody};
-ghost use Rattle.element_reader.specs.EbmlChildren.{child_refusal, children, value_causes};
+ghost use Rattle.elements.specs.Body.{IfBody, IsBody};
+ghost use Rattle.element_reader.specs.EbmlChildren.{IfSound, child_refusal, children, header_refusal, in_body, value_causes, value_refusal};
 ghost use Rattle.element_reader.specs.Ways.{GoesBesides};
 ghost use Rattle.mkv_io.specs.declared.outside.TheConstants.{LONGEST_FILE};
 
@@ -30,9 +30,7 @@ const EBML_MARK: [u8; 4] = [0x1A, 0x45, 0xDF, 0xA3];
 // What refuses the values of an EBML header whose body this is.
 fn value_refusal(body: &[u8], base: u64, total: u64) -> Option<Damage>
     requires { base + length body.now ≤ LONGEST_FILE }
-    ensures { (bytes : List ℕ) → IsBody bytes base total body.now
-        → child_refusal bytes (children bytes base (base + length body.now)) ≡ None
-        → result ≡ first_damage (value_causes bytes (children bytes base (base + length body.now)).list) }
+    ensures { IfSound base total body.now (λ bytes. result ≡ value_refusal bytes (in_body bytes base body.now)) }
 {
     let doc_type = wrong_doc_type(body, base, total);
     let version = above(body, base, total, EBML_READ_VERSION, 1, Kind::ReadVersion);
@@ -58,8 +56,7 @@ pub fn header_refusal(body: &[u8], header: &Header, total: u64) -> Option<Damage
     requires few { header.now.body + length body.now ≤ LONGEST_FILE }
     requires whole { length body.now ≡ known header.now.size }
     requires most { known header.now.size ≤ MOST_OF_HEADER }
-    ensures { (bytes : List ℕ) → IsBody bytes header.now.body total body.now
-        → result ≡ first_damage (header_causes bytes header.now (header_children bytes header.now)) }
+    ensures { IfBody header.now.body total body.now (λ bytes. result ≡ header_refusal bytes header.now) }
 {
     if let Some(damage) = child_refusal(body, header.body, total) {
         return Some(damage);

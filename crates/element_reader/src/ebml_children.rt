@@ -5,8 +5,8 @@ ghost use Rattle.mkv_schema.specs.Element.{element_at, in_tree, stated_end};
 ghost use Rattle.mkv_schema.specs.Placed.{StandsAt};
 ghost use Rattle.mkv_schema.specs.Value.{body_of, first_of};
 ghost use Rattle.mkv_schema.specs.declared.ids.TheConstants.{EBML as EBML_ID};
-ghost use Rattle.elements.specs.Body.{IsBody};
-ghost use Rattle.element_reader.specs.EbmlChildren.{child_refusal, children};
+ghost use Rattle.elements.specs.Body.{IfBody, IsBody};
+ghost use Rattle.element_reader.specs.EbmlChildren.{child_refusal, children, in_body};
 ghost use Rattle.mkv_io.specs.declared.outside.TheConstants.{LONGEST_FILE};
 
 use elements::{Parent, body_in, child_at, damage_at, end_in, is_known_value};
@@ -18,7 +18,7 @@ use mkv_schema::ids::EBML;
 /// kind, or the damage among them.
 pub fn child_refusal(body: &[u8], base: u64, total: u64) -> Option<Damage>
     requires { base + length body.now ≤ LONGEST_FILE }
-    ensures { (bytes : List ℕ) → IsBody bytes base total body.now → result ≡ child_refusal bytes (children bytes base (base + length body.now)) }
+    ensures { IfBody base total body.now (λ bytes. result ≡ child_refusal bytes (in_body bytes base body.now)) }
 {
     let end = base + body.len() as u64;
     let mut at = base;
@@ -39,7 +39,7 @@ pub fn child_refusal(body: &[u8], base: u64, total: u64) -> Option<Damage>
 /// The first child of an ID.
 pub fn first_child(body: &[u8], base: u64, total: u64, id: u32) -> Option<Header>
     requires { base + length body.now ≤ LONGEST_FILE }
-    ensures exact { (bytes : List ℕ) → IsBody bytes base total body.now → result ≡ first_of id (children bytes base (base + length body.now)).list }
+    ensures exact { IfBody base total body.now (λ bytes. result ≡ first_of id (in_body bytes base body.now).list) }
     ensures inside { IfSome result (λ h. (base ≤ h.body) × (stated_end h ≤ base + length body.now)) }
 {
     let end = base + body.len() as u64;

@@ -5,8 +5,8 @@ ghost use Rattle.std.specs.Option.{option_map};
 ghost use Rattle.mkv_schema.specs.Outline.{above, is_doc_type, place_of, wrong_doc_type};
 ghost use Rattle.mkv_schema.specs.Value.{text_in, uint_in};
 ghost use Rattle.mkv_schema.specs.declared.ids.TheConstants.{DOC_TYPE as DOC_TYPE_ID};
-ghost use Rattle.elements.specs.Body.{IsBody};
-ghost use Rattle.element_reader.specs.EbmlChildren.{IsShort, child_refusal, children};
+ghost use Rattle.elements.specs.Body.{IfBody, IsBody};
+ghost use Rattle.element_reader.specs.EbmlChildren.{IfSound, IsShort, child_refusal, children, doc_type_in, in_body};
 ghost use Rattle.mkv_io.specs.declared.outside.TheConstants.{LONGEST_FILE};
 
 use crate::ebml_children::first_child;
@@ -20,9 +20,7 @@ use mkv_schema::{text_default, uint_default};
 pub fn uint_in(body: &[u8], base: u64, total: u64, id: u32) -> u64
     requires few { base + length body.now ≤ LONGEST_FILE }
     requires short { IsShort id }
-    ensures { (bytes : List ℕ) → IsBody bytes base total body.now
-        → child_refusal bytes (children bytes base (base + length body.now)) ≡ None
-        → result ≡ uint_in bytes id (children bytes base (base + length body.now)).list }
+    ensures { IfSound base total body.now (λ bytes. result ≡ uint_in bytes id (in_body bytes base body.now).list) }
 {
     let default = uint_default(id).unwrap_or(0);
     match first_child(body, base, total, id) {
@@ -48,8 +46,7 @@ pub fn is_doc_type(text: &[u8]) -> bool
 /// Whether the document type of an EBML header whose body this is is read.
 pub fn has_doc_type(body: &[u8], base: u64, total: u64) -> bool
     requires { base + length body.now ≤ LONGEST_FILE }
-    ensures { (bytes : List ℕ) → IsBody bytes base total body.now
-        → result ≡ is_doc_type (text_in bytes DOC_TYPE_ID (children bytes base (base + length body.now)).list) }
+    ensures { IfBody base total body.now (λ bytes. result ≡ is_doc_type (doc_type_in bytes (in_body bytes base body.now))) }
 {
     match first_child(body, base, total, DOC_TYPE) {
         Some(child) => is_doc_type(text_of(body_in(body, base, &child))),
@@ -63,8 +60,7 @@ pub fn has_doc_type(body: &[u8], base: u64, total: u64) -> bool
 /// Where the first child of an ID stands, 0 where there is none.
 fn place_of(body: &[u8], base: u64, total: u64, id: u32) -> u64
     requires { base + length body.now ≤ LONGEST_FILE }
-    ensures { (bytes : List ℕ) → IsBody bytes base total body.now
-        → result ≡ place_of id (children bytes base (base + length body.now)).list }
+    ensures { IfBody base total body.now (λ bytes. result ≡ place_of id (in_body bytes base body.now).list) }
 {
     match first_child(body, base, total, id) {
         Some(child) => child.offset,
@@ -75,8 +71,7 @@ fn place_of(body: &[u8], base: u64, total: u64, id: u32) -> u64
 /// What refuses the document type.
 pub fn wrong_doc_type(body: &[u8], base: u64, total: u64) -> Option<Damage>
     requires { base + length body.now ≤ LONGEST_FILE }
-    ensures { (bytes : List ℕ) → IsBody bytes base total body.now
-        → result ≡ wrong_doc_type bytes (children bytes base (base + length body.now)).list }
+    ensures { IfBody base total body.now (λ bytes. result ≡ wrong_doc_type bytes (in_body bytes base body.now).list) }
 {
     if has_doc_type(body, base, total) {
         return None;
@@ -89,9 +84,7 @@ pub fn wrong_doc_type(body: &[u8], base: u64, total: u64) -> Option<Damage>
 pub fn above(body: &[u8], base: u64, total: u64, id: u32, limit: u64, kind: Kind) -> Option<Damage>
     requires few { base + length body.now ≤ LONGEST_FILE }
     requires short { IsShort id }
-    ensures { (bytes : List ℕ) → IsBody bytes base total body.now
-        → child_refusal bytes (children bytes base (base + length body.now)) ≡ None
-        → result ≡ above bytes id limit kind (children bytes base (base + length body.now)).list }
+    ensures { IfSound base total body.now (λ bytes. result ≡ above bytes id limit kind (in_body bytes base body.now).list) }
 {
     if uint_in(body, base, total, id) <= limit {
         return None;

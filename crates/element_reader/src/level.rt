@@ -9,7 +9,7 @@ ghost use Rattle.mkv_schema.specs.Outline.{segment_run};
 ghost use Rattle.elements.specs.Looks.{Goes};
 ghost use Rattle.elements.specs.Window.{Holds};
 ghost use Rattle.element_reader.specs.Collected.{IsInFile};
-ghost use Rattle.element_reader.specs.Level.{HasLevel, IsLevel, IsOnWay, nothing_left};
+ghost use Rattle.element_reader.specs.Level.{EndsWay, HasLevel, IsLevel, IsOnWay, end_met, nothing_left};
 
 use crate::collected::Collected;
 use ebml_numbers::Size;
@@ -31,7 +31,7 @@ pub struct Level {
 
 // Where a Segment ends whose Elements end at a place, by a damage or without one.
 fn segment_end(segment: &Header, total: u64, at: u64, damage: Option<Damage>) -> u64
-    ensures { result ≡ (if is_unknown segment.now.size then option_map_or (λ d. total) damage at else end_in total segment.now) }
+    ensures { result ≡ end_met total segment.now at damage }
 {
     match segment.size {
         Size::Known(_) => end_in(segment, total),
@@ -43,8 +43,7 @@ fn segment_end(segment: &Header, total: u64, at: u64, damage: Option<Damage>) ->
 // What is collected of a Segment whose Elements end at a place, by a damage or without one.
 fn ended(kept: Collected, segment: &Header, total: u64, at: u64, damage: Option<Damage>) -> Level
     ensures kept { result.kept ≡ kept }
-    ensures level { (held : ℕ) (bytes : List ℕ) → total ≡ length bytes
-        → IsOnWay held (segment_run bytes segment.now) (nothing_left at damage) kept → HasLevel held bytes segment.now result }
+    ensures level { EndsWay total segment.now at damage kept result }
 {
     let end = segment_end(segment, total, at, damage);
     Level { kept, damage, end }

@@ -2,11 +2,11 @@
 
 ghost use Rattle.std.specs.Prelude.{◌≡◌, ℕ, ◌≤◌, List, length, IfOk, OnErr};
 ghost use Rattle.mkv_io.specs.Faults.{HasCause, is_failure};
-ghost use Rattle.mkv_io.specs.Sources.{IfTold, OnlyReads, live_files};
+ghost use Rattle.mkv_io.specs.Sources.{IfRead, IfTold, OnlyReads, live_files};
 ghost use Rattle.mkv_schema.specs.Outline.{segment_run};
-ghost use Rattle.elements.specs.Looks.{Goes};
+ghost use Rattle.elements.specs.Looks.{Goes, GoesTo};
 ghost use Rattle.elements.specs.Window.{nothing_at};
-ghost use Rattle.element_reader.specs.LevelOne.{GivesNext, GoesOn, CanRead, StandsOn, first_place, left};
+ghost use Rattle.element_reader.specs.LevelOne.{CanRead, GivesNext, GoesOn, HasAllLeft, StandsOn, first_place, left};
 
 use crate::level::segment_bound;
 use crate::outline::Outline;
@@ -41,7 +41,7 @@ impl LevelOne {
     /// The Elements of level 1 of a file whose outline this is.
     pub fn start(outline: &Outline, file: FileId) -> LevelOne
         ensures place { result ≡ first_place outline.now.segment outline.now.total file }
-        ensures left { (bytes : List ℕ) → outline.now.total ≡ length bytes → left bytes result ≡ (segment_run bytes outline.now.segment).list }
+        ensures left { HasAllLeft outline.now result }
     {
         LevelOne::over(&outline.segment(), outline.total(), file)
     }
@@ -65,13 +65,13 @@ impl LevelOne {
     /// again from then on. After `Failed` nothing is held, and the same Element is looked for again.
     pub fn next<R: Reads>(&mut self, src: &mut R) -> Result<Option<Header>, Failed>
         requires { CanRead (live_files R.Reads src.old) self.old }
-        ensures ok { IfOk result (λ found. IfTold R.Reads src.old self.old.file (λ bytes. GivesNext bytes self.old self.new found)) }
+        ensures ok { IfRead R.Reads src.old self.old.file result (λ found bytes. GivesNext bytes self.old self.new found) }
         ensures place { IfOk result (λ found. GoesOn found self.old.at self.new.at) }
         ensures err { OnErr result (self.new ≡ record self.old { ahead = nothing_at 0 }) }
         ensures stands { StandsOn (live_files R.Reads src.new) self.old self.new }
         ensures same { OnlyReads R.Reads src.old src.new }
         ensures cause { HasCause is_failure (R.reading_faults src.old) (R.reading_faults src.new) result }
-        ensures goes { Goes R.Reads self.old.file self.old.at (λ _. self.new.at) self.old.ahead self.new.ahead src.old src.new result }
+        ensures goes { GoesTo R.Reads self.old.file self.old.at self.new.at self.old.ahead self.new.ahead src.old src.new result }
     {
         let window = &mut self.window;
         let Ok(step) = next_of_segment(window, src, self.file, self.size, self.at, self.end) else {

@@ -1,12 +1,13 @@
 -- What a call looks at through a window, and what it pays for that.
-use Rattle.std.specs.Prelude.{◌≡◌, ℕ, ◌+◌, ◌≤◌, length, Result, Ok, Err}
+use Rattle.std.specs.Prelude.{◌≡◌, ℕ, ◌+◌, ◌≤◌, length, Result, Ok, Err, IfOk}
 use Rattle.mkv_io.specs.declared.outside.FileId.{FileId}
-use Rattle.mkv_io.specs.Sources.{file_size}
+use Rattle.mkv_io.specs.Sources.{IfTold, file_size}
 use Rattle.mkv_io.specs.declared.reads.Reads.{Ghosts}
 use Rattle.mkv_schema.specs.declared.element.Header.{Header}
-use Rattle.mkv_schema.specs.Element.{Setting}
+use Rattle.mkv_schema.specs.Element.{Setting, element_at}
 use Rattle.mkv_schema.specs.Placed.{StandsAt, IsWhole}
 use Rattle.elements.specs.Window.{ReadAhead, nothing_at, HasRange, held_from, kept_from, wanted_at, HasNotPassed, MovesTo, Spends}
+use Rattle.mkv_io.specs.declared.damage.Damage.{Damage}
 
 -- An Element that was found at a place stands there, and is whole where it may not be open.
 pub record IsFound (s : Setting) (at end : ℕ) (h : Header) : Type 0 where
@@ -49,3 +50,22 @@ Goes g file at to old new before now (Ok x) =
     HasNotPassed old at (file_size g before file) → MovesTo (file_size g before file) (to x) old new (g.octets_read before) (g.octets_read now)
 Goes g file at to old new before now (Err _) =
     HasNotPassed old at (file_size g before file) → Spends (file_size g before file) old (g.octets_read before) (g.octets_read now)
+
+-- The Element at a place of a file, of a parent that ends somewhere, is what is answered, or what is wrong there.
+abbrev pub FindsAt : {S E : Type 0} → Ghosts S → S → FileId → Setting → ℕ → ℕ → Result (Result Header Damage) E → Type 0
+FindsAt g src file s at end result = IfOk result (λ found. IfTold g src file (λ bytes. found ≡ element_at s bytes at end))
+
+-- The way from one place of a file to another pays for what is read.
+abbrev pub GoesTo : {S T E : Type 0} → Ghosts S → FileId → ℕ → ℕ → ReadAhead → ReadAhead → S → S → Result T E → Type 0
+GoesTo g file at to old new before now result = Goes g file at (λ _. to) old new before now result
+
+-- The same through what a walk looks through, by what it holds.
+abbrev pub GoesThrough : {S T E W : Type 0} → Ghosts S → (W → ReadAhead) → FileId → ℕ → (T → ℕ) → W → W → S → S → Result T E → Type 0
+GoesThrough g ahead file at to old new before now result = Goes g file at to (ahead old) (ahead new) before now result
+
+abbrev pub LooksThrough : {S T E W : Type 0} → Ghosts S → (W → ReadAhead) → FileId → ℕ → ℕ → ℕ → W → W → S → S → Result T E → Type 0
+LooksThrough g ahead file room at len old new before now result = Looks g file room at len (ahead old) (ahead new) before now result
+
+-- So does the way from the body of an Element on.
+abbrev pub GoesBody : {S T E W : Type 0} → Ghosts S → (W → ReadAhead) → FileId → Header → (T → ℕ) → W → W → S → S → Result T E → Type 0
+GoesBody g ahead file h to old new before now result = GoesThrough g ahead file h.body to old new before now result

@@ -6,8 +6,10 @@ ghost use Rattle.mkv_io.specs.Faults.{HasCause, is_failure};
 ghost use Rattle.mkv_io.specs.Sources.{IfTold, IsLive, OnlyReads, file_size};
 ghost use Rattle.mkv_schema.specs.Element.{element_at};
 ghost use Rattle.elements.specs.Parent.{setting_of};
-ghost use Rattle.elements.specs.Looks.{IsFound};
+ghost use Rattle.elements.specs.Held.{BeginsWith};
+ghost use Rattle.elements.specs.Looks.{FindsAt, IsFound};
 ghost use Rattle.elements.specs.Window.{HasRange, front_from, header_room, held_from, kept_from, wanted_at};
+ghost use Rattle.mkv_io.specs.Bounds.{ReadsOf};
 
 use crate::LITTLE;
 use crate::header::read_header;
@@ -26,7 +28,7 @@ pub struct Held {
 }
 
 impl Held {
-    ghost use Rattle.elements.specs.Held.{GoesIn, HoldsIn, LooksIn, held_in};
+    ghost use Rattle.elements.specs.Held.{GoesIn, HoldsIn, HoldsWanted, KeepsFrom, LooksHeader, LooksIn, ReadsBehind, held_in};
 
     /// Whether a buffer holds so many octets from `at` octets behind the file's start on.
     pub fn has(self, at: u64, len: usize, buffer: &[u8]) -> bool
@@ -96,7 +98,7 @@ impl Held {
     fn move_to(&mut self, at: u64, total: u64, buffer: &mut [u8])
         requires fits { self.old.len ≤ length buffer.old }
         requires inside { at ≤ total }
-        ensures keeps { held_in self.new buffer.new ≡ record { at = at; octets = kept_from (held_in self.old buffer.old) total at } }
+        ensures keeps { KeepsFrom at total self.old buffer.old self.new buffer.new }
         ensures place { self.new.at ≡ at }
         ensures count { self.new.len ≡ length (kept_from (held_in self.old buffer.old) total at) }
         ensures held { (self.new.len ≡ 0) ⊎ HasRange (held_in self.old buffer.old) at self.new.len }
@@ -123,13 +125,13 @@ impl Held {
         requires more { self.old.len ≤ wanted }
         requires room { wanted ≤ length buffer.old }
         requires holds { HoldsIn R.Reads file src.old self.old buffer.old }
-        ensures ok { OnOk result ((self.new.at ≡ self.old.at) × (self.new.len ≡ held_from wanted (file_size R.Reads src.old file) self.old.at)) }
+        ensures ok { OnOk result (HoldsWanted wanted (file_size R.Reads src.old file) self.old self.new) }
         ensures err { OnErr result (self.new ≡ record { at = self.old.at; len = 0 }) }
         ensures holds { HoldsIn R.Reads file src.old self.new buffer.new }
         ensures room { length buffer.new ≡ length buffer.old }
         ensures same { OnlyReads R.Reads src.old src.new }
         ensures cause { HasCause is_failure (R.reading_faults src.old) (R.reading_faults src.new) result }
-        ensures octets { R.octets_read src.new + self.old.len ≤ R.octets_read src.old + held_from wanted (file_size R.Reads src.old file) self.old.at }
+        ensures octets { ReadsBehind R.Reads file wanted self.old src.old src.new }
     {
         let Held { at, len } = *self;
         *self = Held { at, len: 0 };
@@ -197,9 +199,9 @@ impl Held {
         requires place { at ≤ end }
         requires within { end ≤ file_size R.Reads src.old file }
         requires holds { HoldsIn R.Reads file src.old self.old buffer.old }
-        ensures ok { IfOk result (λ found. IfTold R.Reads src.old file (λ bytes. found ≡ element_at (setting_of parent) bytes at end)) }
+        ensures ok { FindsAt R.Reads src.old file (setting_of parent) at end result }
         ensures placed { IfOk result (λ found. IfOk found (IsFound (setting_of parent) at end)) }
-        ensures looks { LooksIn R.Reads file at (header_room at end) self.old buffer.old self.new buffer.new src.old src.new result }
+        ensures looks { LooksHeader R.Reads file at end self.old buffer.old self.new buffer.new src.old src.new result }
         ensures holds { HoldsIn R.Reads file src.old self.new buffer.new }
         ensures same { OnlyReads R.Reads src.old src.new }
         ensures cause { HasCause is_failure (R.reading_faults src.old) (R.reading_faults src.new) result }
@@ -233,10 +235,10 @@ fn read_ahead<R: Reads>(
     requires live { IsLive R.Reads src.old file }
     requires inside { at ≤ file_size R.Reads src.old file }
     ensures count { IfOk result (λ count. count ≡ held_from (length buffer.old) (file_size R.Reads src.old file) at) }
-    ensures ok { IfOk result (λ count. IfTold R.Reads src.old file (λ bytes. take count buffer.new ≡ octets_from bytes at count)) }
+    ensures ok { IfOk result (BeginsWith R.Reads src.old file at buffer.new) }
     ensures same { OnlyReads R.Reads src.old src.new }
     ensures cause { HasCause is_failure (R.reading_faults src.old) (R.reading_faults src.new) result }
-    ensures octets { R.octets_read src.new ≤ R.octets_read src.old + held_from (length buffer.old) (file_size R.Reads src.old file) at }
+    ensures octets { ReadsOf R.Reads src.old src.new file (λ size. held_from (length buffer.old) size at) }
 {
     let left = src.size(file) - at;
     let count = left.min(buffer.len() as u64) as usize;

@@ -4,7 +4,7 @@ ghost use Rattle.std.specs.Prelude.{◌≡◌, ◌≤◌, IfOk, OnErr};
 ghost use Rattle.mkv_io.specs.Faults.{HasCause, is_failure};
 ghost use Rattle.mkv_io.specs.Sources.{IfTold, IsLive, OnlyReads, file_size};
 ghost use Rattle.mkv_schema.specs.Elements.{ends_segment};
-ghost use Rattle.elements.specs.Looks.{Goes};
+ghost use Rattle.elements.specs.Looks.{Goes, GoesThrough};
 ghost use Rattle.elements.specs.Window.{Holds, IsEmptyWithin};
 ghost use Rattle.elements.specs.Steps.{IsStep, StepsIn, place_behind};
 
@@ -59,7 +59,7 @@ pub fn next_of_segment<W: Lookahead, R: Reads>(
     ensures holds { IfTold R.Reads src.old file (λ bytes. Holds bytes (W.ahead window.new)) }
     ensures same { OnlyReads R.Reads src.old src.new }
     ensures cause { HasCause is_failure (R.reading_faults src.old) (R.reading_faults src.new) result }
-    ensures goes { Goes R.Reads file at (place_behind at end) (W.ahead window.old) (W.ahead window.new) src.old src.new result }
+    ensures goes { GoesThrough R.Reads W.ahead file at (place_behind at end) window.old window.new src.old src.new result }
 {
     if at >= end {
         return Ok(Level1Step::End);

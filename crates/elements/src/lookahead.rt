@@ -5,7 +5,7 @@ ghost use Rattle.mkv_io.specs.Faults.{HasCause, is_failure};
 ghost use Rattle.mkv_io.specs.Sources.{IfTold, IsLive, OnlyReads, file_size};
 ghost use Rattle.mkv_schema.specs.Element.{element_at};
 ghost use Rattle.elements.specs.Parent.{setting_of};
-ghost use Rattle.elements.specs.Looks.{Goes, IsFound, Looks};
+ghost use Rattle.elements.specs.Looks.{FindsAt, Goes, IsFound, Looks, LooksThrough};
 ghost use Rattle.elements.specs.Window.{ReadAhead, Holds, header_room};
 
 use crate::parent::Parent;
@@ -34,9 +34,9 @@ pub trait Lookahead {
         requires place { at ≤ end }
         requires inside { end ≤ file_size R.Reads src.old file }
         requires holds { IfTold R.Reads src.old file (λ bytes. Holds bytes (ahead self.old)) }
-        ensures ok { IfOk result (λ found. IfTold R.Reads src.old file (λ bytes. found ≡ element_at (setting_of parent) bytes at end)) }
+        ensures ok { FindsAt R.Reads src.old file (setting_of parent) at end result }
         ensures placed { IfOk result (λ found. IfOk found (IsFound (setting_of parent) at end)) }
-        ensures looks { Looks R.Reads file room at (header_room at end) (ahead self.old) (ahead self.new) src.old src.new result }
+        ensures looks { LooksThrough R.Reads ahead file room at (header_room at end) self.old self.new src.old src.new result }
         ensures holds { IfTold R.Reads src.old file (λ bytes. Holds bytes (ahead self.new)) }
         ensures same { OnlyReads R.Reads src.old src.new }
         ensures cause { HasCause is_failure (R.reading_faults src.old) (R.reading_faults src.new) result }

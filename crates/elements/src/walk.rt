@@ -2,10 +2,10 @@
 
 ghost use Rattle.std.specs.Prelude.{◌≡◌, ◌≤◌, IfOk, OnErr};
 ghost use Rattle.mkv_io.specs.Faults.{HasCause, is_failure};
-ghost use Rattle.mkv_io.specs.Sources.{IfTold, IsLive, OnlyReads, file_size};
+ghost use Rattle.mkv_io.specs.Sources.{IfRead, IfTold, IsLive, OnlyReads, file_size};
 ghost use Rattle.mkv_schema.specs.Elements.{behind_in_segment, ends_cluster, id_of};
 ghost use Rattle.mkv_schema.specs.Element.{end_in};
-ghost use Rattle.elements.specs.Looks.{Goes};
+ghost use Rattle.elements.specs.Looks.{Goes, GoesBody, GoesThrough};
 ghost use Rattle.elements.specs.Window.{Holds, IsEmptyWithin};
 ghost use Rattle.elements.specs.Walk.{IsBetween, cluster_end, place_or};
 
@@ -61,7 +61,7 @@ pub fn cluster_end<W: Lookahead, R: Reads>(
     ensures same { OnlyReads R.Reads src.old src.new }
     ensures cause { HasCause is_failure (R.reading_faults src.old) (R.reading_faults src.new) result }
     ensures place { IfOk result (λ found. IfOk found (IsBetween from end)) }
-    ensures goes { Goes R.Reads file from (place_or end) (W.ahead window.old) (W.ahead window.new) src.old src.new result }
+    ensures goes { GoesThrough R.Reads W.ahead file from (place_or end) window.old window.new src.old src.new result }
 {
     let mut at = from;
     while at < end {
@@ -90,13 +90,13 @@ pub fn behind<W: Lookahead, R: Reads>(
     requires place { header.now.body ≤ end }
     requires inside { end ≤ file_size R.Reads src.old file }
     requires holds { IfTold R.Reads src.old file (λ bytes. Holds bytes (W.ahead window.old)) }
-    ensures ok { IfOk result (λ found. IfTold R.Reads src.old file (λ bytes. found ≡ behind_in_segment bytes end header.now)) }
+    ensures ok { IfRead R.Reads src.old file result (λ found bytes. found ≡ behind_in_segment bytes end header.now) }
     ensures holds { IfTold R.Reads src.old file (λ bytes. Holds bytes (W.ahead window.new)) }
     ensures err { OnErr result (IsEmptyWithin header.now.body end (W.ahead window.new)) }
     ensures same { OnlyReads R.Reads src.old src.new }
     ensures cause { HasCause is_failure (R.reading_faults src.old) (R.reading_faults src.new) result }
     ensures place { IfOk result (λ found. IfOk found (IsBetween header.now.body end)) }
-    ensures goes { Goes R.Reads file header.now.body (place_or end) (W.ahead window.old) (W.ahead window.new) src.old src.new result }
+    ensures goes { GoesBody R.Reads W.ahead file header.now (place_or end) window.old window.new src.old src.new result }
 {
     match header.size {
         Size::Unknown => {

@@ -9,7 +9,8 @@ ghost use Rattle.generator.specs.Asked.{AsksToGenerate};
 ghost use Rattle.generator.specs.Bound.{ReadsBoth, ReadsParts, most_made};
 ghost use Rattle.generator.specs.Generate.{both_words, parts_words, two_files};
 ghost use Rattle.generator.specs.Outcome.{Makes, MakesBoth, MakesParts};
-ghost use Rattle.mkv_lines.specs.Command.{HasFilesCause, ReadsByNames};
+ghost use Rattle.mkv_lines.specs.Command.{HasFilesCause};
+ghost use Rattle.mkv_io.specs.Bounds.{ReadsByNames};
 
 use crate::blocks::Medium;
 use crate::file::write_file;

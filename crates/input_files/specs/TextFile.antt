@@ -53,3 +53,7 @@ is_text_fault Memory = false
 -- how many octets are read of a file of so many: all, or none where it is too long
 abbrev pub octets_within : ℕ → ℕ → ℕ
 octets_within most size = if nat_lt most size then 0 else size
+
+-- the end of a file that is too large
+abbrev pub too_large : TextFileEnd
+too_large = Refused TooLarge

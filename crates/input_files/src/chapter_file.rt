@@ -6,6 +6,7 @@ ghost use Rattle.mkv_io.specs.Faults.{HasCause, is_read_fault};
 ghost use Rattle.mkv_io.specs.Told.{Told};
 ghost use Rattle.sidecar_edit.specs.Pending.{LooksOnly};
 ghost use Rattle.input_files.specs.ChapterFile.{CanBeWritten, chapter_file, chapter_octets, file_with, octets_with};
+ghost use Rattle.mkv_io.specs.Bounds.{ReadsByNames};
 
 use crate::reading::read_chapters;
 use crate::refusal::{TextFileEnd, TextRefusal};
@@ -32,7 +33,7 @@ fn read_named<F: Files>(alloc: Global, name: &str, files: &mut F) -> Result<Chap
     ensures written { IfOk result CanBeWritten }
     ensures looks { LooksOnly F.Reads F.Files.own (name.now ∷ []) files.old files.new }
     ensures cause { HasCause is_read_fault (F.reading_faults files.old) (F.reading_faults files.new) result }
-    ensures octets { Told (F.names files.old) (λ world. F.octets_read files.new ≤ F.octets_read files.old + octets_with (world name.now)) }
+    ensures octets { ReadsByNames F.Reads F.Files.own files.old files.new (λ world. octets_with (world name.now)) }
 {
     let file = match files.open_file(name) {
         Ok(file) => file,
@@ -62,7 +63,7 @@ pub fn read_chapter_file<F: Files>(
     ensures written { IfOk result CanBeWritten }
     ensures looks { LooksOnly F.Reads F.Files.own (option_to_list name.now) files.old files.new }
     ensures cause { HasCause is_read_fault (F.reading_faults files.old) (F.reading_faults files.new) result }
-    ensures octets { Told (F.names files.old) (λ world. F.octets_read files.new ≤ F.octets_read files.old + chapter_octets world name.now) }
+    ensures octets { ReadsByNames F.Reads F.Files.own files.old files.new (λ world. chapter_octets world name.now) }
 {
     match name {
         Some(name) => read_named(alloc, name.as_str(), files),

@@ -6,7 +6,7 @@ ghost use Rattle.mkv_io.specs.Sources.{live_files};
 ghost use Rattle.mkv_io.specs.Told.{Told};
 ghost use Rattle.mkv_io.specs.Writing.{UsesOnly};
 ghost use Rattle.mkv_outputs.specs.Sinks.{AreLive, AreRising, EndsOnly};
-ghost use Rattle.input_files.specs.Inputs.{LeavesContents, OpensInputs, TellsMissing, contents_of, end_of, file_names, is_inputs_fault};
+ghost use Rattle.input_files.specs.Inputs.{HaveContents, LeavesContents, OpensInputs, TellsMissing, contents_of, end_of, file_names, is_inputs_fault};
 
 use crate::inputs_end::InputsEnd;
 use merge_words::FileWords;

@@ -7,7 +7,8 @@ ghost use Rattle.mkv_io.specs.Sources.{IfTold, IsLive, OnlyReads, file_size};
 ghost use Rattle.ebml_tree.specs.Building.{IsRead};
 ghost use Rattle.srt_texts.specs.Reading.{AreWithin};
 ghost use Rattle.ext_times.specs.Listing.{listing};
-ghost use Rattle.input_files.specs.TextFile.{ReadsText, chapter_text, is_text_fault, octets_within, srt_text, text_file};
+ghost use Rattle.input_files.specs.TextFile.{ReadsText, chapter_text, is_text_fault, octets_within, srt_text, text_file, too_large};
+ghost use Rattle.mkv_io.specs.Bounds.{ReadsOf};
 
 use crate::limits::{MOST_OF_CHAPTERS, MOST_OF_SRT};
 use crate::refusal::{TextFileEnd, TextRefusal};
@@ -27,11 +28,11 @@ fn read_whole<R: Reads>(
     requires { IsLive R.Reads src.old file }
     ensures ok { IfOk result (λ octets. IfTold R.Reads src.old file (λ bytes. octets ≡ bytes)) }
     ensures length { IfOk result (λ octets. (length octets ≡ file_size R.Reads src.old file) × (length octets ≤ most)) }
-    ensures large { IsErrOf result (TextFileEnd.Refused TextRefusal.TooLarge) ↔ (most < file_size R.Reads src.old file) }
+    ensures large { IsErrOf result too_large ↔ (most < file_size R.Reads src.old file) }
     ensures refused { (why : TextRefusal) → IsErrOf result (TextFileEnd.Refused why) → why ≡ TextRefusal.TooLarge }
     ensures only { OnlyReads R.Reads src.old src.new }
     ensures cause { HasCause is_text_fault (R.reading_faults src.old) (R.reading_faults src.new) result }
-    ensures octets { R.octets_read src.new ≤ R.octets_read src.old + octets_within most (file_size R.Reads src.old file) }
+    ensures octets { ReadsOf R.Reads src.old src.new file (octets_within most) }
 {
     let size = src.size(file);
     if size > most {
@@ -54,11 +55,11 @@ pub fn read_entries<R: Reads>(
     ensures exact { IfTold R.Reads src.old file (λ bytes. ReadsText (srt_text bytes) result) }
 
     // Whatever the file tells, so many octets refuse it, and what is read keeps the limits of a lane.
-    ensures large { IsErrOf result (TextFileEnd.Refused TextRefusal.TooLarge) ↔ (MOST_OF_SRT < file_size R.Reads src.old file) }
+    ensures large { IsErrOf result too_large ↔ (MOST_OF_SRT < file_size R.Reads src.old file) }
     ensures within { IfOk result (AreWithin MOST_OF_SRT) }
     ensures only { OnlyReads R.Reads src.old src.new }
     ensures cause { HasCause is_text_fault (R.reading_faults src.old) (R.reading_faults src.new) result }
-    ensures octets { R.octets_read src.new ≤ R.octets_read src.old + octets_within MOST_OF_SRT (file_size R.Reads src.old file) }
+    ensures octets { ReadsOf R.Reads src.old src.new file (octets_within MOST_OF_SRT) }
 {
     let octets = read_whole(alloc, src, file, MOST_OF_SRT)?;
     Ok(read_srt(alloc, octets.as_slice())?)
@@ -75,11 +76,11 @@ pub fn read_chapters<R: Reads>(
     ensures exact { IfTold R.Reads src.old file (λ bytes. ReadsText (chapter_text bytes) result) }
 
     // Whatever the file tells, so many octets refuse it, and what is read can be written.
-    ensures large { IsErrOf result (TextFileEnd.Refused TextRefusal.TooLarge) ↔ (MOST_OF_CHAPTERS < file_size R.Reads src.old file) }
+    ensures large { IsErrOf result too_large ↔ (MOST_OF_CHAPTERS < file_size R.Reads src.old file) }
     ensures read { IfOk result (IsRead CHAPTERS) }
     ensures only { OnlyReads R.Reads src.old src.new }
     ensures cause { HasCause is_text_fault (R.reading_faults src.old) (R.reading_faults src.new) result }
-    ensures octets { R.octets_read src.new ≤ R.octets_read src.old + octets_within MOST_OF_CHAPTERS (file_size R.Reads src.old file) }
+    ensures octets { ReadsOf R.Reads src.old src.new file (octets_within MOST_OF_CHAPTERS) }
 {
     let octets = read_whole(alloc, src, file, MOST_OF_CHAPTERS)?;
     Ok(read_simple(alloc, octets.as_slice())?)
@@ -97,7 +98,7 @@ pub fn read_track_times<R: Reads>(
     ensures exact { IfTold R.Reads src.old file (λ bytes. ReadsText (text_file most listing bytes) result) }
     ensures only { OnlyReads R.Reads src.old src.new }
     ensures cause { HasCause is_text_fault (R.reading_faults src.old) (R.reading_faults src.new) result }
-    ensures octets { R.octets_read src.new ≤ R.octets_read src.old + octets_within most (file_size R.Reads src.old file) }
+    ensures octets { ReadsOf R.Reads src.old src.new file (octets_within most) }
 {
     let octets = read_whole(alloc, src, file, most)?;
     Ok(read_times(alloc, octets.as_slice())?)

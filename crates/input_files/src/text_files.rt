@@ -6,6 +6,8 @@ ghost use Rattle.mkv_io.specs.Told.{Told};
 ghost use Rattle.sidecar_edit.specs.Pending.{LooksOnly};
 ghost use Rattle.input_files.specs.ChapterFile.{CanBeWritten};
 ghost use Rattle.input_files.specs.TextFiles.{text_files, text_names, text_octets};
+ghost use Rattle.mkv_io.specs.Bounds.{ReadsByNames};
+ghost use Rattle.mkv_io.specs.Writing.{IfByNames};
 
 use crate::chapter_file::{ChapterFile, read_chapter_file};
 use crate::times_file::{TimesFile, read_times_files};
@@ -29,13 +31,13 @@ pub fn read_text_files<F: Files>(
     words: &[FileWords],
     files: &mut F,
 ) -> Result<TextFiles, ReadEnd>
-    ensures exact { Told (F.names files.old) (λ world. IfOk result (λ texts. texts ≡ text_files world chapters.now words.now)) }
+    ensures exact { IfByNames F.Files.own files.old result (λ world texts. texts ≡ text_files world chapters.now words.now) }
 
     // Whatever the names tell, Chapters that were read can be written.
     ensures written { IfOk result (λ texts. CanBeWritten texts.chapters) }
     ensures looks { LooksOnly F.Reads F.Files.own (text_names chapters.now words.now) files.old files.new }
     ensures cause { HasCause is_read_fault (F.reading_faults files.old) (F.reading_faults files.new) result }
-    ensures octets { Told (F.names files.old) (λ world. F.octets_read files.new ≤ F.octets_read files.old + text_octets world chapters.now words.now) }
+    ensures octets { ReadsByNames F.Reads F.Files.own files.old files.new (λ world. text_octets world chapters.now words.now) }
 {
     let chapters = read_chapter_file(alloc, chapters, files)?;
     let times = read_times_files(alloc, words, files)?;

@@ -5,6 +5,8 @@ ghost use Rattle.mkv_io.specs.Faults.{HasCause, is_read_fault};
 ghost use Rattle.mkv_io.specs.Told.{Told};
 ghost use Rattle.sidecar_edit.specs.Pending.{LooksOnly};
 ghost use Rattle.input_files.specs.TimesFile.{given_with, named_of, octets_with, size_with, times_files, times_named, times_names, times_octets};
+ghost use Rattle.mkv_io.specs.Bounds.{ReadsByNames};
+ghost use Rattle.mkv_io.specs.Writing.{IfByNames};
 
 use crate::limits::{MOST_OF_ALL_TIMES, MOST_OF_TIMES};
 use crate::reading::read_track_times;
@@ -85,11 +87,11 @@ fn read_named<F: Files>(
     room: u64,
     files: &mut F,
 ) -> Result<Found, ReadEnd>
-    ensures exact { Told (F.names files.old) (λ world. IfOk result (λ found. found.given ≡ given_with room (world name.now))) }
-    ensures size { Told (F.names files.old) (λ world. IfOk result (λ found. found.size ≡ size_with (world name.now))) }
+    ensures exact { IfByNames F.Files.own files.old result (λ world found. found.given ≡ given_with room (world name.now)) }
+    ensures size { IfByNames F.Files.own files.old result (λ world found. found.size ≡ size_with (world name.now)) }
     ensures looks { LooksOnly F.Reads F.Files.own (name.now ∷ []) files.old files.new }
     ensures cause { HasCause is_read_fault (F.reading_faults files.old) (F.reading_faults files.new) result }
-    ensures octets { Told (F.names files.old) (λ world. F.octets_read files.new ≤ F.octets_read files.old + octets_with (world name.now)) }
+    ensures octets { ReadsByNames F.Reads F.Files.own files.old files.new (λ world. octets_with (world name.now)) }
 {
     let file = match files.open_file(name) {
         Ok(file) => file,
@@ -119,10 +121,10 @@ pub fn read_times_files<F: Files>(
     words: &[FileWords],
     files: &mut F,
 ) -> Result<List<TimesFile>, ReadEnd>
-    ensures exact { Told (F.names files.old) (λ world. IfOk result (λ list. list ≡ times_files world words.now)) }
+    ensures exact { IfByNames F.Files.own files.old result (λ world list. list ≡ times_files world words.now) }
     ensures looks { LooksOnly F.Reads F.Files.own (times_names (times_named words.now)) files.old files.new }
     ensures cause { HasCause is_read_fault (F.reading_faults files.old) (F.reading_faults files.new) result }
-    ensures octets { Told (F.names files.old) (λ world. F.octets_read files.new ≤ F.octets_read files.old + times_octets world words.now) }
+    ensures octets { ReadsByNames F.Reads F.Files.own files.old files.new (λ world. times_octets world words.now) }
 {
     let named = times_named(alloc, words)?;
     let mut list = List::new(alloc);

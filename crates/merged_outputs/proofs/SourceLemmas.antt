@@ -22,7 +22,7 @@ use Rattle.mkv_io.specs.Results.{and_then}
 use Rattle.mkv_schema.specs.Value.{body_of, first_of, text_of}
 use Rattle.mkv_schema.proofs.OutlineLemmas.{and_then-ok, unless-ok}
 use Rattle.tree_format.specs.declared.limits.TheConstants.{MOST_NODES}
-use Rattle.tree_format.specs.Node.{Node, id_of, IsMaster, HasRoom}
+use Rattle.tree_format.specs.Node.{Node, id_of, HasRoom}
 use Rattle.tree_format.specs.Node as tree
 use Rattle.tree_format.specs.Reading.{tree_of}
 use Rattle.tree_format.specs.Standing.{IsSoundOf}

@@ -29,6 +29,9 @@ use Rattle.file_format.specs.declared.scale.TheConstants.{DEFAULT_SCALE}
 use Rattle.meta_records.specs.Walk.{IsAttachedIn}
 use Rattle.meta_records.specs.Attached.{AttachedFile, first_attached, in_file}
 use Rattle.meta_records.specs.declared.records.Records.{Records}
+use Rattle.mkv_io.specs.Sources.{IfTold}
+use Rattle.mkv_io.specs.declared.reads.Reads.{Ghosts}
+use Rattle.element_reader.specs.Outline.{FileOutline, outline_in}
 
 -- An Element of this ID is a master of level 1, other than a Cluster, of which at most 16 MiB are read.
 pub record IsHeld (id : ℕ) : Type 0 where
@@ -125,3 +128,7 @@ pub record AreGood (file : FileId) (total : ℕ) (r : Records) : Type 0 where
   pub attachments : All (IsAttachedIn file total) r.attachments
   pub chapters : IfSome r.chapters (IsRead CHAPTERS)
   pub tags : IfSome r.tags (IsRead TAGS)
+
+-- a fact of a file's content, where it is told and this is its outline, whatever earlier inputs have held
+abbrev pub IfOutlined : {S : Type 0} → Ghosts S → S → FileId → FileOutline → (List ℕ → Type 0) → Type 0
+IfOutlined r src file outline P = IfTold r src file (λ bytes. (held : ℕ) → outline_in held bytes ≡ Ok outline → P bytes)

@@ -6,7 +6,7 @@ ghost use Rattle.mkv_io.specs.Sources.{IfTold, IsLive, file_size};
 ghost use Rattle.tree_format.specs.Standing.{IsSoundOf};
 ghost use Rattle.ebml_tree.specs.Building.{IsRead};
 ghost use Rattle.element_reader.specs.Outline.{is_outline_fault, outline_in};
-ghost use Rattle.meta_records.specs.Records.{IsHeld, ReadsAs, first_tree};
+ghost use Rattle.meta_records.specs.Records.{IfOutlined, IsHeld, ReadsAs, first_tree};
 
 use ebml_tree::{MOST_NODES, Tree, TreeEnd};
 use element_reader::{LoadEnd, Outline, OutlineEnd, load};
@@ -24,8 +24,7 @@ pub fn first_tree<R: Reads>(
     requires live { IsLive R.Reads src.old file }
     requires whole { outline.now.total ≡ file_size R.Reads src.old file }
     requires held { IsHeld id }
-    ensures exact { IfTold R.Reads src.old file (λ bytes. (held : ℕ) → outline_in held bytes ≡ Ok outline.now
-        → ReadsAs (first_tree id bytes outline.now.segment) result) }
+    ensures exact { IfOutlined R.Reads src.old file outline.now (λ bytes. ReadsAs (first_tree id bytes outline.now.segment) result) }
     ensures sound { IfOk result (λ tree. IfSome tree (IsSoundOf id)) }
     ensures read { IfOk result (λ tree. IfSome tree (IsRead id)) }
     ensures standing { R.standing src.new ≡ R.standing src.old }

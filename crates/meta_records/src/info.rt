@@ -5,7 +5,7 @@ ghost use Rattle.mkv_schema.specs.declared.ids.TheConstants.{INFO as INFO_ID};
 ghost use Rattle.mkv_schema.specs.declared.element.Header.{Header};
 ghost use Rattle.tree_format.specs.Standing.{IsSoundOf};
 ghost use Rattle.file_format.specs.Info.{scale_of, info_refusal, first_info, info_tree, file_scale};
-ghost use Rattle.meta_records.specs.Info.{info_of};
+ghost use Rattle.meta_records.specs.Info.{IfFirst, info_of};
 
 use ebml_tree::Tree;
 use file_format::DEFAULT_SCALE;
@@ -54,9 +54,7 @@ pub fn read_info(info: &Tree) -> Result<Info, Damage>
     ensures some { IfOk result (λ values. 0 < values.scale) }
 
     // The scale of the first Info of a file is the file's.
-    ensures file { (bytes : List ℕ) (segment h : Header)
-        → first_info bytes segment ≡ Some h → info_tree bytes h ≡ Ok info.now
-        → IfOk result (λ values. values.scale ≡ file_scale bytes segment) }
+    ensures file { IfFirst info.now (λ bytes segment. IfOk result (λ values. values.scale ≡ file_scale bytes segment)) }
 {
     match refusal_of(info) {
         Some(damage) => Err(damage),

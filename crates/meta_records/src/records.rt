@@ -7,7 +7,8 @@ ghost use Rattle.mkv_io.specs.Sources.{IfTold, IsLive, file_size};
 ghost use Rattle.tree_format.specs.Standing.{IsSoundOf};
 ghost use Rattle.meta_records.specs.declared.limits.TheConstants.{MOST_OF_ATTACHMENTS};
 ghost use Rattle.element_reader.specs.Outline.{is_outline_fault, outline_in};
-ghost use Rattle.meta_records.specs.Records.{AreGood, AreRead, IsGoodInfo, ReadsAs, ReadsRecords, file_records, good_info, good_tracks, scale_of_info};
+ghost use Rattle.meta_records.specs.Records.{AreGood, AreRead, IfOutlined, IsGoodInfo, ReadsAs, ReadsRecords, file_records, good_info, good_tracks, scale_of_info};
+ghost use Rattle.mkv_io.specs.Bounds.{ReadsOf};
 
 use crate::first::first_tree;
 use crate::first_attached::first_attachments;
@@ -48,16 +49,14 @@ pub fn read_records<R: Reads>(
 ) -> Result<Records, OutlineEnd>
     requires live { IsLive R.Reads src.old file }
     requires whole { outline.now.total ≡ file_size R.Reads src.old file }
-    ensures exact { IfTold R.Reads src.old file (λ bytes. (held : ℕ) → outline_in held bytes ≡ Ok outline.now
-        → ReadsRecords (file_records bytes outline.now.segment) result) }
+    ensures exact { IfOutlined R.Reads src.old file outline.now (λ bytes. ReadsRecords (file_records bytes outline.now.segment) result) }
     ensures good { IfOk result (AreGood file outline.now.total) }
     ensures standing { R.standing src.new ≡ R.standing src.old }
     ensures cause { HasCause is_outline_fault (R.reading_faults src.old) (R.reading_faults src.new) result }
 
     // Info, Tracks, Chapters and Tags are each read once, and of Attachments no data.
     ensures octets { R.octets_read src.new ≤ R.octets_read src.old + 20 * file_size R.Reads src.old file }
-    ensures few { R.octets_read src.new
-        ≤ R.octets_read src.old + (4 * file_size R.Reads src.old file + 2 * MOST_OF_ATTACHMENTS) }
+    ensures few { ReadsOf R.Reads src.old src.new file (λ size. 4 * size + 2 * MOST_OF_ATTACHMENTS) }
 {
     let info = first_tree(alloc, outline, src, file, INFO)?;
     let info = good_info(info)?;

@@ -1,6 +1,9 @@
 -- The two files of a disk: a medium, and the sidecar beside it.
-use Rattle.std.specs.Prelude.{◌≡◌, ℕ, zero, suc, List}
+use Rattle.std.specs.Prelude.{◌≡◌, ℕ, zero, suc, true, List}
 use Rattle.mkv_disk.specs.Image.{DiskFile, IsImage, clean}
+use Rattle.mkv_io.specs.declared.outside.FileId.{FileId}
+use Rattle.mkv_io.specs.LiveFiles.{LiveFiles}
+use Rattle.mkv_disk.specs.declared.disk.TheConstants.{MEDIA, SIDECAR}
 
 pub record Pair : Type 0 where
   pub media : DiskFile
@@ -28,3 +31,11 @@ both media sidecar = record { media = clean media; sidecar = clean sidecar }
 -- Nothing is pending: what is read is all that a crash leaves.
 abbrev pub IsSynced : Pair → Type 0
 IsSynced p = p ≡ both p.media.reads p.sidecar.reads
+
+-- an image of a pair of which one file is changed so
+abbrev pub IsPairWith : FileId → (DiskFile → DiskFile) → Pair → List ℕ → List ℕ → Type 0
+IsPairWith file change p = IsPairImage (on file.n change p)
+
+-- Both files are live.
+abbrev pub AreBothLive : LiveFiles → Type 0
+AreBothLive files = (files.live MEDIA.n ≡ true) × (files.live SIDECAR.n ≡ true)

@@ -3,8 +3,9 @@
 ghost use Rattle.std.specs.Prelude.{◌≡◌, ◌↔◌, ℕ, ◌+◌, ◌<◌, ◌≤◌, max, Bool, true, false, List, length, Option, Some, None, OnOk, OnErr, IsErrOf, IsTrue};
 ghost use Rattle.mkv_io.specs.Faults.{HasCause, is_failure, is_open_failure};
 ghost use Rattle.mkv_disk.specs.Image.{written_at, cut_to, all_synced};
-ghost use Rattle.mkv_disk.specs.Pair.{Pair, IsPairImage, file_of, on};
+ghost use Rattle.mkv_disk.specs.Pair.{AreBothLive, IsPairImage, IsPairWith, Pair, file_of, on};
 ghost use Rattle.mkv_disk.specs.Moments.{ChangesOne, LeavesOnly};
+ghost use Rattle.mkv_io.specs.Sources.{file_size, live_files};
 
 use mkv_io::{Failed, FileId, OpenFault, Reads};
 
@@ -48,7 +49,7 @@ pub trait Disk: Reads {
     /// there is made, empty.
     fn open_pair(&mut self, name: &str) -> Result<(), OpenFault>
         ensures missing { IsTrue told → IsErrOf result OpenFault.Missing ↔ (is_there self.old name.now ≡ false) }
-        ensures live { OnOk result (((Self.files (Self.standing self.new)).live MEDIA.n ≡ true) × ((Self.files (Self.standing self.new)).live SIDECAR.n ≡ true)) }
+        ensures live { OnOk result (AreBothLive (live_files Self.Reads self.new)) }
         ensures opened { OnOk result (opened self.new ≡ Some name.now) }
         ensures err { OnErr result (Self.standing self.new ≡ Self.standing self.old) }
 
@@ -65,9 +66,9 @@ pub trait Disk: Reads {
         requires live { IsTrue ((Self.files (Self.standing self.old)).live file.n) }
         requires inside { IsTrue told → at ≤ length (file_of file.n (pair self.old)).reads }
         ensures ok { IsTrue told → OnOk result (pair self.new ≡ on file.n (written_at at bytes.now) (pair self.old)) }
-        ensures any_moment { IsTrue told → LeavesOnly moment left_since self.old self.new (IsPairImage (on file.n (written_at at bytes.now) (pair self.old))) }
-        ensures size { OnOk result ((Self.files (Self.standing self.new)).size file.n ≡ max ((Self.files (Self.standing self.old)).size file.n) (at + length bytes.now)) }
-        ensures others { ChangesOne (Self.files (Self.standing self.old)) (Self.files (Self.standing self.new)) file.n }
+        ensures any_moment { IsTrue told → LeavesOnly moment left_since self.old self.new (IsPairWith file (written_at at bytes.now) (pair self.old)) }
+        ensures size { OnOk result (file_size Self.Reads self.new file ≡ max (file_size Self.Reads self.old file) (at + length bytes.now)) }
+        ensures others { ChangesOne (live_files Self.Reads self.old) (live_files Self.Reads self.new) file.n }
 
         ensures opened { opened self.new ≡ opened self.old }
         ensures cause { HasCause is_failure (writing_faults self.old) (writing_faults self.new) result }
@@ -79,9 +80,9 @@ pub trait Disk: Reads {
         requires live { IsTrue ((Self.files (Self.standing self.old)).live file.n) }
         requires inside { IsTrue told → len ≤ length (file_of file.n (pair self.old)).reads }
         ensures ok { IsTrue told → OnOk result (pair self.new ≡ on file.n (cut_to len) (pair self.old)) }
-        ensures any_moment { IsTrue told → LeavesOnly moment left_since self.old self.new (IsPairImage (on file.n (cut_to len) (pair self.old))) }
-        ensures size { OnOk result ((Self.files (Self.standing self.new)).size file.n ≡ len) }
-        ensures others { ChangesOne (Self.files (Self.standing self.old)) (Self.files (Self.standing self.new)) file.n }
+        ensures any_moment { IsTrue told → LeavesOnly moment left_since self.old self.new (IsPairWith file (cut_to len) (pair self.old)) }
+        ensures size { OnOk result (file_size Self.Reads self.new file ≡ len) }
+        ensures others { ChangesOne (live_files Self.Reads self.old) (live_files Self.Reads self.new) file.n }
 
         ensures opened { opened self.new ≡ opened self.old }
         ensures cause { HasCause is_failure (writing_faults self.old) (writing_faults self.new) result }
@@ -93,8 +94,8 @@ pub trait Disk: Reads {
         requires { IsTrue ((Self.files (Self.standing self.old)).live file.n) }
         ensures ok { IsTrue told → OnOk result (pair self.new ≡ on file.n all_synced (pair self.old)) }
         ensures any_moment { IsTrue told → LeavesOnly moment left_since self.old self.new (IsPairImage (pair self.old)) }
-        ensures size { OnOk result ((Self.files (Self.standing self.new)).size file.n ≡ (Self.files (Self.standing self.old)).size file.n) }
-        ensures others { ChangesOne (Self.files (Self.standing self.old)) (Self.files (Self.standing self.new)) file.n }
+        ensures size { OnOk result (file_size Self.Reads self.new file ≡ file_size Self.Reads self.old file) }
+        ensures others { ChangesOne (live_files Self.Reads self.old) (live_files Self.Reads self.new) file.n }
 
         ensures opened { opened self.new ≡ opened self.old }
         ensures cause { HasCause is_failure (writing_faults self.old) (writing_faults self.new) result }

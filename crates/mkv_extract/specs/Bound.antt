@@ -4,7 +4,8 @@ use Rattle.mkv_io.specs.declared.reads.Reads.{Ghosts}
 use Rattle.word_values.specs.declared.job.Job.{Job}
 use Rattle.word_values.specs.declared.job.Job.TheVariants as jobs
 use Rattle.meta_records.specs.declared.limits.TheConstants.{MOST_OF_ATTACHMENTS}
-use Rattle.mkv_lines.specs.Command.{ReadsUpTo, with_sidecar_head}
+use Rattle.mkv_lines.specs.Command.{with_sidecar_head}
+use Rattle.mkv_io.specs.Bounds.{ReadsUpTo}
 
 -- of a file of so many octets the first Cues is read once, for a job that takes it
 abbrev pub most_of_cues : Job → ℕ → ℕ

@@ -7,7 +7,8 @@ ghost use Rattle.mkv_io.specs.Sources.{IfTold};
 ghost use Rattle.word_values.specs.declared.job.Target.{Target as TargetSeen};
 ghost use Rattle.extractors.specs.Job.{names_of};
 ghost use Rattle.extractors.specs.Source.{IsSource};
-ghost use Rattle.mkv_lines.specs.Command.{ComesTo, HasEnded, ReadsOf};
+ghost use Rattle.mkv_lines.specs.Command.{ComesTo, HasEnded};
+ghost use Rattle.mkv_io.specs.Bounds.{ReadsOf};
 ghost use Rattle.mkv_extract.specs.Extract.{attached_verdict};
 ghost use Rattle.mkv_extract.specs.Read.{read_in};
 

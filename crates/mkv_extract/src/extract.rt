@@ -8,7 +8,8 @@ ghost use Rattle.extractors.specs.Job.{CanBeDone, form_of, job_refusal, names_fo
 ghost use Rattle.extractors.specs.Source.{entries_in, events_in};
 ghost use Rattle.sidecar_edit.specs.Name.{sidecar_of, with_sidecar};
 ghost use Rattle.sidecar_edit.specs.Pending.{is_pending};
-ghost use Rattle.mkv_lines.specs.Command.{ComesTo, HasEnded, ReadsByNames, ReadsOf, with_sidecar_head};
+ghost use Rattle.mkv_lines.specs.Command.{ComesTo, HasEnded, with_sidecar_head};
+ghost use Rattle.mkv_io.specs.Bounds.{ReadsByNames, ReadsOf};
 ghost use Rattle.mkv_lines.specs.Line.{text_of};
 ghost use Rattle.mkv_lines.specs.Verdict.{unless_pending};
 ghost use Rattle.mkv_extract.specs.Bound.{most_of_content, most_of_file, most_to_extract};

@@ -13,7 +13,7 @@ ghost use Rattle.mkv_schema.specs.Outline.{first_damage};
 ghost use Rattle.track_records.specs.Sound.{IsEntry};
 ghost use Rattle.mkv_extract.specs.Bound.{ReadsAtMost, most_before, most_of_cues};
 ghost use Rattle.mkv_extract.specs.Read.{HasOwnEvents, ReadsCues, ReadsSource, causes_of, first_unusable, is_named, read_of};
-ghost use Rattle.mkv_lines.specs.Command.{ReadsOf};
+ghost use Rattle.mkv_io.specs.Bounds.{ReadsOf};
 
 use ebml_tree::Tree;
 use element_reader::{Outline, OutlineEnd};

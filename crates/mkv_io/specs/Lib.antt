@@ -13,3 +13,5 @@ pub mod Asked
 pub mod Characters
 pub mod Results
 pub mod Sorted
+pub mod Seen
+pub mod Bounds

@@ -1,5 +1,5 @@
 -- The names of files, and the content of each.
-use Rattle.std.specs.Prelude.{◌≢◌, ℕ, List, [], ◌∷◌, Option, Some, None, if◌then◌else◌}
+use Rattle.std.specs.Prelude.{◌≡◌, ◌≢◌, ◌⊎◌, ℕ, List, [], ◌∷◌, Option, Some, None, if◌then◌else◌}
 use Rattle.std.specs.Str.{bytes_eq}
 
 -- Every name's content, None where there is no file of that name; all of it None where it isn't told.
@@ -18,6 +18,10 @@ with_change (Some world) name change = Some (changed_at name change world)
 -- a name gets a content, whatever it was
 abbrev pub with_content : Names → List ℕ → List ℕ → Names
 with_content names name bytes = with_change names name (λ _. Some bytes)
+
+-- The contents are as they were, or this name's is empty.
+abbrev pub MayEmpty : Names → Names → List ℕ → Type 0
+MayEmpty old new name = (new ≡ old) ⊎ (new ≡ with_content old name [])
 
 -- None of these names is that one.
 abbrev pub AreOthers : List ℕ → List (List ℕ) → Type 0

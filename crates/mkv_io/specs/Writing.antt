@@ -1,11 +1,12 @@
 -- What a call leaves that opens, makes and writes files of some names alone.
-use Rattle.std.specs.Prelude.{◌≡◌, ◌≤◌, ℕ, List, []}
+use Rattle.std.specs.Prelude.{◌≡◌, ◌≤◌, ℕ, List, [], Option, Result, IfOk}
 use Rattle.mkv_io.specs.Asked.{AsksOnly}
 use Rattle.mkv_io.specs.LiveFiles.{KeepsFiles, KeepsHolders}
 use Rattle.mkv_io.specs.Names.{AreOthers}
 use Rattle.mkv_io.specs.Sources.{live_files}
 use Rattle.mkv_io.specs.declared.reads.Reads.{Ghosts}
 use Rattle.mkv_io.specs.declared.files.Files as writing
+use Rattle.mkv_io.specs.Told.{Told}
 
 -- A call opens files of the first names alone, and makes or writes those of the second alone. Which files are live stays, and
 -- under which names; what stands under no name of the second stays the same. A number that was given stays so.
@@ -28,3 +29,7 @@ pub record WritesOnly {S : Type 0} (r : Ghosts S) (f : writing.Ghosts S) (names 
   pub reading : r.reading_faults new ≡ r.reading_faults old
   pub octets : r.octets_read new ≡ r.octets_read old
   pub faults : f.writing_faults old ≤ f.writing_faults new
+
+-- a fact of an answer and of the contents of names, where there are both
+abbrev pub IfByNames : {S T E : Type 0} → writing.Ghosts S → S → Result T E → ((List ℕ → Option (List ℕ)) → T → Type 0) → Type 0
+IfByNames f old result P = Told (f.names old) (λ world. IfOk result (P world))

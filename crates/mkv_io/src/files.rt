@@ -5,8 +5,10 @@ ghost use Rattle.mkv_io.specs.Asked.{AsksFor};
 ghost use Rattle.mkv_io.specs.declared.asked.Asked.{Asked};
 ghost use Rattle.mkv_io.specs.declared.asked.Asked.TheVariants.{Opened, Made};
 ghost use Rattle.mkv_io.specs.Faults.{HasCause, is_failure, is_make_failure, is_open_failure, last_count};
-ghost use Rattle.mkv_io.specs.LiveFiles.{Appends, AppendsPart, KeepsFiles, KeepsHolders, Overwrites, OverwritesWithin};
-ghost use Rattle.mkv_io.specs.Names.{Names, with_change, with_content};
+ghost use Rattle.mkv_io.specs.LiveFiles.{KeepsHolders};
+ghost use Rattle.mkv_io.specs.Names.{MayEmpty, Names, with_content};
+ghost use Rattle.mkv_io.specs.Seen.{Adds, AddsPart, FilesStay, HoldsContent, IsAnother, OpensAlone, Puts, PutsSome, SameLive, StayLive};
+ghost use Rattle.mkv_io.specs.Sources.{IsLive, content_of, file_size, live_files};
 ghost use Rattle.mkv_io.specs.Told.{Told};
 ghost use Rattle.mkv_io.specs.declared.outside.TheConstants.{LONGEST_FILE};
 
@@ -35,10 +37,10 @@ pub trait Files: Reads {
     fn open_file(&mut self, name: &str) -> Result<FileId, OpenFault>
         ensures missing { Told (names self.old) (λ world. IsErrOf result OpenFault.Missing ↔ (world name.now ≡ None)) }
         ensures number { IfOk result (λ file. (given self.old ≤ file.n) × (file.n < given self.new)) }
-        ensures live { IfOk result (λ file. IsTrue ((Self.files (Self.standing self.new)).live file.n)) }
-        ensures alone { IfOk result (λ file. (other : ℕ) → other ≢ file.n → (Self.files (Self.standing self.new)).live other ≡ (Self.files (Self.standing self.old)).live other) }
+        ensures live { IfOk result (λ file. IsLive Self.Reads self.new file) }
+        ensures alone { OpensAlone Self.Reads self.old self.new result }
         ensures holder { IfOk result (λ file. holder self.new file.n ≡ name.now) }
-        ensures content { IfOk result (λ file. Told (names self.old) (λ world. (Self.files (Self.standing self.new)).content file.n ≡ world name.now)) }
+        ensures content { HoldsContent Self.Reads self.new (names self.old) name.now result }
 
         // At the last number no file is opened.
         ensures full { given self.old ≡ last_count → IsErrOf result OpenFault.Missing ⊎ IsErrOf result OpenFault.Failed }
@@ -46,8 +48,8 @@ pub trait Files: Reads {
         // Names and the other files stay, and a refusal leaves everything but the count of faults.
         ensures err { OnErr result (Self.standing self.new ≡ Self.standing self.old) }
         ensures names { names self.new ≡ names self.old }
-        ensures others { KeepsFiles (Self.files (Self.standing self.old)) (Self.files (Self.standing self.new)) (λ file. file < given self.old) }
-        ensures holders { KeepsHolders (Self.files (Self.standing self.old)).live (holder self.old) (holder self.new) }
+        ensures others { FilesStay Self.Reads self.old self.new (λ file. file < given self.old) }
+        ensures holders { KeepsHolders (live_files Self.Reads self.old).live (holder self.old) (holder self.new) }
 
         ensures cause { HasCause is_open_failure (Self.reading_faults self.old) (Self.reading_faults self.new) result }
         ensures asks { AsksFor (Opened name.now) (asked self.old) (asked self.new) result }
@@ -58,23 +60,23 @@ pub trait Files: Reads {
     /// content is as before or empty.
     fn create(&mut self, name: &str) -> Result<FileId, MakeFault>
         ensures number { IfOk result (λ file. (given self.old ≤ file.n) × (file.n < given self.new)) }
-        ensures live { IfOk result (λ file. IsTrue ((Self.files (Self.standing self.new)).live file.n)) }
-        ensures alone { IfOk result (λ file. (other : ℕ) → other ≢ file.n → (Self.files (Self.standing self.new)).live other ≡ (Self.files (Self.standing self.old)).live other) }
+        ensures live { IfOk result (λ file. IsLive Self.Reads self.new file) }
+        ensures alone { OpensAlone Self.Reads self.old self.new result }
         ensures holder { IfOk result (λ file. holder self.new file.n ≡ name.now) }
-        ensures size { IfOk result (λ file. (Self.files (Self.standing self.new)).size file.n ≡ 0) }
+        ensures size { IfOk result (λ file. file_size Self.Reads self.new file ≡ 0) }
         ensures ok { OnOk result (names self.new ≡ with_content (names self.old) name.now []) }
 
         // At the last number no file is made.
         ensures full { given self.old ≡ last_count → IsErrOf result MakeFault.Failed }
 
         // A refusal leaves no other file live, and after want of memory everything is as before.
-        ensures refused { OnErr result ((file : ℕ) → (Self.files (Self.standing self.new)).live file ≡ (Self.files (Self.standing self.old)).live file) }
-        ensures err { OnErr result ((names self.new ≡ names self.old) ⊎ (names self.new ≡ with_content (names self.old) name.now [])) }
+        ensures refused { OnErr result (SameLive Self.Reads self.old self.new) }
+        ensures err { OnErr result (MayEmpty (names self.old) (names self.new) name.now) }
         ensures memory { IsErrOf result MakeFault.Memory → Self.standing self.new ≡ Self.standing self.old }
         ensures given { given self.old ≤ given self.new }
-        ensures alive { (file : ℕ) → file < given self.old → (Self.files (Self.standing self.new)).live file ≡ (Self.files (Self.standing self.old)).live file }
-        ensures others { KeepsFiles (Self.files (Self.standing self.old)) (Self.files (Self.standing self.new)) (λ file. (file < given self.old) × (holder self.old file ≢ name.now)) }
-        ensures holders { KeepsHolders (Self.files (Self.standing self.old)).live (holder self.old) (holder self.new) }
+        ensures alive { StayLive Self.Reads self.old self.new (λ file. file < given self.old) }
+        ensures others { FilesStay Self.Reads self.old self.new (IsAnother (given self.old) (holder self.old) name.now) }
+        ensures holders { KeepsHolders (live_files Self.Reads self.old).live (holder self.old) (holder self.new) }
 
         ensures asks { AsksFor (Made name.now) (asked self.old) (asked self.new) result }
         ensures cause { HasCause is_make_failure (writing_faults self.old) (writing_faults self.new) result }
@@ -83,19 +85,19 @@ pub trait Files: Reads {
 
     /// Adds octets at the end of a live file. After `Failed` a first part of them is there.
     fn append(&mut self, file: FileId, bytes: &[u8]) -> Result<(), MakeFault>
-        requires { IsTrue ((Self.files (Self.standing self.old)).live file.n) }
-        ensures ok { OnOk result (Appends (Self.files (Self.standing self.old)) (Self.files (Self.standing self.new)) (names self.old) (names self.new) file.n (holder self.old file.n) bytes.now) }
-        ensures failed { IsErrOf result MakeFault.Failed → AppendsPart (Self.files (Self.standing self.old)) (Self.files (Self.standing self.new)) (names self.old) (names self.new) file.n (holder self.old file.n) bytes.now }
+        requires { IsLive Self.Reads self.old file }
+        ensures ok { OnOk result (Adds Self.Reads names holder self.old self.new file bytes.now) }
+        ensures failed { IsErrOf result MakeFault.Failed → AddsPart Self.Reads names holder self.old self.new file bytes.now }
         ensures memory { IsErrOf result MakeFault.Memory → Self.standing self.new ≡ Self.standing self.old }
 
         // No file grows past 2^48 octets.
-        ensures short { LONGEST_FILE < (Self.files (Self.standing self.old)).size file.n + length bytes.now → IsErrOf result MakeFault.Failed }
+        ensures short { LONGEST_FILE < file_size Self.Reads self.old file + length bytes.now → IsErrOf result MakeFault.Failed }
 
         // The live files stay live, and those of other names stay as they were.
         ensures given { given self.new ≡ given self.old }
-        ensures alive { (other : ℕ) → (Self.files (Self.standing self.new)).live other ≡ (Self.files (Self.standing self.old)).live other }
-        ensures others { KeepsFiles (Self.files (Self.standing self.old)) (Self.files (Self.standing self.new)) (λ other. holder self.old other ≢ holder self.old file.n) }
-        ensures holders { KeepsHolders (Self.files (Self.standing self.old)).live (holder self.old) (holder self.new) }
+        ensures alive { SameLive Self.Reads self.old self.new }
+        ensures others { FilesStay Self.Reads self.old self.new (λ other. holder self.old other ≢ holder self.old file.n) }
+        ensures holders { KeepsHolders (live_files Self.Reads self.old).live (holder self.old) (holder self.new) }
 
         ensures asks { asked self.new ≡ asked self.old }
         ensures cause { HasCause is_make_failure (writing_faults self.old) (writing_faults self.new) result }
@@ -105,16 +107,16 @@ pub trait Files: Reads {
     /// Writes octets over those of a live file, from `at` octets behind its first on. After
     /// `Failed` those of the range may be anything.
     fn overwrite(&mut self, file: FileId, at: u64, bytes: &[u8]) -> Result<(), Failed>
-        requires live { IsTrue ((Self.files (Self.standing self.old)).live file.n) }
-        requires range { at + length bytes.now ≤ (Self.files (Self.standing self.old)).size file.n }
-        ensures ok { OnOk result (Overwrites (Self.files (Self.standing self.old)) (Self.files (Self.standing self.new)) (names self.old) (names self.new) file.n (holder self.old file.n) at bytes.now) }
-        ensures err { OnErr result (OverwritesWithin (Self.files (Self.standing self.old)) (Self.files (Self.standing self.new)) (names self.old) (names self.new) file.n (holder self.old file.n) at (length bytes.now)) }
+        requires live { IsLive Self.Reads self.old file }
+        requires range { at + length bytes.now ≤ file_size Self.Reads self.old file }
+        ensures ok { OnOk result (Puts Self.Reads names holder self.old self.new file at bytes.now) }
+        ensures err { OnErr result (PutsSome Self.Reads names holder self.old self.new file at bytes.now) }
 
         // The live files stay live, and those of other names stay as they were.
         ensures given { given self.new ≡ given self.old }
-        ensures alive { (other : ℕ) → (Self.files (Self.standing self.new)).live other ≡ (Self.files (Self.standing self.old)).live other }
-        ensures others { KeepsFiles (Self.files (Self.standing self.old)) (Self.files (Self.standing self.new)) (λ other. holder self.old other ≢ holder self.old file.n) }
-        ensures holders { KeepsHolders (Self.files (Self.standing self.old)).live (holder self.old) (holder self.new) }
+        ensures alive { SameLive Self.Reads self.old self.new }
+        ensures others { FilesStay Self.Reads self.old self.new (λ other. holder self.old other ≢ holder self.old file.n) }
+        ensures holders { KeepsHolders (live_files Self.Reads self.old).live (holder self.old) (holder self.new) }
 
         ensures asks { asked self.new ≡ asked self.old }
         ensures cause { HasCause is_failure (writing_faults self.old) (writing_faults self.new) result }
@@ -123,12 +125,12 @@ pub trait Files: Reads {
 
     /// Ends a live file. The content of its name stays.
     fn close(&mut self, file: FileId)
-        requires { IsTrue ((Self.files (Self.standing self.old)).live file.n) }
-        ensures ended { (Self.files (Self.standing self.new)).live file.n ≡ false }
+        requires { IsLive Self.Reads self.old file }
+        ensures ended { (live_files Self.Reads self.new).live file.n ≡ false }
         ensures names { names self.new ≡ names self.old }
         ensures given { given self.new ≡ given self.old }
-        ensures others { KeepsFiles (Self.files (Self.standing self.old)) (Self.files (Self.standing self.new)) (λ other. other ≢ file.n) }
-        ensures holders { KeepsHolders (Self.files (Self.standing self.new)).live (holder self.old) (holder self.new) }
+        ensures others { FilesStay Self.Reads self.old self.new (λ other. other ≢ file.n) }
+        ensures holders { KeepsHolders (live_files Self.Reads self.new).live (holder self.old) (holder self.new) }
 
         ensures asks { asked self.new ≡ asked self.old }
         ensures writing { writing_faults self.new ≡ writing_faults self.old }

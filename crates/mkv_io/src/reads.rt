@@ -1,10 +1,9 @@
 //! Files that are read.
 
 ghost use Rattle.std.specs.Prelude.{◌≡◌, ℕ, ◌+◌, ◌≤◌, Bool, true, List, length, Option, OnOk, IsTrue};
-ghost use Rattle.mkv_io.specs.Contents.{octets_from};
-ghost use Rattle.mkv_io.specs.Faults.{HasCause, counted, is_failure};
+ghost use Rattle.mkv_io.specs.Faults.{HasCause, is_failure};
 ghost use Rattle.mkv_io.specs.LiveFiles.{LiveFiles};
-ghost use Rattle.mkv_io.specs.Told.{Told};
+ghost use Rattle.mkv_io.specs.Told.{AreOctetsFrom, Counts, Told};
 ghost use Rattle.mkv_io.specs.declared.outside.TheConstants.{LONGEST_FILE};
 
 use crate::outside::{Failed, FileId};
@@ -40,13 +39,13 @@ pub trait Reads {
         requires live { IsTrue ((files (standing self.old)).live file.n) }
         requires range { at + length into.old ≤ (files (standing self.old)).size file.n }
         ensures standing { standing self.new ≡ standing self.old }
-        ensures ok { OnOk result (Told ((files (standing self.old)).content file.n) (λ bytes. into.new ≡ octets_from bytes at (length into.old))) }
+        ensures ok { OnOk result (AreOctetsFrom ((files (standing self.old)).content file.n) at into.old into.new) }
         ensures cause { HasCause is_failure (reading_faults self.old) (reading_faults self.new) result }
 
         // The count of octets never falls, and rises by what was asked for where the content is told.
         ensures octets_least { octets_read self.old ≤ octets_read self.new }
         ensures octets_most { octets_read self.new ≤ octets_read self.old + length into.old }
-        ensures octets { OnOk result (Told ((files (standing self.old)).content file.n) (λ _. octets_read self.new ≡ counted (octets_read self.old) (length into.old))) };
+        ensures octets { OnOk result (Counts (files (standing self.old)) file octets_read self.old self.new into.old) };
 
     /// A content that is told has the file's length.
     ghost told_size: { (s : Standing) (file : ℕ) → Told ((files s).content file) (λ bytes. length bytes ≡ (files s).size file) };

@@ -2,7 +2,7 @@
 
 ghost use Rattle.std.specs.Prelude.{◌≡◌, ◌⊎◌, ℕ, List, ◌∷◌, [], Option, OnOk, OnErr};
 ghost use Rattle.mkv_io.specs.Faults.{HasCause, is_failure};
-ghost use Rattle.mkv_io.specs.Lines.{with_lines};
+ghost use Rattle.mkv_io.specs.Lines.{MaySay, with_lines};
 
 use crate::outside::Failed;
 
@@ -17,6 +17,6 @@ pub trait Report {
     /// Adds a line. After a refusal it is there or not.
     fn say(&mut self, line: &str) -> Result<(), Failed>
         ensures ok { OnOk result (lines self.new ≡ with_lines (lines self.old) (line.now ∷ [])) }
-        ensures err { OnErr result ((lines self.new ≡ lines self.old) ⊎ (lines self.new ≡ with_lines (lines self.old) (line.now ∷ []))) }
+        ensures err { OnErr result (MaySay (lines self.old) (lines self.new) line.now) }
         ensures cause { HasCause is_failure (faults self.old) (faults self.new) result };
 }

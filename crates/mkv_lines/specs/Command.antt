@@ -1,8 +1,6 @@
 -- How a command over files ends, whatever it was to do, and what it or a part of it says and reads.
-use Rattle.std.specs.Prelude.{◌≡◌, ℕ, ◌+◌, ◌≤◌, List, Option, Result, IfOk}
-use Rattle.mkv_io.specs.Sources.{file_size, live_files}
-use Rattle.mkv_io.specs.Told.{Told}
-use Rattle.mkv_io.specs.declared.outside.FileId.{FileId}
+use Rattle.std.specs.Prelude.{◌≡◌, ℕ, ◌+◌, ◌≤◌, List, Result, IfOk}
+use Rattle.mkv_io.specs.Sources.{live_files}
 use Rattle.mkv_io.specs.declared.reads.Reads.{Ghosts as ReadsGhosts}
 use Rattle.mkv_io.specs.declared.files.Files.{Ghosts as FilesGhosts}
 use Rattle.mkv_io.specs.declared.report.Report.{Ghosts as ReportGhosts}
@@ -43,18 +41,6 @@ files_counts r f files = record { reading = r.reading_faults files; writing = f.
 -- What works on files alone, and says nothing, stops for want of memory, or where reading or writing failed, whose count then rose.
 abbrev pub HasFilesCause : {F T : Type 0} → ReadsGhosts F → FilesGhosts F → F → F → Result T Stop → Type 0
 HasFilesCause r f files files' result = HasStopCause (files_counts r f files) (files_counts r f files') result
-
--- At most so many octets more were read.
-abbrev pub ReadsUpTo : {F : Type 0} → ReadsGhosts F → F → F → ℕ → Type 0
-ReadsUpTo r files files' most = r.octets_read files' ≤ r.octets_read files + most
-
--- The same, where the bound is one of the length that a live file had.
-abbrev pub ReadsOf : {F : Type 0} → ReadsGhosts F → F → F → FileId → (ℕ → ℕ) → Type 0
-ReadsOf r files files' file most = ReadsUpTo r files files' (most (file_size r files file))
-
--- The same, where the bound is one of the world of names, if it is told.
-abbrev pub ReadsByNames : {F : Type 0} → ReadsGhosts F → FilesGhosts F → F → F → ((List ℕ → Option (List ℕ)) → ℕ) → Type 0
-ReadsByNames r f files files' most = Told (f.names files) (λ world. ReadsUpTo r files files' (most world))
 
 -- what may be read of a file of so many octets, where its sidecar is looked into before
 abbrev pub with_sidecar_head : (ℕ → ℕ) → ℕ → ℕ

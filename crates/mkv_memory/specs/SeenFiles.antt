@@ -44,6 +44,10 @@ with_failure old call kept = record old { to_fail = λ other. if other == call t
 abbrev pub with_stored : SeenFiles → Stored → SeenFiles
 with_stored old stored = record old { stored = stored }
 
+-- with this content of a name
+abbrev pub with_file : SeenFiles → List ℕ → List ℕ → SeenFiles
+with_file old name bytes = with_stored old (with_content_at old.stored name bytes)
+
 -- one more name was opened or made
 abbrev pub with_asked : SeenFiles → Asked → SeenFiles
 with_asked old name = record old { asked = old.asked ++ name ∷ [] }

@@ -19,6 +19,10 @@ World = List ℕ → Option (List ℕ)
 abbrev pub content_of_name : List (String Global × List ℕ) → World
 content_of_name entries name = lookup (is_at (λ key. slice_cmp nat_cmp name (string_bytes key))) entries
 
+-- In a map of names one name's content changes, and every other stays.
+abbrev pub Changes : List ℕ → (Option (List ℕ) → Option (List ℕ)) → List (String Global × List ℕ) → List (String Global × List ℕ) → Type 0
+Changes name change old new = content_of_name new ≡ changed_at name change (content_of_name old)
+
 -- The names with their contents, and the name under which each file was opened, by its number; a
 -- file that is closed has none.
 pub record Stored : Type 0 where
@@ -119,3 +123,7 @@ numbered-live [] zero live = cc
 numbered-live [] (suc file) live = cc
 numbered-live (name ∷ names) zero live = omega arith
 numbered-live (name ∷ names) (suc file) live = let below = numbered-live names file live in omega arith
+
+-- a file of this name that is made, and opened
+abbrev pub made_under : Stored → List ℕ → Stored
+made_under stored name = opened_under (with_content_at stored name []) name

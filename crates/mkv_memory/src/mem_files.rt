@@ -35,7 +35,7 @@ pub struct MemFiles {
 impl MemFiles {
     ghost use denote.Ref.{Bor};
     ghost use Rattle.mkv_memory.specs.Stored.{with_content_at};
-    ghost use Rattle.mkv_memory.specs.SeenFiles.{with_stored, no_files, with_failure};
+    ghost use Rattle.mkv_memory.specs.SeenFiles.{with_file, with_stored, no_files, with_failure};
     ghost use Rattle.mkv_memory.specs.FilesIn.{seen};
 
     /// Files without names, of which no call fails.
@@ -57,7 +57,7 @@ impl MemFiles {
     /// Sets a name's content. Where the name has live files, theirs changes with it.
     pub fn put(&mut self, name: &str, bytes: &[u8]) -> Result<(), AllocError>
         requires { length bytes.now ≤ LONGEST_FILE }
-        ensures ok { OnOk result (seen self.new ≡ with_stored (seen self.old) (with_content_at (seen self.old).stored name.now bytes.now)) }
+        ensures ok { OnOk result (seen self.new ≡ with_file (seen self.old) name.now bytes.now) }
         ensures err { OnErr result (seen self.new ≡ seen self.old) }
     {
         let mut content = Bytes::new(self.alloc);

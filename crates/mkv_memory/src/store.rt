@@ -4,7 +4,7 @@ ghost use denote.Ref.{Bor};
 ghost use Rattle.std.specs.Prelude.{slice_set, ◌≡◌, ◌≢◌, ℕ, ◌+◌, ◌-◌, ◌<◌, ◌≤◌, ◌^◌, ◌↔◌, List, [], ◌∷◌, ◌++◌, length, Option, Some, None, is_some, option_map, unwrap_or, OnOk, OnErr, IfOk, IsTrue, IsSome};
 ghost use Rattle.mkv_io.specs.Contents.{with_appended, with_overwritten};
 ghost use Rattle.mkv_io.specs.Names.{changed_at};
-ghost use Rattle.mkv_memory.specs.Stored.{AreShort, AreThere, closed, content_of_file, content_of_name, files_of, name_of_file, opened_under, with_changed_file, with_content_at};
+ghost use Rattle.mkv_memory.specs.Stored.{AreShort, AreThere, Changes, closed, content_of_file, content_of_name, files_of, made_under, name_of_file, opened_under, with_changed_file, with_content_at};
 ghost use Rattle.mkv_io.specs.declared.outside.TheConstants.{LONGEST_FILE};
 
 use mkv_io::{Bytes, FileId, Text};
@@ -93,7 +93,7 @@ impl Store {
     pub fn create(&mut self, name: &str) -> Result<FileId, AllocError>
         requires { length (stored_in self.old).opened < 2 ^ 64 - 1 }
         ensures number { IfOk result (λ file. file.n ≡ length (stored_in self.old).opened) }
-        ensures ok { OnOk result (stored_in self.new ≡ opened_under (with_content_at (stored_in self.old) name.now []) name.now) }
+        ensures ok { OnOk result (stored_in self.new ≡ made_under (stored_in self.old) name.now) }
         ensures err { OnErr result (stored_in self.new ≡ stored_in self.old) }
     {
         let number = self.opened.len() as u64;
@@ -150,7 +150,7 @@ fn holder<'a>(opened: &'a Vec<Option<Text>>, file: FileId) -> &'a str
 
 /// Sets the content of a name.
 fn set(contents: &mut Contents, alloc: Global, name: &str, content: Bytes) -> Result<(), AllocError>
-    ensures ok { OnOk result (content_of_name contents.new.entries ≡ changed_at name.now (λ _. Some content) (content_of_name contents.old.entries)) }
+    ensures ok { OnOk result (Changes name.now (λ _. Some content) contents.old.entries contents.new.entries) }
     ensures err { OnErr result (content_of_name contents.new.entries ≡ content_of_name contents.old.entries) }
 {
     let key = name.to_string(alloc)?;
@@ -160,7 +160,7 @@ fn set(contents: &mut Contents, alloc: Global, name: &str, content: Bytes) -> Re
 
 /// Adds octets to the content of a name.
 fn grow(contents: &mut Contents, name: &str, more: &[u8]) -> Result<(), AllocError>
-    ensures ok { OnOk result (content_of_name contents.new.entries ≡ changed_at name.now (with_appended more.now) (content_of_name contents.old.entries)) }
+    ensures ok { OnOk result (Changes name.now (with_appended more.now) contents.old.entries contents.new.entries) }
     ensures err { OnErr result (content_of_name contents.new.entries ≡ content_of_name contents.old.entries) }
 {
     match contents.get_mut(name) {
@@ -175,7 +175,7 @@ fn grow(contents: &mut Contents, name: &str, more: &[u8]) -> Result<(), AllocErr
 /// Writes octets over those of a name's content.
 fn write_over(contents: &mut Contents, name: &str, at: usize, bytes: &[u8])
     requires { at + length bytes.now ≤ length (unwrap_or (content_of_name contents.old.entries name.now) []) }
-    ensures { content_of_name contents.new.entries ≡ changed_at name.now (with_overwritten at bytes.now) (content_of_name contents.old.entries) }
+    ensures { Changes name.now (with_overwritten at bytes.now) contents.old.entries contents.new.entries }
 {
     if let Some(content) = contents.get_mut(name) {
         content.overwrite(at, bytes);

@@ -9,7 +9,8 @@ use Rattle.input_files.specs.declared.text_files.TextFiles.{TextFiles}
 use Rattle.merge_words.specs.declared.output.MergeWords.{MergeWords}
 use Rattle.merge_inputs.specs.declared.input.Input.{Input}
 use Rattle.remux_plan.specs.declared.plan.MergePlan.{MergePlan}
-use Rattle.mkv_lines.specs.Command.{ComesTo, ReadsUpTo}
+use Rattle.mkv_lines.specs.Command.{ComesTo}
+use Rattle.mkv_io.specs.Bounds.{ReadsUpTo}
 use Rattle.mkv_lines.specs.declared.status.Status.{Status}
 use Rattle.mkv_lines.specs.declared.status.Stop.{Stop}
 use Rattle.mkv_merge.specs.Bound.{live_size, most_beside, most_looked, most_of, most_planned}

@@ -10,7 +10,8 @@ ghost use Rattle.mkv_merge.specs.Joined.{MergesAlone, MergesLive, MergesPrepared
 ghost use Rattle.mkv_merge.specs.Prepared.{IsPrepared};
 ghost use Rattle.mkv_merge.specs.Read.{IsApartMerge};
 ghost use Rattle.mkv_merge.specs.Stages.{ReadsPlanned, ReadsWith};
-ghost use Rattle.mkv_lines.specs.Command.{HasFilesCause, ReadsUpTo};
+ghost use Rattle.mkv_lines.specs.Command.{HasFilesCause};
+ghost use Rattle.mkv_io.specs.Bounds.{ReadsUpTo};
 
 use crate::names::first_written;
 use crate::preparing::{Prepared, prepare};

@@ -8,7 +8,7 @@ ghost use Rattle.merge_inputs.specs.Input.{IsInput, IsReadOf, held_in};
 ghost use Rattle.mkv_merge.specs.Bound.{live_size};
 ghost use Rattle.mkv_merge.specs.Prepared.{AreInputsOf, CanPrepare, EndsReading, IfAllTold, IsPrepared, Prepares};
 ghost use Rattle.mkv_merge.specs.Prepared.{ReadsAll, ReadsEach, ReadsInPlace, ReadsOne};
-ghost use Rattle.mkv_lines.specs.Command.{ReadsUpTo};
+ghost use Rattle.mkv_io.specs.Bounds.{ReadsUpTo};
 
 use crate::chapters::with_file;
 use crate::refusal::{MergeEnd, Refusal};

@@ -2,7 +2,7 @@
 
 ghost use Rattle.std.specs.Prelude.{◌≡◌, ◌==◌, ℕ, List, Some, None, max, length, IfOk, if◌then◌else◌, OnOk};
 ghost use Rattle.mkv_io.specs.Faults.{HasCause, is_failure};
-ghost use Rattle.mkv_io.specs.Sources.{IfTold, OnlyReads, live_files};
+ghost use Rattle.mkv_io.specs.Sources.{IfRead, IfTold, OnlyReads, live_files};
 ghost use Rattle.mkv_schema.specs.declared.ids.TheConstants.{CLUSTER as CLUSTER_ID};
 ghost use Rattle.mkv_schema.specs.Outline.{segment_run};
 ghost use Rattle.element_reader.specs.LevelOne.{first_place};

@@ -13,6 +13,8 @@ ghost use Rattle.edit_plan.specs.Shown.{written};
 ghost use Rattle.reindex.specs.Found.{IsFound, ends_as};
 ghost use Rattle.reindex.specs.Plan.{index_writes, indexed_of};
 ghost use Rattle.reindex.specs.Reading.{cues_of};
+ghost use Rattle.mkv_io.specs.Bounds.{ReadsOf};
+ghost use Rattle.edit_plan.specs.Opening.{IfOutline};
 
 use crate::found::Found;
 use crate::indexed::Indexed;
@@ -66,8 +68,7 @@ fn writes_of<R: Reads>(
 ) -> Result<Vec<Write>, PlanEnd>
     requires live { IsLive R.Reads src.old file }
     requires whole { found.now.outline.total ≡ file_size R.Reads src.old file }
-    ensures exact { IfTold R.Reads src.old file (λ bytes. outline_in 0 bytes ≡ Ok found.now.outline
-        → Answers (index_writes bytes found.now.outline (cues_of found.now.points)) result) }
+    ensures exact { IfOutline R.Reads src.old file found.now.outline (λ bytes. Answers (index_writes bytes found.now.outline (cues_of found.now.points)) result) }
     ensures standing { R.standing src.new ≡ R.standing src.old }
     ensures cause { HasCause is_plan_fault (R.reading_faults src.old) (R.reading_faults src.new) result }
     ensures octets { R.octets_read src.new ≤ R.octets_read src.old + file_size R.Reads src.old file }
@@ -112,8 +113,7 @@ pub fn plan_index<D: Disk>(alloc: Global, disk: &mut D) -> Result<Indexed, PlanE
     ensures some { IfOk result (λ indexed. 1 ≤ length indexed.plan.head.places) }
     ensures standing { D.standing disk.new ≡ D.standing disk.old }
     ensures cause { HasCause is_plan_fault (D.reading_faults disk.old) (D.reading_faults disk.new) result }
-    ensures octets { D.octets_read disk.new
-        ≤ D.octets_read disk.old + (26 * file_size D.Reads disk.old MEDIA + KEPT_OCTETS) }
+    ensures octets { ReadsOf D.Reads disk.old disk.new MEDIA (λ size. 26 * size + KEPT_OCTETS) }
 {
     let found = match find(alloc, disk, MEDIA) {
         Ok(found) => found,

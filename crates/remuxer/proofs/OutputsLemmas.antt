@@ -23,7 +23,6 @@ use Rattle.mkv_outputs.specs.Outputs.{Output, with_outputs}
 use Rattle.mkv_outputs.proofs.DraftsLemmas.{StandsInTurn-next, StandsInTurn-whole}
 use Rattle.mkv_outputs.proofs.OutputsLemmas.{with_outputs-added}
 use Rattle.output_model.specs.declared.attachment.Attachment.{Attachment}
-use Rattle.output_model.specs.Document.{Document, layout}
 use Rattle.output_model.specs.Front.{front_with}
 use Rattle.output_model.specs.Document as model
 use Rattle.output_model.specs.Cued.{document_of}

@@ -1,5 +1,5 @@
 -- An output that is merged alone, without options, comes out as it was: RFC 9559, section 5.1 (Segment Element). That it does is this project's.
-use Rattle.std.specs.Prelude.{◌≡◌, ℕ, true, false, List, [], ◌∷◌, length, map, All, None, Ok}
+use Rattle.std.specs.Prelude.{◌≡◌, ℕ, false, List, [], ◌∷◌, length, map, All, None, Ok}
 use Rattle.mkv_schema.specs.Outline.{outline_of}
 use Rattle.tree_format.specs.Text.{HasNoZero}
 use Rattle.meta_records.specs.Records.{FileRecords, file_records}

@@ -2,7 +2,7 @@
 
 ghost use Rattle.std.specs.Prelude.{◌≡◌, ◌+◌, ◌≤◌, ℕ, min, false, IfOk, IfSome, length, take};
 ghost use Rattle.mkv_io.specs.Faults.{HasCause, is_failure};
-ghost use Rattle.mkv_io.specs.Sources.{IfTold, IsLive, OnlyReads, file_size};
+ghost use Rattle.mkv_io.specs.Sources.{IfRead, IfTold, IsLive, OnlyReads, file_size};
 ghost use Rattle.sidecar_edit.specs.Gate.{IsLiveHead, state};
 ghost use Rattle.sidecar_edit.specs.Recovery.{is_disk_fault, unfit};
 ghost use Rattle.sidecar_edit.specs.declared.place.TheConstants.{HEAD, KEPT};
@@ -20,7 +20,7 @@ use mkv_io::{Failed, FileId, Reads};
 pub fn read_first<R: Reads>(src: &mut R, file: FileId, first: &mut [u8]) -> Result<usize, Failed>
     requires { IsLive R.Reads src.old file }
     ensures count { IfOk result (λ count. count ≡ min (length first.old) (file_size R.Reads src.old file)) }
-    ensures ok { IfOk result (λ count. IfTold R.Reads src.old file (λ bytes. take count first.new ≡ take (length first.old) bytes)) }
+    ensures ok { IfRead R.Reads src.old file result (λ count bytes. take count first.new ≡ take (length first.old) bytes) }
     ensures only { OnlyReads R.Reads src.old src.new }
     ensures cause { HasCause is_failure (R.reading_faults src.old) (R.reading_faults src.new) result }
     ensures octets { R.octets_read src.new ≤ R.octets_read src.old + length first.old }
@@ -47,7 +47,7 @@ pub fn state<R: Reads>(src: &mut R, file: FileId) -> Result<Gate, Failed>
 pub fn unfit_medium<R: Reads>(head: &[u8], src: &mut R) -> Result<Option<RecoverEnd>, Failed>
     requires live { IsLive R.Reads src.old MEDIA }
     requires head { IsLiveHead head.now (file_size R.Reads src.old SIDECAR) }
-    ensures ok { IfOk result (λ end. IfTold R.Reads src.old MEDIA (λ bytes. end ≡ unfit head.now (length bytes) (take KEPT bytes))) }
+    ensures ok { IfRead R.Reads src.old MEDIA result (λ end bytes. end ≡ unfit head.now (length bytes) (take KEPT bytes)) }
     ensures refused { IfOk result (λ end. IfSome end (λ why. is_disk_fault why ≡ false)) }
     ensures only { OnlyReads R.Reads src.old src.new }
     ensures cause { HasCause is_failure (R.reading_faults src.old) (R.reading_faults src.new) result }

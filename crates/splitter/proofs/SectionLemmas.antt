@@ -1,5 +1,5 @@
 -- Sections, and the steps that lead to them.
-use Rattle.std.proofs.Common.{◌≡◌, ℕ, zero, suc, ◌+◌, ◌-◌, ◌*◌, ◌^◌, ◌<◌, min, nat_le, Bool, true, false, cond, ◌&&◌, ◌||◌, ◌⊎◌, inl, inr, List, [], ◌∷◌, ◌++◌, length, map, take, Option, Some, None, IfSome, refl, sym, subst, ◌∙◌, ap, ap₂, append_assoc, append-nil, arith}
+use Rattle.std.proofs.Common.{◌≡◌, ℕ, zero, suc, ◌+◌, ◌-◌, ◌*◌, ◌^◌, ◌<◌, Bool, true, false, cond, ◌&&◌, ◌||◌, ◌⊎◌, inl, inr, List, [], ◌∷◌, ◌++◌, map, take, Option, Some, None, IfSome, refl, sym, subst, ◌∙◌, ap, ap₂, append_assoc, append-nil, arith}
 use Rattle.std.specs.Prelude.{if◌then◌else◌, flat_map}
 use Rattle.std.specs.List.{filter, slice_get}
 use Rattle.std.proofs.Math.Nat.{sub-zero}
@@ -13,7 +13,7 @@ use Rattle.splitter.specs.declared.spec.SplitSpec.TheVariants.{Whole}
 use Rattle.splitter.specs.Load.{is_full, load}
 use Rattle.splitter.specs.Split.{is_over, keeps}
 use Rattle.splitter.specs.Sections.{Section, Split, begun, beyond, cut_from, cuts, cuts_at, from_nought, in_part, is_written, may_cut, part_of, parts_in, sections, sections_at, start_with, with_block, within}
-use Rattle.splitter.specs.Steps.{CutsSeen, counted, is_cut, new_cuts, place_at, place_of, stepped}
+use Rattle.splitter.specs.Steps.{CutsSeen, counted, is_cut, place_at, place_of, stepped}
 use Rattle.splitter.specs.Laws.{AreCutApart, IsUncut, SectionsAreCut, SectionsGoOn, StepsJoin, WholeIsOnePart, all_placed, placed, with_last}
 
 -- ---- the load

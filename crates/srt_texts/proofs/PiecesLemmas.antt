@@ -1,4 +1,4 @@
 -- Pieces that are written one after the other.
-use Rattle.std.proofs.Common.{◌≡◌, ℕ, List, ◌++◌, length, take, append_assoc, arith}
+use Rattle.std.proofs.Common.{◌≡◌, ℕ, ◌++◌, append_assoc}
 
 pub ruleset joins = (append_assoc)

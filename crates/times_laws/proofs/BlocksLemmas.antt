@@ -12,7 +12,6 @@ use Rattle.block_format.specs.Block.{Block}
 use Rattle.ext_times.specs.Listing.{Each, listing}
 use Rattle.ext_times.specs.Times.{time_in, clamped, time_at}
 use Rattle.merge_model.specs.Timed.{retimed}
-use Rattle.extractors.specs.Codec.{times_head}
 use Rattle.extractors.specs.Content.{content_of, entries_from, entry_of, whole, written_of}
 use Rattle.extractors.specs.Frames.{Frame, frames_for, frames_from, frames_of}
 use Rattle.extractors.specs.Times.{time_line}

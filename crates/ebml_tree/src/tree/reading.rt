@@ -8,7 +8,7 @@ ghost use Rattle.mkv_schema.specs.Value.{is_known_value};
 ghost use Rattle.tree_format.specs.Node.{leaf, master, nodes_of, depth, depth_all, deepest};
 ghost use Rattle.tree_format.specs.Reading.{header_at, inside, behind, is_master_in, grown, grove};
 ghost use Rattle.tree_format.specs.Fits.{Fits};
-ghost use Rattle.ebml_tree.specs.Outcome.{Refuses};
+ghost use Rattle.ebml_tree.specs.Outcome.{GivesTree, GivesTrees, Refuses};
 
 use crate::end::TreeEnd;
 use crate::tree::content::{Content, depth_around, written_within};
@@ -151,7 +151,7 @@ fn tree_in(
     requires id { IsTrue (is_written_id header.now.id) }
     requires places { header.now.body + length body.now ≤ 2 ^ 63 }
     requires room { room < deepest }
-    ensures ok { IfOk result (λ tree. grown grove room left.old parent header.now body.now ≡ Ok (record { tree = tree; left = left.new })) }
+    ensures ok { IfOk result (GivesTree (grown grove room left.old parent header.now body.now) left.new) }
     ensures err { IfErr result (λ end. Refuses end (grown grove room left.old parent header.now body.now)) }
     ensures shallow { IfOk result (λ tree. depth tree ≤ room) }
 {
@@ -188,7 +188,7 @@ fn trees_in(
 ) -> Result<Vec<Tree>, TreeEnd>
     requires places { place + length body.now ≤ 2 ^ 63 }
     requires room { room < deepest }
-    ensures ok { IfOk result (λ trees. grove room left.old parent place body.now ≡ Ok (record { trees = trees.items; left = left.new })) }
+    ensures ok { IfOk result (λ trees. GivesTrees (grove room left.old parent place body.now) left.new trees.items) }
     ensures err { IfErr result (λ end. Refuses end (grove room left.old parent place body.now)) }
     ensures shallow { IfOk result (λ trees. depth_all (nodes_of trees.items) ≤ room) }
 {

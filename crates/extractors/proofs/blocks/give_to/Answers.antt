@@ -1,6 +1,4 @@
 use Rattle.std.proofs.Common.{◌≡◌, ℕ, ◌+◌, List, length, IfOk, ap, sym, subst, ◌∙◌, arith}
-use Rattle.block_format.specs.Block.{Block}
-use Rattle.block_records.specs.Buffered.{block_of}
 use Rattle.block_records.specs.declared.head.BlockHead.{BlockHead}
 use Rattle.cluster_reader.specs.Takes.{IsKnownByHead}
 use Rattle.extractors.specs.Content.{counted, entries_from}

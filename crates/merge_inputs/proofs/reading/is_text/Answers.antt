@@ -1,5 +1,5 @@
 -- Four octets tell whether an EBML header begins a file.
-use Rattle.std.proofs.Common.{◌≡◌, ℕ, ◌≤◌, ◌&&◌, not, min, true, List, [], ◌∷◌, length, sym, ◌∙◌, ap, arith}
+use Rattle.std.proofs.Common.{◌≡◌, ℕ, ◌≤◌, ◌&&◌, not, min, true, [], ◌∷◌, length, sym, ◌∙◌, ap, arith}
 use Rattle.std.proofs.lemmas.List.{length-take-le}
 use Rattle.input_files.specs.Names.{begins_ebml, is_srt_name}
 use Rattle.merge_inputs.proofs.TextLemmas.{first-four}
