@@ -4,10 +4,10 @@ use Rattle.std.proofs.lemmas.Bool.Decides.{nat_tests}
 use Rattle.std.proofs.lemmas.Grind.{common_steps}
 use Rattle.std.proofs.lemmas.List.Elements.{filter-append}
 use Rattle.std.proofs.lemmas.Map.Views.{any-filter_same}
-use Rattle.std.specs.List.{filter, list_any, onto_first, slice_split, zip}
+use Rattle.std.specs.List.{filter, flat_map, list_any, onto_first, slice_split, zip}
 use Rattle.merge_words.specs.declared.item.Item.{Item}
 use Rattle.merge_words.specs.Items.{is_file}
-use Rattle.merge_words.specs.Files.{once, without, file, files}
+use Rattle.merge_words.specs.Files.{ids_of, once, with_new, without, file, files}
 use Rattle.merge_words.specs.declared.files.FileWords.{FileWords}
 use Rattle.std.proofs.Math.Seq.{take-suc}
 
@@ -26,7 +26,7 @@ stands_still : (x id : ℕ) (ids : List ℕ) → (x == id) ≡ false → list_an
 stands_still x id ids is = any-filter_same (λ k. k == id) (λ k. not (k == x)) true (λ k same. let other : (k == x) ≡ false = grind (arith, nat_tests) in rw other refl) ids
 
 -- a number joins those that it isn't among
-pub once_more : (ids : List ℕ) (id : ℕ) → once (ids ++ id ∷ []) ≡ (if list_any (λ k. k == id) (once ids) then once ids else once ids ++ id ∷ [])
+once_more : (ids : List ℕ) (id : ℕ) → once (ids ++ id ∷ []) ≡ (if list_any (λ k. k == id) (once ids) then once ids else once ids ++ id ∷ [])
 once_more [] id = refl
 once_more (x ∷ xs) id = ap (λ l. x ∷ without x l) (once_more xs id) ∙ choose (x == id) (list_any (λ k. k == id) (once xs)) refl refl
   where
@@ -37,11 +37,28 @@ once_more (x ∷ xs) id = ap (λ l. x ∷ without x l) (once_more xs id) ∙ cho
     choose false true is there = rw (stands_still x id (once xs) is ∙ there) refl
     choose false false is there = rw (stands_still x id (once xs) is ∙ there) (ap (λ l. x ∷ l) (without_other x id (once xs) is))
 
--- the next number of a list
-pub once_next : (list ids : List ℕ) (k : ℕ) → k < length ids → list ≡ once (take k ids) → (if list_any (λ j. j == get_or ids k 0) list then list else list ++ get_or ids k 0 ∷ []) ≡ once (take (k + 1) ids)
-once_next list ids k within so_far =
-    let next : take (suc k) ids ≡ take k ids ++ get_or ids k 0 ∷ [] = take-suc ids k 0 within in
-    rw so_far (sym (once_more (take k ids) (get_or ids k 0)) ∙ rw add-one (ap once (sym next)))
+onto_once : (xs ids : List ℕ) → with_new (once xs) ids ≡ once (xs ++ ids)
+onto_once xs [] = ap once (sym (append-nil xs))
+onto_once xs (id ∷ ids) = ap (λ l. with_new l ids) (sym (once_more xs id)) ∙ (onto_once (xs ++ id ∷ []) ids ∙ ap once (append_assoc xs (id ∷ []) ids))
+
+-- numbers that are added one by one stand once
+pub once_is : (ids : List ℕ) → with_new [] ids ≡ once ids
+once_is ids = onto_once [] ids
+
+-- numbers are added in two steps
+with_new_append : (list a b : List ℕ) → with_new list (a ++ b) ≡ with_new (with_new list a) b
+with_new_append list [] b = refl
+with_new_append list (id ∷ ids) b = with_new_append (if list_any (λ k. k == id) list then list else list ++ id ∷ []) ids b
+
+here : (items : List Item) (k : ℕ) (i : Item) → k < length items → i ≡ get_or items k i → drop k items ≡ i ∷ drop (k + 1) items
+here items k i within is =
+    let first : drop k items ≡ get_or items k i ∷ drop (suc k) items = drop-cons items k i within in
+    rw add-one (first ∙ ap (λ j. j ∷ drop (suc k) items) (sym is))
+
+-- what an item names is added
+pub named_next : (list : List ℕ) (items : List Item) (k : ℕ) (i : Item) → k < length items → i ≡ get_or items k i →
+    with_new (with_new list (ids_of i.value)) (flat_map (λ (j : Item). ids_of j.value) (drop (k + 1) items)) ≡ with_new list (flat_map (λ (j : Item). ids_of j.value) (drop k items))
+named_next list items k i within is = rw (here items k i within is) (sym (with_new_append list (ids_of i.value) (flat_map (λ (j : Item). ids_of j.value) (drop (k + 1) items))))
 
 -- ---- files
 -- the files, read from the front behind a group of items
@@ -86,11 +103,6 @@ parted group (i ∷ is) = choose (is_file i) refl (ap (λ parts. with_groups par
 -- both are the same
 pub parted_files : (items : List Item) → files items ≡ files_from [] items
 parted_files items = ap (λ parts. with_groups parts (filter is_file items)) (sym (parts_behind items)) ∙ parted [] items
-
-here : (items : List Item) (k : ℕ) (i : Item) → k < length items → i ≡ get_or items k i → drop k items ≡ i ∷ drop (k + 1) items
-here items k i within is =
-    let first : drop k items ≡ get_or items k i ∷ drop (suc k) items = drop-cons items k i within in
-    rw add-one (first ∙ ap (λ j. j ∷ drop (suc k) items) (sym is))
 
 -- the group that an item joins
 group_more : (items : List Item) (start k : ℕ) (i : Item) → start ≤ k → k < length items → i ≡ get_or items k i →

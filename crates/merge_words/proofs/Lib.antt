@@ -2,4 +2,3 @@ pub mod MergeLemmas
 pub mod FilesLemmas
 pub mod ItemsLemmas
 pub mod SoundLemmas
-pub mod TextLemmas

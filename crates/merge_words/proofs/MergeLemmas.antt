@@ -1,7 +1,7 @@
 -- The items of a merge, read one at a time.
-use Rattle.std.proofs.Common.{◌≡◌, ℕ, ◌+◌, Bool, true, false, if◌then◌else◌, List, [], ◌∷◌, ◌++◌, drop, Option, Some, None, Ok, Err, All, refl, sym}
+use Rattle.std.proofs.Common.{◌≡◌, ℕ, ◌+◌, Bool, true, false, if◌then◌else◌, List, [], ◌∷◌, ◌++◌, drop, Option, Some, None, IfSome, Ok, Err, All, refl, sym}
 use Rattle.std.proofs.lemmas.List.{drop-drop}
-use Rattle.std.proofs.lemmas.List.Elements.{All-nil, All-cons}
+use Rattle.std.proofs.lemmas.List.Elements.{All-nil, All-cons, All-head, All-tail}
 use Rattle.std.specs.Prelude.{slice_get}
 use Rattle.word_values.specs.declared.usage.Usage.{Usage}
 use Rattle.word_values.specs.declared.usage.ArgsEnd.{ArgsEnd}
@@ -53,17 +53,23 @@ pub items_fail : (end : ArgsEnd) (count : ℕ) (before : List Item) (at : ℕ) (
 items_fail (args_end.Usage usage) count before at w ws here is = items_stop count before at w ws usage here is
 items_fail args_end.Memory count before at w ws here is = tt
 
--- what an item's first word means is what it means as an option
-abbrev pub IsMeant : Start → Type 0
-IsMeant s = meaning_of s.word ≡ s.means
+-- what an item's first word means is what it means as an option, and its words keep what all words keep
+pub record IsStart (Keeps : List ℕ → Type 0) (s : Start) : Type 0 where
+  pub meant : meaning_of s.word ≡ s.means
+  pub word : Keeps s.word
+  pub next : IfSome s.next Keeps
 
-pub starts-meant : (at : ℕ) (words : List (List ℕ)) → All IsMeant (starts at words)
-starts-meant at [] = All-nil IsMeant
-starts-meant at (w ∷ []) = All-cons IsMeant (start at w None) [] refl (All-nil IsMeant)
-starts-meant at (w ∷ v ∷ ws) =
-    All-cons IsMeant (start at w (Some v)) (if takes_next (meaning_of w) then starts (at + 2) ws else starts (at + 1) (v ∷ ws)) refl
-    (choose (takes_next (meaning_of w)) (starts-meant (at + 2) ws) (starts-meant (at + 1) (v ∷ ws)))
+pub starts-keep : (Keeps : List ℕ → Type 0) (at : ℕ) (words : List (List ℕ)) → All Keeps words → All (IsStart Keeps) (starts at words)
+starts-keep Keeps at [] all = All-nil (IsStart Keeps)
+starts-keep Keeps at (w ∷ []) all =
+    All-cons (IsStart Keeps) (start at w None) [] (record { meant = refl; word = All-head Keeps w [] all; next = tt }) (All-nil (IsStart Keeps))
+starts-keep Keeps at (w ∷ v ∷ ws) all =
+    let others : All Keeps (v ∷ ws) = All-tail Keeps w (v ∷ ws) all in
+    All-cons (IsStart Keeps) (start at w (Some v)) (if takes_next (meaning_of w) then starts (at + 2) ws else starts (at + 1) (v ∷ ws))
+    (record { meant = refl; word = All-head Keeps w (v ∷ ws) all; next = All-head Keeps v ws others })
+    (choose (takes_next (meaning_of w)) (starts-keep Keeps (at + 2) ws (All-tail Keeps v ws others)) (starts-keep Keeps (at + 1) (v ∷ ws) others))
   where
-    choose : (b : Bool) → All IsMeant (starts (at + 2) ws) → All IsMeant (starts (at + 1) (v ∷ ws)) → All IsMeant (if b then starts (at + 2) ws else starts (at + 1) (v ∷ ws))
+    choose : (b : Bool) → All (IsStart Keeps) (starts (at + 2) ws) → All (IsStart Keeps) (starts (at + 1) (v ∷ ws))
+        → All (IsStart Keeps) (if b then starts (at + 2) ws else starts (at + 1) (v ∷ ws))
     choose true far near = far
     choose false far near = near

@@ -1,21 +1,22 @@
--- What is read of the words of a merge keeps its limits.
-use Rattle.std.proofs.Common.{◌≡◌, ◌<◌, ◌≤◌, ℕ, ◌+◌, ◌^◌, ℤ, Bool, true, false, not, ◌&&◌, ◌||◌, ◌==◌, nat_le, cond, if◌then◌else◌, List, [], ◌∷◌, ◌++◌, length, length-append, Option, Some, None, IfSome, option_map, Ok, refl, sym, ap, ◌∙◌, subst, arith, unwrap_or, append-nil, drop}
+-- What is read of the words of a merge keeps its limits, and its texts are texts.
+use Rattle.std.proofs.Common.{◌≡◌, ◌<◌, ◌≤◌, ℕ, ◌+◌, ◌^◌, ℤ, Bool, true, false, not, ◌&&◌, ◌==◌, nat_le, cond, if◌then◌else◌, List, [], ◌∷◌, ◌++◌, length, length-append, Option, Some, None, IfSome, option_map, Ok, refl, sym, ap, ◌∙◌, subst, arith, unwrap_or, append-nil, drop}
 use Rattle.std.specs.Prelude.{nat_abs, slice_get, All, codes, option_and_then}
 use Rattle.std.specs.List.{find, cons_option, list_all}
-use Rattle.std.specs.Str.{bytes_eq}
+use Rattle.std.specs.Str.{IsUtf8, bytes_eq}
+use Rattle.std.proofs.lemmas.Bool.{or_from}
 use Rattle.std.proofs.lemmas.Bool.Decides.{nat_tests}
 use Rattle.std.proofs.lemmas.List.Sums.{sum_by-append}
 use Rattle.std.proofs.lemmas.List.Folds.{list_any-append}
-use Rattle.std.proofs.lemmas.List.Elements.{All-nil, All-cons, All-head, All-tail, All-append}
+use Rattle.std.proofs.lemmas.List.Elements.{All-nil, All-cons, All-head, All-tail, All-drop, All-push, All-weaker}
 use Rattle.word_values.specs.declared.usage.Why.TheVariants.{MissingValue}
 use Rattle.word_values.specs.declared.values.ValueForm.{ValueForm}
 use Rattle.word_values.specs.declared.values.Value.{Value}
-use Rattle.word_values.specs.declared.values.Value.TheVariants.{Flag, Name, Scale, Blocks, Span, Split, Uuids, Tracks, TrackDelay, TrackName, TrackFlag, TrackCues}
+use Rattle.word_values.specs.declared.values.Value.TheVariants.{Flag, File, Text, Scale, Blocks, Span, Split, Uuids, TrackDelay, TrackText, TrackLanguage}
 use Rattle.word_values.specs.Place.{is_option}
-use Rattle.word_values.specs.Values.{flag_of, value_of}
-use Rattle.word_values.specs.Sound.{IsWithin, AreUuids, IsSoundSplit, IsSoundValue}
-use Rattle.word_values.proofs.AnswerLemmas.{ok-then, ok-else}
-use Rattle.word_values.proofs.SoundLemmas.{value_of-sound, flag_of-sound}
+use Rattle.word_values.specs.Values.{flag_of, text, value_of}
+use Rattle.word_values.specs.Sound.{IsWithin, AreUuids, IsSoundSplit}
+use Rattle.word_values.proofs.AnswerLemmas.{ok-then, ok-else, ok-made}
+use Rattle.word_values.proofs.SoundLemmas.{IsRead, value_of-read, flag_of-is}
 use Rattle.merge_words.specs.declared.options.Subject.{Subject}
 use Rattle.merge_words.specs.declared.options.Subject.TheVariants as subject
 use Rattle.merge_words.specs.declared.options.Scope.TheVariants as scope
@@ -26,14 +27,15 @@ use Rattle.word_values.specs.declared.usage.Why.{Why}
 use Rattle.word_values.specs.declared.usage.Why.TheVariants.{NoOutput, NoInput, DanglingOption}
 use Rattle.merge_words.specs.declared.files.FileWords.{FileWords}
 use Rattle.merge_words.specs.declared.output.MergeWords.{MergeWords}
-use Rattle.merge_words.specs.Said.{value_in, scale_of, blocks_of, span_of, split_of, uuids_of, delay_of}
-use Rattle.merge_words.specs.Files.{delays_in, file, files}
+use Rattle.merge_words.specs.Said.{value_in, said_about, text_of, scale_of, blocks_of, span_of, split_of, uuids_of, delay_of, track_text_of, track_language_of}
+use Rattle.merge_words.specs.Files.{file, files}
 use Rattle.merge_words.specs.Output.{merge_words}
 use Rattle.merge_words.specs.Merge.{starts, read_all, items, wrong_if, wrong_at, dangling, complete, merged}
 use Rattle.merge_words.specs.Sound.{IsSoundFile, IsSoundMerge}
+use Rattle.merge_words.specs.Texts.{AreTexts, HasTexts}
 use Rattle.merge_words.proofs.ItemsLemmas.{latest, latest_other}
 use Rattle.merge_words.proofs.FilesLemmas.{files_from, parted_files}
-use Rattle.merge_words.proofs.MergeLemmas.{IsMeant, starts-meant}
+use Rattle.merge_words.proofs.MergeLemmas.{IsStart, starts-keep}
 use Rattle.merge_words.specs.Items.{Start, is_file, files_in, since_file, stands, track_in, repeats, repeats_for, read_value, value_at, said, option_at, append_at, file_at, known, item_at}
 
 -- ---- options
@@ -70,78 +72,78 @@ no-append = refl
 
 -- ---- one item
 
--- An item keeps its value's limits. Fewer than 64 files stand before one that names a file, and one before `+`.
-record Joins (before : List Item) (item : Item) : Type 0 where
-  value : IsSoundValue item.value
+-- what an item's value keeps, where words are UTF-8 if this is given
+abbrev IsReadItem : Type 0 → Item → Type 0
+IsReadItem given item = IsRead given item.value
+
+-- An item keeps what its value does. Fewer than 64 files stand before one that names a file, and one before `+`.
+record Joins (given : Type 0) (before : List Item) (item : Item) : Type 0 where
+  value : IsReadItem given item
   few : is_file item ≡ true → files_in before < 64
   behind : same item.subject subject.Append ≡ true → (files_in before == 0) ≡ false
 
-joins-same : (before : List Item) (made item : Item) → made ≡ item → Joins before made → Joins before item
-joins-same before made item same joins = subst (Joins before) same joins
+pub read_value-is : {X : Type 0} (at : ℕ) (o : Option X) (x : X) → read_value at o ≡ Ok x → o ≡ Some x
+read_value-is at None x is = absurd (cc)
+read_value-is at (Some y) x is = cc
 
-append-joins : (before : List Item) (at : ℕ) (item : Item) → append_at before at ≡ Ok item → Joins before item
-unfolding append_at
-append-joins before at item is =
-    let some = ok-else (files_in before == 0) _ _ item is in
-    let once = ok-else (stands subject.Append (since_file before)) _ _ item some.1 in
-    let made : Item = record { at = at; subject = subject.Append; scope = scope.File; value = Flag } in
-    let same : made ≡ item = (let found = once.1 in cc) in
-    joins-same before made item same (record { value = tt; few = λ never. absurd (cc); behind = λ _. some.0 })
+module _ (given : Type 0) (before : List Item) where
+  append-joins : (at : ℕ) (item : Item) → append_at before at ≡ Ok item → Joins given before item
+  unfolding append_at
+  append-joins at item is =
+      let some = ok-else (files_in before == 0) _ _ item is in
+      let once = ok-else (stands subject.Append (since_file before)) _ _ item some.1 in
+      ok-made (Joins given before) (record { at = at; subject = subject.Append; scope = scope.File; value = Flag }) item once.1
+      (record { value = (tt, tt); few = λ never. absurd (cc); behind = λ _. some.0 })
 
-file-joins : (before : List Item) (at : ℕ) (word : List ℕ) (item : Item) → file_at before at word ≡ Ok item → Joins before item
-unfolding file_at
-file-joins before at word item is =
-    let room = ok-else (nat_le 64 (files_in before)) _ _ item is in
-    let made : Item = record { at = at; subject = subject.File; scope = scope.Output; value = Name word } in
-    let same : made ≡ item = (let found = room.1 in cc) in
-    let under = room.0 in
-    joins-same before made item same (record { value = tt; few = λ _. grind (arith, nat_tests); behind = λ never. absurd (cc) })
+  file-joins : (at : ℕ) (word : List ℕ) (item : Item) → file_at before at word ≡ Ok item → Joins given before item
+  unfolding file_at
+  file-joins at word item is =
+      let room = ok-else (nat_le 64 (files_in before)) _ _ item is in
+      let under = room.0 in
+      ok-made (Joins given before) (record { at = at; subject = subject.File; scope = scope.Output; value = File word }) item room.1
+      (record { value = (tt, tt); few = λ _. grind (arith, nat_tests); behind = λ never. absurd (cc) })
 
-value_at-sound : (at count : ℕ) (f : ValueForm) (next : Option (List ℕ)) (v : Value) → value_at at f next count ≡ Ok v → IsSoundValue v
-value_at-sound at count f None v is = absurd (cc)
-value_at-sound at count f (Some word) v is = split (value_of f word) refl is
-  where
-    split : (o : Option Value) → value_of f word ≡ o → read_value at o ≡ Ok v → IsSoundValue v
-    split None found read = absurd (cc)
-    split (Some w) found read = let same : w ≡ v = cc in subst IsSoundValue same (value_of-sound f word w found)
+  value_at-read : (at count : ℕ) (f : ValueForm) (next : Option (List ℕ)) (v : Value) → IfSome next (λ word. given → IsUtf8 word) → value_at at f next count ≡ Ok v → IsRead given v
+  value_at-read at count f None v texts is = absurd (cc)
+  value_at-read at count f (Some word) v texts is = value_of-read given f word v texts (read_value-is at (value_of f word) v is)
 
-said-sound : (at count : ℕ) (f : ValueForm) (next : Option (List ℕ)) (v : Value) → said at f next count ≡ Ok v → IsSoundValue v
-said-sound at count f next v is = split (flag_of f) refl is
-  where
-    split : (o : Option Value) → flag_of f ≡ o → unwrap_or (option_map (λ (w : Value). Ok w) o) (value_at (at + 1) f next count) ≡ Ok v → IsSoundValue v
-    split None none read = value_at-sound (at + 1) count f next v read
-    split (Some w) some read = let same : w ≡ v = cc in subst IsSoundValue same (flag_of-sound f w some)
+  said-read : (at count : ℕ) (f : ValueForm) (next : Option (List ℕ)) (v : Value) → IfSome next (λ word. given → IsUtf8 word) → said at f next count ≡ Ok v → IsRead given v
+  said-read at count f next v texts is = split (flag_of f) refl is
+    where
+      split : (o : Option Value) → flag_of f ≡ o → unwrap_or (option_map (λ (w : Value). Ok w) o) (value_at (at + 1) f next count) ≡ Ok v → IsRead given v
+      split None none read = value_at-read (at + 1) count f next v texts read
+      split (Some w) some read = ok-made (IsRead given) w v read (flag_of-is (IsRead given) f w some (tt, tt) (tt, tt))
 
-option-joins : (before : List Item) (at : ℕ) (word : List ℕ) (means : Meaning) (next : Option (List ℕ)) (count : ℕ) (item : Item) → meaning_of word ≡ Some means → option_at before at means next count ≡ Ok item → Joins before item
-unfolding option_at
-option-joins before at word means next count item named is =
-    let other = ok-else (same means.subject subject.Identify) _ _ item is in
-    let once = ok-else (repeats means before) _ _ item other.1 in
-    ok-then (Joins before item) (said at means.form next count) _ item once.1 (λ v here more.
-    let made : Item = record { at = at; subject = means.subject; scope = means.scope; value = v } in
-    let last = ok-else (repeats_for means.subject (track_in v) before) _ (Ok made) item more in
-    let same_item : made ≡ item = (let found = last.1 in cc) in
-    let file_not = option-other subject.File word means no-file named in
-    let append_not = option-other subject.Append word means no-append named in
-    joins-same before made item same_item (record {
-      value = said-sound at count means.form next v here;
-      few = λ never. absurd (let both : true ≡ false = sym never ∙ file_not in cc);
-      behind = λ never. absurd (let both : true ≡ false = sym never ∙ append_not in cc);
-    }))
+  option-joins : (at : ℕ) (word : List ℕ) (means : Meaning) (next : Option (List ℕ)) (count : ℕ) (item : Item)
+      → IfSome next (λ w. given → IsUtf8 w) → meaning_of word ≡ Some means → option_at before at means next count ≡ Ok item → Joins given before item
+  unfolding option_at
+  option-joins at word means next count item texts named is =
+      let other = ok-else (same means.subject subject.Identify) _ _ item is in
+      let once = ok-else (repeats means before) _ _ item other.1 in
+      ok-then (Joins given before item) (said at means.form next count) _ item once.1 (λ v here more.
+      let made : Item = record { at = at; subject = means.subject; scope = means.scope; value = v } in
+      let last = ok-else (repeats_for means.subject (track_in v) before) _ (Ok made) item more in
+      let file_not = option-other subject.File word means no-file named in
+      let append_not = option-other subject.Append word means no-append named in
+      ok-made (Joins given before) made item last.1 (record {
+        value = said-read at count means.form next v texts here;
+        few = λ never. absurd (let both : true ≡ false = sym never ∙ file_not in cc);
+        behind = λ never. absurd (let both : true ≡ false = sym never ∙ append_not in cc);
+      }))
 
--- what is read of a word behind other items joins them
-item-joins : (before : List Item) (s : Start) (count : ℕ) (item : Item) → IsMeant s → item_at before s count ≡ Ok item → Joins before item
-unfolding item_at
-item-joins before s count item meant is = split (bytes_eq s.word (codes "+")) (is_option s.word) is
-  where
-    of-option : (o : Option Meaning) → meaning_of s.word ≡ o → known before s.at o s.next count ≡ Ok item → Joins before item
-    of-option None none found = absurd (cc)
-    of-option (Some means) named found = option-joins before s.at s.word means s.next count item named found
+  -- what is read of a word behind other items joins them
+  item-joins : (s : Start) (count : ℕ) (item : Item) → IsStart (λ word. given → IsUtf8 word) s → item_at before s count ≡ Ok item → Joins given before item
+  unfolding item_at
+  item-joins s count item begins is = split (bytes_eq s.word (codes "+")) (is_option s.word) is
+    where
+      of-option : (o : Option Meaning) → meaning_of s.word ≡ o → known before s.at o s.next count ≡ Ok item → Joins given before item
+      of-option None none found = absurd (cc)
+      of-option (Some means) named found = option-joins s.at s.word means s.next count item begins.next named found
 
-    split : (a b : Bool) → (if a then append_at before s.at else if b then known before s.at s.means s.next count else file_at before s.at s.word) ≡ Ok item → Joins before item
-    split true b found = append-joins before s.at item found
-    split false true found = of-option s.means meant found
-    split false false found = file-joins before s.at s.word item found
+      split : (a b : Bool) → (if a then append_at before s.at else if b then known before s.at s.means s.next count else file_at before s.at s.word) ≡ Ok item → Joins given before item
+      split true b found = append-joins s.at item found
+      split false true found = of-option s.means begins.meant found
+      split false false found = file-joins s.at s.word item found
 
 -- ---- the files
 
@@ -172,61 +174,89 @@ length-files group (x ∷ xs) = split (is_file x) (length-files [] xs) (length-f
     split true named other = omega arith
     split false named other = omega arith
 
--- ---- delays
+-- ---- what items say
 
-abbrev AreSound : List Item → Type 0
-AreSound items = All (λ (i : Item). IsSoundValue i.value) items
+one-said : {X : Type 0} (P : X → Type 0) (o : Option X) (rest : List X) → ((x : X) → o ≡ Some x → P x) → All P rest → All P (cons_option o rest)
+one-said P None rest keeps all = all
+one-said P (Some x) rest keeps all = All-cons P x rest (keeps x refl) all
+
+-- what is said about something keeps what values do
+all-said : {X : Type 0} (given : Type 0) (P : X → Type 0) (read : Value → Option X) (about : Subject) (items : List Item)
+    → ((v : Value) (x : X) → IsRead given v → read v ≡ Some x → P x) → All (IsReadItem given) items → All P (said_about read about items)
+all-said given P read about [] keeps are = All-nil P
+all-said given P read about (i ∷ is) keeps are = split (same i.subject about) (all-said given P read about is keeps (All-tail (IsReadItem given) i is are))
+  where
+    split : (b : Bool) → All P (said_about read about is) → All P (cons_option (option_and_then read (if b then Some i.value else None)) (said_about read about is))
+    split true rest = one-said P (read i.value) (said_about read about is) (λ x some. keeps i.value x (All-head (IsReadItem given) i is are) some) rest
+    split false rest = rest
+
+value-found : (given : Type 0) (about : Subject) (items : List Item) → All (IsReadItem given) items → IfSome (value_in about items) (IsRead given)
+value-found given about [] are = tt
+value-found given about (i ∷ is) are = split (same i.subject about) (value-found given about is (All-tail (IsReadItem given) i is are))
+  where
+    split : (b : Bool) → IfSome (value_in about is) (IsRead given)
+        → IfSome (option_map (λ (j : Item). j.value) (cond b (Some i) (find (λ j. same j.subject about) is))) (IsRead given)
+    split true rest = All-head (IsReadItem given) i is are
+    split false rest = rest
 
 abbrev IsSmall : ℕ × ℤ → Type 0
 IsSmall sync = nat_abs sync.1 < 2 ^ 55
 
-one-delay : (v : Value) (rest : List (ℕ × ℤ)) → IsSoundValue v → All IsSmall rest → All IsSmall (cons_option (delay_of v) rest)
-one-delay (TrackDelay id d) rest sound others = All-cons IsSmall (id, d) rest sound others
-one-delay Flag rest sound others = others
-one-delay (Name n) rest sound others = others
-one-delay (Scale n) rest sound others = others
-one-delay (Blocks n) rest sound others = others
-one-delay (Span n) rest sound others = others
-one-delay (Split w) rest sound others = others
-one-delay (Uuids us) rest sound others = others
-one-delay (Tracks t) rest sound others = others
-one-delay (TrackName id n) rest sound others = others
-one-delay (TrackFlag id f) rest sound others = others
-one-delay (TrackCues id c) rest sound others = others
+delay-small : (given : Type 0) (v : Value) (sync : ℕ × ℤ) → IsRead given v → delay_of v ≡ Some sync → IsSmall sync
+delay-small given (TrackDelay id d) sync own is = let same : (id, d) ≡ sync = cc in subst IsSmall same own.0
+delay-small given _ sync own is = absurd (cc)
 
-delays-small : (items : List Item) → AreSound items → All IsSmall (delays_in items)
-delays-small [] sound = All-nil IsSmall
-delays-small (i ∷ is) sound =
-    one-delay i.value (delays_in is) (All-head (λ (j : Item). IsSoundValue j.value) i is sound) (delays-small is (All-tail (λ (j : Item). IsSoundValue j.value) i is sound))
+-- the text of a pair
+abbrev IsTextPair : ℕ × List ℕ → Type 0
+IsTextPair pair = IsUtf8 pair.1
 
-file-sound : (group : List Item) (name : Value) → AreSound group → IsSoundFile (file group name)
+name-text : (given : Type 0) → given → (v : Value) (name : ℕ × List ℕ) → IsRead given v → track_text_of v ≡ Some name → IsTextPair name
+name-text given texts (TrackText id t) name own is = let same : (id, t) ≡ name = cc in subst IsTextPair same (own.1 texts)
+name-text given texts _ name own is = absurd (cc)
+
+language-text : (given : Type 0) → given → (v : Value) (language : ℕ × List ℕ) → IsRead given v → track_language_of v ≡ Some language → IsTextPair language
+language-text given texts (TrackLanguage id t) language own is = let same : (id, t) ≡ language = cc in subst IsTextPair same (own.1 texts)
+language-text given texts _ language own is = absurd (cc)
+
+-- what a file keeps, where words are UTF-8 if this is given
+abbrev IsReadFile : Type 0 → FileWords → Type 0
+IsReadFile given f = IsSoundFile f × (given → HasTexts f)
+
+file-read : (given : Type 0) (group : List Item) (name : Value) → All (IsReadItem given) group → IsReadFile given (file group name)
 unfolding file
-file-sound group name sound = record { delays = delays-small group sound }
+file-read given group name are = (
+  record { delays = all-said given IsSmall delay_of subject.Sync group (delay-small given) are },
+  λ texts. record {
+    names = all-said given IsTextPair track_text_of subject.TrackName group (name-text given texts) are;
+    languages = all-said given IsTextPair track_language_of subject.Language group (language-text given texts) are;
+  },
+)
 
-files-sound : (group items : List Item) → AreSound group → AreSound items → All IsSoundFile (files_from group items)
-files-sound group [] front sound = All-nil IsSoundFile
-files-sound group (x ∷ xs) front sound =
-    split (is_file x) (files-sound [] xs (All-nil (λ (j : Item). IsSoundValue j.value)) behind_it)
-    (files-sound (group ++ x ∷ []) xs (All-append (λ (j : Item). IsSoundValue j.value) group (x ∷ []) front (All-cons (λ (j : Item). IsSoundValue j.value) x [] (All-head (λ (j : Item). IsSoundValue j.value) x xs sound) (All-nil (λ (j : Item). IsSoundValue j.value)))) behind_it)
+files-read : (given : Type 0) (group items : List Item) → All (IsReadItem given) group → All (IsReadItem given) items → All (IsReadFile given) (files_from group items)
+files-read given group [] front are = All-nil (IsReadFile given)
+files-read given group (x ∷ xs) front are =
+    split (is_file x) (files-read given [] xs (All-nil (IsReadItem given)) behind)
+    (files-read given (group ++ x ∷ []) xs (All-push (IsReadItem given) group x front (All-head (IsReadItem given) x xs are)) behind)
   where
-    behind_it : AreSound xs
-    behind_it = All-tail (λ (j : Item). IsSoundValue j.value) x xs sound
+    behind : All (IsReadItem given) xs
+    behind = All-tail (IsReadItem given) x xs are
 
-    split : (b : Bool) → All IsSoundFile (files_from [] xs) → All IsSoundFile (files_from (group ++ x ∷ []) xs) → All IsSoundFile (if b then file group x.value ∷ files_from [] xs else files_from (group ++ x ∷ []) xs)
-    split true named other = All-cons IsSoundFile (file group x.value) (files_from [] xs) (file-sound group x.value front) named
+    split : (b : Bool) → All (IsReadFile given) (files_from [] xs) → All (IsReadFile given) (files_from (group ++ x ∷ []) xs)
+        → All (IsReadFile given) (if b then file group x.value ∷ files_from [] xs else files_from (group ++ x ∷ []) xs)
+    split true named other = All-cons (IsReadFile given) (file group x.value) (files_from [] xs) (file-read given group x.value front) named
     split false named other = other
 
 -- ---- all items
 
 -- What items keep that were read one behind the other.
-record Kept (items : List Item) : Type 0 where
-  values : AreSound items
+record Kept (given : Type 0) (items : List Item) : Type 0 where
+  values : All (IsReadItem given) items
   few : files_in items ≤ 64
   alone : length (files_from [] items) ≡ 0 → stands subject.Append (latest [] items) ≡ false
   first : IfSome (slice_get (files_from [] items) 0) (λ (f : FileWords). f.appended ≡ false)
 
-kept-none : Kept []
-kept-none = record { values = All-nil (λ (i : Item). IsSoundValue i.value); few = omega arith; alone = λ _. refl; first = tt }
+kept-none : (given : Type 0) → Kept given []
+kept-none given = record { values = All-nil (IsReadItem given); few = omega arith; alone = λ _. refl; first = tt }
 
 first-appended : (fs : List FileWords) (f : FileWords) → IfSome (slice_get fs 0) (λ (g : FileWords). g.appended ≡ false) → (length fs ≡ 0 → f.appended ≡ false) → IfSome (slice_get (fs ++ f ∷ []) 0) (λ (g : FileWords). g.appended ≡ false)
 first-appended [] f kept alone = alone refl
@@ -236,11 +266,7 @@ file-appended : (group : List Item) (name : Value) → (file group name).appende
 unfolding file
 file-appended group name = refl
 
-or-false : (a b : Bool) → a ≡ false → b ≡ false → (a || b) ≡ false
-or-false true b is other = absurd (cc)
-or-false false b is other = other
-
-module _ (before : List Item) (item : Item) (kept : Kept before) (joins : Joins before item) where
+module _ (given : Type 0) (before : List Item) (item : Item) (kept : Kept given before) (joins : Joins given before item) where
   few-more : (b : Bool) → is_file item ≡ b → files_in before + cond b 1 0 ≤ 64
   few-more true is = let under = joins.few is in omega arith
   few-more false is = let few = kept.few in omega arith
@@ -266,87 +292,100 @@ module _ (before : List Item) (item : Item) (kept : Kept before) (joins : Joins 
       let none_before : length (files_from [] before) ≡ 0 = sym (ap length (more_files false is ∙ append-nil (files_from [] before))) ∙ empty in
       let behind_it : latest [] (before ++ item ∷ []) ≡ latest [] before ++ item ∷ [] = latest_other [] before item is in
       ap (stands subject.Append) behind_it ∙ list_any-append (λ (i : Item). same i.subject subject.Append) (latest [] before) (item ∷ [])
-      ∙ or-false _ _ (kept.alone none_before) (or-false _ _ (append_not (same item.subject subject.Append) refl none_before) refl)
+      ∙ or_from _ _ (kept.alone none_before) (or_from _ _ (append_not (same item.subject subject.Append) refl none_before) refl)
 
-  kept-more : Kept (before ++ item ∷ [])
+  kept-more : Kept given (before ++ item ∷ [])
   kept-more = record {
-    values = All-append (λ (i : Item). IsSoundValue i.value) before (item ∷ []) kept.values (All-cons (λ (i : Item). IsSoundValue i.value) item [] joins.value (All-nil (λ (i : Item). IsSoundValue i.value)));
+    values = All-push (IsReadItem given) before item kept.values joins.value;
     few = let more = few-more (is_file item) refl in omega (arith, files_in-more before item);
     alone = alone-more (is_file item) refl;
     first = first-more (is_file item) refl;
   }
 
-read_all-kept : (count : ℕ) (before : List Item) (ss : List Start) (items : List Item) → Kept before → All IsMeant ss → read_all count before ss ≡ Ok items → Kept items
-read_all-kept count before [] items kept meant is = let same : before ≡ items = cc in subst Kept same kept
-read_all-kept count before (s ∷ ss) items kept meant is =
-    ok-then (Kept items) (item_at before s count) _ items is (λ item here more.
-    read_all-kept count (before ++ item ∷ []) ss items (kept-more before item kept (item-joins before s count item (All-head IsMeant s ss meant) here)) (All-tail IsMeant s ss meant) more)
+abbrev Begins : Type 0 → Start → Type 0
+Begins given s = IsStart (λ word. given → IsUtf8 word) s
+
+read_all-kept : (given : Type 0) (count : ℕ) (before : List Item) (ss : List Start) (items : List Item) → Kept given before → All (Begins given) ss → read_all count before ss ≡ Ok items → Kept given items
+read_all-kept given count before [] items kept begin is = ok-made (Kept given) before items is kept
+read_all-kept given count before (s ∷ ss) items kept begin is =
+    ok-then (Kept given items) (item_at before s count) _ items is (λ item here more.
+    read_all-kept given count (before ++ item ∷ []) ss items
+    (kept-more given before item kept (item-joins given before s count item (All-head (Begins given) s ss begin) here)) (All-tail (Begins given) s ss begin) more)
 
 -- ---- what the items say of the whole output
-
-find-sound : (p : Item → Bool) (items : List Item) → AreSound items → IfSome (option_map (λ (i : Item). i.value) (find p items)) IsSoundValue
-find-sound p [] sound = tt
-find-sound p (i ∷ is) sound = split (p i) (find-sound p is (All-tail (λ (j : Item). IsSoundValue j.value) i is sound))
-  where
-    split : (b : Bool) → IfSome (option_map (λ (j : Item). j.value) (find p is)) IsSoundValue → IfSome (option_map (λ (j : Item). j.value) (cond b (Some i) (find p is))) IsSoundValue
-    split true rest = All-head (λ (j : Item). IsSoundValue j.value) i is sound
-    split false rest = rest
 
 default-scale : IsWithin 1000 10000000 1000000
 default-scale = record { least = omega arith; most = omega arith }
 
-scale-within : (o : Option Value) → IfSome o IsSoundValue → IsWithin 1000 10000000 (unwrap_or (option_and_then scale_of o) 1000000)
-scale-within None sound = default-scale
-scale-within (Some (Scale n)) sound = sound
-scale-within (Some _) sound = default-scale
+scale-within : (given : Type 0) (o : Option Value) → IfSome o (IsRead given) → IsWithin 1000 10000000 (unwrap_or (option_and_then scale_of o) 1000000)
+scale-within given None own = default-scale
+scale-within given (Some (Scale n)) own = own.0
+scale-within given (Some _) own = default-scale
 
 default-blocks : IsWithin 1 65535 65535
 default-blocks = record { least = omega arith; most = omega arith }
 
-blocks-within : (o : Option Value) → IfSome o IsSoundValue → IsWithin 1 65535 (unwrap_or (option_and_then blocks_of o) 65535)
-blocks-within None sound = default-blocks
-blocks-within (Some (Blocks n)) sound = sound
-blocks-within (Some _) sound = default-blocks
+blocks-within : (given : Type 0) (o : Option Value) → IfSome o (IsRead given) → IsWithin 1 65535 (unwrap_or (option_and_then blocks_of o) 65535)
+blocks-within given None own = default-blocks
+blocks-within given (Some (Blocks n)) own = own.0
+blocks-within given (Some _) own = default-blocks
 
 default-span : IsWithin 100000000 32000000000 5000000000
 default-span = record { least = omega arith; most = omega arith }
 
-span-within : (o : Option Value) → IfSome o IsSoundValue → IsWithin 100000000 32000000000 (unwrap_or (option_and_then span_of o) 5000000000)
-span-within None sound = default-span
-span-within (Some (Span n)) sound = sound
-span-within (Some _) sound = default-span
+span-within : (given : Type 0) (o : Option Value) → IfSome o (IsRead given) → IsWithin 100000000 32000000000 (unwrap_or (option_and_then span_of o) 5000000000)
+span-within given None own = default-span
+span-within given (Some (Span n)) own = own.0
+span-within given (Some _) own = default-span
 
-split-kept : (o : Option Value) → IfSome o IsSoundValue → IfSome (option_and_then split_of o) IsSoundSplit
-split-kept None sound = tt
-split-kept (Some (Split w)) sound = sound
-split-kept (Some _) sound = tt
+split-kept : (given : Type 0) (o : Option Value) → IfSome o (IsRead given) → IfSome (option_and_then split_of o) IsSoundSplit
+split-kept given None own = tt
+split-kept given (Some (Split w)) own = own.0
+split-kept given (Some _) own = tt
 
 no-uuids : AreUuids []
 no-uuids = record { few = omega arith; differ = refl }
 
-uuids-kept : (o : Option Value) → IfSome o IsSoundValue → AreUuids (unwrap_or (option_and_then uuids_of o) [])
-uuids-kept None sound = no-uuids
-uuids-kept (Some (Uuids us)) sound = sound
-uuids-kept (Some _) sound = no-uuids
+uuids-kept : (given : Type 0) (o : Option Value) → IfSome o (IsRead given) → AreUuids (unwrap_or (option_and_then uuids_of o) [])
+uuids-kept given None own = no-uuids
+uuids-kept given (Some (Uuids us)) own = own.0
+uuids-kept given (Some _) own = no-uuids
 
-said-of : (about : Subject) (items : List Item) → AreSound items → IfSome (value_in about items) IsSoundValue
-said-of about items sound = find-sound (λ i. same i.subject about) items sound
+title-kept : (given : Type 0) (P : List ℕ → Type 0) (o : Option Value) → ((t : List ℕ) → (text t ≡ Some t) × (given → IsUtf8 t) → P t) → IfSome o (IsRead given) → IfSome (option_and_then text_of o) P
+title-kept given P None keeps own = tt
+title-kept given P (Some (Text t)) keeps own = keeps t own.1
+title-kept given P (Some _) keeps own = tt
 
-merge_words-sound : (items : List Item) → Kept items → (files_in items == 0) ≡ false → IsSoundMerge (merge_words items)
+-- what a merge keeps, where words are UTF-8 if this is given
+record IsReadMerge (given : Type 0) (words : MergeWords) : Type 0 where
+  sound : IsSoundMerge words
+  title : IfSome words.title (λ t. text t ≡ Some t)
+  texts : given → AreTexts words
+
+merge_words-read : (given : Type 0) (items : List Item) → Kept given items → (files_in items == 0) ≡ false → IsReadMerge given (merge_words items)
 unfolding merge_words
-merge_words-sound items kept some =
+merge_words-read given items kept some =
     let all = parted_files items in
     let many : length (files items) ≡ files_in items = ap length all ∙ length-files [] items in
     let few = kept.few in
+    let each : All (IsReadFile given) (files items) = rw all (files-read given [] items (All-nil (IsReadItem given)) kept.values) in
+    let title = value-found given subject.Title items kept.values in
     record {
-      scale = scale-within (value_in subject.Scale items) (said-of subject.Scale items kept.values);
-      blocks = blocks-within (value_in subject.ClusterLength items) (said-of subject.ClusterLength items kept.values);
-      span = span-within (value_in subject.ClusterLength items) (said-of subject.ClusterLength items kept.values);
-      split = split-kept (value_in subject.Split items) (said-of subject.Split items kept.values);
-      uuids = uuids-kept (value_in subject.Uuids items) (said-of subject.Uuids items kept.values);
-      files = record { least = grind (arith, nat_tests); most = omega arith };
-      first = rw all kept.first;
-      each = rw all (files-sound [] items (All-nil (λ (i : Item). IsSoundValue i.value)) kept.values);
+      sound = record {
+        scale = scale-within given (value_in subject.Scale items) (value-found given subject.Scale items kept.values);
+        blocks = blocks-within given (value_in subject.ClusterLength items) (value-found given subject.ClusterLength items kept.values);
+        span = span-within given (value_in subject.ClusterLength items) (value-found given subject.ClusterLength items kept.values);
+        split = split-kept given (value_in subject.Split items) (value-found given subject.Split items kept.values);
+        uuids = uuids-kept given (value_in subject.Uuids items) (value-found given subject.Uuids items kept.values);
+        files = record { least = grind (arith, nat_tests); most = omega arith };
+        first = rw all kept.first;
+        each = All-weaker (IsReadFile given) IsSoundFile (λ f own. own.0) (files items) each;
+      };
+      title = title-kept given (λ t. text t ≡ Some t) (value_in subject.Title items) (λ t own. own.0) title;
+      texts = λ words. record {
+        title = title-kept given IsUtf8 (value_in subject.Title items) (λ t own. own.1 words) title;
+        files = All-weaker (IsReadFile given) HasTexts (λ f own. own.1 words) (files items) each;
+      };
     }
 
 wrong_if-ok : (b : Bool) (word : ℕ) (why : Why) (t : Unit {0}) → wrong_if b word why ≡ Ok t → b ≡ false
@@ -362,11 +401,24 @@ complete-files count items t is =
     ok-then ((files_in items == 0) ≡ false) (wrong_if (files_in items == 0) count NoInput) _ t rest (λ d input last.
     wrong_if-ok (files_in items == 0) count NoInput d input))))
 
+merged-read : (words : List (List ℕ)) (w : MergeWords) → merged words ≡ Ok w → IsReadMerge (All IsUtf8 words) w
+unfolding merged items
+merged-read words w is =
+    let given = All IsUtf8 words in
+    ok-then (IsReadMerge given w) (items words) _ w is (λ said here more.
+    ok-then (IsReadMerge given w) (complete (length words) said) _ w more (λ t whole last.
+    let begin : All (Begins given) (starts 1 (drop 1 words)) = starts-keep (λ word. given → IsUtf8 word) 1 (drop 1 words) (All-drop (λ word. given → IsUtf8 word) 1 words (λ k d within all. all k d within)) in
+    ok-made (IsReadMerge given) (merge_words said) w last
+    (merge_words-read given said (read_all-kept given (length words) [] (starts 1 (drop 1 words)) said (kept-none given) begin here) (complete-files (length words) said t whole))))
+
 -- What the words of a merge say keeps its limits.
 pub merged-sound : (words : List (List ℕ)) (w : MergeWords) → merged words ≡ Ok w → IsSoundMerge w
-unfolding merged items
-merged-sound words w is =
-    ok-then (IsSoundMerge w) (items words) _ w is (λ said here more.
-    ok-then (IsSoundMerge w) (complete (length words) said) _ w more (λ t whole last.
-    let same_words : merge_words said ≡ w = cc in
-    subst IsSoundMerge same_words (merge_words-sound said (read_all-kept (length words) [] (starts 1 (drop 1 words)) said kept-none (starts-meant 1 (drop 1 words)) here) (complete-files (length words) said t whole))))
+merged-sound words w is = (merged-read words w is).sound
+
+-- Its title has no zero octet.
+pub merged-title : (words : List (List ℕ)) (w : MergeWords) → merged words ≡ Ok w → IfSome w.title (λ title. text title ≡ Some title)
+merged-title words w is = (merged-read words w is).title
+
+-- What they give as texts are texts.
+pub merged-texts : (words : List (List ℕ)) (w : MergeWords) → All IsUtf8 words → merged words ≡ Ok w → AreTexts w
+merged-texts words w utf8 is = (merged-read words w is).texts utf8

@@ -1,6 +1,6 @@
 -- What the items of a merge say of each file. All of it is this project's, after mkvmerge(1).
-use Rattle.std.specs.Prelude.{ℕ, ℤ, Bool, not, ◌==◌, List, [], ◌∷◌, map, Option, Some, None, unwrap_or, option_and_then}
-use Rattle.std.specs.List.{filter, filter_map, flat_map, slice_split, zip}
+use Rattle.std.specs.Prelude.{ℕ, ℤ, Bool, not, ◌==◌, if◌then◌else◌, List, [], ◌∷◌, ◌++◌, map, Option, Some, None, unwrap_or, option_and_then}
+use Rattle.std.specs.List.{filter, flat_map, list_any, slice_split, zip}
 use Rattle.word_values.specs.declared.lists.Select.{Select}
 use Rattle.word_values.specs.declared.lists.Select.TheVariants.{All, These, AllBut, Off}
 use Rattle.word_values.specs.declared.values.CueWord.{CueWord}
@@ -11,7 +11,7 @@ use Rattle.merge_words.specs.declared.options.Subject.TheVariants as subject
 use Rattle.merge_words.specs.declared.item.Item.{Item}
 use Rattle.merge_words.specs.declared.files.FileWords.{FileWords}
 use Rattle.merge_words.specs.Items.{is_file, stands, track_in}
-use Rattle.merge_words.specs.Said.{value_in, value_about, name_of, tracks_of, delay_of, track_name_of, track_flag_of, track_cues_of}
+use Rattle.merge_words.specs.Said.{value_in, said_about, file_of, tracks_of, delay_of, track_text_of, track_language_of, track_flag_of, track_cues_of, track_file_of}
 
 -- the tracks that a selection names, with `!` too
 abbrev pub ids_of_select : Select → List ℕ
@@ -20,6 +20,7 @@ ids_of_select (These ids) = ids
 ids_of_select (AllBut ids) = ids
 ids_of_select Off = []
 
+-- the track, where there is one
 abbrev pub one : Option ℕ → List ℕ
 one None = []
 one (Some id) = id ∷ []
@@ -29,20 +30,28 @@ abbrev pub ids_of : Value → List ℕ
 ids_of (Tracks select) = ids_of_select select
 ids_of value = one (track_in value)
 
+-- the tracks of one type that the items take
 abbrev pub tracks_in : Subject → List Item → Select
 tracks_in subject items = unwrap_or (option_and_then tracks_of (value_in subject items)) All
 
+-- what they say of tracks: by how much each is delayed, what it is called, and so on
 abbrev pub delays_in : List Item → List (ℕ × ℤ)
-delays_in items = filter_map (λ (i : Item). delay_of i.value) items
+delays_in items = said_about delay_of subject.Sync items
 
-abbrev pub names_in : Subject → List Item → List (ℕ × List ℕ)
-names_in subject items = filter_map (λ i. option_and_then track_name_of (value_about subject i)) items
+abbrev pub names_in : List Item → List (ℕ × List ℕ)
+names_in items = said_about track_text_of subject.TrackName items
+
+abbrev pub languages_in : List Item → List (ℕ × List ℕ)
+languages_in items = said_about track_language_of subject.Language items
 
 abbrev pub flags_in : Subject → List Item → List (ℕ × Bool)
-flags_in subject items = filter_map (λ i. option_and_then track_flag_of (value_about subject i)) items
+flags_in subject items = said_about track_flag_of subject items
 
 abbrev pub cues_in : List Item → List (ℕ × CueWord)
-cues_in items = filter_map (λ (i : Item). track_cues_of i.value) items
+cues_in items = said_about track_cues_of subject.Cues items
+
+abbrev pub times_in : List Item → List (ℕ × List ℕ)
+times_in items = said_about track_file_of subject.Times items
 
 -- the numbers but one
 abbrev pub without : ℕ → List ℕ → List ℕ
@@ -53,13 +62,18 @@ abbrev pub once : List ℕ → List ℕ
 once [] = []
 once (id ∷ ids) = id ∷ without id (once ids)
 
+-- the numbers, and behind them those of others that don't stand there yet
+abbrev pub with_new : List ℕ → List ℕ → List ℕ
+with_new list [] = list
+with_new list (id ∷ ids) = with_new (if list_any (λ k. k == id) list then list else list ++ id ∷ []) ids
+
 -- the tracks that the items name, in their order, each once
 unfoldable pub named_in : List Item → List ℕ
 named_in items = once (flat_map (λ (i : Item). ids_of i.value) items)
 
 -- the name that a file's item has
 abbrev pub file_name : Value → List ℕ
-file_name value = unwrap_or (name_of value) []
+file_name value = unwrap_or (file_of value) []
 
 -- a file, with what the items before it say
 unfoldable pub file : List Item → Value → FileWords
@@ -74,12 +88,12 @@ file items name = record {
   global_tags = not (stands subject.GlobalTags items);
   chapters = not (stands subject.Chapters items);
   syncs = delays_in items;
-  names = names_in subject.TrackName items;
-  languages = names_in subject.Language items;
+  names = names_in items;
+  languages = languages_in items;
   defaults = flags_in subject.DefaultFlag items;
   forced = flags_in subject.ForcedFlag items;
   cues = cues_in items;
-  times = names_in subject.Times items;
+  times = times_in items;
   named = named_in items;
 }
 

@@ -12,7 +12,7 @@ use Rattle.merge_words.specs.declared.options.Scope.{Scope}
 use Rattle.word_values.specs.declared.values.ValueForm.{ValueForm}
 use Rattle.merge_words.specs.declared.options.Meaning.{Meaning}
 use Rattle.word_values.specs.declared.values.Value.{Value}
-use Rattle.word_values.specs.declared.values.Value.TheVariants.{Flag, Name, Scale, Blocks, Span, Split, Uuids, Tracks, TrackDelay, TrackName, TrackFlag, TrackCues}
+use Rattle.word_values.specs.declared.values.Value.TheVariants.{Flag, File, TrackDelay, TrackText, TrackLanguage, TrackFlag, TrackCues, TrackFile}
 use Rattle.merge_words.specs.declared.item.Item.{Item}
 use Rattle.merge_words.specs.declared.item.TheConstants.{MOST_FILES}
 use Rattle.word_values.specs.Answers.{wrong, ◌>>=◌}
@@ -39,17 +39,12 @@ stands subject items = list_any (λ i. same i.subject subject) items
 -- the track that a value is for
 abbrev pub track_in : Value → Option ℕ
 track_in (TrackDelay id delay) = Some id
-track_in (TrackName id name) = Some id
+track_in (TrackText id text) = Some id
+track_in (TrackLanguage id language) = Some id
 track_in (TrackFlag id flag) = Some id
 track_in (TrackCues id cues) = Some id
-track_in Flag = None
-track_in (Name name) = None
-track_in (Scale scale) = None
-track_in (Blocks blocks) = None
-track_in (Span span) = None
-track_in (Split split) = None
-track_in (Uuids uuids) = None
-track_in (Tracks select) = None
+track_in (TrackFile id name) = Some id
+track_in _ = None
 
 -- the track is this one
 abbrev pub is_track : ℕ → Option ℕ → Bool
@@ -66,6 +61,7 @@ repeats_in scope.Output subject before = stands subject before
 repeats_in scope.File subject before = stands subject (since_file before)
 repeats_in scope.Track subject before = false
 
+-- an option that means this stood before where it may stand once
 abbrev pub repeats : Meaning → List Item → Bool
 repeats means before = repeats_in means.scope means.subject before
 
@@ -74,8 +70,8 @@ abbrev pub repeats_for : Subject → Option ℕ → List Item → Bool
 repeats_for subject None before = false
 repeats_for subject (Some id) before = stands_for subject id (since_file before)
 
--- the value that was read at a number, where the word is of its form
-abbrev pub read_value : ℕ → Option Value → Result Value Usage
+-- what was read of the word at a number, where it is of its form
+abbrev pub read_value : {X : Type 0} → ℕ → Option X → Result X Usage
 read_value at None = wrong at BadValue
 read_value at (Some value) = Ok value
 
@@ -110,14 +106,14 @@ append_at before at =
 unfoldable pub file_at : List Item → ℕ → List ℕ → Result Item Usage
 file_at before at word =
     if nat_le MOST_FILES (files_in before) then wrong at TooManyInputs
-    else Ok (record { at = at; subject = subject.File; scope = scope.Output; value = Name word })
+    else Ok (record { at = at; subject = subject.File; scope = scope.Output; value = File word })
 
 -- the item of a word that looks like an option, with what it means
 abbrev pub known : List Item → ℕ → Option Meaning → Option (List ℕ) → ℕ → Result Item Usage
 known before at None next count = wrong at UnknownOption
 known before at (Some means) next count = option_at before at means next count
 
--- a word that begins an item: its number, what it means as an option, and the word behind it
+-- A word at which an item begins: its number among all words, what it means as an option, and the word behind it.
 pub record Start : Type 0 where
   pub at : ℕ
   pub word : List ℕ

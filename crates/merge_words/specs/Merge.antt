@@ -23,7 +23,7 @@ abbrev pub takes_next : Option Meaning → Bool
 takes_next None = false
 takes_next (Some means) = is_none (flag_of means.form)
 
--- a word as the first of an item
+-- the item that begins at a word, by its number and the word behind it
 abbrev pub start : ℕ → List ℕ → Option (List ℕ) → Start
 start at word next = record { at = at; word = word; means = meaning_of word; next = next }
 

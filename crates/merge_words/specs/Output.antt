@@ -6,11 +6,14 @@ use Rattle.merge_words.specs.declared.item.Item.{Item}
 use Rattle.merge_words.specs.declared.output.MergeWords.{MergeWords}
 use Rattle.merge_words.specs.declared.output.TheConstants.{DEFAULT_SCALE, DEFAULT_BLOCKS, DEFAULT_SPAN}
 use Rattle.merge_words.specs.Items.{stands}
-use Rattle.merge_words.specs.Said.{value_in, name_in, scale_of, blocks_of, span_of, split_of, uuids_of}
+use Rattle.merge_words.specs.Said.{value_in, file_in, text_of, scale_of, blocks_of, span_of, split_of, uuids_of}
 use Rattle.merge_words.specs.Files.{files}
 
 abbrev pub output_in : List Item → List ℕ
-output_in items = unwrap_or (name_in subject.Output items) []
+output_in items = unwrap_or (file_in subject.Output items) []
+
+abbrev pub title_in : List Item → Option (List ℕ)
+title_in items = option_and_then text_of (value_in subject.Title items)
 
 abbrev pub scale_in : List Item → ℕ
 scale_in items = unwrap_or (option_and_then scale_of (value_in subject.Scale items)) DEFAULT_SCALE
@@ -32,8 +35,8 @@ unfoldable pub merge_words : List Item → MergeWords
 merge_words items = record {
   output = output_in items;
   webm = stands subject.Webm items;
-  title = name_in subject.Title items;
-  chapters = name_in subject.ChapterFile items;
+  title = title_in items;
+  chapters = file_in subject.ChapterFile items;
   scale = scale_in items;
   blocks = blocks_in items;
   span = span_in items;

@@ -1,11 +1,11 @@
 -- The values of items that are about something. They are this project's, after mkvmerge(1).
 use Rattle.std.specs.Prelude.{ℕ, ℤ, Bool, if◌then◌else◌, List, Option, Some, None, option_map, option_and_then}
-use Rattle.std.specs.List.{find}
+use Rattle.std.specs.List.{filter_map, find}
 use Rattle.word_values.specs.declared.lists.SplitWords.{SplitWords}
 use Rattle.word_values.specs.declared.lists.Select.{Select}
 use Rattle.word_values.specs.declared.values.CueWord.{CueWord}
 use Rattle.word_values.specs.declared.values.Value.{Value}
-use Rattle.word_values.specs.declared.values.Value.TheVariants.{Name, Scale, Blocks, Span, Split, Uuids, Tracks, TrackDelay, TrackName, TrackFlag, TrackCues}
+use Rattle.word_values.specs.declared.values.Value.TheVariants.{File, Text, Scale, Blocks, Span, Split, Uuids, Tracks, TrackDelay, TrackText, TrackLanguage, TrackFlag, TrackCues, TrackFile}
 use Rattle.merge_words.specs.declared.options.Subject.{Subject}
 use Rattle.merge_words.specs.declared.item.Item.{Item}
 use Rattle.merge_words.specs.Options.{same}
@@ -14,10 +14,14 @@ use Rattle.merge_words.specs.Options.{same}
 abbrev pub value_in : Subject → List Item → Option Value
 value_in subject items = option_map (λ (i : Item). i.value) (find (λ i. same i.subject subject) items)
 
--- a value's name, number, split and so on, where it has one
-abbrev pub name_of : Value → Option (List ℕ)
-name_of (Name name) = Some name
-name_of _ = None
+-- what a value says, where it is of this kind: the name of a file, a text, a tick, and so on
+abbrev pub file_of : Value → Option (List ℕ)
+file_of (File name) = Some name
+file_of _ = None
+
+abbrev pub text_of : Value → Option (List ℕ)
+text_of (Text text) = Some text
+text_of _ = None
 
 abbrev pub scale_of : Value → Option ℕ
 scale_of (Scale scale) = Some scale
@@ -43,13 +47,18 @@ abbrev pub tracks_of : Value → Option Select
 tracks_of (Tracks select) = Some select
 tracks_of _ = None
 
+-- what it says of a track, with the track
 abbrev pub delay_of : Value → Option (ℕ × ℤ)
 delay_of (TrackDelay id delay) = Some (id, delay)
 delay_of _ = None
 
-abbrev pub track_name_of : Value → Option (ℕ × List ℕ)
-track_name_of (TrackName id name) = Some (id, name)
-track_name_of _ = None
+abbrev pub track_text_of : Value → Option (ℕ × List ℕ)
+track_text_of (TrackText id text) = Some (id, text)
+track_text_of _ = None
+
+abbrev pub track_language_of : Value → Option (ℕ × List ℕ)
+track_language_of (TrackLanguage id language) = Some (id, language)
+track_language_of _ = None
 
 abbrev pub track_flag_of : Value → Option (ℕ × Bool)
 track_flag_of (TrackFlag id flag) = Some (id, flag)
@@ -59,9 +68,18 @@ abbrev pub track_cues_of : Value → Option (ℕ × CueWord)
 track_cues_of (TrackCues id cues) = Some (id, cues)
 track_cues_of _ = None
 
-abbrev pub name_in : Subject → List Item → Option (List ℕ)
-name_in subject items = option_and_then name_of (value_in subject items)
+abbrev pub track_file_of : Value → Option (ℕ × List ℕ)
+track_file_of (TrackFile id name) = Some (id, name)
+track_file_of _ = None
 
--- the values of the items that are about this
+-- the name of a file that the item about this has
+abbrev pub file_in : Subject → List Item → Option (List ℕ)
+file_in subject items = option_and_then file_of (value_in subject items)
+
+-- an item's value, where it is about this
 abbrev pub value_about : Subject → Item → Option Value
 value_about subject i = if same i.subject subject then Some i.value else None
+
+-- what the items say that are about this, in their order
+abbrev pub said_about : {X : Type 0} → (Value → Option X) → Subject → List Item → List X
+said_about read subject items = filter_map (λ i. option_and_then read (value_about subject i)) items

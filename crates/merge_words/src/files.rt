@@ -1,7 +1,6 @@
 //! What the items of a merge say of each file.
 
-ghost use Rattle.std.specs.Prelude.{◌≡◌, ◌==◌, if◌then◌else◌, [], ◌∷◌, ◌++◌, IfOk, OnOk};
-ghost use Rattle.std.specs.List.{list_any};
+ghost use Rattle.std.specs.Prelude.{◌≡◌, [], ◌∷◌, IfOk, OnOk};
 ghost use Rattle.merge_words.specs.Files as spec;
 
 use crate::item::{Item, stands, track_in};
@@ -123,12 +122,12 @@ fn choice_in(alloc: Global, items: &[Item]) -> Result<Choice, AllocError>
 }
 
 fn texts_in(alloc: Global, items: &[Item]) -> Result<Texts, AllocError>
-    ensures { IfOk result (λ t. t ≡ record { names = spec.names_in Subject.TrackName items.now; languages = spec.names_in Subject.Language items.now; times = spec.names_in Subject.Times items.now }) }
+    ensures { IfOk result (λ t. t ≡ record { names = spec.names_in items.now; languages = spec.languages_in items.now; times = spec.times_in items.now }) }
 {
     Ok(Texts {
-        names: names_in(alloc, Subject::TrackName, items)?,
-        languages: names_in(alloc, Subject::Language, items)?,
-        times: names_in(alloc, Subject::Times, items)?,
+        names: names_in(alloc, items)?,
+        languages: languages_in(alloc, items)?,
+        times: times_in(alloc, items)?,
     })
 }
 
@@ -147,7 +146,7 @@ fn file_name(alloc: Global, value: &Value) -> Result<Text, AllocError>
     ensures { IfOk result (λ name. name ≡ spec.file_name value.now) }
 {
     match value {
-        Value::Name(word) => name(alloc, word.as_str()),
+        Value::File(word) => name(alloc, word.as_str()),
         _ => Ok(Text::new(alloc)),
     }
 }
@@ -182,25 +181,51 @@ fn delays_in(alloc: Global, items: &[Item]) -> Result<List<(u64, i64)>, AllocErr
 {
     let mut list = List::new(alloc);
     for item in items {
-        if let Value::TrackDelay(id, delay) = &item.value {
-            list.push((*id, *delay))?;
+        if item.subject.is(Subject::Sync) {
+            if let Value::TrackDelay(id, delay) = &item.value {
+                list.push((*id, *delay))?;
+            }
         }
     }
     Ok(list)
 }
 
-fn names_in(
-    alloc: Global,
-    subject: Subject,
-    items: &[Item],
-) -> Result<List<(u64, Text)>, AllocError>
-    ensures { IfOk result (λ list. list ≡ spec.names_in subject items.now) }
+fn names_in(alloc: Global, items: &[Item]) -> Result<List<(u64, Text)>, AllocError>
+    ensures { IfOk result (λ list. list ≡ spec.names_in items.now) }
 {
     let mut list = List::new(alloc);
     for item in items {
-        if item.subject.is(subject) {
-            if let Value::TrackName(id, word) = &item.value {
+        if item.subject.is(Subject::TrackName) {
+            if let Value::TrackText(id, text) = &item.value {
+                list.push((*id, name(alloc, text.as_str())?))?;
+            }
+        }
+    }
+    Ok(list)
+}
+
+fn languages_in(alloc: Global, items: &[Item]) -> Result<List<(u64, Text)>, AllocError>
+    ensures { IfOk result (λ list. list ≡ spec.languages_in items.now) }
+{
+    let mut list = List::new(alloc);
+    for item in items {
+        if item.subject.is(Subject::Language) {
+            if let Value::TrackLanguage(id, word) = &item.value {
                 list.push((*id, name(alloc, word.as_str())?))?;
+            }
+        }
+    }
+    Ok(list)
+}
+
+fn times_in(alloc: Global, items: &[Item]) -> Result<List<(u64, Text)>, AllocError>
+    ensures { IfOk result (λ list. list ≡ spec.times_in items.now) }
+{
+    let mut list = List::new(alloc);
+    for item in items {
+        if item.subject.is(Subject::Times) {
+            if let Value::TrackFile(id, file) = &item.value {
+                list.push((*id, name(alloc, file.as_str())?))?;
             }
         }
     }
@@ -230,41 +255,42 @@ fn cues_in(alloc: Global, items: &[Item]) -> Result<List<(u64, CueWord)>, AllocE
 {
     let mut list = List::new(alloc);
     for item in items {
-        if let Value::TrackCues(id, cues) = &item.value {
-            list.push((*id, *cues))?;
+        if item.subject.is(Subject::Cues) {
+            if let Value::TrackCues(id, cues) = &item.value {
+                list.push((*id, *cues))?;
+            }
         }
     }
     Ok(list)
 }
 
 /// The tracks that the items name, in their order, each once.
-#[tactic(auto, unfolding(crate::specs::Files::named_in))]
 fn named_in(alloc: Global, items: &[Item]) -> Result<List<u64>, AllocError>
     ensures { IfOk result (λ list. list ≡ spec.named_in items.now) }
 {
-    let mut ids = List::new(alloc);
+    let mut list = List::new(alloc);
     for item in items {
-        add_ids(&mut ids, &item.value)?;
+        add_ids(&mut list, &item.value)?;
     }
-    once(alloc, ids.as_slice())
+    Ok(list)
 }
 
-/// Adds the tracks that a value names.
+/// Adds the tracks that a value names, where they aren't there yet.
 fn add_ids(list: &mut List<u64>, value: &Value) -> Result<(), AllocError>
-    ensures { OnOk result (list.new ≡ list.old ++ spec.ids_of value.now) }
+    ensures { OnOk result (list.new ≡ spec.with_new list.old (spec.ids_of value.now)) }
 {
     match value {
         Value::Tracks(select) => add_selected(list, select),
         _ => match track_in(value) {
-            Some(id) => list.push(id),
+            Some(id) => add(list, id),
             None => Ok(()),
         },
     }
 }
 
-/// Adds the tracks that a selection names.
+/// Adds the tracks that a selection names, where they aren't there yet.
 fn add_selected(list: &mut List<u64>, select: &Select) -> Result<(), AllocError>
-    ensures { OnOk result (list.new ≡ list.old ++ spec.ids_of_select select.now) }
+    ensures { OnOk result (list.new ≡ spec.with_new list.old (spec.ids_of_select select.now)) }
 {
     match select {
         Select::These { ids } => add_all(list, ids.as_slice()),
@@ -273,29 +299,19 @@ fn add_selected(list: &mut List<u64>, select: &Select) -> Result<(), AllocError>
     }
 }
 
+/// Adds the numbers that aren't there yet.
 fn add_all(list: &mut List<u64>, ids: &[u64]) -> Result<(), AllocError>
-    ensures { OnOk result (list.new ≡ list.old ++ ids.now) }
+    ensures { OnOk result (list.new ≡ spec.with_new list.old ids.now) }
 {
     for id in ids {
-        list.push(*id)?;
+        add(list, *id)?;
     }
     Ok(())
 }
 
-/// The numbers in their order, each once.
-fn once(alloc: Global, ids: &[u64]) -> Result<List<u64>, AllocError>
-    ensures { IfOk result (λ list. list ≡ spec.once ids.now) }
-{
-    let mut list = List::new(alloc);
-    for id in ids {
-        add(&mut list, *id)?;
-    }
-    Ok(list)
-}
-
 /// Adds a number that isn't there yet.
 fn add(list: &mut List<u64>, id: u64) -> Result<(), AllocError>
-    ensures { OnOk result (list.new ≡ (if list_any (λ k. k == id) list.old then list.old else list.old ++ id ∷ [])) }
+    ensures { OnOk result (list.new ≡ spec.with_new list.old (id ∷ [])) }
 {
     if list.as_slice().contains(&id) {
         return Ok(());

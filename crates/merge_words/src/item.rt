@@ -80,7 +80,7 @@ fn file_at(alloc: Global, at: usize, word: &str, before: &[Item]) -> Result<Item
         at,
         subject: Subject::File,
         scope: Scope::Output,
-        value: Value::Name(name(alloc, word)?),
+        value: Value::File(name(alloc, word)?),
     })
 }
 
@@ -164,9 +164,11 @@ pub(crate) fn track_in(value: &Value) -> Option<u64>
 {
     match value {
         Value::TrackDelay(id, _) => Some(*id),
-        Value::TrackName(id, _) => Some(*id),
+        Value::TrackText(id, _) => Some(*id),
+        Value::TrackLanguage(id, _) => Some(*id),
         Value::TrackFlag(id, _) => Some(*id),
         Value::TrackCues(id, _) => Some(*id),
+        Value::TrackFile(id, _) => Some(*id),
         _ => None,
     }
 }

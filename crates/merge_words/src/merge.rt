@@ -1,6 +1,6 @@
 //! The words of a merge: its items, what they lack, and what they say.
 
-ghost use Rattle.std.specs.Prelude.{◌≡◌, if◌then◌else◌, length};
+ghost use Rattle.std.specs.Prelude.{◌≡◌, if◌then◌else◌};
 ghost use Rattle.merge_words.specs.Merge as spec;
 ghost use Rattle.word_values.specs.Answers.{Tells};
 ghost use Rattle.word_values.specs.Place.{texts};

@@ -6,10 +6,10 @@ ghost use Rattle.merge_words.specs.Output as spec;
 use crate::files::{FileWords, files};
 use crate::item::{Item, stands};
 use crate::options::Subject;
-use crate::said::{name_in, numbers_copy, value_in};
+use crate::said::{file_in, numbers_copy, value_in};
 use mkv_io::{List, Text};
 use std::alloc::{AllocError, Global};
-use word_values::{SplitWords, Value};
+use word_values::{SplitWords, Value, name};
 
 const DEFAULT_SCALE: u64 = 1_000_000;
 
@@ -47,8 +47,8 @@ pub(crate) fn merge_words(alloc: Global, items: &[Item]) -> Result<MergeWords, A
     Ok(MergeWords {
         output: output_in(alloc, items)?,
         webm: stands(Subject::Webm, items),
-        title: name_in(alloc, Subject::Title, items)?,
-        chapters: name_in(alloc, Subject::ChapterFile, items)?,
+        title: title_in(alloc, items)?,
+        chapters: file_in(alloc, Subject::ChapterFile, items)?,
         scale: scale_in(items),
         blocks: blocks_in(items),
         span: span_in(items),
@@ -62,9 +62,18 @@ pub(crate) fn merge_words(alloc: Global, items: &[Item]) -> Result<MergeWords, A
 fn output_in(alloc: Global, items: &[Item]) -> Result<Text, AllocError>
     ensures { IfOk result (λ name. name ≡ spec.output_in items.now) }
 {
-    match name_in(alloc, Subject::Output, items)? {
+    match file_in(alloc, Subject::Output, items)? {
         Some(output) => Ok(output),
         None => Ok(Text::new(alloc)),
+    }
+}
+
+fn title_in(alloc: Global, items: &[Item]) -> Result<Option<Text>, AllocError>
+    ensures { IfOk result (λ title. title ≡ spec.title_in items.now) }
+{
+    match value_in(Subject::Title, items) {
+        Some(Value::Text(text)) => Ok(Some(name(alloc, text.as_str())?)),
+        _ => Ok(None),
     }
 }
 

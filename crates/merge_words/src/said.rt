@@ -18,15 +18,16 @@ pub(crate) fn value_in(subject: Subject, items: &[Item]) -> Option<&Value>
     Some(&item.value)
 }
 
-pub(crate) fn name_in(
+/// The name of a file that the item about this has.
+pub(crate) fn file_in(
     alloc: Global,
     subject: Subject,
     items: &[Item],
 ) -> Result<Option<Text>, AllocError>
-    ensures { IfOk result (λ name. name ≡ spec.name_in subject items.now) }
+    ensures { IfOk result (λ name. name ≡ spec.file_in subject items.now) }
 {
     match value_in(subject, items) {
-        Some(Value::Name(word)) => Ok(Some(name(alloc, word.as_str())?)),
+        Some(Value::File(word)) => Ok(Some(name(alloc, word.as_str())?)),
         _ => Ok(None),
     }
 }

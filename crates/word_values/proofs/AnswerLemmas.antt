@@ -13,6 +13,11 @@ pub ok-else : {B : Type 0} (b : Bool) (e : Usage) (r : Result B Usage) (y : B) �
 ok-else true e r y is = absurd (cc)
 ok-else false e r y is = (refl, is)
 
+-- what is one of two things, by a test
+pub either : {A : Type 0} (P : Type 0) (b : Bool) (x y z : A) → (if b then x else y) ≡ z → (x ≡ z → P) → (y ≡ z → P) → P
+either P true x y z is one other = one is
+either P false x y z is one other = other is
+
 -- what holds of a value holds of the answer that it is
 pub ok-made : {A : Type 0} (P : A → Type 0) (x y : A) → ◌≡◌ {A = Result A Usage} (Ok x) (Ok y) → P x → P y
 ok-made P x y is holds = let same : x ≡ y = cc in subst P same holds

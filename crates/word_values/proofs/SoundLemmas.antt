@@ -1,19 +1,25 @@
 -- What is read of a word keeps its limits.
-use Rattle.std.proofs.Common.{◌≡◌, ◌<◌, ◌≤◌, ℕ, zero, suc, ◌-◌, ◌*◌, ◌^◌, min, ℤ, pos, Bool, true, false, ◌&&◌, nat_lt, nat_le, if◌then◌else◌, List, [], ◌∷◌, length, drop, Option, Some, None, IfSome, option_map, refl, subst, arith}
+use Rattle.std.proofs.Common.{◌≡◌, ◌<◌, ◌≤◌, ℕ, zero, suc, ◌+◌, ◌-◌, ◌*◌, ◌^◌, min, ℤ, pos, Bool, true, false, ◌&&◌, nat_lt, nat_le, if◌then◌else◌, List, [], ◌∷◌, length, take, drop, get_or, Option, Some, None, option_map, refl, subst, arith}
 use Rattle.std.specs.Prelude.{nat_abs, neg_ℤ, slice_index, ◌==◌, codes, All}
-use Rattle.std.specs.Str.{bytes_eq}
+use Rattle.std.specs.List.{list_any, position}
+use Rattle.std.specs.Str.{IsUtf8, bytes_eq}
 use Rattle.std.proofs.lemmas.Bool.Decides.{nat_tests}
 use Rattle.std.proofs.lemmas.List.Elements.{All-nil, All-cons}
+use Rattle.std.proofs.lemmas.List.Quantifiers.{position-Some}
+use Rattle.std.proofs.lemmas.Str.{IsUtf8-drop, IsCharBoundary-after_ascii}
 use Rattle.word_values.specs.declared.lists.SpanWords.{SpanWords}
 use Rattle.word_values.specs.declared.lists.SplitWords.{SplitWords}
 use Rattle.word_values.specs.declared.lists.SplitWords.TheVariants.{Duration, Times, Parts, AllChapters, Chapters, Size}
 use Rattle.word_values.specs.declared.values.ValueForm.{ValueForm}
 use Rattle.word_values.specs.declared.values.ValueForm.TheVariants as form
 use Rattle.word_values.specs.declared.values.Value.{Value}
-use Rattle.word_values.specs.declared.values.Value.TheVariants.{Name, Scale, Blocks, Span, Split, Uuids, Tracks, TrackDelay, TrackName, TrackFlag, TrackCues}
-use Rattle.word_values.specs.Numbers.{◌>>=◌, below, from, cut, number, delay_size, delay, ends, front, clock, whole, time, amount, times_unit, size, uuid}
+use Rattle.word_values.specs.declared.values.Value.TheVariants.{Flag, File, Text, Scale, Blocks, Span, Split, Uuids, Tracks, TrackDelay, TrackText, TrackLanguage, TrackFlag, TrackCues, TrackFile}
+use Rattle.word_values.specs.declared.lists.Select.TheVariants.{Off}
+use Rattle.mkv_io.specs.Characters.{COLON, DASH}
+use Rattle.word_values.specs.Numbers.{◌>>=◌, below, char, from, cut, number, delay_size, delay, ends, front, clock, whole, time, amount, times_unit, size, uuid}
 use Rattle.word_values.specs.Lists.{pieces, onto, each, passing, ascend, times, span_of, span, follow, spans, differ, uuids, numbers, ids, duration, chapters, split_of, split}
-use Rattle.word_values.specs.Values.{flag_of, text, language, scale, cluster_length, track_and_rest, flag_digit, flag_in, track_flag, cue_word, track_value, value_of}
+use Rattle.word_values.specs.Values.{flag_of, text, is_language, language, scale, cluster_length, track_and_rest, flag_in, track_flag, cue_word, track_value, value_of}
+use Rattle.word_values.proofs.AnswerLemmas.{either}
 use Rattle.word_values.proofs.NumbersLemmas.{whole_small}
 use Rattle.word_values.specs.Sound.{IsWithin, AreTimes, IsSpan, AreSpans, AreUuids, IsSoundSplit, IsSoundValue}
 
@@ -65,14 +71,10 @@ small-delay_size word n is = (below-is (2 ^ 55) (option_map (λ k. k * 1000000) 
 
 small-delay : (word : List ℕ) (d : ℤ) → delay word ≡ Some d → nat_abs d < 2 ^ 55
 unfolding delay
-small-delay word d is = branch (slice_index word 0 == 45) is
-  where
-    P : ℤ → Type 0
-    P z = nat_abs z < 2 ^ 55
-
-    branch : (b : Bool) → (if b then option_map (λ n. neg_ℤ (pos n)) (delay_size (drop 1 word)) else option_map pos (delay_size word)) ≡ Some d → nat_abs d < 2 ^ 55
-    branch true found = mapped (λ z. nat_abs z < 2 ^ 55) (λ n. neg_ℤ (pos n)) (delay_size (drop 1 word)) d found (λ n here. let small = small-delay_size (drop 1 word) n here in rw (abs-negative n) small)
-    branch false found = mapped (λ z. nat_abs z < 2 ^ 55) pos (delay_size word) d found (λ n here. small-delay_size word n here)
+small-delay word d is =
+    either (nat_abs d < 2 ^ 55) (slice_index word 0 == DASH) _ _ _ is
+    (λ found. mapped (λ z. nat_abs z < 2 ^ 55) (λ n. neg_ℤ (pos n)) (delay_size (drop 1 word)) d found (λ n here. let small = small-delay_size (drop 1 word) n here in rw (abs-negative n) small))
+    (λ found. mapped (λ z. nat_abs z < 2 ^ 55) pos (delay_size word) d found (small-delay_size word))
 
 -- ---- lists
 
@@ -116,7 +118,7 @@ span_of-sound (start, e ∷ es) s is =
 
 span-sound : (word : List ℕ) (s : SpanWords) → span word ≡ Some s → IsSpan s
 unfolding span
-span-sound word s is = read_then (IsSpan s) (cut 45 word) span_of s is (λ p here more. span_of-sound p s more)
+span-sound word s is = read_then (IsSpan s) (cut DASH word) span_of s is (λ p here more. span_of-sound p s more)
 
 spans-sound : (word : List ℕ) (ss : List SpanWords) → spans word ≡ Some ss → AreSpans ss
 unfolding spans
@@ -159,18 +161,13 @@ times_unit-sound unit word n grows is =
 
 size-sound : (word : List ℕ) (n : ℕ) → size word ≡ Some n → IsWithin 1 (2 ^ 64 - 1) n
 unfolding size
-size-sound word n is = branch (ends word 107) (ends word 109) (ends word 103) is
-  where
-    branch : (k m g : Bool)
-        → (if k then times_unit 1024 (amount (front word)) else if m then times_unit 1048576 (amount (front word)) else if g then times_unit 1073741824 (amount (front word)) else amount word) ≡ Some n
-        → IsWithin 1 (2 ^ 64 - 1) n
-    branch true m g found = times_unit-sound 1024 (front word) n (λ i h. omega arith) found
-    branch false true g found = times_unit-sound 1048576 (front word) n (λ i h. omega arith) found
-    branch false false true found = times_unit-sound 1073741824 (front word) n (λ i h. omega arith) found
-    branch false false false found =
-        let kept = amount-sound word n found in
-        let low = kept.least in let high = kept.most in
-        record { least = low; most = omega arith }
+size-sound word n is =
+    either (IsWithin 1 (2 ^ 64 - 1) n) (ends word (char "k")) _ _ _ is (times_unit-sound 1024 (front word) n (λ i h. omega arith)) (λ no_k.
+    either (IsWithin 1 (2 ^ 64 - 1) n) (ends word (char "m")) _ _ _ no_k (times_unit-sound 1048576 (front word) n (λ i h. omega arith)) (λ no_m.
+    either (IsWithin 1 (2 ^ 64 - 1) n) (ends word (char "g")) _ _ _ no_m (times_unit-sound 1073741824 (front word) n (λ i h. omega arith)) (λ no_g.
+    let kept = amount-sound word n no_g in
+    let low = kept.least in let high = kept.most in
+    record { least = low; most = omega arith })))
 
 duration-sound : (word : List ℕ) (s : SplitWords) → duration word ≡ Some s → IsSoundSplit s
 unfolding duration
@@ -183,122 +180,114 @@ duration-sound word s is =
 
 chapters-sound : (word : List ℕ) (s : SplitWords) → chapters word ≡ Some s → IsSoundSplit s
 unfolding chapters
-chapters-sound word s is = branch (bytes_eq word (codes "all")) is
-  where
-    branch : (b : Bool) → (if b then Some AllChapters else option_map Chapters (numbers word)) ≡ Some s → IsSoundSplit s
-    branch true found = let same : AllChapters ≡ s = cc in subst IsSoundSplit same tt
-    branch false found = mapped IsSoundSplit Chapters (numbers word) s found (λ ns here. tt)
+chapters-sound word s is =
+    either (IsSoundSplit s) (bytes_eq word (codes "all")) _ _ _ is
+    (λ found. let same : AllChapters ≡ s = cc in subst IsSoundSplit same tt)
+    (λ found. mapped IsSoundSplit Chapters (numbers word) s found (λ ns here. tt))
 
 split_of-sound : (kind rest : List ℕ) (s : SplitWords) → split_of kind rest ≡ Some s → IsSoundSplit s
 unfolding split_of
 split_of-sound kind rest s is =
-    branch (bytes_eq kind (codes "duration")) (bytes_eq kind (codes "timestamps")) (bytes_eq kind (codes "chapters")) (bytes_eq kind (codes "parts")) (bytes_eq kind (codes "size")) is
-  where
-    branch : (d t c p z : Bool)
-        → (if d then duration rest else if t then option_map Times (times rest) else if c then chapters rest else if p then option_map Parts (spans rest) else if z then option_map Size (size rest) else None) ≡ Some s
-        → IsSoundSplit s
-    branch true t c p z found = duration-sound rest s found
-    branch false true c p z found = mapped IsSoundSplit Times (times rest) s found (times-sound rest)
-    branch false false true p z found = chapters-sound rest s found
-    branch false false false true z found = mapped IsSoundSplit Parts (spans rest) s found (spans-sound rest)
-    branch false false false false true found = mapped IsSoundSplit Size (size rest) s found (size-sound rest)
-    branch false false false false false found = absurd (cc)
+    either (IsSoundSplit s) (bytes_eq kind (codes "duration")) _ _ _ is (duration-sound rest s) (λ other.
+    either (IsSoundSplit s) (bytes_eq kind (codes "timestamps")) _ _ _ other (λ found. mapped IsSoundSplit Times (times rest) s found (times-sound rest)) (λ other.
+    either (IsSoundSplit s) (bytes_eq kind (codes "chapters")) _ _ _ other (chapters-sound rest s) (λ other.
+    either (IsSoundSplit s) (bytes_eq kind (codes "parts")) _ _ _ other (λ found. mapped IsSoundSplit Parts (spans rest) s found (spans-sound rest)) (λ other.
+    either (IsSoundSplit s) (bytes_eq kind (codes "size")) _ _ _ other (λ found. mapped IsSoundSplit Size (size rest) s found (size-sound rest)) (λ never. absurd (cc))))))
 
 split-sound : (word : List ℕ) (s : SplitWords) → split word ≡ Some s → IsSoundSplit s
 unfolding split
-split-sound word s is = read_then (IsSoundSplit s) (cut 58 word) (λ p. split_of p.0 p.1) s is (λ p here more. split_of-sound p.0 p.1 s more)
+split-sound word s is = read_then (IsSoundSplit s) (cut COLON word) (λ p. split_of p.0 p.1) s is (λ p here more. split_of-sound p.0 p.1 s more)
+
+-- ---- texts
+
+text-same : (word t : List ℕ) → text word ≡ Some t → word ≡ t
+unfolding text
+text-same word t is = either (word ≡ t) (list_any (λ b. b == 0) word) _ _ _ is (λ never. absurd (cc)) (λ found. cc)
+
+language-same : (word t : List ℕ) → language word ≡ Some t → word ≡ t
+unfolding language
+language-same word t is = either (word ≡ t) (is_language word) _ _ _ is (λ found. cc) (λ never. absurd (cc))
+
+-- what stands behind a colon is a text, where all of it is
+behind-colon : (word : List ℕ) (p : List ℕ × List ℕ) → IsUtf8 word → cut COLON word ≡ Some p → IsUtf8 p.1
+unfolding cut
+behind-colon word p utf8 is =
+    mapped (λ (q : List ℕ × List ℕ). IsUtf8 q.1) (λ i. (take i word, drop (i + 1) word)) (position (λ b. b == COLON) word) p is (λ i here.
+    let at = position-Some (λ b. b == COLON) word i 0 here in
+    let colon = at.1 in
+    let low : get_or word i 0 < 128 = grind (arith, nat_tests) in
+    IsUtf8-drop word (i + 1) utf8 (IsCharBoundary-after_ascii word i utf8 at.0 low))
+
+rest-text : (word : List ℕ) (p : ℕ × List ℕ) → track_and_rest word ≡ Some p → IsUtf8 word → IsUtf8 p.1
+unfolding track_and_rest
+rest-text word p is utf8 =
+    read_then (IsUtf8 p.1) (cut COLON word) _ p is (λ q here more.
+    read_then (IsUtf8 p.1) (number q.0) _ p more (λ id there last.
+    let same : (id, q.1) ≡ p = cc in
+    let P : ℕ × List ℕ → Type 0 = λ x. IsUtf8 x.1 in
+    subst P same (behind-colon word q utf8 here)))
 
 -- ---- the value of an option
 
-scale-sound : (word : List ℕ) (v : Value) → scale word ≡ Some v → IsSoundValue v
-unfolding scale
-scale-sound word v is = mapped IsSoundValue Scale (below 10000001 (from 1000 (number word))) v is (λ n here. within 1000 10000001 (number word) n here)
+-- a text that a value has is UTF-8 where this is given; one for the whole output has no zero octet
+abbrev pub IsTextIf : Type 0 → Value → Type 0
+IsTextIf given (Text t) = (text t ≡ Some t) × (given → IsUtf8 t)
+IsTextIf given (TrackText id t) = given → IsUtf8 t
+IsTextIf given (TrackLanguage id t) = given → IsUtf8 t
+IsTextIf given _ = Unit {0}
 
-length-sound : (word : List ℕ) (v : Value) → cluster_length word ≡ Some v → IsSoundValue v
+-- what a value keeps that was read of a word, which is UTF-8 where this is given
+abbrev pub IsRead : Type 0 → Value → Type 0
+IsRead given v = IsSoundValue v × IsTextIf given v
+
+length-read : (given : Type 0) (word : List ℕ) (v : Value) → cluster_length word ≡ Some v → IsRead given v
 unfolding cluster_length
-length-sound word v is = branch (ends word 115 && ends (front word) 109) is
-  where
-    branch : (b : Bool) → (if b then option_map (λ n. Span (n * 1000000)) (below 32001 (from 100 (number (front (front word))))) else option_map Blocks (below 65536 (from 1 (number word)))) ≡ Some v → IsSoundValue v
-    branch true found =
-        mapped IsSoundValue (λ n. Span (n * 1000000)) (below 32001 (from 100 (number (front (front word))))) v found (λ n here.
-        let kept = within 100 32001 (number (front (front word))) n here in
-        let low = kept.least in let high = kept.most in
-        record { least = omega arith; most = omega arith })
-    branch false found = mapped IsSoundValue Blocks (below 65536 (from 1 (number word))) v found (λ n here. within 1 65536 (number word) n here)
+length-read given word v is =
+    either (IsRead given v) (ends word (char "s") && ends (front word) (char "m")) _ _ _ is (λ found.
+    mapped (IsRead given) (λ n. Span (n * 1000000)) (below 32001 (from 100 (number (front (front word))))) v found (λ n here.
+    let kept = within 100 32001 (number (front (front word))) n here in
+    let low = kept.least in let high = kept.most in
+    (record { least = omega arith; most = omega arith }, tt)))
+    (λ found. mapped (IsRead given) Blocks (below 65536 (from 1 (number word))) v found (λ n here. (within 1 65536 (number word) n here, tt)))
 
-flag_digit-sound : (id : ℕ) (word : List ℕ) (v : Value) → flag_digit id word ≡ Some v → IsSoundValue v
-flag_digit-sound id word v is = branch (bytes_eq word (codes "0")) (bytes_eq word (codes "1")) is
-  where
-    branch : (a b : Bool) → (if a then Some (TrackFlag id false) else if b then Some (TrackFlag id true) else None) ≡ Some v → IsSoundValue v
-    branch true b found = let same : TrackFlag id false ≡ v = cc in subst IsSoundValue same tt
-    branch false true found = let same : TrackFlag id true ≡ v = cc in subst IsSoundValue same tt
-    branch false false found = absurd (cc)
+flag_in-read : (given : Type 0) (word : List ℕ) (o : Option (ℕ × List ℕ)) (v : Value) → flag_in word o ≡ Some v → IsRead given v
+flag_in-read given word None v is = mapped (IsRead given) (λ id. TrackFlag id true) (number word) v is (λ n here. (tt, tt))
+flag_in-read given word (Some p) v is =
+    either (IsRead given v) (bytes_eq p.1 (codes "0")) _ _ _ is (λ found. let same : TrackFlag p.0 false ≡ v = cc in subst (IsRead given) same (tt, tt)) (λ other.
+    either (IsRead given v) (bytes_eq p.1 (codes "1")) _ _ _ other (λ found. let same : TrackFlag p.0 true ≡ v = cc in subst (IsRead given) same (tt, tt)) (λ never. absurd (cc)))
 
-flag_in-sound : (word : List ℕ) (o : Option (ℕ × List ℕ)) (v : Value) → flag_in word o ≡ Some v → IsSoundValue v
-flag_in-sound word None v is = mapped IsSoundValue (λ id. TrackFlag id true) (number word) v is (λ n here. tt)
-flag_in-sound word (Some p) v is = flag_digit-sound p.0 p.1 v is
-
-track_value-sound : (form : ValueForm) (id : ℕ) (rest : List ℕ) (v : Value) → track_value form id rest ≡ Some v → IsSoundValue v
+track_value-read : (given : Type 0) (form : ValueForm) (id : ℕ) (rest : List ℕ) (v : Value) → (given → IsUtf8 rest) → track_value form id rest ≡ Some v → IsRead given v
 unfolding track_value
-track_value-sound form.TrackDelay id rest v is = mapped IsSoundValue (λ t. TrackDelay id t) (delay rest) v is (small-delay rest)
-track_value-sound form.TrackText id rest v is = mapped IsSoundValue (λ t. TrackName id t) (text rest) v is (λ t here. tt)
-track_value-sound form.TrackLanguage id rest v is = mapped IsSoundValue (λ t. TrackName id t) (language rest) v is (λ t here. tt)
-track_value-sound form.TrackCues id rest v is = mapped IsSoundValue (λ t. TrackCues id t) (cue_word rest) v is (λ t here. tt)
-track_value-sound form.TrackFile id rest v is = let same : TrackName id rest ≡ v = cc in subst IsSoundValue same tt
-track_value-sound form.Flag id rest v is = absurd (cc)
-track_value-sound form.Exclusion id rest v is = absurd (cc)
-track_value-sound form.Name id rest v is = absurd (cc)
-track_value-sound form.Text id rest v is = absurd (cc)
-track_value-sound form.Scale id rest v is = absurd (cc)
-track_value-sound form.Length id rest v is = absurd (cc)
-track_value-sound form.Split id rest v is = absurd (cc)
-track_value-sound form.Uuids id rest v is = absurd (cc)
-track_value-sound form.Ids id rest v is = absurd (cc)
-track_value-sound form.TrackFlag id rest v is = absurd (cc)
+track_value-read given form.TrackDelay id rest v utf8 is = mapped (IsRead given) (λ t. TrackDelay id t) (delay rest) v is (λ t here. (small-delay rest t here, tt))
+track_value-read given form.TrackText id rest v utf8 is =
+    mapped (IsRead given) (λ t. TrackText id t) (text rest) v is (λ t here. (tt, λ all. subst IsUtf8 (text-same rest t here) (utf8 all)))
+track_value-read given form.TrackLanguage id rest v utf8 is =
+    mapped (IsRead given) (λ t. TrackLanguage id t) (language rest) v is (λ t here. (tt, λ all. subst IsUtf8 (language-same rest t here) (utf8 all)))
+track_value-read given form.TrackCues id rest v utf8 is = mapped (IsRead given) (λ t. TrackCues id t) (cue_word rest) v is (λ t here. (tt, tt))
+track_value-read given form.TrackFile id rest v utf8 is = let same : TrackFile id rest ≡ v = cc in subst (IsRead given) same (tt, tt)
+track_value-read given _ id rest v utf8 is = absurd (cc)
 
-on_track : (form : ValueForm) (word : List ℕ) (v : Value) → (track_and_rest word >>= (λ p. track_value form p.0 p.1)) ≡ Some v → IsSoundValue v
-on_track form word v is = read_then (IsSoundValue v) (track_and_rest word) (λ p. track_value form p.0 p.1) v is (λ p here more. track_value-sound form p.0 p.1 v more)
+-- What an option says with its value keeps its limits, and is a text where its word is.
+pub value_of-read : (given : Type 0) (form : ValueForm) (word : List ℕ) (v : Value) → (given → IsUtf8 word) → value_of form word ≡ Some v → IsRead given v
+unfolding value_of track_flag scale
+value_of-read given form.Flag word v utf8 is = absurd (cc)
+value_of-read given form.Exclusion word v utf8 is = absurd (cc)
+value_of-read given form.Name word v utf8 is = let same : File word ≡ v = cc in subst (IsRead given) same (tt, tt)
+value_of-read given form.Text word v utf8 is =
+    mapped (IsRead given) Text (text word) v is (λ t here.
+    let same = text-same word t here in
+    (tt, (subst (λ x. text x ≡ Some t) same here, λ all. subst IsUtf8 same (utf8 all))))
+value_of-read given form.Scale word v utf8 is = mapped (IsRead given) Scale (below 10000001 (from 1000 (number word))) v is (λ n here. (within 1000 10000001 (number word) n here, tt))
+value_of-read given form.Length word v utf8 is = length-read given word v is
+value_of-read given form.Split word v utf8 is = mapped (IsRead given) Split (split word) v is (λ s here. (split-sound word s here, tt))
+value_of-read given form.Uuids word v utf8 is = mapped (IsRead given) Uuids (uuids word) v is (λ us here. (uuids-sound word us here, tt))
+value_of-read given form.Ids word v utf8 is = mapped (IsRead given) Tracks (ids word) v is (λ s here. (tt, tt))
+value_of-read given form.TrackFlag word v utf8 is = flag_in-read given word (track_and_rest word) v is
+value_of-read given form word v utf8 is =
+    read_then (IsRead given v) (track_and_rest word) (λ p. track_value form p.0 p.1) v is (λ p here more. track_value-read given form p.0 p.1 v (λ all. rest-text word p here (utf8 all)) more)
 
--- What an option says with its value keeps its limits.
-pub value_of-sound : (form : ValueForm) (word : List ℕ) (v : Value) → value_of form word ≡ Some v → IsSoundValue v
-unfolding value_of track_flag
-value_of-sound form.Flag word v is = absurd (cc)
-value_of-sound form.Exclusion word v is = absurd (cc)
-value_of-sound form.Name word v is = let same : Name word ≡ v = cc in subst IsSoundValue same tt
-value_of-sound form.Text word v is = mapped IsSoundValue Name (text word) v is (λ t here. tt)
-value_of-sound form.Scale word v is = scale-sound word v is
-value_of-sound form.Length word v is = length-sound word v is
-value_of-sound form.Split word v is = mapped IsSoundValue Split (split word) v is (split-sound word)
-value_of-sound form.Uuids word v is = mapped IsSoundValue Uuids (uuids word) v is (uuids-sound word)
-value_of-sound form.Ids word v is = mapped IsSoundValue Tracks (ids word) v is (λ s here. tt)
-value_of-sound form.TrackFlag word v is = flag_in-sound word (track_and_rest word) v is
-value_of-sound form.TrackDelay word v is = on_track form.TrackDelay word v is
-value_of-sound form.TrackText word v is = on_track form.TrackText word v is
-value_of-sound form.TrackLanguage word v is = on_track form.TrackLanguage word v is
-value_of-sound form.TrackCues word v is = on_track form.TrackCues word v is
-value_of-sound form.TrackFile word v is = on_track form.TrackFile word v is
-
--- So does what one says without a value.
-pub flag_of-sound : (f : ValueForm) (v : Value) → flag_of f ≡ Some v → IsSoundValue v
-flag_of-sound f v is = of-some (flag_of f) v is (flags f)
-  where
-    of-some : (o : Option Value) (v : Value) → o ≡ Some v → IfSome o IsSoundValue → IsSoundValue v
-    of-some None v is sound = absurd (cc)
-    of-some (Some w) v is sound = let same : w ≡ v = cc in subst IsSoundValue same sound
-
-    flags : (f : ValueForm) → IfSome (flag_of f) IsSoundValue
-    flags form.Flag = tt
-    flags form.Exclusion = tt
-    flags form.Name = tt
-    flags form.Text = tt
-    flags form.Scale = tt
-    flags form.Length = tt
-    flags form.Split = tt
-    flags form.Uuids = tt
-    flags form.Ids = tt
-    flags form.TrackDelay = tt
-    flags form.TrackText = tt
-    flags form.TrackLanguage = tt
-    flags form.TrackFlag = tt
-    flags form.TrackCues = tt
-    flags form.TrackFile = tt
+-- What one says without a value is a flag, or that no track is taken.
+pub flag_of-is : (P : Value → Type 0) (f : ValueForm) (v : Value) → flag_of f ≡ Some v → P Flag → P (Tracks Off) → P v
+flag_of-is P form.Flag v is flag off = let same : Flag ≡ v = cc in subst P same flag
+flag_of-is P form.Exclusion v is flag off = let same : Tracks Off ≡ v = cc in subst P same off
+flag_of-is P _ v is flag off = absurd (cc)

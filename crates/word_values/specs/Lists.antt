@@ -7,11 +7,12 @@ use Rattle.word_values.specs.declared.lists.Select.TheVariants.{These, AllBut}
 use Rattle.word_values.specs.declared.lists.SpanWords.{SpanWords}
 use Rattle.word_values.specs.declared.lists.SplitWords.{SplitWords}
 use Rattle.word_values.specs.declared.lists.SplitWords.TheVariants.{Duration, Times, Parts, AllChapters, Chapters, Size}
-use Rattle.word_values.specs.Numbers.{◌>>=◌, cut, from, number, size, time, uuid}
+use Rattle.mkv_io.specs.Characters.{COLON, COMMA, DASH}
+use Rattle.word_values.specs.Numbers.{◌>>=◌, char, cut, from, number, size, time, uuid}
 
 -- what stands between the commas
 abbrev pub pieces : List ℕ → List (List ℕ)
-pieces word = slice_split (λ b. b == 44) word
+pieces word = slice_split (λ b. b == COMMA) word
 
 -- what is first, and what the others are, where all are of the form
 abbrev pub onto : {X : Type 0} → Option X → Option (List X) → Option (List X)
@@ -35,7 +36,7 @@ numbers word = each number (pieces word)
 
 -- track IDs, or `!` and the IDs that aren't meant
 unfoldable pub ids : List ℕ → Option Select
-ids word = if slice_index word 0 == 33 then option_map AllBut (numbers (drop 1 word)) else option_map These (numbers word)
+ids word = if slice_index word 0 == char "!" then option_map AllBut (numbers (drop 1 word)) else option_map These (numbers word)
 
 -- each time is above the one before
 abbrev pub ascend : List ℕ → Bool
@@ -56,7 +57,7 @@ span_of (start, e ∷ es) = do
   Some (record { start = s; end = Some t })
 
 unfoldable pub span : List ℕ → Option SpanWords
-span word = cut 45 word >>= span_of
+span word = cut DASH word >>= span_of
 
 -- a stretch without an end is the last; an end is above its start, and the others follow it
 abbrev pub ends_before : ℕ → Option ℕ → Bool → (ℕ → Bool) → Bool
@@ -101,4 +102,4 @@ split_of kind rest =
 
 -- where an output is split
 unfoldable pub split : List ℕ → Option SplitWords
-split word = cut 58 word >>= (λ p. split_of p.0 p.1)
+split word = cut COLON word >>= (λ p. split_of p.0 p.1)

@@ -1,8 +1,10 @@
 -- Numbers, times and sizes, as they are spelled in words: this project's grammar.
-use Rattle.std.specs.Prelude.{ℕ, ℤ, pos, neg_ℤ, ◌+◌, ◌-◌, ◌*◌, ◌^◌, min, Bool, ◌&&◌, ◌==◌, nat_lt, nat_le, if◌then◌else◌, List, length, take, drop, slice_index, Option, Some, None, option_map, option_and_then}
+use Rattle.std.specs.Prelude.{ℕ, ℤ, pos, neg_ℤ, ◌+◌, ◌-◌, ◌*◌, ◌^◌, min, Bool, ◌&&◌, ◌==◌, nat_lt, nat_le, if◌then◌else◌, List, length, take, drop, slice_index, codes, Option, Some, None, option_map, option_and_then}
 use Rattle.std.specs.List.{list_all, position}
 use Rattle.std.specs.Char.{is_ascii_digit, is_digit}
 use Rattle.std.specs.Str.Parse.{digits_value}
+use Prim.Native.String.{String}
+use Rattle.mkv_io.specs.Characters.{COLON, DASH, POINT}
 
 infixl 10 ◌>>=◌
 abbrev pub ◌>>=◌ : {A B : Type 0} → Option A → (A → Option B) → Option B
@@ -37,7 +39,7 @@ delay_size word = below (2 ^ 55) (option_map (λ n. n * 1000000) (number word))
 -- milliseconds with or without `-`
 unfoldable pub delay : List ℕ → Option ℤ
 delay word =
-    if slice_index word 0 == 45 then option_map (λ n. neg_ℤ (pos n)) (delay_size (drop 1 word))
+    if slice_index word 0 == DASH then option_map (λ n. neg_ℤ (pos n)) (delay_size (drop 1 word))
     else option_map pos (delay_size word)
 
 -- two digits, below 60
@@ -57,17 +59,21 @@ second_parts word (Some p) = do
   Some (n * 1000000000 + f)
 
 unfoldable pub seconds : List ℕ → Option ℕ
-seconds word = second_parts word (cut 46 word)
+seconds word = second_parts word (cut POINT word)
 
 -- H:MM:SS, or H:MM:SS.n, in nanoseconds
 unfoldable pub clock : List ℕ → Option ℕ
 clock word = do
-  h ← cut 58 word
-  m ← cut 58 h.1
+  h ← cut COLON word
+  m ← cut COLON h.1
   hours ← whole h.0
   minutes ← sixtieth m.0
   n ← seconds m.1
   Some ((hours * 3600 + minutes * 60) * 1000000000 + n)
+
+-- the octet of a text of one character
+abbrev pub char : String → ℕ
+char text = slice_index (codes text) 0
 
 -- the word ends with this octet
 abbrev pub ends : List ℕ → ℕ → Bool
@@ -80,7 +86,7 @@ front word = take (length word - 1) word
 -- H:MM:SS with or without a fraction, or digits followed by `s`; below 2^63 ns
 unfoldable pub time : List ℕ → Option ℕ
 time word =
-    below (2 ^ 63) (if ends word 115 then option_map (λ n. n * 1000000000) (whole (front word)) else clock word)
+    below (2 ^ 63) (if ends word (char "s") then option_map (λ n. n * 1000000000) (whole (front word)) else clock word)
 
 -- 1 to 12 digits, at least 1
 unfoldable pub amount : List ℕ → Option ℕ
@@ -93,9 +99,9 @@ times_unit unit = option_map (λ n. min (n * unit) (2 ^ 64 - 1))
 -- an amount, or one followed by `k`, `m` or `g` for 1024, its square or its cube
 unfoldable pub size : List ℕ → Option ℕ
 size word =
-    if ends word 107 then times_unit 1024 (amount (front word))
-    else if ends word 109 then times_unit 1048576 (amount (front word))
-    else if ends word 103 then times_unit 1073741824 (amount (front word))
+    if ends word (char "k") then times_unit 1024 (amount (front word))
+    else if ends word (char "m") then times_unit 1048576 (amount (front word))
+    else if ends word (char "g") then times_unit 1073741824 (amount (front word))
     else amount word
 
 -- a hexadecimal digit

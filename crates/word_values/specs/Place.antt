@@ -5,6 +5,7 @@ use Rattle.std.specs.declared.string.String.{String}
 use Rattle.std.specs.declared.alloc.Global.{Global}
 use Rattle.word_values.specs.declared.usage.Usage.{Usage}
 use Rattle.word_values.specs.declared.usage.Why.TheVariants.{MissingValue, ExtraWord, UnknownOption}
+use Rattle.mkv_io.specs.Characters.{DASH}
 use Rattle.word_values.specs.Answers.{wrong, ◌>>=◌}
 
 -- the octets of each word
@@ -22,7 +23,7 @@ due_at words at = due (length words) (slice_get words at)
 
 -- a word of two or more characters that begins with `-`
 abbrev pub is_option : List ℕ → Bool
-is_option word = nat_le 2 (length word) && slice_index word 0 == 45
+is_option word = nat_le 2 (length word) && slice_index word 0 == DASH
 
 -- the name of a file that is due at a number, which doesn't look like an option
 abbrev pub file_at : List (List ℕ) → ℕ → Result (List ℕ) Usage

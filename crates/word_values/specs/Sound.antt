@@ -4,7 +4,7 @@ use Rattle.word_values.specs.declared.lists.SpanWords.{SpanWords}
 use Rattle.word_values.specs.declared.lists.SplitWords.{SplitWords}
 use Rattle.word_values.specs.declared.lists.SplitWords.TheVariants.{Duration, Times, Parts, AllChapters, Chapters, Size}
 use Rattle.word_values.specs.declared.values.Value.{Value}
-use Rattle.word_values.specs.declared.values.Value.TheVariants.{Flag, Name, Scale, Blocks, Span, Split, Uuids, Tracks, TrackDelay, TrackName, TrackFlag, TrackCues}
+use Rattle.word_values.specs.declared.values.Value.TheVariants.{Scale, Blocks, Span, Split, Uuids, TrackDelay}
 use Rattle.word_values.specs.Lists.{ascend, follow, differ}
 
 -- a number stands from a least to a most one
@@ -43,15 +43,10 @@ IsSoundSplit (Size limit) = IsWithin 1 (2 ^ 64 - 1) limit
 
 -- a tick, the blocks of a Cluster, its nanoseconds and a delay keep their limits, and so do lists
 abbrev pub IsSoundValue : Value → Type 0
-IsSoundValue Flag = ⊤
-IsSoundValue (Name name) = ⊤
 IsSoundValue (Scale scale) = IsWithin 1000 10000000 scale
 IsSoundValue (Blocks blocks) = IsWithin 1 65535 blocks
 IsSoundValue (Span span) = IsWithin 100000000 32000000000 span
 IsSoundValue (Split split) = IsSoundSplit split
 IsSoundValue (Uuids uuids) = AreUuids uuids
-IsSoundValue (Tracks select) = ⊤
 IsSoundValue (TrackDelay id delay) = nat_abs delay < 2 ^ 55
-IsSoundValue (TrackName id name) = ⊤
-IsSoundValue (TrackFlag id flag) = ⊤
-IsSoundValue (TrackCues id cues) = ⊤
+IsSoundValue _ = ⊤

@@ -9,27 +9,16 @@ use Rattle.word_values.specs.declared.lists.Select.TheVariants as select
 use Rattle.word_values.specs.declared.values.ValueForm.{ValueForm}
 use Rattle.word_values.specs.declared.values.ValueForm.TheVariants as form
 use Rattle.word_values.specs.declared.values.Value.{Value}
-use Rattle.word_values.specs.declared.values.Value.TheVariants.{Flag, Name, Scale, Blocks, Span, Split, Uuids, Tracks, TrackDelay, TrackName, TrackFlag, TrackCues}
-use Rattle.word_values.specs.Numbers.{◌>>=◌, below, from, cut, number, delay, ends, front}
+use Rattle.word_values.specs.declared.values.Value.TheVariants.{Flag, File, Text, Scale, Blocks, Span, Split, Uuids, Tracks, TrackDelay, TrackText, TrackLanguage, TrackFlag, TrackCues, TrackFile}
+use Rattle.mkv_io.specs.Characters.{COLON}
+use Rattle.word_values.specs.Numbers.{◌>>=◌, below, from, char, cut, number, delay, ends, front}
 use Rattle.word_values.specs.Lists.{ids, split, uuids}
 
 -- what an option without a value says; none where a value is due
 abbrev pub flag_of : ValueForm → Option Value
 flag_of form.Flag = Some Flag
 flag_of form.Exclusion = Some (Tracks select.Off)
-flag_of form.Name = None
-flag_of form.Text = None
-flag_of form.Scale = None
-flag_of form.Length = None
-flag_of form.Split = None
-flag_of form.Uuids = None
-flag_of form.Ids = None
-flag_of form.TrackDelay = None
-flag_of form.TrackText = None
-flag_of form.TrackLanguage = None
-flag_of form.TrackFlag = None
-flag_of form.TrackCues = None
-flag_of form.TrackFile = None
+flag_of _ = None
 
 -- a word without a zero octet
 unfoldable pub text : List ℕ → Option (List ℕ)
@@ -39,6 +28,7 @@ text word = if list_any (λ b. b == 0) word then None else Some word
 abbrev pub is_language : List ℕ → Bool
 is_language word = length word == 3 && list_all is_ascii_lowercase word
 
+-- a word of three lower-case letters
 unfoldable pub language : List ℕ → Option (List ℕ)
 language word = if is_language word then Some word else None
 
@@ -49,14 +39,14 @@ scale word = option_map Scale (below 10000001 (from 1000 (number word)))
 -- 100 to 32000 milliseconds followed by `ms`, or 1 to 65535 blocks
 unfoldable pub cluster_length : List ℕ → Option Value
 cluster_length word =
-    if ends word 115 && ends (front word) 109
+    if ends word (char "s") && ends (front word) (char "m")
     then option_map (λ n. Span (n * 1000000)) (below 32001 (from 100 (number (front (front word)))))
     else option_map Blocks (below 65536 (from 1 (number word)))
 
 -- a number, and what stands behind the first `:`
 unfoldable pub track_and_rest : List ℕ → Option (ℕ × List ℕ)
 track_and_rest word = do
-  p ← cut 58 word
+  p ← cut COLON word
   id ← number p.0
   Some (id, p.1)
 
@@ -71,9 +61,11 @@ abbrev pub flag_in : List ℕ → Option (ℕ × List ℕ) → Option Value
 flag_in word None = option_map (λ id. TrackFlag id true) (number word)
 flag_in word (Some p) = flag_digit p.0 p.1
 
+-- a track and 0 or 1, or a track alone, as an option's value
 unfoldable pub track_flag : List ℕ → Option Value
 track_flag word = flag_in word (track_and_rest word)
 
+-- which blocks of a track get a cue point
 unfoldable pub cue_word : List ℕ → Option CueWord
 cue_word word =
     if bytes_eq word (codes "none") then Some cue.Never
@@ -83,35 +75,22 @@ cue_word word =
 -- what an option says of a track
 unfoldable pub track_value : ValueForm → ℕ → List ℕ → Option Value
 track_value form.TrackDelay id rest = option_map (λ t. TrackDelay id t) (delay rest)
-track_value form.TrackText id rest = option_map (λ t. TrackName id t) (text rest)
-track_value form.TrackLanguage id rest = option_map (λ t. TrackName id t) (language rest)
+track_value form.TrackText id rest = option_map (λ t. TrackText id t) (text rest)
+track_value form.TrackLanguage id rest = option_map (λ t. TrackLanguage id t) (language rest)
 track_value form.TrackCues id rest = option_map (λ t. TrackCues id t) (cue_word rest)
-track_value form.TrackFile id rest = Some (TrackName id rest)
-track_value form.Flag id rest = None
-track_value form.Exclusion id rest = None
-track_value form.Name id rest = None
-track_value form.Text id rest = None
-track_value form.Scale id rest = None
-track_value form.Length id rest = None
-track_value form.Split id rest = None
-track_value form.Uuids id rest = None
-track_value form.Ids id rest = None
-track_value form.TrackFlag id rest = None
+track_value form.TrackFile id rest = Some (TrackFile id rest)
+track_value _ id rest = None
 
 -- what an option says with this value
 unfoldable pub value_of : ValueForm → List ℕ → Option Value
 value_of form.Flag word = None
 value_of form.Exclusion word = None
-value_of form.Name word = Some (Name word)
-value_of form.Text word = option_map Name (text word)
+value_of form.Name word = Some (File word)
+value_of form.Text word = option_map Text (text word)
 value_of form.Scale word = scale word
 value_of form.Length word = cluster_length word
 value_of form.Split word = option_map Split (split word)
 value_of form.Uuids word = option_map Uuids (uuids word)
 value_of form.Ids word = option_map Tracks (ids word)
 value_of form.TrackFlag word = track_flag word
-value_of form.TrackDelay word = track_and_rest word >>= (λ p. track_value form.TrackDelay p.0 p.1)
-value_of form.TrackText word = track_and_rest word >>= (λ p. track_value form.TrackText p.0 p.1)
-value_of form.TrackLanguage word = track_and_rest word >>= (λ p. track_value form.TrackLanguage p.0 p.1)
-value_of form.TrackCues word = track_and_rest word >>= (λ p. track_value form.TrackCues p.0 p.1)
-value_of form.TrackFile word = track_and_rest word >>= (λ p. track_value form.TrackFile p.0 p.1)
+value_of track_form word = track_and_rest word >>= (λ p. track_value track_form p.0 p.1)

@@ -52,8 +52,9 @@ pub enum ValueForm {
 pub enum Value {
     /// That it stands there.
     Flag,
-    /// The name of a file, or a text.
-    Name(Text),
+    /// The name of a file.
+    File(Text),
+    Text(Text),
     Scale(u64),
     Blocks(u32),
     /// Nanoseconds.
@@ -63,9 +64,12 @@ pub enum Value {
     Tracks(Select),
     /// A track and nanoseconds.
     TrackDelay(u64, i64),
-    TrackName(u64, Text),
+    TrackText(u64, Text),
+    TrackLanguage(u64, Text),
     TrackFlag(u64, bool),
     TrackCues(u64, CueWord),
+    /// A track and the name of a file.
+    TrackFile(u64, Text),
 }
 
 /// Which blocks of a track get a cue point.
@@ -95,8 +99,8 @@ pub fn value_of(alloc: Global, form: ValueForm, word: &str) -> Result<Value, Val
 {
     match form {
         ValueForm::Flag | ValueForm::Exclusion => Err(ValueEnd::Bad),
-        ValueForm::Name => Ok(Value::Name(name(alloc, word)?)),
-        ValueForm::Text => Ok(Value::Name(text(alloc, word)?)),
+        ValueForm::Name => Ok(Value::File(name(alloc, word)?)),
+        ValueForm::Text => Ok(Value::Text(text(alloc, word)?)),
         ValueForm::Scale => scale(word.as_bytes()).ok_or(ValueEnd::Bad),
         ValueForm::Length => cluster_length(word.as_bytes()).ok_or(ValueEnd::Bad),
         ValueForm::Split => Ok(Value::Split(split(alloc, word)?)),
@@ -124,13 +128,13 @@ fn track_value(alloc: Global, form: ValueForm, id: u64, rest: &str) -> Result<Va
             let time = delay(rest.as_bytes()).ok_or(ValueEnd::Bad)?;
             Ok(Value::TrackDelay(id, time))
         }
-        ValueForm::TrackText => Ok(Value::TrackName(id, text(alloc, rest)?)),
-        ValueForm::TrackLanguage => Ok(Value::TrackName(id, language(alloc, rest)?)),
+        ValueForm::TrackText => Ok(Value::TrackText(id, text(alloc, rest)?)),
+        ValueForm::TrackLanguage => Ok(Value::TrackLanguage(id, language(alloc, rest)?)),
         ValueForm::TrackCues => {
             let cues = cue_word(rest).ok_or(ValueEnd::Bad)?;
             Ok(Value::TrackCues(id, cues))
         }
-        ValueForm::TrackFile => Ok(Value::TrackName(id, name(alloc, rest)?)),
+        ValueForm::TrackFile => Ok(Value::TrackFile(id, name(alloc, rest)?)),
         _ => Err(ValueEnd::Bad),
     }
 }

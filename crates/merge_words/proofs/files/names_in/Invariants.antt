@@ -4,4 +4,4 @@ use Rattle.merge_words.specs.Files.{names_in}
 use Rattle.merge_words.proofs.files.names_in.Given as goal
 
 abbrev pub invariant-loop-item : goal.invariant-loop-item
-invariant-loop-item l = l.list ++ names_in l.subject (drop l.item-index l.items) ≡ names_in l.subject l.items
+invariant-loop-item l = l.list ++ names_in (drop l.item-index l.items) ≡ names_in l.items

@@ -1,0 +1,7 @@
+-- What was found, and then what the items from here on say, is what all of them say.
+use Rattle.std.proofs.Common.{◌≡◌, ◌++◌, drop}
+use Rattle.merge_words.specs.Files.{times_in}
+use Rattle.merge_words.proofs.files.times_in.Given as goal
+
+abbrev pub invariant-loop-item : goal.invariant-loop-item
+invariant-loop-item l = l.list ++ times_in (drop l.item-index l.items) ≡ times_in l.items
