@@ -1,18 +1,17 @@
 -- Sections and edits, read one option and its value at a time.
-use Rattle.std.proofs.Common.{◌≡◌, ℕ, ◌+◌, List, [], ◌∷◌, ◌++◌, drop, Option, Result, Ok, Err, refl, sym, ap, ◌∙◌, arith, append_assoc}
+use Rattle.std.proofs.Common.{◌≡◌, ℕ, ◌+◌, Bool, true, false, List, [], ◌∷◌, ◌++◌, drop, Option, Result, Ok, Err, refl, sym, ap, ◌∙◌, arith, append_assoc}
 use Rattle.std.proofs.lemmas.List.{drop-drop}
 use Rattle.std.specs.Prelude.{slice_get}
 use Rattle.word_values.specs.declared.edit.Edit.{Edit}
 use Rattle.word_values.specs.declared.edit.Change.{Change}
 use Rattle.word_values.specs.declared.edit.Selector.{Selector}
 use Rattle.word_values.specs.declared.usage.Usage.{Usage}
-use Rattle.mkv_args.specs.declared.propedit.Step.{Step}
 use Rattle.mkv_args.specs.declared.propedit.Saying.{Saying}
 use Rattle.mkv_args.specs.declared.propedit.Saying.TheVariants as says
 use Rattle.word_values.specs.declared.usage.ArgsEnd.{ArgsEnd}
 use Rattle.word_values.specs.declared.usage.ArgsEnd.TheVariants as args_end
 use Rattle.word_values.specs.Answers.{Tells, ◌>>=◌}
-use Rattle.mkv_args.specs.Propedit.{Pair, pairs, said, all_said, edits_in, step_of}
+use Rattle.mkv_args.specs.Propedit.{Pair, pairs, said, all_said, edits_in}
 use Rattle.word_values.proofs.PlaceLemmas.{next_is}
 
 -- an option and its value
@@ -20,8 +19,8 @@ abbrev pair : ℕ → List ℕ → Option (List ℕ) → Pair
 pair at w value = record { at = at; option = w; value = value }
 
 -- the edits so far, and those that the words from a number on say
-abbrev pub edits_from : ℕ → List Edit → Selector → Option Step → ℕ → List (List ℕ) → Result (List Edit) Usage
-edits_from count list place before at ws = all_said count before (pairs at (drop at ws)) >>= (λ all. Ok (list ++ edits_in place all))
+abbrev pub edits_from : ℕ → List Edit → Selector → Bool → ℕ → List (List ℕ) → Result (List Edit) Usage
+edits_from count list place edited at ws = all_said count edited (pairs at (drop at ws)) >>= (λ all. Ok (list ++ edits_in place all))
 
 pairs_more : (at : ℕ) (w : List ℕ) (rest : List (List ℕ)) → pairs at (w ∷ rest) ≡ pair at w (slice_get rest 0) ∷ pairs (at + 2) (drop 1 rest)
 pairs_more at w [] = refl
@@ -45,17 +44,17 @@ change_first : (list : List Edit) (place : Selector) (change : Change) (name val
 change_first list place change name value (Ok more) = ap Ok (sym (append_assoc list (record { place = place; change = change; name = name; value = value } ∷ []) (edits_in place more)))
 change_first list place change name value (Err e) = refl
 
-module _ (count : ℕ) (list : List Edit) (place : Selector) (before : Option Step) (at : ℕ) (w : List ℕ) (ws : List (List ℕ)) (here : drop at ws ≡ w ∷ drop (at + 1) ws) where
+module _ (count : ℕ) (list : List Edit) (place : Selector) (edited : Bool) (at : ℕ) (w : List ℕ) (ws : List (List ℕ)) (here : drop at ws ≡ w ∷ drop (at + 1) ws) where
   -- a section that may stand
-  pub section_next : (next : Selector) → said count before (pair at w (slice_get ws (at + 1))) ≡ Ok (says.Section next) → edits_from count list place before at ws ≡ edits_from count list next (step_of w) (at + 2) ws
-  section_next next is = rw (pairs_at at w ws here, is) (section_first list place next (all_said count (step_of w) (pairs (at + 2) (drop (at + 2) ws))))
+  pub section_next : (next : Selector) → said count edited (pair at w (slice_get ws (at + 1))) ≡ Ok (says.Section next) → edits_from count list place edited at ws ≡ edits_from count list next false (at + 2) ws
+  section_next next is = rw (pairs_at at w ws here, is) (section_first list place next (all_said count false (pairs (at + 2) (drop (at + 2) ws))))
 
   -- an edit that may stand
-  pub change_next : (change : Change) (name value : List ℕ) → said count before (pair at w (slice_get ws (at + 1))) ≡ Ok (says.Change change name value)
-      → edits_from count list place before at ws ≡ edits_from count (list ++ record { place = place; change = change; name = name; value = value } ∷ []) place (step_of w) (at + 2) ws
-  change_next change name value is = rw (pairs_at at w ws here, is) (change_first list place change name value (all_said count (step_of w) (pairs (at + 2) (drop (at + 2) ws))))
+  pub change_next : (change : Change) (name value : List ℕ) → said count edited (pair at w (slice_get ws (at + 1))) ≡ Ok (says.Change change name value)
+      → edits_from count list place edited at ws ≡ edits_from count (list ++ record { place = place; change = change; name = name; value = value } ∷ []) place true (at + 2) ws
+  change_next change name value is = rw (pairs_at at w ws here, is) (change_first list place change name value (all_said count true (pairs (at + 2) (drop (at + 2) ws))))
 
   -- what is wrong
-  pub edits_fail : (end : ArgsEnd) → Tells {X = Saying} (Err end) (said count before (pair at w (slice_get ws (at + 1)))) → Tells {X = List Edit} (Err end) (edits_from count list place before at ws)
+  pub edits_fail : (end : ArgsEnd) → Tells {X = Saying} (Err end) (said count edited (pair at w (slice_get ws (at + 1)))) → Tells {X = List Edit} (Err end) (edits_from count list place edited at ws)
   edits_fail (args_end.Usage usage) is = rw (pairs_at at w ws here, is) refl
   edits_fail args_end.Memory is = tt

@@ -1,8 +1,8 @@
 -- A command that words ask for keeps its limits.
-use Rattle.std.proofs.Common.{◌≡◌, ◌≢◌, ◌<◌, ◌≤◌, ℕ, zero, suc, ◌+◌, Bool, true, false, ◌||◌, ◌&&◌, nat_lt, if◌then◌else◌, List, [], ◌∷◌, ◌++◌, length, length-append, drop, Option, Some, None, option_map, Result, Ok, Err, refl, sym, ◌∙◌, subst, arith}
+use Rattle.std.proofs.Common.{◌≡◌, ◌≢◌, ◌<◌, ◌≤◌, ℕ, zero, suc, ◌+◌, Bool, true, false, ◌||◌, ◌&&◌, nat_lt, List, [], ◌∷◌, ◌++◌, length, length-append, drop, Option, Some, None, Result, Ok, Err, refl, sym, ◌∙◌, subst, arith}
 use Rattle.std.specs.Prelude.{slice_get, is_none, codes, All, IfOk}
 use Rattle.std.specs.List.{list_any}
-use Rattle.std.specs.Str.{bytes_eq}
+use Rattle.std.specs.Str.{IsUtf8, bytes_eq}
 use Rattle.std.proofs.lemmas.Bool.Decides.{nat_tests}
 use Rattle.std.proofs.lemmas.Slice.Eq.{bytes_eq-Decides}
 use Rattle.std.proofs.lemmas.List.Elements.{All-nil, All-cons, All-append}
@@ -17,17 +17,18 @@ use Rattle.word_values.specs.declared.edit.Change.TheVariants.{Set, Add, Delete}
 use Rattle.word_values.specs.declared.edit.Selector.{Selector}
 use Rattle.word_values.specs.declared.edit.Selector.TheVariants as selector_is
 use Rattle.word_values.specs.declared.usage.ArgsEnd.{ArgsEnd}
-use Rattle.word_values.specs.declared.usage.Why.TheVariants.{MissingValue, UnknownOption, BadValue, ExtraWord}
-use Rattle.word_values.specs.Answers.{Tells, wrong, ◌>>=◌}
+use Rattle.word_values.specs.Answers.{Tells, ◌>>=◌}
 use Rattle.word_values.specs.Numbers.{below, from, number, cut}
 use Rattle.word_values.specs.Place.{due, due_at, file_at, end_at, is_option}
 use Rattle.word_values.specs.Values.{track_and_rest}
 use Rattle.word_values.specs.Sound.{IsWithin}
-use Rattle.word_values.proofs.AnswerLemmas.{ok-then, ok-else, ok-made}
+use Rattle.word_values.proofs.AnswerLemmas.{either, ok-then, ok-else, ok-made}
 use Rattle.word_values.proofs.SoundLemmas.{mapped, below-is, from-is}
 use Rattle.merge_words.specs.Merge.{merged}
 use Rattle.merge_words.specs.Options.{meaning_of}
-use Rattle.merge_words.proofs.SoundLemmas.{merged-sound}
+use Rattle.merge_words.specs.declared.output.MergeWords.{MergeWords}
+use Rattle.merge_words.specs.Texts.{AreTexts}
+use Rattle.merge_words.proofs.SoundLemmas.{merged-sound, merged-texts, read_value-is}
 use Rattle.mkv_args.specs.declared.command.Command.{Command}
 use Rattle.mkv_args.specs.declared.command.Command.TheVariants as command_is
 use Rattle.mkv_args.specs.declared.commands.Verb.{Verb}
@@ -36,15 +37,16 @@ use Rattle.mkv_args.specs.declared.extract.Mode.{Mode}
 use Rattle.mkv_args.specs.declared.extract.Mode.TheVariants as mode
 use Rattle.mkv_args.specs.declared.propedit.Step.{Step}
 use Rattle.mkv_args.specs.declared.propedit.Step.TheVariants as step
-use Rattle.mkv_args.specs.declared.propedit.TheConstants.{VIDEO_TRACK, AUDIO_TRACK, SUBTITLE_TRACK, EQUALS}
+use Rattle.mkv_args.specs.declared.propedit.TheConstants.{VIDEO_TRACK, AUDIO_TRACK, SUBTITLE_TRACK}
+use Rattle.mkv_io.specs.Characters.{EQUALS}
 use Rattle.mkv_args.specs.declared.propedit.Saying.{Saying}
 use Rattle.mkv_args.specs.declared.propedit.Saying.TheVariants as says
 use Rattle.mkv_args.specs.Entry.{meant}
 use Rattle.mkv_args.specs.Commands.{commands}
 use Rattle.mkv_args.specs.Extract.{is_taken, target_of, target, targets_from, targets, tracks_by, tracks, simple, chapters, listed, modes, job_of, job, extract}
-use Rattle.mkv_args.specs.Propedit.{place, typed, begins, track, selector, step_of, Pair, pairs, may_follow, may_end, following, changed, meaning, valued, saying_at, said, all_said, edits_in, edits, propedit}
-use Rattle.mkv_args.specs.Merge.{beside, identified, identify, is_word, merged_by, merge}
-use Rattle.mkv_args.specs.Words.{only_file, alone, info, recover, reindex, count_at, blocks_at, generate, command_named, first_command, is_short_help, helped, help_or, command}
+use Rattle.mkv_args.specs.Propedit.{place, typed, begins, track, selector, step_of, Pair, pairs, following, changed, meaning, said, is_edit, all_said, edits_in, section_behind, first_section, edits, propedit}
+use Rattle.mkv_args.specs.Merge.{beside, identified, identify, is_word, merge}
+use Rattle.mkv_args.specs.Words.{only_file, alone, info, recover, reindex, blocks_at, generate, command_named, first_command, is_short_help, helped, help_or, command}
 use Rattle.mkv_args.specs.Sound.{names_of, AreTargets, IsSoundJob, IsSoundPlace, AreEdits, IsSound}
 use Rattle.mkv_io.specs.Names.{AreOthers, AreApart}
 
@@ -122,12 +124,10 @@ tracks_by-sound f words start j is =
 
 tracks-sound : (words : List (List ℕ)) (j : Job) → tracks words ≡ Ok j → IsSoundJob j
 unfolding tracks
-tracks-sound words j is = ok-then (IsSoundJob j) (due_at words 3) _ j is (λ word here more. split (bytes_eq word (codes "--raw")) (bytes_eq word (codes "--fullraw")) word more)
-  where
-    split : (a b : Bool) (word : List ℕ) → (if a then tracks_by form.Raw words 4 else if b then tracks_by form.Full words 4 else if is_option word then wrong 3 UnknownOption else tracks_by form.ByCodec words 3) ≡ Ok j → IsSoundJob j
-    split true b word found = tracks_by-sound form.Raw words 4 j found
-    split false true word found = tracks_by-sound form.Full words 4 j found
-    split false false word found = tracks_by-sound form.ByCodec words 3 j (ok-else (is_option word) _ _ j found).1
+tracks-sound words j is = ok-then (IsSoundJob j) (due_at words 3) _ j is (λ word here more.
+    either (IsSoundJob j) (bytes_eq word (codes "--raw")) _ _ _ more (tracks_by-sound form.Raw words 4 j) (λ other.
+    either (IsSoundJob j) (bytes_eq word (codes "--fullraw")) _ _ _ other (tracks_by-sound form.Full words 4 j) (λ other.
+    tracks_by-sound form.ByCodec words 3 j (ok-else (is_option word) _ _ j other).1)))
 
 simple-sound : (words : List (List ℕ)) (j : Job) → simple words ≡ Ok j → IsSoundJob j
 simple-sound words j is =
@@ -135,12 +135,9 @@ simple-sound words j is =
 
 chapters-sound : (words : List (List ℕ)) (j : Job) → chapters words ≡ Ok j → IsSoundJob j
 unfolding chapters
-chapters-sound words j is = ok-then (IsSoundJob j) (due_at words 3) _ j is (λ word here more. split (bytes_eq word (codes "--simple")) (is_option word) more)
-  where
-    split : (a b : Bool) → (if a then simple words else if b then wrong 3 UnknownOption else wrong 3 BadValue) ≡ Ok j → IsSoundJob j
-    split true b found = simple-sound words j found
-    split false true found = absurd (cc)
-    split false false found = absurd (cc)
+chapters-sound words j is = ok-then (IsSoundJob j) (due_at words 3) _ j is (λ word here more.
+    either (IsSoundJob j) (bytes_eq word (codes "--simple")) _ _ _ more (simple-sound words j) (λ other.
+    either (IsSoundJob j) (is_option word) _ _ _ other (λ never. absurd (cc)) (λ never. absurd (cc))))
 
 listed-sound : (least : ℕ) (make : List Target → Job) (words : List (List ℕ)) (j : Job) → ((list : List Target) → AreTargets least list → IsSoundJob (make list)) → listed make (targets least words 3) ≡ Ok j → IsSoundJob j
 listed-sound least make words j keeps is =
@@ -159,14 +156,6 @@ job-sound : (word : List ℕ) (words : List (List ℕ)) (j : Job) → job word w
 unfolding job
 job-sound word words j is = job_of-sound (meant modes word) words j is
 
-extract-sound : (words : List (List ℕ)) (c : Command) → extract words ≡ Ok c → IsSound c
-unfolding extract
-extract-sound words c is =
-    ok-then (IsSound c) (file_at words 1) _ c is (λ file here more.
-    ok-then (IsSound c) (due_at words 2) _ c more (λ word there others.
-    ok-then (IsSound c) (job word words) _ c others (λ j asked last.
-    ok-made IsSound (command_is.Extract file j) c last (job-sound word words j asked))))
-
 -- ---- what is changed
 
 place-sound : (word : List ℕ) (n : ℕ) → place word ≡ Some n → 1 ≤ n
@@ -179,195 +168,192 @@ typed-sound kind word s is = mapped IsSoundPlace (λ n. selector_is.Typed kind n
 
 track-sound : (word : List ℕ) (s : Selector) → track word ≡ Some s → IsSoundPlace s
 unfolding track
-track-sound word s is = split (begins (codes "v") word) (begins (codes "a") word) (begins (codes "s") word) (begins (codes "=") word) (begins (codes "@") word) is
-  where
-    split : (v a t u n : Bool)
-        → (if v then typed VIDEO_TRACK (drop 1 word) else if a then typed AUDIO_TRACK (drop 1 word) else if t then typed SUBTITLE_TRACK (drop 1 word) else if u then option_map selector_is.Uid (number (drop 1 word))
-        else if n then option_map selector_is.Number (number (drop 1 word)) else option_map selector_is.Nth (place word)) ≡ Some s → IsSoundPlace s
-    split true a t u n found = typed-sound VIDEO_TRACK (drop 1 word) s found
-    split false true t u n found = typed-sound AUDIO_TRACK (drop 1 word) s found
-    split false false true u n found = typed-sound SUBTITLE_TRACK (drop 1 word) s found
-    split false false false true n found = mapped IsSoundPlace selector_is.Uid (number (drop 1 word)) s found (λ k here. tt)
-    split false false false false true found = mapped IsSoundPlace selector_is.Number (number (drop 1 word)) s found (λ k here. tt)
-    split false false false false false found = mapped IsSoundPlace selector_is.Nth (place word) s found (place-sound word)
+track-sound word s is =
+    either (IsSoundPlace s) (begins (codes "v") word) _ _ _ is (typed-sound VIDEO_TRACK (drop 1 word) s) (λ other.
+    either (IsSoundPlace s) (begins (codes "a") word) _ _ _ other (typed-sound AUDIO_TRACK (drop 1 word) s) (λ other.
+    either (IsSoundPlace s) (begins (codes "s") word) _ _ _ other (typed-sound SUBTITLE_TRACK (drop 1 word) s) (λ other.
+    either (IsSoundPlace s) (begins (codes "=") word) _ _ _ other (λ found. mapped IsSoundPlace selector_is.Uid (number (drop 1 word)) s found (λ k here. tt)) (λ other.
+    either (IsSoundPlace s) (begins (codes "@") word) _ _ _ other (λ found. mapped IsSoundPlace selector_is.Number (number (drop 1 word)) s found (λ k here. tt)) (λ other.
+    mapped IsSoundPlace selector_is.Nth (place word) s other (place-sound word))))))
 
 selector-sound : (word : List ℕ) (s : Selector) → selector word ≡ Some s → IsSoundPlace s
 unfolding selector
-selector-sound word s is = split (bytes_eq word (codes "info")) (begins (codes "track:") word) is
-  where
-    split : (a b : Bool) → (if a then Some selector_is.Info else if b then track (drop 6 word) else None) ≡ Some s → IsSoundPlace s
-    split true b found = let same : selector_is.Info ≡ s = cc in subst IsSoundPlace same tt
-    split false true found = track-sound (drop 6 word) s found
-    split false false found = absurd (cc)
+selector-sound word s is =
+    either (IsSoundPlace s) (bytes_eq word (codes "info")) _ _ _ is (λ found. let same : selector_is.Info ≡ s = cc in subst IsSoundPlace same tt) (λ other.
+    either (IsSoundPlace s) (begins (codes "track:") word) _ _ _ other (track-sound (drop 6 word) s) (λ never. absurd (cc)))
 
 -- a section that is said is sound
 abbrev IsSoundSaying : Saying → Type 0
 IsSoundSaying (says.Section place) = IsSoundPlace place
 IsSoundSaying (says.Change change name value) = Unit {0}
 
-abbrev is_change : Saying → Bool
-is_change (says.Section place) = false
-is_change (says.Change change name value) = true
+changed-sound : (change : Change) (word : List ℕ) (y : Saying) → changed change word ≡ Some y → IsSoundSaying y
+changed-sound change word y is = mapped IsSoundSaying (λ (p : List ℕ × List ℕ). says.Change change p.0 p.1) (cut EQUALS word) y is (λ p here. tt)
 
--- what is said keeps that, and is an edit where the option is one
-record IsSaid (o : Option Step) (y : Saying) : Type 0 where
-  sound : IsSoundSaying y
-  kind : is_change y ≡ may_end o
+meaning-sound : (s : Step) (word : List ℕ) (y : Saying) → meaning s word ≡ Some y → IsSoundSaying y
+meaning-sound step.Section word y is = mapped IsSoundSaying says.Section (selector word) y is (selector-sound word)
+meaning-sound (step.Edit Delete) word y is = let same : says.Change Delete word [] ≡ y = cc in subst IsSoundSaying same tt
+meaning-sound (step.Edit Set) word y is = changed-sound Set word y is
+meaning-sound (step.Edit Add) word y is = changed-sound Add word y is
 
-changed-said : (change : Change) (word : List ℕ) (y : Saying) → changed change word ≡ Some y → IsSaid (Some (step.Edit change)) y
-changed-said change word y is = mapped (IsSaid (Some (step.Edit change))) (λ (p : List ℕ × List ℕ). says.Change change p.0 p.1) (cut EQUALS word) y is (λ p here. record { sound = tt; kind = refl })
-
-meaning-said : (s : Step) (word : List ℕ) (y : Saying) → meaning s word ≡ Some y → IsSaid (Some s) y
-meaning-said step.Section word y is = mapped (IsSaid (Some step.Section)) says.Section (selector word) y is (λ p here. record { sound = selector-sound word p here; kind = refl })
-meaning-said (step.Edit Delete) word y is = let same : says.Change Delete word [] ≡ y = cc in subst (IsSaid (Some (step.Edit Delete))) same (record { sound = tt; kind = refl })
-meaning-said (step.Edit Set) word y is = changed-said Set word y is
-meaning-said (step.Edit Add) word y is = changed-said Add word y is
-
-valued-said : (at : ℕ) (s : Step) (o : Option Saying) (y : Saying) → ((x : Saying) → o ≡ Some x → IsSaid (Some s) x) → valued at o ≡ Ok y → IsSaid (Some s) y
-valued-said at s None y own is = absurd (cc)
-valued-said at s (Some x) y own is = ok-made (IsSaid (Some s)) x y is (own x refl)
-
-saying_at-said : (at : ℕ) (s : Step) (value : Option (List ℕ)) (count : ℕ) (y : Saying) → saying_at at s value count ≡ Ok y → IsSaid (Some s) y
-saying_at-said at s value count y is = ok-then (IsSaid (Some s) y) (due count value) _ y is (λ word here more. valued-said at s (meaning s word) y (meaning-said s word) more)
-
-following-is : (at : ℕ) (before o : Option Step) (s : Step) → following at before o ≡ Ok s → Some s ≡ o
-following-is at before None s is = absurd (cc)
-following-is at before (Some x) s is = choose (may_follow before x) is
-  where
-    choose : (b : Bool) → (if b then Ok x else wrong at UnknownOption) ≡ Ok s → Some s ≡ Some x
-    choose true found = cc
-    choose false found = absurd (cc)
-
-pair-said : (count : ℕ) (before : Option Step) (p : Pair) (y : Saying) → said count before p ≡ Ok y → IsSaid (step_of p.option) y
-pair-said count before p y is =
-    ok-then (IsSaid (step_of p.option) y) (following p.at before (step_of p.option)) _ y is (λ s here more.
-    subst (λ o. IsSaid o y) (following-is p.at before (step_of p.option) s here) (saying_at-said (p.at + 1) s p.value count y more))
+pair-sound : (count : ℕ) (edited : Bool) (p : Pair) (y : Saying) → said count edited p ≡ Ok y → IsSoundSaying y
+pair-sound count edited p y is =
+    ok-then (IsSoundSaying y) (following p.at edited (step_of p.option)) _ y is (λ s here more.
+    ok-then (IsSoundSaying y) (due count p.value) _ y more (λ word there last. meaning-sound s word y (read_value-is (p.at + 1) (meaning s word) y last)))
 
 abbrev HavePlaces : List Edit → Type 0
 HavePlaces list = All (λ (e : Edit). IsSoundPlace e.place) list
 
 -- the edits are sound, and there is one where none was said before
-record AreKept (place : Selector) (before : Option Step) (all : List Saying) : Type 0 where
+record AreKept (place : Selector) (edited : Bool) (all : List Saying) : Type 0 where
   places : HavePlaces (edits_in place all)
-  some : may_end before ≡ false → 0 < length (edits_in place all)
+  some : edited ≡ false → 0 < length (edits_in place all)
 
-all_said-kept : (count : ℕ) (before : Option Step) (ps : List Pair) (place : Selector) (all : List Saying) → IsSoundPlace place → all_said count before ps ≡ Ok all → AreKept place before all
-all_said-kept count before [] place all sound is = choose (may_end before) refl is
+all_said-kept : (count : ℕ) (edited : Bool) (ps : List Pair) (place : Selector) (all : List Saying) → IsSoundPlace place → all_said count edited ps ≡ Ok all → AreKept place edited all
+all_said-kept count true [] place all sound is =
+    ok-made (AreKept place true) [] all is (record { places = All-nil (λ (e : Edit). IsSoundPlace e.place); some = λ never. absurd (cc) })
+all_said-kept count false [] place all sound is = absurd (cc)
+all_said-kept count edited (p ∷ ps) place all sound is =
+    ok-then (AreKept place edited all) (said count edited p) _ all is (λ y here more.
+    ok-then (AreKept place edited all) (all_said count (is_edit y) ps) _ all more (λ rest there last.
+    ok-made (AreKept place edited) (y ∷ rest) all last (joined y rest (pair-sound count edited p y here) (λ next own. all_said-kept count (is_edit y) ps next rest own there))))
   where
-    choose : (b : Bool) → may_end before ≡ b → (if b then Ok [] else wrong count MissingValue) ≡ Ok all → AreKept place before all
-    choose true ends found = ok-made (AreKept place before) [] all found (record { places = All-nil (λ (e : Edit). IsSoundPlace e.place); some = λ never. absurd (let both : true ≡ false = sym ends ∙ never in cc) })
-    choose false ends found = absurd (cc)
-all_said-kept count before (p ∷ ps) place all sound is =
-    ok-then (AreKept place before all) (said count before p) _ all is (λ y here more.
-    ok-then (AreKept place before all) (all_said count (step_of p.option) ps) _ all more (λ rest there last.
-    ok-made (AreKept place before) (y ∷ rest) all last (joined y rest (pair-said count before p y here) (λ next own. all_said-kept count (step_of p.option) ps next rest own there))))
-  where
-    joined : (y : Saying) (rest : List Saying) → IsSaid (step_of p.option) y → ((next : Selector) → IsSoundPlace next → AreKept next (step_of p.option) rest) → AreKept place before (y ∷ rest)
-    joined (says.Section next) rest own behind =
-        let kept = behind next own.sound in
-        record { places = kept.places; some = λ _. kept.some (sym own.kind) }
+    joined : (y : Saying) (rest : List Saying) → IsSoundSaying y → ((next : Selector) → IsSoundPlace next → AreKept next (is_edit y) rest) → AreKept place edited (y ∷ rest)
+    joined (says.Section next) rest own behind = let kept = behind next own in record { places = kept.places; some = λ _. kept.some refl }
     joined (says.Change change name value) rest own behind = record {
       places = All-cons (λ (e : Edit). IsSoundPlace e.place) (record { place = place; change = change; name = name; value = value }) (edits_in place rest) sound (behind place sound).places;
       some = λ _. omega arith;
     }
 
+section_behind-sound : (o : Option Step) (words : List (List ℕ)) (s : Selector) → section_behind o words ≡ Ok s → IsSoundPlace s
+section_behind-sound (Some step.Section) words s is =
+    ok-then (IsSoundPlace s) (due_at words 3) _ s is (λ word here more. selector-sound word s (read_value-is 3 (selector word) s more))
+section_behind-sound _ words s is = absurd (cc)
+
 edits-sound : (words : List (List ℕ)) (list : List Edit) → edits words ≡ Ok list → AreEdits list
-unfolding edits
+unfolding edits first_section
 edits-sound words list is =
-    ok-then (AreEdits list) (all_said (length words) None (pairs 2 (drop 2 words))) _ list is (λ all here more.
-    let kept = all_said-kept (length words) None (pairs 2 (drop 2 words)) selector_is.Info all tt here in
-    ok-made AreEdits (edits_in selector_is.Info all) list more (record { some = kept.some refl; each = kept.places }))
-
-propedit-sound : (words : List (List ℕ)) (c : Command) → propedit words ≡ Ok c → IsSound c
-unfolding propedit
-propedit-sound words c is =
-    ok-then (IsSound c) (file_at words 1) _ c is (λ file here more.
-    ok-then (IsSound c) (edits words) _ c more (λ list there last.
-    ok-made IsSound (command_is.Propedit file list) c last (edits-sound words list there)))
-
--- ---- the commands
-
-beside-never : (at : ℕ) (word : List ℕ) (c : Command) → beside at word ≡ Ok c → IsSound c
-unfolding beside
-beside-never at word c is = split (is_option word && is_none (meaning_of word)) is
-  where
-    split : (b : Bool) → (if b then wrong at UnknownOption else wrong at ExtraWord) ≡ Ok c → IsSound c
-    split true found = absurd (cc)
-    split false found = absurd (cc)
-
-identify-sound : (words : List (List ℕ)) (c : Command) → identify words ≡ Ok c → IsSound c
-unfolding identify
-identify-sound words c is = ok-then (IsSound c) (due_at words 2) _ c is (λ file here more. split file (bytes_eq file (codes "+") || is_option file) (slice_get words 3) more)
-  where
-    split : (file : List ℕ) (b : Bool) (o : Option (List ℕ)) → (if b then beside 2 file else identified file o) ≡ Ok c → IsSound c
-    split file true o found = beside-never 2 file c found
-    split file false None found = ok-made IsSound (command_is.Identify file) c found tt
-    split file false (Some extra) found = beside-never 3 extra c found
-
-merge-sound : (words : List (List ℕ)) (c : Command) → merge words ≡ Ok c → IsSound c
-unfolding merge
-merge-sound words c is = split (is_word (codes "-J") (slice_get words 1)) is
-  where
-    split : (b : Bool) → (if b then identify words else merged_by (merged words)) ≡ Ok c → IsSound c
-    split true found = identify-sound words c found
-    split false found = ok-then (IsSound c) (merged words) _ c found (λ w here more. ok-made IsSound (command_is.Merge w) c more (merged-sound words w here))
-
-file-sound : (make : List ℕ → Command) (words : List (List ℕ)) (c : Command) → ((file : List ℕ) → IsSound (make file)) → (only_file words >>= (λ file. Ok (make file))) ≡ Ok c → IsSound c
-file-sound make words c keeps is = ok-then (IsSound c) (only_file words) _ c is (λ file here more. ok-made IsSound (make file) c more (keeps file))
-
-alone-sound : (one c : Command) (words : List (List ℕ)) → IsSound one → alone one words ≡ Ok c → IsSound c
-unfolding alone
-alone-sound one c words sound is = ok-then (IsSound c) (end_at words 1) _ c is (λ end here more. ok-made IsSound one c more sound)
+    ok-then (AreEdits list) (first_section words) _ list is (λ place first others.
+    ok-then (AreEdits list) (all_said (length words) false (pairs 4 (drop 4 words))) _ list others (λ all here more.
+    let sound = ok-then (IsSoundPlace place) (due_at words 2) _ place first (λ word there behind. section_behind-sound (step_of word) words place behind) in
+    let kept = all_said-kept (length words) false (pairs 4 (drop 4 words)) place all sound here in
+    ok-made AreEdits (edits_in place all) list more (record { some = kept.some refl; each = kept.places })))
 
 blocks_at-sound : (words : List (List ℕ)) (at n : ℕ) → blocks_at words at ≡ Ok n → IsWithin 1 100000 n
 unfolding blocks_at
-blocks_at-sound words at n is = ok-then (IsWithin 1 100000 n) (due_at words at) _ n is (λ word here more. split (below 100001 (from 1 (number word))) (below-is 100001 (from 1 (number word))) (from-is 1 (number word)) more)
+blocks_at-sound words at n is = ok-then (IsWithin 1 100000 n) (due_at words at) _ n is (λ word here more.
+    let under = below-is 100001 (from 1 (number word)) n (read_value-is at (below 100001 (from 1 (number word))) n more) in
+    let low = (from-is 1 (number word) n under.1).0 in
+    let high = under.0 in
+    record { least = low; most = omega arith })
+
+-- ---- the commands
+
+-- what the words say that ask for a command
+abbrev IsAsked : List (List ℕ) → Command → Type 0
+IsAsked words (command_is.Merge w) = merged words ≡ Ok w
+IsAsked words (command_is.Extract file j) = (word : List ℕ) × (job word words ≡ Ok j)
+IsAsked words (command_is.Propedit file list) = edits words ≡ Ok list
+IsAsked words (command_is.Generate n prefix) = blocks_at words 1 ≡ Ok n
+IsAsked words _ = Unit {0}
+
+beside-asked : (words : List (List ℕ)) (at : ℕ) (word : List ℕ) (c : Command) → beside at word ≡ Ok c → IsAsked words c
+unfolding beside
+beside-asked words at word c is =
+    either (IsAsked words c) (is_option word && is_none (meaning_of word)) _ _ _ is (λ never. absurd (cc)) (λ never. absurd (cc))
+
+identify-asked : (words : List (List ℕ)) (c : Command) → identify words ≡ Ok c → IsAsked words c
+unfolding identify
+identify-asked words c is = ok-then (IsAsked words c) (due_at words 2) _ c is (λ file here more.
+    either (IsAsked words c) (bytes_eq file (codes "+") || is_option file) _ _ _ more (beside-asked words 2 file c) (alone file (slice_get words 3)))
   where
-    split : (o : Option ℕ) {f m : Option ℕ} → ((k : ℕ) → o ≡ Some k → (k < 100001) × (f ≡ Some k)) → ((k : ℕ) → f ≡ Some k → (1 ≤ k) × (m ≡ Some k)) → count_at at o ≡ Ok n → IsWithin 1 100000 n
-    split None under over found = absurd (cc)
-    split (Some k) under over found =
-        let small = under k refl in
-        let low = (over k small.1).0 in
-        let high = small.0 in
-        ok-made (IsWithin 1 100000) k n found (record { least = low; most = omega arith })
+    alone : (file : List ℕ) (o : Option (List ℕ)) → identified file o ≡ Ok c → IsAsked words c
+    alone file None found = ok-made (IsAsked words) (command_is.Identify file) c found tt
+    alone file (Some extra) found = beside-asked words 3 extra c found
 
-generate-sound : (words : List (List ℕ)) (c : Command) → generate words ≡ Ok c → IsSound c
+merge-asked : (words : List (List ℕ)) (c : Command) → merge words ≡ Ok c → IsAsked words c
+unfolding merge
+merge-asked words c is =
+    either (IsAsked words c) (is_word (codes "-J") (slice_get words 1)) _ _ _ is (identify-asked words c) (λ found.
+    ok-then (IsAsked words c) (merged words) _ c found (λ w here more. ok-made (IsAsked words) (command_is.Merge w) c more here))
+
+extract-asked : (words : List (List ℕ)) (c : Command) → extract words ≡ Ok c → IsAsked words c
+unfolding extract
+extract-asked words c is =
+    ok-then (IsAsked words c) (file_at words 1) _ c is (λ file here more.
+    ok-then (IsAsked words c) (due_at words 2) _ c more (λ word there others.
+    ok-then (IsAsked words c) (job word words) _ c others (λ j asked last.
+    ok-made (IsAsked words) (command_is.Extract file j) c last (word, asked))))
+
+propedit-asked : (words : List (List ℕ)) (c : Command) → propedit words ≡ Ok c → IsAsked words c
+unfolding propedit
+propedit-asked words c is =
+    ok-then (IsAsked words c) (file_at words 1) _ c is (λ file here more.
+    ok-then (IsAsked words c) (edits words) _ c more (λ list there last.
+    ok-made (IsAsked words) (command_is.Propedit file list) c last there))
+
+generate-asked : (words : List (List ℕ)) (c : Command) → generate words ≡ Ok c → IsAsked words c
 unfolding generate
-generate-sound words c is =
-    ok-then (IsSound c) (blocks_at words 1) _ c is (λ n here more.
-    ok-then (IsSound c) (due_at words 2) _ c more (λ prefix there others.
-    ok-then (IsSound c) (end_at words 3) _ c others (λ end behind last.
-    ok-made IsSound (command_is.Generate n prefix) c last (blocks_at-sound words 1 n here))))
+generate-asked words c is =
+    ok-then (IsAsked words c) (blocks_at words 1) _ c is (λ n here more.
+    ok-then (IsAsked words c) (due_at words 2) _ c more (λ prefix there others.
+    ok-then (IsAsked words c) (end_at words 3) _ c others (λ end behind last.
+    ok-made (IsAsked words) (command_is.Generate n prefix) c last here)))
 
-named-sound : (o : Option Verb) (words : List (List ℕ)) (c : Command) → command_named o words ≡ Ok c → IsSound c
+file-asked : (make : List ℕ → Command) (words : List (List ℕ)) (c : Command) → ((file : List ℕ) → IsAsked words (make file)) → (only_file words >>= (λ file. Ok (make file))) ≡ Ok c → IsAsked words c
+file-asked make words c asked is = ok-then (IsAsked words c) (only_file words) _ c is (λ file here more. ok-made (IsAsked words) (make file) c more (asked file))
+
+alone-asked : (one c : Command) (words : List (List ℕ)) → IsAsked words one → alone one words ≡ Ok c → IsAsked words c
+unfolding alone
+alone-asked one c words asked is = ok-then (IsAsked words c) (end_at words 1) _ c is (λ end here more. ok-made (IsAsked words) one c more asked)
+
+named-asked : (o : Option Verb) (words : List (List ℕ)) (c : Command) → command_named o words ≡ Ok c → IsAsked words c
 unfolding command_named info recover reindex
-named-sound None words c is = absurd (cc)
-named-sound (Some verb.Info) words c is = file-sound command_is.Info words c (λ file. tt) is
-named-sound (Some verb.Merge) words c is = merge-sound words c is
-named-sound (Some verb.Extract) words c is = extract-sound words c is
-named-sound (Some verb.Propedit) words c is = propedit-sound words c is
-named-sound (Some verb.Recover) words c is = file-sound command_is.Recover words c (λ file. tt) is
-named-sound (Some verb.Reindex) words c is = file-sound command_is.Reindex words c (λ file. tt) is
-named-sound (Some verb.Generate) words c is = generate-sound words c is
-named-sound (Some verb.Help) words c is = alone-sound (command_is.Help None) c words tt is
-named-sound (Some verb.Version) words c is = alone-sound command_is.Version c words tt is
+named-asked None words c is = absurd (cc)
+named-asked (Some verb.Info) words c is = file-asked command_is.Info words c (λ file. tt) is
+named-asked (Some verb.Merge) words c is = merge-asked words c is
+named-asked (Some verb.Extract) words c is = extract-asked words c is
+named-asked (Some verb.Propedit) words c is = propedit-asked words c is
+named-asked (Some verb.Recover) words c is = file-asked command_is.Recover words c (λ file. tt) is
+named-asked (Some verb.Reindex) words c is = file-asked command_is.Reindex words c (λ file. tt) is
+named-asked (Some verb.Generate) words c is = generate-asked words c is
+named-asked (Some verb.Help) words c is = alone-asked (command_is.Help None) c words tt is
+named-asked (Some verb.Version) words c is = alone-asked command_is.Version c words tt is
 
-first-sound : (words : List (List ℕ)) (c : Command) → first_command words ≡ Ok c → IsSound c
+first-asked : (words : List (List ℕ)) (c : Command) → first_command words ≡ Ok c → IsAsked words c
 unfolding first_command
-first-sound [] c is = absurd (cc)
-first-sound (first ∷ rest) c is = named-sound (meant commands first) (first ∷ rest) c is
+first-asked [] c is = absurd (cc)
+first-asked (first ∷ rest) c is = named-asked (meant commands first) (first ∷ rest) c is
+
+command-asked : (words : List (List ℕ)) (c : Command) → command words ≡ Ok c → IsAsked words c
+unfolding command
+command-asked words c is =
+    either (IsAsked words c) (is_short_help words) _ _ _ is (λ found. ok-made (IsAsked words) (command_is.Help None) c found tt) (helping (helped words))
+  where
+    helping : (o : Option Verb) → help_or o words ≡ Ok c → IsAsked words c
+    helping (Some verb) found = ok-made (IsAsked words) (command_is.Help (Some verb)) c found tt
+    helping None found = first-asked words c found
 
 -- A command that words ask for keeps its limits.
 pub command-sound : (words : List (List ℕ)) (c : Command) → command words ≡ Ok c → IsSound c
-unfolding command
-command-sound words c is = split (is_short_help words) (helped words) is
+command-sound words c is = sound c (command-asked words c is)
   where
-    split : (b : Bool) (o : Option Verb) → (if b then Ok (command_is.Help None) else help_or o words) ≡ Ok c → IsSound c
-    split true o found = ok-made IsSound (command_is.Help None) c found tt
-    split false (Some verb) found = ok-made IsSound (command_is.Help (Some verb)) c found tt
-    split false None found = first-sound words c found
+    sound : (c : Command) → IsAsked words c → IsSound c
+    sound (command_is.Merge w) asked = merged-sound words w asked
+    sound (command_is.Extract file j) asked = job-sound asked.0 words j asked.1
+    sound (command_is.Propedit file list) asked = edits-sound words list asked
+    sound (command_is.Generate n prefix) asked = blocks_at-sound words 1 n asked
+    sound _ asked = tt
 
 -- So does what is answered for them.
 pub told-sound : (words : List (List ℕ)) (r : Result Command ArgsEnd) → Tells r (command words) → IfOk r IsSound
 told-sound words (Ok c) is = command-sound words c is
 told-sound words (Err end) is = tt
+
+-- The merge that the words ask for is what they say.
+pub asked-merged : (words : List (List ℕ)) (w : MergeWords) → command words ≡ Ok (command_is.Merge w) → merged words ≡ Ok w
+asked-merged words w is = command-asked words (command_is.Merge w) is
+
+-- What they give to it are texts.
+pub asked-texts : (words : List (List ℕ)) (w : MergeWords) → All IsUtf8 words → command words ≡ Ok (command_is.Merge w) → AreTexts w
+asked-texts words w utf8 is = merged-texts words w utf8 (asked-merged words w is)

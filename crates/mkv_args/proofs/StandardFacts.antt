@@ -35,7 +35,7 @@ use Rattle.merge_words.specs.Merge.{complete, items, merged}
 use Rattle.mkv_args.specs.Commands.{commands as verbs}
 use Rattle.mkv_args.specs.Extract.{chapters, extract, job, job_of, modes, target, targets, tracks}
 use Rattle.mkv_args.specs.Merge.{beside, identify, merge}
-use Rattle.mkv_args.specs.Propedit.{edits, place, propedit, selector, step_of, steps, track, typed}
+use Rattle.mkv_args.specs.Propedit.{edits, first_section, place, propedit, selector, step_of, steps, track, typed}
 use Rattle.mkv_args.specs.Words.{alone, blocks_at, command, command_named, first_command, generate, info, only_file, recover, reindex}
 
 -- ---- how a row is written
@@ -167,7 +167,7 @@ pub changes : Hold (
     asks (codes "propedit f -e track:=0 -s n=v -e track:@09 -s n=v") (commands.Propedit (codes "f") (edited (Uid 0) Set (codes "n") (codes "v") ∷ edited (Number 9) Set (codes "n") (codes "v") ∷ [])) ∷
     asks (codes "propedit f -e info -s =v") (commands.Propedit (codes "f") (edited Info Set [] (codes "v") ∷ [])) ∷
     [])
-unfolding command first_command command_named verbs propedit edits steps step_of selector track typed place cut number whole
+unfolding command first_command command_named verbs propedit edits first_section steps step_of selector track typed place cut number whole
 changes = refl
 
 -- `merge`, for the whole output

@@ -1,4 +1,4 @@
--- Words that stand for something, with what `--help` shows of them. It is this project's.
+-- Words that stand for something, with what `--help` shows of them. The words, and what they stand for, are this project's.
 use Rattle.std.specs.Prelude.{ℕ, Bool, ◌&&◌, ◌||◌, nat_lt, List, length, Option, option_map}
 use Rattle.std.specs.List.{find}
 use Rattle.std.specs.Str.{bytes_eq}

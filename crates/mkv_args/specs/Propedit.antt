@@ -8,8 +8,8 @@ use Rattle.word_values.specs.declared.edit.Selector.TheVariants.{Info, Nth, Type
 use Rattle.word_values.specs.declared.edit.Change.{Change}
 use Rattle.word_values.specs.declared.edit.Change.TheVariants.{Set, Add, Delete}
 use Rattle.word_values.specs.declared.usage.Usage.{Usage}
-use Rattle.word_values.specs.declared.usage.Why.TheVariants.{MissingValue, UnknownOption, BadValue}
-use Rattle.mkv_args.specs.declared.propedit.TheConstants.{VIDEO_TRACK, AUDIO_TRACK, SUBTITLE_TRACK, EQUALS}
+use Rattle.word_values.specs.declared.usage.Why.TheVariants.{MissingValue, UnknownOption}
+use Rattle.mkv_args.specs.declared.propedit.TheConstants.{VIDEO_TRACK, AUDIO_TRACK, SUBTITLE_TRACK}
 use Rattle.mkv_args.specs.declared.propedit.Step.{Step}
 use Rattle.mkv_args.specs.declared.propedit.Step.TheVariants as step
 use Rattle.mkv_args.specs.declared.propedit.Saying.{Saying}
@@ -17,9 +17,11 @@ use Rattle.mkv_args.specs.declared.propedit.Saying.TheVariants as says
 use Rattle.mkv_args.specs.declared.command.Command.{Command}
 use Rattle.mkv_args.specs.declared.command.Command.TheVariants as command
 use Rattle.mkv_args.specs.Entry.{Entry, entry, meant}
+use Rattle.mkv_io.specs.Characters.{EQUALS}
+use Rattle.merge_words.specs.Items.{read_value}
 use Rattle.word_values.specs.Answers.{wrong, ◌>>=◌}
 use Rattle.word_values.specs.Numbers.{cut, from, number}
-use Rattle.word_values.specs.Place.{due, file_at}
+use Rattle.word_values.specs.Place.{due, due_at, file_at}
 
 -- a place, counted from 1
 unfoldable pub place : List ℕ → Option ℕ
@@ -33,7 +35,7 @@ typed kind word = option_map (λ n. Typed kind n) (place word)
 abbrev pub begins : List ℕ → List ℕ → Bool
 begins mark word = starts_with (λ a b. a == b) word mark
 
--- `n`, `vN`, `aN`, `sN`, `=UID` or `@number`
+-- `n`, the n-th track; `vN`, `aN` or `sN`, the n-th whose TrackType is video, audio or subtitle; `=UID` or `@number`
 unfoldable pub track : List ℕ → Option Selector
 track word =
     if begins (codes "v") word then typed VIDEO_TRACK (drop 1 word)
@@ -74,24 +76,15 @@ pairs at [] = []
 pairs at (o ∷ []) = record { at = at; option = o; value = None } ∷ []
 pairs at (o ∷ v ∷ ws) = record { at = at; option = o; value = Some v } ∷ pairs (at + 2) ws
 
--- a section stands first or behind an edit, an edit behind a section or an edit
-abbrev pub may_follow : Option Step → Step → Bool
-may_follow None step.Section = true
-may_follow None (step.Edit change) = false
-may_follow (Some step.Section) step.Section = false
-may_follow (Some step.Section) (step.Edit change) = true
-may_follow (Some (step.Edit earlier)) later = true
+-- a section has edits: an edit may stand behind it, and another section behind those
+abbrev pub may_follow : Bool → Step → Bool
+may_follow edited step.Section = edited
+may_follow edited (step.Edit change) = true
 
--- the words may end behind an edit
-abbrev pub may_end : Option Step → Bool
-may_end None = false
-may_end (Some step.Section) = false
-may_end (Some (step.Edit change)) = true
-
--- the option at a number, where it may stand behind the one before it
-abbrev pub following : ℕ → Option Step → Option Step → Result Step Usage
-following at before None = wrong at UnknownOption
-following at before (Some step) = if may_follow before step then Ok step else wrong at UnknownOption
+-- the option at a number, where it may stand there
+abbrev pub following : ℕ → Bool → Option Step → Result Step Usage
+following at edited None = wrong at UnknownOption
+following at edited (Some step) = if may_follow edited step then Ok step else wrong at UnknownOption
 
 -- `NAME=VALUE`, where the name ends at the first `=`
 abbrev pub changed : Change → List ℕ → Option Saying
@@ -104,29 +97,29 @@ meaning (step.Edit Delete) word = Some (says.Change Delete word [])
 meaning (step.Edit Set) word = changed Set word
 meaning (step.Edit Add) word = changed Add word
 
--- what was read of the value at a number
-abbrev pub valued : ℕ → Option Saying → Result Saying Usage
-valued at None = wrong at BadValue
-valued at (Some saying) = Ok saying
-
 -- what an option says with the value at a number, of so many words
 abbrev pub saying_at : ℕ → Step → Option (List ℕ) → ℕ → Result Saying Usage
 saying_at at step value count = do
   word ← due count value
-  valued at (meaning step word)
+  read_value at (meaning step word)
 
--- what a pair says behind the one before it
-abbrev pub said : ℕ → Option Step → Pair → Result Saying Usage
-said count before pair = do
-  step ← following pair.at before (step_of pair.option)
+-- what a pair says behind a section, of which an edit was said or not
+abbrev pub said : ℕ → Bool → Pair → Result Saying Usage
+said count edited pair = do
+  step ← following pair.at edited (step_of pair.option)
   saying_at (pair.at + 1) step pair.value count
 
--- what the pairs say, each read behind the one before it: the first that is wrong is told
-abbrev pub all_said : ℕ → Option Step → List Pair → Result (List Saying) Usage
-all_said count before [] = if may_end before then Ok [] else wrong count MissingValue
-all_said count before (p ∷ ps) = do
-  here ← said count before p
-  more ← all_said count (step_of p.option) ps
+-- an edit was said, and not a section
+abbrev pub is_edit : Saying → Bool
+is_edit (says.Section place) = false
+is_edit (says.Change change name value) = true
+
+-- what the pairs behind a section say, each read behind the one before it: the first that is wrong is told
+abbrev pub all_said : ℕ → Bool → List Pair → Result (List Saying) Usage
+all_said count edited [] = if edited then Ok [] else wrong count MissingValue
+all_said count edited (p ∷ ps) = do
+  here ← said count edited p
+  more ← all_said count (is_edit here) ps
   Ok (here ∷ more)
 
 -- the edits, each of the last section before it
@@ -135,11 +128,28 @@ edits_in place [] = []
 edits_in place (says.Section next ∷ more) = edits_in next more
 edits_in place (says.Change change name value ∷ more) = record { place = place; change = change; name = name; value = value } ∷ edits_in place more
 
--- the edits of all sections; a section is said first
+-- the section that the word with this number names
+abbrev pub section_at : List (List ℕ) → ℕ → Result Selector Usage
+section_at words at = do
+  word ← due_at words at
+  read_value at (selector word)
+
+abbrev pub section_behind : Option Step → List (List ℕ) → Result Selector Usage
+section_behind (Some step.Section) words = section_at words 3
+section_behind _ words = wrong 2 UnknownOption
+
+-- the first section, which the words behind FILE name first
+unfoldable pub first_section : List (List ℕ) → Result Selector Usage
+first_section words = do
+  option ← due_at words 2
+  section_behind (step_of option) words
+
+-- the edits of all sections
 unfoldable pub edits : List (List ℕ) → Result (List Edit) Usage
 edits words = do
-  all ← all_said (length words) None (pairs 2 (drop 2 words))
-  Ok (edits_in Info all)
+  place ← first_section words
+  all ← all_said (length words) false (pairs 4 (drop 4 words))
+  Ok (edits_in place all)
 
 -- `propedit FILE`, then sections
 unfoldable pub propedit : List (List ℕ) → Result Command Usage

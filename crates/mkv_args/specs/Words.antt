@@ -1,7 +1,7 @@
 -- The words of a command line: a command, or the first word that is wrong and why. They are this project's.
 use Rattle.std.specs.Prelude.{ℕ, Bool, ◌&&◌, if◌then◌else◌, List, [], ◌∷◌, slice_get, codes, Option, Some, None, is_none, option_and_then, Result, Ok}
 use Rattle.word_values.specs.declared.usage.Usage.{Usage}
-use Rattle.word_values.specs.declared.usage.Why.TheVariants.{NoCommand, UnknownCommand, BadValue}
+use Rattle.word_values.specs.declared.usage.Why.TheVariants.{NoCommand, UnknownCommand}
 use Rattle.mkv_args.specs.declared.command.Command.{Command}
 use Rattle.mkv_args.specs.declared.command.Command.TheVariants as commands
 use Rattle.mkv_args.specs.declared.commands.Verb.{Verb}
@@ -11,6 +11,7 @@ use Rattle.mkv_args.specs.Commands.{commands as verbs}
 use Rattle.word_values.specs.Answers.{wrong, ◌>>=◌}
 use Rattle.word_values.specs.Numbers.{below, from, number}
 use Rattle.word_values.specs.Place.{due_at, file_at, end_at, is_option}
+use Rattle.merge_words.specs.Items.{read_value}
 use Rattle.mkv_args.specs.Extract.{extract}
 use Rattle.mkv_args.specs.Propedit.{propedit}
 use Rattle.mkv_args.specs.Merge.{merge, is_word}
@@ -28,31 +29,31 @@ alone command words = do
   _ ← end_at words 1
   Ok command
 
+-- the file whose Elements and tracks are shown
 unfoldable pub info : List (List ℕ) → Result Command Usage
 info words = do
   file ← only_file words
   Ok (commands.Info file)
 
+-- the file whose edit is finished
 unfoldable pub recover : List (List ℕ) → Result Command Usage
 recover words = do
   file ← only_file words
   Ok (commands.Recover file)
 
+-- the file whose index is written anew
 unfoldable pub reindex : List (List ℕ) → Result Command Usage
 reindex words = do
   file ← only_file words
   Ok (commands.Reindex file)
 
-abbrev pub count_at : ℕ → Option ℕ → Result ℕ Usage
-count_at at None = wrong at BadValue
-count_at at (Some n) = Ok n
-
 -- 1 to 100000
 unfoldable pub blocks_at : List (List ℕ) → ℕ → Result ℕ Usage
 blocks_at words at = do
   word ← due_at words at
-  count_at at (below 100001 (from 1 (number word)))
+  read_value at (below 100001 (from 1 (number word)))
 
+-- how many blocks are made, and how the names of the files begin
 unfoldable pub generate : List (List ℕ) → Result Command Usage
 generate words = do
   n ← blocks_at words 1
@@ -73,6 +74,7 @@ command_named (Some verb.Generate) words = generate words
 command_named (Some verb.Help) words = alone (commands.Help None) words
 command_named (Some verb.Version) words = alone commands.Version words
 
+-- the command that the words begin with
 unfoldable pub first_command : List (List ℕ) → Result Command Usage
 first_command [] = wrong 0 NoCommand
 first_command (first ∷ rest) = command_named (meant verbs first) (first ∷ rest)
@@ -89,6 +91,7 @@ named word = if is_option word then None else meant verbs word
 abbrev pub helped : List (List ℕ) → Option Verb
 helped words = if is_word (codes "--help") (slice_get words 1) && is_none (slice_get words 2) then option_and_then named (slice_get words 0) else None
 
+-- that help, or else the command
 abbrev pub help_or : Option Verb → List (List ℕ) → Result Command Usage
 help_or (Some verb) words = Ok (commands.Help (Some verb))
 help_or None words = first_command words

@@ -15,15 +15,14 @@ use word_values::{
     refused, word_at,
 };
 
-/// The TrackTypes that have a letter.
+/// The TrackType that a section names by `v`: video (RFC 9559, 5.1.4.1.3).
 pub const VIDEO_TRACK: u64 = 1;
 
+/// The TrackType that a section names by `a`: audio (RFC 9559, 5.1.4.1.3).
 pub const AUDIO_TRACK: u64 = 2;
 
+/// The TrackType that a section names by `s`: subtitle (RFC 9559, 5.1.4.1.3).
 pub const SUBTITLE_TRACK: u64 = 17;
-
-/// What stands between a property and its value.
-pub const EQUALS: char = '=';
 
 /// What an option of `propedit` begins.
 #[derive(Clone, Copy, PartialEq, Eq)]
@@ -64,63 +63,75 @@ fn edits(alloc: Global, words: &[String]) -> Result<List<Edit>, ArgsEnd>
     ensures { Tells result (spec.edits (texts words.now)) }
 {
     let mut list = List::new(alloc);
-    let mut place = Selector::Info;
-    let mut before = None;
-    let mut at = 2;
+    let mut place = first_section(words)?;
+    let mut edited = false;
+    let mut at = 4;
     while let Some(word) = word_at(words, at) {
-        match said(alloc, words, at, word, before)? {
-            Saying::Section(next) => place = next,
+        match said(alloc, words, at, word, edited)? {
+            Saying::Section(next) => {
+                place = next;
+                edited = false;
+            }
             Saying::Change {
                 change,
                 name,
                 value,
-            } => list.push(Edit {
-                place,
-                change,
-                name,
-                value,
-            })?,
+            } => {
+                list.push(Edit {
+                    place,
+                    change,
+                    name,
+                    value,
+                })?;
+                edited = true;
+            }
         }
-        before = step_of(word);
         at += 2;
     }
-    if !may_end(before) {
+    if !edited {
         return refused(words.len(), Why::MissingValue);
     }
     Ok(list)
 }
 
-/// Whether the words may end behind this option.
-fn may_end(before: Option<Step>) -> bool
-    ensures { result ≡ spec.may_end before }
+/// The first section, which the words behind FILE name first.
+#[tactic(auto, unfolding(crate::specs::Propedit::first_section))]
+fn first_section(words: &[String]) -> Result<Selector, ArgsEnd>
+    ensures { Tells result (spec.first_section (texts words.now)) }
 {
-    matches!(before, Some(Step::Edit(_)))
-}
-
-/// Whether a section or an edit may stand behind this option. A section has edits.
-fn may_follow(before: Option<Step>, step: Step) -> bool
-    ensures { result ≡ spec.may_follow before step }
-{
-    match (before, step) {
-        (None, Step::Edit(_)) | (Some(Step::Section), Step::Section) => false,
-        _ => true,
+    let Some(Step::Section) = step_of(due_at(words, 2)?) else {
+        return refused(2, Why::UnknownOption);
+    };
+    match selector(due_at(words, 3)?.as_bytes()) {
+        Some(place) => Ok(place),
+        None => refused(3, Why::BadValue),
     }
 }
 
-/// What the option at a word says with its value, behind the option before it.
+/// What the option at a word says with its value, behind a section of which an edit was said or not.
 fn said(
     alloc: Global,
     words: &[String],
     at: usize,
     word: &str,
-    before: Option<Step>,
+    edited: bool,
 ) -> Result<Saying, ArgsEnd>
     requires { at < length words.now }
-    ensures { Tells result (spec.said (length words.now) before (record { at = at; option = word.now; value = slice_get (texts words.now) (at + 1) })) }
+    ensures { Tells result (spec.said (length words.now) edited (record { at = at; option = word.now; value = slice_get (texts words.now) (at + 1) })) }
 {
     match step_of(word) {
-        Some(step) if may_follow(before, step) => saying_at(alloc, words, at + 1, step),
+        Some(step) if may_follow(edited, step) => saying_at(alloc, words, at + 1, step),
         _ => refused(at, Why::UnknownOption),
+    }
+}
+
+/// Whether this may stand there. A section has edits before the next.
+fn may_follow(edited: bool, step: Step) -> bool
+    ensures { result ≡ spec.may_follow edited step }
+{
+    match step {
+        Step::Section => edited,
+        Step::Edit(_) => true,
     }
 }
 
@@ -140,6 +151,7 @@ pub(crate) fn steps() -> &'static [Entry<Step>]
     &STEPS
 }
 
+/// What an option begins.
 #[tactic(auto, unfolding(crate::specs::Propedit::step_of))]
 fn step_of(word: &str) -> Option<Step>
     ensures { result ≡ spec.step_of word.now }
@@ -180,7 +192,7 @@ fn meaning(alloc: Global, step: Step, word: &str) -> Result<Saying, ValueEnd>
 fn changed(alloc: Global, change: Change, word: &str) -> Result<Saying, ValueEnd>
     ensures { Reads result (spec.changed change word.now) }
 {
-    let Some((property, value)) = cut_text(word, EQUALS) else {
+    let Some((property, value)) = cut_text(word, '=') else {
         return Err(ValueEnd::Bad);
     };
     Ok(Saying::Change {

@@ -7,7 +7,7 @@ use Rattle.mkv_args.proofs.propedit.edits.Given as goal
 
 abbrev pub invariant-loop-word : goal.invariant-loop-word
 invariant-loop-word l =
-    edits_from (length l.words) l.list l.place l.before l.at (texts l.words) ≡ edits (texts l.words)
+    edits_from (length l.words) l.list l.place l.edited l.at (texts l.words) ≡ edits (texts l.words)
 
 abbrev pub decreases-loop-word : goal.decreases-loop-word
 decreases-loop-word l = length l.words - l.at
