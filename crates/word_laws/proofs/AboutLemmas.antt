@@ -10,7 +10,7 @@ use Rattle.merge_words.specs.declared.options.Subject.{Subject}
 use Rattle.merge_words.specs.declared.options.Scope.{Scope}
 use Rattle.merge_words.specs.Options.{same}
 use Rattle.merge_words.specs.Items.{stands}
-use Rattle.merge_words.specs.Said.{value_in, value_about}
+use Rattle.merge_words.specs.Said.{value_in, value_about, said_about}
 use Rattle.merge_words.specs.Files.{ids_of}
 use Rattle.word_laws.proofs.SayingLemmas.{said_stands, Item, Said, Piece, takes, said_items, after_said, piece_items, after_pieces}
 
@@ -84,41 +84,22 @@ value_of_about t (p ∷ ps) at = value_either t (said_items at p.subject p.scope
 
 -- all values about it
 module _ {Y : Type 0} (k : Value → Option Y) where
-  said_all_is : (at : ℕ) (s t : Subject) (c : Scope) (list : List Said) → same s t ≡ true → filter_map (λ (i : Item). option_and_then k (value_about t i)) (said_items at s c list) ≡ all_said k list
+  said_all_is : (at : ℕ) (s t : Subject) (c : Scope) (list : List Said) → same s t ≡ true → said_about k t (said_items at s c list) ≡ all_said k list
   said_all_is at s t c [] is = refl
   said_all_is at s t c (x ∷ xs) is = rw is (rw (said_all_is (at + takes x.value) s t c xs is) refl)
 
-  said_all_not : (at : ℕ) (s t : Subject) (c : Scope) (list : List Said) → same s t ≡ false → filter_map (λ (i : Item). option_and_then k (value_about t i)) (said_items at s c list) ≡ []
+  said_all_not : (at : ℕ) (s t : Subject) (c : Scope) (list : List Said) → same s t ≡ false → said_about k t (said_items at s c list) ≡ []
   said_all_not at s t c [] other = refl
   said_all_not at s t c (x ∷ xs) other = rw other (said_all_not (at + takes x.value) s t c xs other)
 
-  pub all_about : (t : Subject) (ps : List Piece) (at : ℕ) → filter_map (λ (i : Item). option_and_then k (value_about t i)) (piece_items at ps) ≡ all_said k (about t ps)
+  pub all_about : (t : Subject) (ps : List Piece) (at : ℕ) → said_about k t (piece_items at ps) ≡ all_said k (about t ps)
   all_about t [] at = refl
   all_about t (p ∷ ps) at = filter_map-append (λ (i : Item). option_and_then k (value_about t i)) (said_items at p.subject p.scope p.said) (piece_items (after_said at p.said) ps)
       ∙ (rw (all_about t ps (after_said at p.said)) (split (same p.subject t) refl))
     where
-      split : (b : Bool) → same p.subject t ≡ b → filter_map (λ (i : Item). option_and_then k (value_about t i)) (said_items at p.subject p.scope p.said) ++ all_said k (about t ps) ≡ all_said k (if b then p.said ++ about t ps else about t ps)
+      split : (b : Bool) → same p.subject t ≡ b → said_about k t (said_items at p.subject p.scope p.said) ++ all_said k (about t ps) ≡ all_said k (if b then p.said ++ about t ps else about t ps)
       split true is = rw (said_all_is at p.subject t p.scope p.said is) (sym (filter_map-append (λ (x : Said). k x.says) p.said (about t ps)))
       split false is = rw (said_all_not at p.subject t p.scope p.said is) refl
-
-  -- all values, whatever they are about
-  said_every : (at : ℕ) (s : Subject) (c : Scope) (list : List Said) → filter_map (λ (i : Item). k i.value) (said_items at s c list) ≡ all_said k list
-  said_every at s c [] = refl
-  said_every at s c (x ∷ xs) = rw (said_every (at + takes x.value) s c xs) refl
-
-  abbrev pub AreParts : List Piece → List (List Y) → Type 0
-  AreParts [] [] = Unit {0}
-  AreParts [] (y ∷ ys) = ⊥
-  AreParts (p ∷ ps) [] = ⊥
-  AreParts (p ∷ ps) (y ∷ ys) = (all_said k p.said ≡ y) × AreParts ps ys
-
-  pub every_part : (ps : List Piece) (parts : List (List Y)) (at : ℕ) → AreParts ps parts → filter_map (λ (i : Item). k i.value) (piece_items at ps) ≡ flat_map (λ part. part) parts
-  every_part [] [] at are = refl
-  every_part [] (y ∷ ys) at are = absurd are
-  every_part (p ∷ ps) [] at are = absurd are
-  every_part (p ∷ ps) (y ∷ ys) at are =
-      filter_map-append (λ (i : Item). k i.value) (said_items at p.subject p.scope p.said) (piece_items (after_said at p.said) ps)
-      ∙ rw (said_every at p.subject p.scope p.said) (rw are.0 (rw (every_part ps ys (after_said at p.said) are.1) refl))
 
 -- the tracks that are named
 abbrev pub ids_said : List Said → List ℕ

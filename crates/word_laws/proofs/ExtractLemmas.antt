@@ -1,5 +1,6 @@
 -- The words of `extract` are read back.
 use Rattle.std.proofs.Common.{◌≡◌, ◌≢◌, ◌≤◌, ℕ, ◌+◌, false, nat_lt, nat_le, List, [], ◌∷◌, ◌++◌, length, map, codes, Ok, refl, sym, ◌∙◌, arith, append_assoc, All}
+use Rattle.std.proofs.lemmas.Bool.{and_right}
 use Rattle.std.proofs.lemmas.Bool.Decides.{nat_tests}
 use Rattle.std.proofs.lemmas.Fmt.{decimal_nonempty}
 use Rattle.std.proofs.lemmas.List.{append-nil}
@@ -21,7 +22,7 @@ use Rattle.word_laws.specs.Spelled.{target_word, job_words}
 use Rattle.word_laws.specs.Names.{IsFile}
 use Rattle.word_laws.specs.Spellable.{HaveFewDigits, IsJob}
 use Rattle.word_laws.proofs.NumberLemmas.{short_fits, decimal_all, first_other, numbered_read}
-use Rattle.word_laws.proofs.SimpleLemmas.{other_word, no_option, and_false, by_verb, more_help_none}
+use Rattle.word_laws.proofs.SimpleLemmas.{other_word, no_option, by_verb, more_help_none}
 
 -- ---- targets
 differ_at : (name : List ℕ) (bs : List Target) (t : Target) (ts : List Target) → AreOthers name (names_of (bs ++ t ∷ ts)) → t.name ≢ name
@@ -67,7 +68,7 @@ pub numbered_plain : (n : ℕ) (rest : List ℕ) → HasFewDigits n → is_optio
 numbered_plain n rest short =
     let fits = short_fits n short in
     let other = first_other 45 (decimal n) (codes ":" ++ rest) refl (decimal_nonempty n fits) (decimal_all n fits) in
-    rw other (and_false (nat_le 2 (length (with_number n rest))))
+    and_right (nat_le 2 (length (with_number n rest))) _ other
 
 -- ---- modes
 tracks_read : (a b c : List ℕ) (list : List Target) → AreTargets 0 list → HaveFewDigits list → tracks (a ∷ b ∷ c ∷ map target_word list) ≡ Ok (jobs.Tracks form.ByCodec list)

@@ -1,10 +1,11 @@
 -- A file of a merge, with the options for it, is read back.
-use Rattle.std.proofs.Common.{◌≡◌, ◌<◌, ◌^◌, ℕ, ◌+◌, ℤ, Bool, true, false, not, ◌||◌, if◌then◌else◌, nat_le, List, [], ◌∷◌, ◌++◌, map, codes, None, refl, ◌∙◌, subst, arith, append_assoc, All}
+use Rattle.std.proofs.Common.{◌≡◌, ◌<◌, ◌^◌, ℕ, ◌+◌, ℤ, Bool, true, false, not, if◌then◌else◌, nat_le, List, [], ◌∷◌, ◌++◌, map, codes, None, refl, ◌∙◌, subst, arith, append_assoc, All}
+use Rattle.std.proofs.lemmas.Bool.{or_parts}
 use Rattle.std.proofs.lemmas.Bool.Decides.{nat_tests}
 use Rattle.std.proofs.lemmas.List.{append-nil}
 use Rattle.std.proofs.lemmas.List.Sums.{sum_by-append}
 use Rattle.std.specs.Prelude.{◌==◌, nat_abs}
-use Rattle.word_values.specs.declared.values.Value.TheVariants.{Flag, Name, TrackDelay, TrackName, TrackFlag, TrackCues}
+use Rattle.word_values.specs.declared.values.Value.TheVariants.{Flag, File, TrackDelay, TrackText, TrackLanguage, TrackFlag, TrackCues, TrackFile}
 use Rattle.word_values.specs.declared.values.ValueForm.TheVariants as form
 use Rattle.merge_words.specs.declared.files.FileWords.{FileWords}
 use Rattle.merge_words.specs.declared.options.Subject.TheVariants as subject
@@ -31,10 +32,10 @@ abbrev pub said_syncs : FileWords → List Said
 said_syncs f = map (said_track (codes "--sync") delay_word TrackDelay) f.syncs
 
 abbrev pub said_names : FileWords → List Said
-said_names f = map (said_track (codes "--track-name") (λ name. name) TrackName) f.names
+said_names f = map (said_track (codes "--track-name") (λ name. name) TrackText) f.names
 
 abbrev pub said_languages : FileWords → List Said
-said_languages f = map (said_track (codes "--language") (λ name. name) TrackName) f.languages
+said_languages f = map (said_track (codes "--language") (λ name. name) TrackLanguage) f.languages
 
 abbrev pub said_defaults : FileWords → List Said
 said_defaults f = map (said_track (codes "--default-track-flag") flag_word TrackFlag) f.defaults
@@ -46,7 +47,7 @@ abbrev pub said_cues : FileWords → List Said
 said_cues f = map (said_track (codes "--cues") cues_word TrackCues) f.cues
 
 abbrev pub said_times : FileWords → List Said
-said_times f = map (said_track (codes "--timestamps") (λ name. name) TrackName) f.times
+said_times f = map (said_track (codes "--timestamps") (λ name. name) TrackFile) f.times
 
 abbrev pub file_pieces : FileWords → List Piece
 file_pieces f =
@@ -91,12 +92,12 @@ file_spelled f = pieces_spelled (file_pieces f) (file_options f) (
     flag_words (codes "--no-global-tags") Flag (not f.global_tags) &
     flag_words (codes "--no-chapters") Flag (not f.chapters) &
     tracks_spelled (codes "--sync") delay_word TrackDelay f.syncs &
-    tracks_spelled (codes "--track-name") (λ name. name) TrackName f.names &
-    tracks_spelled (codes "--language") (λ name. name) TrackName f.languages &
+    tracks_spelled (codes "--track-name") (λ name. name) TrackText f.names &
+    tracks_spelled (codes "--language") (λ name. name) TrackLanguage f.languages &
     tracks_spelled (codes "--default-track-flag") flag_word TrackFlag f.defaults &
     tracks_spelled (codes "--forced-display-flag") flag_word TrackFlag f.forced &
     tracks_spelled (codes "--cues") cues_word TrackCues f.cues &
-    tracks_spelled (codes "--timestamps") (λ name. name) TrackName f.times &
+    tracks_spelled (codes "--timestamps") (λ name. name) TrackFile f.times &
     tt)
 
 -- ---- the options are read
@@ -122,9 +123,9 @@ file_readable f sound is = (
     flag_readable subject.Chapters scope.File (codes "--no-chapters") (not f.chapters) (refl, refl) &
     tracks_readable (codes "--sync") delay_word TrackDelay subject.Sync form.TrackDelay IsSoundDelay f.syncs (refl, refl) refl refl (λ id x. refl)
     (λ id x short whole. track_delay_read id x short whole.0 whole.1) (sound_delays f sound is) &
-    tracks_readable (codes "--track-name") (λ name. name) TrackName subject.TrackName form.TrackText IsText f.names (refl, refl) refl refl (λ id x. refl)
+    tracks_readable (codes "--track-name") (λ name. name) TrackText subject.TrackName form.TrackText IsText f.names (refl, refl) refl refl (λ id x. refl)
     (λ id x short text. track_text_read id x short text) is.names &
-    tracks_readable (codes "--language") (λ name. name) TrackName subject.Language form.TrackLanguage IsLanguage f.languages (refl, refl) refl refl (λ id x. refl)
+    tracks_readable (codes "--language") (λ name. name) TrackLanguage subject.Language form.TrackLanguage IsLanguage f.languages (refl, refl) refl refl (λ id x. refl)
     (λ id x short word. track_language_read id x short word) is.languages &
     tracks_readable (codes "--default-track-flag") flag_word TrackFlag subject.DefaultFlag form.TrackFlag (λ b. Unit {0}) f.defaults (refl, refl) refl refl (λ id x. refl)
     (λ id x short any. track_flag_read id x short) is.defaults &
@@ -132,7 +133,7 @@ file_readable f sound is = (
     (λ id x short any. track_flag_read id x short) is.forced &
     tracks_readable (codes "--cues") cues_word TrackCues subject.Cues form.TrackCues (λ c. Unit {0}) f.cues (refl, refl) refl refl (λ id x. refl)
     (λ id x short any. track_cues_read id x short) is.cues &
-    tracks_readable (codes "--timestamps") (λ name. name) TrackName subject.Times form.TrackFile (λ name. Unit {0}) f.times (refl, refl) refl refl (λ id x. refl)
+    tracks_readable (codes "--timestamps") (λ name. name) TrackFile subject.Times form.TrackFile (λ name. Unit {0}) f.times (refl, refl) refl refl (λ id x. refl)
     (λ id x short any. track_file_read id x short) is.times &
     tt)
 
@@ -144,14 +145,14 @@ join_read count before at false rest some free = rw (append-nil before) refl
 join_read count before at true rest some free = read_one count before at (codes "+") None (item at subject.Append scope.File Flag) rest refl (rw (some refl) (rw free refl))
 
 name_read : (count : ℕ) (before : List Item) (at : ℕ) (name : List ℕ) (rest : List (List ℕ)) → IsInput name → nat_le 64 (files_in before) ≡ false
-    → read_all count before (starts at (name ∷ rest)) ≡ read_all count (before ++ item at subject.File scope.Output (Name name) ∷ []) (starts (at + 1) rest)
+    → read_all count before (starts at (name ∷ rest)) ≡ read_all count (before ++ item at subject.File scope.Output (File name) ∷ []) (starts (at + 1) rest)
 unfolding item_at file_at meaning_of
 name_read count before at name rest is few =
-    read_one count before at name None (item at subject.File scope.Output (Name name)) rest (rw is.file refl) (rw (other_word name (codes "+") is.joins) (rw is.file (rw few refl)))
+    read_one count before at name None (item at subject.File scope.Output (File name)) rest (rw is.file refl) (rw (other_word name (codes "+") is.joins) (rw is.file (rw few refl)))
 
 -- ---- a file
 abbrev pub file_items : ℕ → FileWords → List Item
-file_items at f = piece_items at (group f) ++ item (after_pieces at (group f)) subject.File scope.Output (Name f.name) ∷ []
+file_items at f = piece_items at (group f) ++ item (after_pieces at (group f)) subject.File scope.Output (File f.name) ∷ []
 
 abbrev pub after_file : ℕ → FileWords → ℕ
 after_file at f = after_pieces at (group f) + 1
@@ -159,11 +160,7 @@ after_file at f = after_pieces at (group f) + 1
 -- as many files as before
 none_counted : (items : List Item) → stands subject.File items ≡ false → files_in items ≡ 0
 none_counted [] none = refl
-none_counted (i ∷ is) none = split (is_file i) refl none (λ h. none_counted is h)
-  where
-    split : (b : Bool) → is_file i ≡ b → (b || stands subject.File is) ≡ false → (stands subject.File is ≡ false → files_in is ≡ 0) → files_in (i ∷ is) ≡ 0
-    split true found none more = absurd (cc)
-    split false found none more = rw found (more none)
+none_counted (i ∷ is) none = let parts = or_parts (is_file i) (stands subject.File is) none in rw parts.0 (none_counted is parts.1)
 
 pub counted_both : (a b : List Item) → files_in (a ++ b) ≡ files_in a + files_in b
 counted_both a b = sum_by-append (λ (i : Item). if is_file i then 1 else 0) a b
@@ -184,7 +181,7 @@ file_read count before at f rest sound is some few free =
     let opts : (joined (file_options f) ++ f.name ∷ []) ++ rest ≡ joined (file_options f) ++ (f.name ∷ rest) = append_assoc (joined (file_options f)) (f.name ∷ []) rest in
     let first = join_read count before at f.appended (joined (file_options f) ++ (f.name ∷ rest)) some free.0 in
     let next = pieces_read (file_pieces f) count (before ++ joins) behind (f.name ∷ rest) refl refl (file_readable f sound is) (still_free before at subject.Append scope.File (join_said f) (file_pieces f) refl refl free.1) in
-    let ends = item (after_pieces at (group f)) subject.File scope.Output (Name f.name) in
+    let ends = item (after_pieces at (group f)) subject.File scope.Output (File f.name) in
     let read = subst (λ ws. read_all count (before ++ joins) (starts behind (ws ++ (f.name ∷ rest))) ≡ read_all count ((before ++ joins) ++ options) (starts (after_pieces at (group f)) (f.name ∷ rest))) (file_spelled f) next in
     let whole : (before ++ joins) ++ options ≡ before ++ all = append_assoc before joins options in
     let behind_options = rw whole at read in

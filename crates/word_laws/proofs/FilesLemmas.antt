@@ -1,11 +1,12 @@
 -- The files of a merge are read back, one behind the other.
-use Rattle.std.proofs.Common.{◌≡◌, ◌<◌, ◌≤◌, ℕ, ◌+◌, Bool, true, false, ◌&&◌, ◌||◌, List, [], ◌∷◌, ◌++◌, length, Ok, refl, ◌∙◌, arith, append_assoc, All}
+use Rattle.std.proofs.Common.{◌≡◌, ◌<◌, ◌≤◌, ℕ, ◌+◌, Bool, true, false, ◌&&◌, List, [], ◌∷◌, ◌++◌, length, Ok, refl, ◌∙◌, arith, append_assoc, All}
+use Rattle.std.proofs.lemmas.Bool.{and_parts, or_parts}
 use Rattle.std.proofs.lemmas.Bool.Decides.{nat_tests}
 use Rattle.std.proofs.lemmas.List.{append-nil}
 use Rattle.std.proofs.lemmas.List.Elements.{All-head, All-tail}
 use Rattle.std.specs.Prelude.{◌==◌}
 use Rattle.std.specs.List.{flat_map}
-use Rattle.word_values.specs.declared.values.Value.TheVariants.{Name}
+use Rattle.word_values.specs.declared.values.Value.TheVariants.{File}
 use Rattle.merge_words.specs.declared.files.FileWords.{FileWords}
 use Rattle.merge_words.specs.declared.options.Subject.TheVariants as subject
 use Rattle.merge_words.specs.declared.options.Scope.{Scope}
@@ -19,14 +20,14 @@ use Rattle.merge_words.proofs.FilesLemmas.{files_from}
 use Rattle.word_laws.specs.SpelledMerge.{file_words}
 use Rattle.word_laws.specs.SpellableMerge.{IsMergeFile}
 use Rattle.word_laws.proofs.SayingLemmas.{Item, Piece, item, piece_items, after_pieces, other_stands}
-use Rattle.word_laws.proofs.GroupLemmas.{both_hold, among, AreFree}
+use Rattle.word_laws.proofs.GroupLemmas.{among, AreFree}
 use Rattle.word_laws.proofs.FileLemmas.{group, file_items, after_file, file_read, counted_both, same_count}
 use Rattle.word_laws.proofs.OwnLemmas.{group_says, file_is}
 
 -- ---- behind a file nothing is said yet
 pub none_since : (before : List Item) (at : ℕ) (f : FileWords) → since_file (before ++ file_items at f) ≡ []
 none_since before at f =
-    let last = item (after_pieces at (group f)) subject.File scope.Output (Name f.name) in
+    let last = item (after_pieces at (group f)) subject.File scope.Output (File f.name) in
     since_latest (before ++ file_items at f) ∙ rw (← append_assoc before (piece_items at (group f)) (last ∷ [])) (latest_file [] (before ++ piece_items at (group f)) last refl)
 
 abbrev in_file : Scope → Bool
@@ -46,7 +47,7 @@ none_among before scope.Track none is = none
 all_free : (before : List Item) (ps : List Piece) → since_file before ≡ [] → in_files ps ≡ true → AreFree before ps
 all_free before [] none are = tt
 all_free before (p ∷ ps) none are =
-    let parts = both_hold (in_file p.scope) (in_files ps) are in
+    let parts = and_parts (in_file p.scope) (in_files ps) are in
     (rw (none_among before p.scope none parts.0) refl, all_free before ps none parts.1)
 
 -- ---- all files are read
@@ -56,7 +57,7 @@ files_items at (f ∷ fs) = file_items at f ++ files_items (after_file at f) fs
 
 pub one_counted : (before : List Item) (at : ℕ) (f : FileWords) → files_in (before ++ file_items at f) ≡ files_in before + 1
 one_counted before at f =
-    let last = item (after_pieces at (group f)) subject.File scope.Output (Name f.name) in
+    let last = item (after_pieces at (group f)) subject.File scope.Output (File f.name) in
     let first = same_count before (piece_items at (group f)) (other_stands at subject.File (group f) refl) in
     let both = counted_both (before ++ piece_items at (group f)) (last ∷ []) in
     rw (← append_assoc before (piece_items at (group f)) (last ∷ [])) (both ∙ rw first refl)
@@ -74,17 +75,14 @@ files_read (f ∷ fs) count before at sound are some few none =
 -- ---- and are what they were spelled from
 pub files_behind : (front own rest : List Item) → stands subject.File own ≡ false → files_from front (own ++ rest) ≡ files_from (front ++ own) rest
 files_behind front [] rest none = rw (append-nil front) refl
-files_behind front (i ∷ is) rest none = split (is_file i) refl none (λ h. files_behind (front ++ i ∷ []) is rest h)
-  where
-    split : (b : Bool) → is_file i ≡ b → (b || stands subject.File is) ≡ false → (stands subject.File is ≡ false → files_from (front ++ i ∷ []) (is ++ rest) ≡ files_from ((front ++ i ∷ []) ++ is) rest)
-        → files_from front ((i ∷ is) ++ rest) ≡ files_from (front ++ i ∷ is) rest
-    split true named none more = absurd (cc)
-    split false named none more = rw named (more none ∙ rw (append_assoc front (i ∷ []) is) refl)
+files_behind front (i ∷ is) rest none =
+    let parts = or_parts (is_file i) (stands subject.File is) none in
+    rw parts.0 (files_behind (front ++ i ∷ []) is rest parts.1 ∙ rw (append_assoc front (i ∷ []) is) refl)
 
-pub files_first : (front : List Item) (at : ℕ) (f : FileWords) (rest : List Item) → files_from front (file_items at f ++ rest) ≡ file (front ++ piece_items at (group f)) (Name f.name) ∷ files_from [] rest
+pub files_first : (front : List Item) (at : ℕ) (f : FileWords) (rest : List Item) → files_from front (file_items at f ++ rest) ≡ file (front ++ piece_items at (group f)) (File f.name) ∷ files_from [] rest
 files_first front at f rest =
     let own = piece_items at (group f) in
-    let last = item (after_pieces at (group f)) subject.File scope.Output (Name f.name) in
+    let last = item (after_pieces at (group f)) subject.File scope.Output (File f.name) in
     rw (append_assoc own (last ∷ []) rest) (files_behind front own (last ∷ rest) (other_stands at subject.File (group f) refl))
 
 pub files_are : (fs : List FileWords) (at : ℕ) → All IsMergeFile fs → files_from [] (files_items at fs) ≡ fs

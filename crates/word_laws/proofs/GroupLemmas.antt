@@ -1,5 +1,6 @@
 -- Options that each stand once, or once for each track, are read one behind the other.
-use Rattle.std.proofs.Common.{◌≡◌, ℕ, ◌+◌, Bool, true, false, not, ◌&&◌, ◌||◌, if◌then◌else◌, List, [], ◌∷◌, ◌++◌, map, Some, None, Ok, refl, sym, ap, ◌∙◌, arith, append_assoc, All}
+use Rattle.std.proofs.Common.{◌≡◌, ℕ, ◌+◌, Bool, true, false, not, ◌&&◌, if◌then◌else◌, List, [], ◌∷◌, ◌++◌, map, Some, None, Ok, refl, sym, ap, ◌∙◌, arith, append_assoc, All}
+use Rattle.std.proofs.lemmas.Bool.{and_parts, and_right, or_parts}
 use Rattle.std.proofs.lemmas.Bool.Decides.{nat_tests}
 use Rattle.std.proofs.lemmas.List.{append-nil}
 use Rattle.std.proofs.lemmas.List.Folds.{list_any-append}
@@ -18,16 +19,14 @@ use Rattle.word_values.specs.Values.{flag_of, value_of}
 use Rattle.merge_words.specs.Items.{is_file, item_at, stands, stands_for, track_in, is_track, repeats_in, repeats_for, since_file}
 use Rattle.merge_words.specs.Merge.{start, starts, read_all, takes_next}
 use Rattle.merge_words.proofs.ItemsLemmas.{latest, since_latest}
-use Rattle.word_laws.proofs.SayingLemmas.{Item, Said, Piece, words_said, said_words, piece_words, takes, next_of, item, said_items, after_said, piece_items, after_pieces, read_one, IsOption, value_item, flag_item, value_width, flag_width, none_about, said_stands, stands_both}
+use Rattle.word_laws.proofs.SayingLemmas.{Item, Said, Piece, words_said, said_words, piece_words, takes, next_of, item, said_items, after_said, piece_items, after_pieces, read_one, IsOption, value_item, flag_item, value_width, flag_width, none_about, not_and, said_stands, stands_both}
 
 -- ---- the items since the last file grow with what is said
 latest_none : (group ys : List Item) → stands subject.File ys ≡ false → latest group ys ≡ group ++ ys
 latest_none group [] none = sym (append-nil group)
-latest_none group (y ∷ ys) none = split (is_file y) refl none (λ h. latest_none (group ++ y ∷ []) ys h)
-  where
-    split : (b : Bool) → is_file y ≡ b → (b || stands subject.File ys) ≡ false → (stands subject.File ys ≡ false → latest (group ++ y ∷ []) ys ≡ (group ++ y ∷ []) ++ ys) → latest group (y ∷ ys) ≡ group ++ y ∷ ys
-    split true is none more = absurd (cc)
-    split false is none more = rw is (more none ∙ append_assoc group (y ∷ []) ys)
+latest_none group (y ∷ ys) none =
+    let parts = or_parts (is_file y) (stands subject.File ys) none in
+    rw parts.0 (latest_none (group ++ y ∷ []) ys parts.1 ∙ append_assoc group (y ∷ []) ys)
 
 latest_grows : (group xs ys : List Item) → stands subject.File ys ≡ false → latest group (xs ++ ys) ≡ latest group xs ++ ys
 latest_grows group [] ys none = latest_none group ys none
@@ -96,22 +95,10 @@ once_read s c (x ∷ y ∷ ys) is count before at rest free = absurd is
 -- ---- an option that stands once for each track
 none_for : (s : Subject) (id : ℕ) (items : List Item) → stands s items ≡ false → stands_for s id items ≡ false
 none_for s id [] none = refl
-none_for s id (i ∷ is) none = split (same i.subject s) refl none (λ h. none_for s id is h)
-  where
-    split : (b : Bool) → same i.subject s ≡ b → (b || stands s is) ≡ false → (stands s is ≡ false → stands_for s id is ≡ false) → stands_for s id (i ∷ is) ≡ false
-    split true found none more = absurd (cc)
-    split false found none more = rw found (more none)
+none_for s id (i ∷ is) none = let parts = or_parts (same i.subject s) (stands s is) none in rw parts.0 (none_for s id is parts.1)
 
 not_among : (n m : ℕ) (ns : List ℕ) → list_any (λ k. k == n) (m ∷ ns) ≡ false → ((n == m) ≡ false) × (list_any (λ k. k == n) ns ≡ false)
-not_among n m ns none = split (m == n) refl none
-  where
-    split : (b : Bool) → (m == n) ≡ b → (b || list_any (λ k. k == n) ns) ≡ false → ((n == m) ≡ false) × (list_any (λ k. k == n) ns ≡ false)
-    split true is none = absurd (cc)
-    split false is none = (grind (arith, nat_tests), none)
-
-both_true : (a b : Bool) → (not a && b) ≡ true → (a ≡ false) × (b ≡ true)
-both_true true b is = absurd (cc)
-both_true false b is = (refl, is)
+not_among n m ns none = let parts = or_parts (m == n) (list_any (λ k. k == n) ns) none in (let other = parts.0 in grind (arith, nat_tests), parts.1)
 
 module _ {X : Type 0} (s : Subject) (make : ℕ × X → Said) (names : (p : ℕ × X) → track_in (make p).says ≡ Some p.0) where
   free_next : (p q : ℕ × X) (before : List Item) (at : ℕ) → same s subject.File ≡ false → (p.0 == q.0) ≡ false → stands_for s q.0 (since_file before) ≡ false
@@ -120,11 +107,7 @@ module _ {X : Type 0} (s : Subject) (make : ℕ × X → Said) (names : (p : ℕ
       let none : stands subject.File (item at s scope.Track (make p).says ∷ []) ≡ false = rw file refl in
       rw (since_grows before (item at s scope.Track (make p).says ∷ []) none)
       (rw (list_any-append (λ (i : Item). same i.subject s && is_track q.0 (track_in i.value)) (since_file before) (item at s scope.Track (make p).says ∷ []))
-      (rw free (rw (names p) (rw other (last (same s s))))))
-    where
-      last : (b : Bool) → ((b && false) || false) ≡ false
-      last true = refl
-      last false = refl
+      (rw free (rw (names p) (rw other (rw (and_right (same s s) false refl) refl)))))
 
   free_rest : (p : ℕ × X) (list : List (ℕ × X)) (before : List Item) (at : ℕ) → same s subject.File ≡ false → list_any (λ k. k == p.0) (map (λ (q : ℕ × X). q.0) list) ≡ false
       → All (λ (q : ℕ × X). stands_for s q.0 (since_file before) ≡ false) list → All (λ (q : ℕ × X). stands_for s q.0 (since_file (before ++ item at s scope.Track (make p).says ∷ [])) ≡ false) list
@@ -141,7 +124,7 @@ module _ {X : Type 0} (s : Subject) (make : ℕ × X → Said) (names : (p : ℕ
   tracks_from [] count before at rest file apart are free = rw (append-nil before) refl
   tracks_from (p ∷ ps) count before at rest file apart are free =
       let x = make p in
-      let parts = both_true (list_any (λ k. k == p.0) (map (λ (q : ℕ × X). q.0) ps)) (differ (map (λ (q : ℕ × X). q.0) ps)) apart in
+      let parts = not_and (list_any (λ k. k == p.0) (map (λ (q : ℕ × X). q.0) ps)) (differ (map (λ (q : ℕ × X). q.0) ps)) apart in
       let here = All-head (λ (q : ℕ × X). IsSaid s scope.Track (make q)) p ps are in
       let own = All-head (λ (q : ℕ × X). stands_for s q.0 (since_file before) ≡ false) p ps free in
       let new : repeats_for s (track_in x.says) before ≡ false = rw (names p) own in
@@ -177,15 +160,11 @@ abbrev pub AreFree : List Item → List Piece → Type 0
 AreFree before [] = Unit {0}
 AreFree before (p ∷ ps) = (stands p.subject (among p.scope before) ≡ false) × AreFree before ps
 
-pub both_hold : (a b : Bool) → (a && b) ≡ true → (a ≡ true) × (b ≡ true)
-both_hold true b is = (refl, is)
-both_hold false b is = absurd (cc)
-
 pub still_free : (before : List Item) (at : ℕ) (s : Subject) (c : Scope) (list : List Said) (ps : List Piece) → same s subject.File ≡ false → none_like s ps ≡ true → AreFree before ps
     → AreFree (before ++ said_items at s c list) ps
 still_free before at s c list [] file other free = tt
 still_free before at s c list (p ∷ ps) file other free =
-    let parts = both_true (same s p.subject) (none_like s ps) other in
+    let parts = not_and (same s p.subject) (none_like s ps) other in
     let no_file = said_stands at s subject.File c list file in
     let own = said_stands at s p.subject c list parts.0 in
     (rw (among_grows p.scope before (said_items at s c list) no_file) (stands_both p.subject (among p.scope before) (said_items at s c list) free.0 own), still_free before at s c list ps file parts.1 free.1)
@@ -194,8 +173,8 @@ pub pieces_read : (ps : List Piece) (count : ℕ) (before : List Item) (at : ℕ
     → read_all count before (starts at (piece_words ps ++ rest)) ≡ read_all count (before ++ piece_items at ps) (starts (after_pieces at ps) rest)
 pieces_read [] count before at rest apart files are free = rw (append-nil before) refl
 pieces_read (p ∷ ps) count before at rest apart files are free =
-    let parts = both_hold (none_like p.subject ps) (are_apart ps) apart in
-    let file = both_true (same p.subject subject.File) (none_about subject.File ps) files in
+    let parts = and_parts (none_like p.subject ps) (are_apart ps) apart in
+    let file = not_and (same p.subject subject.File) (none_about subject.File ps) files in
     let items = said_items at p.subject p.scope p.said in
     let first = are.0 count before at (piece_words ps ++ rest) free.0 in
     let next = pieces_read ps count (before ++ items) (after_said at p.said) rest parts.1 file.1 are.1 (still_free before at p.subject p.scope p.said ps file.0 parts.0 free.1) in

@@ -16,4 +16,3 @@ mod FilesLemmas
 mod MergedLemmas
 mod LawLemmas
 mod StandardFacts
-mod TitleLemmas

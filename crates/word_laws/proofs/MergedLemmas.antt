@@ -1,14 +1,15 @@
 -- The words of a merge are read back.
 use Rattle.std.proofs.Common.{◌≡◌, inl, inr, ◌<◌, ◌≤◌, ℕ, Bool, true, false, ◌||◌, if◌then◌else◌, List, [], ◌∷◌, ◌++◌, length, codes, Option, Some, None, Ok, refl, sym, ap, ◌∙◌, arith, append_assoc, All}
+use Rattle.std.proofs.lemmas.Bool.{or_parts}
 use Rattle.std.proofs.lemmas.Bool.Decides.{nat_tests}
 use Rattle.std.proofs.lemmas.List.{append-nil}
 use Rattle.std.proofs.lemmas.List.Folds.{list_any-append}
-use Rattle.std.proofs.lemmas.List.Elements.{filter_map-append, All-head, All-tail}
+use Rattle.std.proofs.lemmas.List.Elements.{All-head, All-tail}
 use Rattle.std.proofs.lemmas.List.Concat.{flat_map-append}
 use Rattle.std.specs.Prelude.{◌==◌, slice_get, IfSome, option_map, option_and_then, unwrap_or}
-use Rattle.std.specs.List.{flat_map, filter_map}
+use Rattle.std.specs.List.{flat_map}
 use Rattle.word_values.specs.declared.values.Value.{Value}
-use Rattle.word_values.specs.declared.values.Value.TheVariants.{Flag, Name, Scale, Split}
+use Rattle.word_values.specs.declared.values.Value.TheVariants.{Flag, File, Text, Scale, Split}
 use Rattle.merge_words.specs.declared.files.FileWords.{FileWords}
 use Rattle.merge_words.specs.declared.output.MergeWords.{MergeWords}
 use Rattle.merge_words.specs.declared.options.Subject.{Subject}
@@ -16,9 +17,9 @@ use Rattle.merge_words.specs.declared.options.Subject.TheVariants as subject
 use Rattle.merge_words.specs.declared.options.Scope.TheVariants as scope
 use Rattle.merge_words.specs.Options.{same}
 use Rattle.merge_words.specs.Items.{stands, files_in, since_file}
-use Rattle.merge_words.specs.Said.{value_in, name_of, scale_of, blocks_of, span_of, split_of, uuids_of, delay_of, track_cues_of}
+use Rattle.merge_words.specs.Said.{value_in, file_in, file_of, text_of, scale_of, blocks_of, span_of, split_of, uuids_of}
 use Rattle.merge_words.specs.Files.{ids_of, file}
-use Rattle.merge_words.specs.Output.{merge_words as said_by, scale_in, blocks_in, span_in, uuids_in}
+use Rattle.merge_words.specs.Output.{merge_words as said_by, title_in, scale_in, blocks_in, span_in, uuids_in}
 use Rattle.merge_words.specs.Merge.{starts, read_all, items, complete, merged, linking, unlinked}
 use Rattle.merge_words.proofs.FilesLemmas.{files_from, parted_files}
 use Rattle.merge_words.specs.Sound.{IsSoundMerge, IsSoundFile}
@@ -36,8 +37,8 @@ use Rattle.word_laws.proofs.GroupLemmas.{since_grows, AreFree}
 use Rattle.word_laws.proofs.AboutLemmas.{about, is_said, first_said, stands_about, value_of_about, or_else, value_either, piece_items-append}
 use Rattle.word_laws.proofs.PieceLemmas.{flag_stands, value_first}
 use Rattle.word_laws.proofs.FileLemmas.{group, file_items, after_file, file_read, counted_both, same_count}
-use Rattle.word_laws.proofs.OwnLemmas.{IsSaidOf, delays_are, cues_are, ids_are, file_is}
-use Rattle.word_laws.proofs.OutputLemmas.{said_length, said_uuids, output_pieces, output_read, delays_none, cues_none, ids_none}
+use Rattle.word_laws.proofs.OwnLemmas.{IsSaidOf, ids_are, file_is}
+use Rattle.word_laws.proofs.OutputLemmas.{said_length, said_uuids, output_pieces, output_read, ids_none}
 use Rattle.word_laws.proofs.FilesLemmas.{files_items, files_read, none_since, one_counted, files_behind, files_first, files_are}
 
 -- ---- items of files are about files
@@ -53,18 +54,14 @@ all_items w = out_items w ++ files_items (begin w) w.files
 files_other : (t : Subject) (fs : List FileWords) (at : ℕ) → ((f : FileWords) → none_about t (group f) ≡ true) → same subject.File t ≡ false → stands t (files_items at fs) ≡ false
 files_other t [] at none file = refl
 files_other t (f ∷ fs) at none file =
-    let last : stands t (item (after_pieces at (group f)) subject.File scope.Output (Name f.name) ∷ []) ≡ false = rw file refl in
+    let last : stands t (item (after_pieces at (group f)) subject.File scope.Output (File f.name) ∷ []) ≡ false = rw file refl in
     stands_both t (file_items at f) (files_items (after_file at f) fs)
-    (stands_both t (piece_items at (group f)) (item (after_pieces at (group f)) subject.File scope.Output (Name f.name) ∷ []) (other_stands at t (group f) (none f)) last)
+    (stands_both t (piece_items at (group f)) (item (after_pieces at (group f)) subject.File scope.Output (File f.name) ∷ []) (other_stands at t (group f) (none f)) last)
     (files_other t fs (after_file at f) none file)
 
 none_value : (t : Subject) (xs : List Item) → stands t xs ≡ false → value_in t xs ≡ None
 none_value t [] none = refl
-none_value t (x ∷ xs) none = split (same x.subject t) refl none (λ h. none_value t xs h)
-  where
-    split : (b : Bool) → same x.subject t ≡ b → (b || stands t xs) ≡ false → (stands t xs ≡ false → value_in t xs ≡ None) → value_in t (x ∷ xs) ≡ None
-    split true is none more = absurd (cc)
-    split false is none more = rw is (more none)
+none_value t (x ∷ xs) none = let parts = or_parts (same x.subject t) (stands t xs) none in rw parts.0 (none_value t xs parts.1)
 
 or_none : (o : Option Value) → or_else o None ≡ o
 or_none None = refl
@@ -86,9 +83,13 @@ out_value w t none file =
     ∙ (rw (none_value t (files_items (begin w) w.files) (files_other t w.files (begin w) none file)) (or_none (value_in t (out_items w))) ∙ value_of_about t (output_pieces w) 1)
 
 -- ---- what is read of the output
-text_back : (o : Option (List ℕ)) → option_and_then name_of (option_map Name o) ≡ o
+text_back : (o : Option (List ℕ)) → option_and_then text_of (option_map Text o) ≡ o
 text_back None = refl
 text_back (Some x) = refl
+
+name_back : (o : Option (List ℕ)) → option_and_then file_of (option_map File o) ≡ o
+name_back None = refl
+name_back (Some x) = refl
 
 scale_back : (scale : ℕ) → unwrap_or (option_and_then scale_of (option_map Scale (unusual 1000000 scale))) 1000000 ≡ scale
 scale_back scale = split (scale == 1000000) refl
@@ -120,11 +121,11 @@ module _ (w : MergeWords) (is : IsSpellableMerge w) where
   webm_is : stands subject.Webm (all_items w) ≡ w.webm
   webm_is = out_stands w subject.Webm (λ f. refl) refl ∙ flag_stands (codes "--webm") Flag w.webm
 
-  title_is : option_and_then name_of (value_in subject.Title (all_items w)) ≡ w.title
-  title_is = rw (out_value w subject.Title (λ f. refl) refl) (rw (value_first (codes "--title") (λ t. t) Name w.title) (text_back w.title))
+  title_is : title_in (all_items w) ≡ w.title
+  title_is = rw (out_value w subject.Title (λ f. refl) refl) (rw (value_first (codes "--title") (λ t. t) Text w.title) (text_back w.title))
 
-  chapters_is : option_and_then name_of (value_in subject.ChapterFile (all_items w)) ≡ w.chapters
-  chapters_is = rw (out_value w subject.ChapterFile (λ f. refl) refl) (rw (value_first (codes "--chapters") (λ t. t) Name w.chapters) (text_back w.chapters))
+  chapters_is : file_in subject.ChapterFile (all_items w) ≡ w.chapters
+  chapters_is = rw (out_value w subject.ChapterFile (λ f. refl) refl) (rw (value_first (codes "--chapters") (λ t. t) File w.chapters) (name_back w.chapters))
 
   scale_is : scale_in (all_items w) ≡ w.scale
   scale_is = rw (out_value w subject.Scale (λ f. refl) refl) (rw (value_first (codes "--timestamp-scale") _ Scale (unusual 1000000 w.scale)) (scale_back w.scale))
@@ -163,10 +164,8 @@ first_says w f = record {
   defaults = refl;
   forced = refl;
   times = refl;
-  syncs = λ at. ap (λ l. filter_map (λ (i : Item). delay_of i.value) l) (piece_items-append (output_pieces w) (group f) at)
-      ∙ (filter_map-append (λ (i : Item). delay_of i.value) (piece_items at (output_pieces w)) (piece_items (after_pieces at (output_pieces w)) (group f)) ∙ joined_none _ _ f.syncs (delays_none w at) (delays_are f (after_pieces at (output_pieces w))));
-  cues = λ at. ap (λ l. filter_map (λ (i : Item). track_cues_of i.value) l) (piece_items-append (output_pieces w) (group f) at)
-      ∙ (filter_map-append (λ (i : Item). track_cues_of i.value) (piece_items at (output_pieces w)) (piece_items (after_pieces at (output_pieces w)) (group f)) ∙ joined_none _ _ f.cues (cues_none w at) (cues_are f (after_pieces at (output_pieces w))));
+  syncs = refl;
+  cues = refl;
   named = λ at. ap (λ l. flat_map (λ (i : Item). ids_of i.value) l) (piece_items-append (output_pieces w) (group f) at)
       ∙ (flat_map-append (λ (i : Item). ids_of i.value) (piece_items at (output_pieces w)) (piece_items (after_pieces at (output_pieces w)) (group f)) ∙ joined_none _ _ _ (ids_none w at) (ids_are f (after_pieces at (output_pieces w))));
 }
@@ -239,11 +238,7 @@ counted_all w (f ∷ fs) some =
 
 none_linking : (xs : List Item) → stands subject.Link xs ≡ false → linking xs ≡ None
 none_linking [] none = refl
-none_linking (x ∷ xs) none = split (same x.subject subject.Link) refl none (λ h. none_linking xs h)
-  where
-    split : (b : Bool) → same x.subject subject.Link ≡ b → (b || stands subject.Link xs) ≡ false → (stands subject.Link xs ≡ false → linking xs ≡ None) → linking (x ∷ xs) ≡ None
-    split true is none more = absurd (cc)
-    split false is none more = rw is (more none)
+none_linking (x ∷ xs) none = let parts = or_parts (same x.subject subject.Link) (stands subject.Link xs) none in rw parts.0 (none_linking xs parts.1)
 
 unlinked_none : (xs : List Item) (link : Bool) (us : List ℕ) → IsLinked link us → stands subject.Link xs ≡ link → stands subject.Uuids xs ≡ is_said (said_uuids us ++ []) → unlinked xs ≡ None
 unlinked_none xs true [] linked links some = absurd (omega arith)

@@ -1,5 +1,6 @@
 -- Numbers in decimal digits are read back.
-use Rattle.std.proofs.Common.{◌≡◌, ℕ, suc, ◌+◌, ◌^◌, ◌<◌, ◌≤◌, Bool, true, false, not, ◌&&◌, nat_lt, nat_le, List, [], ◌∷◌, ◌++◌, length, take, drop, Some, refl, arith, eqb-true}
+use Rattle.std.proofs.Common.{◌≡◌, ℕ, suc, ◌+◌, ◌^◌, ◌<◌, ◌≤◌, Bool, true, false, not, nat_lt, nat_le, List, [], ◌∷◌, ◌++◌, length, take, drop, Some, refl, arith, eqb-true}
+use Rattle.std.proofs.lemmas.Bool.{and_parts, not-true}
 use Rattle.std.proofs.lemmas.Grind.{common_steps}
 use Rattle.std.proofs.lemmas.Bool.Decides.{nat_tests}
 use Rattle.std.proofs.lemmas.Fmt.{decimal_is_IsNumeral, decimal_nonempty, length-decimal-le}
@@ -49,13 +50,15 @@ digit_is_not o b other is = split (b == o) refl
     split true same = let e : b ≡ o = eqb-true b o same in absurd (cc)
     split false same = same
 
+-- no octet of these is another, or neither the first nor those behind it
+pub lacks_parts : (o b : ℕ) (bs : List ℕ) → lacks o (b ∷ bs) ≡ true → ((b == o) ≡ false) × (lacks o bs ≡ true)
+lacks_parts o b bs none = let parts = and_parts (not (b == o)) (lacks o bs) none in (not-true (b == o) parts.0, parts.1)
+
 pub digits_lack : (o : ℕ) (ds : List ℕ) → is_ascii_digit o ≡ false → list_all is_ascii_digit ds ≡ true → lacks o ds ≡ true
 digits_lack o [] other all = refl
-digits_lack o (b ∷ bs) other all = split (is_ascii_digit b) refl all (λ h. digits_lack o bs other h)
-  where
-    split : (c : Bool) → is_ascii_digit b ≡ c → (c && list_all is_ascii_digit bs) ≡ true → (list_all is_ascii_digit bs ≡ true → lacks o bs ≡ true) → lacks o (b ∷ bs) ≡ true
-    split true is all more = let no = digit_is_not o b other is in let r = more all in rw (no, r) refl
-    split false is all more = absurd (cc)
+digits_lack o (b ∷ bs) other all =
+    let parts = and_parts (is_ascii_digit b) (list_all is_ascii_digit bs) all in
+    rw (digit_is_not o b other parts.0, digits_lack o bs other parts.1) refl
 
 pub decimal_lacks : (o n : ℕ) → is_ascii_digit o ≡ false → n < 2 ^ 64 → lacks o (decimal n) ≡ true
 decimal_lacks o n other small = digits_lack o (decimal n) other (decimal_all n small)
@@ -63,11 +66,7 @@ decimal_lacks o n other small = digits_lack o (decimal n) other (decimal_all n s
 -- the first octet of digits is no other octet, whatever stands behind them
 pub first_other : (o : ℕ) (ds rest : List ℕ) → is_ascii_digit o ≡ false → 0 < length ds → list_all is_ascii_digit ds ≡ true → (slice_index (ds ++ rest) 0 == o) ≡ false
 first_other o [] rest other some all = absurd (omega arith)
-first_other o (d ∷ ds) rest other some all = split (is_ascii_digit d) refl all
-  where
-    split : (c : Bool) → is_ascii_digit d ≡ c → (c && list_all is_ascii_digit ds) ≡ true → (d == o) ≡ false
-    split true is all = digit_is_not o d other is
-    split false is all = absurd (cc)
+first_other o (d ∷ ds) rest other some all = digit_is_not o d other (and_parts (is_ascii_digit d) (list_all is_ascii_digit ds) all).0
 
 -- ---- what stands before and behind the first such octet
 same_octet : (o : ℕ) → (o == o) ≡ true
@@ -75,12 +74,10 @@ same_octet o = grind (arith, nat_tests)
 
 first_at : (o : ℕ) (w rest : List ℕ) → lacks o w ≡ true → position_or_len (λ b. b == o) (w ++ (o ∷ rest)) ≡ length w
 first_at o [] rest none = rw (same_octet o) refl
-first_at o (b ∷ bs) rest none = split (b == o) refl none (λ h. first_at o bs rest h)
-  where
-    split : (c : Bool) → (b == o) ≡ c → (not c && lacks o bs) ≡ true → (lacks o bs ≡ true → position_or_len (λ d. d == o) (bs ++ (o ∷ rest)) ≡ length bs)
-        → position_or_len (λ d. d == o) ((b ∷ bs) ++ (o ∷ rest)) ≡ length (b ∷ bs)
-    split true is none more = absurd (cc)
-    split false is none more = let r = more none in rw (is, r) (omega arith)
+first_at o (b ∷ bs) rest none =
+    let parts = lacks_parts o b bs none in
+    let r = first_at o bs rest parts.1 in
+    rw (parts.0, r) (omega arith)
 
 drop_behind : (w : List ℕ) (o : ℕ) (rest : List ℕ) → drop (length w + 1) (w ++ (o ∷ rest)) ≡ rest
 drop_behind [] o rest = refl

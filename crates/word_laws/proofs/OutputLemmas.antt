@@ -1,10 +1,10 @@
 -- The options for the whole output are read back.
 use Rattle.std.proofs.Common.{ℕ, ◌/◌, ◌%◌, Bool, true, false, if◌then◌else◌, List, [], ◌∷◌, ◌++◌, codes, map, All, ◌<◌, ◌^◌, ◌≡◌, Option, Some, None, IfSome, refl, subst, arith}
 use Rattle.std.specs.Prelude.{◌==◌, option_map}
-use Rattle.std.specs.List.{flat_map, filter_map}
+use Rattle.std.specs.List.{flat_map}
 use Rattle.std.specs.Fmt.{decimal}
 use Rattle.word_values.specs.declared.values.Value.{Value}
-use Rattle.word_values.specs.declared.values.Value.TheVariants.{Flag, Name, Scale, Blocks, Span, Split, Uuids}
+use Rattle.word_values.specs.declared.values.Value.TheVariants.{Flag, File, Text, Scale, Blocks, Span, Split, Uuids}
 use Rattle.word_values.specs.declared.values.ValueForm.TheVariants as form
 use Rattle.word_values.specs.declared.lists.SplitWords.{SplitWords}
 use Rattle.word_values.specs.Sound.{IsWithin, IsSoundSplit, AreUuids}
@@ -14,7 +14,6 @@ use Rattle.merge_words.specs.declared.options.Subject.{Subject}
 use Rattle.merge_words.specs.declared.options.Subject.TheVariants as subject
 use Rattle.merge_words.specs.declared.options.Scope.TheVariants as scope
 use Rattle.merge_words.specs.Options.{meaning_of, table}
-use Rattle.merge_words.specs.Said.{delay_of, track_cues_of}
 use Rattle.merge_words.specs.Files.{ids_of}
 use Rattle.merge_words.specs.Merge.{starts, read_all}
 use Rattle.merge_words.specs.Sound.{IsSoundMerge}
@@ -25,8 +24,8 @@ use Rattle.word_laws.proofs.ValueLemmas.{text_read, scale_read, blocks_read, spa
 use Rattle.word_laws.proofs.SplitLemmas.{split_value_read, uuids_read}
 use Rattle.word_laws.proofs.SayingLemmas.{◌&◌, Item, Said, Piece, said_words, piece_words, piece_items, after_pieces, IsOption}
 use Rattle.word_laws.proofs.GroupLemmas.{IsReadable, AreReadable, value_said, once_read, pieces_read}
-use Rattle.word_laws.proofs.AboutLemmas.{all_said, every_part, ids_said, ids_part}
-use Rattle.word_laws.proofs.PieceLemmas.{means, said_flag, flag_words, flag_readable, flag_silent, flag_ids, said_value, value_words, text_words, value_silent, value_ids}
+use Rattle.word_laws.proofs.AboutLemmas.{ids_said, ids_part}
+use Rattle.word_laws.proofs.PieceLemmas.{means, said_flag, flag_words, flag_readable, flag_ids, said_value, value_words, text_words, value_ids}
 use Rattle.word_laws.proofs.FileLemmas.{pieces_spelled}
 
 -- ---- so many blocks, or so many milliseconds
@@ -50,11 +49,6 @@ length_readable true false blocks span is few long whole =
     (value_said (codes "--cluster-length") (means subject.ClusterLength scope.Output form.Length) (decimal (span / 1000000) ++ codes "ms") (Span span) is refl (span_read span long whole), refl)
 length_readable true true blocks span is few long whole = once_read subject.ClusterLength scope.Output [] tt
 
-length_silent : {Y : Type 0} (k : Value → Option Y) (a b : Bool) (blocks span : ℕ) → k (Blocks blocks) ≡ None → k (Span span) ≡ None → all_said k (said_length a b blocks span) ≡ []
-length_silent k false b blocks span p q = rw p refl
-length_silent k true false blocks span p q = rw q refl
-length_silent k true true blocks span p q = refl
-
 length_ids : (a b : Bool) (blocks span : ℕ) → ids_said (said_length a b blocks span) ≡ []
 length_ids false b blocks span = refl
 length_ids true false blocks span = refl
@@ -62,10 +56,10 @@ length_ids true true blocks span = refl
 
 -- ---- the pieces
 abbrev pub said_title : MergeWords → List Said
-said_title w = said_value (codes "--title") (λ t. t) Name w.title
+said_title w = said_value (codes "--title") (λ t. t) Text w.title
 
 abbrev pub said_chapters : MergeWords → List Said
-said_chapters w = said_value (codes "--chapters") (λ t. t) Name w.chapters
+said_chapters w = said_value (codes "--chapters") (λ t. t) File w.chapters
 
 abbrev pub said_scale : MergeWords → List Said
 said_scale w = said_value (codes "--timestamp-scale") decimal Scale (unusual 1000000 w.scale)
@@ -88,10 +82,6 @@ uuids_readable (u ∷ us) is sound small =
     once_read subject.Uuids scope.Output (said_uuids (u ∷ us))
     (value_said (codes "--segment-uid") (means subject.Uuids scope.Output form.Uuids) (with_commas (map (last_digits 16 32) (u ∷ us))) (Uuids (u ∷ us)) is refl (uuids_read (u ∷ us) (omega arith) sound small), refl)
 
-uuids_silent : {Y : Type 0} (k : Value → Option Y) (us : List ℕ) → ((list : List ℕ) → k (Uuids list) ≡ None) → all_said k (said_uuids us) ≡ []
-uuids_silent k [] none = refl
-uuids_silent k (u ∷ us) none = rw (none (u ∷ us)) refl
-
 uuids_ids : (us : List ℕ) → ids_said (said_uuids us) ≡ []
 uuids_ids [] = refl
 uuids_ids (u ∷ us) = refl
@@ -107,7 +97,7 @@ split_readable x is sound spelled = once_read subject.Split scope.Output (said_v
 
 abbrev pub output_pieces : MergeWords → List Piece
 output_pieces w =
-    record { subject = subject.Output; scope = scope.Output; said = said_value (codes "--output") (λ t. t) Name (Some w.output) } ∷
+    record { subject = subject.Output; scope = scope.Output; said = said_value (codes "--output") (λ t. t) File (Some w.output) } ∷
     record { subject = subject.Webm; scope = scope.Output; said = said_flag (codes "--webm") Flag w.webm } ∷
     record { subject = subject.Title; scope = scope.Output; said = said_title w } ∷
     record { subject = subject.ChapterFile; scope = scope.Output; said = said_chapters w } ∷
@@ -121,8 +111,8 @@ output_spelled : (w : MergeWords) → piece_words (output_pieces w) ≡ joined (
 output_spelled w = pieces_spelled (output_pieces w) (output_options w) (
     refl &
     flag_words (codes "--webm") Flag w.webm &
-    text_words (codes "--title") Name w.title &
-    text_words (codes "--chapters") Name w.chapters &
+    text_words (codes "--title") Text w.title &
+    text_words (codes "--chapters") File w.chapters &
     value_words (codes "--timestamp-scale") decimal Scale (unusual 1000000 w.scale) &
     length_spelled (w.blocks == 65535) (w.span == 5000000000) w.blocks w.span &
     value_words (codes "--split") split_word Split w.split &
@@ -147,15 +137,15 @@ scale_is scale x same = split (scale == 1000000) same
     split true is = absurd (cc)
     split false is = cc
 
-name_readable : (s : Subject) (word : List ℕ) (x : List ℕ) → IsOption word (means s scope.Output form.Name) → IsReadable (record { subject = s; scope = scope.Output; said = said_value word (λ t. t) Name (Some x) })
+name_readable : (s : Subject) (word : List ℕ) (x : List ℕ) → IsOption word (means s scope.Output form.Name) → IsReadable (record { subject = s; scope = scope.Output; said = said_value word (λ t. t) File (Some x) })
 unfolding value_of
-name_readable s word x is = once_read s scope.Output (said_value word (λ t. t) Name (Some x)) (value_said word (means s scope.Output form.Name) x (Name x) is refl refl, refl)
+name_readable s word x is = once_read s scope.Output (said_value word (λ t. t) File (Some x)) (value_said word (means s scope.Output form.Name) x (File x) is refl refl, refl)
 
 title_readable : (x : List ℕ) → IsOption (codes "--title") (means subject.Title scope.Output form.Text) → IsText x
-    → IsReadable (record { subject = subject.Title; scope = scope.Output; said = said_value (codes "--title") (λ t. t) Name (Some x) })
+    → IsReadable (record { subject = subject.Title; scope = scope.Output; said = said_value (codes "--title") (λ t. t) Text (Some x) })
 unfolding value_of
-title_readable x is text = once_read subject.Title scope.Output (said_value (codes "--title") (λ t. t) Name (Some x))
-    (value_said (codes "--title") (means subject.Title scope.Output form.Text) x (Name x) is refl (rw (text_read x text) refl), refl)
+title_readable x is text = once_read subject.Title scope.Output (said_value (codes "--title") (λ t. t) Text (Some x))
+    (value_said (codes "--title") (means subject.Title scope.Output form.Text) x (Text x) is refl (rw (text_read x text) refl), refl)
 
 scale_readable : (x : ℕ) → IsOption (codes "--timestamp-scale") (means subject.Scale scope.Output form.Scale) → IsWithin 1000 10000000 x
     → IsReadable (record { subject = subject.Scale; scope = scope.Output; said = said_value (codes "--timestamp-scale") decimal Scale (Some x) })
@@ -167,9 +157,9 @@ unfolding meaning_of table
 output_readable w sound is = (
     name_readable subject.Output (codes "--output") w.output (refl, refl) &
     flag_readable subject.Webm scope.Output (codes "--webm") w.webm (refl, refl) &
-    value_readable subject.Title form.Text (codes "--title") (λ t. t) Name w.title (refl, refl)
+    value_readable subject.Title form.Text (codes "--title") (λ t. t) Text w.title (refl, refl)
     (λ x same. title_readable x (refl, refl) (title_is w.title x is.title same)) &
-    value_readable subject.ChapterFile form.Name (codes "--chapters") (λ t. t) Name w.chapters (refl, refl)
+    value_readable subject.ChapterFile form.Name (codes "--chapters") (λ t. t) File w.chapters (refl, refl)
     (λ x same. name_readable subject.ChapterFile (codes "--chapters") x (refl, refl)) &
     value_readable subject.Scale form.Scale (codes "--timestamp-scale") decimal Scale (unusual 1000000 w.scale) (refl, refl)
     (λ x same. scale_readable x (refl, refl) (let e = scale_is w.scale x same in rw e at sound.scale)) &
@@ -187,38 +177,12 @@ output_read w count rest sound is =
     subst (λ ws. read_all count [] (starts 1 (ws ++ rest)) ≡ read_all count (piece_items 1 (output_pieces w)) (starts (after_pieces 1 (output_pieces w)) rest)) (output_spelled w) read
 
 -- ---- what the pieces say of files
-pub delays_none : (w : MergeWords) (at : ℕ) → filter_map (λ (i : Item). delay_of i.value) (piece_items at (output_pieces w)) ≡ []
-delays_none w at = every_part delay_of (output_pieces w) ([] ∷ [] ∷ [] ∷ [] ∷ [] ∷ [] ∷ [] ∷ [] ∷ [] ∷ []) at (
-    refl &
-    flag_silent delay_of (codes "--webm") Flag w.webm refl &
-    value_silent delay_of (codes "--title") (λ t. t) Name w.title (λ x. refl) &
-    value_silent delay_of (codes "--chapters") (λ t. t) Name w.chapters (λ x. refl) &
-    value_silent delay_of (codes "--timestamp-scale") decimal Scale (unusual 1000000 w.scale) (λ x. refl) &
-    length_silent delay_of (w.blocks == 65535) (w.span == 5000000000) w.blocks w.span refl refl &
-    value_silent delay_of (codes "--split") split_word Split w.split (λ x. refl) &
-    uuids_silent delay_of w.uuids (λ list. refl) &
-    flag_silent delay_of (codes "--link") Flag w.link refl &
-    tt)
-
-pub cues_none : (w : MergeWords) (at : ℕ) → filter_map (λ (i : Item). track_cues_of i.value) (piece_items at (output_pieces w)) ≡ []
-cues_none w at = every_part track_cues_of (output_pieces w) ([] ∷ [] ∷ [] ∷ [] ∷ [] ∷ [] ∷ [] ∷ [] ∷ [] ∷ []) at (
-    refl &
-    flag_silent track_cues_of (codes "--webm") Flag w.webm refl &
-    value_silent track_cues_of (codes "--title") (λ t. t) Name w.title (λ x. refl) &
-    value_silent track_cues_of (codes "--chapters") (λ t. t) Name w.chapters (λ x. refl) &
-    value_silent track_cues_of (codes "--timestamp-scale") decimal Scale (unusual 1000000 w.scale) (λ x. refl) &
-    length_silent track_cues_of (w.blocks == 65535) (w.span == 5000000000) w.blocks w.span refl refl &
-    value_silent track_cues_of (codes "--split") split_word Split w.split (λ x. refl) &
-    uuids_silent track_cues_of w.uuids (λ list. refl) &
-    flag_silent track_cues_of (codes "--link") Flag w.link refl &
-    tt)
-
 pub ids_none : (w : MergeWords) (at : ℕ) → flat_map (λ (i : Item). ids_of i.value) (piece_items at (output_pieces w)) ≡ []
 ids_none w at = ids_part (output_pieces w) ([] ∷ [] ∷ [] ∷ [] ∷ [] ∷ [] ∷ [] ∷ [] ∷ [] ∷ []) at (
     refl &
     flag_ids (codes "--webm") w.webm &
-    value_ids (codes "--title") (λ t. t) Name w.title (λ x. refl) &
-    value_ids (codes "--chapters") (λ t. t) Name w.chapters (λ x. refl) &
+    value_ids (codes "--title") (λ t. t) Text w.title (λ x. refl) &
+    value_ids (codes "--chapters") (λ t. t) File w.chapters (λ x. refl) &
     value_ids (codes "--timestamp-scale") decimal Scale (unusual 1000000 w.scale) (λ x. refl) &
     length_ids (w.blocks == 65535) (w.span == 5000000000) w.blocks w.span &
     value_ids (codes "--split") split_word Split w.split (λ x. refl) &

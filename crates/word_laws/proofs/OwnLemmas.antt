@@ -1,23 +1,22 @@
 -- What is read of the options for a file is what they were spelled from.
-use Rattle.std.proofs.Common.{◌≡◌, ℕ, ℤ, not, List, [], ◌∷◌, ◌++◌, codes, refl, sym, ◌∙◌}
+use Rattle.std.proofs.Common.{◌≡◌, ℕ, not, List, [], ◌∷◌, ◌++◌, codes, refl, sym, ◌∙◌}
 use Rattle.std.proofs.lemmas.List.{append-nil}
 use Rattle.std.specs.Prelude.{option_and_then, unwrap_or}
-use Rattle.std.specs.List.{flat_map, filter_map}
+use Rattle.std.specs.List.{flat_map}
 use Rattle.word_values.specs.declared.lists.Select.{Select}
 use Rattle.word_values.specs.declared.lists.Select.TheVariants as select
-use Rattle.word_values.specs.declared.values.CueWord.{CueWord}
-use Rattle.word_values.specs.declared.values.Value.TheVariants.{Flag, Name, TrackDelay, TrackName, TrackFlag, TrackCues}
+use Rattle.word_values.specs.declared.values.Value.TheVariants.{Flag, File, TrackDelay, TrackText, TrackLanguage, TrackFlag, TrackCues, TrackFile}
 use Rattle.merge_words.specs.declared.files.FileWords.{FileWords}
 use Rattle.merge_words.specs.declared.options.Subject.TheVariants as subject
 use Rattle.merge_words.specs.Items.{stands}
-use Rattle.merge_words.specs.Said.{tracks_of, delay_of, track_name_of, track_flag_of, track_cues_of}
-use Rattle.merge_words.specs.Files.{ids_of, ids_of_select, tracks_in, names_in, flags_in, named_in, file}
+use Rattle.merge_words.specs.Said.{tracks_of, delay_of, track_text_of, track_language_of, track_flag_of, track_cues_of, track_file_of}
+use Rattle.merge_words.specs.Files.{ids_of, ids_of_select, tracks_in, delays_in, names_in, languages_in, flags_in, cues_in, times_in, named_in, file}
 use Rattle.word_laws.specs.Values.{delay_word, flag_word, cues_word}
 use Rattle.word_laws.specs.SpellableMerge.{tracks_of as ids_in, named_tracks}
 use Rattle.word_laws.proofs.SayingLemmas.{◌&◌, Item, Piece, piece_items}
-use Rattle.word_laws.proofs.AboutLemmas.{about, first_said, stands_about, value_of_about, all_about, AreParts, every_part, AreIdsOf, ids_part}
-use Rattle.word_laws.proofs.PieceLemmas.{said_flag, flag_stands, flag_kept, flag_silent, flag_ids, said_select, select_silent, select_ids, tracks_silent, tracks_said, tracks_ids}
-use Rattle.word_laws.proofs.FileLemmas.{join_said, said_names, said_languages, said_defaults, said_forced, said_times, group}
+use Rattle.word_laws.proofs.AboutLemmas.{about, first_said, stands_about, value_of_about, all_about, AreIdsOf, ids_part}
+use Rattle.word_laws.proofs.PieceLemmas.{said_flag, flag_stands, flag_kept, flag_ids, said_select, select_ids, tracks_said, tracks_ids}
+use Rattle.word_laws.proofs.FileLemmas.{join_said, said_syncs, said_names, said_languages, said_defaults, said_forced, said_cues, said_times, group}
 
 -- ---- what pieces say of a file
 pub record IsSaidOf (f : FileWords) (ps : List Piece) : Type 0 where
@@ -34,8 +33,8 @@ pub record IsSaidOf (f : FileWords) (ps : List Piece) : Type 0 where
   pub defaults : about subject.DefaultFlag ps ≡ said_defaults f ++ []
   pub forced : about subject.ForcedFlag ps ≡ said_forced f ++ []
   pub times : about subject.Times ps ≡ said_times f ++ []
-  pub syncs : (at : ℕ) → filter_map (λ (i : Item). delay_of i.value) (piece_items at ps) ≡ f.syncs
-  pub cues : (at : ℕ) → filter_map (λ (i : Item). track_cues_of i.value) (piece_items at ps) ≡ f.cues
+  pub syncs : about subject.Sync ps ≡ said_syncs f ++ []
+  pub cues : about subject.Cues ps ≡ said_cues f ++ []
   pub named : (at : ℕ) → flat_map (λ (i : Item). ids_of i.value) (piece_items at ps)
       ≡ flat_map (λ ids. ids) (ids_of_select f.video ∷ ids_of_select f.audio ∷ ids_of_select f.subtitles ∷ ids_in f.syncs ∷ ids_in f.names ∷ ids_in f.languages ∷ ids_in f.defaults ∷ ids_in f.forced ∷ ids_in f.cues ∷ ids_in f.times ∷ [])
 
@@ -70,11 +69,14 @@ module _ (f : FileWords) (ps : List Piece) (at : ℕ) (is : IsSaidOf f ps) where
   chapters_is : not (stands subject.Chapters (piece_items at ps)) ≡ f.chapters
   chapters_is = rw (stands_about subject.Chapters ps at) (rw is.chapters (flag_kept (codes "--no-chapters") Flag f.chapters))
 
-  names_is : names_in subject.TrackName (piece_items at ps) ≡ f.names
-  names_is = all_about track_name_of subject.TrackName ps at ∙ rw is.names (rw append-nil (tracks_said (codes "--track-name") (λ name. name) TrackName track_name_of f.names (λ id x. refl)))
+  syncs_is : delays_in (piece_items at ps) ≡ f.syncs
+  syncs_is = all_about delay_of subject.Sync ps at ∙ rw is.syncs (rw append-nil (tracks_said (codes "--sync") delay_word TrackDelay delay_of f.syncs (λ id x. refl)))
 
-  languages_is : names_in subject.Language (piece_items at ps) ≡ f.languages
-  languages_is = all_about track_name_of subject.Language ps at ∙ rw is.languages (rw append-nil (tracks_said (codes "--language") (λ name. name) TrackName track_name_of f.languages (λ id x. refl)))
+  names_is : names_in (piece_items at ps) ≡ f.names
+  names_is = all_about track_text_of subject.TrackName ps at ∙ rw is.names (rw append-nil (tracks_said (codes "--track-name") (λ name. name) TrackText track_text_of f.names (λ id x. refl)))
+
+  languages_is : languages_in (piece_items at ps) ≡ f.languages
+  languages_is = all_about track_language_of subject.Language ps at ∙ rw is.languages (rw append-nil (tracks_said (codes "--language") (λ name. name) TrackLanguage track_language_of f.languages (λ id x. refl)))
 
   defaults_is : flags_in subject.DefaultFlag (piece_items at ps) ≡ f.defaults
   defaults_is = all_about track_flag_of subject.DefaultFlag ps at ∙ rw is.defaults (rw append-nil (tracks_said (codes "--default-track-flag") flag_word TrackFlag track_flag_of f.defaults (λ id x. refl)))
@@ -82,64 +84,23 @@ module _ (f : FileWords) (ps : List Piece) (at : ℕ) (is : IsSaidOf f ps) where
   forced_is : flags_in subject.ForcedFlag (piece_items at ps) ≡ f.forced
   forced_is = all_about track_flag_of subject.ForcedFlag ps at ∙ rw is.forced (rw append-nil (tracks_said (codes "--forced-display-flag") flag_word TrackFlag track_flag_of f.forced (λ id x. refl)))
 
-  times_is : names_in subject.Times (piece_items at ps) ≡ f.times
-  times_is = all_about track_name_of subject.Times ps at ∙ rw is.times (rw append-nil (tracks_said (codes "--timestamps") (λ name. name) TrackName track_name_of f.times (λ id x. refl)))
+  cues_is : cues_in (piece_items at ps) ≡ f.cues
+  cues_is = all_about track_cues_of subject.Cues ps at ∙ rw is.cues (rw append-nil (tracks_said (codes "--cues") cues_word TrackCues track_cues_of f.cues (λ id x. refl)))
+
+  times_is : times_in (piece_items at ps) ≡ f.times
+  times_is = all_about track_file_of subject.Times ps at ∙ rw is.times (rw append-nil (tracks_said (codes "--timestamps") (λ name. name) TrackFile track_file_of f.times (λ id x. refl)))
 
   named_is : f.named ≡ named_tracks f → named_in (piece_items at ps) ≡ f.named
   unfolding named_in
   named_is named = rw (is.named at) (sym named)
 
-  pub file_is : f.named ≡ named_tracks f → file (piece_items at ps) (Name f.name) ≡ f
+  pub file_is : f.named ≡ named_tracks f → file (piece_items at ps) (File f.name) ≡ f
   unfolding file
   file_is named =
       rw joins_is (rw video_is (rw audio_is (rw subtitles_is (rw attachments_is (rw track_tags_is (rw global_tags_is (rw chapters_is
-      (rw (is.syncs at) (rw names_is (rw languages_is (rw defaults_is (rw forced_is (rw (is.cues at) (rw times_is (rw (named_is named) refl)))))))))))))))
+      (rw syncs_is (rw names_is (rw languages_is (rw defaults_is (rw forced_is (rw cues_is (rw times_is (rw (named_is named) refl)))))))))))))))
 
 -- ---- the pieces of a file say it
-abbrev delay_lists : FileWords → List (List (ℕ × ℤ))
-delay_lists f = [] ∷ [] ∷ [] ∷ [] ∷ [] ∷ [] ∷ [] ∷ [] ∷ f.syncs ∷ [] ∷ [] ∷ [] ∷ [] ∷ [] ∷ [] ∷ []
-
-delay_parts : (f : FileWords) → AreParts delay_of (group f) (delay_lists f)
-delay_parts f = (
-    flag_silent delay_of (codes "+") Flag f.appended refl &
-    select_silent delay_of (codes "--video-tracks") (codes "--no-video") f.video (λ s. refl) &
-    select_silent delay_of (codes "--audio-tracks") (codes "--no-audio") f.audio (λ s. refl) &
-    select_silent delay_of (codes "--subtitle-tracks") (codes "--no-subtitles") f.subtitles (λ s. refl) &
-    flag_silent delay_of (codes "--no-attachments") Flag (not f.attachments) refl &
-    flag_silent delay_of (codes "--no-track-tags") Flag (not f.track_tags) refl &
-    flag_silent delay_of (codes "--no-global-tags") Flag (not f.global_tags) refl &
-    flag_silent delay_of (codes "--no-chapters") Flag (not f.chapters) refl &
-    tracks_said (codes "--sync") delay_word TrackDelay delay_of f.syncs (λ id x. refl) &
-    tracks_silent (codes "--track-name") (λ name. name) TrackName delay_of f.names (λ id x. refl) &
-    tracks_silent (codes "--language") (λ name. name) TrackName delay_of f.languages (λ id x. refl) &
-    tracks_silent (codes "--default-track-flag") flag_word TrackFlag delay_of f.defaults (λ id x. refl) &
-    tracks_silent (codes "--forced-display-flag") flag_word TrackFlag delay_of f.forced (λ id x. refl) &
-    tracks_silent (codes "--cues") cues_word TrackCues delay_of f.cues (λ id x. refl) &
-    tracks_silent (codes "--timestamps") (λ name. name) TrackName delay_of f.times (λ id x. refl) &
-    tt)
-
-abbrev cue_lists : FileWords → List (List (ℕ × CueWord))
-cue_lists f = [] ∷ [] ∷ [] ∷ [] ∷ [] ∷ [] ∷ [] ∷ [] ∷ [] ∷ [] ∷ [] ∷ [] ∷ [] ∷ f.cues ∷ [] ∷ []
-
-cues_parts : (f : FileWords) → AreParts track_cues_of (group f) (cue_lists f)
-cues_parts f = (
-    flag_silent track_cues_of (codes "+") Flag f.appended refl &
-    select_silent track_cues_of (codes "--video-tracks") (codes "--no-video") f.video (λ s. refl) &
-    select_silent track_cues_of (codes "--audio-tracks") (codes "--no-audio") f.audio (λ s. refl) &
-    select_silent track_cues_of (codes "--subtitle-tracks") (codes "--no-subtitles") f.subtitles (λ s. refl) &
-    flag_silent track_cues_of (codes "--no-attachments") Flag (not f.attachments) refl &
-    flag_silent track_cues_of (codes "--no-track-tags") Flag (not f.track_tags) refl &
-    flag_silent track_cues_of (codes "--no-global-tags") Flag (not f.global_tags) refl &
-    flag_silent track_cues_of (codes "--no-chapters") Flag (not f.chapters) refl &
-    tracks_silent (codes "--sync") delay_word TrackDelay track_cues_of f.syncs (λ id x. refl) &
-    tracks_silent (codes "--track-name") (λ name. name) TrackName track_cues_of f.names (λ id x. refl) &
-    tracks_silent (codes "--language") (λ name. name) TrackName track_cues_of f.languages (λ id x. refl) &
-    tracks_silent (codes "--default-track-flag") flag_word TrackFlag track_cues_of f.defaults (λ id x. refl) &
-    tracks_silent (codes "--forced-display-flag") flag_word TrackFlag track_cues_of f.forced (λ id x. refl) &
-    tracks_said (codes "--cues") cues_word TrackCues track_cues_of f.cues (λ id x. refl) &
-    tracks_silent (codes "--timestamps") (λ name. name) TrackName track_cues_of f.times (λ id x. refl) &
-    tt)
-
 abbrev id_lists : FileWords → List (List ℕ)
 id_lists f = [] ∷ ids_of_select f.video ∷ ids_of_select f.audio ∷ ids_of_select f.subtitles ∷ [] ∷ [] ∷ [] ∷ [] ∷ ids_in f.syncs ∷ ids_in f.names ∷ ids_in f.languages ∷ ids_in f.defaults ∷ ids_in f.forced ∷ ids_in f.cues ∷ ids_in f.times ∷ []
 
@@ -154,19 +115,13 @@ id_parts f = (
     flag_ids (codes "--no-global-tags") (not f.global_tags) &
     flag_ids (codes "--no-chapters") (not f.chapters) &
     tracks_ids (codes "--sync") delay_word TrackDelay f.syncs (λ id x. refl) &
-    tracks_ids (codes "--track-name") (λ name. name) TrackName f.names (λ id x. refl) &
-    tracks_ids (codes "--language") (λ name. name) TrackName f.languages (λ id x. refl) &
+    tracks_ids (codes "--track-name") (λ name. name) TrackText f.names (λ id x. refl) &
+    tracks_ids (codes "--language") (λ name. name) TrackLanguage f.languages (λ id x. refl) &
     tracks_ids (codes "--default-track-flag") flag_word TrackFlag f.defaults (λ id x. refl) &
     tracks_ids (codes "--forced-display-flag") flag_word TrackFlag f.forced (λ id x. refl) &
     tracks_ids (codes "--cues") cues_word TrackCues f.cues (λ id x. refl) &
-    tracks_ids (codes "--timestamps") (λ name. name) TrackName f.times (λ id x. refl) &
+    tracks_ids (codes "--timestamps") (λ name. name) TrackFile f.times (λ id x. refl) &
     tt)
-
-pub delays_are : (f : FileWords) (at : ℕ) → filter_map (λ (i : Item). delay_of i.value) (piece_items at (group f)) ≡ f.syncs
-delays_are f at = every_part delay_of (group f) (delay_lists f) at (delay_parts f) ∙ append-nil f.syncs
-
-pub cues_are : (f : FileWords) (at : ℕ) → filter_map (λ (i : Item). track_cues_of i.value) (piece_items at (group f)) ≡ f.cues
-cues_are f at = every_part track_cues_of (group f) (cue_lists f) at (cues_parts f) ∙ append-nil f.cues
 
 pub ids_are : (f : FileWords) (at : ℕ) → flat_map (λ (i : Item). ids_of i.value) (piece_items at (group f))
     ≡ flat_map (λ ids. ids) (ids_of_select f.video ∷ ids_of_select f.audio ∷ ids_of_select f.subtitles ∷ ids_in f.syncs ∷ ids_in f.names ∷ ids_in f.languages ∷ ids_in f.defaults ∷ ids_in f.forced ∷ ids_in f.cues ∷ ids_in f.times ∷ [])
@@ -187,7 +142,7 @@ group_says f = record {
   defaults = refl;
   forced = refl;
   times = refl;
-  syncs = delays_are f;
-  cues = cues_are f;
+  syncs = refl;
+  cues = refl;
   named = ids_are f;
 }

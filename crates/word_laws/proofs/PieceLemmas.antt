@@ -51,10 +51,6 @@ pub flag_kept : (word : List ℕ) (value : Value) (b : Bool) → not (is_said (s
 flag_kept word value true = refl
 flag_kept word value false = refl
 
-pub flag_silent : {Y : Type 0} (k : Value → Option Y) (word : List ℕ) (value : Value) (b : Bool) → k value ≡ None → all_said k (said_flag word value b) ≡ []
-flag_silent k word value true none = rw none refl
-flag_silent k word value false none = refl
-
 pub flag_ids : (word : List ℕ) (b : Bool) → ids_said (said_flag word Flag b) ≡ []
 flag_ids word true = refl
 flag_ids word false = refl
@@ -75,10 +71,6 @@ text_words word value (Some x) = refl
 pub value_first : {X : Type 0} (word : List ℕ) (text : X → List ℕ) (value : X → Value) (o : Option X) → first_said (said_value word text value o ++ []) ≡ option_map value o
 value_first word text value None = refl
 value_first word text value (Some x) = refl
-
-pub value_silent : {X Y : Type 0} (k : Value → Option Y) (word : List ℕ) (text : X → List ℕ) (value : X → Value) (o : Option X) → ((x : X) → k (value x) ≡ None) → all_said k (said_value word text value o) ≡ []
-value_silent k word text value None none = refl
-value_silent k word text value (Some x) none = rw (none x) refl
 
 pub value_ids : {X : Type 0} (word : List ℕ) (text : X → List ℕ) (value : X → Value) (o : Option X) → ((x : X) → ids_of (value x) ≡ []) → ids_said (said_value word text value o) ≡ []
 value_ids word text value None none = refl
@@ -107,12 +99,6 @@ select_readable s taken none (select.AllBut ids) is excludes sel =
 select_readable s taken none select.Off is excludes sel =
     once_read s scope.File (said_select taken none select.Off) (flag_said none (means s scope.File form.Exclusion) (Tracks select.Off) excludes refl, refl)
 
-pub select_silent : {Y : Type 0} (k : Value → Option Y) (taken none : List ℕ) (sel : Select) → ((s : Select) → k (Tracks s) ≡ None) → all_said k (said_select taken none sel) ≡ []
-select_silent k taken none select.All silent = refl
-select_silent k taken none (select.These ids) silent = rw (silent (select.These ids)) refl
-select_silent k taken none (select.AllBut ids) silent = rw (silent (select.AllBut ids)) refl
-select_silent k taken none select.Off silent = rw (silent select.Off) refl
-
 pub select_ids : (taken none : List ℕ) (sel : Select) → ids_said (said_select taken none sel) ≡ ids_of_select sel
 select_ids taken none select.All = refl
 select_ids taken none (select.These ids) = append-nil ids
@@ -127,10 +113,6 @@ module _ {X : Type 0} (word : List ℕ) (text : X → List ℕ) (value : ℕ →
   pub tracks_spelled : (list : List (ℕ × X)) → said_words (map said_track list) ≡ for_tracks word text list
   tracks_spelled [] = refl
   tracks_spelled (p ∷ ps) = rw (tracks_spelled ps) refl
-
-  pub tracks_silent : {Y : Type 0} (k : Value → Option Y) (list : List (ℕ × X)) → ((id : ℕ) (x : X) → k (value id x) ≡ None) → all_said k (map said_track list) ≡ []
-  tracks_silent k [] none = refl
-  tracks_silent k (p ∷ ps) none = rw (none p.0 p.1) (tracks_silent k ps none)
 
   pub tracks_said : (k : Value → Option (ℕ × X)) (list : List (ℕ × X)) → ((id : ℕ) (x : X) → k (value id x) ≡ Some (id, x)) → all_said k (map said_track list) ≡ list
   tracks_said k [] some = refl

@@ -1,5 +1,5 @@
 -- The words of `propedit` are read back.
-use Rattle.std.proofs.Common.{◌≡◌, ◌≤◌, inl, inr, ℕ, ◌+◌, true, false, nat_le, List, [], ◌∷◌, ◌++◌, length, codes, Option, Some, None, Ok, refl, sym, ap, ◌∙◌, subst, arith, All}
+use Rattle.std.proofs.Common.{◌≡◌, ◌≤◌, inl, inr, ℕ, ◌+◌, Bool, true, false, nat_le, List, [], ◌∷◌, length, codes, Some, Ok, refl, sym, ap, ◌∙◌, subst, arith, All}
 use Rattle.std.proofs.lemmas.Bool.Decides.{nat_tests}
 use Rattle.std.proofs.lemmas.Fmt.{decimal_nonempty}
 use Rattle.std.proofs.lemmas.List.{append-nil}
@@ -15,11 +15,10 @@ use Rattle.word_values.specs.declared.edit.Selector.{Selector}
 use Rattle.word_values.specs.declared.edit.Selector.TheVariants as spot
 use Rattle.mkv_args.specs.declared.command.Command.TheVariants as commands
 use Rattle.mkv_args.specs.declared.commands.Verb.TheVariants as verb
-use Rattle.mkv_args.specs.declared.propedit.Step.{Step}
 use Rattle.mkv_args.specs.declared.propedit.Step.TheVariants as step
 use Rattle.mkv_args.specs.declared.propedit.Saying.{Saying}
 use Rattle.mkv_args.specs.declared.propedit.Saying.TheVariants as says
-use Rattle.mkv_args.specs.Propedit.{place, typed, begins, track, selector, steps, step_of, pairs, may_follow, meaning, all_said, edits_in, edits, propedit}
+use Rattle.mkv_args.specs.Propedit.{place, typed, begins, track, selector, steps, step_of, pairs, meaning, all_said, edits_in, first_section, edits, propedit}
 use Rattle.mkv_args.specs.Sound.{IsSoundPlace, AreEdits}
 use Rattle.mkv_args.specs.Words.{command, command_named}
 use Rattle.word_laws.specs.Values.{HasFewDigits}
@@ -100,28 +99,28 @@ property_read change.Set name value is = rw (cut_behind 61 name value is) refl
 property_read change.Add name value is = rw (cut_behind 61 name value is) refl
 property_read change.Delete name value is = rw is refl
 
--- an edit in a section of its own
-edit_read : (count : ℕ) (before : Option Step) (at : ℕ) (e : Edit) (words : List (List ℕ)) (more : List Saying) → may_follow before step.Section ≡ true → IsSoundPlace e.place → IsSpellableEdit e
-    → all_said count (Some (step.Edit e.change)) (pairs (at + 2 + 2) words) ≡ Ok more → all_said count before (pairs at (edit_words e ++ words)) ≡ Ok (says.Section e.place ∷ says.Change e.change e.name e.value ∷ more)
-edit_read count before at e words more follows sound is rest =
-    rw (section_step, follows, section_read e.place sound is.place, change_step e.change, property_read e.change e.name e.value is.property, rest) refl
+-- an edit, behind a section or another edit
+change_read : (count : ℕ) (edited : Bool) (at : ℕ) (e : Edit) (words : List (List ℕ)) (more : List Saying) → IsSpellableEdit e → all_said count true (pairs (at + 2) words) ≡ Ok more
+    → all_said count edited (pairs at (change_word e.change ∷ property_word e.change e.name e.value ∷ words)) ≡ Ok (says.Change e.change e.name e.value ∷ more)
+change_read count edited at e words more is rest = rw (change_step e.change, property_read e.change e.name e.value is.property, rest) refl
 
-edits_from_read : (count : ℕ) (c : Change) (at : ℕ) (es : List Edit) → All (λ (e : Edit). IsSoundPlace e.place) es → All IsSpellableEdit es
-    → all_said count (Some (step.Edit c)) (pairs at (flat_map edit_words es)) ≡ Ok (sayings es)
-edits_from_read count c at [] sound are = refl
-edits_from_read count c at (e ∷ es) sound are =
-    edit_read count (Some (step.Edit c)) at e (flat_map edit_words es) (sayings es) refl (All-head (λ (x : Edit). IsSoundPlace x.place) e es sound) (All-head IsSpellableEdit e es are)
-    (edits_from_read count e.change (at + 2 + 2) es (All-tail (λ (x : Edit). IsSoundPlace x.place) e es sound) (All-tail IsSpellableEdit e es are))
+edits_from_read : (count at : ℕ) (es : List Edit) → All (λ (e : Edit). IsSoundPlace e.place) es → All IsSpellableEdit es → all_said count true (pairs at (flat_map edit_words es)) ≡ Ok (sayings es)
+edits_from_read count at [] sound are = refl
+edits_from_read count at (e ∷ es) sound are =
+    let is = All-head IsSpellableEdit e es are in
+    let rest = edits_from_read count (at + 2 + 2) es (All-tail (λ (x : Edit). IsSoundPlace x.place) e es sound) (All-tail IsSpellableEdit e es are) in
+    rw (section_step, section_read e.place (All-head (λ (x : Edit). IsSoundPlace x.place) e es sound) is.place, change_read count false (at + 2) e (flat_map edit_words es) (sayings es) is rest) refl
 
 edits_read : (file : List ℕ) (es : List Edit) → AreEdits es → All IsSpellableEdit es → edits (codes "propedit" ∷ file ∷ flat_map edit_words es) ≡ Ok es
-unfolding edits
+unfolding edits first_section
 edits_read file [] sound are = let some = sound.some in absurd (omega arith)
 edits_read file (e ∷ es) sound are =
     let count = length (codes "propedit" ∷ file ∷ flat_map edit_words (e ∷ es)) in
     let each = sound.each in
-    let rest = edits_from_read count e.change (2 + 2 + 2) es (All-tail (λ (x : Edit). IsSoundPlace x.place) e es each) (All-tail IsSpellableEdit e es are) in
-    let all = edit_read count None 2 e (flat_map edit_words es) (sayings es) refl (All-head (λ (x : Edit). IsSoundPlace x.place) e es each) (All-head IsSpellableEdit e es are) rest in
-    rw all (ap Ok (sayings_back spot.Info (e ∷ es)))
+    let is = All-head IsSpellableEdit e es are in
+    let rest = edits_from_read count 6 es (All-tail (λ (x : Edit). IsSoundPlace x.place) e es each) (All-tail IsSpellableEdit e es are) in
+    let all = change_read count false 4 e (flat_map edit_words es) (sayings es) is rest in
+    rw (section_step, section_read e.place (All-head (λ (x : Edit). IsSoundPlace x.place) e es each) is.place, all) (ap (λ l. Ok (e ∷ l)) (sayings_back e.place es))
 
 pub propedit_read : (file : List ℕ) (es : List Edit) → IsFile file → AreEdits es → All IsSpellableEdit es → command (codes "propedit" ∷ file ∷ flat_map edit_words es) ≡ Ok (commands.Propedit file es)
 unfolding command_named propedit

@@ -1,5 +1,6 @@
 -- Options that are said one behind the other are read as items.
 use Rattle.std.proofs.Common.{if◌then◌else◌, ◌≡◌, ℕ, ◌+◌, Bool, true, false, not, ◌&&◌, List, [], ◌∷◌, ◌++◌, codes, Option, Some, None, Ok, refl, ap, ◌∙◌}
+use Rattle.std.proofs.lemmas.Bool.{and_parts, not-true}
 use Rattle.std.proofs.lemmas.List.Folds.{list_any-append}
 use Rattle.std.specs.Prelude.{slice_get, is_some}
 use Rattle.std.specs.List.{flat_map}
@@ -139,13 +140,14 @@ pub said_stands : (at : ℕ) (s t : Subject) (c : Scope) (list : List Said) → 
 said_stands at s t c [] other = refl
 said_stands at s t c (x ∷ xs) other = rw other (said_stands (at + takes x.value) s t c xs other)
 
+pub not_and : (a b : Bool) → (not a && b) ≡ true → (a ≡ false) × (b ≡ true)
+not_and a b is = let parts = and_parts (not a) b is in (not-true a parts.0, parts.1)
+
 pub stands_both : (t : Subject) (a b : List Item) → stands t a ≡ false → stands t b ≡ false → stands t (a ++ b) ≡ false
 stands_both t a b p q = list_any-append (λ (i : Item). same i.subject t) a b ∙ rw p q
 
 pub other_stands : (at : ℕ) (t : Subject) (ps : List Piece) → none_about t ps ≡ true → stands t (piece_items at ps) ≡ false
 other_stands at t [] none = refl
-other_stands at t (p ∷ ps) none = split (same p.subject t) refl none (λ h. other_stands (after_said at p.said) t ps h)
-  where
-    split : (b : Bool) → same p.subject t ≡ b → (not b && none_about t ps) ≡ true → (none_about t ps ≡ true → stands t (piece_items (after_said at p.said) ps) ≡ false) → stands t (piece_items at (p ∷ ps)) ≡ false
-    split true is none more = absurd (cc)
-    split false is none more = stands_both t (said_items at p.subject p.scope p.said) (piece_items (after_said at p.said) ps) (said_stands at p.subject t p.scope p.said is) (more none)
+other_stands at t (p ∷ ps) none =
+    let parts = not_and (same p.subject t) (none_about t ps) none in
+    stands_both t (said_items at p.subject p.scope p.said) (piece_items (after_said at p.said) ps) (said_stands at p.subject t p.scope p.said parts.0) (other_stands (after_said at p.said) t ps parts.1)

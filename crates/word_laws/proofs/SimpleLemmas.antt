@@ -1,5 +1,6 @@
 -- Commands of one to three words are read back.
-use Rattle.std.proofs.Common.{◌≡◌, ◌≢◌, ℕ, Bool, true, false, ◌&&◌, nat_lt, nat_le, List, [], ◌∷◌, codes, Some, None, Ok, refl, ap, ◌∙◌, arith}
+use Rattle.std.proofs.Common.{◌≡◌, ◌≢◌, ℕ, Bool, true, false, nat_lt, nat_le, List, [], ◌∷◌, codes, Some, None, Ok, refl, ap, ◌∙◌, arith}
+use Rattle.std.proofs.lemmas.Bool.{and_right}
 use Rattle.std.proofs.lemmas.Bool.Decides.{nat_tests}
 use Rattle.std.proofs.lemmas.Slice.Eq.{bytes_eq-Decides}
 use Rattle.std.specs.Str.{bytes_eq}
@@ -29,10 +30,6 @@ other_word a b other = split (bytes_eq a b) refl
 -- a file's name is no option
 pub no_option : (name option : List ℕ) → IsFile name → is_option option ≡ true → bytes_eq name option ≡ false
 no_option name option file is = other_word name option (λ same. let e : is_option name ≡ true = ap is_option same ∙ is in cc)
-
-pub and_false : (a : Bool) → (a && false) ≡ false
-and_false true = refl
-and_false false = refl
 
 -- ---- the command that the first word names
 by_first : (v : Verb) (rest : List (List ℕ)) → meant verbs (verb_word v) ≡ Some v
@@ -67,7 +64,7 @@ file_helps_none : (first file : List ℕ) → IsFile file → helped (first ∷ 
 file_helps_none first file plain = rw (no_option file (codes "--help") plain refl) refl
 
 pub more_help_none : (first second third : List ℕ) (rest : List (List ℕ)) → helped (first ∷ second ∷ third ∷ rest) ≡ None
-more_help_none first second third rest = rw (and_false (bytes_eq second (codes "--help"))) refl
+more_help_none first second third rest = rw (and_right (bytes_eq second (codes "--help")) false refl) refl
 
 -- ---- commands of one file
 only_file_read : (first file : List ℕ) → IsFile file → only_file (first ∷ file ∷ []) ≡ Ok file

@@ -1,5 +1,7 @@
 -- Where an output is split, and identifiers of outputs, are read back.
-use Rattle.std.proofs.Common.{◌∙◌, sym, ap, zero, suc, Bool, nat_lt, [], ◌∷◌, ◌++◌, ◌-◌, ◌*◌, ◌/◌, ◌%◌, min, ◌&&◌, ◌||◌, if◌then◌else◌, ◌≡◌, ◌≤◌, ◌<◌, ◌^◌, ℕ, true, false, nat_le, List, length, map, codes, Some, refl, ap, arith, All}
+use Rattle.std.proofs.Common.{◌∙◌, sym, ap, zero, suc, Bool, nat_lt, [], ◌∷◌, ◌++◌, ◌-◌, ◌*◌, ◌/◌, ◌%◌, min, ◌||◌, if◌then◌else◌, ◌≡◌, ◌≤◌, ◌<◌, ◌^◌, ℕ, true, false, nat_le, List, length, map, codes, Some, refl, ap, arith, All}
+use Rattle.std.proofs.lemmas.List.Elements.{All-weaker}
+use Rattle.std.proofs.lemmas.Bool.{and_parts, and_right}
 use Rattle.std.proofs.lemmas.Bool.Decides.{nat_tests}
 use Rattle.std.proofs.lemmas.Fmt.{decimal_nonempty, length-decimal-le}
 use Rattle.std.specs.Prelude.{slice_index, ◌==◌}
@@ -17,8 +19,8 @@ use Rattle.word_values.specs.Sound.{IsSoundSplit, IsSpan, AreUuids}
 use Rattle.word_laws.specs.Values.{is_in, size_word, lacks, with_commas, numbers_word, last_digits, time_word, span_word, split_word}
 use Rattle.word_laws.specs.SpellableMerge.{is_size, AreIds, IsSplit}
 use Rattle.word_laws.proofs.NumberLemmas.{decimal_all, whole_read, cut_behind}
-use Rattle.word_laws.proofs.SimpleLemmas.{and_false, other_word}
-use Rattle.word_laws.proofs.ValueLemmas.{last_is, ends_is, front_is, digits_end, list_read, each_known, numbers_read, numbers_first}
+use Rattle.word_laws.proofs.SimpleLemmas.{other_word}
+use Rattle.word_laws.proofs.ValueLemmas.{last_is, ends_is, front_is, digits_end, list_read, numbers_read, numbers_first}
 use Rattle.word_laws.proofs.TimeLemmas.{time_read, time_lacks, span_is_read, span_lacks, uuid_read, uuid_lacks}
 
 duration_read : (by : ℕ) → 1 ≤ by → by < 2 ^ 63 → split (split_word (split_by.Duration by)) ≡ Some (split_by.Duration by)
@@ -30,15 +32,15 @@ duration_read by some small =
 times_read : (at : List ℕ) → IsSoundSplit (split_by.Times at) → 0 < length at → split (split_word (split_by.Times at)) ≡ Some (split_by.Times at)
 unfolding split split_of times
 times_read at sound some =
-    let each = list_read time time_word at some (each_known (λ t. t < 2 ^ 63) (λ t. lacks 44 (time_word t) ≡ true) at (λ t h. time_lacks 44 t h refl refl refl) sound.below)
-    (each_known (λ t. t < 2 ^ 63) (λ t. time (time_word t) ≡ Some t) at (λ t h. time_read t h) sound.below) in
+    let each = list_read time time_word at some (All-weaker (λ t. t < 2 ^ 63) (λ t. lacks 44 (time_word t) ≡ true) (λ t h. time_lacks 44 t h refl refl refl) at sound.below)
+    (All-weaker (λ t. t < 2 ^ 63) (λ t. time (time_word t) ≡ Some t) (λ t h. time_read t h) at sound.below) in
     rw (cut_behind 58 (codes "timestamps") (with_commas (map time_word at)) refl) (rw each (rw sound.ascend refl))
 
 spans_read : (list : List SpanWords) → IsSoundSplit (split_by.Parts list) → 0 < length list → split (split_word (split_by.Parts list)) ≡ Some (split_by.Parts list)
 unfolding split split_of spans
 spans_read list sound some =
-    let each = list_read span span_word list some (each_known IsSpan (λ s. lacks 44 (span_word s) ≡ true) list (λ s h. span_lacks s h) sound.each)
-    (each_known IsSpan (λ s. span (span_word s) ≡ Some s) list (λ s h. span_is_read s h) sound.each) in
+    let each = list_read span span_word list some (All-weaker IsSpan (λ s. lacks 44 (span_word s) ≡ true) (λ s h. span_lacks s h) list sound.each)
+    (All-weaker IsSpan (λ s. span (span_word s) ≡ Some s) (λ s h. span_is_read s h) list sound.each) in
     rw (cut_behind 58 (codes "parts") (with_commas (map span_word list)) refl) (rw each (rw sound.follow refl))
 
 no_all : (ns : List ℕ) → AreIds ns → bytes_eq (numbers_word ns) (codes "all") ≡ false
@@ -65,7 +67,7 @@ amount_read n some small =
     rw short (rw (whole_read n fits) (rw low refl))
 
 ends_other : (w : List ℕ) (o p : ℕ) → (o == p) ≡ false → ends (w ++ o ∷ []) p ≡ false
-ends_other w o p other = rw (last_is w o) (rw other (and_false (nat_lt 0 (length (w ++ o ∷ [])))))
+ends_other w o p other = rw (last_is w o) (and_right (nat_lt 0 (length (w ++ o ∷ []))) _ other)
 
 -- what stands in a unit
 pub record IsIn (unit limit : ℕ) : Type 0 where
@@ -79,10 +81,6 @@ in_unit unit limit some most whole few = record { some = positive (limit / unit)
     positive : (k : ℕ) → limit / unit ≡ k → 1 ≤ limit / unit
     positive zero is = let none : limit / unit * unit ≡ 0 = rw is (omega arith) in absurd (omega arith)
     positive (suc k) is = omega arith
-
-both_of : (a b : Bool) → (a && b) ≡ true → (a ≡ true) × (b ≡ true)
-both_of true b is = (refl, is)
-both_of false b is = absurd (cc)
 
 kibi_read : (limit : ℕ) → IsIn 1024 limit → size (decimal (limit / 1024) ++ codes "k") ≡ Some limit
 unfolding size
@@ -115,7 +113,7 @@ unfolding size amount whole
 most_read = refl
 
 whole_in : (unit limit : ℕ) → is_in unit limit ≡ true → (limit % unit ≡ 0) × (limit / unit < 10 ^ 12)
-whole_in unit limit is = let both = both_of (limit % unit == 0) (nat_lt (limit / unit) (10 ^ 12)) is in let one = both.0 in let two = both.1 in (grind (arith, nat_tests), grind (arith, nat_tests))
+whole_in unit limit is = let both = and_parts (limit % unit == 0) (nat_lt (limit / unit) (10 ^ 12)) is in let one = both.0 in let two = both.1 in (grind (arith, nat_tests), grind (arith, nat_tests))
 
 octets_of_read : (limit : ℕ) → 1 ≤ limit → limit ≤ 2 ^ 64 - 1 → is_size limit ≡ true → size (size_word limit) ≡ Some limit
 octets_of_read limit some most is = split (nat_lt limit (10 ^ 12)) (is_in 1024 limit) (is_in 1048576 limit) (is_in 1073741824 limit) refl refl refl refl is
@@ -147,7 +145,7 @@ split_value_read s sound is = rw (split_read s sound is) refl
 pub uuids_read : (us : List ℕ) → 0 < length us → AreUuids us → All (λ u. u < 2 ^ 128) us → value_of form.Uuids (with_commas (map (last_digits 16 32) us)) ≡ Some (Uuids us)
 unfolding value_of uuids
 uuids_read us some sound small =
-    let each = list_read uuid (last_digits 16 32) us some (each_known (λ u. u < 2 ^ 128) (λ u. lacks 44 (last_digits 16 32 u) ≡ true) us (λ u h. uuid_lacks u) small)
-    (each_known (λ u. u < 2 ^ 128) (λ u. uuid (last_digits 16 32 u) ≡ Some u) us (λ u h. uuid_read u h) small) in
+    let each = list_read uuid (last_digits 16 32) us some (All-weaker (λ u. u < 2 ^ 128) (λ u. lacks 44 (last_digits 16 32 u) ≡ true) (λ u h. uuid_lacks u) us small)
+    (All-weaker (λ u. u < 2 ^ 128) (λ u. uuid (last_digits 16 32 u) ≡ Some u) (λ u h. uuid_read u h) us small) in
     let few : nat_le (length us) 1024 ≡ true = (let h = sound.few in grind (arith, nat_tests)) in
     rw each (rw few (rw sound.differ refl))

@@ -1,6 +1,7 @@
 -- Times, stretches of time and identifiers are read back.
 use Rattle.std.proofs.Common.{◌≡◌, ◌<◌, ◌^◌, ℕ, zero, suc, ◌+◌, ◌-◌, ◌*◌, ◌/◌, ◌%◌, Bool, true, false, not, ◌&&◌, nat_lt, List, [], ◌∷◌, ◌++◌, length, codes, Option, Some, None, IfSome, refl, ap, ◌∙◌, subst, arith, length-append}
 use Rattle.std.proofs.Math.Nat.{div-div-eq-div-mul}
+use Rattle.std.proofs.lemmas.List.Folds.{list_all-append}
 use Rattle.std.proofs.lemmas.Bool.Decides.{nat_tests}
 use Rattle.std.proofs.lemmas.Grind.{common_steps}
 use Rattle.std.proofs.lemmas.Fmt.{decimal_nonempty}
@@ -26,12 +27,7 @@ last_length base zero n = refl
 last_length base (suc k) n = length-append (last_digits base k (n / base)) (digit_char (n % base) ∷ []) ∙ (let e = last_length base k (n / base) in omega arith)
 
 all_both : (p : ℕ → Bool) (xs : List ℕ) (x : ℕ) → list_all p xs ≡ true → p x ≡ true → list_all p (xs ++ x ∷ []) ≡ true
-all_both p [] x all one = rw one refl
-all_both p (y ∷ ys) x all one = split (p y) all (λ h. all_both p ys x h one)
-  where
-    split : (b : Bool) → (b && list_all p ys) ≡ true → (list_all p ys ≡ true → list_all p (ys ++ x ∷ []) ≡ true) → (b && list_all p (ys ++ x ∷ [])) ≡ true
-    split true is more = more is
-    split false is more = absurd (cc)
+all_both p xs x all one = list_all-append p xs (x ∷ []) ∙ rw (all, one) refl
 
 ten_digit : (d : ℕ) → d < 10 → is_ascii_digit (digit_char d) ≡ true
 ten_digit d small = grind (arith, nat_tests, common_steps)
@@ -93,12 +89,7 @@ fraction_read n small = rw (last_length 10 9 n) (rw (last_whole 9 n (omega arith
 
 -- ---- a time
 lacks_both : (o : ℕ) (a b : List ℕ) → lacks o a ≡ true → lacks o b ≡ true → lacks o (a ++ b) ≡ true
-lacks_both o [] b p q = q
-lacks_both o (x ∷ xs) b p q = split (not (x == o)) p (λ h. lacks_both o xs b h q)
-  where
-    split : (c : Bool) → (c && lacks o xs) ≡ true → (lacks o xs ≡ true → lacks o (xs ++ b) ≡ true) → (c && lacks o (xs ++ b)) ≡ true
-    split true is more = more is
-    split false is more = absurd (cc)
+lacks_both o a b p q = list_all-append (λ c. not (c == o)) a b ∙ rw (p, q) refl
 
 seconds_read : (t : ℕ) → seconds (last_digits 10 2 (t / 1000000000 % 60) ++ (codes "." ++ last_digits 10 9 (t % 1000000000))) ≡ Some (t / 1000000000 % 60 * 1000000000 + t % 1000000000)
 unfolding seconds

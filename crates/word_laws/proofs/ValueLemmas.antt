@@ -1,10 +1,11 @@
 -- Values of options are read back.
-use Rattle.std.proofs.Common.{◌≡◌, ◌≤◌, ◌<◌, ◌^◌, ℕ, zero, suc, ◌-◌, ◌*◌, ◌/◌, ◌%◌, ℤ, pos, negsuc, Bool, true, false, not, ◌&&◌, nat_lt, nat_le, List, [], ◌∷◌, ◌++◌, length, map, codes, Option, Some, refl, sym, ap, ◌∙◌, arith, append_assoc, All}
+use Rattle.std.proofs.Common.{◌≡◌, ◌≤◌, ◌<◌, ◌^◌, ℕ, zero, suc, ◌-◌, ◌*◌, ◌/◌, ◌%◌, ℤ, pos, negsuc, Bool, true, false, nat_lt, nat_le, List, [], ◌∷◌, ◌++◌, length, map, codes, Option, Some, refl, sym, ap, ◌∙◌, arith, append_assoc, All}
+use Rattle.std.proofs.lemmas.Bool.{and_parts, and_right}
 use Rattle.std.proofs.lemmas.Bool.Decides.{nat_tests}
 use Rattle.std.proofs.lemmas.Grind.{common_steps}
 use Rattle.std.proofs.lemmas.Fmt.{decimal_nonempty}
 use Rattle.std.proofs.lemmas.List.{append-nil}
-use Rattle.std.proofs.lemmas.List.Elements.{All-nil, All-cons, All-head, All-tail}
+use Rattle.std.proofs.lemmas.List.Elements.{All-nil, All-cons, All-head, All-tail, All-map, All-weaker}
 use Rattle.std.proofs.lemmas.List.Splits.{slice_split_none, slice_split_at}
 use Rattle.std.specs.Prelude.{slice_index, ◌==◌, nat_abs}
 use Rattle.std.specs.List.{list_all, list_any}
@@ -13,24 +14,19 @@ use Rattle.std.specs.Fmt.{decimal}
 use Rattle.word_values.specs.declared.lists.Select.TheVariants as select
 use Rattle.word_values.specs.declared.values.CueWord.{CueWord}
 use Rattle.word_values.specs.declared.values.CueWord.TheVariants as cue
-use Rattle.word_values.specs.declared.values.Value.TheVariants.{Scale, Blocks, Span, Tracks, TrackDelay, TrackName, TrackFlag, TrackCues}
+use Rattle.word_values.specs.declared.values.Value.TheVariants.{Scale, Blocks, Span, Tracks, TrackDelay, TrackText, TrackLanguage, TrackFlag, TrackCues, TrackFile}
 use Rattle.word_values.specs.declared.values.ValueForm.TheVariants as form
 use Rattle.word_values.specs.Numbers.{number, delay_size, delay, ends, front}
 use Rattle.word_values.specs.Lists.{pieces, each, numbers, ids}
 use Rattle.word_values.specs.Values.{text, is_language, language, scale, cluster_length, track_flag, cue_word, track_value, value_of}
 use Rattle.word_values.specs.Sound.{IsWithin}
 use Rattle.word_laws.specs.Values.{HasFewDigits, with_number, lacks, with_commas, numbers_word, delay_word, flag_word, cues_word}
-use Rattle.word_laws.proofs.SimpleLemmas.{and_false}
-use Rattle.word_laws.proofs.NumberLemmas.{digit_is_not, short_fits, decimal_all, decimal_lacks, first_other, number_read, numbered_read}
+use Rattle.word_laws.proofs.NumberLemmas.{digit_is_not, lacks_parts, short_fits, decimal_all, decimal_lacks, first_other, number_read, numbered_read}
 
 -- ---- texts
 lacks_any : (o : ℕ) (w : List ℕ) → lacks o w ≡ true → list_any (λ b. b == o) w ≡ false
 lacks_any o [] none = refl
-lacks_any o (b ∷ bs) none = split (b == o) refl none (λ h. lacks_any o bs h)
-  where
-    split : (c : Bool) → (b == o) ≡ c → (not c && lacks o bs) ≡ true → (lacks o bs ≡ true → list_any (λ d. d == o) bs ≡ false) → list_any (λ d. d == o) (b ∷ bs) ≡ false
-    split true is none more = absurd (cc)
-    split false is none more = rw is (more none)
+lacks_any o (b ∷ bs) none = let parts = lacks_parts o b bs none in rw parts.0 (lacks_any o bs parts.1)
 
 pub text_read : (word : List ℕ) → lacks 0 word ≡ true → text word ≡ Some word
 unfolding text
@@ -43,21 +39,13 @@ language_read word is = rw is refl
 -- ---- the last octet of a word
 digit_at : (ds : List ℕ) (i : ℕ) → list_all is_ascii_digit ds ≡ true → i < length ds → is_ascii_digit (slice_index ds i) ≡ true
 digit_at [] i all within = absurd (omega arith)
-digit_at (d ∷ ds) zero all within = split (is_ascii_digit d) all
-  where
-    split : (c : Bool) → (c && list_all is_ascii_digit ds) ≡ true → c ≡ true
-    split true is = refl
-    split false is = absurd (cc)
-digit_at (d ∷ ds) (suc i) all within = digit_at ds i (split (is_ascii_digit d) all) (omega arith)
-  where
-    split : (c : Bool) → (c && list_all is_ascii_digit ds) ≡ true → list_all is_ascii_digit ds ≡ true
-    split true is = is
-    split false is = absurd (cc)
+digit_at (d ∷ ds) zero all within = (and_parts (is_ascii_digit d) (list_all is_ascii_digit ds) all).0
+digit_at (d ∷ ds) (suc i) all within = digit_at ds i (and_parts (is_ascii_digit d) (list_all is_ascii_digit ds) all).1 (omega arith)
 
 pub digits_end : (o : ℕ) (ds : List ℕ) → is_ascii_digit o ≡ false → 0 < length ds → list_all is_ascii_digit ds ≡ true → ends ds o ≡ false
 digits_end o ds other some all =
     let no = digit_is_not o (slice_index ds (length ds - 1)) other (digit_at ds (length ds - 1) all (omega arith)) in
-    rw no (and_false (nat_lt 0 (length ds)))
+    and_right (nat_lt 0 (length ds)) _ no
 
 pub last_is : (w : List ℕ) (o : ℕ) → slice_index (w ++ o ∷ []) (length (w ++ o ∷ []) - 1) ≡ o
 last_is w o = grind (arith, common_steps)
@@ -122,11 +110,11 @@ pub track_delay_read : (id : ℕ) (d : ℤ) → HasFewDigits id → nat_abs d < 
 unfolding value_of track_value
 track_delay_read id d short small whole = rw (numbered_read id (delay_word d) short) (rw (delay_read d small whole) refl)
 
-pub track_text_read : (id : ℕ) (word : List ℕ) → HasFewDigits id → lacks 0 word ≡ true → value_of form.TrackText (with_number id word) ≡ Some (TrackName id word)
+pub track_text_read : (id : ℕ) (word : List ℕ) → HasFewDigits id → lacks 0 word ≡ true → value_of form.TrackText (with_number id word) ≡ Some (TrackText id word)
 unfolding value_of track_value
 track_text_read id word short none = rw (numbered_read id word short) (rw (text_read word none) refl)
 
-pub track_language_read : (id : ℕ) (word : List ℕ) → HasFewDigits id → is_language word ≡ true → value_of form.TrackLanguage (with_number id word) ≡ Some (TrackName id word)
+pub track_language_read : (id : ℕ) (word : List ℕ) → HasFewDigits id → is_language word ≡ true → value_of form.TrackLanguage (with_number id word) ≡ Some (TrackLanguage id word)
 unfolding value_of track_value
 track_language_read id word short is = rw (numbered_read id word short) (rw (language_read word is) refl)
 
@@ -141,18 +129,14 @@ track_cues_read id cue.Never short = rw (numbered_read id (codes "none") short) 
 track_cues_read id cue.Key short = rw (numbered_read id (codes "iframes") short) refl
 track_cues_read id cue.All short = rw (numbered_read id (codes "all") short) refl
 
-pub track_file_read : (id : ℕ) (name : List ℕ) → HasFewDigits id → value_of form.TrackFile (with_number id name) ≡ Some (TrackName id name)
+pub track_file_read : (id : ℕ) (name : List ℕ) → HasFewDigits id → value_of form.TrackFile (with_number id name) ≡ Some (TrackFile id name)
 unfolding value_of track_value
 track_file_read id name short = rw (numbered_read id name short) refl
 
 -- ---- what stands between commas
 lacks_each : (o : ℕ) (w : List ℕ) → lacks o w ≡ true → All (λ b. (b == o) ≡ false) w
 lacks_each o [] none = All-nil (λ b. (b == o) ≡ false)
-lacks_each o (b ∷ bs) none = split (b == o) refl none (λ h. lacks_each o bs h)
-  where
-    split : (c : Bool) → (b == o) ≡ c → (not c && lacks o bs) ≡ true → (lacks o bs ≡ true → All (λ d. (d == o) ≡ false) bs) → All (λ d. (d == o) ≡ false) (b ∷ bs)
-    split true is none more = absurd (cc)
-    split false is none more = All-cons (λ d. (d == o) ≡ false) b bs is (more none)
+lacks_each o (b ∷ bs) none = let parts = lacks_parts o b bs none in All-cons (λ b. (b == o) ≡ false) b bs parts.0 (lacks_each o bs parts.1)
 
 pub pieces_read : (ws : List (List ℕ)) → 0 < length ws → All (λ w. lacks 44 w ≡ true) ws → pieces (with_commas ws) ≡ ws
 pieces_read [] some none = absurd (omega arith)
@@ -170,22 +154,15 @@ each_read {X} read write (x ∷ xs) reads =
 pub list_read : {X : Type 0} (read : List ℕ → Option X) (write : X → List ℕ) (xs : List X) → 0 < length xs → All (λ x. lacks 44 (write x) ≡ true) xs → All (λ x. read (write x) ≡ Some x) xs
     → each read (pieces (with_commas (map write xs))) ≡ Some xs
 list_read read write [] some none reads = absurd (omega arith)
-list_read {X} read write (x ∷ xs) some none reads = rw (pieces_read (map write (x ∷ xs)) (omega arith) (written write (x ∷ xs) none)) (each_read read write (x ∷ xs) reads)
-  where
-    written : (f : X → List ℕ) (ys : List X) → All (λ y. lacks 44 (f y) ≡ true) ys → All (λ w. lacks 44 w ≡ true) (map f ys)
-    written f [] all = All-nil (λ w. lacks 44 w ≡ true)
-    written f (y ∷ ys) all = All-cons (λ w. lacks 44 w ≡ true) (f y) (map f ys) (All-head (λ z. lacks 44 (f z) ≡ true) y ys all) (written f ys (All-tail (λ z. lacks 44 (f z) ≡ true) y ys all))
+list_read read write (x ∷ xs) some none reads =
+    rw (pieces_read (map write (x ∷ xs)) (omega arith) (All-map (λ w. lacks 44 w ≡ true) write (x ∷ xs) none)) (each_read read write (x ∷ xs) reads)
 
 -- ---- numbers of tracks
-pub each_known : {X : Type 0} (P Q : X → Type 0) (xs : List X) → ((x : X) → P x → Q x) → All P xs → All Q xs
-each_known P Q [] is all = All-nil Q
-each_known P Q (x ∷ xs) is all = All-cons Q x xs (is x (All-head P x xs all)) (each_known P Q xs is (All-tail P x xs all))
-
 pub numbers_read : (ns : List ℕ) → 0 < length ns → All HasFewDigits ns → numbers (numbers_word ns) ≡ Some ns
 unfolding numbers
 numbers_read ns some short =
-    list_read number decimal ns some (each_known HasFewDigits (λ n. lacks 44 (decimal n) ≡ true) ns (λ n h. decimal_lacks 44 n refl (short_fits n h)) short)
-    (each_known HasFewDigits (λ n. number (decimal n) ≡ Some n) ns (λ n h. number_read n h) short)
+    list_read number decimal ns some (All-weaker HasFewDigits (λ n. lacks 44 (decimal n) ≡ true) (λ n h. decimal_lacks 44 n refl (short_fits n h)) ns short)
+    (All-weaker HasFewDigits (λ n. number (decimal n) ≡ Some n) (λ n h. number_read n h) ns short)
 
 pub numbers_first : (o : ℕ) (ns : List ℕ) → is_ascii_digit o ≡ false → 0 < length ns → All HasFewDigits ns → (slice_index (numbers_word ns) 0 == o) ≡ false
 numbers_first o [] other some short = absurd (omega arith)

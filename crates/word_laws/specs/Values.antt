@@ -27,6 +27,7 @@ with_commas [] = []
 with_commas (w ∷ []) = w
 with_commas (w ∷ v ∷ ws) = w ++ (codes "," ++ with_commas (v ∷ ws))
 
+-- numbers in decimal, with commas between them
 abbrev pub numbers_word : List ℕ → List ℕ
 numbers_word numbers = with_commas (map decimal numbers)
 
@@ -46,6 +47,7 @@ abbrev pub end_word : Option ℕ → List ℕ
 end_word None = []
 end_word (Some t) = time_word t
 
+-- a stretch of time
 abbrev pub span_word : SpanWords → List ℕ
 span_word span = time_word span.start ++ (codes "-" ++ end_word span.end)
 
@@ -76,18 +78,16 @@ abbrev pub uuids_word : List ℕ → Option (List ℕ)
 uuids_word [] = None
 uuids_word (u ∷ us) = Some (with_commas (map (last_digits 16 32) (u ∷ us)))
 
--- what is earlier has a `-`
-abbrev pub sign : ℤ → List ℕ
-sign (pos n) = []
-sign other = codes "-"
-
--- a delay in milliseconds
+-- a delay in milliseconds; one that is earlier has a `-`
 abbrev pub delay_word : ℤ → List ℕ
-delay_word delay = sign delay ++ decimal (nat_abs delay / 1000000)
+delay_word (pos n) = decimal (n / 1000000)
+delay_word earlier = codes "-" ++ decimal (nat_abs earlier / 1000000)
 
+-- `1` or `0`
 abbrev pub flag_word : Bool → List ℕ
 flag_word flag = if flag then codes "1" else codes "0"
 
+-- which blocks of a track get a cue point
 abbrev pub cues_word : CueWord → List ℕ
 cues_word cue.Never = codes "none"
 cues_word cue.Key = codes "iframes"

@@ -1,5 +1,6 @@
-use Rattle.word_laws.proofs.TitleLemmas.{asked-title}
+use Rattle.merge_words.proofs.SoundLemmas.{merged-title}
+use Rattle.mkv_args.proofs.SoundLemmas.{asked-merged}
 use Rattle.word_laws.proofs.titles_are_texts.Goals as goal
 
 pub returns : goal.returns
-returns c = asked-title
+returns c = λ line words is. merged-title line words (asked-merged line words is)
