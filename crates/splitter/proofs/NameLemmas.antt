@@ -13,7 +13,7 @@ use Rattle.std.specs.Fmt.{char_count, decimal, format_spec, padded_integral}
 use Rattle.std.specs.Char.{is_ascii_digit}
 use Rattle.std.specs.Option.{option_and_then, option_map_or}
 use Rattle.std.specs.String.{string_bytes}
-use Rattle.std.proofs.lemmas.Bool.{ne_eqb, eq-eqb, le-leb}
+use Rattle.std.proofs.lemmas.Bool.{and_right, eq-eqb, le-leb, ne_eqb, or_parts, or_right}
 use Rattle.splitter.specs.Laws.{PartNamesAre, PartNamesDiffer}
 use Rattle.splitter.specs.Names.{are_digits, before, behind, extension, is_plain, number_in, part_name, stem, stem_len, three_digits}
 
@@ -32,27 +32,19 @@ no-point-more b bs none i inside = none (suc i) (omega arith)
 no-point-here : (b : ℕ) (bs : List ℕ) → NoPoint (b ∷ bs) → eqb b 46 ≡ false
 no-point-here b bs none = ne_eqb b 46 (none 0 (omega arith))
 
-or-none : (a b : Bool) → (a || b) ≡ false → (a ≡ false) × (b ≡ false)
-or-none true b none = absurd (cc)
-or-none false b none = (refl, none)
-
 plain-by : (a b rest : Bool) → a ≡ false → b ≡ false → rest ≡ true → (not (a || b) && rest) ≡ true
 plain-by a b rest p q r = rw p (rw q r)
 
 plain : (bs : List ℕ) → NoPoint bs → has_slash bs ≡ false → list_all is_plain bs ≡ true
 plain [] none slash = refl
 plain (b ∷ bs) none slash =
-    let parts = or-none (eqb b 47) (has_slash bs) slash in
+    let parts = or_parts (eqb b 47) (has_slash bs) slash in
     plain-by (eqb b 46) (eqb b 47) (list_all is_plain bs) (no-point-here b bs none) parts.0 (plain bs (no-point-more b bs none) parts.1)
-
-and-false : (a : Bool) → (a && false) ≡ false
-and-false true = refl
-and-false false = refl
 
 point-isnt-plain : (bs : List ℕ) (k : ℕ) → k < length bs → get_or bs k 0 ≡ 46 → list_all is_plain bs ≡ false
 point-isnt-plain [] k inside here = absurd (omega arith)
 point-isnt-plain (b ∷ bs) zero inside here = ap (λ (q : Bool). not (q || eqb b 47) && list_all is_plain bs) (eq-eqb b 46 here)
-point-isnt-plain (b ∷ bs) (suc k) inside here = ap (λ q. is_plain b && q) (point-isnt-plain bs k (omega arith) here) ∙ and-false (is_plain b)
+point-isnt-plain (b ∷ bs) (suc k) inside here = ap (λ q. is_plain b && q) (point-isnt-plain bs k (omega arith) here) ∙ and_right (is_plain b) false refl
 
 slash-by : (a b slash rest : Bool) → (b || slash) ≡ true → (slash ≡ true → rest ≡ false) → (not (a || b) && rest) ≡ false
 slash-by true b slash rest some more = refl
@@ -70,15 +62,11 @@ slash-behind [] k slash = slash-none k slash
     slash-none zero slash = slash
     slash-none (suc k) slash = slash
 slash-behind (b ∷ bs) zero slash = slash
-slash-behind (b ∷ bs) (suc k) slash = or-second (eqb b 47) (has_slash bs) (slash-behind bs k slash)
-  where
-    or-second : (a c : Bool) → c ≡ true → (a || c) ≡ true
-    or-second true c is = refl
-    or-second false c is = is
+slash-behind (b ∷ bs) (suc k) slash = or_right (eqb b 47) (has_slash bs) (slash-behind bs k slash)
 
 -- an octet behind which all isn't plain begins no extension
 no-begin : (b : ℕ) (bs : List ℕ) → list_all is_plain bs ≡ false → stem_len (b ∷ bs) ≡ suc (stem_len bs)
-no-begin b bs isnt = ap (λ q. if q then 0 else suc (stem_len bs)) (ap (λ q. eqb b 46 && q) isnt ∙ and-false (eqb b 46))
+no-begin b bs isnt = ap (λ q. if q then 0 else suc (stem_len bs)) (ap (λ q. eqb b 46 && q) isnt ∙ and_right (eqb b 46) false refl)
 
 no-point-begins : (b : ℕ) (bs : List ℕ) → eqb b 46 ≡ false → stem_len (b ∷ bs) ≡ suc (stem_len bs)
 no-point-begins b bs isnt = ap (λ (q : Bool). if q && list_all is_plain bs then 0 else suc (stem_len bs)) isnt
@@ -88,7 +76,7 @@ pub stem-at : (bs : List ℕ) (k : ℕ) → k < length bs → get_or bs k 0 ≡ 
 stem-at [] k inside here last slash = absurd (omega arith)
 stem-at (b ∷ bs) zero inside here last slash =
     let none : NoPoint bs = λ i within. last (suc i) (omega arith) (omega arith) in
-    let parts = or-none (eqb b 47) (has_slash bs) slash in
+    let parts = or_parts (eqb b 47) (has_slash bs) slash in
     ap₂ (λ (p q : Bool). if p && q then 0 else suc (stem_len bs)) (eq-eqb b 46 here) (plain bs none parts.1)
 stem-at (b ∷ bs) (suc k) inside here last slash =
     no-begin b bs (point-isnt-plain bs k (omega arith) here)

@@ -1,5 +1,5 @@
 -- Sections, and the steps that lead to them.
-use Rattle.std.proofs.Common.{◌≡◌, ℕ, zero, suc, ◌+◌, ◌-◌, ◌*◌, ◌^◌, ◌<◌, Bool, true, false, cond, ◌&&◌, ◌||◌, ◌⊎◌, inl, inr, List, [], ◌∷◌, ◌++◌, map, take, Option, Some, None, IfSome, refl, sym, subst, ◌∙◌, ap, ap₂, append_assoc, append-nil, arith}
+use Rattle.std.proofs.Common.{◌≡◌, ℕ, zero, suc, ◌+◌, ◌*◌, ◌^◌, ◌<◌, Bool, true, false, cond, ◌&&◌, ◌||◌, ◌⊎◌, inl, inr, List, [], ◌∷◌, ◌++◌, map, take, Option, Some, None, IfSome, refl, sym, subst, ◌∙◌, ap, ap₂, append_assoc, append-nil, arith}
 use Rattle.std.specs.Prelude.{if◌then◌else◌, flat_map}
 use Rattle.std.specs.List.{filter, slice_get}
 use Rattle.std.proofs.Math.Nat.{sub-zero}

@@ -4,26 +4,30 @@ use Rattle.std.specs.List.{list_all, starts_with, ends_with}
 use Rattle.std.specs.Option.{option_and_then, option_map_or}
 use Rattle.std.specs.Char.{is_ascii_digit}
 use Rattle.std.specs.Fmt.{decimal}
+use Rattle.mkv_io.specs.Characters.{DIGIT_0, POINT}
+use Rattle.word_values.specs.Numbers.{char}
 
 -- no point and no `/`
 abbrev pub is_plain : ℕ → Bool
-is_plain b = not (b == 46 || b == 47)
+is_plain b = not (b == POINT || b == char "/")
 
 -- How many octets stand before the extension of a name: that begins at a point behind which there is no other, and no
 -- `/`. Where there is none, it is empty.
 abbrev pub stem_len : List ℕ → ℕ
 stem_len [] = 0
-stem_len (b ∷ bs) = if b == 46 && list_all is_plain bs then 0 else suc (stem_len bs)
+stem_len (b ∷ bs) = if b == POINT && list_all is_plain bs then 0 else suc (stem_len bs)
 
+-- a name without its extension
 abbrev pub stem : List ℕ → List ℕ
 stem name = take (stem_len name) name
 
+-- the extension of a name, with its point
 abbrev pub extension : List ℕ → List ℕ
 extension name = drop (stem_len name) name
 
 -- a number in decimal, with zeros in front up to three digits
 abbrev pub three_digits : ℕ → List ℕ
-three_digits n = replicate (3 - length (decimal n)) 48 ++ decimal n
+three_digits n = replicate (3 - length (decimal n)) DIGIT_0 ++ decimal n
 
 -- The name of the part of this number of an output, from 1 on.
 abbrev pub part_name : List ℕ → ℕ → List ℕ
