@@ -1,5 +1,5 @@
 use Rattle.merge_words.proofs.SoundLemmas.{merged-title}
-use Rattle.mkv_args.proofs.SoundLemmas.{asked-merged}
+use Rattle.mkv_args.proofs.TextLemmas.{asked-merged}
 use Rattle.word_laws.proofs.titles_are_texts.Goals as goal
 
 pub returns : goal.returns
