@@ -4,7 +4,7 @@ use Rattle.std.proofs.lemmas.List.Folds.{list_any-append}
 use Rattle.std.proofs.lemmas.List.Elements.{filter_map-append}
 use Rattle.std.proofs.lemmas.List.Concat.{flat_map-append}
 use Rattle.std.specs.Prelude.{option_map, option_and_then}
-use Rattle.std.specs.List.{flat_map, filter_map, find}
+use Rattle.std.specs.List.{AllZip, flat_map, filter_map, find}
 use Rattle.word_values.specs.declared.values.Value.{Value}
 use Rattle.merge_words.specs.declared.options.Subject.{Subject}
 use Rattle.merge_words.specs.declared.options.Scope.{Scope}
@@ -110,10 +110,7 @@ said_ids at s c [] = refl
 said_ids at s c (x ∷ xs) = rw (said_ids (at + takes x.value) s c xs) refl
 
 abbrev pub AreIdsOf : List Piece → List (List ℕ) → Type 0
-AreIdsOf [] [] = Unit {0}
-AreIdsOf [] (y ∷ ys) = ⊥
-AreIdsOf (p ∷ ps) [] = ⊥
-AreIdsOf (p ∷ ps) (y ∷ ys) = (ids_said p.said ≡ y) × AreIdsOf ps ys
+AreIdsOf ps parts = AllZip (λ (p : Piece) ids. ids_said p.said ≡ ids) ps parts
 
 pub ids_part : (ps : List Piece) (parts : List (List ℕ)) (at : ℕ) → AreIdsOf ps parts → flat_map (λ (i : Item). ids_of i.value) (piece_items at ps) ≡ flat_map (λ part. part) parts
 ids_part [] [] at are = refl

@@ -4,6 +4,7 @@ use Rattle.std.proofs.lemmas.Bool.{or_parts}
 use Rattle.std.proofs.lemmas.Bool.Decides.{nat_tests}
 use Rattle.std.proofs.lemmas.List.{append-nil}
 use Rattle.std.proofs.lemmas.List.Sums.{sum_by-append}
+use Rattle.std.specs.List.{AllZip}
 use Rattle.std.specs.Prelude.{◌==◌, nat_abs}
 use Rattle.word_values.specs.declared.values.Value.TheVariants.{Flag, File, TrackDelay, TrackText, TrackLanguage, TrackFlag, TrackCues, TrackFile}
 use Rattle.word_values.specs.declared.values.ValueForm.TheVariants as form
@@ -71,10 +72,7 @@ abbrev pub group : FileWords → List Piece
 group f = record { subject = subject.Append; scope = scope.File; said = join_said f } ∷ file_pieces f
 
 abbrev pub AreSpelled : List Piece → List (List (List ℕ)) → Type 0
-AreSpelled [] [] = Unit {0}
-AreSpelled [] (w ∷ ws) = ⊥
-AreSpelled (p ∷ ps) [] = ⊥
-AreSpelled (p ∷ ps) (w ∷ ws) = (said_words p.said ≡ w) × AreSpelled ps ws
+AreSpelled ps parts = AllZip (λ (p : Piece) words. said_words p.said ≡ words) ps parts
 
 pub pieces_spelled : (ps : List Piece) (ws : List (List (List ℕ))) → AreSpelled ps ws → piece_words ps ≡ joined ws
 pieces_spelled [] [] are = refl

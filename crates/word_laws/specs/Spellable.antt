@@ -30,6 +30,7 @@ HasHelp _ = ⊤
 abbrev pub HaveFewDigits : List Target → Type 0
 HaveFewDigits list = All (λ (t : Target). HasFewDigits t.id) list
 
+-- what is taken out: each track or attached file has a number of at most 18 digits
 abbrev pub IsJob : Job → Type 0
 IsJob (jobs.Tracks form list) = HaveFewDigits list
 IsJob (jobs.Cues list) = HaveFewDigits list
@@ -42,6 +43,7 @@ IsJob (jobs.Chapters name) = ⊤
 abbrev pub IsNamedType : ℕ → Type 0
 IsNamedType kind = (kind ≡ VIDEO_TRACK) ⊎ ((kind ≡ AUDIO_TRACK) ⊎ (kind ≡ SUBTITLE_TRACK))
 
+-- a section that has a word: its numbers have at most 18 digits, and its type is one of three
 abbrev pub IsSection : Selector → Type 0
 IsSection selector.Info = ⊤
 IsSection (selector.Nth n) = HasFewDigits n
@@ -62,6 +64,7 @@ pub record IsSpellableEdit (e : Edit) : Type 0 where
 
 -- ---- all commands
 
+-- a command that has a spelling, where it keeps its limits
 abbrev pub IsSpellable : Command → Type 0
 IsSpellable (command.Help None) = ⊤
 IsSpellable (command.Help (Some verb)) = HasHelp verb

@@ -28,6 +28,7 @@ pub record AreIds (ids : List ℕ) : Type 0 where
   pub some : 0 < length ids
   pub short : All HasFewDigits ids
 
+-- a choice of tracks: all or none, or some that are taken or left out
 abbrev pub IsSelect : Select → Type 0
 IsSelect select.All = ⊤
 IsSelect (select.These ids) = AreIds ids
