@@ -135,8 +135,7 @@ module _ {X : Type 0} (s : Subject) (make : ℕ × X → Said) (names : (p : ℕ
       rw (append_assoc (words_said x.word x.value) (said_words (map make ps)) rest) (first ∙ (next ∙ rw (append_assoc before (item at s scope.Track x.says ∷ []) (said_items (at + takes x.value) s scope.Track (map make ps))) refl))
 
   all_free : (list : List (ℕ × X)) (before : List Item) → stands s (since_file before) ≡ false → All (λ (q : ℕ × X). stands_for s q.0 (since_file before) ≡ false) list
-  all_free [] before none = All-nil (λ (q : ℕ × X). stands_for s q.0 (since_file before) ≡ false)
-  all_free (q ∷ qs) before none = All-cons (λ (r : ℕ × X). stands_for s r.0 (since_file before) ≡ false) q qs (none_for s q.0 (since_file before) none) (all_free qs before none)
+  all_free list before none = λ k d less. none_for s _ (since_file before) none
 
   pub tracks_read : (list : List (ℕ × X)) → same s subject.File ≡ false → differ (map (λ (q : ℕ × X). q.0) list) ≡ true → All (λ (q : ℕ × X). IsSaid s scope.Track (make q)) list
       → IsReadable (record { subject = s; scope = scope.Track; said = map make list })

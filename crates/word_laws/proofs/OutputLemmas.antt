@@ -5,10 +5,12 @@ use Rattle.std.specs.List.{flat_map}
 use Rattle.std.specs.Fmt.{decimal}
 use Rattle.word_values.specs.declared.values.Value.{Value}
 use Rattle.word_values.specs.declared.values.Value.TheVariants.{Flag, File, Text, Scale, Blocks, Span, Split, Uuids}
+use Rattle.word_values.specs.declared.values.ValueForm.{ValueForm}
 use Rattle.word_values.specs.declared.values.ValueForm.TheVariants as form
 use Rattle.word_values.specs.declared.lists.SplitWords.{SplitWords}
 use Rattle.word_values.specs.Sound.{IsWithin, IsSoundSplit, AreUuids}
-use Rattle.word_values.specs.Values.{value_of}
+use Rattle.word_values.specs.Values.{flag_of, value_of}
+use Rattle.merge_words.specs.Items.{track_in}
 use Rattle.merge_words.specs.declared.output.MergeWords.{MergeWords}
 use Rattle.merge_words.specs.declared.options.Subject.{Subject}
 use Rattle.merge_words.specs.declared.options.Subject.TheVariants as subject
@@ -90,11 +92,6 @@ split_sound : (o : Option SplitWords) (x : SplitWords) → IfSome o IsSoundSplit
 split_sound None x sound is same = absurd (cc)
 split_sound (Some y) x sound is same = let e : y ≡ x = cc in (subst IsSoundSplit e sound, subst IsSplit e is)
 
-split_readable : (x : SplitWords) → IsOption (codes "--split") (means subject.Split scope.Output form.Split) → IsSoundSplit x → IsSplit x
-    → IsReadable (record { subject = subject.Split; scope = scope.Output; said = said_value (codes "--split") split_word Split (Some x) })
-split_readable x is sound spelled = once_read subject.Split scope.Output (said_value (codes "--split") split_word Split (Some x))
-    (value_said (codes "--split") (means subject.Split scope.Output form.Split) (split_word x) (Split x) is refl (split_value_read x sound spelled), refl)
-
 abbrev pub output_pieces : MergeWords → List Piece
 output_pieces w =
     record { subject = subject.Output; scope = scope.Output; said = said_value (codes "--output") (λ t. t) File (Some w.output) } ∷
@@ -121,10 +118,11 @@ output_spelled w = pieces_spelled (output_pieces w) (output_options w) (
     tt)
 
 -- a value that is read back, where there is one
-value_readable : {X : Type 0} (s : Subject) (f : _) (word : List ℕ) (text : X → List ℕ) (value : X → Value) (o : Option X) → IsOption word (means s scope.Output f)
-    → ((x : X) → o ≡ Some x → IsReadable (record { subject = s; scope = scope.Output; said = said_value word text value (Some x) })) → IsReadable (record { subject = s; scope = scope.Output; said = said_value word text value o })
-value_readable s f word text value None is reads = once_read s scope.Output [] tt
-value_readable s f word text value (Some x) is reads = reads x refl
+value_readable : {X : Type 0} (s : Subject) (f : ValueForm) (word : List ℕ) (text : X → List ℕ) (value : X → Value) (o : Option X) → IsOption word (means s scope.Output f) → flag_of f ≡ None
+    → ((x : X) → track_in (value x) ≡ None) → ((x : X) → o ≡ Some x → value_of f (text x) ≡ Some (value x)) → IsReadable (record { subject = s; scope = scope.Output; said = said_value word text value o })
+value_readable s f word text value None is due none reads = once_read s scope.Output [] tt
+value_readable s f word text value (Some x) is due none reads =
+    once_read s scope.Output (said_value word text value (Some x)) (value_said word (means s scope.Output f) (text x) (value x) is due (reads x refl), none x)
 
 title_is : (o : Option (List ℕ)) (x : List ℕ) → IfSome o IsText → o ≡ Some x → IsText x
 title_is None x is same = absurd (cc)
@@ -137,35 +135,18 @@ scale_is scale x same = split (scale == 1000000) same
     split true is = absurd (cc)
     split false is = cc
 
-name_readable : (s : Subject) (word : List ℕ) (x : List ℕ) → IsOption word (means s scope.Output form.Name) → IsReadable (record { subject = s; scope = scope.Output; said = said_value word (λ t. t) File (Some x) })
-unfolding value_of
-name_readable s word x is = once_read s scope.Output (said_value word (λ t. t) File (Some x)) (value_said word (means s scope.Output form.Name) x (File x) is refl refl, refl)
-
-title_readable : (x : List ℕ) → IsOption (codes "--title") (means subject.Title scope.Output form.Text) → IsText x
-    → IsReadable (record { subject = subject.Title; scope = scope.Output; said = said_value (codes "--title") (λ t. t) Text (Some x) })
-unfolding value_of
-title_readable x is text = once_read subject.Title scope.Output (said_value (codes "--title") (λ t. t) Text (Some x))
-    (value_said (codes "--title") (means subject.Title scope.Output form.Text) x (Text x) is refl (rw (text_read x text) refl), refl)
-
-scale_readable : (x : ℕ) → IsOption (codes "--timestamp-scale") (means subject.Scale scope.Output form.Scale) → IsWithin 1000 10000000 x
-    → IsReadable (record { subject = subject.Scale; scope = scope.Output; said = said_value (codes "--timestamp-scale") decimal Scale (Some x) })
-scale_readable x is within = once_read subject.Scale scope.Output (said_value (codes "--timestamp-scale") decimal Scale (Some x))
-    (value_said (codes "--timestamp-scale") (means subject.Scale scope.Output form.Scale) (decimal x) (Scale x) is refl (scale_read x within), refl)
-
 output_readable : (w : MergeWords) → IsSoundMerge w → IsSpellableMerge w → AreReadable (output_pieces w)
-unfolding meaning_of table
+unfolding meaning_of table value_of
 output_readable w sound is = (
-    name_readable subject.Output (codes "--output") w.output (refl, refl) &
+    value_readable subject.Output form.Name (codes "--output") (λ t. t) File (Some w.output) (refl, refl) refl (λ x. refl) (λ x same. refl) &
     flag_readable subject.Webm scope.Output (codes "--webm") w.webm (refl, refl) &
-    value_readable subject.Title form.Text (codes "--title") (λ t. t) Text w.title (refl, refl)
-    (λ x same. title_readable x (refl, refl) (title_is w.title x is.title same)) &
-    value_readable subject.ChapterFile form.Name (codes "--chapters") (λ t. t) File w.chapters (refl, refl)
-    (λ x same. name_readable subject.ChapterFile (codes "--chapters") x (refl, refl)) &
-    value_readable subject.Scale form.Scale (codes "--timestamp-scale") decimal Scale (unusual 1000000 w.scale) (refl, refl)
-    (λ x same. scale_readable x (refl, refl) (let e = scale_is w.scale x same in rw e at sound.scale)) &
+    value_readable subject.Title form.Text (codes "--title") (λ t. t) Text w.title (refl, refl) refl (λ x. refl) (λ x same. rw (text_read x (title_is w.title x is.title same)) refl) &
+    value_readable subject.ChapterFile form.Name (codes "--chapters") (λ t. t) File w.chapters (refl, refl) refl (λ x. refl) (λ x same. refl) &
+    value_readable subject.Scale form.Scale (codes "--timestamp-scale") decimal Scale (unusual 1000000 w.scale) (refl, refl) refl (λ x. refl)
+    (λ x same. scale_read x (let e = scale_is w.scale x same in rw e at sound.scale)) &
     length_readable (w.blocks == 65535) (w.span == 5000000000) w.blocks w.span (refl, refl) sound.blocks sound.span is.milliseconds &
-    value_readable subject.Split form.Split (codes "--split") split_word Split w.split (refl, refl)
-    (λ x same. let both = split_sound w.split x sound.split is.split same in split_readable x (refl, refl) both.0 both.1) &
+    value_readable subject.Split form.Split (codes "--split") split_word Split w.split (refl, refl) refl (λ x. refl)
+    (λ x same. let both = split_sound w.split x sound.split is.split same in split_value_read x both.0 both.1) &
     uuids_readable w.uuids (refl, refl) sound.uuids is.uuids &
     flag_readable subject.Link scope.Output (codes "--link") w.link (refl, refl) &
     tt)

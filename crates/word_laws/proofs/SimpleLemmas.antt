@@ -32,32 +32,21 @@ pub no_option : (name option : List ℕ) → IsFile name → is_option option �
 no_option name option file is = other_word name option (λ same. let e : is_option name ≡ true = ap is_option same ∙ is in cc)
 
 -- ---- the command that the first word names
-by_first : (v : Verb) (rest : List (List ℕ)) → meant verbs (verb_word v) ≡ Some v
+first_word : (v : Verb) (rest : List (List ℕ)) → (meant verbs (verb_word v) ≡ Some v) × (is_short_help (verb_word v ∷ rest) ≡ false)
 unfolding verbs
-by_first verb.Info rest = refl
-by_first verb.Merge rest = refl
-by_first verb.Extract rest = refl
-by_first verb.Propedit rest = refl
-by_first verb.Recover rest = refl
-by_first verb.Reindex rest = refl
-by_first verb.Generate rest = refl
-by_first verb.Help rest = refl
-by_first verb.Version rest = refl
-
-no_short_help : (v : Verb) (rest : List (List ℕ)) → is_short_help (verb_word v ∷ rest) ≡ false
-no_short_help verb.Info rest = refl
-no_short_help verb.Merge rest = refl
-no_short_help verb.Extract rest = refl
-no_short_help verb.Propedit rest = refl
-no_short_help verb.Recover rest = refl
-no_short_help verb.Reindex rest = refl
-no_short_help verb.Generate rest = refl
-no_short_help verb.Help rest = refl
-no_short_help verb.Version rest = refl
+first_word verb.Info rest = (refl, refl)
+first_word verb.Merge rest = (refl, refl)
+first_word verb.Extract rest = (refl, refl)
+first_word verb.Propedit rest = (refl, refl)
+first_word verb.Recover rest = (refl, refl)
+first_word verb.Reindex rest = (refl, refl)
+first_word verb.Generate rest = (refl, refl)
+first_word verb.Help rest = (refl, refl)
+first_word verb.Version rest = (refl, refl)
 
 pub by_verb : (v : Verb) (rest : List (List ℕ)) → helped (verb_word v ∷ rest) ≡ None → command (verb_word v ∷ rest) ≡ command_named (Some v) (verb_word v ∷ rest)
 unfolding command first_command
-by_verb v rest none = rw (no_short_help v rest) (rw none (rw (by_first v rest) refl))
+by_verb v rest none = let first = first_word v rest in rw first.1 (rw none (rw first.0 refl))
 
 -- no help is asked for where a file stands, or more than two words
 file_helps_none : (first file : List ℕ) → IsFile file → helped (first ∷ file ∷ []) ≡ None
