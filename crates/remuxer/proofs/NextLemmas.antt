@@ -1,7 +1,7 @@
--- Where the next part begins.
-use Rattle.std.proofs.Common.{◌≡◌, ◌≤◌, ◌<◌, ℕ, ◌+◌, ◌*◌, Bool, true, false, List, [], ◌∷◌, Option, Some, None, Result, Ok, Err, refl, sym, ◌∙◌, ap, subst, arith}
-use Rattle.std.specs.Prelude.{if◌then◌else◌, is_some, not}
-use Rattle.std.specs.Option.{IfSome, unwrap_or}
+-- The next block of a merge is ahead, or the next part was begun.
+use Rattle.std.proofs.Common.{◌≡◌, ◌≤◌, ℕ, ◌+◌, ◌*◌, Bool, true, false, ◌&&◌, List, [], ◌∷◌, ◌++◌, Option, Some, None, Result, Ok, Err, refl, sym, ◌∙◌, ap, subst, arith}
+use Rattle.std.specs.Prelude.{if◌then◌else◌, is_none, is_some}
+use Rattle.std.specs.Option.{unwrap_or}
 use Rattle.mkv_io.specs.declared.outside.ReadEnd.{ReadEnd}
 use Rattle.mkv_io.specs.LiveFiles.{LiveFiles}
 use Rattle.mkv_io.specs.Sources.{live_files}
@@ -9,19 +9,20 @@ use Rattle.mkv_io.specs.declared.reads.Reads.{Ghosts}
 use Rattle.output_model.specs.OutputBlock.{OutputBlock}
 use Rattle.time_merge.specs.Merge.{Gives, IsReady, IsTold, MergeSeen, Moves, Pays, damages, due, files_length, left, way}
 use Rattle.time_merge.proofs.QueueLemmas.{length-same, told-kept}
-use Rattle.splitter.specs.Sections.{Part, parts, parts_in, sections_at}
+use Rattle.splitter.specs.Sections.{Part, beyond, parts, parts_in, sections_at, within}
 use Rattle.splitter.specs.Split.{keeps}
-use Rattle.splitter.specs.Steps.{CutsSeen, counted, is_kept, start_of}
+use Rattle.splitter.specs.declared.cuts.Place.{Place}
+use Rattle.splitter.specs.declared.cuts.Place.TheVariants.{Same}
+use Rattle.splitter.specs.Steps.{CutsSeen, is_kept, place_at, start_of}
 use Rattle.cluster_writer.specs.Lengths.{octets_taken}
 use Rattle.remuxer.specs.Placed.{Places, lane_in}
 use Rattle.remuxer.specs.declared.placing.Ahead.{Ahead}
-use Rattle.remuxer.specs.Places.{CanGive, IsAhead, IsFresh, IsIn, IsLimit, LendsAt, StandsAhead, block_lent, lane_of, lent_at, part_from, parts_ahead, parts_behind, parts_from, split_in, start_in, way_ahead}
-use Rattle.remuxer.specs.Taking.{GoesOn}
-use Rattle.remuxer.specs.Output.{FindsBehind, FindsFirst, FindsPart, parts_begun}
-use Rattle.remuxer.specs.declared.placed.PartStart.{PartStart}
+use Rattle.remuxer.specs.Places.{CanGive, IsAhead, IsBegun, IsFresh, StandsAt, ahead_of, block_lent, is_same, is_within, lent_ahead, part_in, parts_from, parts_left, split_in, start_in, turns_with}
+use Rattle.remuxer.specs.Taking.{Advances, BeginsNone, GoesOn, Leaves, LeavesAll}
+use Rattle.remuxer.specs.Output.{FindsBehind, FindsFirst, FindsPart}
 use Rattle.remuxer.specs.declared.placed.PlacedBlocks.{PlacedBlocks}
-use Rattle.remuxer.proofs.PartLemmas.{fits-of, no-limit, parts-first, parts-passed, without-load}
-use Rattle.remuxer.proofs.StepLemmas.{ahead-parts, begins-none, begins-part, first-ahead, first-parts, gives-same, lent-one, on_to, out-ahead, out-parts, split-same, step-gives, step-left, step-one, step-split}
+use Rattle.remuxer.proofs.PartLemmas.{fits-of, no-limit, part_from, parts-first, parts-passed, without-load}
+use Rattle.remuxer.proofs.StepLemmas.{behind-within, gives-same, left-now, lent-one, on_to, parts-ahead, parts-on, parts-within, passed-kept, rest-within, step-ahead, step-all, step-gives, step-left, step-split, within-kept}
 
 -- ---- a step that only reads
 
@@ -29,11 +30,6 @@ use Rattle.remuxer.proofs.StepLemmas.{ahead-parts, begins-none, begins-part, fir
 pub paid-of : (f : LiveFiles) (m m' : MergeSeen) (before now : ℕ) (next : Option Ahead) → Pays f m m' before now (lane_in (Ok next)) → now + due f m' ≤ before + due f m
 paid-of f m m' before now None paid = paid
 paid-of f m m' before now (Some a) paid = paid
-
--- by what the code asks
-pub none-by : (next : Option Ahead) (q : Bool) → is_some next ≡ not q → q ≡ true → next ≡ None
-none-by None q is all = refl
-none-by (Some a) q is all = let both : true ≡ false = is ∙ ap not all in absurd (cc)
 
 -- what it leaves
 pub read-goes : {S : Type 0} (r : Ghosts S) (a b : S) (p p' : PlacedBlocks) (result : Option ℕ) → r.standing b ≡ r.standing a → Moves p.merge p'.merge (Ok result) → (IsTold (live_files r a) p.merge → Gives (live_files r a) p.merge p'.merge (Ok result))
@@ -52,148 +48,194 @@ read-goes r a b p p' result same moves gives split can paid =
       };
     }
 
--- ---- a block in no part
+-- what stands ahead says nothing of whether blocks can be given
+pub goes-idle : {S : Type 0} (r : Ghosts S) (a : S) (p : PlacedBlocks) (next : Option Ahead) → CanGive (live_files r a) p → GoesOn r 0 a a p (on_to p p.merge p.cuts next)
+goes-idle r a p next gives = record {
+  lanes = refl;
+  split = refl;
+  gives = gives-same (live_files r a) (live_files r a) p (on_to p p.merge p.cuts next) gives refl gives.ready refl refl;
+  length = refl;
+  paid = omega arith;
+  told = λ told. record { told = told; damages = refl };
+}
 
--- What is ahead then, behind a block that was passed over.
-pub record Passes {S : Type 0} (r : Ghosts S) (a b : S) (p p' : PlacedBlocks) (was : Ahead) (next : Option Ahead) : Type 0 where
-  pub ahead : StandsAhead p' next
-  pub goes : GoesOn r 0 a b p p'
-  pub on : way_ahead p' (lane_of next) < way_ahead p (Some was.lane)
-  pub found : IsTold (live_files r a) p.merge → parts_ahead (live_files r b) p' (lane_of next) ≡ parts_ahead (live_files r a) p (Some was.lane)
+-- ---- the next block is ahead
 
-module _ {S : Type 0} (r : Ghosts S) (a b : S) (p : PlacedBlocks) (m' : MergeSeen) (c' : CutsSeen) (same : r.standing b ≡ r.standing a) (can : CanGive (live_files r a) p) (ready : IsReady (live_files r b) m') (paid : r.octets_read b + due (live_files r a) m' ≤ r.octets_read a + due (live_files r a) p.merge) where
+-- the parts behind a block that begins none
+parts-past : (f : LiveFiles) (p : PlacedBlocks) (was : Ahead) → CanGive f p → p.ahead ≡ Some was → IsAhead p.merge p.cuts was → start_in was.place ≡ None
+    → parts_left f p ≡ parts_in (split_in p) (sections_at (split_in p) (beyond (split_in p) (start_of p.cuts) p.cuts.load (left f p.merge)))
+parts-past f p was can is ahead none = either (is_within (Some was)) refl
+  where
+    either : (q : Bool) → is_within (Some was) ≡ q → parts_left f p ≡ parts_in (split_in p) (sections_at (split_in p) (beyond (split_in p) (start_of p.cuts) p.cuts.load (left f p.merge)))
+    either true in_it = parts-within f p (ap is_within is ∙ in_it)
+    either false isnt =
+        let x = block_lent was.lane ahead.lends.queue.lane in
+        let s = split_in p in
+        let bs = left f p.merge in
+        let out = passed-kept p.merge p.cuts was ahead none isnt in
+        parts-ahead f p (ap is_within is ∙ isnt)
+        ∙ ap (λ (o : Option Ahead). parts_from s (start_of p.cuts) (ahead_of p.merge o bs)) is
+        ∙ ap (λ (first : List OutputBlock). parts_from s (start_of p.cuts) (first ++ bs)) (lent-one p.merge was.lane ahead.lends.queue ahead.lends.here)
+        ∙ parts-passed s (start_of p.cuts) x bs out
+        ∙ ap (λ (behind : List OutputBlock). parts_in s (sections_at s behind)) (without-load s (no-limit p.cuts.size p.cuts.spec (start_of p.cuts * p.cuts.scale) can.limit out) (start_of p.cuts) (octets_taken x) p.cuts.load bs)
+
+-- no block has come: the section at the beginning is a part if it is written
+parts-none : (f h : LiveFiles) (p : PlacedBlocks) (m' : MergeSeen) (c' : CutsSeen) → IsFresh p → left f p.merge ≡ [] → c' ≡ p.cuts → LeavesAll f h p (on_to p m' c' None)
+parts-none f h p m' c' fresh none same =
+    ap (λ (c : CutsSeen). if keeps c.spec (start_of c * c.scale) then (let x : Part = record { start = start_of c; end = None; blocks = [] } in x) ∷ [] else []) same
+    ∙ ap (λ (o : Option ℕ). if keeps p.cuts.spec (unwrap_or o 0 * p.cuts.scale) then (let x : Part = record { start = unwrap_or o 0; end = None; blocks = [] } in x) ∷ [] else []) fresh
+    ∙ sym (ap (parts (split_in p)) none)
+
+module _ {S : Type 0} (r : Ghosts S) (a b : S) (p : PlacedBlocks) (m' : MergeSeen) (c' : CutsSeen) (same : r.standing b ≡ r.standing a) (can : CanGive (live_files r a) p) (ready : IsReady (live_files r b) m') where
   files : live_files r b ≡ live_files r a
   files = ap r.files same
 
-  -- the parts from a section that isn't written
-  passed-parts : (was : Ahead) → IsAhead p was → is_kept p.cuts ≡ false → parts_ahead (live_files r a) p (Some was.lane) ≡ parts_behind (split_in p) (start_of p.cuts) p.cuts.load (left (live_files r a) p.merge)
-  passed-parts was ahead out =
-      let x = block_lent was.lane ahead.lends.queue.lane in
+  -- what is left, where none was ahead, where no block has come, and where one has
+  leaves-by : (next was : Option Ahead) → p.ahead ≡ was → StandsAt p.merge p.cuts was → Moves p.merge m' (lane_in (Ok next)) → Gives (live_files r a) p.merge m' (lane_in (Ok next)) → Places p.drives m' p.cuts c' (Ok next)
+      → Leaves (live_files r a) (live_files r b) p (on_to p m' c' next)
+  leaves-by next None is stands moves gives places = record {
+    rest = λ in_it. let isnt : is_within p.ahead ≡ false = ap is_within is in absurd (cc);
+    behind = λ in_it. let isnt : is_within p.ahead ≡ false = ap is_within is in absurd (cc);
+    parts = λ none. absurd (subst BeginsNone is none);
+  }
+  leaves-by None (Some was) is ahead moves gives places =
       let s = split_in p in
-      let bs = left (live_files r a) p.merge in
-      ahead-parts (live_files r a) p p was.lane x refl (lent-one p.merge was.lane ahead.lends.queue ahead.lends.here)
-      ∙ parts-passed s (start_of p.cuts) x bs out
-      ∙ ap (λ (behind : List OutputBlock). parts_in s (sections_at s behind)) (without-load s (no-limit p.cuts.size p.cuts.spec (start_of p.cuts * p.cuts.scale) can.limit out) (start_of p.cuts) (octets_taken x) p.cuts.load bs)
+      record {
+        rest = λ in_it. rest-within (live_files r a) p in_it ∙ ap (λ (bs : List OutputBlock). lent_ahead p ++ within s (start_of p.cuts) p.cuts.load bs) gives.blocks.0;
+        behind = λ in_it. sym (behind-within (live_files r a) p in_it ∙ ap (beyond s (start_of p.cuts) p.cuts.load) gives.blocks.0);
+        parts = λ none. sym (parts-past (live_files r a) p was can is ahead (subst BeginsNone is none) ∙ ap (λ (bs : List OutputBlock). parts_in s (sections_at s (beyond s (start_of p.cuts) p.cuts.load bs))) gives.blocks.0);
+      }
+  leaves-by (Some next) (Some was) is ahead moves gives places =
+      let f = live_files r a in
+      let h = live_files r b in
+      let s = split_in p in
+      let bs = left f m' in
+      let now : left h m' ≡ bs = ap (λ (each : LiveFiles). left each m') files in
+      let started = ap (λ (o : Option ℕ). is_none o) ahead.started in
+      let first = step-left f p m' c' next can moves.keeps moves.steps places gives.blocks in
+      let kept = λ (in_it : is_within p.ahead ≡ true). within-kept p.merge p.cuts was ahead (sym (ap is_within is) ∙ in_it) in
+      let behind = λ (k : is_kept p.cuts ≡ true). left-now f p m' c' next can moves.keeps moves.steps places h bs now started k in
+      record {
+        rest = λ in_it. rest-within f p in_it ∙ ap (λ (them : List OutputBlock). lent_ahead p ++ within s (start_of p.cuts) p.cuts.load them) first ∙ ap (λ (them : List OutputBlock). lent_ahead p ++ them) (behind (kept in_it)).rest;
+        behind = λ in_it. sym (behind-within f p in_it ∙ ap (beyond s (start_of p.cuts) p.cuts.load) first ∙ (behind (kept in_it)).behind);
+        parts = λ none. sym (parts-past f p was can is ahead (subst BeginsNone is none) ∙ ap (λ (them : List OutputBlock). parts_in s (sections_at s (beyond s (start_of p.cuts) p.cuts.load them))) first ∙ parts-on f p m' c' next can moves.keeps moves.steps places h bs now started);
+      }
 
-  pub passes : (was : Ahead) (next : Option Ahead) → IsAhead p was → is_kept p.cuts ≡ false → Moves p.merge m' (lane_in (Ok next)) → (IsTold (live_files r a) p.merge → Gives (live_files r a) p.merge m' (lane_in (Ok next)))
-      → Places p.drives m' p.cuts c' (Ok next) → Passes r a b p (on_to p m' c') was next
-  passes was None ahead out moves gives places = record {
-    ahead = moves.steps.ended;
-    goes = read-goes r a b p (on_to p m' c') None same moves gives (split-same p m' c' places) (gives-same (live_files r a) (live_files r b) p m' c' can moves.keeps ready places) paid;
+  -- the next block is ahead
+  pub advances : (next : Option Ahead) → Moves p.merge m' (lane_in (Ok next)) → (IsTold (live_files r a) p.merge → Gives (live_files r a) p.merge m' (lane_in (Ok next))) → Places p.drives m' p.cuts c' (Ok next)
+      → Advances (live_files r a) (live_files r b) p (on_to p m' c' next)
+  advances None moves gives places = record {
+    stands = moves.steps.ended;
+    on = moves.steps.on;
+    same = λ none. places;
+    left = λ stands told. leaves-by None p.ahead refl stands moves (gives told) places;
+    all = λ fresh told. parts-none (live_files r a) (live_files r b) p m' c' fresh (gives told).blocks.0 places;
+  }
+  advances (Some next) moves gives places = record {
+    stands = step-ahead (live_files r a) p m' c' next can moves.keeps moves.steps places;
     on = let less = moves.steps.on in omega (arith, less);
-    found = λ told. sym (passed-parts was ahead out ∙ ap (parts_behind (split_in p) (start_of p.cuts) p.cuts.load) (gives told).blocks.0);
-  }
-  passes was (Some next) ahead out moves gives places = record {
-    ahead = out-ahead (live_files r a) p m' c' next can moves.keeps moves.steps places (start_of p.cuts) ahead.started out;
-    goes = read-goes r a b p (on_to p m' c') (Some next.lane) same moves gives (step-split (live_files r a) p m' c' next can moves.keeps moves.steps places) (step-gives (live_files r a) p m' c' next can moves.keeps moves.steps places (live_files r b) ready) paid;
-    on = let less = moves.steps.on in omega (arith, less);
-    found = λ told.
-        let x = block_lent next.lane moves.steps.queue.lane in
-        let s = split_in p in
-        ahead-parts (live_files r b) p (on_to p m' c') next.lane x (step-split (live_files r a) p m' c' next can moves.keeps moves.steps places) (step-one (live_files r a) p m' c' next can moves.keeps moves.steps places)
-        ∙ ap (λ (h : LiveFiles). parts_from s (start_of c') (x ∷ left h m')) files
-        ∙ sym (out-parts (live_files r a) p m' c' next can moves.keeps moves.steps places (start_of p.cuts) ahead.started out (left (live_files r a) m'))
-        ∙ ap (parts_behind s (start_of p.cuts) p.cuts.load) (sym (step-left (live_files r a) p m' c' next can moves.keeps moves.steps places (gives told).blocks))
-        ∙ sym (passed-parts was ahead out);
+    same = λ none. absurd (cc);
+    left = λ stands told. leaves-by (Some next) p.ahead refl stands moves (gives told) places;
+    all = λ fresh told.
+        step-all (live_files r a) p m' c' next can moves.keeps moves.steps places (live_files r b) (left (live_files r a) m') (ap (λ (each : LiveFiles). left each m') files) fresh
+        ∙ ap (parts (split_in p)) (sym (step-left (live_files r a) p m' c' next can moves.keeps moves.steps places (gives told).blocks));
   }
 
-  -- ---- the first block
+  -- and nothing was written
+  pub advanced-goes : (next : Option Ahead) → Moves p.merge m' (lane_in (Ok next)) → (IsTold (live_files r a) p.merge → Gives (live_files r a) p.merge m' (lane_in (Ok next))) → Places p.drives m' p.cuts c' (Ok next)
+      → Pays (live_files r a) p.merge m' (r.octets_read a) (r.octets_read b) (lane_in (Ok next)) → GoesOn r 0 a b p (on_to p m' c' next)
+  advanced-goes None moves gives places paid =
+      read-goes r a b p (on_to p m' c' None) None same moves gives (ap (λ (c : CutsSeen). split_in (on_to p m' c None)) places)
+      (gives-same (live_files r a) (live_files r b) p (on_to p m' c' None) can moves.keeps ready refl places) paid
+  advanced-goes (Some next) moves gives places paid =
+      read-goes r a b p (on_to p m' c' (Some next)) (Some next.lane) same moves gives (step-split (live_files r a) p m' c' next can moves.keeps moves.steps places)
+      (step-gives (live_files r a) p m' c' next can moves.keeps moves.steps places (live_files r b) ready) paid
 
-  -- the parts from it on, or no block is left
-  abbrev pub FirstFound : Option Ahead → Type 0
-  FirstFound None = (left (live_files r a) p.merge ≡ []) × (left (live_files r b) m' ≡ [])
-  FirstFound (Some next) = parts_ahead (live_files r b) (on_to p m' c') (Some next.lane) ≡ parts (split_in p) (left (live_files r a) p.merge)
+-- ---- the next part was begun
 
-  pub record Begins (next : Option Ahead) : Type 0 where
-    pub ahead : StandsAhead (on_to p m' c') next
-    pub goes : GoesOn r 0 a b p (on_to p m' c')
-    pub on : way_ahead (on_to p m' c') (lane_of next) ≤ way p.merge
-    pub found : IsTold (live_files r a) p.merge → FirstFound next
+-- the block ahead begins a part, and is of it then
+module _ (f : LiveFiles) (b : PlacedBlocks) (a : Ahead) (start : ℕ) (can : CanGive f b) (is : b.ahead ≡ Some a) (ahead : IsAhead b.merge b.cuts a) (found : start_in a.place ≡ Some start) where
+  abbrev begun_at : PlacedBlocks
+  begun_at = on_to b b.merge b.cuts (Some (record { lane = a.lane; place = Same }))
 
-  pub begins : (next : Option Ahead) → IsFresh p.cuts → Moves p.merge m' (lane_in (Ok next)) → (IsTold (live_files r a) p.merge → Gives (live_files r a) p.merge m' (lane_in (Ok next)))
-      → Places p.drives m' p.cuts c' (Ok next) → Begins next
-  begins None fresh moves gives places = record {
-    ahead = moves.steps.ended;
-    goes = read-goes r a b p (on_to p m' c') None same moves gives (split-same p m' c' places) (gives-same (live_files r a) (live_files r b) p m' c' can moves.keeps ready places) paid;
-    on = let less = moves.steps.on in omega (arith, less);
-    found = λ told. ((gives told).blocks.0, ap (λ (h : LiveFiles). left h m') files ∙ (gives told).blocks.1);
-  }
-  begins (Some next) fresh moves gives places = record {
-    ahead = first-ahead (live_files r a) p m' c' next can moves.keeps moves.steps places fresh;
-    goes = read-goes r a b p (on_to p m' c') (Some next.lane) same moves gives (step-split (live_files r a) p m' c' next can moves.keeps moves.steps places) (step-gives (live_files r a) p m' c' next can moves.keeps moves.steps places (live_files r b) ready) paid;
-    on = let less = moves.steps.on in omega (arith, less);
-    found = λ told.
-        let x = block_lent next.lane moves.steps.queue.lane in
-        let s = split_in p in
-        ahead-parts (live_files r b) p (on_to p m' c') next.lane x (step-split (live_files r a) p m' c' next can moves.keeps moves.steps places) (step-one (live_files r a) p m' c' next can moves.keeps moves.steps places)
-        ∙ ap (λ (h : LiveFiles). parts_from s (start_of c') (x ∷ left h m')) files
-        ∙ sym (first-parts (live_files r a) p m' c' next can moves.keeps moves.steps places fresh (left (live_files r a) m'))
-        ∙ ap (parts s) (sym (step-left (live_files r a) p m' c' next can moves.keeps moves.steps places (gives told).blocks));
-  }
+  -- What is said of a block that begins a part.
+  record Begins : Type 0 where
+    kept : is_kept b.cuts ≡ true
+    starts : start ≡ start_of b.cuts
+    alone : ahead.begins ≡ true
 
-  -- no block has come: the section at the beginning is a part if it is written
-  parts-none : p.cuts.start ≡ None → left (live_files r a) p.merge ≡ [] → parts (split_in p) (left (live_files r a) p.merge) ≡ (if is_kept p.cuts then (let part : Part = record { start = 0; end = None; blocks = [] } in part) ∷ [] else [])
-  parts-none fresh none =
-      ap (parts (split_in p)) none
-      ∙ ap (λ (o : Option ℕ). if keeps p.cuts.spec (unwrap_or o 0 * p.cuts.scale) then (let part : Part = record { start = 0; end = None; blocks = [] } in part) ∷ [] else []) (sym fresh)
-
-  pub first-empty : p.cuts.start ≡ None → c' ≡ p.cuts → is_kept c' ≡ true → Begins None → FindsPart (live_files r a) (live_files r b) (way p.merge + 1) (parts (split_in p) (left (live_files r a) p.merge)) p (on_to p m' c') (Some (record { lane = None; start = 0 }))
-  first-empty fresh same_cuts kept first = record {
-    begins = record { begins = first.ahead; early = omega arith };
-    on = let less = first.on in omega (arith, less);
-    told = λ told. ((first.goes.told told).told, (first.found told).1);
-    found = λ told.
-        ap (λ (bs : List OutputBlock). let part : Part = part_from (split_in (on_to p m' c')) 0 c'.load [] bs in part ∷ parts_behind (split_in (on_to p m' c')) 0 c'.load bs) (first.found told).1
-        ∙ sym (parts-none fresh (first.found told).0 ∙ ap (λ (q : Bool). if q then (let part : Part = record { start = 0; end = None; blocks = [] } in part) ∷ [] else []) (sym (ap is_kept same_cuts) ∙ kept));
-  }
-
-  pub first-then : (next : Option Ahead) (h : LiveFiles) (p'' : PlacedBlocks) (part : Option PartStart) → p.cuts.start ≡ None → (next ≡ None → is_kept p.cuts ≡ false) → Begins next
-      → FindsPart (live_files r b) h (way_ahead (on_to p m' c') (lane_of next)) (parts_ahead (live_files r b) (on_to p m' c') (lane_of next)) (on_to p m' c') p'' part
-      → FindsPart (live_files r a) h (way p.merge + 1) (parts (split_in p) (left (live_files r a) p.merge)) p p'' part
-  first-then next h p'' part fresh out first finds = record {
-    begins = finds.begins;
-    on = let less = first.on in let more = finds.on in omega (arith, less, more);
-    told = λ told. finds.told (first.goes.told told).told;
-    found = λ told. finds.found (first.goes.told told).told ∙ each next out (first.found told);
-  }
+  begins : Begins
+  begins = either (is_kept b.cuts) ahead.begins refl refl ahead.place
     where
-      each : (o : Option Ahead) → (o ≡ None → is_kept p.cuts ≡ false) → FirstFound o → parts_ahead (live_files r b) (on_to p m' c') (lane_of o) ≡ parts (split_in p) (left (live_files r a) p.merge)
-      each None none found = sym (parts-none fresh found.0 ∙ ap (λ (q : Bool). if q then (let part : Part = record { start = 0; end = None; blocks = [] } in part) ∷ [] else []) (none refl))
-      each (Some a) none found = found
+      either : (k q : Bool) → is_kept b.cuts ≡ k → ahead.begins ≡ q → a.place ≡ place_at k q (start_of b.cuts) → Begins
+      either true true kept q place = let e : Some start ≡ Some (start_of b.cuts) = sym found ∙ ap start_in place in record { kept = kept; starts = cc; alone = q }
+      either true false kept q place = let e : Some start ≡ None = sym found ∙ ap start_in place in absurd (cc)
+      either false any kept q place = let e : Some start ≡ None = sym found ∙ ap start_in place in absurd (cc)
+
+  pub is-begun : IsBegun begun_at start
+  is-begun = record {
+    starts = begins.starts;
+    stands = record {
+      lends = ahead.lends;
+      started = ahead.started;
+      begins = false;
+      place = ap (λ (k : Bool). place_at k false (start_of b.cuts)) (sym begins.kept);
+      counts = λ no. absurd (cc);
+    };
+    within = refl;
+  }
+
+  pub begun-parts : part_in f begun_at ∷ parts_left f begun_at ≡ parts_left f b
+  begun-parts =
+      let s = split_in b in
+      let x = block_lent a.lane ahead.lends.queue.lane in
+      let bs = left f b.merge in
+      let one = lent-one b.merge a.lane ahead.lends.queue ahead.lends.here in
+      let isnt : is_within (Some a) ≡ false = ap (λ (p : Place). is_some (if is_same p then Some a.lane else None)) (ahead.place ∙ ap (λ (k : Bool). place_at k ahead.begins (start_of b.cuts)) begins.kept ∙ ap (λ (q : Bool). place_at true q (start_of b.cuts)) begins.alone) in
+      sym (parts-ahead f b (ap is_within is ∙ isnt)
+      ∙ ap (λ (o : Option Ahead). parts_from s (start_of b.cuts) (ahead_of b.merge o bs)) is
+      ∙ ap (λ (first : List OutputBlock). parts_from s (start_of b.cuts) (first ++ bs)) one
+      ∙ parts-first s (fits-of b.cuts.size b.cuts.spec can.limit) (start_of b.cuts) b.cuts.load x bs (ahead.counts begins.alone) begins.kept
+      ∙ ap (λ (first : List OutputBlock). part_from s (start_of b.cuts) b.cuts.load first bs ∷ parts_in s (sections_at s (beyond s (start_of b.cuts) b.cuts.load bs))) (sym one))
+
+-- none is, where no block is ahead
+pub none-left : (f : LiveFiles) (p : PlacedBlocks) → p.ahead ≡ None → parts_left f p ≡ []
+none-left f p is = parts-ahead f p (ap is_within is) ∙ ap (λ (o : Option Ahead). parts_from (split_in p) (start_of p.cuts) (ahead_of p.merge o (left f p.merge))) is
+
+-- ---- the first part
+
+module _ {S : Type 0} (r : Ghosts S) (a b : S) (p p' : PlacedBlocks) (fresh : IsFresh p) (advanced : Advances (live_files r a) (live_files r b) p p') (goes : GoesOn r 0 a b p p') where
+  abbrev all_parts : List Part
+  all_parts = parts (split_in p) (left (live_files r a) p.merge)
 
   -- no block has come
-  pub first-none : (next : Option Ahead) → next ≡ None → IsFresh p.cuts → is_kept c' ≡ true → Moves p.merge m' (lane_in (Ok next)) → (IsTold (live_files r a) p.merge → Gives (live_files r a) p.merge m' (lane_in (Ok next)))
-      → Places p.drives m' p.cuts c' (Ok next) → FindsPart (live_files r a) (live_files r b) (way p.merge + 1) (parts (split_in p) (left (live_files r a) p.merge)) p (on_to p m' c') (Some (record { lane = None; start = 0 }))
-  first-none None is fresh kept moves gives places = first-empty fresh.start places kept (begins None fresh moves gives places)
-  first-none (Some next) is fresh kept moves gives places = absurd (cc)
+  pub first-none : is_some p'.ahead ≡ false → is_kept p'.cuts ≡ true → FindsPart (live_files r a) (live_files r b) (way p.merge + 1) all_parts p p' (Some 0)
+  first-none none kept = either p'.ahead refl
+    where
+      either : (o : Option Ahead) → p'.ahead ≡ o → FindsPart (live_files r a) (live_files r b) (way p.merge + 1) all_parts p p' (Some 0)
+      either None is =
+          let isnt = ap is_within is in
+          record {
+            begins = record {
+              starts = sym (ap start_of (advanced.same none) ∙ ap (λ (o : Option ℕ). unwrap_or o 0) fresh);
+              stands = advanced.stands;
+              within = isnt ∙ sym (ap is_some is);
+            };
+            on = let less = ap (turns_with (way p'.merge)) is in let most = advanced.on in omega (arith, less, most);
+            found = λ told.
+                ap (λ (more : List Part). part_in (live_files r b) p' ∷ more) (none-left (live_files r b) p' is)
+                ∙ ap (λ (q : Bool). if q then part_in (live_files r b) p' ∷ [] else parts_left (live_files r b) p') (sym (ap (λ (o : Option Ahead). is_none o && is_kept p'.cuts) is ∙ kept))
+                ∙ advanced.all fresh told;
+          }
+      either (Some ahead) is = absurd (let some = ap is_some is in cc)
 
   -- one has, or the section at the beginning isn't written
-  pub first-result : (next : Option Ahead) (h : S) (p'' : PlacedBlocks) (result : Result (Option PartStart) ReadEnd) → p.cuts.start ≡ None → (next ≡ None → is_kept p.cuts ≡ false) → Begins next
-      → FindsBehind r b h (on_to p m' c') p'' next result → FindsFirst r a h p p'' result
-  first-result next h p'' (Ok part) fresh out first finds = first-then next (live_files r h) p'' part fresh out first finds
-  first-result next h p'' (Err end) fresh out first finds = tt
-
--- ---- a part begins with what is ahead
-
-pub begun-parts : (f : LiveFiles) (b : PlacedBlocks) (start lane : ℕ) → IfSome b.cuts.size (IsLimit b.cuts.spec) → (lends : LendsAt b lane) → IsIn start b → b.cuts.load ≡ counted b.cuts.size (octets_taken (block_lent lane lends.queue.lane))
-    → parts_begun f b (Some (record { lane = Some lane; start = start })) ≡ parts_ahead f b (Some lane)
-begun-parts f b start lane limit lends is counts =
-    let s = split_in b in
-    let x = block_lent lane lends.queue.lane in
-    let bs = left f b.merge in
-    let one : lent_at b.merge (Some lane) ≡ x ∷ [] = lent-one b.merge lane lends.queue lends.here in
-    let at : start_of b.cuts ≡ start = ap (λ (o : Option ℕ). unwrap_or o 0) is.started in
-    let kept : keeps s.spec (start * s.scale) ≡ true = ap (λ (n : ℕ). keeps s.spec (n * s.scale)) (sym at) ∙ is.kept in
-    ap (λ (first : List OutputBlock). let part : Part = part_from s start b.cuts.load first bs in part ∷ parts_behind s start b.cuts.load bs) one
-    ∙ sym (parts-first s (fits-of b.cuts.size b.cuts.spec limit) start b.cuts.load x bs counts kept)
-    ∙ ap (λ (n : ℕ). parts_from s n (x ∷ bs)) (sym at)
-    ∙ sym (ahead-parts f b b lane x refl one)
-
--- it begins one
-pub is-begun : (b : PlacedBlocks) (a : Ahead) (start : ℕ) → IsAhead b a → start_in a.place ≡ Some start → IsIn start b
-is-begun b a start ahead found =
-    let begins = begins-part (is_kept b.cuts) (start_of b.cuts) start a.place ahead.place found in
-    record { started = ahead.started ∙ ap Some (sym begins.1); kept = begins.0 }
-
-pub not-begun : (b : PlacedBlocks) (a : Ahead) → IsAhead b a → start_in a.place ≡ None → is_kept b.cuts ≡ false
-not-begun b a ahead none = begins-none (is_kept b.cuts) (start_of b.cuts) a.place ahead.place none
+  pub first-result : (c : S) (p'' : PlacedBlocks) (result : Result (Option ℕ) ReadEnd) → (is_none p'.ahead && is_kept p'.cuts) ≡ false → FindsBehind r b c p' p'' result → FindsFirst r a c p p'' result
+  first-result c p'' (Err end) isnt finds = tt
+  first-result c p'' (Ok next) isnt finds = record {
+    begins = finds.begins;
+    on = let less = advanced.on in let more = finds.on in omega (arith, less, more);
+    found = λ told.
+        finds.found (goes.told told).told
+        ∙ ap (λ (q : Bool). if q then part_in (live_files r b) p' ∷ [] else parts_left (live_files r b) p') (sym isnt) ∙ advanced.all fresh told;
+  }

@@ -1,5 +1,5 @@
 -- An output from its first octets to its last.
-use Rattle.std.proofs.Common.{◌≡◌, ◌≢◌, ◌≤◌, ◌<◌, ℕ, zero, suc, ◌+◌, Bool, true, false, List, [], ◌∷◌, ◌++◌, All, length, Option, Some, None, Result, Ok, Err, inl, inr, refl, sym, ◌∙◌, ap, ap₂, subst, arith}
+use Rattle.std.proofs.Common.{◌≡◌, ◌≢◌, ◌≤◌, ◌<◌, ℕ, zero, suc, ◌+◌, Bool, true, false, List, [], ◌∷◌, ◌++◌, All, length, Option, None, Result, Ok, Err, inl, inr, refl, sym, ◌∙◌, ap, ap₂, subst, arith}
 use Rattle.std.proofs.lemmas.List.{take_all}
 use Rattle.std.specs.Prelude.{slice_index_or, if◌then◌else◌}
 use Rattle.std.specs.Option.{option_and_then}
@@ -42,18 +42,17 @@ use Rattle.merge_model.specs.FileLinks.{IsOpenLink, KeepsLink}
 use Rattle.merge_model.specs.declared.link.Link.{Link}
 use Rattle.merge_model.specs.declared.link.Link.TheVariants.{Track, Entries}
 use Rattle.time_merge.specs.Laws.{IsApart, IsApartLink, StandsAmong}
-use Rattle.time_merge.specs.Merge.{KeepsMerge, due, files_length, left}
+use Rattle.time_merge.specs.Merge.{IsTold, KeepsMerge, due, files_length, left}
 use Rattle.time_merge.proofs.KeptLemmas.{stands-kept}
 use Rattle.time_merge.proofs.QueueLemmas.{links-kept}
 use Rattle.splitter.specs.Sections.{Part}
 use Rattle.record_changes.specs.Cut as chapters
 use Rattle.remux_plan.specs.Parts.{chapters_of, document_with, stretch_of}
 use Rattle.remux_plan.specs.declared.output.OutputSpec.{OutputSpec}
-use Rattle.remuxer.specs.Places.{CanGive, IsToldFrom, lane_of, lent_at, part_from, parts_behind, split_in}
-use Rattle.remuxer.specs.Output.{FillsPart, HasWritten, Writes, WritesLayout, chapters_cut, chapters_in, part_in}
-use Rattle.remuxer.specs.declared.output.Filled.{Filled}
-use Rattle.remuxer.specs.declared.placed.PartStart.{PartStart}
-use Rattle.remuxer.proofs.TakingLemmas.{goes-more, parts-ahead-same}
+use Rattle.remuxer.specs.Places.{CanGive, part_in}
+use Rattle.remuxer.specs.Output.{CountsPart, FillsPart, Writes, WritesLayout, chapters_cut, chapters_in}
+use Rattle.remuxer.proofs.StepLemmas.{gives-same, part-same, parts-same}
+use Rattle.remuxer.proofs.TakingLemmas.{among-goes, goes-more}
 use Rattle.remuxer.specs.Taking.{CanTake, Goes, GoesOn}
 use Rattle.remuxer.specs.declared.placed.PlacedBlocks.{PlacedBlocks}
 use Rattle.remuxer.specs.declared.writer.BlockWriter.{BlockWriter}
@@ -144,31 +143,20 @@ module _ {S : Type 0} (r : Ghosts S) (f : writing.Ghosts S) (a b : S) (name : Li
       one (Track t) opened others = subst (λ (n : List ℕ). AreOthers n (name ∷ [])) (sym (made.holders t.file.n opened.live)) others
       one (Entries e) opened others = tt
 
-  begun-gives : CanGive (live_files r b) p
-  begun-gives = record { ready = begun-among.ready; few = gives.few; drives = gives.drives; scales = gives.scales; scale = gives.scale; early = gives.early; limit = gives.limit }
-
   -- the output can take its blocks
   pub begun-can : (w : BlockWriter) → w.out.file ≡ file → IsOpen r b w.out → CanTake r f b w p
   begun-can w same is_open = record {
     is_open = is_open;
-    gives = begun-gives;
+    gives = gives-same (live_files r a) (live_files r b) p p gives refl begun-among.ready refl refl;
     apart = subst (λ (id : FileId). IsApart (f.holder b) (f.holder b id.n ∷ []) p.merge) (sym same) begun-apart;
   }
 
   -- so many octets were read
   pub begun-goes : (more : ℕ) → r.octets_read b ≤ r.octets_read a + more → GoesOn r more a b p p
-  begun-goes more octets = record {
-    lanes = refl;
-    split = refl;
-    gives = begun-gives;
-    length = begun-among.length;
-    paid = let due = begun-among.due in omega (arith, due, octets);
-    told = λ told. record { told = begun-among.told told; damages = begun-among.damages };
-  }
+  begun-goes more octets = among-goes r more a b p gives begun-among octets
 
-  pub begun-told : (lane : Option ℕ) → IsToldFrom (live_files r a) p lane → IsToldFrom (live_files r b) p lane
-  begun-told None told = (begun-among.told told.0, begun-left ∙ told.1)
-  begun-told (Some k) told = begun-among.told told
+  pub begun-told : IsTold (live_files r a) p.merge → IsTold (live_files r b) p.merge
+  begun-told told = begun-among.told told
 
 -- ---- the output's file has ended
 
@@ -214,14 +202,7 @@ module _ {S : Type 0} (r : Ghosts S) (f : writing.Ghosts S) (a b c e : S) (name 
     ending-left = ending-among.left
 
     pub ending-goes : GoesOn r 0 c e p' p'
-    ending-goes = record {
-      lanes = refl;
-      split = refl;
-      gives = record { ready = ending-among.ready; few = goes.gives.few; drives = goes.gives.drives; scales = goes.gives.scales; scale = goes.gives.scale; early = goes.gives.early; limit = goes.gives.limit };
-      length = ending-among.length;
-      paid = let due = ending-among.due in let one = ends.written.octets in let other = ends.ended.octets in omega (arith, due, one, other);
-      told = λ told. record { told = ending-among.told told; damages = ending-among.damages };
-    }
+    ending-goes = among-goes r 0 c e p' goes.gives ending-among (let one = ends.written.octets in let other = ends.ended.octets in omega (arith, one, other))
 
 -- ---- what was written
 
@@ -240,39 +221,37 @@ chapters-are o f part cut is = by_split o.split ∙ sym (ap (chapters_in o) is)
 
 -- ---- a part in its output
 
-module _ {S : Type 0} (r : Ghosts S) (f : writing.Ghosts S) (o : OutputSpec) (name : List ℕ) (a b : S) (p : PlacedBlocks) (part : PartStart) (same : left (live_files r b) p.merge ≡ left (live_files r a) p.merge) where
+module _ {S : Type 0} (r : Ghosts S) (f : writing.Ghosts S) (o : OutputSpec) (name : List ℕ) (a b : S) (p : PlacedBlocks) (same : left (live_files r b) p.merge ≡ left (live_files r a) p.merge) where
+  abbrev its : Document
+  its = document_with (live_files r a) o (part_in (live_files r a) p)
+
   -- it is the same while the output is begun
-  part-same : part_in (live_files r b) p part ≡ part_in (live_files r a) p part
-  part-same = ap (part_from (split_in p) part.start p.cuts.load (lent_at p.merge part.lane)) same
+  here : part_in (live_files r b) p ≡ part_in (live_files r a) p
+  here = part-same (live_files r a) (live_files r b) p same
 
   -- the output was begun
   pub begun-stands : (out : OpenOutput) (buffer : Gathered) → StandsOpen r f (f.names a) name (front_with (live_files r a) o.front) [] b out → out.cues ≡ [] → Holds None buffer → buffer.limits ≡ o.limits
-      → Stands r f (f.names a) name o.rules (document_with (live_files r a) o (part_in (live_files r a) p part)) b out buffer none_counted (part_in (live_files r b) p part).blocks
+      → Stands r f (f.names a) name o.rules its b out buffer none_counted (part_in (live_files r b) p).blocks
   begun-stands out buffer opened cues holds limits =
-      stands-begun r f (f.names a) name (document_with (live_files r a) o (part_in (live_files r a) p part)) o.rules o.limits b out buffer (part_in (live_files r b) p part).blocks
-      (ap (λ (each : Part). clusters o.limits each.blocks) part-same) cues holds limits opened
+      stands-begun r f (f.names a) name its o.rules o.limits b out buffer (part_in (live_files r b) p).blocks
+      (ap (λ (each : Part). clusters o.limits each.blocks) here) cues holds limits opened
 
-  -- it was filled, and is finished
-  pub filled-finishes : (c e : S) (w w' : BlockWriter) (p' : PlacedBlocks) (filled : Filled) (chapters : Option Node) (result : Result ℕ RemuxEnd) → FillsPart r f o part b c w w' p p' filled
-      → Stands r f (f.names a) name o.rules (document_with (live_files r a) o (part_in (live_files r a) p part)) b w.out w.buffer w.counts (part_in (live_files r b) p part).blocks
-      → chapters ≡ chapters_in o filled.chapters → HoldsOfFiles r f → Finishes r f w'.out chapters o.tags c e result → WritesAndEnds r f w'.out.file c e → Writes (f.names a) (f.names e) name (document_with (live_files r a) o (part_in (live_files r a) p part)) result
-  filled-finishes c e w w' p' filled chapters result fills stands its of_files finishes ended =
-      let d : Document = document_with (live_files r a) o (part_in (live_files r a) p part) in
-      let cut : filled.chapters ≡ chapters_cut o part.start (part_in (live_files r a) p part).end = fills.chapters ∙ ap (λ (each : Part). chapters_cut o part.start each.end) part-same in
-      finishes-all r f (f.names a) name d c e w'.out chapters o.tags result (chapters-are o (live_files r a) (part_in (live_files r a) p part) filled.chapters cut ∙ sym its) refl of_files finishes ended
-      w'.counts (fills.all (f.names a) name d refl stands)
+  module _ (c e : S) (w w' : BlockWriter) (p' : PlacedBlocks) (cut : Option Node) (fills : FillsPart r f o b c w w' p p' cut) (stands : Stands r f (f.names a) name o.rules its b w.out w.buffer w.counts (part_in (live_files r b) p).blocks) where
+    -- it was filled, and is finished
+    pub filled-finishes : (chapters : Option Node) (result : Result ℕ RemuxEnd) → chapters ≡ chapters_in o cut → HoldsOfFiles r f → Finishes r f w'.out chapters o.tags c e result → WritesAndEnds r f w'.out.file c e → Writes (f.names a) (f.names e) name its result
+    filled-finishes chapters result its_chapters of_files finishes ended =
+        let is : cut ≡ chapters_cut o (part_in (live_files r a) p).start (part_in (live_files r a) p).end = fills.chapters_are ∙ ap (λ (each : Part). chapters_cut o each.start each.end) here in
+        finishes-all r f (f.names a) name its c e w'.out chapters o.tags result (chapters-are o (live_files r a) (part_in (live_files r a) p) cut is ∙ sym its_chapters) refl of_files finishes ended
+        w'.counts (fills.all (f.names a) name its refl stands)
 
-  -- so many blocks, and the parts behind it
-  pub filled-written : (c e : S) (w w' : BlockWriter) (p' : PlacedBlocks) (filled : Filled) → FillsPart r f o part b c w w' p p' filled → Stands r f (f.names a) name o.rules (document_with (live_files r a) o (part_in (live_files r a) p part)) b w.out w.buffer w.counts (part_in (live_files r b) p part).blocks → w.blocks ≡ 0 → left (live_files r e) p'.merge ≡ left (live_files r c) p'.merge
-      → HasWritten (live_files r a) (live_files r e) o part p p' (record { blocks = w'.blocks; counts = w'.counts; ahead = filled.ahead })
-  filled-written c e w w' p' filled fills stands none later = record {
-    counts = (fills.all (f.names a) name (document_with (live_files r a) o (part_in (live_files r a) p part)) refl stands).counts;
-    count = counted-all w'.blocks (counted 0 (length (part_in (live_files r a) p part).blocks)) (fills.few (omega (arith, none)))
-        (fills.count ∙ ap₂ (λ (n : ℕ) (each : Part). counted n (length each.blocks)) none part-same);
-    behind =
-        parts-ahead-same (live_files r e) (live_files r c) p' (lane_of filled.ahead) later ∙ fills.behind
-        ∙ ap (parts_behind (split_in p) part.start p.cuts.load) same;
-  }
+    -- so many blocks, and the parts behind it
+    pub filled-counts : w.blocks ≡ 0 → left (live_files r e) p'.merge ≡ left (live_files r c) p'.merge → CountsPart (live_files r a) (live_files r e) o p p' (record { blocks = w'.blocks; counts = w'.counts })
+    filled-counts none later = record {
+      counts = (fills.all (f.names a) name its refl stands).counts;
+      count = counted-all w'.blocks (counted 0 (length (part_in (live_files r a) p).blocks)) (fills.few (omega (arith, none)))
+          (fills.count ∙ ap₂ (λ (n : ℕ) (each : Part). counted n (length each.blocks)) none here);
+      behind = parts-same (live_files r c) (live_files r e) p' later ∙ fills.behind ∙ parts-same (live_files r a) (live_files r b) p same;
+    }
 
 -- what was read for the attachments, and for the blocks
 pub goes-whole : {S : Type 0} (r : Ghosts S) (more : ℕ) (a b c e : S) (p p' : PlacedBlocks) → GoesOn r more a b p p → GoesOn r 0 b c p p' → GoesOn r 0 c e p' p' → GoesOn r more a e p p'

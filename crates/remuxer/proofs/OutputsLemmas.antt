@@ -42,12 +42,11 @@ use Rattle.remux_plan.specs.Summary.{written_of}
 use Rattle.remux_plan.specs.Uuids.{uuids_at, with_uuids}
 use Rattle.remux_plan.specs.declared.output.OutputSpec.{OutputSpec}
 use Rattle.remux_plan.specs.declared.summary.Written.{Written}
-use Rattle.remuxer.specs.Places.{IsToldFrom, parts_behind, split_in}
+use Rattle.remuxer.specs.Places.{part_in, parts_left, split_in}
 use Rattle.remuxer.specs.Taking.{GoesOn}
-use Rattle.remuxer.specs.declared.placed.PartStart.{PartStart}
 use Rattle.remuxer.specs.declared.placed.PlacedBlocks.{PlacedBlocks}
 use Rattle.remuxer.proofs.TakingLemmas.{OnlyRead, files-same, goes-then, read-keeps}
-use Rattle.remuxer.specs.Output.{CanBeNext, FindsNext, FindsPart, HasRecords, IsShort, IsNotMade, IsToldNext, IsUnwritten, IsUnwrittenLink, KeepsUnwritten, ReadsParts, WritesAll, WritesOne, data_of, drafts_of, laid_out, next_name, next_spec, own_spec, part_in, parts_begun}
+use Rattle.remuxer.specs.Output.{CanBeNext, FindsNext, FindsPart, HasRecords, IsShort, IsNotMade, IsUnwritten, IsUnwrittenLink, KeepsUnwritten, ReadsParts, WritesAll, WritesOne, data_of, drafts_of, laid_out, next_name, next_spec, own_spec, parts_begun}
 
 -- ---- one behind the other
 
@@ -161,11 +160,6 @@ module _ {S : Type 0} (r : Ghosts S) (f : writing.Ghosts S) (split : Bool) (outp
       each (Opened name) isnt = tt
       each (Made name) isnt = others-unwritten name keeps.names isnt keeps.form
 
--- the links' files are told where a part begins
-pub told-merge : (f : LiveFiles) (b : PlacedBlocks) (lane : Option ℕ) → IsToldFrom f b lane → IsTold f b.merge
-told-merge f b None told = told.0
-told-merge f b (Some k) told = told
-
 -- what the output of this number has besides its blocks, before it has its own identifiers
 abbrev pub left_at : OutputSpec → ℕ → OutputSpec
 left_at o number = record o { front = record o.front { attachments = if number == 1 then o.front.attachments else [] } }
@@ -174,18 +168,17 @@ left_at o number = record o { front = record o.front { attachments = if number =
 
 module _ {S : Type 0} (r : Ghosts S) (f : writing.Ghosts S) (o : OutputSpec) (a : S) (p : PlacedBlocks) where
   -- The outputs of some first parts stand, and the others are left.
-  pub record Standing (b : S) (o' : OutputSpec) (p' : PlacedBlocks) (written : List Written) (next : Option PartStart) : Type 0 where
+  pub record Standing (b : S) (o' : OutputSpec) (p' : PlacedBlocks) (written : List Written) (next : Option ℕ) : Type 0 where
     pub done : List Part
     pub whole : parts (split_in p) (left (live_files r a) p.merge) ≡ done ++ parts_begun (live_files r b) p' next
     pub written_are : written ≡ map written_of (outputs_from (live_files r a) o 1 done)
     pub names : f.names b ≡ with_outputs (f.names a) (outputs_of (drafts_of (outputs_from (live_files r a) o 1 done)))
     pub become : outputs_of (drafts_of (outputs_from (live_files r a) o 1 done)) ≡ map laid_out (outputs_from (live_files r a) o 1 done)
     pub short : Told (f.names a) (λ world. All (λ (each : PlannedOutput). IsShort each.document) (outputs_from (live_files r a) o 1 done))
-    pub told : IsToldNext (live_files r b) p' next
     pub front : front_with (live_files r b) o'.front ≡ front_with (live_files r a) o'.front
 
   -- So it is where the links' files are told; the next part can be begun, and so many octets were read.
-  pub record OnTheWay (b : S) (o' : OutputSpec) (p' : PlacedBlocks) (written : List Written) (next : Option PartStart) : Type 0 where
+  pub record OnTheWay (b : S) (o' : OutputSpec) (p' : PlacedBlocks) (written : List Written) (next : Option ℕ) : Type 0 where
     pub read : ℕ
     pub data_left : read + data_of o' ≤ data_of o
     pub goes : GoesOn r read a b p p'
@@ -197,7 +190,7 @@ module _ {S : Type 0} (r : Ghosts S) (f : writing.Ghosts S) (o : OutputSpec) (a 
 
   -- ---- the first part was found
 
-  pub way-begins : (b : S) (p' : PlacedBlocks) (next : Option PartStart) (turns : ℕ) → OnlyRead r f a b → GoesOn r 0 a b p p' → FindsPart (live_files r a) (live_files r b) turns (parts (split_in p) (left (live_files r a) p.merge)) p p' next
+  pub way-begins : (b : S) (p' : PlacedBlocks) (next : Option ℕ) (turns : ℕ) → OnlyRead r f a b → GoesOn r 0 a b p p' → FindsPart (live_files r a) (live_files r b) turns (parts (split_in p) (left (live_files r a) p.merge)) p p' next
       → All (CanAttach r f a (name_of o.split o.name 1)) o.front.attachments → OnTheWay b o p' [] next
   way-begins b p' next turns read goes finds attached = record {
     read = 0;
@@ -214,7 +207,6 @@ module _ {S : Type 0} (r : Ghosts S) (f : writing.Ghosts S) (o : OutputSpec) (a 
       names = read.names;
       become = refl;
       short = λ world is. All-nil (λ (each : PlannedOutput). IsShort each.document);
-      told = finds.told told;
       front = ap (λ (h : LiveFiles). front_with h o.front) (files-same r f a b read);
     };
   }
@@ -230,7 +222,7 @@ module _ {S : Type 0} (r : Ghosts S) (f : writing.Ghosts S) (o : OutputSpec) (a 
 
   -- ---- one output more
 
-  module _ (b : S) (o' : OutputSpec) (p' : PlacedBlocks) (written : List Written) (part : PartStart) (way : OnTheWay b o' p' written (Some part)) where
+  module _ (b : S) (o' : OutputSpec) (p' : PlacedBlocks) (written : List Written) (start : ℕ) (way : OnTheWay b o' p' written (Some start)) where
     pub way-scale : p.cuts.scale ≡ o.limits.scale → p'.cuts.scale ≡ o'.limits.scale
     way-scale same = ap (λ (s : Split). s.scale) way.goes.split ∙ same ∙ sym (ap (λ (each : OutputSpec). each.limits.scale) way.spec)
 
@@ -265,11 +257,11 @@ module _ {S : Type 0} (r : Ghosts S) (f : writing.Ghosts S) (o : OutputSpec) (a 
         omega (arith, paid, long, kept, reads)
 
     module _ (told : IsTold (live_files r a) p.merge) where
-      so_far : Standing b o' p' written (Some part)
+      so_far : Standing b o' p' written (Some start)
       so_far = way.standing told
 
       abbrev here : Part
-      here = part_in (live_files r b) p' part
+      here = part_in (live_files r b) p'
 
       number : length written + 1 ≡ 1 + length so_far.done
       number =
@@ -288,7 +280,7 @@ module _ {S : Type 0} (r : Ghosts S) (f : writing.Ghosts S) (o : OutputSpec) (a 
           ∙ ap (λ (n : ℕ). output_in (live_files r a) o n here) number
 
       abbrev rest : List Part
-      rest = parts_behind (split_in p') part.start p'.cuts.load (left (live_files r b) p'.merge)
+      rest = parts_left (live_files r b) p'
 
       abbrev done_drafts : List Draft
       done_drafts = drafts_of (outputs_from (live_files r a) o 1 so_far.done)
@@ -316,7 +308,7 @@ module _ {S : Type 0} (r : Ghosts S) (f : writing.Ghosts S) (o : OutputSpec) (a 
           outputs-split (live_files r a) o 1 so_far.done (here ∷ [])
           ∙ ap (λ (each : PlannedOutput). outputs_from (live_files r a) o 1 so_far.done ++ each ∷ []) (sym is-next)
 
-      pub stands-next : (e : S) (o'' : OutputSpec) (p'' : PlacedBlocks) (written' : List Written) (next : Option PartStart) → WritesOne r f part b e o' p' p'' written written' next
+      pub stands-next : (e : S) (o'' : OutputSpec) (p'' : PlacedBlocks) (written' : List Written) (next : Option ℕ) → WritesOne r f b e o' p' p'' written written' next
           → o'' ≡ record o' { front = record o'.front { attachments = [] } } → Standing e o'' p'' written' next
       stands-next e o'' p'' written' next writes spec = record {
         done = so_far.done ++ here ∷ [];
@@ -340,7 +332,6 @@ module _ {S : Type 0} (r : Ghosts S) (f : writing.Ghosts S) (o : OutputSpec) (a 
             subst (All (λ (each : PlannedOutput). IsShort each.document)) (sym one-more)
             (All-append (λ (each : PlannedOutput). IsShort each.document) (outputs_from (live_files r a) o 1 so_far.done) (its ∷ []) (so_far.short world is)
             (All-cons (λ (each : PlannedOutput). IsShort each.document) its [] (writes.writes.short (world_with world (outputs_of done_drafts)) told-then) (All-nil (λ (each : PlannedOutput). IsShort each.document))));
-        told = writes.told;
         front = subst (λ (each : OutputSpec). front_with (live_files r e) each.front ≡ front_with (live_files r a) each.front) (sym spec) refl;
       }
         where
@@ -348,8 +339,8 @@ module _ {S : Type 0} (r : Ghosts S) (f : writing.Ghosts S) (o : OutputSpec) (a 
           drafts-more = sym (map-append (λ (each : PlannedOutput). draft_of each.name each.document) (outputs_from (live_files r a) o 1 so_far.done) (its ∷ []))
 
     -- and so on
-    pub way-next : (e : S) (o'' : OutputSpec) (p'' : PlacedBlocks) (written' : List Written) (next : Option PartStart) → FindsNext o' o'' p' p'' written written' next → GoesOn r (data_of o') b e p' p'' → KeepsUnwritten r f o'.split o'.name b e
-        → (IsToldFrom (live_files r b) p' part.lane → WritesOne r f part b e o' p' p'' written written' next) → OnTheWay e o'' p'' written' next
+    pub way-next : (e : S) (o'' : OutputSpec) (p'' : PlacedBlocks) (written' : List Written) (next : Option ℕ) → FindsNext o' o'' p' p'' written written' next → GoesOn r (data_of o') b e p' p'' → KeepsUnwritten r f o'.split o'.name b e
+        → (IsTold (live_files r b) p'.merge → WritesOne r f b e o' p' p'' written written' next) → OnTheWay e o'' p'' written' next
     way-next e o'' p'' written' next finds goes kept writes = record {
       read = way.read + data_of o';
       data_left = let none : data_of o'' ≡ 0 = ap data_of finds.spec in let before = way.data_left in omega (arith, none, before);
@@ -358,7 +349,7 @@ module _ {S : Type 0} (r : Ghosts S) (f : writing.Ghosts S) (o : OutputSpec) (a 
       spec = finds.spec ∙ ap (λ (each : OutputSpec). let x : OutputSpec = record each { front = record each.front { attachments = [] } } in x) way.spec ∙ later ∙ ap (λ (n : ℕ). left_at o (n + 1)) (sym finds.count);
       attached = subst (λ (each : OutputSpec). All (CanAttach r f e (next_name o'' written')) each.front.attachments) (sym finds.spec) (All-nil (CanAttach r f e (next_name o'' written')));
       kept = way-keeps e kept;
-      standing = λ told. stands-next told e o'' p'' written' next (writes ((way.standing told).told)) finds.spec;
+      standing = λ told. stands-next told e o'' p'' written' next (writes (way.goes.told told).told) finds.spec;
     }
       where
         later : (let x : OutputSpec = record o { front = record o.front { attachments = [] } } in x) ≡ left_at o (length written + 1 + 1)

@@ -1,5 +1,5 @@
 -- Blocks up to the next cut, and the parts that begin with them.
-use Rattle.std.proofs.Common.{◌≡◌, ◌≤◌, ◌<◌, ℕ, ◌+◌, ◌*◌, ◌^◌, max, nat_le, Bool, true, false, List, [], ◌∷◌, map, Option, Some, None, IfSome, refl, sym, ◌∙◌, ap, ap₂, zero-add, arith}
+use Rattle.std.proofs.Common.{◌≡◌, ◌≤◌, ◌<◌, ℕ, ◌+◌, ◌*◌, ◌^◌, max, nat_le, Bool, true, false, List, [], ◌∷◌, ◌++◌, map, Option, Some, None, IfSome, refl, sym, ◌∙◌, ap, ap₂, zero-add, arith}
 use Rattle.std.specs.Prelude.{if◌then◌else◌}
 use Rattle.std.specs.Option.{option_map}
 use Rattle.output_model.specs.OutputBlock.{OutputBlock}
@@ -10,7 +10,19 @@ use Rattle.splitter.specs.Split.{keeps}
 use Rattle.splitter.specs.Sections.{Part, Section, Split, begun, beyond, cuts_at, in_part, next_start, part_of, parts_in, sections_at, within}
 use Rattle.splitter.specs.Steps.{counted}
 use Rattle.splitter.proofs.SectionLemmas.{beyond-counted, beyond-like, goes-on, within-counted}
-use Rattle.remuxer.specs.Places.{IsEnd, IsLimit, first_tick, part_from, parts_behind, parts_from}
+use Rattle.remuxer.specs.Places.{IsEnd, IsLimit, first_tick, parts_from}
+
+-- the part that begins with these blocks, and goes up to the next cut
+abbrev pub part_from : Split → ℕ → ℕ → List OutputBlock → List OutputBlock → Part
+part_from s start octets first behind = record {
+  start = start;
+  end = option_map (max start) (first_tick (beyond s start octets behind));
+  blocks = map (in_part start) (first ++ within s start octets behind);
+}
+
+-- the parts behind it
+abbrev pub parts_behind : Split → ℕ → ℕ → List OutputBlock → List Part
+parts_behind s start octets behind = parts_in s (sections_at s (beyond s start octets behind))
 
 -- a load at which parts end has 64 bits
 pub fits-of : (size : Option ℕ) (spec : SplitSpec) → IfSome size (IsLimit spec) → IfSome size (λ limit. limit < 2 ^ 64)

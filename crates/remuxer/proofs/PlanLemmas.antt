@@ -1,5 +1,5 @@
 -- A plan, and the merge that it comes to.
-use Rattle.std.proofs.Common.{◌≡◌, ◌≤◌, ◌<◌, ℕ, Bool, List, [], ◌∷◌, All, length, map, Result, Ok, refl, sym, ◌∙◌, ap, ap₂, subst, arith}
+use Rattle.std.proofs.Common.{◌≡◌, ◌≤◌, ◌<◌, ℕ, Bool, List, [], ◌∷◌, All, length, map, None, Result, Ok, refl, sym, ◌∙◌, ap, ap₂, subst, arith}
 use Rattle.std.proofs.lemmas.List.{length-map}
 use Rattle.std.proofs.lemmas.List.Elements.{All-cons, All-head, All-nil, All-tail}
 use Rattle.mkv_io.specs.Sources.{live_files}
@@ -81,7 +81,7 @@ module _ {S : Type 0} (r : Ghosts S) (f : writing.Ghosts S) (a : S) (p : MergePl
         (all-links (IsUnwrittenLink (f.holder a) (is_split p) p.output) p.limits.scale p.lanes s.lanes started.lanes (λ k d inside. (plan.lanes k d inside).apart))
 
     -- its blocks, none of which was placed
-    pub plan-gives : CanGive (live_files r a) (record { merge = m; cuts = new_cuts p.split p.size p.limits.scale; drives = s.drives })
+    pub plan-gives : CanGive (live_files r a) (record { merge = m; cuts = new_cuts p.split p.size p.limits.scale; drives = s.drives; ahead = None })
     plan-gives = record {
       ready = plan-ready;
       few = plan-few;
@@ -89,6 +89,7 @@ module _ {S : Type 0} (r : Ghosts S) (f : writing.Ghosts S) (a : S) (p : MergePl
       scales = lanes-to (λ (l : LaneSeen). l.scale ≡ p.limits.scale) m.queues s.lanes begins.lanes (all-scales p.limits.scale p.lanes s.lanes started.lanes);
       scale = plan.scale_most;
       early = omega arith;
+      empty = λ none. refl;
       limit = plan.limit;
     }
 
@@ -106,13 +107,13 @@ module _ {S : Type 0} (r : Ghosts S) (f : writing.Ghosts S) (a : S) (p : MergePl
     pub plan-length : files_length (live_files r a) m ≡ inputs_length (live_files r a) p
     plan-length = starts.length ∙ all-lengths (live_files r a) p.limits.scale p.lanes s.lanes started.lanes
 
-    plan-split : split_in (record { merge = m; cuts = new_cuts p.split p.size p.limits.scale; drives = s.drives }) ≡ split_of p
+    plan-split : split_in (record { merge = m; cuts = new_cuts p.split p.size p.limits.scale; drives = s.drives; ahead = None }) ≡ split_of p
     plan-split = ap (λ (drivers : List Bool). let x : Split = record { spec = p.split; size = p.size; scale = p.limits.scale; drives = drives_by drivers } in x) started.drives
 
     -- its blocks and what its outputs have in common, as they were made of it
     module _ (b : S) (idle : b ≡ a) (cuts : CutsSeen) (cut : cuts ≡ new_cuts p.split p.size p.limits.scale) (split : Bool) (same : split ≡ is_split p) where
       abbrev pub started_blocks : PlacedBlocks
-      started_blocks = record { merge = m; cuts = cuts; drives = s.drives }
+      started_blocks = record { merge = m; cuts = cuts; drives = s.drives; ahead = None }
 
       abbrev pub started_spec : OutputSpec
       started_spec = record { name = p.output; split = split; limits = p.limits; rules = s.rules; front = p.front; chapters = p.chapters; tags = p.tags; uuids = p.uuids; link = p.link }
@@ -120,8 +121,8 @@ module _ {S : Type 0} (r : Ghosts S) (f : writing.Ghosts S) (a : S) (p : MergePl
       -- the outputs can be written
       pub plan-can : CanWriteAll r f b started_spec started_blocks
       plan-can = subst (λ (x : S). CanWriteAll r f x started_spec started_blocks) (sym idle) (record {
-        gives = subst (λ (c : CutsSeen). CanGive (live_files r a) (record { merge = m; cuts = c; drives = s.drives })) (sym cut) plan-gives;
-        fresh = record { start = ap (λ (c : CutsSeen). c.start) cut; empty = ap (λ (c : CutsSeen). c.load) cut };
+        gives = subst (λ (c : CutsSeen). CanGive (live_files r a) (record { merge = m; cuts = c; drives = s.drives; ahead = None })) (sym cut) plan-gives;
+        fresh = ap (λ (c : CutsSeen). c.start) cut;
         scale = ap (λ (c : CutsSeen). c.scale) cut;
         apart = subst (λ (q : Bool). IsUnwritten (f.holder a) q p.output m) (sym same) plan-apart;
         records = subst (λ (q : Bool). HasRecords r f a (name_of q p.output 1) p.front p.chapters p.tags) (sym same) plan.records;
@@ -130,9 +131,9 @@ module _ {S : Type 0} (r : Ghosts S) (f : writing.Ghosts S) (a : S) (p : MergePl
       -- they are those of the plan
       plan-outputs : outputs_left (live_files r a) started_spec started_blocks ≡ outputs_in (live_files r a) p
       plan-outputs =
-          ap (λ (c : CutsSeen). outputs_left (live_files r a) started_spec (record { merge = m; cuts = c; drives = s.drives })) cut
+          ap (λ (c : CutsSeen). outputs_left (live_files r a) started_spec (record { merge = m; cuts = c; drives = s.drives; ahead = None })) cut
           ∙ ap₂ (λ (each : Bool) (rules : List CueRule). outputs_left (live_files r a) (record { name = p.output; split = each; limits = p.limits; rules = rules; front = p.front; chapters = p.chapters; tags = p.tags; uuids = p.uuids; link = p.link })
-          (record { merge = m; cuts = new_cuts p.split p.size p.limits.scale; drives = s.drives })) same started.rules
+          (record { merge = m; cuts = new_cuts p.split p.size p.limits.scale; drives = s.drives; ahead = None })) same started.rules
           ∙ ap₂ (λ (each : Split) (blocks : List OutputBlock). outputs_from (live_files r a) (spec_of p) 1 (parts each blocks)) plan-split plan-left
 
       -- they are written

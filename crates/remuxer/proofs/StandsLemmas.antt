@@ -11,8 +11,6 @@ use Rattle.mkv_io.specs.Names.{Names, with_change, with_content}
 use Rattle.mkv_io.specs.declared.reads.Reads.{Ghosts}
 use Rattle.mkv_io.specs.declared.files.Files as writing
 use Rattle.mkv_outputs.specs.Written.{PassesSome}
-use Rattle.ebml_numbers.specs.Number.{is_id}
-use Rattle.mkv_schema.specs.declared.ids.TheConstants.{CLUSTER}
 use Rattle.output_model.specs.Element.{joined, octets_of}
 use Rattle.output_model.specs.declared.TheConstants.{MOST_CUES}
 use Rattle.output_model.specs.declared.heads.ClusterLimits.{ClusterLimits}
@@ -48,10 +46,6 @@ cut-breaks : (limits : ClusterLimits) (c : OutputCluster) (left : List OutputBlo
 cut-breaks limits c left b never = ap (λ t. if t then cut_from limits (with_block c b) left else c ∷ cut_from limits (begun b) left) never
 
 -- ---- what is counted
-
-cluster-id : is_id CLUSTER ≡ true
-unfolding is_id
-cluster-id = refl
 
 -- nothing is held where the buffer has no block
 none-held : (g : Gathered) (cl : Option OutputCluster) → Holds cl g → is_empty g ≡ is_none cl

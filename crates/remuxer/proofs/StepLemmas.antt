@@ -1,6 +1,6 @@
--- A step of a merge, and where its block stands.
+-- A step of a merge, where its block stands, and what it leaves.
 use Rattle.std.proofs.Common.{◌≡◌, ◌≤◌, ◌<◌, ℕ, ◌+◌, ◌-◌, ◌*◌, ◌/◌, ◌^◌, max, Bool, true, false, ◌&&◌, ◌||◌, List, [], ◌∷◌, ◌++◌, All, length, map, Option, Some, None, refl, sym, ◌∙◌, ap, ap₂, subst, zero-add, arith}
-use Rattle.std.specs.Prelude.{if◌then◌else◌}
+use Rattle.std.specs.Prelude.{if◌then◌else◌, is_none, is_some}
 use Rattle.std.specs.List.{slice_get}
 use Rattle.std.specs.Option.{IfSome, option_map, option_map_or}
 use Rattle.std.proofs.lemmas.List.Elements.{All-cons, All-head, All-map, All-nil, All-tail}
@@ -26,17 +26,15 @@ use Rattle.time_merge.specs.Queues.{KeepsQueues, LaneKept, lane_kept}
 use Rattle.time_merge.specs.declared.queue.Queue.{Queue}
 use Rattle.time_merge.proofs.QueueLemmas.{count-kept}
 use Rattle.splitter.specs.declared.cuts.Place.{Place}
-use Rattle.splitter.specs.declared.cuts.Place.TheVariants.{Same, Next, Out}
 use Rattle.splitter.specs.Split.{keeps}
-use Rattle.splitter.specs.Sections.{Split, cuts, cuts_at, from_nought, may_cut, parts, start_with}
+use Rattle.splitter.specs.Sections.{Part, Split, beyond, may_cut, parts, parts_in, sections_at, within, in_part}
 use Rattle.splitter.specs.Steps.{CutsSeen, counted, is_cut, is_kept, place_at, place_of, start_of, stepped}
 use Rattle.remuxer.specs.Placed.{PlacesOne, drives_at}
 use Rattle.remuxer.specs.declared.placing.Ahead.{Ahead}
 use Rattle.remux_plan.specs.declared.TheConstants.{MOST_SCALE}
-use Rattle.remuxer.specs.Taking.{IsOver}
-use Rattle.remuxer.specs.Places.{CanGive, IsAhead, IsEnd, IsFresh, IsIn, IsLimit, LendsAt, StandsAhead, block_lent, first_tick, is_same, lane_of, lent_at, start_in, parts_ahead, parts_behind, parts_from, split_in}
+use Rattle.remuxer.specs.Places.{CanGive, IsAhead, IsFresh, IsLimit, LendsAt, StandsAhead, StandsAt, ahead_at, ahead_of, behind_part, block_lent, first_tick, is_same, is_within, lane_within, lent_ahead, lent_at, part_in, parts_from, parts_left, rest_of_part, split_in, start_in}
 use Rattle.remuxer.specs.declared.placed.PlacedBlocks.{PlacedBlocks}
-use Rattle.remuxer.proofs.PartLemmas.{is-end, no-limit, passed-next}
+use Rattle.remuxer.proofs.PartLemmas.{behind-cut, beyond-cut, beyond-next, fits-of, no-limit, passed-next, within-cut, within-next}
 
 -- ---- a lane's block
 
@@ -74,58 +72,90 @@ early-time tick scale most le = let half : scale / 2 ≤ scale = grind arith in 
 
 -- ---- where a block stands
 
--- what is known in a section that starts at this tick, of whose load so much is counted
-abbrev pub at_load : Split → ℕ → ℕ → CutsSeen
-at_load s start n = record { spec = s.spec; size = s.size; scale = s.scale; start = Some start; load = n }
+-- a block that begins a section stands in no part that was begun
+begins-none : (kept : Bool) (start : ℕ) (a : Ahead) → a.place ≡ place_at kept true start → is_within (Some a) ≡ false
+begins-none kept start a place = ap (λ (q : Bool). is_some (if q then Some a.lane else None)) (ap is_same place ∙ either kept)
+  where
+    either : (k : Bool) → is_same (place_at k true start) ≡ false
+    either true = refl
+    either false = refl
 
--- there, whether a cut stands before a block or not
-stepped-at : (s : Split) (start n : ℕ) (x : OutputBlock) (len : ℕ) (q : Bool) → cuts_at s start n x ≡ q
-    → stepped (at_load s start n) (may_cut s x) x.tick len ≡ at_load s (if q then x.tick else start) (counted s.size ((if q then 0 else n) + len))
-stepped-at s start n x len q is = ap (λ (cut : Bool). at_load s (if cut then x.tick else start) (counted s.size ((if cut then 0 else n) + len))) is
+-- nor does one of a section that isn't written
+out-none : (begins : Bool) (start : ℕ) (a : Ahead) → a.place ≡ place_at false begins start → is_within (Some a) ≡ false
+out-none begins start a place = ap (λ (p : Place). is_some (if is_same p then Some a.lane else None)) place
 
-place-at : (s : Split) (start n : ℕ) (x : OutputBlock) (q : Bool) → cuts_at s start n x ≡ q
-    → place_of (at_load s start n) (may_cut s x) x.tick ≡ place_at (keeps s.spec ((if q then x.tick else start) * s.scale)) (q || false) (if q then x.tick else start)
-place-at s start n x q is = ap (λ (cut : Bool). place_at (keeps s.spec ((if cut then x.tick else start) * s.scale)) (cut || false) (if cut then x.tick else start)) is
+-- any other one does
+same-within : (start : ℕ) (a : Ahead) → a.place ≡ place_at true false start → is_within (Some a) ≡ true
+same-within start a place = ap (λ (p : Place). is_some (if is_same p then Some a.lane else None)) place
 
--- a load that isn't counted
-counted-none : (size : Option ℕ) (n m : ℕ) → size ≡ None → counted size n ≡ counted size m
-counted-none None n m is = refl
-counted-none (Some limit) n m is = absurd (cc)
+-- so its section is written
+pub within-kept : (m : MergeSeen) (c : CutsSeen) (a : Ahead) → IsAhead m c a → is_within (Some a) ≡ true → is_kept c ≡ true
+within-kept m c a ahead is = either (is_kept c) ahead.place
+  where
+    either : (k : Bool) → a.place ≡ place_at k ahead.begins (start_of c) → k ≡ true
+    either true place = refl
+    either false place = let out = out-none ahead.begins (start_of c) a place in absurd (cc)
 
--- by what the code asks of a place
-pub is-same : (place : Place) → is_same place ≡ true → place ≡ Same
-is-same Same is = refl
-is-same (Next start) is = absurd (cc)
-is-same Out is = absurd (cc)
+-- a block that begins no part goes on in one, or its section isn't written
+pub passed-kept : (m : MergeSeen) (c : CutsSeen) (a : Ahead) → IsAhead m c a → start_in a.place ≡ None → is_within (Some a) ≡ false → is_kept c ≡ false
+passed-kept m c a ahead none isnt = either (is_kept c) ahead.begins ahead.place
+  where
+    either : (k begins : Bool) → a.place ≡ place_at k begins (start_of c) → k ≡ false
+    either true true place = let some : start_in a.place ≡ Some (start_of c) = ap start_in place in absurd (cc)
+    either true false place = let same = same-within (start_of c) a place in absurd (cc)
+    either false begins place = refl
 
-pub not-same : (place : Place) → is_same place ≡ false → place ≡ Same → ⊥
-not-same place isnt same = let both : is_same place ≡ true = ap is_same same in absurd (cc)
+-- what is counted of a section that a block begins
+counts-first : (cut : Bool) (start : Option ℕ) (size : Option ℕ) (load n : ℕ) → (is_none start ≡ true → load ≡ 0) → (cut || is_none start) ≡ true → counted size ((if cut then 0 else load) + n) ≡ counted size n
+counts-first true start size load n empty is = ap (counted size) (zero-add n)
+counts-first false start size load n empty is = ap (counted size) (ap (λ (k : ℕ). k + n) (empty is) ∙ zero-add n)
 
-pub begins-part : (kept : Bool) (start n : ℕ) (place : Place) → place ≡ place_at kept true start → start_in place ≡ Some n → (kept ≡ true) × (n ≡ start)
-begins-part true start n place is found = let e : Some start ≡ Some n = sym (ap start_in is) ∙ found in (refl, cc)
-begins-part false start n place is found = let e : start_in place ≡ None = ap start_in is in absurd (cc)
+-- ---- what is left, by the block ahead
 
-pub begins-none : (kept : Bool) (start : ℕ) (place : Place) → place ≡ place_at kept true start → start_in place ≡ None → kept ≡ false
-begins-none true start place is none = let e : start_in place ≡ Some start = ap start_in is in absurd (cc)
-begins-none false start place is none = refl
+module _ (f : LiveFiles) (b : PlacedBlocks) where
+  module _ (is : is_within b.ahead ≡ true) where
+    pub rest-within : rest_of_part f b ≡ lent_ahead b ++ within (split_in b) (start_of b.cuts) b.cuts.load (left f b.merge)
+    rest-within = ap (λ (q : Bool). if q then lent_ahead b ++ within (split_in b) (start_of b.cuts) b.cuts.load (left f b.merge) else []) is
 
-next-or-out : (kept : Bool) (start : ℕ) → place_at kept true start ≡ Same → ⊥
-next-or-out true start is = absurd (cc)
-next-or-out false start is = absurd (cc)
+    pub behind-within : behind_part f b ≡ beyond (split_in b) (start_of b.cuts) b.cuts.load (left f b.merge)
+    behind-within = ap (λ (q : Bool). if q then beyond (split_in b) (start_of b.cuts) b.cuts.load (left f b.merge) else ahead_of b.merge b.ahead (left f b.merge)) is
 
--- a block stands in the same part where no cut stands before it
-same-uncut : (s : Split) (start n : ℕ) (x : OutputBlock) (place : Place) → place ≡ place_of (at_load s start n) (may_cut s x) x.tick → place ≡ Same → (q : Bool) → cuts_at s start n x ≡ q → q ≡ false
-same-uncut s start n x place is same true cut = absurd (next-or-out (keeps s.spec (x.tick * s.scale)) x.tick (sym (place-at s start n x true cut) ∙ sym is ∙ same))
-same-uncut s start n x place is same false cut = refl
+    pub parts-within : parts_left f b ≡ parts_in (split_in b) (sections_at (split_in b) (beyond (split_in b) (start_of b.cuts) b.cuts.load (left f b.merge)))
+    parts-within =
+        ap (λ (q : Bool). if q then parts_in (split_in b) (sections_at (split_in b) (behind_part f b)) else parts_from (split_in b) (start_of b.cuts) (behind_part f b)) is
+        ∙ ap (λ (bs : List OutputBlock). parts_in (split_in b) (sections_at (split_in b) bs)) behind-within
 
-other-cut : (s : Split) (start n : ℕ) (x : OutputBlock) (place : Place) → keeps s.spec (start * s.scale) ≡ true → place ≡ place_of (at_load s start n) (may_cut s x) x.tick → (place ≡ Same → ⊥) → (q : Bool) → cuts_at s start n x ≡ q → q ≡ true
-other-cut s start n x place kept is other true cut = refl
-other-cut s start n x place kept is other false cut = absurd (other (is ∙ place-at s start n x false cut ∙ ap (λ (k : Bool). place_at k false start) kept))
+  module _ (isnt : is_within b.ahead ≡ false) where
+    pub rest-none : rest_of_part f b ≡ []
+    rest-none = ap (λ (q : Bool). if q then lent_ahead b ++ within (split_in b) (start_of b.cuts) b.cuts.load (left f b.merge) else []) isnt
+
+    pub behind-ahead : behind_part f b ≡ ahead_of b.merge b.ahead (left f b.merge)
+    behind-ahead = ap (λ (q : Bool). if q then beyond (split_in b) (start_of b.cuts) b.cuts.load (left f b.merge) else ahead_of b.merge b.ahead (left f b.merge)) isnt
+
+    pub parts-ahead : parts_left f b ≡ parts_from (split_in b) (start_of b.cuts) (ahead_of b.merge b.ahead (left f b.merge))
+    parts-ahead =
+        ap (λ (q : Bool). if q then parts_in (split_in b) (sections_at (split_in b) (behind_part f b)) else parts_from (split_in b) (start_of b.cuts) (behind_part f b)) isnt
+        ∙ ap (parts_from (split_in b) (start_of b.cuts)) behind-ahead
+
+-- the same where the same is left of the merge
+module _ (f h : LiveFiles) (b : PlacedBlocks) (same : left h b.merge ≡ left f b.merge) where
+  pub rest-same : rest_of_part h b ≡ rest_of_part f b
+  rest-same = ap (λ (bs : List OutputBlock). if is_within b.ahead then lent_ahead b ++ within (split_in b) (start_of b.cuts) b.cuts.load bs else []) same
+
+  pub behind-same : behind_part h b ≡ behind_part f b
+  behind-same = ap (λ (bs : List OutputBlock). if is_within b.ahead then beyond (split_in b) (start_of b.cuts) b.cuts.load bs else ahead_of b.merge b.ahead bs) same
+
+  pub parts-same : parts_left h b ≡ parts_left f b
+  parts-same = ap (λ (bs : List OutputBlock). if is_within b.ahead then parts_in (split_in b) (sections_at (split_in b) bs) else parts_from (split_in b) (start_of b.cuts) bs) behind-same
+
+  pub part-same : part_in h b ≡ part_in f b
+  part-same = ap₂ (λ (end : Option ℕ) (blocks : List OutputBlock). let x : Part = record { start = start_of b.cuts; end = end; blocks = blocks } in x)
+      (ap (λ (bs : List OutputBlock). option_map (max (start_of b.cuts)) (first_tick bs)) behind-same) (ap (map (in_part (start_of b.cuts))) rest-same)
 
 -- ---- one step
 
--- the block that the lane lends is in front
-pub lent-one : (m : MergeSeen) (k : ℕ) (q : Queue) → slice_get m.queues k ≡ Some q → lent_at m (Some k) ≡ block_lent k q.lane ∷ []
+-- the block that the lane lends
+pub lent-one : (m : MergeSeen) (k : ℕ) (q : Queue) → slice_get m.queues k ≡ Some q → lent_at m k ≡ block_lent k q.lane ∷ []
 lent-one m k q here = ap (λ (o : Option Queue). option_map_or (λ (each : Queue). block_lent k each.lane ∷ []) o []) here
 
 -- the lane that is asked for is the one of the queue
@@ -135,234 +165,205 @@ lane-is m k q l here is = let e : Some q.lane ≡ Some l = sym (ap (option_map (
 same-queue : (m : MergeSeen) (k : ℕ) (q p : Queue) → slice_get m.queues k ≡ Some q → slice_get m.queues k ≡ Some p → q ≡ p
 same-queue m k q p one other = let e : Some q ≡ Some p = sym one ∙ other in cc
 
--- the blocks, where the merge and the cuts are these
-abbrev pub on_to : PlacedBlocks → MergeSeen → CutsSeen → PlacedBlocks
-on_to b m' c' = record { merge = m'; cuts = c'; drives = b.drives }
+-- The block ahead is of the part that was begun, and this lane lends it.
+pub record LendsAhead (p : PlacedBlocks) (k : ℕ) : Type 0 where
+  pub in_it : is_within p.ahead ≡ true
+  pub lends : LendsAt p.merge p.cuts.scale k
+  pub one : lent_ahead p ≡ block_lent k lends.queue.lane ∷ []
+
+pub lends-ahead : (p : PlacedBlocks) (k : ℕ) → StandsAhead p → lane_within p.ahead ≡ Some k → LendsAhead p k
+lends-ahead p k stands found = either p.ahead refl stands
+  where
+    lane : (a : Ahead) (q : Bool) → (if q then Some a.lane else None) ≡ Some k → a.lane ≡ k
+    lane a true is = cc
+    lane a false is = absurd (cc)
+
+    either : (o : Option Ahead) → p.ahead ≡ o → StandsAt p.merge p.cuts o → LendsAhead p k
+    either None is ended = let none : None ≡ Some k = sym (ap lane_within is) ∙ found in absurd (cc)
+    either (Some a) is ahead =
+        subst (LendsAhead p) (lane a (is_same a.place) (sym (ap lane_within is) ∙ found))
+        (record { in_it = ap (λ (o : Option ℕ). is_some o) found; lends = ahead.lends; one = ap (ahead_at p.merge) is ∙ lent-one p.merge a.lane ahead.lends.queue ahead.lends.here })
+
+-- the blocks, where the merge and the cuts are these, and this is ahead
+abbrev pub on_to : PlacedBlocks → MergeSeen → CutsSeen → Option Ahead → PlacedBlocks
+on_to b m' c' next = record { merge = m'; cuts = c'; drives = b.drives; ahead = next }
 
 -- they can be given
-pub gives-on : (f h : LiveFiles) (b : PlacedBlocks) (m' : MergeSeen) (c' : CutsSeen) → CanGive f b → KeepsQueues b.merge.queues m'.queues → IsReady h m' → c'.scale ≡ b.cuts.scale → start_of c' * c'.scale < 2 ^ 64 → IfSome c'.size (IsLimit c'.spec) → CanGive h (on_to b m' c')
-gives-on f h b m' c' gives keeps ready scale early limit = record {
+gives-on : (f h : LiveFiles) (b b' : PlacedBlocks) → CanGive f b → KeepsQueues b.merge.queues b'.merge.queues → IsReady h b'.merge → b'.drives ≡ b.drives → b'.cuts.scale ≡ b.cuts.scale → start_of b'.cuts * b'.cuts.scale < 2 ^ 64 → (is_none b'.cuts.start ≡ true → b'.cuts.load ≡ 0) → IfSome b'.cuts.size (IsLimit b'.cuts.spec) → CanGive h b'
+gives-on f h b b' gives keeps ready drives scale early empty limit = record {
   ready = ready;
-  few = omega (arith, count-kept b.merge.queues m'.queues keeps, gives.few);
-  drives = gives.drives ∙ sym (count-kept b.merge.queues m'.queues keeps);
-  scales = subst (λ (n : ℕ). All (λ (q : Queue). q.lane.scale ≡ n) m'.queues) (sym scale) (scales-kept b.cuts.scale b.merge.queues m'.queues keeps gives.scales);
+  few = omega (arith, count-kept b.merge.queues b'.merge.queues keeps, gives.few);
+  drives = ap (λ (ds : List Bool). length ds) drives ∙ gives.drives ∙ sym (count-kept b.merge.queues b'.merge.queues keeps);
+  scales = subst (λ (n : ℕ). All (λ (q : Queue). q.lane.scale ≡ n) b'.merge.queues) (sym scale) (scales-kept b.cuts.scale b.merge.queues b'.merge.queues keeps gives.scales);
   scale = omega (arith, scale, gives.scale);
   early = early;
+  empty = empty;
   limit = limit;
 }
 
 -- the same cuts, where no block was placed
-pub gives-same : (f h : LiveFiles) (b : PlacedBlocks) (m' : MergeSeen) (c' : CutsSeen) → CanGive f b → KeepsQueues b.merge.queues m'.queues → IsReady h m' → c' ≡ b.cuts → CanGive h (on_to b m' c')
-gives-same f h b m' c' gives keeps ready same =
-    gives-on f h b m' c' gives keeps ready (ap (λ (c : CutsSeen). c.scale) same) (subst (λ (c : CutsSeen). start_of c * c.scale < 2 ^ 64) (sym same) gives.early)
-    (subst (λ (c : CutsSeen). IfSome c.size (IsLimit c.spec)) (sym same) gives.limit)
-
-pub split-same : (b : PlacedBlocks) (m' : MergeSeen) (c' : CutsSeen) → c' ≡ b.cuts → split_in (on_to b m' c') ≡ split_in b
-split-same b m' c' same = ap (λ (c : CutsSeen). split_in (on_to b m' c)) same
+pub gives-same : (f h : LiveFiles) (b b' : PlacedBlocks) → CanGive f b → KeepsQueues b.merge.queues b'.merge.queues → IsReady h b'.merge → b'.drives ≡ b.drives → b'.cuts ≡ b.cuts → CanGive h b'
+gives-same f h b b' gives keeps ready drives same =
+    gives-on f h b b' gives keeps ready drives (ap (λ (c : CutsSeen). c.scale) same) (subst (λ (c : CutsSeen). start_of c * c.scale < 2 ^ 64) (sym same) gives.early)
+    (subst (λ (c : CutsSeen). is_none c.start ≡ true → c.load ≡ 0) (sym same) gives.empty) (subst (λ (c : CutsSeen). IfSome c.size (IsLimit c.spec)) (sym same) gives.limit)
 
 module _ (f : LiveFiles) (b : PlacedBlocks) (m' : MergeSeen) (c' : CutsSeen) (a : Ahead) (can : CanGive f b) (lanes : KeepsQueues b.merge.queues m'.queues) (steps : StepsTo b.merge m' a.lane) (places : PlacesOne b.drives m' b.cuts c' a) where
   -- the block that is lent
-  pub step-block : OutputBlock
-  step-block = block_lent a.lane steps.queue.lane
+  abbrev x : OutputBlock
+  x = block_lent a.lane steps.queue.lane
+
+  abbrev may : Bool
+  may = may_cut (split_in b) x
 
   same-lent : lent places.queue.lane ≡ lent steps.queue.lane
   same-lent = ap (λ (q : Queue). lent q.lane) (same-queue m' a.lane places.queue steps.queue places.here steps.here)
 
   -- a cut may stand before it
-  may-same : ((lent places.queue.lane).head.key && drives_at b.drives a.lane) ≡ may_cut (split_in b) (block_lent a.lane steps.queue.lane)
+  may-same : ((lent places.queue.lane).head.key && drives_at b.drives a.lane) ≡ may
   may-same =
       let place : a.lane ≡ a.lane + 1 - 1 = omega arith in
       ap₂ (λ (l : Lent) (k : ℕ). l.head.key && drives_at b.drives k) same-lent place
 
-  pub step-place : a.place ≡ place_of b.cuts (may_cut (split_in b) (block_lent a.lane steps.queue.lane)) (block_lent a.lane steps.queue.lane).tick
-  step-place = places.placed.place ∙ ap₂ (λ (may : Bool) (l : Lent). place_of b.cuts may l.head.tick) may-same same-lent
+  step-place : a.place ≡ place_of b.cuts may x.tick
+  step-place = places.placed.place ∙ ap₂ (λ (q : Bool) (l : Lent). place_of b.cuts q l.head.tick) may-same same-lent
 
   -- how many octets it takes, in whichever lane
-  taken-same : octets_taken (lent_block (lent places.queue.lane)) ≡ octets_taken (block_lent a.lane steps.queue.lane)
+  taken-same : octets_taken (lent_block (lent places.queue.lane)) ≡ octets_taken x
   taken-same = ap (λ (l : Lent). octets_taken (lent_block l)) same-lent ∙ sym (taken-in_lane (a.lane + 1) (lent_block (lent steps.queue.lane)))
 
-  pub step-cuts : c' ≡ stepped b.cuts (may_cut (split_in b) (block_lent a.lane steps.queue.lane)) (block_lent a.lane steps.queue.lane).tick (octets_taken (block_lent a.lane steps.queue.lane))
+  step-cuts : c' ≡ stepped b.cuts may x.tick (octets_taken x)
   step-cuts =
       places.placed.steps
-      ∙ ap₂ (λ (may : Bool) (l : Lent). stepped b.cuts may l.head.tick (octets_taken (lent_block (lent places.queue.lane)))) may-same same-lent
-      ∙ ap (stepped b.cuts (may_cut (split_in b) (block_lent a.lane steps.queue.lane)) (block_lent a.lane steps.queue.lane).tick) taken-same
+      ∙ ap₂ (λ (q : Bool) (l : Lent). stepped b.cuts q l.head.tick (octets_taken (lent_block (lent places.queue.lane)))) may-same same-lent
+      ∙ ap (stepped b.cuts may x.tick) taken-same
 
-  pub step-scale : c'.scale ≡ b.cuts.scale
+  step-scale : c'.scale ≡ b.cuts.scale
   step-scale = ap (λ (c : CutsSeen). c.scale) step-cuts
 
-  pub step-split : split_in (on_to b m' c') ≡ split_in b
-  step-split = ap (λ (c : CutsSeen). split_in (on_to b m' c)) step-cuts
+  pub step-split : split_in (on_to b m' c' (Some a)) ≡ split_in b
+  step-split = ap (λ (c : CutsSeen). split_in (on_to b m' c (Some a))) step-cuts
 
   -- its time has 64 bits
-  early-block : (lent steps.queue.lane).head.tick * b.cuts.scale < 2 ^ 64
+  early-block : x.tick * b.cuts.scale < 2 ^ 64
   early-block =
       let scale : steps.queue.lane.scale ≡ b.cuts.scale = of-one (λ (q : Queue). q.lane.scale ≡ b.cuts.scale) m'.queues a.lane steps.queue (scales-kept b.cuts.scale b.merge.queues m'.queues lanes can.scales) steps.here in
       let head : (lent steps.queue.lane).head ≡ steps.queue.lane.walk.placed.head = lent-head steps.queue.lane.walk (slice_get steps.queue.lane.links steps.queue.lane.walk.at) in
       let most = subst (λ (n : ℕ). steps.queue.lane.walk.placed.head.tick * n ≤ most_time + n / 2) scale steps.lends.ticks.early in
       subst (λ (h : OutHead). h.tick * b.cuts.scale < 2 ^ 64) (sym head) (early-time steps.queue.lane.walk.placed.head.tick b.cuts.scale can.scale most)
 
-  pub step-lends : LendsAt (on_to b m' c') a.lane
-  step-lends = record {
-    queue = steps.queue;
-    here = steps.here;
-    sound = steps.lends.lent;
-    early = subst (λ (n : ℕ). (lent steps.queue.lane).head.tick * n < 2 ^ 64) (sym step-scale) early-block;
+  -- it is ahead then
+  pub step-ahead : IsAhead m' c' a
+  step-ahead = record {
+    lends = record { queue = steps.queue; here = steps.here; sound = steps.lends.lent; early = subst (λ (n : ℕ). x.tick * n < 2 ^ 64) (sym step-scale) early-block };
+    started = ap (λ (c : CutsSeen). c.start) step-cuts ∙ sym (ap (λ (c : CutsSeen). Some (start_of c)) step-cuts);
+    begins = is_cut b.cuts may x.tick || is_none b.cuts.start;
+    place = step-place ∙ sym (ap (λ (c : CutsSeen). place_at (is_kept c) (is_cut b.cuts may x.tick || is_none b.cuts.start) (start_of c)) step-cuts);
+    counts = λ is.
+        ap (λ (c : CutsSeen). c.load) step-cuts ∙ counts-first (is_cut b.cuts may x.tick) b.cuts.start b.cuts.size b.cuts.load (octets_taken x) can.empty is
+        ∙ ap (λ (c : CutsSeen). counted c.size (octets_taken x)) (sym step-cuts);
   }
 
-  pub step-early : start_of c' * c'.scale < 2 ^ 64
-  step-early = subst (λ (c : CutsSeen). start_of c * c.scale < 2 ^ 64) (sym step-cuts) (either (is_cut b.cuts (may_cut (split_in b) (block_lent a.lane steps.queue.lane)) (block_lent a.lane steps.queue.lane).tick))
+  pub step-gives : (h : LiveFiles) → IsReady h m' → CanGive h (on_to b m' c' (Some a))
+  step-gives h ready =
+      gives-on f h b (on_to b m' c' (Some a)) can lanes ready refl step-scale (subst (λ (c : CutsSeen). start_of c * c.scale < 2 ^ 64) (sym step-cuts) (either (is_cut b.cuts may x.tick)))
+      (λ none. let some : is_none c'.start ≡ false = ap (λ (c : CutsSeen). is_none c.start) step-cuts in absurd (cc)) (subst (λ (c : CutsSeen). IfSome c.size (IsLimit c.spec)) (sym step-cuts) can.limit)
     where
-      either : (cut : Bool) → (if cut then (block_lent a.lane steps.queue.lane).tick else start_of b.cuts) * b.cuts.scale < 2 ^ 64
+      either : (cut : Bool) → (if cut then x.tick else start_of b.cuts) * b.cuts.scale < 2 ^ 64
       either true = early-block
       either false = can.early
 
-  pub step-gives : (h : LiveFiles) → IsReady h m' → CanGive h (on_to b m' c')
-  step-gives h ready = gives-on f h b m' c' can lanes ready step-scale step-early (subst (λ (c : CutsSeen). IfSome c.size (IsLimit c.spec)) (sym step-cuts) can.limit)
-
-  pub step-one : lent_at m' (Some a.lane) ≡ block_lent a.lane steps.queue.lane ∷ []
-  step-one = lent-one m' a.lane steps.queue steps.here
-
   -- it was the first that was left
-  pub step-left : GivesBlock f b.merge m' a.lane → left f b.merge ≡ block_lent a.lane steps.queue.lane ∷ left f m'
+  pub step-left : GivesBlock f b.merge m' a.lane → left f b.merge ≡ x ∷ left f m'
   step-left gives = gives.gives ∙ ap (λ (q : Queue). block_lent a.lane q.lane ∷ left f m') (same-queue m' a.lane gives.queue steps.queue gives.here steps.here)
 
-  -- ---- behind a section that starts at this tick
+  -- where it stands, by whether a cut stands before it
+  cut-start : (q : Bool) → is_cut b.cuts may x.tick ≡ q → start_of c' ≡ (if q then x.tick else start_of b.cuts)
+  cut-start q is = ap start_of step-cuts ∙ ap (λ (cut : Bool). if cut then x.tick else start_of b.cuts) is
 
-  module _ (start : ℕ) (started : b.cuts.start ≡ Some start) where
-    cuts-are : b.cuts ≡ at_load (split_in b) start b.cuts.load
-    cuts-are = ap (λ (o : Option ℕ). let c : CutsSeen = record { spec = b.cuts.spec; size = b.cuts.size; scale = b.cuts.scale; start = o; load = b.cuts.load } in c) started
+  cut-place : (q : Bool) → is_cut b.cuts may x.tick ≡ q → a.place ≡ place_at (keeps b.cuts.spec ((if q then x.tick else start_of b.cuts) * b.cuts.scale)) (q || is_none b.cuts.start) (if q then x.tick else start_of b.cuts)
+  cut-place q is =
+      step-place ∙ ap (λ (cut : Bool). place_at (keeps b.cuts.spec ((if cut then x.tick else start_of b.cuts) * b.cuts.scale)) (cut || is_none b.cuts.start) (if cut then x.tick else start_of b.cuts)) is
 
-    placed-at : a.place ≡ place_of (at_load (split_in b) start b.cuts.load) (may_cut (split_in b) (block_lent a.lane steps.queue.lane)) (block_lent a.lane steps.queue.lane).tick
-    placed-at = step-place ∙ ap (λ (c : CutsSeen). place_of c (may_cut (split_in b) (block_lent a.lane steps.queue.lane)) (block_lent a.lane steps.queue.lane).tick) cuts-are
+  -- the first block begins one
+  pub step-first : b.cuts.start ≡ None → is_within (Some a) ≡ false
+  step-first fresh = either (is_cut b.cuts may x.tick) refl
+    where
+      either : (q : Bool) → is_cut b.cuts may x.tick ≡ q → is_within (Some a) ≡ false
+      either true is = begins-none (keeps b.cuts.spec (x.tick * b.cuts.scale)) x.tick a (cut-place true is)
+      either false is =
+          begins-none (keeps b.cuts.spec (start_of b.cuts * b.cuts.scale)) (start_of b.cuts) a
+          (cut-place false is ∙ ap (λ (o : Option ℕ). place_at (keeps b.cuts.spec (start_of b.cuts * b.cuts.scale)) (is_none o) (start_of b.cuts)) fresh)
 
-    then-at : (q : Bool) → cuts_at (split_in b) start b.cuts.load (block_lent a.lane steps.queue.lane) ≡ q
-        → c' ≡ at_load (split_in b) (if q then (block_lent a.lane steps.queue.lane).tick else start) (counted b.cuts.size ((if q then 0 else b.cuts.load) + octets_taken (block_lent a.lane steps.queue.lane)))
-    then-at q is =
-        step-cuts ∙ ap (λ (c : CutsSeen). stepped c (may_cut (split_in b) (block_lent a.lane steps.queue.lane)) (block_lent a.lane steps.queue.lane).tick (octets_taken (block_lent a.lane steps.queue.lane))) cuts-are
-        ∙ stepped-at (split_in b) start b.cuts.load (block_lent a.lane steps.queue.lane) (octets_taken (block_lent a.lane steps.queue.lane)) q is
+  module _ (h : LiveFiles) (bs : List OutputBlock) (same : left h m' ≡ bs) where
+    abbrev b' : PlacedBlocks
+    b' = on_to b m' c' (Some a)
 
-    -- in the same part: no cut stands before it
-    pub step-same : a.place ≡ Same → cuts_at (split_in b) start b.cuts.load (block_lent a.lane steps.queue.lane) ≡ false
-    step-same same = let q = cuts_at (split_in b) start b.cuts.load (block_lent a.lane steps.queue.lane) in same-uncut (split_in b) start b.cuts.load (block_lent a.lane steps.queue.lane) a.place placed-at same q refl
+    -- it and those behind it
+    step-on : ahead_of m' (Some a) (left h m') ≡ x ∷ bs
+    step-on = ap₂ (λ (first more : List OutputBlock). first ++ more) (lent-one m' a.lane steps.queue steps.here) same
 
-    -- so its octets are counted on
-    pub same-load : a.place ≡ Same → c'.load ≡ counted b.cuts.size (b.cuts.load + octets_taken (block_lent a.lane steps.queue.lane))
-    same-load same = ap (λ (c : CutsSeen). c.load) (then-at false (step-same same))
+    step-parts : is_within (Some a) ≡ false → parts_left h b' ≡ parts_from (split_in b) (start_of c') (x ∷ bs)
+    step-parts isnt = parts-ahead h b' isnt ∙ ap₂ (λ (s : Split) (them : List OutputBlock). parts_from s (start_of c') them) step-split step-on
 
-    pub same-in : a.place ≡ Same → is_kept b.cuts ≡ true → IsIn start (on_to b m' c')
-    same-in same kept =
-        let on = then-at false (step-same same) in
-        record {
-          started = ap (λ (c : CutsSeen). c.start) on;
-          kept = ap (λ (c : CutsSeen). keeps c.spec (start_of c * c.scale)) on ∙ sym (ap is_kept cuts-are) ∙ kept;
-        }
+    module _ (started : is_none b.cuts.start ≡ false) where
+      -- behind a section that isn't written
+      step-out : is_kept b.cuts ≡ false → parts_in (split_in b) (sections_at (split_in b) (beyond (split_in b) (start_of b.cuts) b.cuts.load (x ∷ bs))) ≡ parts_left h b'
+      step-out out = either (is_cut b.cuts may x.tick) refl
+        where
+          passed : (q : Bool) → is_cut b.cuts may x.tick ≡ q → is_within (Some a) ≡ false
+              → parts_in (split_in b) (sections_at (split_in b) (beyond (split_in b) (start_of b.cuts) b.cuts.load (x ∷ bs))) ≡ parts_left h b'
+          passed q is isnt =
+              passed-next (split_in b) (no-limit b.cuts.size b.cuts.spec (start_of b.cuts * b.cuts.scale) can.limit out) (start_of b.cuts) b.cuts.load x bs out q is
+              ∙ ap (λ (n : ℕ). parts_from (split_in b) n (x ∷ bs)) (sym (cut-start q is)) ∙ sym (step-parts isnt)
 
-    -- elsewhere: one does
-    pub step-other : is_kept b.cuts ≡ true → (a.place ≡ Same → ⊥) → cuts_at (split_in b) start b.cuts.load (block_lent a.lane steps.queue.lane) ≡ true
-    step-other kept other =
-        let q = cuts_at (split_in b) start b.cuts.load (block_lent a.lane steps.queue.lane) in
-        other-cut (split_in b) start b.cuts.load (block_lent a.lane steps.queue.lane) a.place (sym (ap is_kept cuts-are) ∙ kept) placed-at other q refl
+          either : (q : Bool) → is_cut b.cuts may x.tick ≡ q → parts_in (split_in b) (sections_at (split_in b) (beyond (split_in b) (start_of b.cuts) b.cuts.load (x ∷ bs))) ≡ parts_left h b'
+          either true is = passed true is (begins-none (keeps b.cuts.spec (x.tick * b.cuts.scale)) x.tick a (cut-place true is))
+          either false is = passed false is (out-none (is_none b.cuts.start) (start_of b.cuts) a (cut-place false is ∙ ap (λ (k : Bool). place_at k (is_none b.cuts.start) (start_of b.cuts)) out))
 
-    -- the block begins a section that may be written, or goes on in one that isn't
-    ahead-if : (q : Bool) → cuts_at (split_in b) start b.cuts.load (block_lent a.lane steps.queue.lane) ≡ q → (q ≡ false → keeps b.cuts.spec (start * b.cuts.scale) ≡ false) → IsAhead (on_to b m' c') a
-    unfolding step-lends
-    ahead-if q is out =
-        let on = then-at q is in
-        record {
-          lends = step-lends;
-          started = ap (λ (c : CutsSeen). c.start) on ∙ sym (ap (λ (c : CutsSeen). Some (start_of c)) on);
-          place = placed-at ∙ place-at (split_in b) start b.cuts.load (block_lent a.lane steps.queue.lane) q is ∙ begins q out ∙ sym (ap (λ (c : CutsSeen). place_at (is_kept c) true (start_of c)) on);
-          counts = ap (λ (c : CutsSeen). c.load) on ∙ counts q out ∙ ap (λ (c : CutsSeen). counted c.size (octets_taken (block_lent a.lane steps.queue.lane))) (sym step-cuts);
-        }
-      where
-        begins : (cut : Bool) → (cut ≡ false → keeps b.cuts.spec (start * b.cuts.scale) ≡ false)
-            → place_at (keeps b.cuts.spec ((if cut then (block_lent a.lane steps.queue.lane).tick else start) * b.cuts.scale)) (cut || false) (if cut then (block_lent a.lane steps.queue.lane).tick else start)
-            ≡ place_at (keeps b.cuts.spec ((if cut then (block_lent a.lane steps.queue.lane).tick else start) * b.cuts.scale)) true (if cut then (block_lent a.lane steps.queue.lane).tick else start)
-        begins true none = refl
-        begins false none = ap (λ (k : Bool). place_at k false start) (none refl) ∙ sym (ap (λ (k : Bool). place_at k true start) (none refl))
+      -- What is left behind a block of a part that was begun.
+      pub record LeftBehind : Type 0 where
+        pub rest : within (split_in b) (start_of b.cuts) b.cuts.load (x ∷ bs) ≡ rest_of_part h b'
+        pub behind : beyond (split_in b) (start_of b.cuts) b.cuts.load (x ∷ bs) ≡ behind_part h b'
+        pub parts_behind : parts_in (split_in b) (sections_at (split_in b) (beyond (split_in b) (start_of b.cuts) b.cuts.load (x ∷ bs))) ≡ parts_left h b'
 
-        counts : (cut : Bool) → (cut ≡ false → keeps b.cuts.spec (start * b.cuts.scale) ≡ false)
-            → counted b.cuts.size ((if cut then 0 else b.cuts.load) + octets_taken (block_lent a.lane steps.queue.lane)) ≡ counted b.cuts.size (octets_taken (block_lent a.lane steps.queue.lane))
-        counts true none = ap (counted b.cuts.size) (zero-add (octets_taken (block_lent a.lane steps.queue.lane)))
-        counts false none = counted-none b.cuts.size _ _ (no-limit b.cuts.size b.cuts.spec (start * b.cuts.scale) can.limit (none refl))
+      left-behind : is_kept b.cuts ≡ true → (q : Bool) → is_cut b.cuts may x.tick ≡ q → LeftBehind
+      left-behind kept true is =
+          let s = split_in b in
+          let isnt = begins-none (keeps b.cuts.spec (x.tick * b.cuts.scale)) x.tick a (cut-place true is) in
+          record {
+            rest = within-cut s (start_of b.cuts) b.cuts.load x bs is ∙ sym (rest-none h b' isnt);
+            behind = beyond-cut s (start_of b.cuts) b.cuts.load x bs is ∙ sym step-on ∙ sym (behind-ahead h b' isnt);
+            parts_behind = behind-cut s (start_of b.cuts) b.cuts.load x bs is ∙ ap (λ (n : ℕ). parts_from s n (x ∷ bs)) (sym (cut-start true is)) ∙ sym (step-parts isnt);
+          }
+      left-behind kept false is =
+          let s = split_in b in
+          let fits = fits-of b.cuts.size b.cuts.spec can.limit in
+          let is_in = same-within (start_of b.cuts) a (cut-place false is ∙ ap₂ (λ (k none : Bool). place_at k none (start_of b.cuts)) kept started) in
+          let load : c'.load ≡ counted b.cuts.size (b.cuts.load + octets_taken x) = ap (λ (c : CutsSeen). c.load) step-cuts ∙ ap (λ (cut : Bool). counted b.cuts.size ((if cut then 0 else b.cuts.load) + octets_taken x)) is in
+          let on : (g : Split → ℕ → ℕ → List OutputBlock → List OutputBlock) → g s (start_of b.cuts) (counted b.cuts.size (b.cuts.load + octets_taken x)) bs ≡ g (split_in b') (start_of c') c'.load (left h m') =
+          λ g. sym (ap₂ (λ (t : Split) (them : List OutputBlock). g t (start_of c') c'.load them) step-split same ∙ ap₂ (λ (n k : ℕ). g s n k bs) (cut-start false is) load) in
+          let beyond_it = beyond-next s fits (start_of b.cuts) b.cuts.load x bs is ∙ on beyond in
+          record {
+            rest = within-next s fits (start_of b.cuts) b.cuts.load x bs is ∙ ap (λ (them : List OutputBlock). x ∷ them) (on within) ∙ ap (λ (first : List OutputBlock). first ++ within (split_in b') (start_of c') c'.load (left h m')) (sym (lent-one m' a.lane steps.queue steps.here)) ∙ sym (rest-within h b' is_in);
+            behind = beyond_it ∙ sym (behind-within h b' is_in);
+            parts_behind = ap₂ (λ (t : Split) (them : List OutputBlock). parts_in t (sections_at t them)) (sym step-split) beyond_it ∙ sym (parts-within h b' is_in);
+          }
 
-    pub other-ahead : is_kept b.cuts ≡ true → (a.place ≡ Same → ⊥) → IsAhead (on_to b m' c') a
-    other-ahead kept other = ahead-if true (step-other kept other) (λ no. absurd (cc))
+      pub left-now : is_kept b.cuts ≡ true → LeftBehind
+      left-now kept = left-behind kept (is_cut b.cuts may x.tick) refl
 
-    pub other-start : is_kept b.cuts ≡ true → (a.place ≡ Same → ⊥) → start_of c' ≡ (block_lent a.lane steps.queue.lane).tick
-    other-start kept other = ap start_of (then-at true (step-other kept other))
+      -- the parts behind a section, written or not
+      pub parts-on : parts_in (split_in b) (sections_at (split_in b) (beyond (split_in b) (start_of b.cuts) b.cuts.load (x ∷ bs))) ≡ parts_left h b'
+      parts-on = either (is_kept b.cuts) refl
+        where
+          either : (k : Bool) → is_kept b.cuts ≡ k → parts_in (split_in b) (sections_at (split_in b) (beyond (split_in b) (start_of b.cuts) b.cuts.load (x ∷ bs))) ≡ parts_left h b'
+          either true kept = (left-now kept).parts_behind
+          either false out = step-out out
 
-    -- what is ahead stands behind the part
-    pub over-found : is_kept b.cuts ≡ true → (a.place ≡ Same → ⊥) → IsOver b (on_to b m' c') (Some a)
-    over-found kept other = record {
-      stands = other-ahead kept other;
-      on = let less = steps.on in omega (arith, less);
-    }
-
-    pub out-ahead : is_kept b.cuts ≡ false → IsAhead (on_to b m' c') a
-    out-ahead kept =
-        let q = cuts_at (split_in b) start b.cuts.load (block_lent a.lane steps.queue.lane) in
-        ahead-if q refl (λ no. sym (ap is_kept cuts-are) ∙ kept)
-
-    -- a block that is passed over leaves the same parts
-    pub out-parts : is_kept b.cuts ≡ false → (bs : List OutputBlock)
-        → parts_behind (split_in b) start b.cuts.load (block_lent a.lane steps.queue.lane ∷ bs) ≡ parts_from (split_in b) (start_of c') (block_lent a.lane steps.queue.lane ∷ bs)
-    out-parts kept bs =
-        let x = block_lent a.lane steps.queue.lane in
-        let q = cuts_at (split_in b) start b.cuts.load x in
-        let out = sym (ap is_kept cuts-are) ∙ kept in
-        passed-next (split_in b) (no-limit b.cuts.size b.cuts.spec (start * b.cuts.scale) can.limit out) start b.cuts.load x bs out q refl
-        ∙ ap (λ (n : ℕ). parts_from (split_in b) n (x ∷ bs)) (sym (ap start_of (then-at q refl)))
-
-  -- ---- the first block
-
-  module _ (fresh : IsFresh b.cuts) where
-    first-are : b.cuts ≡ (record { spec = b.cuts.spec; size = b.cuts.size; scale = b.cuts.scale; start = None; load = 0 })
-    first-are = ap₂ (λ (o : Option ℕ) (n : ℕ). let c : CutsSeen = record { spec = b.cuts.spec; size = b.cuts.size; scale = b.cuts.scale; start = o; load = n } in c) fresh.start fresh.empty
-
-    -- it begins a section
-    first-then : c' ≡ at_load (split_in b) (start_with (split_in b) from_nought (block_lent a.lane steps.queue.lane))
-        (counted b.cuts.size ((if cuts (split_in b) from_nought (block_lent a.lane steps.queue.lane) then 0 else 0) + octets_taken (block_lent a.lane steps.queue.lane)))
-    first-then = step-cuts ∙ ap (λ (c : CutsSeen). stepped c (may_cut (split_in b) (block_lent a.lane steps.queue.lane)) (block_lent a.lane steps.queue.lane).tick (octets_taken (block_lent a.lane steps.queue.lane))) first-are
-
-    first-place : a.place ≡ place_at (is_kept c') true (start_of c')
-    first-place =
-        step-place ∙ ap (λ (c : CutsSeen). place_of c (may_cut (split_in b) (block_lent a.lane steps.queue.lane)) (block_lent a.lane steps.queue.lane).tick) first-are
-        ∙ either (cuts (split_in b) from_nought (block_lent a.lane steps.queue.lane))
-        ∙ sym (ap (λ (c : CutsSeen). place_at (is_kept c) true (start_of c)) first-then)
-      where
-        either : (cut : Bool) → place_at (keeps b.cuts.spec ((if cut then (block_lent a.lane steps.queue.lane).tick else 0) * b.cuts.scale)) (cut || true) (if cut then (block_lent a.lane steps.queue.lane).tick else 0)
-            ≡ place_at (keeps b.cuts.spec ((if cut then (block_lent a.lane steps.queue.lane).tick else 0) * b.cuts.scale)) true (if cut then (block_lent a.lane steps.queue.lane).tick else 0)
-        either true = refl
-        either false = refl
-
-    first-counts : (cut : Bool) → counted b.cuts.size ((if cut then 0 else 0) + octets_taken (block_lent a.lane steps.queue.lane)) ≡ counted b.cuts.size (octets_taken (block_lent a.lane steps.queue.lane))
-    first-counts true = ap (counted b.cuts.size) (zero-add (octets_taken (block_lent a.lane steps.queue.lane)))
-    first-counts false = ap (counted b.cuts.size) (zero-add (octets_taken (block_lent a.lane steps.queue.lane)))
-
-    pub first-ahead : IsAhead (on_to b m' c') a
-    unfolding step-lends
-    first-ahead = record {
-      lends = step-lends;
-      started = ap (λ (c : CutsSeen). c.start) first-then ∙ sym (ap (λ (c : CutsSeen). Some (start_of c)) first-then);
-      place = first-place;
-      counts =
-          ap (λ (c : CutsSeen). c.load) first-then ∙ first-counts (cuts (split_in b) from_nought (block_lent a.lane steps.queue.lane))
-          ∙ ap (λ (c : CutsSeen). counted c.size (octets_taken (block_lent a.lane steps.queue.lane))) (sym step-cuts);
-    }
-
-    pub first-parts : (bs : List OutputBlock) → parts (split_in b) (block_lent a.lane steps.queue.lane ∷ bs) ≡ parts_from (split_in b) (start_of c') (block_lent a.lane steps.queue.lane ∷ bs)
-    first-parts bs = ap (λ (n : ℕ). parts_from (split_in b) n (block_lent a.lane steps.queue.lane ∷ bs)) (sym (ap start_of first-then))
-
--- what is ahead and behind it, from the blocks that are left
-pub ahead-parts : (f : LiveFiles) (b b' : PlacedBlocks) (k : ℕ) (x : OutputBlock) → split_in b' ≡ split_in b → lent_at b'.merge (Some k) ≡ x ∷ [] → parts_ahead f b' (Some k) ≡ parts_from (split_in b) (start_of b'.cuts) (x ∷ left f b'.merge)
-ahead-parts f b b' k x same one = ap₂ (λ (s : Split) (first : List OutputBlock). parts_from s (start_of b'.cuts) (first ++ left f b'.merge)) same one
-
--- a part ends where the block ahead stands, and no earlier than it starts
-pub ahead-end : (b : PlacedBlocks) (start : ℕ) (ahead : Option Ahead) → start * b.cuts.scale < 2 ^ 64 → StandsAhead b ahead
-    → IfSome (option_map (max start) (first_tick (lent_at b.merge (lane_of ahead)))) (IsEnd b.cuts.scale start)
-ahead-end b start None early stands = tt
-ahead-end b start (Some a) early stands =
-    let x = block_lent a.lane stands.lends.queue.lane in
-    subst (λ (bs : List OutputBlock). IfSome (option_map (max start) (first_tick bs)) (IsEnd b.cuts.scale start)) (sym (lent-one b.merge a.lane stands.lends.queue stands.lends.here))
-    (is-end b.cuts.scale start x.tick early stands.lends.early)
+    -- all parts, where it is the first
+    pub step-all : IsFresh b → parts_left h b' ≡ parts (split_in b) (x ∷ bs)
+    step-all fresh =
+        let empty = can.empty (ap (λ (o : Option ℕ). is_none o) fresh) in
+        let none : b.cuts ≡ (record { spec = b.cuts.spec; size = b.cuts.size; scale = b.cuts.scale; start = None; load = 0 }) =
+        ap₂ (λ (o : Option ℕ) (n : ℕ). let c : CutsSeen = record { spec = b.cuts.spec; size = b.cuts.size; scale = b.cuts.scale; start = o; load = n } in c) fresh empty in
+        step-parts (step-first fresh) ∙ ap (λ (n : ℕ). parts_from (split_in b) n (x ∷ bs)) (ap start_of step-cuts ∙ ap (λ (c : CutsSeen). start_of (stepped c may x.tick (octets_taken x))) none)

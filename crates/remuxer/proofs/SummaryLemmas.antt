@@ -57,10 +57,6 @@ map-or g (Some x) p = refl
 
 -- in all lanes
 module _ (f : LiveFiles) (input : ℕ) where
-  -- what a lane will have told
-  told_for : PlannedLane → List ToldDamages
-  told_for l = map told_damages (lane_damages (map (given_in f) l.spec.links))
-
   told-of : (lanes : List PlannedLane) → All (λ (l : PlannedLane). length l.inputs ≡ length l.spec.links) lanes
       → told_of (numbers_of lanes) (map (λ (l : PlannedLane). map told_damages (lane_damages (map (given_in f) l.spec.links))) lanes) input ≡ option_map told_damages (option_map (λ (link : ℕ × List Damage). link.1) (find (λ (link : ℕ × List Damage). link.0 == input) (flat_map (link_damages f) lanes)))
   told-of [] numbered = refl

@@ -1,6 +1,7 @@
--- An output that takes the blocks of a merge: a block is read, and then something is written.
-use Rattle.std.proofs.Common.{◌≡◌, ◌≤◌, ◌<◌, ◌^◌, max, IfSome, ℕ, ◌+◌, Bool, true, false, List, [], ◌∷◌, length, Option, Some, None, Result, Ok, Err, refl, sym, ◌∙◌, ap, subst, arith, map, ap₂, ◌++◌, take, append-nil}
-use Rattle.std.proofs.lemmas.List.{drop_all, take_all}
+-- An output that takes the blocks of a merge: the block ahead is written, and then the next one is read.
+use Rattle.std.proofs.Common.{◌≡◌, ◌≤◌, ◌<◌, ◌^◌, max, IfSome, ℕ, ◌+◌, Bool, true, false, List, [], ◌∷◌, length, Option, Some, None, Result, Ok, Err, refl, sym, ◌∙◌, ap, subst, arith, map, ap₂, ◌++◌, take, append-nil, ◌*◌}
+use Rattle.std.specs.Prelude.{if◌then◌else◌, is_some}
+use Rattle.std.proofs.lemmas.List.{drop_all, length-map, take_all}
 use Rattle.std.specs.List.{All}
 use Rattle.std.specs.Option.{option_map}
 use Rattle.std.proofs.lemmas.List.Elements.{All-head, All-tail}
@@ -16,11 +17,11 @@ use Rattle.mkv_io.specs.declared.files.Files as writing
 use Rattle.mkv_io.proofs.WritingLemmas.{KeepsOthers-then, UsesOnly-standing}
 use Rattle.mkv_io.specs.declared.remux_end.RemuxEnd.{RemuxEnd}
 use Rattle.output_model.specs.OutputBlock.{OutputBlock}
-use Rattle.output_model.specs.Document.{Document, cues_for}
+use Rattle.output_model.specs.Document.{Document}
 use Rattle.cues_seekhead.specs.OpenOutput.{IsOpen, OpenOutput}
 use Rattle.cues_seekhead.specs.Draft.{StandsDrafted, draft_of}
 use Rattle.cues_seekhead.proofs.OpenLemmas.{StandsOpen-read}
-use Rattle.cluster_writer.specs.Gathered.{Gathered, HoldsSmall}
+use Rattle.cluster_writer.specs.Gathered.{Gathered}
 use Rattle.output_model.specs.Cued.{is_cue}
 use Rattle.remuxer.specs.Stands.{Adds, HasAll, Stands, counted_with}
 use Rattle.remuxer.specs.Stands as runs
@@ -33,26 +34,24 @@ use Rattle.lanes.specs.Told.{with_all}
 use Rattle.merge_model.specs.Lanes.{lane_damages}
 use Rattle.lanes.specs.Walks.{links_left}
 use Rattle.time_merge.specs.Laws.{IsApart, StandsAmong}
-use Rattle.time_merge.specs.Merge.{IsEnded, IsTold, damages, damages_of, due, files_length, left}
-use Rattle.time_merge.specs.Queues.{KeepsQueues}
+use Rattle.time_merge.specs.Merge.{IsEnded, MergeSeen, damages_of, left}
 use Rattle.time_merge.specs.declared.queue.Queue.{Queue}
 use Rattle.time_merge.proofs.KeptLemmas.{apart-kept, keeps-merge, stands-kept}
-use Rattle.time_merge.proofs.QueueLemmas.{apart-same, count-kept, length-same}
-use Rattle.splitter.specs.Sections.{Split, beyond, cuts_at, in_part, parts_in, sections_at}
-use Rattle.splitter.specs.Steps.{start_of}
-use Rattle.splitter.specs.Steps as steps
-use Rattle.cluster_writer.specs.Lengths.{octets_taken}
+use Rattle.time_merge.proofs.QueueLemmas.{apart-same, count-kept}
+use Rattle.splitter.specs.Sections.{in_part, within}
+use Rattle.splitter.specs.Steps.{CutsSeen, start_of}
+use Rattle.splitter.specs.declared.cuts.Place.{Place}
+use Rattle.splitter.specs.declared.cuts.Place.TheVariants.{Same, Next, Out}
 use Rattle.remuxer.specs.declared.counts.Counts.{Counts}
 use Rattle.remuxer.specs.declared.placing.Ahead.{Ahead}
-use Rattle.remuxer.specs.Places.{CanGive, first_tick, in_part_from, lane_of, lent_at, parts_ahead, parts_behind, parts_from, split_in}
+use Rattle.remuxer.specs.Places.{CanGive, IsEnd, StandsAhead, StandsAt, ahead_at, ahead_of, block_lent, first_tick, is_same, is_within, lent_ahead, part_in, rest_of_part, split_in, start_in, turns_with}
 use Rattle.remux_plan.specs.declared.output.OutputSpec.{OutputSpec}
 use Rattle.remuxer.specs.Output.{Ends, FillsPart, chapters_cut}
-use Rattle.remuxer.specs.declared.placed.PartStart.{PartStart}
-use Rattle.remuxer.specs.Taking.{CanTake, Goes, GoesOn, GoesOnTold, StaysDraft, StaysOnTheWay, StaysSmall, TakesAll, TakesNext, TakesRest, TakesSome, WritesInto, rest_of_part}
+use Rattle.remuxer.specs.Taking.{BeginsNone, CanTake, Goes, GoesOn, IsOver, Leaves, StaysDraft, StaysOnTheWay, TakesNext, TakesSome, WritesInto, left_of_part}
 use Rattle.remuxer.specs.declared.placed.PlacedBlocks.{PlacedBlocks}
 use Rattle.remuxer.specs.declared.writer.BlockWriter.{BlockWriter}
-use Rattle.remuxer.proofs.PartLemmas.{behind-cut, beyond-cut, beyond-next, within-cut, within-next}
-use Rattle.remuxer.proofs.StepLemmas.{ahead-parts}
+use Rattle.remuxer.proofs.PartLemmas.{is-end}
+use Rattle.remuxer.proofs.StepLemmas.{behind-ahead, behind-same, gives-same, lent-one, parts-same, rest-none, rest-same, rest-within}
 
 -- ---- files that were only read
 
@@ -73,9 +72,6 @@ only-read r f old new same names holders given asked = record { standing = same;
 module _ {S : Type 0} (r : Ghosts S) (f : writing.Ghosts S) (old new : S) (read : OnlyRead r f old new) where
   pub files-same : live_files r new ≡ live_files r old
   files-same = ap r.files read.standing
-
-  holder-same : f.holder new ≡ f.holder old
-  holder-same = λ i file. read.holders file i
 
   pub read-keeps : (names : List (List ℕ)) → KeepsOthers r f names old new
   read-keeps names = UsesOnly-standing r f [] names old new read.standing read.given (λ file live. read.holders file) read.asked
@@ -119,82 +115,13 @@ refused-lent T r f rules b lent cued old new w w' end same adds = λ left before
     let P : OutputBlock → Type 0 = λ x. Stands r f before name rules d old w.out w.buffer w.counts (x ∷ left) in
     adds before name rules d w.counts left (subst P (sym same) stands)
 
--- ---- a merge is read, and then something is written
-
-counted-twice : (count n m : ℕ) → counted (counted count n) m ≡ counted count (n + m)
-counted-twice count n m = grind arith
-
--- ---- what is written
-
-module _ {S : Type 0} (r : Ghosts S) (f : writing.Ghosts S) (rules : List CueRule) (a b c : S) (w w' : BlockWriter) (p p' : PlacedBlocks)
-    (read : OnlyRead r f a b) (apart : IsApart (f.holder a) (f.holder a w.out.file.n ∷ []) p.merge) (lanes : KeepsQueues p.merge.queues p'.merge.queues) (gives : CanGive (live_files r b) p')
-    (kept : KeepsOthers r f (f.holder b w.out.file.n ∷ []) b c) where
-  same : live_files r b ≡ live_files r a
-  same = files-same r f a b read
-
-  turn-apart : IsApart (f.holder b) (f.holder b w.out.file.n ∷ []) p'.merge
-  turn-apart =
-      let P : (ℕ → List ℕ) → Type 0 = λ h. IsApart h (h w.out.file.n ∷ []) p'.merge in
-      subst P (sym (holder-same r f a b read)) (apart-same (f.holder a) (f.holder a w.out.file.n ∷ []) p.merge p'.merge lanes apart)
-
-  turn-stands : StandsAmong (live_files r b) (live_files r c) p'.merge
-  turn-stands = stands-kept (live_files r b) (live_files r c) p'.merge (keeps-merge r f (f.holder b w.out.file.n ∷ []) b c p'.merge kept turn-apart) gives.ready
-
-  pub turn-left : left (live_files r c) p'.merge ≡ left (live_files r a) p'.merge
-  turn-left = turn-stands.left ∙ ap (λ s. left s p'.merge) same
-
-  -- files of other names stay
-  pub turn-keeps : KeepsOthers r f (f.holder a w.out.file.n ∷ []) a c
-  turn-keeps =
-      let P : List ℕ → Type 0 = λ name. KeepsOthers r f (name ∷ []) b c in
-      KeepsOthers-then r f (f.holder a w.out.file.n ∷ []) a b c (read-keeps r f a b read (f.holder a w.out.file.n ∷ [])) (subst P (read.holders w.out.file.n) kept)
-
-  -- the merge goes on
-  pub turn-goes : split_in p' ≡ split_in p → r.octets_read c ≡ r.octets_read b → r.octets_read b + due (live_files r a) p'.merge ≤ r.octets_read a + due (live_files r a) p.merge
-      → (IsTold (live_files r a) p.merge → GoesOnTold (live_files r a) (live_files r a) p.merge p'.merge) → GoesOn r 0 a c p p'
-  turn-goes split octets paid told = record {
-    lanes = lanes;
-    split = split;
-    gives = record { ready = turn-stands.ready; few = gives.few; drives = gives.drives; scales = gives.scales; scale = gives.scale; early = gives.early; limit = gives.limit };
-    length = turn-stands.length ∙ ap (λ s. files_length s p'.merge) same ∙ length-same (live_files r a) p.merge.queues p'.merge.queues lanes;
-    paid = let owed : due (live_files r c) p'.merge ≡ due (live_files r a) p'.merge = turn-stands.due ∙ ap (λ s. due s p'.merge) same in omega arith;
-    told = λ is. record {
-      told = turn-stands.told (let P : LiveFiles → Type 0 = λ s. IsTold s p'.merge in subst P (sym same) (told is).told);
-      damages = turn-stands.damages ∙ ap (λ s. damages s p'.merge) same ∙ (told is).damages;
-    };
-  }
-
-  -- the first of some blocks is taken
-  pub turn-takes : (was now : List OutputBlock → List OutputBlock) (x : OutputBlock) → was (left (live_files r a) p.merge) ≡ x ∷ now (left (live_files r a) p'.merge) → ((others : List OutputBlock) → StaysOnTheWay r f rules (x ∷ others) others b c w w')
-      → StaysOnTheWay r f rules (was (left (live_files r a) p.merge)) (now (left (live_files r c) p'.merge)) a c w w'
-  turn-takes was now x gives takes before name d stands =
-      let P : List OutputBlock → Type 0 = λ bs. Stands r f before name rules d a w.out w.buffer w.counts bs in
-      let Q : List OutputBlock → Type 0 = λ bs. Stands r f before name rules d c w'.out w'.buffer w'.counts (now bs) in
-      subst Q (sym turn-left)
-      (takes (now (left (live_files r a) p'.merge)) before name d
-      (stands-read r f a b read before name rules d w.out w.buffer w.counts (x ∷ now (left (live_files r a) p'.merge)) (subst P gives stands)))
-
-  -- or the call is refused
-  pub turn-drafted : (was now : List OutputBlock → List OutputBlock) (x : OutputBlock) → was (left (live_files r a) p.merge) ≡ x ∷ now (left (live_files r a) p'.merge) → ((others : List OutputBlock) → StaysDraft r f rules (x ∷ others) b c w)
-      → StaysDraft r f rules (was (left (live_files r a) p.merge)) a c w
-  turn-drafted was now x gives drafted before name d stands =
-      let P : List OutputBlock → Type 0 = λ bs. Stands r f before name rules d a w.out w.buffer w.counts bs in
-      drafted (now (left (live_files r a) p'.merge)) before name d
-      (stands-read r f a b read before name rules d w.out w.buffer w.counts (x ∷ now (left (live_files r a) p'.merge)) (subst P gives stands))
-
 -- a read was refused
 pub read-drafted : {S : Type 0} (r : Ghosts S) (f : writing.Ghosts S) (rules : List CueRule) (a b : S) (w : BlockWriter) (was : List OutputBlock) → OnlyRead r f a b → StaysDraft r f rules was a b w
 read-drafted r f rules a b w was read before name d stands =
     let P : Names → Type 0 = λ names. StandsDrafted before names (draft_of name d) in
     subst P (sym read.names) (stands-drafted r f before name rules d a w.out w.buffer w.counts was stands)
 
--- ---- the blocks of a part
-
--- the next one is in the part, of whose load so much more is counted then
-pub part-next : (s : Split) → IfSome s.size (λ limit. limit < 2 ^ 64) → (start n m : ℕ) (x : OutputBlock) (was left : List OutputBlock) → was ≡ x ∷ left → cuts_at s start n x ≡ false → m ≡ steps.counted s.size (n + octets_taken x)
-    → in_part_from s start n [] was ≡ in_part start x ∷ in_part_from s start m [] left
-part-next s fits start n m x was left is none more =
-    ap (in_part_from s start n []) is ∙ ap (map (in_part start)) (within-next s fits start n x left none) ∙ ap (λ (k : ℕ). in_part start x ∷ in_part_from s start k [] left) (sym more)
+-- ---- the block ahead is written, and the next one is ahead then
 
 -- counts
 counted-next : (n k : ℕ) → counted (counted n 1) k ≡ counted n (1 + k)
@@ -206,57 +133,71 @@ counted-few n k = grind arith
 few-more : (n m k : ℕ) → m ≡ counted n k → m ≤ last_count
 few-more n m k is = let few = counted-few n k in omega (arith, is, few)
 
-pub some-taken : {S : Type 0} (r : Ghosts S) (f : writing.Ghosts S) (rules : List CueRule) (s : Split) → IfSome s.size (λ limit. limit < 2 ^ 64) → (start : ℕ) (a c : S) (w w' : BlockWriter) (p p' : PlacedBlocks) (x : OutputBlock)
-    → left (live_files r a) p.merge ≡ x ∷ left (live_files r a) p'.merge → cuts_at s start p.cuts.load x ≡ false → p'.cuts.load ≡ steps.counted s.size (p.cuts.load + octets_taken x)
-    → left (live_files r c) p'.merge ≡ left (live_files r a) p'.merge → w'.blocks ≡ counted w.blocks 1
-    → StaysOnTheWay r f rules (rest_of_part (live_files r a) s start p) (rest_of_part (live_files r c) s start p') a c w w' → TakesSome r f rules s start a c w w' p p'
-some-taken r f rules s fits start a c w w' p p' x is none more same one stands =
-    let was = left (live_files r a) p.merge in
-    let now = left (live_files r a) p'.merge in
-    let n = p.cuts.load in
-    let m = p'.cuts.load in
-    record {
-      stands = stands;
-      behind = ap (beyond s start m) same ∙ sym (ap (beyond s start n) is ∙ beyond-next s fits start n x now none ∙ ap (λ (k : ℕ). beyond s start k now) (sym more));
-      count = ap₂ (λ (k : ℕ) (bs : List OutputBlock). counted k (length (in_part_from s start m [] bs))) one same ∙ counted-next w.blocks (length (in_part_from s start m [] now))
-          ∙ sym (ap (λ (bs : List OutputBlock). counted w.blocks (length bs)) (part-next s fits start n m x was now is none more) ∙ ap (counted w.blocks) (let more_of : length (in_part start x ∷ in_part_from s start m [] now) ≡ 1 + length (in_part_from s start m [] now) = omega arith in more_of));
-      few = λ le. few-more w.blocks w'.blocks 1 one;
-    }
+-- a block of a part that was begun begins none
+within-begins : (o : Option Ahead) → is_within o ≡ true → BeginsNone o
+within-begins None is = absurd (cc)
+within-begins (Some a) is = either a.place is
+  where
+    either : (place : Place) → is_some (if is_same place then Some a.lane else None) ≡ true → start_in place ≡ None
+    either Same in_it = refl
+    either (Next start) in_it = absurd (cc)
+    either Out in_it = refl
 
--- no block is left of the part; one is ahead
-pub over-ahead : {S : Type 0} (r : Ghosts S) (f : writing.Ghosts S) (rules : List CueRule) (start : ℕ) (a b : S) (w : BlockWriter) (p p' : PlacedBlocks) (ahead : Ahead) (x : OutputBlock) → OnlyRead r f a b → left (live_files r a) p.merge ≡ x ∷ left (live_files r a) p'.merge
-    → cuts_at (split_in p) start p.cuts.load x ≡ true → split_in p' ≡ split_in p → lent_at p'.merge (Some ahead.lane) ≡ x ∷ [] → start_of p'.cuts ≡ x.tick → TakesRest r f rules (split_in p) start [] a b w w p p' (Some ahead)
-over-ahead r f rules start a b w p p' ahead x read is cut split one at =
-    let s = split_in p in
-    let was = left (live_files r a) p.merge in
-    let now = left (live_files r a) p'.merge in
-    let same : left (live_files r b) p'.merge ≡ now = ap (λ (h : LiveFiles). left h p'.merge) (files-same r f a b read) in
-    let n = p.cuts.load in
-    let none : in_part_from s start n [] was ≡ [] = ap (in_part_from s start n []) is ∙ ap (map (in_part start)) (within-cut s start n x now cut) in
-    record {
-      stands = λ before name d stands.
-          let P : List OutputBlock → Type 0 = λ bs. Stands r f before name rules d a w.out w.buffer w.counts bs in
-          stands-read r f a b read before name rules d w.out w.buffer w.counts [] (subst P none stands);
-      end = ap first_tick one ∙ sym (ap first_tick (ap (beyond s start n) is ∙ beyond-cut s start n x now cut));
-      behind = ahead-parts (live_files r b) p p' ahead.lane x split one ∙ ap₂ (λ (k : ℕ) (bs : List OutputBlock). parts_from s k (x ∷ bs)) at same ∙ sym (behind-cut s start n x now cut) ∙ ap (parts_behind s start n) (sym is);
-      count = sym (ap (λ (bs : List OutputBlock). counted w.blocks (length bs)) none);
-      few = λ le. le;
-    }
+module _ {S : Type 0} (r : Ghosts S) (f : writing.Ghosts S) (rules : List CueRule) (start n : ℕ) (starts : start ≡ n) (a b : S) (w w' : BlockWriter) (p : PlacedBlocks) (x : OutputBlock) (in_it : is_within p.ahead ≡ true) (one : lent_ahead p ≡ x ∷ []) where
+  -- the others of its part
+  others : List OutputBlock
+  others = map (in_part n) (within (split_in p) (start_of p.cuts) p.cuts.load (left (live_files r a) p.merge))
 
--- none is left at all
-pub over-ended : {S : Type 0} (r : Ghosts S) (f : writing.Ghosts S) (rules : List CueRule) (start : ℕ) (a b : S) (w : BlockWriter) (p p' : PlacedBlocks) → OnlyRead r f a b → left (live_files r a) p.merge ≡ [] → TakesRest r f rules (split_in p) start [] a b w w p p' None
-over-ended r f rules start a b w p p' read is =
-    let s = split_in p in
-    let none : in_part_from s start p.cuts.load [] (left (live_files r a) p.merge) ≡ [] = ap (in_part_from s start p.cuts.load []) is in
-    record {
-      stands = λ before name d stands.
-          let P : List OutputBlock → Type 0 = λ bs. Stands r f before name rules d a w.out w.buffer w.counts bs in
-          stands-read r f a b read before name rules d w.out w.buffer w.counts [] (subst P none stands);
-      end = sym (ap (λ (bs : List OutputBlock). first_tick (beyond s start p.cuts.load bs)) is);
-      behind = sym (ap (parts_behind s start p.cuts.load) is);
-      count = sym (ap (λ (bs : List OutputBlock). counted w.blocks (length bs)) none);
-      few = λ le. le;
-    }
+  first-left : left_of_part (live_files r a) n p ≡ in_part start x ∷ others
+  unfolding others
+  first-left =
+      ap (map (in_part n)) (rest-within (live_files r a) p in_it ∙ ap (λ (first : List OutputBlock). first ++ within (split_in p) (start_of p.cuts) p.cuts.load (left (live_files r a) p.merge)) one)
+      ∙ ap (λ (k : ℕ). in_part k x ∷ others) (sym starts)
+
+  -- it couldn't be
+  pub lent-drafted : ((more : List OutputBlock) → StaysDraft r f rules (in_part start x ∷ more) a b w) → StaysDraft r f rules (left_of_part (live_files r a) n p) a b w
+  lent-drafted drafted before name d stands =
+      let P : List OutputBlock → Type 0 = λ bs. Stands r f before name rules d a w.out w.buffer w.counts bs in
+      drafted others before name d (subst P first-left stands)
+
+  module _ (takes : (more : List OutputBlock) → StaysOnTheWay r f rules (in_part start x ∷ more) more a b w w') (c : S) (read : OnlyRead r f b c) where
+    -- the next one couldn't be read
+    pub next-drafted : StaysDraft r f rules (left_of_part (live_files r a) n p) a c w
+    next-drafted before name d stands =
+        let P : List OutputBlock → Type 0 = λ bs. Stands r f before name rules d a w.out w.buffer w.counts bs in
+        read-drafted r f rules b c w' others read before name d (takes others before name d (subst P first-left stands))
+
+    -- it was read
+    pub some-next : (p' : PlacedBlocks) → left (live_files r b) p.merge ≡ left (live_files r a) p.merge → w'.blocks ≡ counted w.blocks 1 → Leaves (live_files r b) (live_files r c) p p' → TakesSome r f rules n a c w w' p p'
+    some-next p' same count leaves =
+        let rest = rest_of_part (live_files r c) p' in
+        let is : rest_of_part (live_files r a) p ≡ x ∷ rest = sym (rest-same (live_files r a) (live_files r b) p same) ∙ leaves.rest in_it ∙ ap (λ (first : List OutputBlock). first ++ rest) one in
+        record {
+          stands = λ before name d stands.
+              let P : List OutputBlock → Type 0 = λ bs. Stands r f before name rules d a w.out w.buffer w.counts bs in
+              let first = ap (map (in_part n)) is ∙ ap (λ (k : ℕ). in_part k x ∷ map (in_part n) rest) (sym starts) in
+              stands-read r f b c read before name rules d w'.out w'.buffer w'.counts (map (in_part n) rest) (takes (map (in_part n) rest) before name d (subst P first stands));
+          behind = leaves.behind in_it ∙ behind-same (live_files r a) (live_files r b) p same;
+          parts = leaves.parts (within-begins p.ahead in_it) ∙ parts-same (live_files r a) (live_files r b) p same;
+          count =
+              ap (λ (k : ℕ). counted k (length rest)) count ∙ counted-next w.blocks (length rest)
+              ∙ sym (ap (λ (bs : List OutputBlock). counted w.blocks (length bs)) is ∙ ap (counted w.blocks) (let more : length (x ∷ rest) ≡ 1 + length rest = omega arith in more));
+          few = λ le. few-more w.blocks w'.blocks 1 count;
+        }
+
+-- ---- turns
+
+pub within-turns : (n : ℕ) (o : Option Ahead) → is_within o ≡ true → turns_with n o ≡ n + 1
+within-turns n None is = absurd (cc)
+within-turns n (Some a) is = refl
+
+pub none-turns : (n : ℕ) (o : Option Ahead) → is_within o ≡ is_some o → is_within o ≡ false → turns_with n o ≡ n
+none-turns n None is isnt = refl
+none-turns n (Some a) is isnt = let some : true ≡ false = sym is ∙ isnt in absurd (cc)
+
+pub least-turns : (n : ℕ) (o : Option Ahead) → n ≤ turns_with n o
+least-turns n None = omega arith
+least-turns n (Some a) = omega arith
 
 -- ---- after some calls
 
@@ -270,17 +211,6 @@ can-again r f a b w w' p p' can file is_open kept goes =
       gives = goes.gives;
       apart = subst P (sym named) (apart-same (f.holder b) (f.holder a w.out.file.n ∷ []) p.merge p'.merge goes.lanes (apart-kept r f (f.holder a w.out.file.n ∷ []) a b p.merge kept can.gives.ready can.apart));
     }
-
--- nothing was done
-pub goes-none : {S : Type 0} (r : Ghosts S) (a : S) (p : PlacedBlocks) → CanGive (live_files r a) p → GoesOn r 0 a a p p
-goes-none r a p gives = record {
-  lanes = refl;
-  split = refl;
-  gives = gives;
-  length = refl;
-  paid = omega arith;
-  told = λ told. record { told = told; damages = refl };
-}
 
 -- two calls
 pub goes-then : {S : Type 0} (r : Ghosts S) (m n : ℕ) (a b c : S) (p q q' : PlacedBlocks) → GoesOn r m a b p q → GoesOn r n b c q q' → GoesOn r (m + n) a c p q'
@@ -303,60 +233,19 @@ goes-more r more a b c p q q' first next =
     subst (λ (n : ℕ). GoesOn r n a c p q') same (goes-then r more 0 a b c p q q' first next)
 
 -- some blocks were taken, and then more
-pub some-then : {S : Type 0} (r : Ghosts S) (f : writing.Ghosts S) (rules : List CueRule) (s : Split) (start : ℕ) (a b c : S) (w v u : BlockWriter) (l m n : PlacedBlocks)
-    → TakesSome r f rules s start a b w v l m → TakesSome r f rules s start b c v u m n → TakesSome r f rules s start a c w u l n
-some-then r f rules s start a b c w v u l m n first next = record {
+pub some-then : {S : Type 0} (r : Ghosts S) (f : writing.Ghosts S) (rules : List CueRule) (start : ℕ) (a b c : S) (w v u : BlockWriter) (l m n : PlacedBlocks)
+    → TakesSome r f rules start a b w v l m → TakesSome r f rules start b c v u m n → TakesSome r f rules start a c w u l n
+some-then r f rules start a b c w v u l m n first next = record {
   stands = λ before name d stands. next.stands before name d (first.stands before name d stands);
   behind = next.behind ∙ first.behind;
+  parts = next.parts ∙ first.parts;
   count = next.count ∙ first.count;
   few = λ le. next.few (first.few le);
 }
 
--- some blocks were taken, and then the call is refused
-pub some-drafted : {S : Type 0} (r : Ghosts S) (f : writing.Ghosts S) (rules : List CueRule) (s : Split) (start : ℕ) (a b c : S) (w v : BlockWriter) (l m : PlacedBlocks)
-    → TakesSome r f rules s start a b w v l m → StaysDraft r f rules (rest_of_part (live_files r b) s start m) b c v → StaysDraft r f rules (rest_of_part (live_files r a) s start l) a c w
-some-drafted r f rules s start a b c w v l m first drafted before name d stands = drafted before name d (first.stands before name d stands)
-
--- some, and then the rest
-pub rest-then : {S : Type 0} (r : Ghosts S) (f : writing.Ghosts S) (rules : List CueRule) (s : Split) (start : ℕ) (a b c : S) (w v u : BlockWriter) (l m p : PlacedBlocks) (ahead : Option Ahead)
-    → TakesSome r f rules s start a b w v l m → TakesRest r f rules s start [] b c v u m p ahead → TakesRest r f rules s start [] a c w u l p ahead
-rest-then r f rules s start a b c w v u l m p ahead first next = record {
-  stands = λ before name d stands. next.stands before name d (first.stands before name d stands);
-  end = next.end ∙ ap first_tick first.behind;
-  behind = next.behind ∙ ap (λ (bs : List OutputBlock). parts_in s (sections_at s bs)) first.behind;
-  count = next.count ∙ first.count;
-  few = λ le. next.few (first.few le);
-}
-
--- the first block of a part was taken, and then the rest of it
-pub part-taken : {S : Type 0} (r : Ghosts S) (f : writing.Ghosts S) (rules : List CueRule) (s : Split) (start : ℕ) (a b c : S) (w v u : BlockWriter) (m p : PlacedBlocks) (ahead : Option Ahead) (x : OutputBlock) (first : List OutputBlock) → first ≡ x ∷ []
-    → left (live_files r b) m.merge ≡ left (live_files r a) m.merge → v.blocks ≡ counted w.blocks 1 → ((others : List OutputBlock) → StaysOnTheWay r f rules (in_part start x ∷ others) others a b w v)
-    → TakesRest r f rules s start [] b c v u m p ahead → TakesRest r f rules s start first a c w u m p ahead
-part-taken r f rules s start a b c w v u m p ahead x first is same one takes rest =
-    let was = left (live_files r a) m.merge in
-    let whole : TakesRest r f rules s start (x ∷ []) a c w u m p ahead = record {
-      stands = λ before name d stands.
-          let P : List OutputBlock → Type 0 = λ bs. Stands r f before name rules d b v.out v.buffer v.counts (in_part_from s start m.cuts.load [] bs) in
-          rest.stands before name d (subst P (sym same) (takes (in_part_from s start m.cuts.load [] was) before name d stands));
-      end = rest.end ∙ ap (λ (bs : List OutputBlock). first_tick (beyond s start m.cuts.load bs)) same;
-      behind = rest.behind ∙ ap (parts_behind s start m.cuts.load) same;
-      count = rest.count ∙ ap₂ (λ (n : ℕ) (bs : List OutputBlock). counted n (length (in_part_from s start m.cuts.load [] bs))) one same ∙ counted-next w.blocks (length (in_part_from s start m.cuts.load [] was))
-          ∙ ap (counted w.blocks) (let more : 1 + length (in_part_from s start m.cuts.load [] was) ≡ length (in_part start x ∷ in_part_from s start m.cuts.load [] was) = omega arith in more);
-      few = λ le. rest.few (few-more w.blocks v.blocks 1 one);
-    } in
-    subst (λ (bs : List OutputBlock). TakesRest r f rules s start bs a c w u m p ahead) (sym is) whole
-
--- a part without blocks
-pub part-none : {S : Type 0} (r : Ghosts S) (f : writing.Ghosts S) (rules : List CueRule) (s : Split) (start : ℕ) (a : S) (w : BlockWriter) (p : PlacedBlocks) → left (live_files r a) p.merge ≡ [] → TakesRest r f rules s start [] a a w w p p None
-part-none r f rules s start a w p is =
-    let none : in_part_from s start p.cuts.load [] (left (live_files r a) p.merge) ≡ [] = ap (in_part_from s start p.cuts.load []) is in
-    record {
-      stands = λ before name d stands. let P : List OutputBlock → Type 0 = λ bs. Stands r f before name rules d a w.out w.buffer w.counts bs in subst P none stands;
-      end = sym (ap (λ (bs : List OutputBlock). first_tick (beyond s start p.cuts.load bs)) is);
-      behind = sym (ap (parts_behind s start p.cuts.load) is);
-      count = sym (ap (λ (bs : List OutputBlock). counted w.blocks (length bs)) none);
-      few = λ le. le;
-    }
+-- none has been taken
+pub some-none : {S : Type 0} (r : Ghosts S) (f : writing.Ghosts S) (rules : List CueRule) (start : ℕ) (a : S) (w : BlockWriter) (p : PlacedBlocks) → TakesSome r f rules start a a w w p p
+some-none r f rules start a w p = record { stands = λ before name d stands. stands; behind = refl; parts = refl; count = refl; few = λ le. le }
 
 -- ---- all lanes have ended
 
@@ -382,9 +271,16 @@ merge-ends r more a b p p' goes ended = record {
 
 -- ---- what is written behind the last block
 
-pub parts-ahead-same : (f h : LiveFiles) (p : PlacedBlocks) (lane : Option ℕ) → left f p.merge ≡ left h p.merge → parts_ahead f p lane ≡ parts_ahead h p lane
-parts-ahead-same f h p None is = refl
-parts-ahead-same f h p (Some k) is = ap (λ (bs : List OutputBlock). parts_from (split_in p) (start_of p.cuts) (lent_at p.merge (Some k) ++ bs)) is
+-- the files of a merge stand
+pub among-goes : {S : Type 0} (r : Ghosts S) (more : ℕ) (a b : S) (p : PlacedBlocks) → CanGive (live_files r a) p → StandsAmong (live_files r a) (live_files r b) p.merge → r.octets_read b ≤ r.octets_read a + more → GoesOn r more a b p p
+among-goes r more a b p gives among octets = record {
+  lanes = refl;
+  split = refl;
+  gives = gives-same (live_files r a) (live_files r b) p p gives refl among.ready refl refl;
+  length = among.length;
+  paid = let due = among.due in omega (arith, due, octets);
+  told = λ told. record { told = among.told told; damages = among.damages };
+}
 
 module _ {S : Type 0} (r : Ghosts S) (f : writing.Ghosts S) (a b : S) (w : BlockWriter) (p : PlacedBlocks) (can : CanTake r f a w p) (kept : KeepsOthers r f (f.holder a w.out.file.n ∷ []) a b) (octets : r.octets_read b ≡ r.octets_read a) where
   rest-among : StandsAmong (live_files r a) (live_files r b) p.merge
@@ -394,37 +290,12 @@ module _ {S : Type 0} (r : Ghosts S) (f : writing.Ghosts S) (a b : S) (w : Block
   rest-left = rest-among.left
 
   pub rest-goes : GoesOn r 0 a b p p
-  rest-goes = record {
-    lanes = refl;
-    split = refl;
-    gives = record { ready = rest-among.ready; few = can.gives.few; drives = can.gives.drives; scales = can.gives.scales; scale = can.gives.scale; early = can.gives.early; limit = can.gives.limit };
-    length = rest-among.length;
-    paid = let due = rest-among.due in omega (arith, due, octets);
-    told = λ told. record { told = rest-among.told told; damages = rest-among.damages };
-  }
+  rest-goes = among-goes r 0 a b p can.gives rest-among (omega (arith, octets))
 
 -- a call, and then one that may be refused
 pub goes-result : {S T E : Type 0} (r : Ghosts S) (a b c : S) (p q q' : PlacedBlocks) (result : Result T E) → GoesOn r 0 a b p q → Goes r 0 b c q q' result → Goes r 0 a c p q' result
 goes-result r a b c p q q' (Ok done) first next = goes-then r 0 0 a b c p q q' first next
 goes-result r a b c p q q' (Err end) first next = let paid = first.paid in let long = first.length in omega (arith, paid, long, next)
-
--- the first block of a part, and then a call that may be refused
-pub part-then : {S : Type 0} (r : Ghosts S) (f : writing.Ghosts S) (rules : List CueRule) (start lane : ℕ) (a b c : S) (w v u : BlockWriter) (p p' : PlacedBlocks) (x : OutputBlock) (result : Result (Option Ahead) RemuxEnd) → lent_at p.merge (Some lane) ≡ x ∷ []
-    → left (live_files r b) p.merge ≡ left (live_files r a) p.merge → v.blocks ≡ counted w.blocks 1 → ((others : List OutputBlock) → StaysOnTheWay r f rules (in_part start x ∷ others) others a b w v)
-    → TakesAll r f rules start [] b c v u p p' result → TakesAll r f rules start (lent_at p.merge (Some lane)) a c w u p p' result
-part-then r f rules start lane a b c w v u p p' x (Ok ahead) is same one takes rest = part-taken r f rules (split_in p) start a b c w v u p p' ahead x (lent_at p.merge (Some lane)) is same one takes rest
-part-then r f rules start lane a b c w v u p p' x (Err end) is same one takes drafted = λ before name d stands.
-    let s = split_in p in
-    let P : List OutputBlock → Type 0 = λ bs. Stands r f before name rules d b v.out v.buffer v.counts (in_part_from s start p.cuts.load [] bs) in
-    let Q : List OutputBlock → Type 0 = λ first. Stands r f before name rules d a w.out w.buffer w.counts (in_part_from s start p.cuts.load first (left (live_files r a) p.merge)) in
-    drafted before name d (subst P (sym same) (takes (in_part_from s start p.cuts.load [] (left (live_files r a) p.merge)) before name d (subst Q is stands)))
-
--- the first block couldn't be added
-pub first-drafted : {S : Type 0} (r : Ghosts S) (f : writing.Ghosts S) (rules : List CueRule) (s : Split) (start n : ℕ) (a b : S) (w : BlockWriter) (x : OutputBlock) (first bs : List OutputBlock) → first ≡ x ∷ [] → ((others : List OutputBlock) → StaysDraft r f rules (in_part start x ∷ others) a b w)
-    → StaysDraft r f rules (in_part_from s start n first bs) a b w
-first-drafted r f rules s start n a b w x first bs is drafted before name d stands =
-    let Q : List OutputBlock → Type 0 = λ each. Stands r f before name rules d a w.out w.buffer w.counts (in_part_from s start n each bs) in
-    drafted (in_part_from s start n [] bs) before name d (subst Q is stands)
 
 -- two calls that write into one output
 pub writes-then : {S T U : Type 0} (r : Ghosts S) (f : writing.Ghosts S) (a b c : S) (w v u : BlockWriter) (done : T) (result : Result U RemuxEnd) → IsOpen r a w.out → WritesInto r f a b w v (Ok done) → WritesInto r f b c v u result → WritesInto r f a c w u result
@@ -437,30 +308,49 @@ writes-then r f a b c w v u done result is_open first next =
       kept = KeepsOthers-then r f (f.holder a w.out.file.n ∷ []) a b c first.kept (subst P named next.kept);
     }
 
--- two calls, of which the second may be refused
-pub small-then : {U : Type 0} (w v u : BlockWriter) (result : Result U RemuxEnd) → (HoldsSmall w.buffer → HoldsSmall v.buffer) → StaysSmall v u result → StaysSmall w u result
-small-then w v u (Ok done) first next = λ small. next (first small)
-small-then w v u (Err end) first next = tt
+-- where a part ends, by the block behind it
+first-ahead : (m : MergeSeen) (c : CutsSeen) (o : Option Ahead) (bs : List OutputBlock) → StandsAt m c o → first_tick (ahead_of m o bs) ≡ first_tick (ahead_at m o)
+first-ahead m c None bs stands = refl
+first-ahead m c (Some a) bs ahead =
+    let one = lent-one m a.lane ahead.lends.queue ahead.lends.here in
+    ap (λ (first : List OutputBlock). first_tick (first ++ bs)) one ∙ sym (ap first_tick one)
 
--- the last Cluster is written
-pub fills-part : {S : Type 0} (r : Ghosts S) (f : writing.Ghosts S) (o : OutputSpec) (rules : List CueRule) (part : PartStart) (a b c : S) (w v u : BlockWriter) (p p' : PlacedBlocks) (ahead : Option Ahead) (chapters : Option Node) (end : Option ℕ) → rules ≡ o.rules
-    → TakesRest r f rules (split_in p) part.start (lent_at p.merge part.lane) a b w v p p' ahead → end ≡ option_map (max part.start) (first_tick (lent_at p'.merge (lane_of ahead))) → chapters ≡ chapters_cut o part.start end
-    → left (live_files r c) p'.merge ≡ left (live_files r b) p'.merge → runs.Ends {T = Unit {0}} {E = RemuxEnd} r f b c v.out u.out v.buffer (Ok tt) → u.blocks ≡ v.blocks → u.counts ≡ v.counts
-    → FillsPart r f o part a c w u p p' (record { ahead = ahead; chapters = chapters })
-fills-part r f o rules part a b c w v u p p' ahead chapters end are rest at cut same ends blocks counts = record {
-  all = λ before name d cues stands.
-      let P : List CueRule → Type 0 = λ each. Stands r f before name each d a w.out w.buffer w.counts (in_part_from (split_in p) part.start p.cuts.load (lent_at p.merge part.lane) (left (live_files r a) p.merge)) in
-      subst (HasAll r f before name d c u.out) (sym counts) (ends before name rules d v.counts (rest.stands before name d (subst P (sym are) stands)) (cues ∙ ap (λ (each : List CueRule). cues_for (is_cue each) d.front d.clusters) (sym are)));
-  chapters = cut ∙ ap (chapters_cut o part.start) (at ∙ ap (option_map (max part.start)) rest.end);
-  count = ap (λ (n : ℕ). counted n 0) blocks ∙ rest.count;
-  behind = parts-ahead-same (live_files r c) (live_files r b) p' (lane_of ahead) same ∙ rest.behind;
-  few = λ le. let most = rest.few le in omega (arith, blocks, most);
-}
+-- and no earlier than it starts
+pub ahead-end : (b : PlacedBlocks) (start : ℕ) → start * b.cuts.scale < 2 ^ 64 → StandsAhead b → IfSome (option_map (max start) (first_tick (lent_ahead b))) (IsEnd b.cuts.scale start)
+ahead-end b start early stands = either b.ahead stands
+  where
+    either : (o : Option Ahead) → StandsAt b.merge b.cuts o → IfSome (option_map (max start) (first_tick (ahead_at b.merge o))) (IsEnd b.cuts.scale start)
+    either None ended = tt
+    either (Some a) ahead =
+        subst (λ (bs : List OutputBlock). IfSome (option_map (max start) (first_tick bs)) (IsEnd b.cuts.scale start)) (sym (lent-one b.merge a.lane ahead.lends.queue ahead.lends.here))
+        (is-end b.cuts.scale start (block_lent a.lane ahead.lends.queue.lane).tick early ahead.lends.early)
 
--- it couldn't be
-pub fills-none : {S : Type 0} (r : Ghosts S) (f : writing.Ghosts S) (o : OutputSpec) (rules : List CueRule) (start : ℕ) (first : List OutputBlock) (a b : S) (w v : BlockWriter) (p p' : PlacedBlocks) (ahead : Option Ahead) (now : S) → rules ≡ o.rules
-    → TakesRest r f rules (split_in p) start first a b w v p p' ahead → ((before : Names) (name : List ℕ) (d : Document) → Stands r f before name rules d b v.out v.buffer v.counts [] → StandsDrafted before (f.names now) (draft_of name d))
-    → StaysDraft r f o.rules (in_part_from (split_in p) start p.cuts.load first (left (live_files r a) p.merge)) a now w
-fills-none r f o rules start first a b w v p p' ahead now are rest drafted = λ before name d stands.
-    let P : List CueRule → Type 0 = λ each. Stands r f before name each d a w.out w.buffer w.counts (in_part_from (split_in p) start p.cuts.load first (left (live_files r a) p.merge)) in
-    drafted before name d (rest.stands before name d (subst P (sym are) stands))
+module _ {S : Type 0} (r : Ghosts S) (f : writing.Ghosts S) (o : OutputSpec) (rules : List CueRule) (a b : S) (w v : BlockWriter) (p p' : PlacedBlocks) (are : rules ≡ o.rules) (taken : TakesSome r f rules (start_of p.cuts) a b w v p p') (over : IsOver p p') where
+  -- all blocks of a part were taken
+  all-taken : StaysOnTheWay r f o.rules (part_in (live_files r a) p).blocks [] a b w v
+  all-taken before name d stands =
+      let P : List CueRule → Type 0 = λ each. Stands r f before name each d a w.out w.buffer w.counts (part_in (live_files r a) p).blocks in
+      let Q : List CueRule → Type 0 = λ each. Stands r f before name each d b v.out v.buffer v.counts [] in
+      let L : List OutputBlock → Type 0 = λ bs. Stands r f before name rules d b v.out v.buffer v.counts (map (in_part (start_of p.cuts)) bs) in
+      subst Q are (subst L (rest-none (live_files r b) p' over.behind) (taken.stands before name d (subst P (sym are) stands)))
+
+  -- the last Cluster is written
+  pub fills-part : (c : S) (u : BlockWriter) (start : ℕ) (chapters : Option Node) (end : Option ℕ) → start ≡ start_of p.cuts → end ≡ option_map (max start) (first_tick (lent_ahead p')) → chapters ≡ chapters_cut o start end
+      → left (live_files r c) p'.merge ≡ left (live_files r b) p'.merge → runs.Ends {T = Unit {0}} {E = RemuxEnd} r f b c v.out u.out v.buffer (Ok tt) → u.blocks ≡ v.blocks → u.counts ≡ v.counts → FillsPart r f o a c w u p p' chapters
+  fills-part c u start chapters end starts at cut same ends blocks counts = record {
+    all = λ before name d cues stands.
+        subst (HasAll r f before name d c u.out) (sym counts) (ends before name o.rules d v.counts (all-taken before name d stands) cues);
+    chapters_are =
+        cut ∙ ap₂ (chapters_cut o) starts
+        (at ∙ ap₂ (λ (n : ℕ) (tick : Option ℕ). option_map (max n) tick) starts
+        (sym (ap first_tick (sym taken.behind ∙ behind-ahead (live_files r b) p' over.behind) ∙ first-ahead p'.merge p'.cuts p'.ahead (left (live_files r b) p'.merge) over.stands)));
+    count =
+        ap (λ (n : ℕ). counted n 0) blocks ∙ sym (ap (λ (bs : List OutputBlock). counted v.blocks (length bs)) (rest-none (live_files r b) p' over.behind)) ∙ taken.count
+        ∙ ap (counted w.blocks) (sym (length-map (rest_of_part (live_files r a) p) (in_part (start_of p.cuts))));
+    behind = parts-same (live_files r b) (live_files r c) p' same ∙ taken.parts;
+    few = λ le. let most = taken.few le in omega (arith, blocks, most);
+  }
+
+  -- it couldn't be
+  pub fills-none : (now : S) → ((before : Names) (name : List ℕ) (d : Document) → Stands r f before name o.rules d b v.out v.buffer v.counts [] → StandsDrafted before (f.names now) (draft_of name d)) → StaysDraft r f o.rules (part_in (live_files r a) p).blocks a now w
+  fills-none now drafted = λ before name d stands. drafted before name d (all-taken before name d stands)

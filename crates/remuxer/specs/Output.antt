@@ -28,21 +28,18 @@ use Rattle.cues_seekhead.specs.OpenOutput.{CanAttach}
 use Rattle.merge_model.specs.declared.link.Link.{Link}
 use Rattle.merge_model.specs.declared.link.Link.TheVariants.{Track, Entries}
 use Rattle.time_merge.specs.Laws.{IsApart}
-use Rattle.time_merge.specs.Merge.{IsTold, MergeSeen, damages, due, files_length, left, way}
+use Rattle.time_merge.specs.Merge.{IsEnded, IsTold, MergeSeen, damages, due, files_length, left, way}
 use Rattle.time_merge.specs.declared.queue.Queue.{Queue}
 use Rattle.splitter.specs.Sections.{Part, parts}
-use Rattle.remuxer.specs.declared.placing.Ahead.{Ahead}
 use Rattle.remux_plan.specs.Parts.{PlannedOutput, document_with, may_be_written, name_of, outputs_from, stretch_of}
 use Rattle.remux_plan.specs.Summary.{written_of}
 use Rattle.remux_plan.specs.Uuids.{uuids_at, with_uuids}
 use Rattle.remux_plan.specs.declared.output.OutputSpec.{OutputSpec}
 use Rattle.remux_plan.specs.declared.summary.Written.{Written}
-use Rattle.remuxer.specs.Places.{CanBegin, CanGive, IsFresh, IsToldFrom, StandsAhead, lane_of, lent_at, part_from, parts_ahead, parts_behind, split_in, way_ahead}
+use Rattle.remuxer.specs.Places.{CanGive, IsBegun, IsFresh, part_in, parts_left, split_in, turns}
 use Rattle.remuxer.specs.Stands.{AreCounts}
-use Rattle.remuxer.specs.Taking.{CanTake, GetsAll, StaysDraft, told_by}
-use Rattle.remuxer.specs.declared.output.Filled.{Filled}
+use Rattle.remuxer.specs.Taking.{CanTake, GetsAll, IsOver, StaysDraft, told_by}
 use Rattle.remuxer.specs.declared.output.WrittenPart.{WrittenPart}
-use Rattle.remuxer.specs.declared.placed.PartStart.{PartStart}
 use Rattle.remuxer.specs.declared.placed.PlacedBlocks.{PlacedBlocks}
 use Rattle.remuxer.specs.declared.writer.BlockWriter.{BlockWriter}
 
@@ -65,11 +62,11 @@ IsUnwrittenLink holder split output (Entries e) = ⊤
 abbrev pub IsUnwritten : (ℕ → List ℕ) → Bool → List ℕ → MergeSeen → Type 0
 IsUnwritten holder split output m = All (λ (q : Queue). All (IsUnwrittenLink holder split output) q.lane.links) m.queues
 
--- An output of this name can be written of the part that begins so: its blocks can be given, their ticks are those of the output, no file of a
+-- An output of this name can be written of the part that was begun: its blocks can be given, their ticks are those of the output, no file of a
 -- link was opened under the name, and what stands around the Clusters can be written.
-pub record CanWrite {S : Type 0} (r : Ghosts S) (f : writing.Ghosts S) (files : S) (o : OutputSpec) (name : List ℕ) (p : PartStart) (b : PlacedBlocks) : Type 0 where
+pub record CanWrite {S : Type 0} (r : Ghosts S) (f : writing.Ghosts S) (files : S) (o : OutputSpec) (name : List ℕ) (start : ℕ) (b : PlacedBlocks) : Type 0 where
   pub gives : CanGive (live_files r files) b
-  pub begins : CanBegin b p
+  pub begun : IsBegun b start
   pub scale : b.cuts.scale ≡ o.limits.scale
   pub apart : IsApart (f.holder files) (name ∷ []) b.merge
   pub records : HasRecords r f files name o.front o.chapters o.tags
@@ -79,10 +76,6 @@ abbrev pub data_of : OutputSpec → ℕ
 data_of o = sum_by (λ (a : Attachment). a.len) o.front.attachments
 
 -- ---- one output
-
--- the part that begins so, of the blocks that are left
-abbrev pub part_in : LiveFiles → PlacedBlocks → PartStart → Part
-part_in f b p = part_from (split_in b) p.start b.cuts.load (lent_at b.merge p.lane) (left f b.merge)
 
 -- Its octets are no more than a file may have.
 abbrev pub IsShort : Document → Type 0
@@ -100,10 +93,10 @@ abbrev pub Writes : {T : Type 0} → Names → Names → List ℕ → Document �
 Writes old new name d (Ok _) = WritesLayout old new name d
 Writes old new name d (Err _) = StandsInTurn old new (draft_of name d ∷ [])
 
--- Where the links' files are told, it has the blocks of the part that begins so.
-abbrev pub WritesPart : {S T : Type 0} → Ghosts S → writing.Ghosts S → S → S → OutputSpec → List ℕ → PartStart → PlacedBlocks → Result T RemuxEnd → Type 0
-WritesPart r f old new o name p b result =
-    IsToldFrom (live_files r old) b p.lane → Writes (f.names old) (f.names new) name (document_with (live_files r old) o (part_in (live_files r old) b p)) result
+-- Where the links' files are told, it has the blocks of the part that was begun.
+abbrev pub WritesPart : {S T : Type 0} → Ghosts S → writing.Ghosts S → S → S → OutputSpec → List ℕ → PlacedBlocks → Result T RemuxEnd → Type 0
+WritesPart r f old new o name b result =
+    IsTold (live_files r old) b.merge → Writes (f.names old) (f.names new) name (document_with (live_files r old) o (part_in (live_files r old) b)) result
 
 -- what is cut out of its Chapters for a part from one tick to another, where an output is split
 abbrev pub chapters_cut : OutputSpec → ℕ → Option ℕ → Option Node
@@ -113,77 +106,70 @@ chapters_cut o start end = if o.split then option_and_then (cut (stretch_of o.li
 abbrev pub chapters_in : OutputSpec → Option Node → Option Node
 chapters_in o part = if o.split then part else o.chapters
 
--- An output that takes blocks can be filled with the part that begins so.
-pub record CanFill {S : Type 0} (r : Ghosts S) (f : writing.Ghosts S) (files : S) (o : OutputSpec) (p : PartStart) (w : BlockWriter) (b : PlacedBlocks) : Type 0 where
+-- An output that takes blocks can be filled with the part that was begun.
+pub record CanFill {S : Type 0} (r : Ghosts S) (f : writing.Ghosts S) (files : S) (o : OutputSpec) (start : ℕ) (w : BlockWriter) (b : PlacedBlocks) : Type 0 where
   pub can : CanTake r f files w b
-  pub begins : CanBegin b p
+  pub begun : IsBegun b start
   pub scale : b.cuts.scale ≡ o.limits.scale
   pub chapters : IfSome o.chapters (IsRead CHAPTERS)
 
--- It has all its Clusters, with as many blocks as the part has, and its Chapters were cut; the parts behind it are those that were left.
-pub record FillsPart {S : Type 0} (r : Ghosts S) (f : writing.Ghosts S) (o : OutputSpec) (p : PartStart) (old new : S) (w w' : BlockWriter) (b b' : PlacedBlocks) (filled : Filled) : Type 0 where
-  pub all : GetsAll r f o.rules (part_in (live_files r old) b p).blocks old new w w'
-  pub chapters : filled.chapters ≡ chapters_cut o p.start (part_in (live_files r old) b p).end
-  pub count : counted w'.blocks 0 ≡ counted w.blocks (length (part_in (live_files r old) b p).blocks)
+-- It has all its Clusters, with as many blocks as the part has, and its Chapters were cut; the parts behind it are left.
+pub record FillsPart {S : Type 0} (r : Ghosts S) (f : writing.Ghosts S) (o : OutputSpec) (old new : S) (w w' : BlockWriter) (b b' : PlacedBlocks) (chapters : Option Node) : Type 0 where
+  pub all : GetsAll r f o.rules (part_in (live_files r old) b).blocks old new w w'
+  pub chapters_are : chapters ≡ chapters_cut o (part_in (live_files r old) b).start (part_in (live_files r old) b).end
+  pub count : counted w'.blocks 0 ≡ counted w.blocks (length (part_in (live_files r old) b).blocks)
   pub few : w.blocks ≤ last_count → w'.blocks ≤ last_count
-  pub behind : parts_ahead (live_files r new) b' (lane_of filled.ahead) ≡ parts_behind (split_in b) p.start b.cuts.load (left (live_files r old) b.merge)
+  pub behind : parts_left (live_files r new) b' ≡ parts_left (live_files r old) b
 
 -- After a refusal it stands as a draft.
-abbrev pub FillsTold : {S : Type 0} → Ghosts S → writing.Ghosts S → OutputSpec → PartStart → S → S → BlockWriter → BlockWriter → PlacedBlocks → PlacedBlocks → Result Filled RemuxEnd → Type 0
-FillsTold r f o p old new w w' b b' (Ok filled) = FillsPart r f o p old new w w' b b' filled
-FillsTold r f o p old new w w' b b' (Err _) = StaysDraft r f o.rules (part_in (live_files r old) b p).blocks old new w
+abbrev pub FillsTold : {S : Type 0} → Ghosts S → writing.Ghosts S → OutputSpec → S → S → BlockWriter → BlockWriter → PlacedBlocks → PlacedBlocks → Result (Option Node) RemuxEnd → Type 0
+FillsTold r f o old new w w' b b' (Ok chapters) = FillsPart r f o old new w w' b b' chapters
+FillsTold r f o old new w w' b b' (Err _) = StaysDraft r f o.rules (part_in (live_files r old) b).blocks old new w
 
 -- So it is where the links' files are told.
-abbrev pub Fills : {S : Type 0} → Ghosts S → writing.Ghosts S → OutputSpec → PartStart → S → S → BlockWriter → BlockWriter → PlacedBlocks → PlacedBlocks → Result Filled RemuxEnd → Type 0
-Fills r f o p old new w w' b b' result = IsToldFrom (live_files r old) b p.lane → FillsTold r f o p old new w w' b b' result
+abbrev pub Fills : {S : Type 0} → Ghosts S → writing.Ghosts S → OutputSpec → S → S → BlockWriter → BlockWriter → PlacedBlocks → PlacedBlocks → Result (Option Node) RemuxEnd → Type 0
+Fills r f o old new w w' b b' result = IsTold (live_files r old) b.merge → FillsTold r f o old new w w' b b' result
 
--- It has so many blocks, Clusters and cue points, and the parts behind it are those that were left.
-pub record HasWritten (f h : LiveFiles) (o : OutputSpec) (p : PartStart) (b b' : PlacedBlocks) (w : WrittenPart) : Type 0 where
-  pub count : w.blocks ≡ counted 0 (length (part_in f b p).blocks)
-  pub counts : AreCounts (document_with f o (part_in f b p)).clusters (length (document_with f o (part_in f b p)).cues) w.counts
-  pub behind : parts_ahead h b' (lane_of w.ahead) ≡ parts_behind (split_in b) p.start b.cuts.load (left f b.merge)
+-- It has so many blocks, Clusters and cue points, and the parts behind it are left.
+pub record CountsPart (f h : LiveFiles) (o : OutputSpec) (b b' : PlacedBlocks) (w : WrittenPart) : Type 0 where
+  pub count : w.blocks ≡ counted 0 (length (part_in f b).blocks)
+  pub counts : AreCounts (document_with f o (part_in f b)).clusters (length (document_with f o (part_in f b)).cues) w.counts
+  pub behind : parts_left h b' ≡ parts_left f b
 
--- So it is where the links' files are told. A block is ahead, or all lanes have ended; and no more turns are left.
-pub record StandsWritten (f h : LiveFiles) (o : OutputSpec) (p : PartStart) (b b' : PlacedBlocks) (w : WrittenPart) : Type 0 where
-  pub told : IsToldFrom f b p.lane → HasWritten f h o p b b' w
-  pub stands : StandsAhead b' w.ahead
-  pub on : way_ahead b' (lane_of w.ahead) ≤ way b.merge
+-- So it is where the links' files are told, and what is ahead is behind the part.
+pub record HasWritten (f h : LiveFiles) (o : OutputSpec) (b b' : PlacedBlocks) (w : WrittenPart) : Type 0 where
+  pub told : IsTold f b.merge → CountsPart f h o b b' w
+  pub over : IsOver b b'
 
 -- ---- all of them
 
--- the parts from one that begins so
-abbrev pub parts_begun : LiveFiles → PlacedBlocks → Option PartStart → List Part
+-- the parts that are left, and before them the one that was begun, if one was
+abbrev pub parts_begun : LiveFiles → PlacedBlocks → Option ℕ → List Part
 parts_begun f b None = []
-parts_begun f b (Some p) = part_in f b p ∷ parts_behind (split_in b) p.start b.cuts.load (left f b.merge)
+parts_begun f b (Some start) = part_in f b ∷ parts_left f b
 
--- at most so many turns are left, and one where a part can be begun
-abbrev pub turns_left : PlacedBlocks → Option PartStart → ℕ
+-- at most so many turns are left, and one where a part was begun
+abbrev pub turns_left : PlacedBlocks → Option ℕ → ℕ
 turns_left b None = way b.merge
-turns_left b (Some p) = way b.merge + 1
+turns_left b (Some start) = way b.merge + 1
 
--- A part can be begun, or all lanes have ended.
-abbrev pub CanBeNext : PlacedBlocks → Option PartStart → Type 0
-CanBeNext b None = StandsAhead b None
-CanBeNext b (Some p) = CanBegin b p
+-- A part was begun, or all lanes have ended.
+abbrev pub CanBeNext : PlacedBlocks → Option ℕ → Type 0
+CanBeNext b None = IsEnded b.merge
+CanBeNext b (Some start) = IsBegun b start
 
-abbrev pub IsToldNext : LiveFiles → PlacedBlocks → Option PartStart → Type 0
-IsToldNext f b None = ⊤
-IsToldNext f b (Some p) = IsToldFrom f b p.lane
+-- The next part was begun; no more turns are left than these; and where the links' files were told, these are the parts.
+pub record FindsPart (f h : LiveFiles) (turns : ℕ) (parts : List Part) (b b' : PlacedBlocks) (next : Option ℕ) : Type 0 where
+  pub begins : CanBeNext b' next
+  pub on : turns_left b' next ≤ turns
+  pub found : IsTold f b.merge → parts_begun h b' next ≡ parts
 
--- The part that is next can be begun; no more turns are left than these; and where the links' files were told, these are the parts.
-pub record FindsPart (f h : LiveFiles) (turns : ℕ) (parts : List Part) (b b' : PlacedBlocks) (p : Option PartStart) : Type 0 where
-  pub begins : CanBeNext b' p
-  pub on : turns_left b' p ≤ turns
-  pub told : IsTold f b.merge → IsToldNext h b' p
-  pub found : IsTold f b.merge → parts_begun h b' p ≡ parts
+-- The next part was begun of those that were left.
+abbrev pub FindsBehind : {S : Type 0} → Ghosts S → S → S → PlacedBlocks → PlacedBlocks → Result (Option ℕ) ReadEnd → Type 0
+FindsBehind r old new b b' result = IfOk result (FindsPart (live_files r old) (live_files r new) (turns b) (parts_left (live_files r old) b) b b')
 
--- From what is ahead the next part is found, of those that were left.
-abbrev pub FindsBehind : {S : Type 0} → Ghosts S → S → S → PlacedBlocks → PlacedBlocks → Option Ahead → Result (Option PartStart) ReadEnd → Type 0
-FindsBehind r old new b b' ahead result =
-    IfOk result (FindsPart (live_files r old) (live_files r new) (way_ahead b (lane_of ahead)) (parts_ahead (live_files r old) b (lane_of ahead)) b b')
-
--- The first part is found, of all.
-abbrev pub FindsFirst : {S : Type 0} → Ghosts S → S → S → PlacedBlocks → PlacedBlocks → Result (Option PartStart) ReadEnd → Type 0
+-- The first part was begun, of all.
+abbrev pub FindsFirst : {S : Type 0} → Ghosts S → S → S → PlacedBlocks → PlacedBlocks → Result (Option ℕ) ReadEnd → Type 0
 FindsFirst r old new b b' result =
     IfOk result (FindsPart (live_files r old) (live_files r new) (way b.merge + 1) (parts (split_in b) (left (live_files r old) b.merge)) b b')
 
@@ -203,33 +189,32 @@ next_spec o written = own_spec o (length written + 1)
 abbrev pub next_output : LiveFiles → OutputSpec → List Written → Part → PlannedOutput
 next_output f o written part = record { name = next_name o written; blocks = part.blocks; document = document_with f (next_spec o written) part }
 
--- The output of the part that begins so can be written behind these; no file of a link was opened under a name that may be written.
-pub record CanWriteNext {S : Type 0} (r : Ghosts S) (f : writing.Ghosts S) (files : S) (o : OutputSpec) (written : List Written) (p : PartStart) (b : PlacedBlocks) : Type 0 where
+-- The output of the part that was begun can be written behind these; no file of a link was opened under a name that may be written.
+pub record CanWriteNext {S : Type 0} (r : Ghosts S) (f : writing.Ghosts S) (files : S) (o : OutputSpec) (written : List Written) (start : ℕ) (b : PlacedBlocks) : Type 0 where
   pub gives : CanGive (live_files r files) b
-  pub begins : CanBegin b p
+  pub begun : IsBegun b start
   pub scale : b.cuts.scale ≡ o.limits.scale
   pub apart : IsUnwritten (f.holder files) o.split o.name b.merge
   pub records : HasRecords r f files (next_name o written) o.front o.chapters o.tags
 
 -- One output more stands, and is among those that were written; the parts from the next one on are those that were left.
-pub record WritesOne {S : Type 0} (r : Ghosts S) (f : writing.Ghosts S) (p : PartStart) (old new : S) (o : OutputSpec) (b b' : PlacedBlocks) (written written' : List Written) (next : Option PartStart) : Type 0 where
-  pub writes : WritesLayout (f.names old) (f.names new) (next_name o written) (document_with (live_files r old) (next_spec o written) (part_in (live_files r old) b p))
-  pub added : written' ≡ written ++ written_of (next_output (live_files r old) o written (part_in (live_files r old) b p)) ∷ []
-  pub told : IsToldNext (live_files r new) b' next
-  pub behind : parts_begun (live_files r new) b' next ≡ parts_behind (split_in b) p.start b.cuts.load (left (live_files r old) b.merge)
+pub record WritesOne {S : Type 0} (r : Ghosts S) (f : writing.Ghosts S) (old new : S) (o : OutputSpec) (b b' : PlacedBlocks) (written written' : List Written) (next : Option ℕ) : Type 0 where
+  pub writes : WritesLayout (f.names old) (f.names new) (next_name o written) (document_with (live_files r old) (next_spec o written) (part_in (live_files r old) b))
+  pub added : written' ≡ written ++ written_of (next_output (live_files r old) o written (part_in (live_files r old) b)) ∷ []
+  pub behind : parts_begun (live_files r new) b' next ≡ parts_left (live_files r old) b
 
 -- After a refusal it stands as a draft, or whole, or its name is as before.
-abbrev pub WritesTold : {S : Type 0} → Ghosts S → writing.Ghosts S → PartStart → S → S → OutputSpec → PlacedBlocks → PlacedBlocks → List Written → List Written → Result (Option PartStart) RemuxEnd → Type 0
-WritesTold r f p old new o b b' written written' (Ok next) = WritesOne r f p old new o b b' written written' next
-WritesTold r f p old new o b b' written written' (Err _) =
-    StandsInTurn (f.names old) (f.names new) (draft_of (next_name o written) (document_with (live_files r old) (next_spec o written) (part_in (live_files r old) b p)) ∷ [])
+abbrev pub WritesTold : {S : Type 0} → Ghosts S → writing.Ghosts S → S → S → OutputSpec → PlacedBlocks → PlacedBlocks → List Written → List Written → Result (Option ℕ) RemuxEnd → Type 0
+WritesTold r f old new o b b' written written' (Ok next) = WritesOne r f old new o b b' written written' next
+WritesTold r f old new o b b' written written' (Err _) =
+    StandsInTurn (f.names old) (f.names new) (draft_of (next_name o written) (document_with (live_files r old) (next_spec o written) (part_in (live_files r old) b)) ∷ [])
 
 -- So it is where the links' files are told.
-abbrev pub WritesNext : {S : Type 0} → Ghosts S → writing.Ghosts S → PartStart → S → S → OutputSpec → PlacedBlocks → PlacedBlocks → List Written → List Written → Result (Option PartStart) RemuxEnd → Type 0
-WritesNext r f p old new o b b' written written' result = IsToldFrom (live_files r old) b p.lane → WritesTold r f p old new o b b' written written' result
+abbrev pub WritesNext : {S : Type 0} → Ghosts S → writing.Ghosts S → S → S → OutputSpec → PlacedBlocks → PlacedBlocks → List Written → List Written → Result (Option ℕ) RemuxEnd → Type 0
+WritesNext r f old new o b b' written written' result = IsTold (live_files r old) b.merge → WritesTold r f old new o b b' written written' result
 
--- The next part can be begun; no attachments are left; and no more turns are.
-pub record FindsNext (o o' : OutputSpec) (b b' : PlacedBlocks) (written written' : List Written) (next : Option PartStart) : Type 0 where
+-- The next part was begun; no attachments are left; and no more turns are.
+pub record FindsNext (o o' : OutputSpec) (b b' : PlacedBlocks) (written written' : List Written) (next : Option ℕ) : Type 0 where
   pub begins : CanBeNext b' next
   pub spec : o' ≡ record o { front = record o.front { attachments = [] } }
   pub count : length written' ≡ length written + 1
@@ -257,7 +242,7 @@ WritesOutputs old new outputs (Err _) = StandsInTurn old new (drafts_of outputs)
 -- Outputs can be written of all parts: no block was placed, and what stands around the Clusters of the first can be written.
 pub record CanWriteAll {S : Type 0} (r : Ghosts S) (f : writing.Ghosts S) (files : S) (o : OutputSpec) (b : PlacedBlocks) : Type 0 where
   pub gives : CanGive (live_files r files) b
-  pub fresh : IsFresh b.cuts
+  pub fresh : IsFresh b
   pub scale : b.cuts.scale ≡ o.limits.scale
   pub apart : IsUnwritten (f.holder files) o.split o.name b.merge
   pub records : HasRecords r f files (name_of o.split o.name 1) o.front o.chapters o.tags

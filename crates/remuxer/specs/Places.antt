@@ -1,5 +1,5 @@
 -- The blocks of a merge at their places in the parts of an output.
-use Rattle.std.specs.Prelude.{◌≡◌, ◌<◌, ◌≤◌, ℕ, ◌+◌, ◌*◌, ◌^◌, max, Bool, true, false, List, [], ◌∷◌, ◌++◌, length, map, Option, Some, None, IfSome}
+use Rattle.std.specs.Prelude.{◌≡◌, ◌<◌, ◌≤◌, ℕ, ◌+◌, ◌*◌, ◌^◌, max, Bool, true, false, if◌then◌else◌, is_none, is_some, List, [], ◌∷◌, ◌++◌, length, map, Option, Some, None, IfSome}
 use Rattle.std.specs.List.{All, slice_get}
 use Rattle.std.specs.Option.{option_map, option_map_or}
 use Rattle.mkv_io.specs.LiveFiles.{LiveFiles}
@@ -7,7 +7,7 @@ use Rattle.output_model.specs.declared.TheConstants.{MOST_LANES}
 use Rattle.output_model.specs.OutputBlock.{IsLent, OutputBlock, lent_block}
 use Rattle.merge_model.specs.Merged.{in_lane}
 use Rattle.lanes.specs.Lane.{LaneSeen, lent}
-use Rattle.time_merge.specs.Merge.{IsEnded, IsReady, IsTold, MergeSeen, left, way}
+use Rattle.time_merge.specs.Merge.{IsEnded, IsReady, MergeSeen, left, way}
 use Rattle.time_merge.specs.declared.queue.Queue.{Queue}
 use Rattle.splitter.specs.declared.cuts.Place.{Place}
 use Rattle.splitter.specs.declared.cuts.Place.TheVariants.{Same, Next, Out}
@@ -19,33 +19,12 @@ use Rattle.cluster_writer.specs.Lengths.{octets_taken}
 use Rattle.remuxer.specs.declared.placing.Ahead.{Ahead}
 use Rattle.remux_plan.specs.Parts.{drives_by}
 use Rattle.remux_plan.specs.declared.TheConstants.{MOST_SCALE}
-use Rattle.remuxer.specs.declared.placed.PartStart.{PartStart}
 use Rattle.remuxer.specs.declared.placed.PlacedBlocks.{PlacedBlocks}
-
--- ---- lists of blocks
 
 -- where the first of blocks stands
 abbrev pub first_tick : List OutputBlock → Option ℕ
 first_tick [] = None
 first_tick (b ∷ bs) = Some b.tick
-
--- blocks in a part that starts at this tick: these, of this load, and of those behind them the ones up to the next cut
-abbrev pub in_part_from : Split → ℕ → ℕ → List OutputBlock → List OutputBlock → List OutputBlock
-in_part_from s start octets first behind = map (in_part start) (first ++ within s start octets behind)
-
--- the part of these blocks
-abbrev pub part_from : Split → ℕ → ℕ → List OutputBlock → List OutputBlock → Part
-part_from s start octets first behind =
-    record { start = start; end = option_map (max start) (first_tick (beyond s start octets behind)); blocks = in_part_from s start octets first behind }
-
--- the parts behind it
-abbrev pub parts_behind : Split → ℕ → ℕ → List OutputBlock → List Part
-parts_behind s start octets behind = parts_in s (sections_at s (beyond s start octets behind))
-
--- the parts of blocks of which the first stands in a section that starts at this tick
-abbrev pub parts_from : Split → ℕ → List OutputBlock → List Part
-parts_from s start [] = []
-parts_from s start (b ∷ bs) = parts_in s (cut_from s (begun start b) bs)
 
 -- ---- places
 
@@ -61,11 +40,7 @@ start_in Same = None
 start_in (Next start) = Some start
 start_in Out = None
 
--- ---- what is ahead
-
--- how they are split
-abbrev pub split_in : PlacedBlocks → Split
-split_in b = record { spec = b.cuts.spec; size = b.cuts.size; scale = b.cuts.scale; drives = drives_by b.drives }
+-- ---- the block ahead
 
 -- the block that the k-th lane lends, from 0; in the output lanes count from 1
 abbrev pub block_lent : ℕ → LaneSeen → OutputBlock
@@ -75,32 +50,75 @@ block_lent k l = in_lane (k + 1) (lent_block (lent l))
 abbrev pub lent_in : ℕ → ℕ → LaneSeen → OutputBlock
 lent_in start k l = in_part start (block_lent k l)
 
--- the block that a lane of a merge lends, if it is one
-abbrev pub lent_at : MergeSeen → Option ℕ → List OutputBlock
-lent_at m None = []
-lent_at m (Some k) = option_map_or (λ (q : Queue). block_lent k q.lane ∷ []) (slice_get m.queues k) []
+-- the block that a lane of a merge lends
+abbrev pub lent_at : MergeSeen → ℕ → List OutputBlock
+lent_at m k = option_map_or (λ (q : Queue). block_lent k q.lane ∷ []) (slice_get m.queues k) []
 
--- the lane of the block that is ahead
-abbrev pub lane_of : Option Ahead → Option ℕ
-lane_of None = None
-lane_of (Some a) = Some a.lane
+-- the block ahead, where there is one,
+abbrev pub ahead_at : MergeSeen → Option Ahead → List OutputBlock
+ahead_at m None = []
+ahead_at m (Some a) = lent_at m a.lane
 
--- the parts that begin with a block ahead or behind it, among these files
-abbrev pub parts_ahead : LiveFiles → PlacedBlocks → Option ℕ → List Part
-parts_ahead f b None = []
-parts_ahead f b (Some k) = parts_from (split_in b) (start_of b.cuts) (lent_at b.merge (Some k) ++ left f b.merge)
+abbrev pub lent_ahead : PlacedBlocks → List OutputBlock
+lent_ahead b = ahead_at b.merge b.ahead
 
--- at most so many turns are left, and one where a block is ahead
-abbrev pub way_ahead : PlacedBlocks → Option ℕ → ℕ
-way_ahead b None = way b.merge
-way_ahead b (Some k) = way b.merge + 1
+-- and with it those behind it
+abbrev pub ahead_of : MergeSeen → Option Ahead → List OutputBlock → List OutputBlock
+ahead_of m None behind = []
+ahead_of m (Some a) behind = lent_at m a.lane ++ behind
+
+-- the lane that lends it, where it is of the part that was begun
+abbrev pub lane_within : Option Ahead → Option ℕ
+lane_within None = None
+lane_within (Some a) = if is_same a.place then Some a.lane else None
+
+abbrev pub is_within : Option Ahead → Bool
+is_within ahead = is_some (lane_within ahead)
+
+-- ---- what is left
+
+-- how blocks are split
+abbrev pub split_in : PlacedBlocks → Split
+split_in b = record { spec = b.cuts.spec; size = b.cuts.size; scale = b.cuts.scale; drives = drives_by b.drives }
+
+-- what is left of the part that was begun: the block ahead, if that is of it, and those behind it up to the next cut
+abbrev pub rest_of_part : LiveFiles → PlacedBlocks → List OutputBlock
+rest_of_part f b = if is_within b.ahead then lent_ahead b ++ within (split_in b) (start_of b.cuts) b.cuts.load (left f b.merge) else []
+
+-- the blocks behind that part
+abbrev pub behind_part : LiveFiles → PlacedBlocks → List OutputBlock
+behind_part f b = if is_within b.ahead then beyond (split_in b) (start_of b.cuts) b.cuts.load (left f b.merge) else ahead_of b.merge b.ahead (left f b.merge)
+
+-- the part, as far as it is left; it ends where what is behind it begins, and no earlier than it starts
+abbrev pub part_in : LiveFiles → PlacedBlocks → Part
+part_in f b = record {
+  start = start_of b.cuts;
+  end = option_map (max (start_of b.cuts)) (first_tick (behind_part f b));
+  blocks = map (in_part (start_of b.cuts)) (rest_of_part f b);
+}
+
+-- the parts of blocks of which the first stands in a section that starts at this tick
+abbrev pub parts_from : Split → ℕ → List OutputBlock → List Part
+parts_from s start [] = []
+parts_from s start (b ∷ bs) = parts_in s (cut_from s (begun start b) bs)
+
+-- the parts behind the one that was begun
+abbrev pub parts_left : LiveFiles → PlacedBlocks → List Part
+parts_left f b = if is_within b.ahead then parts_in (split_in b) (sections_at (split_in b) (behind_part f b)) else parts_from (split_in b) (start_of b.cuts) (behind_part f b)
+
+-- at most so many blocks are left: the one ahead, and one for each turn that the merge has left
+abbrev pub turns_with : ℕ → Option Ahead → ℕ
+turns_with way None = way
+turns_with way (Some a) = way + 1
+
+abbrev pub turns : PlacedBlocks → ℕ
+turns b = turns_with (way b.merge) b.ahead
 
 -- ---- what holds on the way
 
 -- No block has been placed.
-pub record IsFresh (c : CutsSeen) : Type 0 where
-  pub start : c.start ≡ None
-  pub empty : c.load ≡ 0
+abbrev pub IsFresh : PlacedBlocks → Type 0
+IsFresh b = b.cuts.start ≡ None
 
 -- A load at which parts end has 64 bits, and then they end at no times.
 pub record IsLimit (spec : SplitSpec) (limit : ℕ) : Type 0 where
@@ -117,48 +135,37 @@ pub record CanGive (f : LiveFiles) (b : PlacedBlocks) : Type 0 where
   pub scales : All (λ (q : Queue). q.lane.scale ≡ b.cuts.scale) b.merge.queues
   pub scale : b.cuts.scale ≤ MOST_SCALE
   pub early : start_of b.cuts * b.cuts.scale < 2 ^ 64
+  pub empty : is_none b.cuts.start ≡ true → b.cuts.load ≡ 0
   pub limit : IfSome b.cuts.size (IsLimit b.cuts.spec)
 
--- A lane lends a block that can be written, and whose time has 64 bits.
-pub record LendsAt (b : PlacedBlocks) (lane : ℕ) : Type 0 where
+-- A lane of a merge lends a block that can be written, and whose time has 64 bits.
+pub record LendsAt (m : MergeSeen) (scale lane : ℕ) : Type 0 where
   pub queue : Queue
-  pub here : slice_get b.merge.queues lane ≡ Some queue
+  pub here : slice_get m.queues lane ≡ Some queue
   pub sound : IsLent (lent queue.lane)
-  pub early : (lent queue.lane).head.tick * b.cuts.scale < 2 ^ 64
+  pub early : (lent queue.lane).head.tick * scale < 2 ^ 64
 
--- The section of the last block starts at this tick, and is written.
-pub record IsIn (start : ℕ) (b : PlacedBlocks) : Type 0 where
-  pub started : b.cuts.start ≡ Some start
-  pub kept : is_kept b.cuts ≡ true
-
--- The block ahead is the last one that was placed, and the first of its section: it begins a part, where that is written.
-pub record IsAhead (b : PlacedBlocks) (a : Ahead) : Type 0 where
-  pub lends : LendsAt b a.lane
-  pub started : b.cuts.start ≡ Some (start_of b.cuts)
-  pub place : a.place ≡ place_at (is_kept b.cuts) true (start_of b.cuts)
-  pub counts : b.cuts.load ≡ counted b.cuts.size (octets_taken (block_lent a.lane lends.queue.lane))
+-- The block ahead is the last one that was placed. Where it begins a section, it alone is counted of that.
+pub record IsAhead (m : MergeSeen) (c : CutsSeen) (a : Ahead) : Type 0 where
+  pub lends : LendsAt m c.scale a.lane
+  pub started : c.start ≡ Some (start_of c)
+  pub begins : Bool
+  pub place : a.place ≡ place_at (is_kept c) begins (start_of c)
+  pub counts : begins ≡ true → c.load ≡ counted c.size (octets_taken (block_lent a.lane lends.queue.lane))
 
 -- Such a block is ahead, or all lanes have ended.
-abbrev pub StandsAhead : PlacedBlocks → Option Ahead → Type 0
-StandsAhead b None = IsEnded b.merge
-StandsAhead b (Some a) = IsAhead b a
+abbrev pub StandsAt : MergeSeen → CutsSeen → Option Ahead → Type 0
+StandsAt m c None = IsEnded m
+StandsAt m c (Some a) = IsAhead m c a
 
--- ---- where a part begins
+abbrev pub StandsAhead : PlacedBlocks → Type 0
+StandsAhead b = StandsAt b.merge b.cuts b.ahead
 
--- It begins with a block, in a section that starts then and is written; or it has none, and all lanes have ended.
-abbrev pub BeginsWith : PlacedBlocks → ℕ → Option ℕ → Type 0
-BeginsWith b start None = IsEnded b.merge
-BeginsWith b start (Some lane) = LendsAt b lane × IsIn start b
-
--- Its start has 64 bits in nanoseconds.
-pub record CanBegin (b : PlacedBlocks) (p : PartStart) : Type 0 where
-  pub begins : BeginsWith b p.start p.lane
-  pub early : p.start * b.cuts.scale < 2 ^ 64
-
--- The links' files are told; and no block is left where a part has none.
-abbrev pub IsToldFrom : LiveFiles → PlacedBlocks → Option ℕ → Type 0
-IsToldFrom f b None = IsTold f b.merge × (left f b.merge ≡ [])
-IsToldFrom f b (Some lane) = IsTold f b.merge
+-- A part was begun that starts at this tick: the block ahead is of it, or none is left.
+pub record IsBegun (b : PlacedBlocks) (start : ℕ) : Type 0 where
+  pub starts : start ≡ start_of b.cuts
+  pub stands : StandsAhead b
+  pub within : is_within b.ahead ≡ is_some b.ahead
 
 -- An end lies no earlier than a start, and in nanoseconds it has 64 bits.
 pub record IsEnd (scale start end : ℕ) : Type 0 where

@@ -1,5 +1,5 @@
 -- An output that takes the blocks of a merge, and what a call makes of both.
-use Rattle.std.specs.Prelude.{◌≡◌, ◌<◌, ◌≤◌, ⊤, ℕ, ◌+◌, List, [], ◌∷◌, length, map, Result, Ok, Err, OnOk, Option}
+use Rattle.std.specs.Prelude.{◌≡◌, ◌≤◌, ℕ, ◌+◌, true, false, ◌&&◌, if◌then◌else◌, is_none, is_some, List, [], ◌∷◌, ◌++◌, length, map, Option, Some, None, Result, Ok, Err, OnOk}
 use Rattle.mkv_io.specs.Faults.{counted, last_count}
 use Rattle.mkv_io.specs.LiveFiles.{LiveFiles}
 use Rattle.mkv_io.specs.Names.{Names}
@@ -21,14 +21,12 @@ use Rattle.time_merge.specs.Laws.{IsApart}
 use Rattle.time_merge.specs.Merge.{IsTold, MergeSeen, damages, due, files_length, left, way}
 use Rattle.time_merge.specs.Queues.{KeepsQueues}
 use Rattle.time_merge.specs.declared.queue.Queue.{Queue}
-use Rattle.splitter.specs.Sections.{Split, beyond}
+use Rattle.splitter.specs.Sections.{in_part, parts}
 use Rattle.remuxer.specs.declared.placing.Ahead.{Ahead}
-use Rattle.remuxer.specs.Places.{CanGive, IsIn, IsToldFrom, StandsAhead, first_tick, in_part_from, lane_of, lent_at, parts_ahead, parts_behind, split_in, way_ahead}
-use Rattle.remuxer.specs.declared.placed.PartStart.{PartStart}
+use Rattle.splitter.specs.Steps.{is_kept, start_of}
+use Rattle.remuxer.specs.Places.{CanGive, IsFresh, StandsAhead, behind_part, is_within, lent_ahead, part_in, parts_left, rest_of_part, split_in, start_in, turns}
 use Rattle.remuxer.specs.declared.placed.PlacedBlocks.{PlacedBlocks}
 use Rattle.remuxer.specs.declared.writer.BlockWriter.{BlockWriter}
-use Rattle.remuxer.specs.declared.writer.Turn.{Turn}
-use Rattle.remuxer.specs.declared.writer.Turn.TheVariants.{Added, Over}
 
 -- An output can take blocks: its file is open; they can be given; and no file of a link was opened under the output's name.
 pub record CanTake {S : Type 0} (r : Ghosts S) (f : writing.Ghosts S) (files : S) (w : BlockWriter) (b : PlacedBlocks) : Type 0 where
@@ -77,44 +75,26 @@ TakesNext r f rules b old new w w' (Err _) = (left : List OutputBlock) → Stays
 abbrev pub TakesMore : {T : Type 0} → ℕ → BlockWriter → BlockWriter → Result T RemuxEnd → Type 0
 TakesMore n w w' result = OnOk result (w'.blocks ≡ counted w.blocks n)
 
--- of the blocks that a merge has left, those of a part that starts at this tick and has come to its load
-abbrev pub rest_of_part : LiveFiles → Split → ℕ → PlacedBlocks → List OutputBlock
-rest_of_part f s start b = in_part_from s start b.cuts.load [] (left f b.merge)
+-- the blocks that are left of a part that starts at this tick
+abbrev pub left_of_part : LiveFiles → ℕ → PlacedBlocks → List OutputBlock
+left_of_part f start b = map (in_part start) (rest_of_part f b)
 
--- Some of the blocks that were left of a part were taken, and the others are left; the same parts stand behind it.
-pub record TakesSome {S : Type 0} (r : Ghosts S) (f : writing.Ghosts S) (rules : List CueRule) (s : Split) (start : ℕ) (old new : S) (w w' : BlockWriter) (b b' : PlacedBlocks) : Type 0 where
-  pub stands : StaysOnTheWay r f rules (rest_of_part (live_files r old) s start b) (rest_of_part (live_files r new) s start b') old new w w'
-  pub behind : beyond s start b'.cuts.load (left (live_files r new) b'.merge) ≡ beyond s start b.cuts.load (left (live_files r old) b.merge)
-  pub count : counted w'.blocks (length (rest_of_part (live_files r new) s start b')) ≡ counted w.blocks (length (rest_of_part (live_files r old) s start b))
+-- Some of the blocks that were left of a part were taken, and the others are left; what stands behind it is the same.
+pub record TakesSome {S : Type 0} (r : Ghosts S) (f : writing.Ghosts S) (rules : List CueRule) (start : ℕ) (old new : S) (w w' : BlockWriter) (b b' : PlacedBlocks) : Type 0 where
+  pub stands : StaysOnTheWay r f rules (left_of_part (live_files r old) start b) (left_of_part (live_files r new) start b') old new w w'
+  pub behind : behind_part (live_files r new) b' ≡ behind_part (live_files r old) b
+  pub parts : parts_left (live_files r new) b' ≡ parts_left (live_files r old) b
+  pub count : counted w'.blocks (length (rest_of_part (live_files r new) b')) ≡ counted w.blocks (length (rest_of_part (live_files r old) b))
   pub few : w.blocks ≤ last_count → w'.blocks ≤ last_count
 
--- All blocks of a part were taken: these, and those that were left of it. What is ahead then stands where the part ends, and begins the
--- parts behind it.
-pub record TakesRest {S : Type 0} (r : Ghosts S) (f : writing.Ghosts S) (rules : List CueRule) (s : Split) (start : ℕ) (first : List OutputBlock) (old new : S) (w w' : BlockWriter) (b b' : PlacedBlocks) (ahead : Option Ahead) : Type 0 where
-  pub stands : StaysOnTheWay r f rules (in_part_from s start b.cuts.load first (left (live_files r old) b.merge)) [] old new w w'
-  pub end : first_tick (lent_at b'.merge (lane_of ahead)) ≡ first_tick (beyond s start b.cuts.load (left (live_files r old) b.merge))
-  pub behind : parts_ahead (live_files r new) b' (lane_of ahead) ≡ parts_behind s start b.cuts.load (left (live_files r old) b.merge)
-  pub count : counted w'.blocks 0 ≡ counted w.blocks (length (in_part_from s start b.cuts.load first (left (live_files r old) b.merge)))
-  pub few : w.blocks ≤ last_count → w'.blocks ≤ last_count
+-- After a refusal the output stands as a draft.
+abbrev pub TakesTold : {S T : Type 0} → Ghosts S → writing.Ghosts S → List CueRule → ℕ → S → S → BlockWriter → BlockWriter → PlacedBlocks → PlacedBlocks → Result T RemuxEnd → Type 0
+TakesTold r f rules start old new w w' b b' (Ok _) = TakesSome r f rules start old new w w' b b'
+TakesTold r f rules start old new w w' b b' (Err _) = StaysDraft r f rules (left_of_part (live_files r old) start b) old new w
 
--- Where the links' files are told, one block more of a part was taken, or none was left of it.
-abbrev pub TakesFrom : {S : Type 0} → Ghosts S → writing.Ghosts S → List CueRule → ℕ → S → S → BlockWriter → BlockWriter → PlacedBlocks → PlacedBlocks → Result Turn RemuxEnd → Type 0
-TakesFrom r f rules start old new w w' b b' (Ok Added) = IsTold (live_files r old) b.merge → TakesSome r f rules (split_in b) start old new w w' b b'
-TakesFrom r f rules start old new w w' b b' (Ok (Over ahead)) = IsTold (live_files r old) b.merge → TakesRest r f rules (split_in b) start [] old new w w' b b' ahead
-TakesFrom r f rules start old new w w' b b' (Err _) = IsTold (live_files r old) b.merge → StaysDraft r f rules (rest_of_part (live_files r old) (split_in b) start b) old new w
-
--- All blocks were taken of a part that begins with these; after a refusal it stands as a draft.
-abbrev pub TakesAll : {S : Type 0} → Ghosts S → writing.Ghosts S → List CueRule → ℕ → List OutputBlock → S → S → BlockWriter → BlockWriter → PlacedBlocks → PlacedBlocks → Result (Option Ahead) RemuxEnd → Type 0
-TakesAll r f rules start first old new w w' b b' (Ok ahead) = TakesRest r f rules (split_in b) start first old new w w' b b' ahead
-TakesAll r f rules start first old new w w' b b' (Err _) = StaysDraft r f rules (in_part_from (split_in b) start b.cuts.load first (left (live_files r old) b.merge)) old new w
-
--- Where the links' files are told, all blocks were taken that were left of a part,
-abbrev pub TakesLeft : {S : Type 0} → Ghosts S → writing.Ghosts S → List CueRule → ℕ → S → S → BlockWriter → BlockWriter → PlacedBlocks → PlacedBlocks → Result (Option Ahead) RemuxEnd → Type 0
-TakesLeft r f rules start old new w w' b b' result = IsTold (live_files r old) b.merge → TakesAll r f rules start [] old new w w' b b' result
-
--- or all of the part that begins so.
-abbrev pub TakesPart : {S : Type 0} → Ghosts S → writing.Ghosts S → List CueRule → PartStart → S → S → BlockWriter → BlockWriter → PlacedBlocks → PlacedBlocks → Result (Option Ahead) RemuxEnd → Type 0
-TakesPart r f rules p old new w w' b b' result = IsToldFrom (live_files r old) b p.lane → TakesAll r f rules p.start (lent_at b.merge p.lane) old new w w' b b' result
+-- So it is where the links' files are told.
+abbrev pub TakesPart : {S T : Type 0} → Ghosts S → writing.Ghosts S → List CueRule → S → S → BlockWriter → BlockWriter → PlacedBlocks → PlacedBlocks → Result T RemuxEnd → Type 0
+TakesPart r f rules old new w w' b b' result = IsTold (live_files r old) b.merge → TakesTold r f rules (start_of b.cuts) old new w w' b b' result
 
 -- ---- the merge
 
@@ -138,16 +118,39 @@ abbrev pub Goes : {S T E : Type 0} → Ghosts S → ℕ → S → S → PlacedBl
 Goes r more old new b b' (Ok _) = GoesOn r more old new b b'
 Goes r more old new b b' (Err _) = r.octets_read new ≤ r.octets_read old + due (live_files r old) b.merge + files_length (live_files r old) b.merge + more
 
--- Behind the part a block is ahead, and fewer turns are left; none more where all lanes have ended.
-pub record IsOver (b b' : PlacedBlocks) (ahead : Option Ahead) : Type 0 where
-  pub stands : StandsAhead b' ahead
-  pub on : way_ahead b' (lane_of ahead) ≤ way b.merge
+-- ---- the next block of the merge
 
--- A block of the part was next, and fewer turns are left; else it is over.
-abbrev pub Finds : ℕ → PlacedBlocks → PlacedBlocks → Result Turn RemuxEnd → Type 0
-Finds start b b' (Ok Added) = IsIn start b' × (way b'.merge < way b.merge)
-Finds start b b' (Ok (Over ahead)) = IsOver b b' ahead
-Finds start b b' (Err _) = ⊤
+-- the block ahead begins no part
+abbrev pub BeginsNone : Option Ahead → Type 0
+BeginsNone None = ⊥
+BeginsNone (Some a) = start_in a.place ≡ None
+
+-- Where the block ahead was of the part that was begun, the others of it are left, and the same behind it; where it began no part, the same
+-- parts are left.
+pub record Leaves (f h : LiveFiles) (b b' : PlacedBlocks) : Type 0 where
+  pub rest : is_within b.ahead ≡ true → rest_of_part f b ≡ lent_ahead b ++ rest_of_part h b'
+  pub behind : is_within b.ahead ≡ true → behind_part h b' ≡ behind_part f b
+  pub parts : BeginsNone b.ahead → parts_left h b' ≡ parts_left f b
+
+-- All parts are left where no block had been placed; without a block there is the one at the beginning, if it is written.
+abbrev pub LeavesAll : LiveFiles → LiveFiles → PlacedBlocks → PlacedBlocks → Type 0
+LeavesAll f h b b' = (if is_none b'.ahead && is_kept b'.cuts then part_in h b' ∷ [] else parts_left h b') ≡ parts (split_in b) (left f b.merge)
+
+-- The next block of the merge is ahead, or all lanes have ended, and nothing was placed; fewer turns are left.
+pub record Advances (f h : LiveFiles) (b b' : PlacedBlocks) : Type 0 where
+  pub stands : StandsAhead b'
+  pub on : turns b' ≤ way b.merge
+  pub same : is_some b'.ahead ≡ false → b'.cuts ≡ b.cuts
+  pub left : StandsAhead b → IsTold f b.merge → Leaves f h b b'
+  pub all : IsFresh b → IsTold f b.merge → LeavesAll f h b b'
+
+-- ---- behind the part
+
+-- What is ahead is behind the part, and fewer turns are left; none more where all lanes have ended.
+pub record IsOver (b b' : PlacedBlocks) : Type 0 where
+  pub stands : StandsAhead b'
+  pub behind : is_within b'.ahead ≡ false
+  pub on : turns b' ≤ way b.merge
 
 -- the damages that were told of each link of each lane
 abbrev pub told_by : MergeSeen → List (List ToldDamages)

@@ -77,6 +77,7 @@ pub fn remux<F: Files>(alloc: Global, plan: MergePlan, files: &mut F) -> Result<
         merge,
         cuts,
         drives,
+        ahead: None,
     };
     let written = write_parts(alloc, files, spec, &mut blocks)?;
     let summary = summary_of(alloc, written, inputs.as_slice(), &blocks.merge)?;

@@ -1,6 +1,6 @@
 //! Whole outputs.
 
-ghost use Rattle.std.specs.Prelude.{◌≡◌, ◌*◌, ◌<◌, ◌^◌, [], ◌∷◌, IfOk, IfSome};
+ghost use Rattle.std.specs.Prelude.{◌≡◌, ◌*◌, ◌<◌, ◌^◌, [], ◌∷◌, IfOk, IfSome, OnOk};
 ghost use Rattle.mkv_io.specs.Sources.{live_files};
 ghost use Rattle.mkv_io.specs.Writing.{KeepsOthers};
 ghost use Rattle.mkv_io.specs.Ends.{HasRemuxCause};
@@ -9,11 +9,10 @@ ghost use Rattle.tree_format.specs.Node.{id_of};
 ghost use Rattle.ebml_tree.specs.Building.{IsRead};
 ghost use Rattle.remuxer.specs.Places.{IsEnd};
 ghost use Rattle.remuxer.specs.Taking.{Goes, IsOver, WritesInto};
-ghost use Rattle.remuxer.specs.Output.{CanFill, CanWrite, Fills, StandsWritten, WritesPart, chapters_cut, chapters_in, data_of};
+ghost use Rattle.remuxer.specs.Output.{CanFill, CanWrite, Fills, HasWritten, WritesPart, chapters_cut, chapters_in, data_of};
 
 use crate::counts::Counts;
-use crate::placed::{PartStart, PlacedBlocks};
-use crate::placing::Ahead;
+use crate::placed::PlacedBlocks;
 use crate::run::add_rest;
 use crate::writer::BlockWriter;
 use cluster_writer::ClusterBuf;
@@ -24,21 +23,11 @@ use record_changes::cut;
 use remux_plan::OutputSpec;
 use std::alloc::{AllocError, Global};
 
-/// What became of a part: how many blocks it has, what is counted of these, and the block of the merge behind it, if there is
-/// one.
+/// What became of a part: how many blocks it has, and what is counted of these.
 #[derive(Clone, Copy)]
 pub(crate) struct WrittenPart {
     pub(crate) blocks: u64,
     pub(crate) counts: Counts,
-    pub(crate) ahead: Option<Ahead>,
-}
-
-// What a part was filled with besides its blocks: the block of the merge behind it, if there is one, and what was cut out of
-// the chapters, where the output is split.
-#[derive(Drop)]
-struct Filled {
-    ahead: Option<Ahead>,
-    chapters: Option<Tree>,
 }
 
 // What of the chapters goes into a part from one tick to another, where the output is split.
@@ -75,41 +64,43 @@ fn chapters_in<'a>(spec: &'a OutputSpec, part: &'a Option<Tree>) -> &'a Option<T
     if spec.split { part } else { &spec.chapters }
 }
 
-// Adds all blocks of a part to an output that was begun, and writes its last Cluster.
+// Adds all blocks of the part that was begun, which starts at this tick, and writes the last Cluster. Answers what was cut out
+// of the chapters, where the output is split.
 fn fill<F: Files>(
     alloc: Global,
     files: &mut F,
     spec: &OutputSpec,
-    part: PartStart,
+    start: u64,
     blocks: &mut PlacedBlocks,
     writer: &mut BlockWriter,
-) -> Result<Filled, OutEnd>
-    requires { CanFill F.Reads F.Files.own files.old spec.now part writer.old blocks.old }
-    ensures fills { Fills F.Reads F.Files.own spec.now part files.old files.new writer.old writer.new blocks.old blocks.new result }
-    ensures id { IfOk result (λ filled. IfSome filled.chapters (λ n. id_of n ≡ CHAPTERS)) }
+) -> Result<Option<Tree>, OutEnd>
+    requires { CanFill F.Reads F.Files.own files.old spec.now start writer.old blocks.old }
+    ensures fills { Fills F.Reads F.Files.own spec.now files.old files.new writer.old writer.new blocks.old blocks.new result }
+    ensures id { IfOk result (λ part. IfSome part (λ n. id_of n ≡ CHAPTERS)) }
     ensures writes { WritesInto F.Reads F.Files.own files.old files.new writer.old writer.new result }
     ensures goes { Goes F.Reads 0 files.old files.new blocks.old blocks.new result }
-    ensures finds { IfOk result (λ filled. IsOver blocks.old blocks.new filled.ahead) }
+    ensures over { OnOk result (IsOver blocks.old blocks.new) }
     ensures cause { HasRemuxCause F.Reads F.Files.own files.old files.new result }
 {
-    let ahead = writer.add_part(files, blocks, spec.rules.as_slice(), part)?;
-    let chapters = cut_chapters(alloc, spec, part.start, blocks.end_of(part.start, ahead))?;
+    writer.add_part(files, blocks, spec.rules.as_slice(), start)?;
+    let chapters = cut_chapters(alloc, spec, start, blocks.end_of(start))?;
     add_rest(files, &mut writer.out, &mut writer.buffer)?;
-    Ok(Filled { ahead, chapters })
+    Ok(chapters)
 }
 
-/// Writes an output of this name that has the part of a merge which begins so. Whatever is answered, no file of it is open.
+/// Writes an output of this name that has the part which was begun, and starts at this tick. Whatever is answered, no file of
+/// it is open.
 pub(crate) fn write_output<F: Files>(
     alloc: Global,
     files: &mut F,
     spec: &OutputSpec,
     name: &str,
-    part: PartStart,
+    start: u64,
     blocks: &mut PlacedBlocks,
 ) -> Result<WrittenPart, OutEnd>
-    requires { CanWrite F.Reads F.Files.own files.old spec.now name.now part blocks.old }
-    ensures writes { WritesPart F.Reads F.Files.own files.old files.new spec.now name.now part blocks.old result }
-    ensures finds { IfOk result (StandsWritten (live_files F.Reads files.old) (live_files F.Reads files.new) spec.now part blocks.old blocks.new) }
+    requires { CanWrite F.Reads F.Files.own files.old spec.now name.now start blocks.old }
+    ensures writes { WritesPart F.Reads F.Files.own files.old files.new spec.now name.now blocks.old result }
+    ensures finds { IfOk result (HasWritten (live_files F.Reads files.old) (live_files F.Reads files.new) spec.now blocks.old blocks.new) }
     ensures goes { Goes F.Reads (data_of spec.now) files.old files.new blocks.old blocks.new result }
     ensures kept { KeepsOthers F.Reads F.Files.own (name.now ∷ []) files.old files.new }
     ensures cause { HasRemuxCause F.Reads F.Files.own files.old files.new result }
@@ -125,14 +116,13 @@ pub(crate) fn write_output<F: Files>(
             cues: 0,
         },
     };
-    match fill(alloc, files, spec, part, blocks, &mut writer) {
-        Ok(filled) => {
+    match fill(alloc, files, spec, start, blocks, &mut writer) {
+        Ok(part) => {
             let written = WrittenPart {
                 blocks: writer.blocks,
                 counts: writer.counts,
-                ahead: filled.ahead,
             };
-            let chapters = chapters_in(spec, &filled.chapters);
+            let chapters = chapters_in(spec, &part);
             writer.out.finish_with(files, chapters, &spec.tags)?;
             Ok(written)
         }

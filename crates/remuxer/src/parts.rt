@@ -6,11 +6,11 @@ ghost use Rattle.mkv_io.specs.Ends.{HasRemuxCause};
 ghost use Rattle.mkv_io.specs.Writing.{KeepsOthers};
 ghost use Rattle.remux_plan.specs.Parts.{name_of};
 ghost use Rattle.remuxer.specs.Taking.{Goes};
-ghost use Rattle.remuxer.specs.Output.{CanWrite, CanWriteAll, CanWriteNext, Ends, FindsNext, KeepsUnwritten, ReadsParts, SaysWritten, StandsWritten, WritesNext, WritesPart, WritesParts, data_of, own_spec};
+ghost use Rattle.remuxer.specs.Output.{CanWrite, CanWriteAll, CanWriteNext, Ends, FindsNext, HasWritten, KeepsUnwritten, ReadsParts, SaysWritten, WritesNext, WritesPart, WritesParts, data_of, own_spec};
 
 use crate::info::info_with;
 use crate::output::{WrittenPart, write_output};
-use crate::placed::{PartStart, PlacedBlocks};
+use crate::placed::PlacedBlocks;
 use mkv_io::{Files, List, Reads, RemuxEnd as OutEnd, Text};
 use remux_plan::{OutputSpec, Written, uuids_at};
 use splitter::part_name;
@@ -28,19 +28,19 @@ fn name_of(alloc: Global, spec: &OutputSpec, number: u64) -> Result<Text, AllocE
     }
 }
 
-// Writes an output of this name and of this number, from 1 on, with its own identifiers.
+// Writes the part that was begun as the output of this name and of this number, from 1 on, with its own identifiers.
 fn write_own<F: Files>(
     alloc: Global,
     files: &mut F,
     spec: &mut OutputSpec,
     number: usize,
     name: &str,
-    part: PartStart,
+    start: u64,
     blocks: &mut PlacedBlocks,
 ) -> Result<WrittenPart, OutEnd>
-    requires { CanWrite F.Reads F.Files.own files.old spec.old name.now part blocks.old }
-    ensures writes { WritesPart F.Reads F.Files.own files.old files.new (own_spec spec.old number) name.now part blocks.old result }
-    ensures finds { IfOk result (StandsWritten (live_files F.Reads files.old) (live_files F.Reads files.new) (own_spec spec.old number) part blocks.old blocks.new) }
+    requires { CanWrite F.Reads F.Files.own files.old spec.old name.now start blocks.old }
+    ensures writes { WritesPart F.Reads F.Files.own files.old files.new (own_spec spec.old number) name.now blocks.old result }
+    ensures finds { IfOk result (HasWritten (live_files F.Reads files.old) (live_files F.Reads files.new) (own_spec spec.old number) blocks.old blocks.new) }
     ensures spec { OnOk result (spec.new ≡ spec.old) }
     ensures goes { Goes F.Reads (data_of spec.old) files.old files.new blocks.old blocks.new result }
     ensures kept { KeepsOthers F.Reads F.Files.own (name.now ∷ []) files.old files.new }
@@ -49,23 +49,23 @@ fn write_own<F: Files>(
     let uuids = uuids_at(spec.uuids.as_slice(), spec.link, number);
     let info = info_with(alloc, &spec.front.info, uuids)?;
     let plain = mem::replace(&mut spec.front.info, info);
-    let done = write_output(alloc, files, spec, name, part, blocks)?;
+    let done = write_output(alloc, files, spec, name, start, blocks)?;
     spec.front.info = plain;
     Ok(done)
 }
 
-// Writes the output of the part that begins so, and adds it to those that were written. Answers where the next one begins, to
-// which no attachments go.
+// Writes the output of the part that was begun, which starts at this tick, and adds it to those that were written. Begins the
+// next one, to which no attachments go, and answers where it starts.
 fn write_next<F: Files>(
     alloc: Global,
     files: &mut F,
     spec: &mut OutputSpec,
     blocks: &mut PlacedBlocks,
     written: &mut List<Written>,
-    part: PartStart,
-) -> Result<Option<PartStart>, OutEnd>
-    requires { CanWriteNext F.Reads F.Files.own files.old spec.old written.old part blocks.old }
-    ensures writes { WritesNext F.Reads F.Files.own part files.old files.new spec.old blocks.old blocks.new written.old written.new result }
+    start: u64,
+) -> Result<Option<u64>, OutEnd>
+    requires { CanWriteNext F.Reads F.Files.own files.old spec.old written.old start blocks.old }
+    ensures writes { WritesNext F.Reads F.Files.own files.old files.new spec.old blocks.old blocks.new written.old written.new result }
     ensures finds { IfOk result (FindsNext spec.old spec.new blocks.old blocks.new written.old written.new) }
     ensures goes { Goes F.Reads (data_of spec.old) files.old files.new blocks.old blocks.new result }
     ensures kept { KeepsUnwritten F.Reads F.Files.own spec.old.split spec.old.name files.old files.new }
@@ -73,7 +73,7 @@ fn write_next<F: Files>(
 {
     let number = written.as_slice().len() + 1;
     let name = name_of(alloc, spec, number as u64)?;
-    let done = write_own(alloc, files, spec, number, name.as_str(), part, blocks)?;
+    let done = write_own(alloc, files, spec, number, name.as_str(), start, blocks)?;
     written.push(Written {
         name,
         blocks: done.blocks,
@@ -81,7 +81,7 @@ fn write_next<F: Files>(
         cues: done.counts.cues,
     })?;
     spec.front.attachments = List::new(alloc);
-    let next = blocks.next_part(files, done.ahead)?;
+    let next = blocks.next_part(files)?;
     Ok(next)
 }
 
@@ -104,8 +104,8 @@ pub(crate) fn write_parts<F: Files>(
     let mut spec = spec;
     let mut written = List::new(alloc);
     let mut next = blocks.first_part(files)?;
-    'parts: while let Some(part) = next {
-        next = write_next(alloc, files, &mut spec, blocks, &mut written, part)?;
+    'parts: while let Some(start) = next {
+        next = write_next(alloc, files, &mut spec, blocks, &mut written, start)?;
     }
     Ok(written)
 }

@@ -1,6 +1,6 @@
 //! The blocks of a part, one after the other, into an output.
 
-ghost use Rattle.std.specs.Prelude.{◌≡◌, ◌+◌, ◌<◌, IfOk};
+ghost use Rattle.std.specs.Prelude.{◌≡◌, ◌+◌, ◌<◌, OnOk};
 ghost use Rattle.std.specs.List.{slice_get};
 ghost use Rattle.std.specs.Option.{unwrap_or};
 ghost use Rattle.mkv_io.specs.Ends.{HasRemuxCause};
@@ -14,8 +14,7 @@ ghost use Rattle.output_model.specs.Cued.{is_cue_by};
 ghost use Rattle.output_model.specs.declared.rule.CueRule.TheVariants as cue_rule;
 
 use crate::counts::Counts;
-use crate::placed::{PartStart, PlacedBlocks, is_same};
-use crate::placing::{Ahead, place_next};
+use crate::placed::PlacedBlocks;
 use crate::run::add_block;
 use cluster_writer::{ClusterBuf, LentBlock};
 use cues_seekhead::OutFile;
@@ -53,15 +52,6 @@ fn lent_by(lane: &Lane, k: usize, start: u64) -> LentBlock<'_>
     }
 }
 
-/// What the next block of a merge was to a part.
-#[derive(Clone, Copy)]
-pub(crate) enum Turn {
-    /// The next of its blocks, which was added.
-    Added,
-    /// There is none in the part; this is ahead.
-    Over { ahead: Option<Ahead> },
-}
-
 /// An output that takes blocks: its file, the Cluster that the next block may join, how many blocks it has taken, and what is
 /// counted of these.
 #[derive(Drop)]
@@ -74,8 +64,8 @@ pub(crate) struct BlockWriter {
 
 impl BlockWriter {
     ghost use Rattle.cues_seekhead.specs.OpenOutput.{IsOpen};
-    ghost use Rattle.remuxer.specs.Places.{BeginsWith, IsIn, lent_in};
-    ghost use Rattle.remuxer.specs.Taking.{CanTake, Finds, Goes, IsOver, StaysSmall, TakesFrom, TakesLeft, TakesMore, TakesNext, TakesPart, WritesInto};
+    ghost use Rattle.remuxer.specs.Places.{IsBegun, lent_in};
+    ghost use Rattle.remuxer.specs.Taking.{CanTake, Goes, IsOver, StaysSmall, TakesMore, TakesNext, TakesPart, WritesInto};
 
     // Adds the block that the k-th lane lends, from 0, to a part that starts at this tick.
     fn add_lent<F: Files>(
@@ -104,86 +94,27 @@ impl BlockWriter {
         Ok(())
     }
 
-    // Adds the next block that a merge has left, where it stands in the part that starts at this tick.
-    fn add_next<F: Files>(
-        &mut self,
-        files: &mut F,
-        blocks: &mut PlacedBlocks,
-        rules: &[CueRule],
-        start: u64,
-    ) -> Result<Turn, OutEnd>
-        requires can { CanTake F.Reads F.Files.own files.old self.old blocks.old }
-        requires within { IsIn start blocks.old }
-        ensures takes { TakesFrom F.Reads F.Files.own rules.now start files.old files.new self.old self.new blocks.old blocks.new result }
-        ensures writes { WritesInto F.Reads F.Files.own files.old files.new self.old self.new result }
-        ensures held { StaysSmall self.old self.new result }
-        ensures goes { Goes F.Reads 0 files.old files.new blocks.old blocks.new result }
-        ensures finds { Finds start blocks.old blocks.new result }
-        ensures cause { HasRemuxCause F.Reads F.Files.own files.old files.new result }
-    {
-        let next = place_next(
-            &mut blocks.merge,
-            &mut blocks.cuts,
-            blocks.drives.as_slice(),
-            files,
-        )?;
-        let Some(ahead) = next else {
-            return Ok(Turn::Over { ahead: None });
-        };
-        if !is_same(ahead.place) {
-            return Ok(Turn::Over { ahead: next });
-        }
-        let lane = blocks.merge.lane(ahead.lane);
-        self.add_lent(files, lane, ahead.lane, rules, start)?;
-        Ok(Turn::Added)
-    }
-
-    // Adds all blocks that a merge has left of the part that starts at this tick. Answers what is ahead then.
-    fn add_blocks<F: Files>(
-        &mut self,
-        files: &mut F,
-        blocks: &mut PlacedBlocks,
-        rules: &[CueRule],
-        start: u64,
-    ) -> Result<Option<Ahead>, OutEnd>
-        requires can { CanTake F.Reads F.Files.own files.old self.old blocks.old }
-        requires within { IsIn start blocks.old }
-        ensures takes { TakesLeft F.Reads F.Files.own rules.now start files.old files.new self.old self.new blocks.old blocks.new result }
-        ensures writes { WritesInto F.Reads F.Files.own files.old files.new self.old self.new result }
-        ensures held { StaysSmall self.old self.new result }
-        ensures goes { Goes F.Reads 0 files.old files.new blocks.old blocks.new result }
-        ensures finds { IfOk result (IsOver blocks.old blocks.new) }
-        ensures cause { HasRemuxCause F.Reads F.Files.own files.old files.new result }
-    {
-        'steps: loop {
-            match self.add_next(files, blocks, rules, start)? {
-                Turn::Added => {}
-                Turn::Over { ahead } => return Ok(ahead),
-            }
-        }
-    }
-
-    /// Adds all blocks of the part that begins so. Answers what is ahead then.
+    /// Adds all blocks that are left of the part that was begun, which starts at this tick.
     pub(crate) fn add_part<F: Files>(
         &mut self,
         files: &mut F,
         blocks: &mut PlacedBlocks,
         rules: &[CueRule],
-        part: PartStart,
-    ) -> Result<Option<Ahead>, OutEnd>
+        start: u64,
+    ) -> Result<(), OutEnd>
         requires can { CanTake F.Reads F.Files.own files.old self.old blocks.old }
-        requires begins { BeginsWith blocks.old part.start part.lane }
-        ensures takes { TakesPart F.Reads F.Files.own rules.now part files.old files.new self.old self.new blocks.old blocks.new result }
+        requires begun { IsBegun blocks.old start }
+        ensures takes { TakesPart F.Reads F.Files.own rules.now files.old files.new self.old self.new blocks.old blocks.new result }
         ensures writes { WritesInto F.Reads F.Files.own files.old files.new self.old self.new result }
         ensures held { StaysSmall self.old self.new result }
         ensures goes { Goes F.Reads 0 files.old files.new blocks.old blocks.new result }
-        ensures finds { IfOk result (IsOver blocks.old blocks.new) }
+        ensures over { OnOk result (IsOver blocks.old blocks.new) }
         ensures cause { HasRemuxCause F.Reads F.Files.own files.old files.new result }
     {
-        let Some(lane) = part.lane else {
-            return Ok(None);
-        };
-        self.add_lent(files, blocks.merge.lane(lane), lane, rules, part.start)?;
-        self.add_blocks(files, blocks, rules, part.start)
+        'steps: while let Some(lane) = blocks.lane_within() {
+            self.add_lent(files, blocks.merge.lane(lane), lane, rules, start)?;
+            blocks.advance(files)?;
+        }
+        Ok(())
     }
 }

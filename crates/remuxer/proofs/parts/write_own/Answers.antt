@@ -16,7 +16,7 @@ write_output-requires g c =
     let has = c.requires.records in
     record {
       gives = c.requires.gives;
-      begins = c.requires.begins;
+      begun = c.requires.begun;
       scale = c.requires.scale;
       apart = c.requires.apart;
       records = record {
@@ -38,7 +38,7 @@ returns-in_err-done-clause-writes g c =
     c.replace-plain.ensures.after ∙ c.in_ok-info.ensures ∙ ap (λ (u : PartUuids). with_uuids u spec.front.info) (c.uuids_at-uuids.ensures ∙ ap (λ (us : List ℕ). uuids_at us spec.link c.args.number) c.as_slice.ensures) in
     let own : (let o : OutputSpec = record spec { front = record spec.front { info = c.replace-plain.new.dest } } in o) ≡ own_spec spec c.args.number =
     ap (λ (n : Node). let o : OutputSpec = record spec { front = record spec.front { info = n } } in o) made in
-    rw end.1 (subst (λ (o : OutputSpec). WritesPart {T = WrittenPart} g.F.Reads g.F.Files c.args.files.now c.write_output.new.files o c.args.name.now c.args.part c.args.blocks.now (Err c.in_err-done.field-0.0)) own c.in_err-done.ensures.writes)
+    rw end.1 (subst (λ (o : OutputSpec). WritesPart {T = WrittenPart} g.F.Reads g.F.Files c.args.files.now c.write_output.new.files o c.args.name.now c.args.blocks.now (Err c.in_err-done.field-0.0)) own c.in_err-done.ensures.writes)
 
 -- it stands
 pub returns-clause-writes : goal.returns-clause-writes
@@ -48,4 +48,4 @@ returns-clause-writes g c =
     c.replace-plain.ensures.after ∙ c.in_ok-info.ensures ∙ ap (λ (u : PartUuids). with_uuids u spec.front.info) (c.uuids_at-uuids.ensures ∙ ap (λ (us : List ℕ). uuids_at us spec.link c.args.number) c.as_slice.ensures) in
     let own : (let o : OutputSpec = record spec { front = record spec.front { info = c.replace-plain.new.dest } } in o) ≡ own_spec spec c.args.number =
     ap (λ (n : Node). let o : OutputSpec = record spec { front = record spec.front { info = n } } in o) made in
-    subst (λ (o : OutputSpec). WritesPart {T = WrittenPart} g.F.Reads g.F.Files c.args.files.now c.write_output.new.files o c.args.name.now c.args.part c.args.blocks.now (Ok c.in_ok-done.done)) own c.in_ok-done.ensures.writes
+    subst (λ (o : OutputSpec). WritesPart {T = WrittenPart} g.F.Reads g.F.Files c.args.files.now c.write_output.new.files o c.args.name.now c.args.blocks.now (Ok c.in_ok-done.done)) own c.in_ok-done.ensures.writes

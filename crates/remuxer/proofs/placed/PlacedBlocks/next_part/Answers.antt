@@ -1,52 +1,70 @@
-use Rattle.std.proofs.Common.{◌≡◌, ◌<◌, ℕ, ◌*◌, ◌^◌, Option, Ok, sym, ◌∙◌, ap, subst, arith}
+use Rattle.std.proofs.Common.{sym, ◌∙◌, ap, subst, arith}
 use Rattle.mkv_io.specs.Sources.{live_files}
-use Rattle.remuxer.specs.Placed.{Places}
-use Rattle.remuxer.specs.declared.placing.Ahead.{Ahead}
-use Rattle.remuxer.specs.Places.{lane_of, parts_ahead}
-use Rattle.splitter.specs.Steps.{start_of}
-use Rattle.std.specs.Option.{unwrap_or}
-use Rattle.remuxer.proofs.NextLemmas.{begun-parts, is-begun, not-begun, paid-of, passes}
+use Rattle.time_merge.specs.Merge.{way}
+use Rattle.remuxer.specs.Places.{StandsAt, turns_with}
+use Rattle.remuxer.specs.Taking.{BeginsNone}
+use Rattle.remuxer.proofs.NextLemmas.{begun-parts, goes-idle, is-begun, none-left}
 use Rattle.remuxer.proofs.TakingLemmas.{goes-then}
 use Rattle.remuxer.proofs.placed.PlacedBlocks.next_part.Goals as goal
 
+-- a block in no part is passed over
+pub passed-smaller : goal.passed-smaller
+passed-smaller g c =
+    let less = c.in_ok-advance.ensures.advances.on in
+    let here = ap (turns_with (way c.passed.self.merge)) c.in-Some.is in
+    omega (arith, less, here)
+
 pub passed-preserved : goal.passed-preserved
 passed-preserved g c =
-    let r = g.R.Reads in
     let inv = c.passed.invariant in
-    let p = c.passed.self in
-    let a = c.passed.src in
-    let was = c.in-Some.ahead in
-    let next = c.in_ok-next.next in
-    let ahead = rw c.in-Some.is at inv.ahead in
-    let places = subst (λ drives. Places drives c.place_next.new.merge p.cuts c.place_next.new.cuts (Ok next)) c.as_slice.ensures c.in_ok-next.ensures.places in
-    let on = passes r a c.place_next.new.src p c.place_next.new.merge c.place_next.new.cuts c.in_ok-next.ensures.standing inv.goes.gives c.in_ok-next.ensures.ready
-    (paid-of (live_files r a) p.merge c.place_next.new.merge (r.octets_read a) (r.octets_read c.place_next.new.src) next c.in_ok-next.ensures.pays)
-    was next ahead (not-begun p was ahead (sym c.in_default-start_in.ensures)) c.in_ok-next.ensures.moves c.in_ok-next.ensures.gives places in
+    let next = c.in_ok-advance.ensures in
     record {
-      ahead = on.ahead;
-      goes = goes-then r 0 0 c.args.src.now a c.place_next.new.src c.args.self.now p _ inv.goes on.goes;
-      standing = c.in_ok-next.ensures.standing ∙ inv.standing;
-      reading = c.in_ok-next.ensures.cause ∙ inv.reading;
-      on = let here = rw c.in-Some.is at inv.on in let less = on.on in omega (arith, here, less);
-      found = λ told. on.found (inv.goes.told told).told ∙ ap (λ (o : Option Ahead). parts_ahead (live_files r a) p (lane_of o)) (sym c.in-Some.is) ∙ inv.found told;
+      stands = next.advances.stands;
+      goes = goes-then g.R.Reads 0 0 c.args.src.now c.passed.src c.advance.new.src c.args.self.now c.passed.self c.advance.new.self inv.goes next.goes;
+      standing = next.standing ∙ inv.standing;
+      reading = next.cause ∙ inv.reading;
+      on =
+          let on = inv.on in
+          let less = next.advances.on in
+          let here = ap (turns_with (way c.passed.self.merge)) c.in-Some.is in
+          omega (arith, on, less, here);
+      found = λ told.
+          let none = subst BeginsNone (sym c.in-Some.is) (sym c.in_default-start_in.ensures) in
+          (next.advances.left inv.stands (inv.goes.told told).told).parts none ∙ inv.found told;
     }
 
 -- one begins a part
 pub returns-in-Some-start_in-clause-finds : goal.returns-in-Some-start_in-clause-finds
 returns-in-Some-start_in-clause-finds g c =
-    let r = g.R.Reads in
     let inv = c.passed.invariant in
     let p = c.passed.self in
     let b = c.passed.src in
-    let was = c.in-Some.ahead in
-    let start = c.in-Some-start_in.start in
-    let ahead = rw c.in-Some.is at inv.ahead in
-    let is = is-begun p was start ahead (sym c.in-Some-start_in.ensures) in
-    let at : start_of p.cuts ≡ start = ap (λ (o : Option ℕ). unwrap_or o 0) is.started in
-    let on = rw c.in-Some.is at inv.on in
+    let ahead = subst (StandsAt p.merge p.cuts) c.in-Some.is inv.stands in
+    let found = sym c.in-Some-start_in.ensures in
     record {
-      begins = record { begins = (ahead.lends, is); early = subst (λ (n : ℕ). n * p.cuts.scale < 2 ^ 64) at inv.goes.gives.early };
-      on = omega (arith, on);
-      told = λ told. (inv.goes.told told).told;
-      found = λ told. begun-parts (live_files r b) p start was.lane inv.goes.gives.limit ahead.lends is ahead.counts ∙ ap (λ (o : Option Ahead). parts_ahead (live_files r b) p (lane_of o)) (sym c.in-Some.is) ∙ inv.found told;
+      begins = is-begun (live_files g.R.Reads b) p c.in-Some.ahead c.in-Some-start_in.start inv.goes.gives c.in-Some.is ahead found;
+      on =
+          let on = inv.on in
+          let here = ap (turns_with (way p.merge)) c.in-Some.is in
+          omega (arith, on, here);
+      found = λ told. begun-parts (live_files g.R.Reads b) p c.in-Some.ahead c.in-Some-start_in.start inv.goes.gives c.in-Some.is ahead found ∙ inv.found told;
+    }
+
+pub returns-in-Some-start_in-clause-goes : goal.returns-in-Some-start_in-clause-goes
+returns-in-Some-start_in-clause-goes g c =
+    let inv = c.passed.invariant in
+    goes-then g.R.Reads 0 0 c.args.src.now c.passed.src c.passed.src c.args.self.now c.passed.self _ inv.goes (goes-idle g.R.Reads c.passed.src c.passed.self _ inv.goes.gives)
+
+-- none is left
+pub returns-clause-finds : goal.returns-clause-finds
+returns-clause-finds g c =
+    let inv = c.passed.invariant in
+    let p = c.passed.self in
+    record {
+      begins = subst (StandsAt p.merge p.cuts) c.in_default.is inv.stands;
+      on =
+          let on = inv.on in
+          let here = ap (turns_with (way p.merge)) c.in_default.is in
+          omega (arith, on, here);
+      found = λ told. sym (none-left (live_files g.R.Reads c.passed.src) p c.in_default.is) ∙ inv.found told;
     }

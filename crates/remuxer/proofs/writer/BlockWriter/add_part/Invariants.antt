@@ -1,12 +1,13 @@
-use Rattle.std.proofs.Common.{◌≡◌, ◌≤◌, ◌∷◌, []}
+use Rattle.std.proofs.Common.{◌≡◌, ◌≤◌, false, ◌∷◌, []}
 use Rattle.mkv_io.specs.Sources.{live_files}
 use Rattle.mkv_io.specs.Writing.{KeepsOthers}
 use Rattle.cluster_writer.specs.Gathered.{HoldsSmall}
 use Rattle.cues_seekhead.specs.OpenOutput.{IsOpen}
+use Rattle.splitter.specs.Steps.{start_of}
 use Rattle.time_merge.specs.Merge.{IsTold, way}
-use Rattle.remuxer.specs.Places.{IsIn, split_in}
+use Rattle.remuxer.specs.Places.{StandsAhead, is_within, turns}
 use Rattle.remuxer.specs.Taking.{GoesOn, TakesSome}
-use Rattle.remuxer.proofs.writer.BlockWriter.add_blocks.Given as goal
+use Rattle.remuxer.proofs.writer.BlockWriter.add_part.Given as goal
 
 abbrev pub invariant-steps : goal.invariant-steps
 invariant-steps g l = record {
@@ -15,13 +16,14 @@ invariant-steps g l = record {
   kept : KeepsOthers g.F.Reads g.F.Files (g.F.Files.holder l.initial.files l.initial.self.out.file.n ∷ []) l.initial.files l.files;
   held : HoldsSmall l.initial.self.buffer → HoldsSmall l.self.buffer;
   goes : GoesOn g.F.Reads 0 l.initial.files l.files l.initial.blocks l.blocks;
-  within : IsIn l.start l.blocks;
-  on : way l.blocks.merge ≤ way l.initial.blocks.merge;
+  stands : StandsAhead l.blocks;
+  on : is_within l.blocks.ahead ≡ false → turns l.blocks ≤ way l.initial.blocks.merge;
+  less : way l.blocks.merge ≤ way l.initial.blocks.merge;
   reading : g.F.Reads.reading_faults l.files ≡ g.F.Reads.reading_faults l.initial.files;
   writing : g.F.Files.writing_faults l.files ≡ g.F.Files.writing_faults l.initial.files;
   takes : IsTold (live_files g.F.Reads l.initial.files) l.initial.blocks.merge
-      → TakesSome g.F.Reads g.F.Files l.rules (split_in l.initial.blocks) l.start l.initial.files l.files l.initial.self l.self l.initial.blocks l.blocks;
+      → TakesSome g.F.Reads g.F.Files l.rules (start_of l.initial.blocks.cuts) l.initial.files l.files l.initial.self l.self l.initial.blocks l.blocks;
 }
 
 abbrev pub decreases-steps : goal.decreases-steps
-decreases-steps g l = way l.blocks.merge
+decreases-steps g l = turns l.blocks
