@@ -54,39 +54,52 @@ lanes-map : {A : Type 0} (v : LaneSeen → A) (qs : List Queue) → map (λ (q :
 lanes-map v [] = refl
 lanes-map v (q ∷ qs) = ap (λ rest. v q.lane ∷ rest) (lanes-map v qs)
 
-module _ {S : Type 0} (r : Ghosts S) (f : writing.Ghosts S) (a : S) (p : MergePlan) (plan : IsPlan r f a p) where
+-- The merge of a plan was started, with its cuts, and nothing was read.
+pub record IsMerged {S : Type 0} (r : Ghosts S) (a b : S) (p : MergePlan) (s : StartedLanes) (m : MergeSeen) (cuts : CutsSeen) (split : Bool) : Type 0 where
+  pub started : AreStarted p.limits.scale p.lanes s
+  pub starts : Starts (live_files r a) s.lanes m
+  pub begins : Begins s.lanes m
+  pub idle : b ≡ a
+  pub cut : cuts ≡ new_cuts p.split p.size p.limits.scale
+  pub same : split ≡ is_split p
+
+pub merged : {S : Type 0} (r : Ghosts S) {a b : S} (p : MergePlan) {s : StartedLanes} {m : MergeSeen} {cuts : CutsSeen} {split : Bool} → AreStarted p.limits.scale p.lanes s → Starts (live_files r a) s.lanes m → Begins s.lanes m → b ≡ a → cuts ≡ new_cuts p.split p.size p.limits.scale → split ≡ is_split p
+    → IsMerged r a b p s m cuts split
+merged r p started starts begins idle cut same = record { started = started; starts = starts; begins = begins; idle = idle; cut = cut; same = same }
+
+module _ {S : Type 0} {r : Ghosts S} {f : writing.Ghosts S} {a : S} {p : MergePlan} (plan : IsPlan r f a p) where
   -- all its lanes can be started
   pub plan-starts : All CanStart p.lanes
   plan-starts = λ k d inside. record { few = (plan.lanes k d inside).few; small = (plan.lanes k d inside).small }
 
-  module _ (s : StartedLanes) (m : MergeSeen) (started : AreStarted p.limits.scale p.lanes s) (starts : Starts (live_files r a) s.lanes m) (begins : Begins s.lanes m) where
+  module _ {b : S} {s : StartedLanes} {m : MergeSeen} {cuts : CutsSeen} {split : Bool} (it : IsMerged r a b p s m cuts split) where
     pub count-lanes : length s.lanes ≡ length p.lanes
-    count-lanes = count-started p.limits.scale p.lanes s.lanes started.lanes
+    count-lanes = count-started p.limits.scale p.lanes s.lanes it.started.lanes
 
     count-queues : length m.queues ≡ length s.lanes
-    count-queues = sym (length-map m.queues (λ (q : Queue). q.lane)) ∙ ap (λ (ls : List LaneSeen). length ls) begins.lanes
+    count-queues = sym (length-map m.queues (λ (q : Queue). q.lane)) ∙ ap (λ (ls : List LaneSeen). length ls) it.begins.lanes
 
     pub plan-few : length m.queues ≤ MOST_LANES
     plan-few = omega (arith, count-lanes, count-queues, plan.few)
 
     pub plan-inputs : length s.inputs ≡ length m.queues
-    plan-inputs = ap (λ (ns : List (List ℕ)). length ns) started.inputs ∙ length-map p.lanes (λ (l : PlannedLane). l.inputs) ∙ sym count-lanes ∙ sym count-queues
+    plan-inputs = ap (λ (ns : List (List ℕ)). length ns) it.started.inputs ∙ length-map p.lanes (λ (l : PlannedLane). l.inputs) ∙ sym count-lanes ∙ sym count-queues
 
     pub plan-ready : merges.IsReady (live_files r a) m
-    plan-ready = starts.ready (all-ready (live_files r a) p.limits.scale p.lanes s.lanes started.lanes (λ k d inside. (plan.lanes k d inside).live))
+    plan-ready = it.starts.ready (all-ready (live_files r a) p.limits.scale p.lanes s.lanes it.started.lanes (λ k d inside. (plan.lanes k d inside).live))
 
     pub plan-apart : IsUnwritten (f.holder a) (is_split p) p.output m
     plan-apart =
-        lanes-to (λ (l : LaneSeen). All (IsUnwrittenLink (f.holder a) (is_split p) p.output) l.links) m.queues s.lanes begins.lanes
-        (all-links (IsUnwrittenLink (f.holder a) (is_split p) p.output) p.limits.scale p.lanes s.lanes started.lanes (λ k d inside. (plan.lanes k d inside).apart))
+        lanes-to (λ (l : LaneSeen). All (IsUnwrittenLink (f.holder a) (is_split p) p.output) l.links) m.queues s.lanes it.begins.lanes
+        (all-links (IsUnwrittenLink (f.holder a) (is_split p) p.output) p.limits.scale p.lanes s.lanes it.started.lanes (λ k d inside. (plan.lanes k d inside).apart))
 
     -- its blocks, none of which was placed
     pub plan-gives : CanGive (live_files r a) (record { merge = m; cuts = new_cuts p.split p.size p.limits.scale; drives = s.drives; ahead = None })
     plan-gives = record {
       ready = plan-ready;
       few = plan-few;
-      drives = ap (λ (ds : List Bool). length ds) started.drives ∙ length-map p.lanes (λ (l : PlannedLane). l.drives) ∙ sym count-lanes ∙ sym count-queues;
-      scales = lanes-to (λ (l : LaneSeen). l.scale ≡ p.limits.scale) m.queues s.lanes begins.lanes (all-scales p.limits.scale p.lanes s.lanes started.lanes);
+      drives = ap (λ (ds : List Bool). length ds) it.started.drives ∙ length-map p.lanes (λ (l : PlannedLane). l.drives) ∙ sym count-lanes ∙ sym count-queues;
+      scales = lanes-to (λ (l : LaneSeen). l.scale ≡ p.limits.scale) m.queues s.lanes it.begins.lanes (all-scales p.limits.scale p.lanes s.lanes it.started.lanes);
       scale = plan.scale_most;
       early = omega arith;
       empty = λ none. refl;
@@ -95,79 +108,78 @@ module _ {S : Type 0} (r : Ghosts S) (f : writing.Ghosts S) (a : S) (p : MergePl
 
     pub plan-told : IsToldPlan (live_files r a) p → IsTold (live_files r a) m
     plan-told told =
-        lanes-to (λ (l : LaneSeen). All (IsToldLink (live_files r a)) l.links) m.queues s.lanes begins.lanes
-        (all-links (IsToldLink (live_files r a)) p.limits.scale p.lanes s.lanes started.lanes told)
+        lanes-to (λ (l : LaneSeen). All (IsToldLink (live_files r a)) l.links) m.queues s.lanes it.begins.lanes
+        (all-links (IsToldLink (live_files r a)) p.limits.scale p.lanes s.lanes it.started.lanes told)
 
     plan-left : left (live_files r a) m ≡ blocks_of (live_files r a) p
-    plan-left = starts.left ∙ started-merged (live_files r a) p.limits.scale (links_of p.lanes) s.lanes (are-started (live_files r a) p.limits.scale p.lanes s.lanes started.lanes)
+    plan-left = it.starts.left ∙ started-merged (live_files r a) p.limits.scale (links_of p.lanes) s.lanes (are-started (live_files r a) p.limits.scale p.lanes s.lanes it.started.lanes)
 
     pub plan-due : due (live_files r a) m ≡ inputs_length (live_files r a) p
-    plan-due = starts.due ∙ all-due (live_files r a) p.limits.scale p.lanes s.lanes started.lanes
+    plan-due = it.starts.due ∙ all-due (live_files r a) p.limits.scale p.lanes s.lanes it.started.lanes
 
     pub plan-length : files_length (live_files r a) m ≡ inputs_length (live_files r a) p
-    plan-length = starts.length ∙ all-lengths (live_files r a) p.limits.scale p.lanes s.lanes started.lanes
+    plan-length = it.starts.length ∙ all-lengths (live_files r a) p.limits.scale p.lanes s.lanes it.started.lanes
 
     plan-split : split_in (record { merge = m; cuts = new_cuts p.split p.size p.limits.scale; drives = s.drives; ahead = None }) ≡ split_of p
-    plan-split = ap (λ (drivers : List Bool). let x : Split = record { spec = p.split; size = p.size; scale = p.limits.scale; drives = drives_by drivers } in x) started.drives
+    plan-split = ap (λ (drivers : List Bool). let x : Split = record { spec = p.split; size = p.size; scale = p.limits.scale; drives = drives_by drivers } in x) it.started.drives
 
     -- its blocks and what its outputs have in common, as they were made of it
-    module _ (b : S) (idle : b ≡ a) (cuts : CutsSeen) (cut : cuts ≡ new_cuts p.split p.size p.limits.scale) (split : Bool) (same : split ≡ is_split p) where
-      abbrev pub started_blocks : PlacedBlocks
-      started_blocks = record { merge = m; cuts = cuts; drives = s.drives; ahead = None }
+    abbrev pub started_blocks : PlacedBlocks
+    started_blocks = record { merge = m; cuts = cuts; drives = s.drives; ahead = None }
 
-      abbrev pub started_spec : OutputSpec
-      started_spec = record { name = p.output; split = split; limits = p.limits; rules = s.rules; front = p.front; chapters = p.chapters; tags = p.tags; uuids = p.uuids; link = p.link }
+    abbrev pub started_spec : OutputSpec
+    started_spec = record { name = p.output; split = split; limits = p.limits; rules = s.rules; front = p.front; chapters = p.chapters; tags = p.tags; uuids = p.uuids; link = p.link }
 
-      -- the outputs can be written
-      pub plan-can : CanWriteAll r f b started_spec started_blocks
-      plan-can = subst (λ (x : S). CanWriteAll r f x started_spec started_blocks) (sym idle) (record {
-        gives = subst (λ (c : CutsSeen). CanGive (live_files r a) (record { merge = m; cuts = c; drives = s.drives; ahead = None })) (sym cut) plan-gives;
-        fresh = ap (λ (c : CutsSeen). c.start) cut;
-        scale = ap (λ (c : CutsSeen). c.scale) cut;
-        apart = subst (λ (q : Bool). IsUnwritten (f.holder a) q p.output m) (sym same) plan-apart;
-        records = subst (λ (q : Bool). HasRecords r f a (name_of q p.output 1) p.front p.chapters p.tags) (sym same) plan.records;
-      })
+    -- the outputs can be written
+    pub plan-can : CanWriteAll r f b started_spec started_blocks
+    plan-can = subst (λ (x : S). CanWriteAll r f x started_spec started_blocks) (sym it.idle) (record {
+      gives = subst (λ (c : CutsSeen). CanGive (live_files r a) (record { merge = m; cuts = c; drives = s.drives; ahead = None })) (sym it.cut) plan-gives;
+      fresh = ap (λ (c : CutsSeen). c.start) it.cut;
+      scale = ap (λ (c : CutsSeen). c.scale) it.cut;
+      apart = subst (λ (q : Bool). IsUnwritten (f.holder a) q p.output m) (sym it.same) plan-apart;
+      records = subst (λ (q : Bool). HasRecords r f a (name_of q p.output 1) p.front p.chapters p.tags) (sym it.same) plan.records;
+    })
 
-      -- they are those of the plan
-      plan-outputs : outputs_left (live_files r a) started_spec started_blocks ≡ outputs_in (live_files r a) p
-      plan-outputs =
-          ap (λ (c : CutsSeen). outputs_left (live_files r a) started_spec (record { merge = m; cuts = c; drives = s.drives; ahead = None })) cut
-          ∙ ap₂ (λ (each : Bool) (rules : List CueRule). outputs_left (live_files r a) (record { name = p.output; split = each; limits = p.limits; rules = rules; front = p.front; chapters = p.chapters; tags = p.tags; uuids = p.uuids; link = p.link })
-          (record { merge = m; cuts = new_cuts p.split p.size p.limits.scale; drives = s.drives; ahead = None })) same started.rules
-          ∙ ap₂ (λ (each : Split) (blocks : List OutputBlock). outputs_from (live_files r a) (spec_of p) 1 (parts each blocks)) plan-split plan-left
+    -- they are those of the plan
+    plan-outputs : outputs_left (live_files r a) started_spec started_blocks ≡ outputs_in (live_files r a) p
+    plan-outputs =
+        ap (λ (c : CutsSeen). outputs_left (live_files r a) started_spec (record { merge = m; cuts = c; drives = s.drives; ahead = None })) it.cut
+        ∙ ap₂ (λ (each : Bool) (rules : List CueRule). outputs_left (live_files r a) (record { name = p.output; split = each; limits = p.limits; rules = rules; front = p.front; chapters = p.chapters; tags = p.tags; uuids = p.uuids; link = p.link })
+        (record { merge = m; cuts = new_cuts p.split p.size p.limits.scale; drives = s.drives; ahead = None })) it.same it.started.rules
+        ∙ ap₂ (λ (each : Split) (blocks : List OutputBlock). outputs_from (live_files r a) (spec_of p) 1 (parts each blocks)) plan-split plan-left
 
-      -- they are written
-      pub plan-writes : {T : Type 0} (now : S) (result : Result T RemuxEnd) → WritesParts r f b now started_spec started_blocks result → WritesPlan r f a now p result
-      plan-writes now result writes told =
-          let here = subst (λ (x : S). WritesParts r f x now started_spec started_blocks result) idle writes in
-          subst (λ (outputs : List PlannedOutput). WritesOutputs (f.names a) (f.names now) outputs result) plan-outputs (here (plan-told told))
+    -- they are written
+    pub plan-writes : {T : Type 0} (now : S) (result : Result T RemuxEnd) → WritesParts r f b now started_spec started_blocks result → WritesPlan r f a now p result
+    plan-writes now result writes told =
+        let here = subst (λ (x : S). WritesParts r f x now started_spec started_blocks result) it.idle writes in
+        subst (λ (outputs : List PlannedOutput). WritesOutputs (f.names a) (f.names now) outputs result) plan-outputs (here (plan-told told))
 
-      -- and so it is said
-      pub plan-says : (written : List Written) → SaysWritten r b started_spec started_blocks (Ok written) → IsToldPlan (live_files r a) p → written ≡ map written_of (outputs_in (live_files r a) p)
-      plan-says written says told =
-          subst (λ (x : S). SaysWritten r x started_spec started_blocks (Ok written)) idle says (plan-told told) ∙ ap (map written_of) plan-outputs
+    -- and so it is said
+    pub plan-says : (written : List Written) → SaysWritten r b started_spec started_blocks (Ok written) → IsToldPlan (live_files r a) p → written ≡ map written_of (outputs_in (live_files r a) p)
+    plan-says written says told =
+        subst (λ (x : S). SaysWritten r x started_spec started_blocks (Ok written)) it.idle says (plan-told told) ∙ ap (map written_of) plan-outputs
 
-      -- so many octets are read
-      pub plan-reads : (now : S) → ReadsParts r b now started_spec started_blocks → ReadsFew r a now p
-      plan-reads now reads =
-          let here = subst (λ (x : S). ReadsParts r x now started_spec started_blocks) idle reads in
-          omega (arith, here, plan-due, plan-length)
+    -- so many octets are read
+    pub plan-reads : (now : S) → ReadsParts r b now started_spec started_blocks → ReadsFew r a now p
+    plan-reads now reads =
+        let here = subst (λ (x : S). ReadsParts r x now started_spec started_blocks) it.idle reads in
+        omega (arith, here, plan-due, plan-length)
 
-      -- and files of other names stay
-      pub plan-keeps : (now : S) → KeepsUnwritten r f split p.output b now → KeepsUnwritten r f (is_split p) p.output a now
-      plan-keeps now kept = subst (λ (x : S). KeepsUnwritten r f (is_split p) p.output x now) idle (subst (λ (q : Bool). KeepsUnwritten r f q p.output b now) same kept)
+    -- and files of other names stay
+    pub plan-keeps : (now : S) → KeepsUnwritten r f split p.output b now → KeepsUnwritten r f (is_split p) p.output a now
+    plan-keeps now kept = subst (λ (x : S). KeepsUnwritten r f (is_split p) p.output x now) it.idle (subst (λ (q : Bool). KeepsUnwritten r f q p.output b now) it.same kept)
 
-      pub plan-ends : (m' : MergeSeen) → Ends (live_files r b) m m' → Ends (live_files r a) m m'
-      plan-ends m' ends = subst (λ (x : S). Ends (live_files r x) m m') idle ends
+    pub plan-ends : (m' : MergeSeen) → Ends (live_files r b) m m' → Ends (live_files r a) m m'
+    plan-ends m' ends = subst (λ (x : S). Ends (live_files r x) m m') it.idle ends
 
     -- and so is the summary
     pub plan-summary : (m' : MergeSeen) (sum : Summary) → told_by m' ≡ damages (live_files r a) m → sum.outputs ≡ map written_of (outputs_in (live_files r a) p)
         → HasDamages s.inputs (told_by m') (range_with_len 0 MOST_INPUTS) sum → IsSummary (live_files r a) p sum
     plan-summary m' sum given outputs has = record {
       outputs = outputs;
-      damages = has.damages ∙ ap₂ (λ (ns : List (List ℕ)) (ts : List (List ToldDamages)). flat_map (λ input. first_damages input (damages_told ns ts input)) (range_with_len 0 MOST_INPUTS)) started.inputs told
+      damages = has.damages ∙ ap₂ (λ (ns : List (List ℕ)) (ts : List (List ToldDamages)). flat_map (λ input. first_damages input (damages_told ns ts input)) (range_with_len 0 MOST_INPUTS)) it.started.inputs told
           ∙ plan-damages (live_files r a) p.lanes first_damages (λ input. refl) numbered inputs;
-      more = has.more ∙ ap₂ (λ (ns : List (List ℕ)) (ts : List (List ToldDamages)). flat_map (λ input. more_damages input (damages_told ns ts input)) (range_with_len 0 MOST_INPUTS)) started.inputs told
+      more = has.more ∙ ap₂ (λ (ns : List (List ℕ)) (ts : List (List ToldDamages)). flat_map (λ input. more_damages input (damages_told ns ts input)) (range_with_len 0 MOST_INPUTS)) it.started.inputs told
           ∙ plan-damages (live_files r a) p.lanes more_damages (λ input. refl) numbered inputs;
     }
       where
@@ -179,5 +191,5 @@ module _ {S : Type 0} (r : Ghosts S) (f : writing.Ghosts S) (a : S) (p : MergePl
 
         told : told_by m' ≡ map (λ (l : PlannedLane). map told_damages (lane_damages (map (given_in (live_files r a)) l.spec.links))) p.lanes
         told =
-            given ∙ lanes-map (lanes.told_in_all (live_files r a)) m.queues ∙ ap (map (lanes.told_in_all (live_files r a))) begins.lanes
-            ∙ all-told (live_files r a) p.limits.scale p.lanes s.lanes started.lanes
+            given ∙ lanes-map (lanes.told_in_all (live_files r a)) m.queues ∙ ap (map (lanes.told_in_all (live_files r a))) it.begins.lanes
+            ∙ all-told (live_files r a) p.limits.scale p.lanes s.lanes it.started.lanes

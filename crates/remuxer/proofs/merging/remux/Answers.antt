@@ -9,7 +9,7 @@ use Rattle.remuxer.specs.Taking.{told_by}
 use Rattle.remuxer.specs.Told.{HasDamages}
 use Rattle.remuxer.proofs.OutputsLemmas.{all-in_turn, keeps-none}
 use Rattle.remuxer.proofs.PartLemmas.{whole-of}
-use Rattle.remuxer.proofs.PlanLemmas.{plan-can, plan-ends, plan-inputs, plan-keeps, plan-reads, plan-says, plan-summary, plan-told, plan-writes}
+use Rattle.remuxer.proofs.PlanLemmas.{merged, plan-can, plan-ends, plan-inputs, plan-keeps, plan-reads, plan-says, plan-summary, plan-told, plan-writes}
 use Rattle.remuxer.proofs.StartedLemmas.{count-started}
 use Rattle.remuxer.proofs.merging.remux.Goals as goal
 
@@ -21,12 +21,8 @@ new-cuts-requires g c = whole-of c.args.plan.size c.args.plan.split c.requires.l
 
 pub write_parts-requires : goal.write_parts-requires
 write_parts-requires g c =
-    let a = c.args.files.now in
-    let plan = c.args.plan in
-    let lanes = c.in_ok-lanes.field-0 in
-    let m = c.in_ok-merge.merge in
-    let starts = c.in_ok-merge.ensures.starts (live_files g.F.Reads a) in
-    plan-can g.F.Reads g.F.Files a plan c.requires lanes m c.in_ok-lanes.ensures starts c.in_ok-merge.ensures.begins _ c.in_ok-merge.ensures.idle c.new-cuts.result c.new-cuts.ensures c.is_split.result c.is_split.ensures
+    let it = merged g.F.Reads c.args.plan c.in_ok-lanes.ensures (c.in_ok-merge.ensures.starts (live_files g.F.Reads c.args.files.now)) c.in_ok-merge.ensures.begins c.in_ok-merge.ensures.idle c.new-cuts.ensures c.is_split.ensures in
+    plan-can c.requires it
 
 -- nothing was written before
 pub returns-in_err-merge-clause-kept : goal.returns-in_err-merge-clause-kept
@@ -38,109 +34,65 @@ returns-in_err-merge-clause-kept g c =
 pub returns-in_err-written-clause-output : goal.returns-in_err-written-clause-output
 returns-in_err-written-clause-output g c =
     let p = err_from_is_err_and c.from_residual-in_err-written.result c.from_residual-in_err-written.ensures.1 in
-    let a = c.args.files.now in
-    let plan = c.args.plan in
-    let lanes = c.in_ok-lanes.field-0 in
-    let m = c.in_ok-merge.merge in
-    let starts = c.in_ok-merge.ensures.starts (live_files g.F.Reads a) in
-    rw p.1 (plan-writes g.F.Reads g.F.Files a plan c.requires lanes m c.in_ok-lanes.ensures starts c.in_ok-merge.ensures.begins _ c.in_ok-merge.ensures.idle c.new-cuts.result c.new-cuts.ensures c.is_split.result c.is_split.ensures {T = List Written} c.write_parts.new.files (Err c.in_err-written.field-0.0) c.in_err-written.ensures.writes)
+    let it = merged g.F.Reads c.args.plan c.in_ok-lanes.ensures (c.in_ok-merge.ensures.starts (live_files g.F.Reads c.args.files.now)) c.in_ok-merge.ensures.begins c.in_ok-merge.ensures.idle c.new-cuts.ensures c.is_split.ensures in
+    rw p.1 (plan-writes c.requires it {T = List Written} c.write_parts.new.files (Err c.in_err-written.field-0.0) c.in_err-written.ensures.writes)
 
 pub returns-in_err-written-clause-kept : goal.returns-in_err-written-clause-kept
 returns-in_err-written-clause-kept g c =
-    let a = c.args.files.now in
-    let plan = c.args.plan in
-    let lanes = c.in_ok-lanes.field-0 in
-    let m = c.in_ok-merge.merge in
-    let starts = c.in_ok-merge.ensures.starts (live_files g.F.Reads a) in
-    plan-keeps g.F.Reads g.F.Files a plan c.requires lanes m c.in_ok-lanes.ensures starts c.in_ok-merge.ensures.begins _ c.in_ok-merge.ensures.idle c.new-cuts.result c.new-cuts.ensures c.is_split.result c.is_split.ensures c.write_parts.new.files c.in_err-written.ensures.kept
+    let it = merged g.F.Reads c.args.plan c.in_ok-lanes.ensures (c.in_ok-merge.ensures.starts (live_files g.F.Reads c.args.files.now)) c.in_ok-merge.ensures.begins c.in_ok-merge.ensures.idle c.new-cuts.ensures c.is_split.ensures in
+    plan-keeps c.requires it c.write_parts.new.files c.in_err-written.ensures.kept
 
 pub returns-in_err-written-clause-octets : goal.returns-in_err-written-clause-octets
 returns-in_err-written-clause-octets g c =
-    let a = c.args.files.now in
-    let plan = c.args.plan in
-    let lanes = c.in_ok-lanes.field-0 in
-    let m = c.in_ok-merge.merge in
-    let starts = c.in_ok-merge.ensures.starts (live_files g.F.Reads a) in
-    plan-reads g.F.Reads g.F.Files a plan c.requires lanes m c.in_ok-lanes.ensures starts c.in_ok-merge.ensures.begins _ c.in_ok-merge.ensures.idle c.new-cuts.result c.new-cuts.ensures c.is_split.result c.is_split.ensures c.write_parts.new.files c.in_err-written.ensures.octets
+    let it = merged g.F.Reads c.args.plan c.in_ok-lanes.ensures (c.in_ok-merge.ensures.starts (live_files g.F.Reads c.args.files.now)) c.in_ok-merge.ensures.begins c.in_ok-merge.ensures.idle c.new-cuts.ensures c.is_split.ensures in
+    plan-reads c.requires it c.write_parts.new.files c.in_err-written.ensures.octets
 
 -- ---- the summary
 
 pub summary_of-requires : goal.summary_of-requires
 summary_of-requires g c =
-    let a = c.args.files.now in
-    let plan = c.args.plan in
-    let lanes = c.in_ok-lanes.field-0 in
-    let m = c.in_ok-merge.merge in
-    let starts = c.in_ok-merge.ensures.starts (live_files g.F.Reads a) in
-    ap (λ (ns : List (List ℕ)). length ns) c.as_slice.ensures ∙ plan-inputs g.F.Reads g.F.Files a plan c.requires lanes m c.in_ok-lanes.ensures starts c.in_ok-merge.ensures.begins ∙ sym c.in_ok-written.ensures.ends.lanes
+    let it = merged g.F.Reads c.args.plan c.in_ok-lanes.ensures (c.in_ok-merge.ensures.starts (live_files g.F.Reads c.args.files.now)) c.in_ok-merge.ensures.begins c.in_ok-merge.ensures.idle c.new-cuts.ensures c.is_split.ensures in
+    ap (λ (ns : List (List ℕ)). length ns) c.as_slice.ensures ∙ plan-inputs c.requires it ∙ sym c.in_ok-written.ensures.ends.lanes
 
 -- there is no memory for it; the outputs stand
 pub returns-in_err-summary-clause-output : goal.returns-in_err-summary-clause-output
 returns-in_err-summary-clause-output g c = λ told.
     let p = err_from_is_err_and c.from_residual-in_err-summary.result c.from_residual-in_err-summary.ensures.1 in
     let a = c.args.files.now in
-    let plan = c.args.plan in
-    let lanes = c.in_ok-lanes.field-0 in
-    let m = c.in_ok-merge.merge in
-    let starts = c.in_ok-merge.ensures.starts (live_files g.F.Reads a) in
-    rw p.1 (all-in_turn (g.F.Files.names a) (g.F.Files.names c.write_parts.new.files) (outputs_in (live_files g.F.Reads a) plan) (plan-writes g.F.Reads g.F.Files a plan c.requires lanes m c.in_ok-lanes.ensures starts c.in_ok-merge.ensures.begins _ c.in_ok-merge.ensures.idle c.new-cuts.result c.new-cuts.ensures c.is_split.result c.is_split.ensures c.write_parts.new.files (Ok c.in_ok-written.written) c.in_ok-written.ensures.writes told))
+    let it = merged g.F.Reads c.args.plan c.in_ok-lanes.ensures (c.in_ok-merge.ensures.starts (live_files g.F.Reads c.args.files.now)) c.in_ok-merge.ensures.begins c.in_ok-merge.ensures.idle c.new-cuts.ensures c.is_split.ensures in
+    rw p.1 (all-in_turn (g.F.Files.names a) (g.F.Files.names c.write_parts.new.files) (outputs_in (live_files g.F.Reads a) c.args.plan) (plan-writes c.requires it c.write_parts.new.files (Ok c.in_ok-written.written) c.in_ok-written.ensures.writes told))
 
 pub returns-in_err-summary-clause-kept : goal.returns-in_err-summary-clause-kept
 returns-in_err-summary-clause-kept g c =
-    let a = c.args.files.now in
-    let plan = c.args.plan in
-    let lanes = c.in_ok-lanes.field-0 in
-    let m = c.in_ok-merge.merge in
-    let starts = c.in_ok-merge.ensures.starts (live_files g.F.Reads a) in
-    plan-keeps g.F.Reads g.F.Files a plan c.requires lanes m c.in_ok-lanes.ensures starts c.in_ok-merge.ensures.begins _ c.in_ok-merge.ensures.idle c.new-cuts.result c.new-cuts.ensures c.is_split.result c.is_split.ensures c.write_parts.new.files c.in_ok-written.ensures.kept
+    let it = merged g.F.Reads c.args.plan c.in_ok-lanes.ensures (c.in_ok-merge.ensures.starts (live_files g.F.Reads c.args.files.now)) c.in_ok-merge.ensures.begins c.in_ok-merge.ensures.idle c.new-cuts.ensures c.is_split.ensures in
+    plan-keeps c.requires it c.write_parts.new.files c.in_ok-written.ensures.kept
 
 pub returns-in_err-summary-clause-octets : goal.returns-in_err-summary-clause-octets
 returns-in_err-summary-clause-octets g c =
-    let a = c.args.files.now in
-    let plan = c.args.plan in
-    let lanes = c.in_ok-lanes.field-0 in
-    let m = c.in_ok-merge.merge in
-    let starts = c.in_ok-merge.ensures.starts (live_files g.F.Reads a) in
-    plan-reads g.F.Reads g.F.Files a plan c.requires lanes m c.in_ok-lanes.ensures starts c.in_ok-merge.ensures.begins _ c.in_ok-merge.ensures.idle c.new-cuts.result c.new-cuts.ensures c.is_split.result c.is_split.ensures c.write_parts.new.files c.in_ok-written.ensures.octets
+    let it = merged g.F.Reads c.args.plan c.in_ok-lanes.ensures (c.in_ok-merge.ensures.starts (live_files g.F.Reads c.args.files.now)) c.in_ok-merge.ensures.begins c.in_ok-merge.ensures.idle c.new-cuts.ensures c.is_split.ensures in
+    plan-reads c.requires it c.write_parts.new.files c.in_ok-written.ensures.octets
 
 -- ---- all was written
 
 pub returns-clause-output : goal.returns-clause-output
 returns-clause-output g c =
-    let a = c.args.files.now in
-    let plan = c.args.plan in
-    let lanes = c.in_ok-lanes.field-0 in
-    let m = c.in_ok-merge.merge in
-    let starts = c.in_ok-merge.ensures.starts (live_files g.F.Reads a) in
-    plan-writes g.F.Reads g.F.Files a plan c.requires lanes m c.in_ok-lanes.ensures starts c.in_ok-merge.ensures.begins _ c.in_ok-merge.ensures.idle c.new-cuts.result c.new-cuts.ensures c.is_split.result c.is_split.ensures c.write_parts.new.files (Ok c.in_ok-written.written) c.in_ok-written.ensures.writes
+    let it = merged g.F.Reads c.args.plan c.in_ok-lanes.ensures (c.in_ok-merge.ensures.starts (live_files g.F.Reads c.args.files.now)) c.in_ok-merge.ensures.begins c.in_ok-merge.ensures.idle c.new-cuts.ensures c.is_split.ensures in
+    plan-writes c.requires it c.write_parts.new.files (Ok c.in_ok-written.written) c.in_ok-written.ensures.writes
 
 pub returns-clause-kept : goal.returns-clause-kept
 returns-clause-kept g c =
-    let a = c.args.files.now in
-    let plan = c.args.plan in
-    let lanes = c.in_ok-lanes.field-0 in
-    let m = c.in_ok-merge.merge in
-    let starts = c.in_ok-merge.ensures.starts (live_files g.F.Reads a) in
-    plan-keeps g.F.Reads g.F.Files a plan c.requires lanes m c.in_ok-lanes.ensures starts c.in_ok-merge.ensures.begins _ c.in_ok-merge.ensures.idle c.new-cuts.result c.new-cuts.ensures c.is_split.result c.is_split.ensures c.write_parts.new.files c.in_ok-written.ensures.kept
+    let it = merged g.F.Reads c.args.plan c.in_ok-lanes.ensures (c.in_ok-merge.ensures.starts (live_files g.F.Reads c.args.files.now)) c.in_ok-merge.ensures.begins c.in_ok-merge.ensures.idle c.new-cuts.ensures c.is_split.ensures in
+    plan-keeps c.requires it c.write_parts.new.files c.in_ok-written.ensures.kept
 
 pub returns-clause-octets : goal.returns-clause-octets
 returns-clause-octets g c =
-    let a = c.args.files.now in
-    let plan = c.args.plan in
-    let lanes = c.in_ok-lanes.field-0 in
-    let m = c.in_ok-merge.merge in
-    let starts = c.in_ok-merge.ensures.starts (live_files g.F.Reads a) in
-    plan-reads g.F.Reads g.F.Files a plan c.requires lanes m c.in_ok-lanes.ensures starts c.in_ok-merge.ensures.begins _ c.in_ok-merge.ensures.idle c.new-cuts.result c.new-cuts.ensures c.is_split.result c.is_split.ensures c.write_parts.new.files c.in_ok-written.ensures.octets
+    let it = merged g.F.Reads c.args.plan c.in_ok-lanes.ensures (c.in_ok-merge.ensures.starts (live_files g.F.Reads c.args.files.now)) c.in_ok-merge.ensures.begins c.in_ok-merge.ensures.idle c.new-cuts.ensures c.is_split.ensures in
+    plan-reads c.requires it c.write_parts.new.files c.in_ok-written.ensures.octets
 
 pub returns-clause-summary : goal.returns-clause-summary
 returns-clause-summary g c = λ told.
-    let a = c.args.files.now in
-    let plan = c.args.plan in
-    let lanes = c.in_ok-lanes.field-0 in
-    let m = c.in_ok-merge.merge in
-    let starts = c.in_ok-merge.ensures.starts (live_files g.F.Reads a) in
+    let it = merged g.F.Reads c.args.plan c.in_ok-lanes.ensures (c.in_ok-merge.ensures.starts (live_files g.F.Reads c.args.files.now)) c.in_ok-merge.ensures.begins c.in_ok-merge.ensures.idle c.new-cuts.ensures c.is_split.ensures in
     let m' = c.write_parts.new.blocks.merge in
-    plan-summary g.F.Reads g.F.Files a plan c.requires lanes m c.in_ok-lanes.ensures starts c.in_ok-merge.ensures.begins m' c.in_ok-summary.summary
-    ((plan-ends g.F.Reads g.F.Files a plan c.requires lanes m c.in_ok-lanes.ensures starts c.in_ok-merge.ensures.begins _ c.in_ok-merge.ensures.idle c.new-cuts.result c.new-cuts.ensures c.is_split.result c.is_split.ensures m' c.in_ok-written.ensures.ends).damages (plan-told g.F.Reads g.F.Files a plan c.requires lanes m c.in_ok-lanes.ensures starts c.in_ok-merge.ensures.begins told))
-    (c.in_ok-summary.ensures.outputs ∙ plan-says g.F.Reads g.F.Files a plan c.requires lanes m c.in_ok-lanes.ensures starts c.in_ok-merge.ensures.begins _ c.in_ok-merge.ensures.idle c.new-cuts.result c.new-cuts.ensures c.is_split.result c.is_split.ensures c.in_ok-written.written c.in_ok-written.ensures.written told)
+    plan-summary c.requires it m' c.in_ok-summary.summary ((plan-ends c.requires it m' c.in_ok-written.ensures.ends).damages (plan-told c.requires it told))
+    (c.in_ok-summary.ensures.outputs ∙ plan-says c.requires it c.in_ok-written.written c.in_ok-written.ensures.written told)
     (subst (λ (ns : List (List ℕ)). HasDamages ns (told_by m') (range_with_len 0 MOST_INPUTS) c.in_ok-summary.summary) c.as_slice.ensures c.in_ok-summary.ensures.damages)
