@@ -1,7 +1,9 @@
 -- A lane: its links, and the walk over them.
-use Rattle.std.specs.Prelude.{◌≡◌, ℕ, ◌+◌, ◌<◌, ◌≤◌, ⊤, List, [], ◌∷◌, map, Result, Ok, Err}
+use Rattle.std.specs.Prelude.{◌≡◌, ℕ, ◌+◌, ◌<◌, ◌≤◌, ⊤, List, [], ◌∷◌, length, map, Result, Ok, Err}
 use Rattle.std.specs.List.{All}
+use Rattle.block_format.specs.declared.limits.TheConstants.{MOST_OF_BLOCK, MOST_REFERENCES}
 use Rattle.mkv_io.specs.declared.outside.ReadEnd.{ReadEnd}
+use Rattle.output_model.specs.declared.TheConstants.{MOST_OF_PREFIX}
 use Rattle.mkv_io.specs.Faults.{counted}
 use Rattle.mkv_io.specs.LiveFiles.{LiveFiles}
 use Rattle.cluster_reader.specs.ToldDamages.{ToldDamages, told_damages}
@@ -13,6 +15,7 @@ use Rattle.merge_model.specs.FileLinks.{IsOpenLink, IsToldLink, KeepsLink, given
 use Rattle.merge_model.specs.declared.link.Link.{Link}
 use Rattle.lanes.specs.Turns.{LendsBlock}
 use Rattle.lanes.specs.Walks as walks
+use Rattle.lanes.specs.declared.lane.LaneBlock.{LaneBlock}
 use Rattle.lanes.specs.declared.lane.LaneStep.{LaneStep}
 use Rattle.lanes.specs.declared.lane.LaneStep.TheVariants.{Block, End}
 use Rattle.lanes.specs.declared.walk.Walk.{Walk}
@@ -31,6 +34,18 @@ left f l = walks.left f l.scale l.links l.walk
 -- the damages of each link that will have been told in the end
 abbrev pub told_in_all : LiveFiles → LaneSeen → List ToldDamages
 told_in_all f l = walks.told_in_all f l.links l.walk
+
+-- a block that is lent, by what is seen of it
+abbrev pub as_lent : LaneBlock → Lent
+as_lent b = record { head = b.head.now; prefix = b.prefix.now; body = b.body.now; sizes = b.sizes.now; references = b.references.now; kept = b.kept.now }
+
+-- It has no more than a block may have.
+pub record HasFew (b : LaneBlock) : Type 0 where
+  pub prefix : length b.prefix.now ≤ MOST_OF_PREFIX
+  pub body : length b.body.now ≤ MOST_OF_BLOCK
+  pub sizes : length b.sizes.now ≤ 256
+  pub references : length b.references.now ≤ MOST_REFERENCES
+  pub kept : length b.kept.now ≤ MOST_OF_BLOCK
 
 -- what it lends
 abbrev pub lent : LaneSeen → Lent

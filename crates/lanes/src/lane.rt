@@ -6,11 +6,10 @@ ghost use Rattle.std.specs.Option.{option_copied};
 ghost use Rattle.mkv_io.specs.Faults.{HasCause, is_read_fault};
 ghost use Rattle.mkv_io.specs.LiveFiles.{LiveFiles};
 ghost use Rattle.mkv_io.specs.Sources.{live_files};
-ghost use Rattle.block_format.specs.declared.limits.TheConstants.{MOST_OF_BLOCK, MOST_REFERENCES};
-ghost use Rattle.output_model.specs.declared.TheConstants.{MOST_OF_PREFIX};
+ghost use Rattle.block_format.specs.declared.limits.TheConstants.{MOST_OF_BLOCK};
 ghost use Rattle.merge_model.specs.declared.limits.TheConstants.{MOST_LINKS};
 ghost use Rattle.merge_model.specs.FileLinks.{IsSmallEntry, IsSmallLink};
-ghost use Rattle.lanes.specs.Lane.{Begins, Gives, IsReady, IsTold, Moves, Pays, Starts, lent};
+ghost use Rattle.lanes.specs.Lane.{Begins, Gives, HasFew, IsReady, IsTold, Moves, Pays, Starts, as_lent, lent};
 ghost use Rattle.lanes.specs.Told.{link_damages, more_of};
 ghost use Rattle.lanes.specs.Walks.{text_of};
 
@@ -42,6 +41,19 @@ fn text_before(text: &TextLink, next: usize) -> &[u8]
         Some(entry) => entry.text.as_str().as_bytes(),
         None => &[],
     }
+}
+
+/// A block that a lane lends: what it says of itself; what stands in front of each of its frames; the octets of these, one
+/// behind the other, and how many each has; the ticks from it to the blocks that it refers to; and the octets of what else its
+/// group has, one Element behind the other, as they were found. A text has nothing in front, and nothing else.
+#[derive(Clone, Copy)]
+pub struct LaneBlock<'a> {
+    pub head: &'a OutHead,
+    pub prefix: &'a [u8],
+    pub body: &'a [u8],
+    pub sizes: &'a [u32],
+    pub references: &'a [i64],
+    pub kept: &'a [u8],
 }
 
 /// The blocks of one output track, one after the other.
@@ -147,58 +159,33 @@ impl Lane {
         &self.walk.placed.head
     }
 
-    /// What stands in front of each frame; of a text nothing.
-    pub fn prefix(&self) -> &[u8]
-        ensures exact { result.now ≡ (lent self.now).prefix }
-        ensures most { length result.now ≤ MOST_OF_PREFIX }
+    /// The block that it lends.
+    pub fn lent(&self) -> LaneBlock<'_>
+        ensures exact { as_lent result ≡ lent self.now }
+        ensures few { HasFew result }
     {
+        let mut block = LaneBlock {
+            head: self.head(),
+            prefix: &[],
+            body: &[],
+            sizes: &[],
+            references: self.walk.placed.references.as_slice(),
+            kept: &[],
+        };
         match (self.links.get(self.walk.at), &self.walk.cursor) {
-            (Some(Link::Track(track)), Some(_)) => track.prefix.as_slice(),
-            _ => &[],
+            (Some(Link::Track(track)), Some(cursor)) => {
+                block.prefix = track.prefix.as_slice();
+                block.body = cursor.body();
+                block.sizes = cursor.sizes();
+                block.kept = cursor.extra();
+            }
+            (Some(Link::Entries(text)), _) => {
+                block.body = text_before(text, self.walk.next);
+                block.sizes = &self.walk.placed.one_size;
+            }
+            _ => {}
         }
-    }
-
-    /// The octets of its frames, one behind the other.
-    pub fn body(&self) -> &[u8]
-        ensures exact { result.now ≡ (lent self.now).body }
-        ensures most { length result.now ≤ MOST_OF_BLOCK }
-    {
-        match (self.links.get(self.walk.at), &self.walk.cursor) {
-            (Some(Link::Track(_)), Some(cursor)) => cursor.body(),
-            (Some(Link::Entries(text)), _) => text_before(text, self.walk.next),
-            _ => &[],
-        }
-    }
-
-    /// How many octets each frame has.
-    pub fn sizes(&self) -> &[u32]
-        ensures exact { result.now ≡ (lent self.now).sizes }
-        ensures most { length result.now ≤ 256 }
-    {
-        match (self.links.get(self.walk.at), &self.walk.cursor) {
-            (Some(Link::Track(_)), Some(cursor)) => cursor.sizes(),
-            (Some(Link::Entries(_)), _) => &self.walk.placed.one_size,
-            _ => &[],
-        }
-    }
-
-    /// The ticks from it to the blocks that it refers to.
-    pub fn refs(&self) -> &[i64]
-        ensures exact { result.now ≡ (lent self.now).references }
-        ensures most { length result.now ≤ MOST_REFERENCES }
-    {
-        self.walk.placed.references.as_slice()
-    }
-
-    /// The octets of what else its group has, one Element behind the other, as they were found; of a text nothing.
-    pub fn extra(&self) -> &[u8]
-        ensures exact { result.now ≡ (lent self.now).kept }
-        ensures most { length result.now ≤ MOST_OF_BLOCK }
-    {
-        match (self.links.get(self.walk.at), &self.walk.cursor) {
-            (Some(Link::Track(_)), Some(cursor)) => cursor.extra(),
-            _ => &[],
-        }
+        block
     }
 
     /// How many blocks were given.

@@ -16,7 +16,7 @@ mod walk;
 mod walking;
 
 pub use found::{MOST_END, Survey};
-pub use lane::{Lane, LaneStep};
+pub use lane::{Lane, LaneBlock, LaneStep};
 pub use laws::{ended_lanes_have_told_all, lanes_stand_over_writes};
 pub use merge_model::{LaneSpec, Link, TextLink, TrackLink};
 pub use mkv_io::Entry;

@@ -29,12 +29,13 @@ fn load_of(cuts: &PartCuts, lane: &Lane) -> u64
     if !cuts.counts() {
         return 0;
     }
+    let block = lane.lent();
     element_len(
-        lane.head(),
-        lane.prefix().len(),
-        lane.sizes(),
-        lane.refs(),
-        lane.extra().len(),
+        block.head,
+        block.prefix.len(),
+        block.sizes,
+        block.references,
+        block.kept.len(),
     )
 }
 

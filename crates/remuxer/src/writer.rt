@@ -39,16 +39,16 @@ fn lent_by(lane: &Lane, k: usize, start: u64) -> LentBlock<'_>
     ensures block { block_of result ≡ in_part start (in_lane (k + 1) (lent_block (lent lane.now))) }
     ensures can { CanBePut result }
 {
-    let head = lane.head();
+    let block = lane.lent();
     LentBlock {
         lane: k as u8 + 1,
-        tick: head.tick.saturating_sub(start),
-        head,
-        prefix: lane.prefix(),
-        body: lane.body(),
-        sizes: lane.sizes(),
-        references: lane.refs(),
-        kept: lane.extra(),
+        tick: block.head.tick.saturating_sub(start),
+        head: block.head,
+        prefix: block.prefix,
+        body: block.body,
+        sizes: block.sizes,
+        references: block.references,
+        kept: block.kept,
     }
 }
 

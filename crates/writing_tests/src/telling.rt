@@ -21,7 +21,7 @@ pub struct Told {
 
 /// The block that a lane of this number lends.
 fn given(k: usize, lane: &Lane) -> Given {
-    let body = lane.body();
+    let body = lane.lent().body;
     (k, lane.head().tick, body.len(), body.last().copied())
 }
 
