@@ -118,7 +118,7 @@ pub record Reads (links : List Link) (t : TrackLink) (old new : Walk) (c d : Rea
   pub before : old.cursor ≡ Some c
   pub now : new.cursor ≡ Some d
 
-module _ (links : List Link) (t : TrackLink) (old new : Walk) (c d : Reading) (is : Reads links t old new c d) where
+module _ {links : List Link} {t : TrackLink} {old new : Walk} {c d : Reading} (is : Reads links t old new c d) where
   at_new : slice_get links new.at ≡ Some (Track t)
   at_new = ap (slice_get links) is.same ∙ is.at
 
@@ -146,13 +146,13 @@ module _ (links : List Link) (t : TrackLink) (old new : Walk) (c d : Reading) (i
       let will : track_way t new.cursor ≡ track_way t (Some d) = ap (track_way t) is.now in
       omega arith)
 
-module _ (f : LiveFiles) (scale : ℕ) (links : List Link) (t : TrackLink) (old new : Walk) (c d : Reading) (is : Reads links t old new c d) where
+module _ (f : LiveFiles) (scale : ℕ) {links : List Link} {t : TrackLink} {old new : Walk} {c d : Reading} (is : Reads links t old new c d) where
   -- what its link has left
   was : links_left f links old ≡ track_behind t old.frames old.stopped (left_of (octets_in f t.file.n) c) ∷ later f links old.at
   was = links_left-at f links old (Track t) is.at ∙ ap (λ each. track_left f t old.frames old.stopped each ∷ later f links old.at) is.before
 
   now : links_left f links new ≡ track_behind t new.frames new.stopped (left_of (octets_in f t.file.n) d) ∷ later f links old.at
-  now = links_left-at f links new (Track t) (at_new links t old new c d is)
+  now = links_left-at f links new (Track t) (at_new is)
       ∙ ap (λ each. track_left f t new.frames new.stopped each ∷ later f links new.at) is.now
       ∙ ap (λ (k : ℕ). track_behind t new.frames new.stopped (left_of (octets_in f t.file.n) d) ∷ later f links k) is.same
 
@@ -207,7 +207,7 @@ module _ (f : LiveFiles) (scale : ℕ) (links : List Link) (t : TrackLink) (old 
       blocks =
           left-gives f scale links old new _ _ (track_lent t d.block new.placed) block-stays
           (block-blocks ∙ ap (λ bs. bs ++ given_blocks scale (track_behind t new.frames new.stopped (left_of (octets_in f t.file.n) d))) placed.block) placed.order greatest
-          ∙ ap (λ l. lent_ordered l ∷ left f scale links new) (sym (lent-here links t old new c d is));
+          ∙ ap (λ l. lent_ordered l ∷ left f scale links new) (sym (lent-here is));
       damages = block-told;
     }
 
@@ -348,7 +348,7 @@ pub record ReadsText (links : List Link) (t : TextLink) (old new : Walk) (e : En
   pub next : new.next ≡ old.next + 1
   pub told : new.told ≡ old.told
 
-module _ (links : List Link) (t : TextLink) (old new : Walk) (e : Entry) (is : ReadsText links t old new e) where
+module _ {links : List Link} {t : TextLink} {old new : Walk} {e : Entry} (is : ReadsText links t old new e) where
   text_new : slice_get links new.at ≡ Some (Entries t)
   text_new = ap (slice_get links) is.same ∙ is.at
 
@@ -365,13 +365,13 @@ module _ (links : List Link) (t : TextLink) (old new : Walk) (e : Entry) (is : R
   pub text-pays : (f : LiveFiles) → due f links new ≤ due f links old
   text-pays f = let less : 0 + due f links new ≤ 0 + due f links old = due-stays f links (Entries t) old new 0 0 is.at is.same (omega arith) in omega arith
 
-module _ (f : LiveFiles) (scale : ℕ) (links : List Link) (t : TextLink) (old new : Walk) (e : Entry) (is : ReadsText links t old new e) where
+module _ (f : LiveFiles) (scale : ℕ) {links : List Link} {t : TextLink} {old new : Walk} {e : Entry} (is : ReadsText links t old new e) where
   text-stays : Stays f links old new (text_with t (e ∷ drop (suc old.next) t.entries)) (text_with t (drop (suc old.next) t.entries))
   text-stays = record {
     rest = later f links old.at;
     was = links_left-at f links old (Entries t) is.at ∙ ap (λ es. text_with t es ∷ later f links old.at) (drop-at t.entries old.next e is.here);
     now =
-        links_left-at f links new (Entries t) (text_new links t old new e is)
+        links_left-at f links new (Entries t) (text_new is)
         ∙ ap (λ (k : ℕ). text_with t (drop k t.entries) ∷ later f links new.at) (is.next ∙ add-one old.next)
         ∙ ap (λ (k : ℕ). text_with t (drop (suc old.next) t.entries) ∷ later f links k) is.same;
     stops = refl;
@@ -390,7 +390,7 @@ module _ (f : LiveFiles) (scale : ℕ) (links : List Link) (t : TextLink) (old n
   text-gives placed greatest = record {
     blocks =
         left-gives f scale links old new _ _ (text_lent e.text new.placed) text-stays (ap (λ bs. bs ++ given_blocks scale (text_with t (drop (suc old.next) t.entries))) placed.block) placed.order greatest
-        ∙ ap (λ l. lent_ordered l ∷ left f scale links new) (sym (text-here links t old new e is));
+        ∙ ap (λ l. lent_ordered l ∷ left f scale links new) (sym (text-here is));
     damages = told-passes f links old new _ _ text-stays refl is.told;
   }
 

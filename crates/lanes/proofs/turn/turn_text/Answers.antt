@@ -1,4 +1,4 @@
-use Rattle.std.proofs.Common.{length, ◌<◌, ◌≤◌, ◌+◌, ◌^◌, refl, sym, arith}
+use Rattle.std.proofs.Common.{◌≡◌, length, ◌<◌, ◌≤◌, ◌+◌, ◌^◌, refl, sym, arith}
 use Rattle.std.proofs.lemmas.Option.{slice_get_within}
 use Rattle.merge_model.specs.FileLinks.{IsSmallEntry, IsSmallLink}
 use Rattle.lanes.specs.Placed.{text_lent}
@@ -7,6 +7,7 @@ use Rattle.lanes.specs.declared.walk.Walk.{Walk}
 use Rattle.lanes.proofs.TrackLemmas as turns
 use Rattle.lanes.proofs.WalkLemmas.{has-left}
 use Rattle.lanes.proofs.turn.turn_text.Goals as goal
+use Rattle.lanes.proofs.turn.turn_text.Goals.{After-place_entry}
 
 -- ---- past the last entry
 
@@ -43,51 +44,50 @@ place_entry-requires-clause-small c =
     (turns.all-at IsSmallLink c.args.links.now c.args.walk.now.at (Entries c.args.text.now) c.requires.small c.requires.here).entries
     (sym c.in-Some.ensures)
 
+reads : (c : After-place_entry) (new : Walk) → new.at ≡ c.args.walk.now.at → new.next ≡ c.args.walk.now.next + 1 → new.told ≡ c.args.walk.now.told → turns.ReadsText c.args.links.now c.args.text.now c.args.walk.now new c.in-Some.entry.now
+reads c new same next told = record { at = c.requires.here; same = same; here = sym c.in-Some.ensures; next = next; told = told }
+
+-- it is dropped
+abbrev behind : After-place_entry → Walk
+behind c = record c.args.walk.now { next = c.args.walk.now.next + 1; placed = c.place_entry.new.placed }
+
 pub returns-else-place_entry-clause-gives : goal.returns-else-place_entry-clause-gives
 returns-else-place_entry-clause-gives c = λ f ready.
-    let w = c.args.walk.now in
-    let new : Walk = record w { next = w.next + 1; placed = c.place_entry.new.placed } in
-    let reads : turns.ReadsText c.args.links.now c.args.text.now w new c.in-Some.entry.now = record { at = c.requires.here; same = refl; here = sym c.in-Some.ensures; next = refl; told = refl } in
-    turns.text-other f c.args.scale c.args.links.now c.args.text.now w new c.in-Some.entry.now reads refl (rw c.if-place_entry.false at c.place_entry.ensures.becomes)
+    let after = (goal.at.returns-else-place_entry-clause-gives c).After-place_entry in
+    turns.text-other f c.args.scale (reads after (behind after) refl refl refl) refl (rw c.if-place_entry.false at c.place_entry.ensures.becomes)
 
 pub returns-else-place_entry-clause-moves : goal.returns-else-place_entry-clause-moves
 returns-else-place_entry-clause-moves c =
-    let w = c.args.walk.now in
-    let new : Walk = record w { next = w.next + 1; placed = c.place_entry.new.placed } in
-    let reads : turns.ReadsText c.args.links.now c.args.text.now w new c.in-Some.entry.now = record { at = c.requires.here; same = refl; here = sym c.in-Some.ensures; next = refl; told = refl } in
-    record { on = turns.text-on c.args.links.now c.args.text.now w new c.in-Some.entry.now reads; lends = tt }
+    let after = (goal.at.returns-else-place_entry-clause-moves c).After-place_entry in
+    record { on = turns.text-on (reads after (behind after) refl refl refl); lends = tt }
 
 pub returns-else-place_entry-clause-pays : goal.returns-else-place_entry-clause-pays
-returns-else-place_entry-clause-pays c = λ f.
-    let w = c.args.walk.now in
-    let new : Walk = record w { next = w.next + 1; placed = c.place_entry.new.placed } in
-    let reads : turns.ReadsText c.args.links.now c.args.text.now w new c.in-Some.entry.now = record { at = c.requires.here; same = refl; here = sym c.in-Some.ensures; next = refl; told = refl } in
-    turns.text-pays c.args.links.now c.args.text.now w new c.in-Some.entry.now reads f
+returns-else-place_entry-clause-pays c =
+    let after = (goal.at.returns-else-place_entry-clause-pays c).After-place_entry in
+    turns.text-pays (reads after (behind after) refl refl refl)
+
+-- it is given
+abbrev given : After-place_entry → Walk
+given c = record c.args.walk.now { next = c.args.walk.now.next + 1; placed = c.place_entry.new.placed; greatest = c.place_entry.new.placed.head.order }
 
 pub returns-then-place_entry-clause-gives : goal.returns-then-place_entry-clause-gives
 returns-then-place_entry-clause-gives c = λ f ready.
-    let w = c.args.walk.now in
-    let new : Walk = record w { next = w.next + 1; placed = c.place_entry.new.placed; greatest = c.place_entry.new.placed.head.order } in
-    let reads : turns.ReadsText c.args.links.now c.args.text.now w new c.in-Some.entry.now = record { at = c.requires.here; same = refl; here = sym c.in-Some.ensures; next = refl; told = refl } in
-    turns.text-gives f c.args.scale c.args.links.now c.args.text.now w new c.in-Some.entry.now reads (rw c.if-place_entry.true at c.place_entry.ensures.becomes) refl
+    let after = (goal.at.returns-then-place_entry-clause-gives c).After-place_entry in
+    turns.text-gives f c.args.scale (reads after (given after) refl refl refl) (rw c.if-place_entry.true at c.place_entry.ensures.becomes) refl
 
 pub returns-then-place_entry-clause-moves : goal.returns-then-place_entry-clause-moves
 returns-then-place_entry-clause-moves c =
-    let w = c.args.walk.now in
-    let new : Walk = record w { next = w.next + 1; placed = c.place_entry.new.placed; greatest = c.place_entry.new.placed.head.order } in
-    let reads : turns.ReadsText c.args.links.now c.args.text.now w new c.in-Some.entry.now = record { at = c.requires.here; same = refl; here = sym c.in-Some.ensures; next = refl; told = refl } in
+    let after = (goal.at.returns-then-place_entry-clause-moves c).After-place_entry in
+    let it = reads after (given after) refl refl refl in
     record {
-      on = turns.text-on c.args.links.now c.args.text.now w new c.in-Some.entry.now reads;
-      lends = turns.lends-here c.args.scale c.args.links.now new (text_lent c.in-Some.entry.now.text c.place_entry.new.placed) (turns.text-here c.args.links.now c.args.text.now w new c.in-Some.entry.now reads)
-          (rw c.if-place_entry.true at c.place_entry.ensures.lent) (rw c.if-place_entry.true at c.place_entry.ensures.ticks) refl;
+      on = turns.text-on it;
+      lends = turns.lends-here c.args.scale c.args.links.now (given after) (text_lent c.in-Some.entry.now.text c.place_entry.new.placed) (turns.text-here it) (rw c.if-place_entry.true at c.place_entry.ensures.lent) (rw c.if-place_entry.true at c.place_entry.ensures.ticks) refl;
     }
 
 pub returns-then-place_entry-clause-pays : goal.returns-then-place_entry-clause-pays
-returns-then-place_entry-clause-pays c = λ f.
-    let w = c.args.walk.now in
-    let new : Walk = record w { next = w.next + 1; placed = c.place_entry.new.placed; greatest = c.place_entry.new.placed.head.order } in
-    let reads : turns.ReadsText c.args.links.now c.args.text.now w new c.in-Some.entry.now = record { at = c.requires.here; same = refl; here = sym c.in-Some.ensures; next = refl; told = refl } in
-    turns.text-pays c.args.links.now c.args.text.now w new c.in-Some.entry.now reads f
+returns-then-place_entry-clause-pays c =
+    let after = (goal.at.returns-then-place_entry-clause-pays c).After-place_entry in
+    turns.text-pays (reads after (given after) refl refl refl)
 
 pub overflow_add-walk : goal.overflow_add-walk
 overflow_add-walk c =

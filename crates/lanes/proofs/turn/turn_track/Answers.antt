@@ -1,13 +1,18 @@
-use Rattle.std.proofs.Common.{◌≡◌, ℕ, ◌+◌, ◌*◌, ◌≤◌, List, length, Some, None, Ok, Err, Bool, ◌<◌, refl, sym, ◌∙◌, ap, subst, arith}
+use Rattle.std.proofs.Common.{◌≡◌, ℕ, ◌+◌, ◌*◌, ◌≤◌, List, length, Some, None, Result, Ok, Err, Bool, ◌<◌, refl, sym, ◌∙◌, ap, subst, arith}
 use Rattle.std.specs.Prelude.{◌||◌}
 use Rattle.std.proofs.Math.ListN.{length-set}
 use Rattle.std.proofs.lemmas.Option.{slice_get_within, slice_get_read}
 use Rattle.mkv_io.specs.declared.outside.FileId.{FileId}
 use Rattle.mkv_io.specs.Sources.{live_files}
 use Rattle.block_records.specs.Buffered.{block_of}
-use Rattle.cluster_reader.specs.Reading.{left_of}
+use Rattle.cluster_reader.specs.Reading.{CanRead, GivesWanted, left_of}
+use Rattle.cluster_reader.specs.declared.step.Step.{Step}
+use Rattle.cluster_reader.specs.declared.takes.Takes.TheVariants as takes
+use Rattle.mkv_io.specs.Told.{Told}
+use Rattle.mkv_io.specs.declared.outside.ReadEnd.{ReadEnd}
+use Rattle.std.specs.List.{All}
 use Rattle.output_model.specs.OutputBlock.{OutputBlock}
-use Rattle.merge_model.specs.FileLinks.{IsOpenLink, IsSmallLink, octets_in, track_events}
+use Rattle.merge_model.specs.FileLinks.{IsOpenLink, IsSmallLink, IsToldLink, octets_in, track_events}
 use Rattle.mkv_io.specs.declared.outside.TheConstants.{LONGEST_FILE}
 use Rattle.lanes.specs.Lent.{IsPlaced}
 use Rattle.lanes.specs.Placed.{track_lent, track_placed}
@@ -16,8 +21,9 @@ use Rattle.lanes.specs.declared.walk.Walk.{Walk}
 use Rattle.std.specs.Vec.{with_item}
 use Rattle.lanes.proofs.TrackLemmas as turns
 use Rattle.lanes.proofs.WalkLemmas.{has-left}
+use Rattle.lanes.proofs.turn.turn_track.Given.{Over}
 use Rattle.lanes.proofs.turn.turn_track.Goals as goal
-use Rattle.lanes.proofs.turn.turn_track.Goals.{then-stopped, else-stopped}
+use Rattle.lanes.proofs.turn.turn_track.Goals.{After-add, After-advance_for, After-place_block, then-stopped, else-stopped}
 
 -- ---- the cursor is opened
 
@@ -69,181 +75,181 @@ returns-in_default-clause-pays g c =
     let d = c.in_ok-cursor.cursor in
     turns.opened-pays f c.args.scale c.args.links.now c.args.track.now w (record w { cursor = Some d }) d c.requires.here (sym c.in_default.ensures.value) refl (g.R.Reads.octets_read c.args.src.now)
 
--- ---- its call is refused
+-- ---- its call
+
+-- it reads the track's file
+at : (g : Over) (c : After-advance_for g) → CanRead (live_files g.R.Reads c.args.src.now) c.in-Some.cursor.now × (c.in-Some.cursor.now.file ≡ c.args.track.now.file)
+at g c = turns.at-track (live_files g.R.Reads c.args.src.now) c.args.links.now c.args.walk.now c.args.track.now c.in-Some.cursor.now c.requires.ready c.requires.here (sym c.in-Some.ensures.value)
+
+reads : (g : Over) (c : After-advance_for g) (new : Walk) → new.at ≡ c.args.walk.now.at → new.cursor ≡ Some c.advance_for.new.self → turns.Reads c.args.links.now c.args.track.now c.args.walk.now new c.in-Some.cursor.now c.advance_for.new.self
+reads g c new same now = record { at = c.requires.here; same = same; before = sym c.in-Some.ensures.value; now = now }
+
+given_by : (g : Over) (c : After-advance_for g) (result : Result Step ReadEnd) → All (IsToldLink (live_files g.R.Reads c.args.src.now)) c.args.links.now
+    → Told ((live_files g.R.Reads c.args.src.now).content c.in-Some.cursor.now.file.n) (λ bytes. GivesWanted (takes.Track c.args.track.now.number) bytes c.in-Some.cursor.now c.advance_for.new.self result)
+    → GivesWanted (takes.Track c.args.track.now.number) (octets_in (live_files g.R.Reads c.args.src.now) c.args.track.now.file.n) c.in-Some.cursor.now c.advance_for.new.self result
+given_by g c result told gives = turns.cursor-gives (live_files g.R.Reads c.args.src.now) c.args.links.now c.args.walk.now.at c.args.track.now c.in-Some.cursor.now c.advance_for.new.self result told c.requires.here (at g c).1 gives
+
+few : (g : Over) (c : After-advance_for g) → c.args.walk.now.frames ≤ 256 * c.in-Some.cursor.now.place.at
+few g c = turns.few-counted (live_files g.R.Reads c.args.src.now) c.args.links.now c.args.walk.now c.in-Some.cursor.now c.requires.ready (sym c.in-Some.ensures.value)
+
+-- ---- it is refused
 
 pub returns-in_err-advance_for-clause-gives : goal.returns-in_err-advance_for-clause-gives
 returns-in_err-advance_for-clause-gives g c = λ told.
-    let f = live_files g.R.Reads c.args.src.now in
-    let w = c.args.walk.now in
-    let t = c.args.track.now in
-    let old = c.in-Some.cursor.now in
-    let d = c.advance_for.new.self in
-    let new : Walk = record w { cursor = Some d } in
-    let at = turns.at-track f c.args.links.now w t old c.requires.ready c.requires.here (sym c.in-Some.ensures.value) in
-    let reads : turns.Reads c.args.links.now t w new old d = record { at = c.requires.here; same = refl; before = sym c.in-Some.ensures.value; now = refl } in
-    let gives = turns.cursor-gives f c.args.links.now w.at t old d (Err c.in_err-advance_for.field-0.0) told c.requires.here at.1 c.in_err-advance_for.ensures.gives in
-    turns.turns-same f c.args.scale c.args.links.now t w new old d reads refl refl refl refl gives c.from_residual-in_err-advance_for.result c.from_residual-in_err-advance_for.ensures.0
+    let after = (goal.at.returns-in_err-advance_for-clause-gives g c).After-advance_for in
+    let new : Walk = record c.args.walk.now { cursor = Some c.advance_for.new.self } in
+    let gives = given_by g after (Err c.in_err-advance_for.field-0.0) told c.in_err-advance_for.ensures.gives in
+    turns.turns-same (live_files g.R.Reads c.args.src.now) c.args.scale (reads g after new refl refl) refl refl refl refl gives c.from_residual-in_err-advance_for.result c.from_residual-in_err-advance_for.ensures.0
+
+pub returns-in_err-advance_for-clause-ready : goal.returns-in_err-advance_for-clause-ready
+returns-in_err-advance_for-clause-ready g c =
+    let after = (goal.at.returns-in_err-advance_for-clause-ready g c).After-advance_for in
+    let new : Walk = record c.args.walk.now { cursor = Some c.advance_for.new.self } in
+    let says = c.in_err-advance_for.ensures in
+    turns.ready-reads (reads g after new refl refl) (live_files g.R.Reads c.args.src.now) (live_files g.R.Reads c.advance_for.new.src) (ap g.R.Reads.files says.standing) c.requires.ready says.stands (says.moves.same.file ∙ (at g after).1) refl (omega (arith, few g after, says.moves.same.forwards))
 
 pub returns-in_err-advance_for-clause-pays : goal.returns-in_err-advance_for-clause-pays
 returns-in_err-advance_for-clause-pays g c =
-    let f = live_files g.R.Reads c.args.src.now in
-    let w = c.args.walk.now in
-    let t = c.args.track.now in
-    let old = c.in-Some.cursor.now in
-    let d = c.advance_for.new.self in
-    let new : Walk = record w { cursor = Some d } in
-    let at = turns.at-track f c.args.links.now w t old c.requires.ready c.requires.here (sym c.in-Some.ensures.value) in
-    let reads : turns.Reads c.args.links.now t w new old d = record { at = c.requires.here; same = refl; before = sym c.in-Some.ensures.value; now = refl } in
-    turns.refused-pays f c.args.scale c.args.links.now t w new old d reads at.1 (g.R.Reads.octets_read c.args.src.now) (g.R.Reads.octets_read c.advance_for.new.src) c.from_residual-in_err-advance_for.result c.from_residual-in_err-advance_for.ensures.0 c.in_err-advance_for.ensures.spends.pays c.in_err-advance_for.ensures.spends.most
+    let after = (goal.at.returns-in_err-advance_for-clause-pays g c).After-advance_for in
+    let new : Walk = record c.args.walk.now { cursor = Some c.advance_for.new.self } in
+    let spends = c.in_err-advance_for.ensures.spends in
+    turns.refused-pays (live_files g.R.Reads c.args.src.now) c.args.scale (reads g after new refl refl) (at g after).1 (g.R.Reads.octets_read c.args.src.now) (g.R.Reads.octets_read c.advance_for.new.src) c.from_residual-in_err-advance_for.result c.from_residual-in_err-advance_for.ensures.0 spends.pays spends.most
 
 -- ---- a block
 
 pub place_block-requires-clause-small : goal.place_block-requires-clause-small
 place_block-requires-clause-small g c = turns.all-at IsSmallLink c.args.links.now c.args.walk.now.at (Track c.args.track.now) c.requires.small c.requires.here
 
+-- in no lane, or dropped
+abbrev behind : (g : Over) (c : After-place_block g) → Walk
+behind g c = record c.args.walk.now { cursor = Some c.advance_for.new.self; frames = c.args.walk.now.frames + c.frames_of.result; placed = c.place_block.new.placed }
+
 pub returns-else-place_block-clause-gives : goal.returns-else-place_block-clause-gives
 returns-else-place_block-clause-gives g c = λ told.
-    let f = live_files g.R.Reads c.args.src.now in
+    let after = (goal.at.returns-else-place_block-clause-gives g c).After-advance_for in
+    let new = behind g (goal.at.returns-else-place_block-clause-gives g c).After-place_block in
     let w = c.args.walk.now in
-    let t = c.args.track.now in
-    let old = c.in-Some.cursor.now in
-    let d = c.advance_for.new.self in
-    let new : Walk = record w { cursor = Some d; frames = w.frames + c.frames_of.result; placed = c.place_block.new.placed } in
-    let at = turns.at-track f c.args.links.now w t old c.requires.ready c.requires.here (sym c.in-Some.ensures.value) in
-    let reads : turns.Reads c.args.links.now t w new old d = record { at = c.requires.here; same = refl; before = sym c.in-Some.ensures.value; now = refl } in
-    let gives = turns.cursor-gives f c.args.links.now w.at t old d (Ok c.in_ok-advance_for.field-0) told c.requires.here at.1 c.in_ok-advance_for.ensures.gives in
-    let given = rw c.in-Block.is at gives in
-    let same = turns.known-same t given.given d.block given.known (rw c.in-Block.is at c.in_ok-advance_for.ensures.moves.lends) in
-    turns.turns-other f c.args.scale c.args.links.now t w new old d reads given.given (ap (λ (n : ℕ). w.frames + n) (c.frames_of.ensures.exact ∙ sym same.frames)) refl refl given.left refl
+    let given = rw c.in-Block.is at (given_by g after (Ok c.in_ok-advance_for.field-0) told c.in_ok-advance_for.ensures.gives) in
+    let same = turns.known-same c.args.track.now given.given c.advance_for.new.self.block given.known (rw c.in-Block.is at c.in_ok-advance_for.ensures.moves.lends) in
+    turns.turns-other (live_files g.R.Reads c.args.src.now) c.args.scale (reads g after new refl refl) given.given (ap (λ (n : ℕ). w.frames + n) (c.frames_of.ensures.exact ∙ sym same.frames)) refl refl given.left refl
     (same.placed c.args.scale w.frames ∙ (rw c.if-place_block.false at c.place_block.ensures.becomes))
 
 pub returns-else-place_block-clause-moves : goal.returns-else-place_block-clause-moves
 returns-else-place_block-clause-moves g c =
-    let f = live_files g.R.Reads c.args.src.now in
-    let w = c.args.walk.now in
-    let t = c.args.track.now in
-    let old = c.in-Some.cursor.now in
-    let d = c.advance_for.new.self in
-    let new : Walk = record w { cursor = Some d; frames = w.frames + c.frames_of.result; placed = c.place_block.new.placed } in
-    let reads : turns.Reads c.args.links.now t w new old d = record { at = c.requires.here; same = refl; before = sym c.in-Some.ensures.value; now = refl } in
+    let after = (goal.at.returns-else-place_block-clause-moves g c).After-advance_for in
+    let new = behind g (goal.at.returns-else-place_block-clause-moves g c).After-place_block in
     let moves = c.in_ok-advance_for.ensures.moves in
-    record {
-      on = turns.reads-on c.args.links.now t w new old d reads (rw c.in-Block.is at moves.on) moves.inside moves.same.end;
-      lends = tt;
-    }
+    record { on = turns.reads-on (reads g after new refl refl) (rw c.in-Block.is at moves.on) moves.inside moves.same.end; lends = tt }
+
+pub returns-else-place_block-clause-ready : goal.returns-else-place_block-clause-ready
+returns-else-place_block-clause-ready g c =
+    let after = (goal.at.returns-else-place_block-clause-ready g c).After-advance_for in
+    let new = behind g (goal.at.returns-else-place_block-clause-ready g c).After-place_block in
+    let says = c.in_ok-advance_for.ensures in
+    let on : c.in-Some.cursor.now.place.at < c.advance_for.new.self.place.at = rw c.in-Block.is at says.moves.on in
+    turns.ready-reads (reads g after new refl refl) (live_files g.R.Reads c.args.src.now) (live_files g.R.Reads c.advance_for.new.src) (ap g.R.Reads.files says.standing) c.requires.ready says.stands (says.moves.same.file ∙ (at g after).1) refl (omega (arith, few g after, on, c.frames_of.ensures.few))
 
 pub returns-else-place_block-clause-pays : goal.returns-else-place_block-clause-pays
 returns-else-place_block-clause-pays g c =
-    let f = live_files g.R.Reads c.args.src.now in
-    let w = c.args.walk.now in
-    let t = c.args.track.now in
-    let old = c.in-Some.cursor.now in
-    let d = c.advance_for.new.self in
-    let new : Walk = record w { cursor = Some d; frames = w.frames + c.frames_of.result; placed = c.place_block.new.placed } in
-    let at = turns.at-track f c.args.links.now w t old c.requires.ready c.requires.here (sym c.in-Some.ensures.value) in
-    let reads : turns.Reads c.args.links.now t w new old d = record { at = c.requires.here; same = refl; before = sym c.in-Some.ensures.value; now = refl } in
-    turns.reads-pays f c.args.scale c.args.links.now t w new old d reads at.1 (g.R.Reads.octets_read c.args.src.now) (g.R.Reads.octets_read c.advance_for.new.src) c.in_ok-advance_for.ensures.spends.pays c.in_ok-advance_for.ensures.spends.most
+    let after = (goal.at.returns-else-place_block-clause-pays g c).After-advance_for in
+    let new = behind g (goal.at.returns-else-place_block-clause-pays g c).After-place_block in
+    let spends = c.in_ok-advance_for.ensures.spends in
+    turns.reads-pays (live_files g.R.Reads c.args.src.now) c.args.scale (reads g after new refl refl) (at g after).1 (g.R.Reads.octets_read c.args.src.now) (g.R.Reads.octets_read c.advance_for.new.src) spends.pays spends.most
+
+-- given
+abbrev given : (g : Over) (c : After-place_block g) → Walk
+given g c = record c.args.walk.now { cursor = Some c.advance_for.new.self; frames = c.args.walk.now.frames + c.frames_of.result; placed = c.place_block.new.placed; greatest = c.place_block.new.placed.head.order }
 
 pub returns-then-place_block-clause-gives : goal.returns-then-place_block-clause-gives
 returns-then-place_block-clause-gives g c = λ told.
-    let f = live_files g.R.Reads c.args.src.now in
+    let after = (goal.at.returns-then-place_block-clause-gives g c).After-advance_for in
+    let new = given g (goal.at.returns-then-place_block-clause-gives g c).After-place_block in
     let w = c.args.walk.now in
     let t = c.args.track.now in
-    let old = c.in-Some.cursor.now in
     let d = c.advance_for.new.self in
-    let new : Walk = record w { cursor = Some d; frames = w.frames + c.frames_of.result; placed = c.place_block.new.placed; greatest = c.place_block.new.placed.head.order } in
-    let at = turns.at-track f c.args.links.now w t old c.requires.ready c.requires.here (sym c.in-Some.ensures.value) in
-    let reads : turns.Reads c.args.links.now t w new old d = record { at = c.requires.here; same = refl; before = sym c.in-Some.ensures.value; now = refl } in
-    let gives = turns.cursor-gives f c.args.links.now w.at t old d (Ok c.in_ok-advance_for.field-0) told c.requires.here at.1 c.in_ok-advance_for.ensures.gives in
-    let given = rw c.in-Block.is at gives in
-    let same = turns.known-same t given.given d.block given.known (rw c.in-Block.is at c.in_ok-advance_for.ensures.moves.lends) in
+    let gives = rw c.in-Block.is at (given_by g after (Ok c.in_ok-advance_for.field-0) told c.in_ok-advance_for.ensures.gives) in
+    let same = turns.known-same t gives.given d.block gives.known (rw c.in-Block.is at c.in_ok-advance_for.ensures.moves.lends) in
     let lent = track_lent t d.block c.place_block.new.placed in
     let becomes : IsPlaced (track_placed c.args.scale t w.frames (block_of d.block)) w.greatest lent = rw c.if-place_block.true at c.place_block.ensures.becomes in
-    turns.turns-gives f c.args.scale c.args.links.now t w new old d reads given.given (ap (λ (n : ℕ). w.frames + n) (c.frames_of.ensures.exact ∙ sym same.frames)) refl refl given.left
+    turns.turns-gives (live_files g.R.Reads c.args.src.now) c.args.scale (reads g after new refl refl) gives.given (ap (λ (n : ℕ). w.frames + n) (c.frames_of.ensures.exact ∙ sym same.frames)) refl refl gives.left
     (subst (λ (bs : List OutputBlock). IsPlaced bs w.greatest lent) (sym (same.placed c.args.scale w.frames)) becomes) refl
 
 pub returns-then-place_block-clause-moves : goal.returns-then-place_block-clause-moves
 returns-then-place_block-clause-moves g c =
-    let f = live_files g.R.Reads c.args.src.now in
-    let w = c.args.walk.now in
-    let t = c.args.track.now in
-    let old = c.in-Some.cursor.now in
-    let d = c.advance_for.new.self in
-    let new : Walk = record w { cursor = Some d; frames = w.frames + c.frames_of.result; placed = c.place_block.new.placed; greatest = c.place_block.new.placed.head.order } in
-    let reads : turns.Reads c.args.links.now t w new old d = record { at = c.requires.here; same = refl; before = sym c.in-Some.ensures.value; now = refl } in
+    let after = (goal.at.returns-then-place_block-clause-moves g c).After-advance_for in
+    let new = given g (goal.at.returns-then-place_block-clause-moves g c).After-place_block in
     let moves = c.in_ok-advance_for.ensures.moves in
+    let its = c.place_block.ensures in
     record {
-      on = turns.reads-on c.args.links.now t w new old d reads (rw c.in-Block.is at moves.on) moves.inside moves.same.end;
-      lends = turns.lends-here c.args.scale c.args.links.now new (track_lent t d.block c.place_block.new.placed) (turns.lent-here c.args.links.now t w new old d reads)
-          ((rw c.if-place_block.true at c.place_block.ensures.lent) ((rw c.in-Block.is at moves.lends) (rw c.if-place_block.true at c.place_block.ensures.own))) (rw c.if-place_block.true at c.place_block.ensures.ticks) refl;
+      on = turns.reads-on (reads g after new refl refl) (rw c.in-Block.is at moves.on) moves.inside moves.same.end;
+      lends = turns.lends-here c.args.scale c.args.links.now new (track_lent c.args.track.now c.advance_for.new.self.block c.place_block.new.placed) (turns.lent-here (reads g after new refl refl))
+          ((rw c.if-place_block.true at its.lent) ((rw c.in-Block.is at moves.lends) (rw c.if-place_block.true at its.own))) (rw c.if-place_block.true at its.ticks) refl;
     }
+
+pub returns-then-place_block-clause-ready : goal.returns-then-place_block-clause-ready
+returns-then-place_block-clause-ready g c =
+    let after = (goal.at.returns-then-place_block-clause-ready g c).After-advance_for in
+    let new = given g (goal.at.returns-then-place_block-clause-ready g c).After-place_block in
+    let says = c.in_ok-advance_for.ensures in
+    let on : c.in-Some.cursor.now.place.at < c.advance_for.new.self.place.at = rw c.in-Block.is at says.moves.on in
+    turns.ready-reads (reads g after new refl refl) (live_files g.R.Reads c.args.src.now) (live_files g.R.Reads c.advance_for.new.src) (ap g.R.Reads.files says.standing) c.requires.ready says.stands (says.moves.same.file ∙ (at g after).1) refl (omega (arith, few g after, on, c.frames_of.ensures.few))
 
 pub returns-then-place_block-clause-pays : goal.returns-then-place_block-clause-pays
 returns-then-place_block-clause-pays g c =
-    let f = live_files g.R.Reads c.args.src.now in
-    let w = c.args.walk.now in
-    let t = c.args.track.now in
-    let old = c.in-Some.cursor.now in
-    let d = c.advance_for.new.self in
-    let new : Walk = record w { cursor = Some d; frames = w.frames + c.frames_of.result; placed = c.place_block.new.placed; greatest = c.place_block.new.placed.head.order } in
-    let at = turns.at-track f c.args.links.now w t old c.requires.ready c.requires.here (sym c.in-Some.ensures.value) in
-    let reads : turns.Reads c.args.links.now t w new old d = record { at = c.requires.here; same = refl; before = sym c.in-Some.ensures.value; now = refl } in
-    turns.reads-pays f c.args.scale c.args.links.now t w new old d reads at.1 (g.R.Reads.octets_read c.args.src.now) (g.R.Reads.octets_read c.advance_for.new.src) c.in_ok-advance_for.ensures.spends.pays c.in_ok-advance_for.ensures.spends.most
+    let after = (goal.at.returns-then-place_block-clause-pays g c).After-advance_for in
+    let new = given g (goal.at.returns-then-place_block-clause-pays g c).After-place_block in
+    let spends = c.in_ok-advance_for.ensures.spends in
+    turns.reads-pays (live_files g.R.Reads c.args.src.now) c.args.scale (reads g after new refl refl) (at g after).1 (g.R.Reads.octets_read c.args.src.now) (g.R.Reads.octets_read c.advance_for.new.src) spends.pays spends.most
 
 -- ---- a damage
 
-pub index_mut-requires : goal.index_mut-requires
-index_mut-requires g c =
+inside : (g : Over) (c : After-advance_for g) → c.args.walk.now.at < length c.args.walk.now.told.items
+inside g c =
     let before : c.args.walk.now.at < length c.args.links.now = slice_get_within c.args.links.now c.args.walk.now.at (Track c.args.track.now) c.requires.here in
     omega (arith, c.requires.ready.told)
 
+pub index_mut-requires : goal.index_mut-requires
+index_mut-requires g c = omega (arith, inside g (goal.at.index_mut-requires g c).After-advance_for)
+
+abbrev damaged : (g : Over) (c : After-add g) → Walk
+damaged g c = record c.args.walk.now { cursor = Some c.advance_for.new.self; stopped = c.if-stopped.walk; told = with_item c.args.walk.now.told c.args.walk.now.at c.add.new.self }
+
 pub returns-after-stopped-clause-gives : goal.returns-after-stopped-clause-gives
 returns-after-stopped-clause-gives g c = λ told.
-    let f = live_files g.R.Reads c.args.src.now in
+    let after = (goal.at.returns-after-stopped-clause-gives g c).After-advance_for in
     let w = c.args.walk.now in
-    let t = c.args.track.now in
-    let old = c.in-Some.cursor.now in
     let d = c.advance_for.new.self in
-    let new : Walk = record w { cursor = Some d; stopped = c.if-stopped.walk; told = with_item w.told w.at c.add.new.self } in
-    let at = turns.at-track f c.args.links.now w t old c.requires.ready c.requires.here (sym c.in-Some.ensures.value) in
-    let reads : turns.Reads c.args.links.now t w new old d = record { at = c.requires.here; same = refl; before = sym c.in-Some.ensures.value; now = refl } in
-    let gives = turns.cursor-gives f c.args.links.now w.at t old d (Ok c.in_ok-advance_for.field-0) told c.requires.here at.1 c.in_ok-advance_for.ensures.gives in
+    let r = c.index_mut.result.now in
+    let new = damaged g (goal.at.returns-after-stopped-clause-gives g c).After-add in
+    let gives = given_by g after (Ok c.in_ok-advance_for.field-0) told c.in_ok-advance_for.ensures.gives in
     let stopped : c.if-stopped.walk ≡ (d.stopped || w.stopped) = elim c.if-stopped.branch [
       | then-stopped v ↦ v.walk-is ∙ v.if-stopped.true ∙ ap (λ (b : Bool). b || w.stopped) (sym v.if-stopped.true ∙ c.stopped.ensures)
       | else-stopped v ↦ v.walk-is ∙ ap (λ (b : Bool). b || w.stopped) (sym v.if-stopped.false ∙ c.stopped.ensures)
     ] in
-    let before : w.at < length c.args.links.now = slice_get_within c.args.links.now w.at (Track t) c.requires.here in
-    let inside : w.at < length w.told.items = omega (arith, c.requires.ready.told) in
-    let r = c.index_mut.result.now in
-    let here = slice_get_read w.told.items (length w.told.items) w.at r refl inside c.index_mut.ensures.value in
-    turns.turns-damage f c.args.scale c.args.links.now t w new old d reads d.stopped c.in-Damaged.damage r refl stopped refl (rw c.in-Damaged.is at gives) here inside (ap (λ x. (with_item w.told w.at x).items) c.add.ensures)
+    let here = slice_get_read w.told.items (length w.told.items) w.at r refl (inside g after) c.index_mut.ensures.value in
+    turns.turns-damage (live_files g.R.Reads c.args.src.now) c.args.scale (reads g after new refl refl) d.stopped c.in-Damaged.damage r refl stopped refl (rw c.in-Damaged.is at gives) here (inside g after) (ap (λ x. (with_item w.told w.at x).items) c.add.ensures)
 
 pub returns-after-stopped-clause-moves : goal.returns-after-stopped-clause-moves
 returns-after-stopped-clause-moves g c =
-    let f = live_files g.R.Reads c.args.src.now in
-    let w = c.args.walk.now in
-    let t = c.args.track.now in
-    let old = c.in-Some.cursor.now in
-    let d = c.advance_for.new.self in
-    let new : Walk = record w { cursor = Some d; stopped = c.if-stopped.walk; told = with_item w.told w.at c.add.new.self } in
-    let reads : turns.Reads c.args.links.now t w new old d = record { at = c.requires.here; same = refl; before = sym c.in-Some.ensures.value; now = refl } in
+    let after = (goal.at.returns-after-stopped-clause-moves g c).After-advance_for in
+    let new = damaged g (goal.at.returns-after-stopped-clause-moves g c).After-add in
     let moves = c.in_ok-advance_for.ensures.moves in
-    record {
-      on = turns.reads-on c.args.links.now t w new old d reads (rw c.in-Damaged.is at moves.on) moves.inside moves.same.end;
-      lends = tt;
-    }
+    record { on = turns.reads-on (reads g after new refl refl) (rw c.in-Damaged.is at moves.on) moves.inside moves.same.end; lends = tt }
+
+pub returns-after-stopped-clause-ready : goal.returns-after-stopped-clause-ready
+returns-after-stopped-clause-ready g c =
+    let after = (goal.at.returns-after-stopped-clause-ready g c).After-advance_for in
+    let new = damaged g (goal.at.returns-after-stopped-clause-ready g c).After-add in
+    let says = c.in_ok-advance_for.ensures in
+    turns.ready-reads (reads g after new refl refl) (live_files g.R.Reads c.args.src.now) (live_files g.R.Reads c.advance_for.new.src) (ap g.R.Reads.files says.standing) c.requires.ready says.stands (says.moves.same.file ∙ (at g after).1)
+    (length-set c.args.walk.now.told.items c.args.walk.now.at c.add.new.self) (omega (arith, few g after, says.moves.same.forwards))
 
 pub returns-after-stopped-clause-pays : goal.returns-after-stopped-clause-pays
 returns-after-stopped-clause-pays g c =
-    let f = live_files g.R.Reads c.args.src.now in
-    let w = c.args.walk.now in
-    let t = c.args.track.now in
-    let old = c.in-Some.cursor.now in
-    let d = c.advance_for.new.self in
-    let new : Walk = record w { cursor = Some d; stopped = c.if-stopped.walk; told = with_item w.told w.at c.add.new.self } in
-    let at = turns.at-track f c.args.links.now w t old c.requires.ready c.requires.here (sym c.in-Some.ensures.value) in
-    let reads : turns.Reads c.args.links.now t w new old d = record { at = c.requires.here; same = refl; before = sym c.in-Some.ensures.value; now = refl } in
-    turns.reads-pays f c.args.scale c.args.links.now t w new old d reads at.1 (g.R.Reads.octets_read c.args.src.now) (g.R.Reads.octets_read c.advance_for.new.src) c.in_ok-advance_for.ensures.spends.pays c.in_ok-advance_for.ensures.spends.most
+    let after = (goal.at.returns-after-stopped-clause-pays g c).After-advance_for in
+    let new = damaged g (goal.at.returns-after-stopped-clause-pays g c).After-add in
+    let spends = c.in_ok-advance_for.ensures.spends in
+    turns.reads-pays (live_files g.R.Reads c.args.src.now) c.args.scale (reads g after new refl refl) (at g after).1 (g.R.Reads.octets_read c.args.src.now) (g.R.Reads.octets_read c.advance_for.new.src) spends.pays spends.most
 
 -- ---- the end
 
@@ -252,17 +258,12 @@ leave-requires g c = slice_get_within c.args.links.now c.args.walk.now.at (Track
 
 pub returns-in-End-clause-gives : goal.returns-in-End-clause-gives
 returns-in-End-clause-gives g c = λ told.
-    let f = live_files g.R.Reads c.args.src.now in
+    let after = (goal.at.returns-in-End-clause-gives g c).After-advance_for in
     let w = c.args.walk.now in
-    let t = c.args.track.now in
-    let old = c.in-Some.cursor.now in
     let has = has-left (length c.args.links.now) w c.leave.new.self c.leave.ensures in
-    let at = turns.at-track f c.args.links.now w t old c.requires.ready c.requires.here (sym c.in-Some.ensures.value) in
-    let gives = turns.cursor-gives f c.args.links.now w.at t old c.advance_for.new.self (Ok c.in_ok-advance_for.field-0) told c.requires.here at.1 c.in_ok-advance_for.ensures.gives in
-    let before : w.at < length c.args.links.now = slice_get_within c.args.links.now w.at (Track t) c.requires.here in
-    let inside : w.at < length w.told.items = omega (arith, c.requires.ready.told) in
-    let r = turns.element-at w.told.items w.at inside in
-    turns.turns-ends f c.args.scale c.args.links.now t w c.leave.new.self old c.requires.here (sym c.in-Some.ensures.value) has r.0 (rw c.in-End.is at gives).0 r.1 c.requires.ready.told
+    let gives = given_by g after (Ok c.in_ok-advance_for.field-0) told c.in_ok-advance_for.ensures.gives in
+    let r = turns.element-at w.told.items w.at (inside g after) in
+    turns.turns-ends (live_files g.R.Reads c.args.src.now) c.args.scale c.args.links.now c.args.track.now w c.leave.new.self c.in-Some.cursor.now c.requires.here (sym c.in-Some.ensures.value) has r.0 (rw c.in-End.is at gives).0 r.1 c.requires.ready.told
 
 pub returns-in-End-clause-moves : goal.returns-in-End-clause-moves
 returns-in-End-clause-moves g c =
@@ -273,78 +274,18 @@ returns-in-End-clause-moves g c =
 
 pub returns-in-End-clause-pays : goal.returns-in-End-clause-pays
 returns-in-End-clause-pays g c =
-    let f = live_files g.R.Reads c.args.src.now in
     let w = c.args.walk.now in
-    let t = c.args.track.now in
-    let old = c.in-Some.cursor.now in
     let has = has-left (length c.args.links.now) w c.leave.new.self c.leave.ensures in
-    let at = turns.at-track f c.args.links.now w t old c.requires.ready c.requires.here (sym c.in-Some.ensures.value) in
-    turns.ends-pays f c.args.scale c.args.links.now t w c.leave.new.self old c.requires.here (sym c.in-Some.ensures.value) has c.advance_for.new.self at.1 (g.R.Reads.octets_read c.args.src.now) (g.R.Reads.octets_read c.advance_for.new.src) c.in_ok-advance_for.ensures.spends.pays c.in_ok-advance_for.ensures.spends.most
-
--- ---- where it stands then
-
-pub returns-in_err-advance_for-clause-ready : goal.returns-in_err-advance_for-clause-ready
-returns-in_err-advance_for-clause-ready g c =
-    let f = live_files g.R.Reads c.args.src.now in
-    let w = c.args.walk.now in
-    let t = c.args.track.now in
-    let old = c.in-Some.cursor.now in
-    let d = c.advance_for.new.self in
-    let new : Walk = record w { cursor = Some d } in
-    let at = turns.at-track f c.args.links.now w t old c.requires.ready c.requires.here (sym c.in-Some.ensures.value) in
-    let reads : turns.Reads c.args.links.now t w new old d = record { at = c.requires.here; same = refl; before = sym c.in-Some.ensures.value; now = refl } in
-    let few : w.frames ≤ 256 * old.place.at = turns.few-counted f c.args.links.now w old c.requires.ready (sym c.in-Some.ensures.value) in
-    turns.ready-reads c.args.links.now t w new old d reads f (live_files g.R.Reads c.advance_for.new.src) (ap g.R.Reads.files c.in_err-advance_for.ensures.standing) c.requires.ready c.in_err-advance_for.ensures.stands (c.in_err-advance_for.ensures.moves.same.file ∙ at.1) refl (omega (arith, few, c.in_err-advance_for.ensures.moves.same.forwards))
-
-pub returns-else-place_block-clause-ready : goal.returns-else-place_block-clause-ready
-returns-else-place_block-clause-ready g c =
-    let f = live_files g.R.Reads c.args.src.now in
-    let w = c.args.walk.now in
-    let t = c.args.track.now in
-    let old = c.in-Some.cursor.now in
-    let d = c.advance_for.new.self in
-    let new : Walk = record w { cursor = Some d; frames = w.frames + c.frames_of.result; placed = c.place_block.new.placed } in
-    let at = turns.at-track f c.args.links.now w t old c.requires.ready c.requires.here (sym c.in-Some.ensures.value) in
-    let reads : turns.Reads c.args.links.now t w new old d = record { at = c.requires.here; same = refl; before = sym c.in-Some.ensures.value; now = refl } in
-    let few : w.frames ≤ 256 * old.place.at = turns.few-counted f c.args.links.now w old c.requires.ready (sym c.in-Some.ensures.value) in
-    let on : old.place.at < d.place.at = rw c.in-Block.is at c.in_ok-advance_for.ensures.moves.on in
-    turns.ready-reads c.args.links.now t w new old d reads f (live_files g.R.Reads c.advance_for.new.src) (ap g.R.Reads.files c.in_ok-advance_for.ensures.standing) c.requires.ready c.in_ok-advance_for.ensures.stands (c.in_ok-advance_for.ensures.moves.same.file ∙ at.1) refl (omega (arith, few, on, c.frames_of.ensures.few))
-
-pub returns-then-place_block-clause-ready : goal.returns-then-place_block-clause-ready
-returns-then-place_block-clause-ready g c =
-    let f = live_files g.R.Reads c.args.src.now in
-    let w = c.args.walk.now in
-    let t = c.args.track.now in
-    let old = c.in-Some.cursor.now in
-    let d = c.advance_for.new.self in
-    let new : Walk = record w { cursor = Some d; frames = w.frames + c.frames_of.result; placed = c.place_block.new.placed; greatest = c.place_block.new.placed.head.order } in
-    let at = turns.at-track f c.args.links.now w t old c.requires.ready c.requires.here (sym c.in-Some.ensures.value) in
-    let reads : turns.Reads c.args.links.now t w new old d = record { at = c.requires.here; same = refl; before = sym c.in-Some.ensures.value; now = refl } in
-    let few : w.frames ≤ 256 * old.place.at = turns.few-counted f c.args.links.now w old c.requires.ready (sym c.in-Some.ensures.value) in
-    let on : old.place.at < d.place.at = rw c.in-Block.is at c.in_ok-advance_for.ensures.moves.on in
-    turns.ready-reads c.args.links.now t w new old d reads f (live_files g.R.Reads c.advance_for.new.src) (ap g.R.Reads.files c.in_ok-advance_for.ensures.standing) c.requires.ready c.in_ok-advance_for.ensures.stands (c.in_ok-advance_for.ensures.moves.same.file ∙ at.1) refl (omega (arith, few, on, c.frames_of.ensures.few))
-
-pub returns-after-stopped-clause-ready : goal.returns-after-stopped-clause-ready
-returns-after-stopped-clause-ready g c =
-    let f = live_files g.R.Reads c.args.src.now in
-    let w = c.args.walk.now in
-    let t = c.args.track.now in
-    let old = c.in-Some.cursor.now in
-    let d = c.advance_for.new.self in
-    let new : Walk = record w { cursor = Some d; stopped = c.if-stopped.walk; told = with_item w.told w.at c.add.new.self } in
-    let at = turns.at-track f c.args.links.now w t old c.requires.ready c.requires.here (sym c.in-Some.ensures.value) in
-    let reads : turns.Reads c.args.links.now t w new old d = record { at = c.requires.here; same = refl; before = sym c.in-Some.ensures.value; now = refl } in
-    let few : w.frames ≤ 256 * old.place.at = turns.few-counted f c.args.links.now w old c.requires.ready (sym c.in-Some.ensures.value) in
-    turns.ready-reads c.args.links.now t w new old d reads f (live_files g.R.Reads c.advance_for.new.src) (ap g.R.Reads.files c.in_ok-advance_for.ensures.standing) c.requires.ready c.in_ok-advance_for.ensures.stands (c.in_ok-advance_for.ensures.moves.same.file ∙ at.1) (length-set w.told.items w.at c.add.new.self) (omega (arith, few, c.in_ok-advance_for.ensures.moves.same.forwards))
+    let spends = c.in_ok-advance_for.ensures.spends in
+    turns.ends-pays (live_files g.R.Reads c.args.src.now) c.args.scale c.args.links.now c.args.track.now w c.leave.new.self c.in-Some.cursor.now c.requires.here (sym c.in-Some.ensures.value) has c.advance_for.new.self (at g (goal.at.returns-in-End-clause-pays g c).After-advance_for).1
+    (g.R.Reads.octets_read c.args.src.now) (g.R.Reads.octets_read c.advance_for.new.src) spends.pays spends.most
 
 -- the sum fits: no file is longer than 2^48 octets, and a block has at most 256 frames and at least an octet
 pub overflow_add-walk : goal.overflow_add-walk
 overflow_add-walk g c =
-    let f = live_files g.R.Reads c.args.src.now in
-    let w = c.args.walk.now in
+    let after = (goal.at.overflow_add-walk g c).After-advance_for in
     let old = c.in-Some.cursor.now in
-    let few : w.frames ≤ 256 * old.place.at = turns.few-counted f c.args.links.now w old c.requires.ready (sym c.in-Some.ensures.value) in
-    let at = turns.at-track f c.args.links.now w c.args.track.now old c.requires.ready c.requires.here (sym c.in-Some.ensures.value) in
+    let can = (at g after).0 in
     let forwards : old.place.at ≤ c.advance_for.new.self.place.at = c.in_ok-advance_for.ensures.moves.same.forwards in
-    let short : f.size old.file.n ≤ LONGEST_FILE = g.met.R.Reads.short c.args.src.now old.file.n at.0.live in
-    omega (arith, few, forwards, short, at.0.inside, c.in_ok-advance_for.ensures.moves.inside, c.in_ok-advance_for.ensures.moves.same.end, c.frames_of.ensures.few)
+    let short : (live_files g.R.Reads c.args.src.now).size old.file.n ≤ LONGEST_FILE = g.met.R.Reads.short c.args.src.now old.file.n can.live in
+    omega (arith, few g after, forwards, short, can.inside, c.in_ok-advance_for.ensures.moves.inside, c.in_ok-advance_for.ensures.moves.same.end, c.frames_of.ensures.few)
