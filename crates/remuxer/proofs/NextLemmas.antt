@@ -15,8 +15,8 @@ use Rattle.splitter.specs.declared.cuts.Place.{Place}
 use Rattle.splitter.specs.declared.cuts.Place.TheVariants.{Same}
 use Rattle.splitter.specs.Steps.{CutsSeen, is_kept, place_at, start_of}
 use Rattle.cluster_writer.specs.Lengths.{octets_taken}
-use Rattle.remuxer.specs.Placed.{Places, lane_in}
-use Rattle.remuxer.specs.declared.placing.Ahead.{Ahead}
+use Rattle.remuxer.proofs.PlacedLemmas.{PlacesOne}
+use Rattle.remuxer.specs.declared.placed.Ahead.{Ahead}
 use Rattle.remuxer.specs.Places.{CanGive, IsAhead, IsBegun, IsFresh, StandsAt, ahead_of, block_lent, is_same, is_within, lent_ahead, part_in, parts_from, parts_left, split_in, start_in, turns_with}
 use Rattle.remuxer.specs.Taking.{Advances, BeginsNone, GoesOn, Leaves, LeavesAll}
 use Rattle.remuxer.specs.Output.{FindsBehind, FindsFirst, FindsPart}
@@ -25,11 +25,6 @@ use Rattle.remuxer.proofs.PartLemmas.{fits-of, no-limit, part_from, parts-first,
 use Rattle.remuxer.proofs.StepLemmas.{behind-within, gives-same, left-now, lent-one, on_to, parts-ahead, parts-on, parts-within, passed-kept, rest-within, step-ahead, step-all, step-gives, step-left, step-split, within-kept}
 
 -- ---- a step that only reads
-
--- what may be read is paid, whether a block was given or not
-pub paid-of : (f : LiveFiles) (m m' : MergeSeen) (before now : ℕ) (next : Option Ahead) → Pays f m m' before now (lane_in (Ok next)) → now + due f m' ≤ before + due f m
-paid-of f m m' before now None paid = paid
-paid-of f m m' before now (Some a) paid = paid
 
 -- what it leaves
 pub read-goes : {S : Type 0} (r : Ghosts S) (a b : S) (p p' : PlacedBlocks) (result : Option ℕ) → r.standing b ≡ r.standing a → Moves p.merge p'.merge (Ok result) → (IsTold (live_files r a) p.merge → Gives (live_files r a) p.merge p'.merge (Ok result))
@@ -90,66 +85,75 @@ module _ {S : Type 0} (r : Ghosts S) (a b : S) (p : PlacedBlocks) (m' : MergeSee
   files : live_files r b ≡ live_files r a
   files = ap r.files same
 
-  -- what is left, where none was ahead, where no block has come, and where one has
-  leaves-by : (next was : Option Ahead) → p.ahead ≡ was → StandsAt p.merge p.cuts was → Moves p.merge m' (lane_in (Ok next)) → Gives (live_files r a) p.merge m' (lane_in (Ok next)) → Places p.drives m' p.cuts c' (Ok next)
-      → Leaves (live_files r a) (live_files r b) p (on_to p m' c' next)
-  leaves-by next None is stands moves gives places = record {
+  -- where none was ahead
+  leaves-none : (next : Option Ahead) → p.ahead ≡ None → Leaves (live_files r a) (live_files r b) p (on_to p m' c' next)
+  leaves-none next is = record {
     rest = λ in_it. let isnt : is_within p.ahead ≡ false = ap is_within is in absurd (cc);
     behind = λ in_it. let isnt : is_within p.ahead ≡ false = ap is_within is in absurd (cc);
     parts = λ none. absurd (subst BeginsNone is none);
   }
-  leaves-by None (Some was) is ahead moves gives places =
-      let s = split_in p in
-      record {
-        rest = λ in_it. rest-within (live_files r a) p in_it ∙ ap (λ (bs : List OutputBlock). lent_ahead p ++ within s (start_of p.cuts) p.cuts.load bs) gives.blocks.0;
-        behind = λ in_it. sym (behind-within (live_files r a) p in_it ∙ ap (beyond s (start_of p.cuts) p.cuts.load) gives.blocks.0);
-        parts = λ none. sym (parts-past (live_files r a) p was can is ahead (subst BeginsNone is none) ∙ ap (λ (bs : List OutputBlock). parts_in s (sections_at s (beyond s (start_of p.cuts) p.cuts.load bs))) gives.blocks.0);
-      }
-  leaves-by (Some next) (Some was) is ahead moves gives places =
-      let f = live_files r a in
-      let h = live_files r b in
-      let s = split_in p in
-      let bs = left f m' in
-      let now : left h m' ≡ bs = ap (λ (each : LiveFiles). left each m') files in
-      let started = ap (λ (o : Option ℕ). is_none o) ahead.started in
-      let first = step-left f p m' c' next can moves.keeps moves.steps places gives.blocks in
-      let kept = λ (in_it : is_within p.ahead ≡ true). within-kept p.merge p.cuts was ahead (sym (ap is_within is) ∙ in_it) in
-      let behind = λ (k : is_kept p.cuts ≡ true). left-now f p m' c' next can moves.keeps moves.steps places h bs now started k in
-      record {
-        rest = λ in_it. rest-within f p in_it ∙ ap (λ (them : List OutputBlock). lent_ahead p ++ within s (start_of p.cuts) p.cuts.load them) first ∙ ap (λ (them : List OutputBlock). lent_ahead p ++ them) (behind (kept in_it)).rest;
-        behind = λ in_it. sym (behind-within f p in_it ∙ ap (beyond s (start_of p.cuts) p.cuts.load) first ∙ (behind (kept in_it)).behind);
-        parts = λ none. sym (parts-past f p was can is ahead (subst BeginsNone is none) ∙ ap (λ (them : List OutputBlock). parts_in s (sections_at s (beyond s (start_of p.cuts) p.cuts.load them))) first ∙ parts-on f p m' c' next can moves.keeps moves.steps places h bs now started);
-      }
 
-  -- the next block is ahead
-  pub advances : (next : Option Ahead) → Moves p.merge m' (lane_in (Ok next)) → (IsTold (live_files r a) p.merge → Gives (live_files r a) p.merge m' (lane_in (Ok next))) → Places p.drives m' p.cuts c' (Ok next)
-      → Advances (live_files r a) (live_files r b) p (on_to p m' c' next)
-  advances None moves gives places = record {
-    stands = moves.steps.ended;
-    on = moves.steps.on;
-    same = λ none. places;
-    left = λ stands told. leaves-by None p.ahead refl stands moves (gives told) places;
-    all = λ fresh told. parts-none (live_files r a) (live_files r b) p m' c' fresh (gives told).blocks.0 places;
-  }
-  advances (Some next) moves gives places = record {
-    stands = step-ahead (live_files r a) p m' c' next can moves.keeps moves.steps places;
-    on = let less = moves.steps.on in omega (arith, less);
-    same = λ none. absurd (cc);
-    left = λ stands told. leaves-by (Some next) p.ahead refl stands moves (gives told) places;
-    all = λ fresh told.
-        step-all (live_files r a) p m' c' next can moves.keeps moves.steps places (live_files r b) (left (live_files r a) m') (ap (λ (each : LiveFiles). left each m') files) fresh
-        ∙ ap (parts (split_in p)) (sym (step-left (live_files r a) p m' c' next can moves.keeps moves.steps places (gives told).blocks));
-  }
+  -- no block has come
+  module _ (moves : Moves p.merge m' (Ok None)) (gives : IsTold (live_files r a) p.merge → Gives (live_files r a) p.merge m' (Ok None)) (same_cuts : c' ≡ p.cuts) where
+    leaves-ended : (was : Option Ahead) → p.ahead ≡ was → StandsAt p.merge p.cuts was → left (live_files r a) p.merge ≡ [] → Leaves (live_files r a) (live_files r b) p (on_to p m' c' None)
+    leaves-ended None is stands ended = leaves-none None is
+    leaves-ended (Some was) is ahead ended =
+        let s = split_in p in
+        record {
+          rest = λ in_it. rest-within (live_files r a) p in_it ∙ ap (λ (bs : List OutputBlock). lent_ahead p ++ within s (start_of p.cuts) p.cuts.load bs) ended;
+          behind = λ in_it. sym (behind-within (live_files r a) p in_it ∙ ap (beyond s (start_of p.cuts) p.cuts.load) ended);
+          parts = λ none. sym (parts-past (live_files r a) p was can is ahead (subst BeginsNone is none) ∙ ap (λ (bs : List OutputBlock). parts_in s (sections_at s (beyond s (start_of p.cuts) p.cuts.load bs))) ended);
+        }
 
-  -- and nothing was written
-  pub advanced-goes : (next : Option Ahead) → Moves p.merge m' (lane_in (Ok next)) → (IsTold (live_files r a) p.merge → Gives (live_files r a) p.merge m' (lane_in (Ok next))) → Places p.drives m' p.cuts c' (Ok next)
-      → Pays (live_files r a) p.merge m' (r.octets_read a) (r.octets_read b) (lane_in (Ok next)) → GoesOn r 0 a b p (on_to p m' c' next)
-  advanced-goes None moves gives places paid =
-      read-goes r a b p (on_to p m' c' None) None same moves gives (ap (λ (c : CutsSeen). split_in (on_to p m' c None)) places)
-      (gives-same (live_files r a) (live_files r b) p (on_to p m' c' None) can moves.keeps ready refl places) paid
-  advanced-goes (Some next) moves gives places paid =
-      read-goes r a b p (on_to p m' c' (Some next)) (Some next.lane) same moves gives (step-split (live_files r a) p m' c' next can moves.keeps moves.steps places)
-      (step-gives (live_files r a) p m' c' next can moves.keeps moves.steps places (live_files r b) ready) paid
+    pub advances-ended : Advances (live_files r a) (live_files r b) p (on_to p m' c' None)
+    advances-ended = record {
+      stands = moves.steps.ended;
+      on = moves.steps.on;
+      same = λ none. same_cuts;
+      left = λ stands told. leaves-ended p.ahead refl stands (gives told).blocks.0;
+      all = λ fresh told. parts-none (live_files r a) (live_files r b) p m' c' fresh (gives told).blocks.0 same_cuts;
+    }
+
+    pub goes-ended : r.octets_read b + due (live_files r a) m' ≤ r.octets_read a + due (live_files r a) p.merge → GoesOn r 0 a b p (on_to p m' c' None)
+    goes-ended paid =
+        read-goes r a b p (on_to p m' c' None) None same moves gives (ap (λ (c : CutsSeen). split_in (on_to p m' c None)) same_cuts)
+        (gives-same (live_files r a) (live_files r b) p (on_to p m' c' None) can moves.keeps ready refl same_cuts) paid
+
+  -- one has
+  module _ (next : Ahead) (moves : Moves p.merge m' (Ok (Some next.lane))) (gives : IsTold (live_files r a) p.merge → Gives (live_files r a) p.merge m' (Ok (Some next.lane))) (places : PlacesOne p.drives moves.steps.queue.lane p.cuts c' next) where
+    leaves-next : (was : Option Ahead) → p.ahead ≡ was → StandsAt p.merge p.cuts was → IsTold (live_files r a) p.merge → Leaves (live_files r a) (live_files r b) p (on_to p m' c' (Some next))
+    leaves-next None is stands told = leaves-none (Some next) is
+    leaves-next (Some was) is ahead told =
+        let f = live_files r a in
+        let h = live_files r b in
+        let s = split_in p in
+        let bs = left f m' in
+        let now : left h m' ≡ bs = ap (λ (each : LiveFiles). left each m') files in
+        let started = ap (λ (o : Option ℕ). is_none o) ahead.started in
+        let first = step-left f p m' c' next can moves.keeps moves.steps places (gives told).blocks in
+        let kept = λ (in_it : is_within p.ahead ≡ true). within-kept p.merge p.cuts was ahead (sym (ap is_within is) ∙ in_it) in
+        let behind = λ (k : is_kept p.cuts ≡ true). left-now f p m' c' next can moves.keeps moves.steps places h bs now started k in
+        record {
+          rest = λ in_it. rest-within f p in_it ∙ ap (λ (them : List OutputBlock). lent_ahead p ++ within s (start_of p.cuts) p.cuts.load them) first ∙ ap (λ (them : List OutputBlock). lent_ahead p ++ them) (behind (kept in_it)).rest;
+          behind = λ in_it. sym (behind-within f p in_it ∙ ap (beyond s (start_of p.cuts) p.cuts.load) first ∙ (behind (kept in_it)).behind);
+          parts = λ none. sym (parts-past f p was can is ahead (subst BeginsNone is none) ∙ ap (λ (them : List OutputBlock). parts_in s (sections_at s (beyond s (start_of p.cuts) p.cuts.load them))) first ∙ parts-on f p m' c' next can moves.keeps moves.steps places h bs now started);
+        }
+
+    pub advances-next : Advances (live_files r a) (live_files r b) p (on_to p m' c' (Some next))
+    advances-next = record {
+      stands = step-ahead (live_files r a) p m' c' next can moves.keeps moves.steps places;
+      on = let less = moves.steps.on in omega (arith, less);
+      same = λ none. absurd (cc);
+      left = λ stands told. leaves-next p.ahead refl stands told;
+      all = λ fresh told.
+          step-all (live_files r a) p m' c' next can moves.keeps moves.steps places (live_files r b) (left (live_files r a) m') (ap (λ (each : LiveFiles). left each m') files) fresh
+          ∙ ap (parts (split_in p)) (sym (step-left (live_files r a) p m' c' next can moves.keeps moves.steps places (gives told).blocks));
+    }
+
+    pub goes-next : r.octets_read b + due (live_files r a) m' ≤ r.octets_read a + due (live_files r a) p.merge → GoesOn r 0 a b p (on_to p m' c' (Some next))
+    goes-next paid =
+        read-goes r a b p (on_to p m' c' (Some next)) (Some next.lane) same moves gives (step-split (live_files r a) p m' c' next can moves.keeps moves.steps places)
+        (step-gives (live_files r a) p m' c' next can moves.keeps moves.steps places (live_files r b) ready) paid
 
 -- ---- the next part was begun
 

@@ -29,8 +29,8 @@ use Rattle.splitter.specs.declared.cuts.Place.{Place}
 use Rattle.splitter.specs.Split.{keeps}
 use Rattle.splitter.specs.Sections.{Part, Split, beyond, may_cut, parts, parts_in, sections_at, within, in_part}
 use Rattle.splitter.specs.Steps.{CutsSeen, counted, is_cut, is_kept, place_at, place_of, start_of, stepped}
-use Rattle.remuxer.specs.Placed.{PlacesOne, drives_at}
-use Rattle.remuxer.specs.declared.placing.Ahead.{Ahead}
+use Rattle.remuxer.proofs.PlacedLemmas.{PlacesOne, drives_at}
+use Rattle.remuxer.specs.declared.placed.Ahead.{Ahead}
 use Rattle.remux_plan.specs.declared.TheConstants.{MOST_SCALE}
 use Rattle.remuxer.specs.Places.{CanGive, IsAhead, IsFresh, IsLimit, LendsAt, StandsAhead, StandsAt, ahead_at, ahead_of, behind_part, block_lent, first_tick, is_same, is_within, lane_within, lent_ahead, lent_at, part_in, parts_from, parts_left, rest_of_part, split_in, start_in}
 use Rattle.remuxer.specs.declared.placed.PlacedBlocks.{PlacedBlocks}
@@ -207,7 +207,7 @@ gives-same f h b b' gives keeps ready drives same =
     gives-on f h b b' gives keeps ready drives (ap (λ (c : CutsSeen). c.scale) same) (subst (λ (c : CutsSeen). start_of c * c.scale < 2 ^ 64) (sym same) gives.early)
     (subst (λ (c : CutsSeen). is_none c.start ≡ true → c.load ≡ 0) (sym same) gives.empty) (subst (λ (c : CutsSeen). IfSome c.size (IsLimit c.spec)) (sym same) gives.limit)
 
-module _ (f : LiveFiles) (b : PlacedBlocks) (m' : MergeSeen) (c' : CutsSeen) (a : Ahead) (can : CanGive f b) (lanes : KeepsQueues b.merge.queues m'.queues) (steps : StepsTo b.merge m' a.lane) (places : PlacesOne b.drives m' b.cuts c' a) where
+module _ (f : LiveFiles) (b : PlacedBlocks) (m' : MergeSeen) (c' : CutsSeen) (a : Ahead) (can : CanGive f b) (lanes : KeepsQueues b.merge.queues m'.queues) (steps : StepsTo b.merge m' a.lane) (places : PlacesOne b.drives steps.queue.lane b.cuts c' a) where
   -- the block that is lent
   abbrev x : OutputBlock
   x = block_lent a.lane steps.queue.lane
@@ -215,27 +215,18 @@ module _ (f : LiveFiles) (b : PlacedBlocks) (m' : MergeSeen) (c' : CutsSeen) (a 
   abbrev may : Bool
   may = may_cut (split_in b) x
 
-  same-lent : lent places.queue.lane ≡ lent steps.queue.lane
-  same-lent = ap (λ (q : Queue). lent q.lane) (same-queue m' a.lane places.queue steps.queue places.here steps.here)
-
   -- a cut may stand before it
-  may-same : ((lent places.queue.lane).head.key && drives_at b.drives a.lane) ≡ may
+  may-same : ((lent steps.queue.lane).head.key && drives_at b.drives a.lane) ≡ may
   may-same =
       let place : a.lane ≡ a.lane + 1 - 1 = omega arith in
-      ap₂ (λ (l : Lent) (k : ℕ). l.head.key && drives_at b.drives k) same-lent place
+      ap (λ (k : ℕ). (lent steps.queue.lane).head.key && drives_at b.drives k) place
 
   step-place : a.place ≡ place_of b.cuts may x.tick
-  step-place = places.placed.place ∙ ap₂ (λ (q : Bool) (l : Lent). place_of b.cuts q l.head.tick) may-same same-lent
-
-  -- how many octets it takes, in whichever lane
-  taken-same : octets_taken (lent_block (lent places.queue.lane)) ≡ octets_taken x
-  taken-same = ap (λ (l : Lent). octets_taken (lent_block l)) same-lent ∙ sym (taken-in_lane (a.lane + 1) (lent_block (lent steps.queue.lane)))
+  step-place = places.place ∙ ap (λ (q : Bool). place_of b.cuts q x.tick) may-same
 
   step-cuts : c' ≡ stepped b.cuts may x.tick (octets_taken x)
   step-cuts =
-      places.placed.steps
-      ∙ ap₂ (λ (q : Bool) (l : Lent). stepped b.cuts q l.head.tick (octets_taken (lent_block (lent places.queue.lane)))) may-same same-lent
-      ∙ ap (stepped b.cuts may x.tick) taken-same
+      places.steps ∙ ap₂ (λ (q : Bool) (n : ℕ). stepped b.cuts q x.tick n) may-same (sym (taken-in_lane (a.lane + 1) (lent_block (lent steps.queue.lane))))
 
   step-scale : c'.scale ≡ b.cuts.scale
   step-scale = ap (λ (c : CutsSeen). c.scale) step-cuts

@@ -43,7 +43,7 @@ use Rattle.splitter.specs.Steps.{CutsSeen, start_of}
 use Rattle.splitter.specs.declared.cuts.Place.{Place}
 use Rattle.splitter.specs.declared.cuts.Place.TheVariants.{Same, Next, Out}
 use Rattle.remuxer.specs.declared.counts.Counts.{Counts}
-use Rattle.remuxer.specs.declared.placing.Ahead.{Ahead}
+use Rattle.remuxer.specs.declared.placed.Ahead.{Ahead}
 use Rattle.remuxer.specs.Places.{CanGive, IsEnd, StandsAhead, StandsAt, ahead_at, ahead_of, block_lent, first_tick, is_same, is_within, lent_ahead, part_in, rest_of_part, split_in, start_in, turns_with}
 use Rattle.remux_plan.specs.declared.output.OutputSpec.{OutputSpec}
 use Rattle.remuxer.specs.Output.{Ends, FillsPart, chapters_cut}

@@ -5,5 +5,4 @@ pub mod Output
 pub mod Plan
 pub mod Started
 pub mod Told
-pub mod Placed
 pub mod Stands

@@ -16,7 +16,7 @@ use Rattle.splitter.specs.declared.spec.SplitSpec.{SplitSpec}
 use Rattle.splitter.specs.declared.spec.SplitSpec.TheVariants.{Whole}
 use Rattle.splitter.specs.Steps.{CutsSeen, counted, is_kept, place_at, start_of}
 use Rattle.cluster_writer.specs.Lengths.{octets_taken}
-use Rattle.remuxer.specs.declared.placing.Ahead.{Ahead}
+use Rattle.remuxer.specs.declared.placed.Ahead.{Ahead}
 use Rattle.remux_plan.specs.Parts.{drives_by}
 use Rattle.remux_plan.specs.declared.TheConstants.{MOST_SCALE}
 use Rattle.remuxer.specs.declared.placed.PlacedBlocks.{PlacedBlocks}
@@ -39,6 +39,10 @@ abbrev pub start_in : Place → Option ℕ
 start_in Same = None
 start_in (Next start) = Some start
 start_in Out = None
+
+-- how many octets of a block count towards a load: those of its Element, where a load ends a part
+abbrev pub octets_counted : CutsSeen → OutputBlock → ℕ
+octets_counted c b = if is_some c.size then octets_taken b else 0
 
 -- ---- the block ahead
 

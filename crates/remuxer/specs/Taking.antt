@@ -22,7 +22,7 @@ use Rattle.time_merge.specs.Merge.{IsTold, MergeSeen, damages, due, files_length
 use Rattle.time_merge.specs.Queues.{KeepsQueues}
 use Rattle.time_merge.specs.declared.queue.Queue.{Queue}
 use Rattle.splitter.specs.Sections.{in_part, parts}
-use Rattle.remuxer.specs.declared.placing.Ahead.{Ahead}
+use Rattle.remuxer.specs.declared.placed.Ahead.{Ahead}
 use Rattle.splitter.specs.Steps.{is_kept, start_of}
 use Rattle.remuxer.specs.Places.{CanGive, IsFresh, StandsAhead, behind_part, is_within, lent_ahead, part_in, parts_left, rest_of_part, split_in, start_in, turns}
 use Rattle.remuxer.specs.declared.placed.PlacedBlocks.{PlacedBlocks}

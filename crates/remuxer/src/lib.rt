@@ -9,7 +9,6 @@ mod merging;
 mod output;
 mod parts;
 mod placed;
-mod placing;
 mod planned;
 mod run;
 mod summary;

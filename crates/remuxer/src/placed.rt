@@ -4,12 +4,22 @@ ghost use Rattle.std.specs.Prelude.{◌≡◌, max, OnOk};
 ghost use Rattle.std.specs.Option.{option_map};
 ghost use Rattle.mkv_io.specs.Faults.{HasCause, is_read_fault};
 ghost use Rattle.mkv_io.specs.Sources.{live_files};
-ghost use Rattle.remuxer.specs.Places.{start_in};
+ghost use Rattle.output_model.specs.OutputBlock.{IsLent, lent_block};
+ghost use Rattle.lanes.specs.Lane.{lent};
+ghost use Rattle.remuxer.specs.Places.{octets_counted, start_in};
 
-use crate::placing::{Ahead, place_next};
+use cluster_writer::element_len;
+use lanes::Lane;
 use mkv_io::{List, ReadEnd, Reads};
 use part_size::{PartCuts, Place};
 use time_merge::Merge;
+
+/// A block that a merge has given: the number of the lane that lends it, from 0, and its place.
+#[derive(Clone, Copy)]
+pub(crate) struct Ahead {
+    pub(crate) lane: usize,
+    pub(crate) place: Place,
+}
 
 /// A merge, where it is cut, and of each of its lanes whether it drives; and the block ahead: the last one that the merge has
 /// given, which isn't written.
@@ -29,6 +39,24 @@ fn start_in(place: Place) -> Option<u64>
         Place::Next { start } => Some(start),
         _ => None,
     }
+}
+
+// How many octets of the block that a lane lends count towards the load of a part.
+fn load_of(cuts: &PartCuts, lane: &Lane) -> u64
+    requires { IsLent (lent lane.now) }
+    ensures { result ≡ octets_counted cuts.now (lent_block (lent lane.now)) }
+{
+    if !cuts.counts() {
+        return 0;
+    }
+    let block = lane.lent();
+    element_len(
+        block.head,
+        block.prefix.len(),
+        block.sizes,
+        block.references,
+        block.kept.len(),
+    )
 }
 
 impl PlacedBlocks {
@@ -70,8 +98,15 @@ impl PlacedBlocks {
         ensures standing { R.standing src.new ≡ R.standing src.old }
         ensures cause { HasCause is_read_fault (R.reading_faults src.old) (R.reading_faults src.new) result }
     {
-        let ahead = place_next(&mut self.merge, &mut self.cuts, self.drives.as_slice(), src)?;
-        self.ahead = ahead;
+        let Some(lane) = self.merge.step(src)? else {
+            self.ahead = None;
+            return Ok(());
+        };
+        let given = self.merge.lane(lane);
+        let load = load_of(&self.cuts, given);
+        let drives = self.drives.as_slice()[lane];
+        let place = self.cuts.assign(given.head(), drives, load);
+        self.ahead = Some(Ahead { lane, place });
         Ok(())
     }
 

@@ -22,7 +22,7 @@ use Rattle.remuxer.proofs.writer.BlockWriter.add_part.Goals.{After-advance, Afte
 can : (g : Over) (c : After-lane g) → CanTake g.F.Reads g.F.Files c.steps.files c.steps.self c.steps.blocks
 can g c =
     let inv = c.steps.invariant in
-    can-again g.F.Reads g.F.Files c.args.files.now c.steps.files c.args.self.now c.steps.self c.args.blocks.now c.steps.blocks c.requires.can inv.file inv.is_open inv.kept inv.goes
+    can-again g.F.Reads g.F.Files c.args.files.now c.steps.files c.args.self.now c.steps.self c.args.blocks.now c.steps.blocks c.requires.can inv.writes.file inv.writes.is_open inv.writes.kept inv.goes
 
 lends : (g : Over) (c : After-lane g) → LendsAhead c.steps.blocks c.in-Some.lane
 lends g c = lends-ahead c.steps.blocks c.in-Some.lane c.steps.invariant.stands (sym c.in-Some.ensures)
@@ -33,18 +33,12 @@ same-lane g c = lane-is c.steps.blocks.merge c.in-Some.lane (lends g c).lends.qu
 one : (g : Over) (c : After-lane g) → lent_ahead c.steps.blocks ≡ block_lent c.in-Some.lane c.lane.result.now ∷ []
 one g c = (lends g c).one ∙ ap (λ (l : LaneSeen). block_lent c.in-Some.lane l ∷ []) (same-lane g c)
 
--- what was written before it
-so_far : (g : Over) (c : After-lane g) → WritesInto g.F.Reads g.F.Files c.args.files.now c.steps.files c.args.self.now c.steps.self (Ok (tt {0}))
-so_far g c = let inv = c.steps.invariant in record { file = inv.file; is_open = inv.is_open; kept = inv.kept }
-
 pub steps-init : goal.steps-init
 steps-init g c =
     let begun = c.requires.begun in
     let p = c.args.blocks.now in
     record {
-      file = refl;
-      is_open = c.requires.can.is_open;
-      kept = KeepsOthers-none g.F.Reads g.F.Files _ c.args.files.now;
+      writes = record { file = refl; is_open = c.requires.can.is_open; kept = KeepsOthers-none g.F.Reads g.F.Files _ c.args.files.now };
       held = λ small. small;
       goes = goes-idle g.F.Reads c.args.files.now p p.ahead c.requires.can.gives;
       stands = begun.stands;
@@ -86,7 +80,7 @@ pub returns-in_err-add_lent-clause-writes : goal.returns-in_err-add_lent-clause-
 returns-in_err-add_lent-clause-writes g c =
     let end = err_from_is_err_and c.from_residual.result c.from_residual.ensures.1 in
     let both = writes-then {T = Unit {0}} g.F.Reads g.F.Files c.args.files.now c.steps.files c.add_lent.new.files c.args.self.now c.steps.self c.add_lent.new.self (tt {0}) (Err c.in_err-add_lent.field-0.0) c.requires.can.is_open
-    (so_far g (goal.at.returns-in_err-add_lent-clause-writes g c).After-lane) c.in_err-add_lent.ensures.writes in
+    c.steps.invariant.writes c.in_err-add_lent.ensures.writes in
     rw end.1 (record { file = both.file; is_open = tt; kept = both.kept })
 
 -- ---- it was written
@@ -96,7 +90,7 @@ goes-on g c = rest-goes g.F.Reads g.F.Files c.steps.files c.add_lent.new.files c
 
 wrote : (g : Over) (c : After-advance g) → WritesInto g.F.Reads g.F.Files c.args.files.now c.add_lent.new.files c.args.self.now c.add_lent.new.self (Ok (tt {0}))
 wrote g c =
-    writes-then g.F.Reads g.F.Files c.args.files.now c.steps.files c.add_lent.new.files c.args.self.now c.steps.self c.add_lent.new.self (tt {0}) (Ok (tt {0})) c.requires.can.is_open (so_far g (goal.at.After-advance g c).After-lane) c.in_ok-add_lent.ensures.writes
+    writes-then g.F.Reads g.F.Files c.args.files.now c.steps.files c.add_lent.new.files c.args.self.now c.steps.self c.add_lent.new.self (tt {0}) (Ok (tt {0})) c.requires.can.is_open c.steps.invariant.writes c.in_ok-add_lent.ensures.writes
 
 went : (g : Over) (c : After-advance g) → GoesOn g.F.Reads 0 c.args.files.now c.add_lent.new.files c.args.blocks.now c.steps.blocks
 went g c = goes-then g.F.Reads 0 0 c.args.files.now c.steps.files c.add_lent.new.files c.args.blocks.now c.steps.blocks c.steps.blocks c.steps.invariant.goes (goes-on g c)
@@ -162,12 +156,9 @@ steps-preserved g c =
     let after = (goal.at.steps-preserved g c).After-advance in
     let lane = (goal.at.steps-preserved g c).After-lane in
     let next = c.in_ok-advance.ensures in
-    let both = then-read g after e next.standing in
     let goes = goes-on g after in
     record {
-      file = both.file;
-      is_open = both.is_open;
-      kept = both.kept;
+      writes = then-read g after e next.standing;
       held = λ small. c.in_ok-add_lent.ensures.held (inv.held small);
       goes = goes-then g.F.Reads 0 0 c.args.files.now b e p q q' (went g after) next.goes;
       stands = next.advances.stands;
@@ -194,6 +185,3 @@ pub returns-clause-over : goal.returns-clause-over
 returns-clause-over g c =
     let isnt = ap (λ (o : Option ℕ). is_some o) (sym c.in_default.ensures) in
     record { stands = c.steps.invariant.stands; behind = isnt; on = c.steps.invariant.on isnt }
-
-pub returns-clause-writes : goal.returns-clause-writes
-returns-clause-writes g c = let inv = c.steps.invariant in record { file = inv.file; is_open = inv.is_open; kept = inv.kept }

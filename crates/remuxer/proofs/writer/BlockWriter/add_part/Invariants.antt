@@ -1,19 +1,15 @@
-use Rattle.std.proofs.Common.{◌≡◌, ◌≤◌, false, ◌∷◌, []}
+use Rattle.std.proofs.Common.{◌≡◌, ◌≤◌, false, Ok}
 use Rattle.mkv_io.specs.Sources.{live_files}
-use Rattle.mkv_io.specs.Writing.{KeepsOthers}
 use Rattle.cluster_writer.specs.Gathered.{HoldsSmall}
-use Rattle.cues_seekhead.specs.OpenOutput.{IsOpen}
 use Rattle.splitter.specs.Steps.{start_of}
 use Rattle.time_merge.specs.Merge.{IsTold, way}
 use Rattle.remuxer.specs.Places.{StandsAhead, is_within, turns}
-use Rattle.remuxer.specs.Taking.{GoesOn, TakesSome}
+use Rattle.remuxer.specs.Taking.{GoesOn, TakesSome, WritesInto}
 use Rattle.remuxer.proofs.writer.BlockWriter.add_part.Given as goal
 
 abbrev pub invariant-steps : goal.invariant-steps
 invariant-steps g l = record {
-  file : l.self.out.file ≡ l.initial.self.out.file;
-  is_open : IsOpen g.F.Reads l.files l.self.out;
-  kept : KeepsOthers g.F.Reads g.F.Files (g.F.Files.holder l.initial.files l.initial.self.out.file.n ∷ []) l.initial.files l.files;
+  writes : WritesInto {T = Unit {0}} g.F.Reads g.F.Files l.initial.files l.files l.initial.self l.self (Ok (tt {0}));
   held : HoldsSmall l.initial.self.buffer → HoldsSmall l.self.buffer;
   goes : GoesOn g.F.Reads 0 l.initial.files l.files l.initial.blocks l.blocks;
   stands : StandsAhead l.blocks;
