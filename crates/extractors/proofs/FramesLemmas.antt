@@ -1,5 +1,6 @@
 -- Octets that are given to one output, one after the other.
-use Rattle.std.proofs.Common.{◌≡◌, ℕ, zero, suc, ◌+◌, ◌-◌, ◌<◌, ◌≤◌, ◌*◌, ℤ, pos, ◌+ℤ◌, List, [], ◌∷◌, ◌++◌, length, take, drop, get_or, sum, unwrap_or, Result, Ok, Err, IsErr, refl, sym, ◌∙◌, ap, subst, arith, append_assoc, append-nil}
+use Rattle.std.proofs.Common.{◌≡◌, ℕ, zero, suc, ◌+◌, ◌-◌, ◌<◌, ◌≤◌, ◌*◌, ℤ, pos, ◌+ℤ◌, List, [], ◌∷◌, ◌++◌, length, take, drop, get_or, sum, unwrap_or, Result, Ok, Err, IsErr, refl, sym, ◌∙◌, ap, subst, arith, append_assoc, append-nil, w64, to_z, of_z, SFits}
+use Rattle.std.proofs.lemmas.Int.{to_z-of_z}
 use Rattle.std.proofs.Math.Seq.{drop-cons}
 use Rattle.std.proofs.lemmas.List.{drop-drop, drop_all}
 use Rattle.std.proofs.lemmas.List.Sums.{sum_by-cons}
@@ -68,36 +69,37 @@ pub record GivesUpTo {S : Type 0} (f : Ghosts S) (old new : S) (sinks later : Li
   pub whole : all ≡ done ++ left
   pub has : HasGiven f old new sinks later k done
 
-pub GivesUpTo-begins : {S : Type 0} (f : Ghosts S) (files : S) (sinks : List Sink) (k : ℕ) (all : List ℕ) → GivesUpTo f files files sinks sinks k all all
-GivesUpTo-begins f files sinks k all = record {
+pub GivesUpTo-begins : {S : Type 0} (f : Ghosts S) (files : S) (sinks : List Sink) (k : ℕ) (all left : List ℕ) → left ≡ all → GivesUpTo f files files sinks sinks k all left
+GivesUpTo-begins f files sinks k all left is = record {
   done = [];
-  whole = refl;
+  whole = sym is;
   has = λ since given has. subst (HaveBeenGiven since (f.names files) (f.holder files) sinks) (sym (with_more-none k given)) has;
 }
 
--- some more of them were given
-pub GivesUpTo-more : {S : Type 0} (f : Ghosts S) (old mid new : S) (sinks between later : List Sink) (k : ℕ) (all more left : List ℕ) → GivesUpTo f old mid sinks between k all (more ++ left) → HasGiven f mid new between later k more → GivesUpTo f old new sinks later k all left
-GivesUpTo-more f old mid new sinks between later k all more left so gives = record {
-  done = so.done ++ more;
-  whole = so.whole ∙ sym (append_assoc so.done more left);
-  has = λ since given has. subst (HaveBeenGiven since (f.names new) (f.holder new) later) (with_more-twice k so.done more given) (gives since (with_more k so.done given) (so.has since given has));
-}
+module _ {S : Type 0} {f : Ghosts S} {old mid : S} {sinks between : List Sink} {k : ℕ} {all before : List ℕ} (so : GivesUpTo f old mid sinks between k all before) (new : S) (later : List Sink) (more left : List ℕ) (is : before ≡ more ++ left) where
+  -- some more of them were given
+  pub GivesUpTo-more : HasGiven f mid new between later k more → GivesUpTo f old new sinks later k all left
+  GivesUpTo-more gives = record {
+    done = so.done ++ more;
+    whole = so.whole ∙ ap (λ (rest : List ℕ). so.done ++ rest) is ∙ sym (append_assoc so.done more left);
+    has = λ since given has. subst (HaveBeenGiven since (f.names new) (f.holder new) later) (with_more-twice k so.done more given) (gives since (with_more k so.done given) (so.has since given has));
+  }
 
--- some more of them were given in part
-pub GivesUpTo-part : {S : Type 0} (f : Ghosts S) (old mid new : S) (sinks between : List Sink) (k : ℕ) (all more left : List ℕ) → GivesUpTo f old mid sinks between k all (more ++ left) → HasPart f mid new between k more → HasPart f old new sinks k all
-GivesUpTo-part f old mid new sinks between k all more left so part = λ since given has.
-    subst (StandsInPart since (f.names new))
-    (with_more-twice k more left (with_more k so.done given) ∙ with_more-twice k so.done (more ++ left) given ∙ ap (λ (octets : List ℕ). with_more k octets given) (sym so.whole))
-    (StandsInPart-more since (f.names new) k left (with_more k more (with_more k so.done given)) (part since (with_more k so.done given) (so.has since given has)))
+  -- some more of them were given in part
+  pub GivesUpTo-stops : {T E : Type 0} (result : Result T E) → IsErr result → HasPart f mid new between k more → Gives f old new sinks later (with_more k all) result
+  GivesUpTo-stops result stopped part = Gives-err f old new sinks later k all result stopped (λ since given has.
+      subst (StandsInPart since (f.names new))
+      (with_more-twice k more left (with_more k so.done given) ∙ ap (λ (rest : List ℕ). with_more k rest (with_more k so.done given)) (sym is) ∙ with_more-twice k so.done before given ∙ ap (λ (octets : List ℕ). with_more k octets given) (sym so.whole))
+      (StandsInPart-more since (f.names new) k left (with_more k more (with_more k so.done given)) (part since (with_more k so.done given) (so.has since given has))))
 
 -- all of them were given
-pub GivesUpTo-ends : {S : Type 0} (f : Ghosts S) (old new : S) (sinks later : List Sink) (k : ℕ) (all left : List ℕ) → GivesUpTo f old new sinks later k all left → left ≡ [] → HasGiven f old new sinks later k all
-GivesUpTo-ends f old new sinks later k all left so none = λ since given has.
+pub GivesUpTo-ends : {S : Type 0} {f : Ghosts S} {old new : S} {sinks later : List Sink} {k : ℕ} {all left : List ℕ} → GivesUpTo f old new sinks later k all left → left ≡ [] → HasGiven f old new sinks later k all
+GivesUpTo-ends {f = f} {new = new} {later = later} {k = k} so none = λ since given has.
     subst (λ (octets : List ℕ). HaveBeenGiven since (f.names new) (f.holder new) later (with_more k octets given)) (sym (so.whole ∙ ap (λ (rest : List ℕ). so.done ++ rest) none ∙ append-nil so.done)) (so.has since given has)
 
 -- nothing was to be given
 pub HasGiven-none : {S : Type 0} (f : Ghosts S) (files : S) (sinks : List Sink) (k : ℕ) (octets : List ℕ) → octets ≡ [] → HasGiven f files files sinks sinks k octets
-HasGiven-none f files sinks k octets none = GivesUpTo-ends f files files sinks sinks k octets octets (GivesUpTo-begins f files sinks k octets) none
+HasGiven-none f files sinks k octets none = GivesUpTo-ends (GivesUpTo-begins f files sinks k octets octets refl) none
 
 -- ---- the frames of a block
 
@@ -106,7 +108,7 @@ pub entries_left : TrackOutput → ℕ → ℕ → ℤ → ℕ → List ℕ → 
 entries_left o number step time duration sizes body i at = entries_from o (number + i) (frames_from step time duration i (frames_cut (drop i sizes) (drop at body)))
 
 -- the next frame is the first of them
-pub entries_left-next : (o : TrackOutput) (number step : ℕ) (time : ℤ) (duration : ℕ) (sizes body : List ℕ) (i at size n : ℕ) (f : Frame) → i < length sizes → size ≡ get_or sizes i 0 → n ≡ counted (number + i) → f ≡ framed (take size (drop at body)) (time +ℤ pos (i * step)) duration → entries_left o number step time duration sizes body i at ≡ entry_of o n f ++ entries_left o number step time duration sizes body (i + 1) (at + size)
+entries_left-next : (o : TrackOutput) (number step : ℕ) (time : ℤ) (duration : ℕ) (sizes body : List ℕ) (i at size n : ℕ) (f : Frame) → i < length sizes → size ≡ get_or sizes i 0 → n ≡ counted (number + i) → f ≡ framed (take size (drop at body)) (time +ℤ pos (i * step)) duration → entries_left o number step time duration sizes body i at ≡ entry_of o n f ++ entries_left o number step time duration sizes body (i + 1) (at + size)
 unfolding entries_left
 entries_left-next o number step time duration sizes body i at size n f below is named cut =
     ap (λ (ss : List ℕ). entries_from o (number + i) (frames_from step time duration i (frames_cut ss (drop at body)))) (drop-cons sizes i 0 below ∙ ap (λ (s : ℕ). s ∷ drop (suc i) sizes) (sym is))
@@ -124,6 +126,15 @@ entries_left-next o number step time duration sizes body i at size n f below is 
 
     stands : (m : ℕ) → n ≡ counted m → counted m ≡ counted n
     stands m same = omega (arith, same)
+
+-- as a loop finds it, that cuts it and reckons its time
+pub entries_left-found : (o : TrackOutput) (number : ℕ) (time : ℤ) (duration : ℕ) (sizes body : List ℕ) (i at n : ℕ) (found : ℤ) → i < length sizes → n ≡ counted (number + i) → SFits w64 found → found ≡ time +ℤ pos (i * o.step) → entries_left o number o.step time duration sizes body i at ≡ entry_of o n (framed (take ((at + get_or sizes i 0) - at) (drop at body)) (to_z w64 (of_z w64 found)) duration) ++ entries_left o number o.step time duration sizes body (i + 1) (at + get_or sizes i 0)
+entries_left-found o number time duration sizes body i at n found below named fits is =
+    entries_left-next o number o.step time duration sizes body i at (get_or sizes i 0) n (framed (take ((at + get_or sizes i 0) - at) (drop at body)) (to_z w64 (of_z w64 found)) duration) below refl named
+    (ap (λ (m : ℕ). framed (take m (drop at body)) (to_z w64 (of_z w64 found)) duration) (less at (get_or sizes i 0)) ∙ ap (λ (t : ℤ). framed (take (get_or sizes i 0) (drop at body)) t duration) (to_z-of_z w64 found fits ∙ is))
+  where
+    less : (a b : ℕ) → (a + b) - a ≡ b
+    less a b = omega arith
 
 -- at first those of the whole block are left
 pub entries_left-block : (o : TrackOutput) (number step : ℕ) (sizes body : List ℕ) (head : BlockHead) (duration : ℕ) (b : Buffered) → head ≡ b.head → sizes ≡ b.sizes → body ≡ b.body → duration ≡ unwrap_or head.duration 0 → entries_left o number step head.time duration sizes body 0 0 ≡ entries_from o number (frames_in step (block_of b))
@@ -170,12 +181,17 @@ times_left step time i zero = []
 times_left step time i (suc n) = time_line (time +ℤ pos (i * step)) ++ times_left step time (i + 1) n
 
 -- the next line is the first of them
-pub times_left-next : (step : ℕ) (time : ℤ) (i n : ℕ) → i < n → times_left step time i (n - i) ≡ time_line (time +ℤ pos (i * step)) ++ times_left step time (i + 1) (n - (i + 1))
+times_left-next : (step : ℕ) (time : ℤ) (i n : ℕ) → i < n → times_left step time i (n - i) ≡ time_line (time +ℤ pos (i * step)) ++ times_left step time (i + 1) (n - (i + 1))
 unfolding times_left
 times_left-next step time i n below = ap (times_left step time i) (one n i below)
   where
     one : (n i : ℕ) → i < n → n - i ≡ suc (n - (i + 1))
     one n i below = omega (arith, below)
+
+-- as a loop reckons it
+pub times_left-found : (step : ℕ) (time : ℤ) (i n : ℕ) (found : ℤ) → i < n → SFits w64 found → found ≡ time +ℤ pos (i * step) → times_left step time i (n - i) ≡ time_line (to_z w64 (of_z w64 found)) ++ times_left step time (i + 1) (n - (i + 1))
+times_left-found step time i n found below fits is =
+    times_left-next step time i n below ∙ ap (λ (t : ℤ). time_line t ++ times_left step time (i + 1) (n - (i + 1))) (sym (to_z-of_z w64 found fits ∙ is))
 
 -- and at last there is none
 pub times_left-none : (step : ℕ) (time : ℤ) (i n : ℕ) → n ≤ i → times_left step time i (n - i) ≡ []

@@ -16,7 +16,8 @@ use Rattle.mkv_outputs.proofs.StartsLemmas.{AreBegun-then, IsBegun-whole}
 use Rattle.extractors.specs.Content.{names_in, output_of, outputs_of}
 use Rattle.extractors.specs.declared.track_output.TrackOutput.{TrackOutput}
 use Rattle.extractors.proofs.ContentLemmas.{names_of-outputs, output_of-none}
-use Rattle.extractors.specs.Walks.{Makes, Writes, WritesAndReads}
+use Rattle.extractors.specs.Walks.{Makes, WritesAndReads}
+use Rattle.extractors.specs.Whole.{AreWritten}
 
 -- a refusal leaves a part
 pub Makes-err : {S T E : Type 0} (f : Ghosts S) (old new : S) (later : List Sink) (given : List Output) (result : Result T E) → IsErr result → StandsInPart (f.names old) (f.names new) given → Makes f old new later given result
@@ -148,6 +149,6 @@ made-walked r f old a b c list sinks later numbered has made walks =
     (let P : List (List ℕ) → Type 0 = λ names. KeepsOthers r f names b c in subst P (made-names old (f.names b) (f.holder b) sinks list has) walks.kept)
 
 -- a refusal leaves a part
-pub Writes-err : {S T E : Type 0} (f : Ghosts S) (old new : S) (outputs : List Output) (result : Result T E) → IsErr result → StandsInPart (f.names old) (f.names new) outputs → Writes f old new outputs result
-Writes-err f old new outputs (Ok done) is part = absurd (cc)
-Writes-err f old new outputs (Err fault) is part = part
+pub AreWritten-err : {T E : Type 0} (old new : Names) (outputs : List Output) (result : Result T E) → IsErr result → StandsInPart old new outputs → AreWritten old new outputs result
+AreWritten-err old new outputs (Ok done) is part = absurd (cc)
+AreWritten-err old new outputs (Err fault) is part = part

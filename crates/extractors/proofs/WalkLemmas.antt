@@ -91,44 +91,6 @@ HaveBeenGiven-moved since old new holder later sinks given has names holders =
 abbrev pub Given : {S : Type 0} → writing.Ghosts S → List TrackOutput → S → S → List Sink → List Sink → List ℕ → List Block → Type 0
 Given f list old new sinks later numbers passed = (since : Names) → HaveBeenGiven since (f.names old) (f.holder old) sinks (outputs_of list []) → HaveBlocks f since list new later numbers passed
 
--- none at first
-pub Given-none : {S : Type 0} (f : writing.Ghosts S) (list : List TrackOutput) (files : S) (sinks : List Sink) (numbers : List ℕ) → numbers ≡ replicate (length list) 1 → Given f list files files sinks sinks numbers []
-Given-none f list files sinks numbers ones = λ since has. record { given = has; next = ones ∙ all list }
-  where
-    all : (os : List TrackOutput) → replicate (length os) 1 ≡ numbers_after os []
-    all [] = refl
-    all (o ∷ os) = ap (λ (rest : List ℕ). 1 ∷ rest) (all os)
-
--- what reading leaves changes nothing
-pub Given-read : {S : Type 0} (f : writing.Ghosts S) (list : List TrackOutput) (a b c : S) (sinks now : List Sink) (numbers : List ℕ) (passed : List Block) → Given f list a b sinks now numbers passed → f.names c ≡ f.names b → ((file : ℕ) → f.holder c file ≡ f.holder b file) → Given f list a c sinks now numbers passed
-Given-read f list a b c sinks now numbers passed gave names holders = λ since has.
-    let had = gave since has in
-    record {
-      given = HaveBeenGiven-moved since (f.names b) (f.names c) (f.holder b) (f.holder c) now (outputs_of list passed) had.given names holders;
-      next = had.next;
-    }
-
--- one block more
-pub Given-more : {S : Type 0} (f : writing.Ghosts S) (list : List TrackOutput) (a b c : S) (sinks now later : List Sink) (numbers next : List ℕ) (passed : List Block) (b' : Block) → Given f list a b sinks now numbers passed → ((since : Names) (blocks : List Block) → HaveBlocks f since list b now numbers blocks → HaveBlocks f since list c later next (blocks ++ b' ∷ [])) → Given f list a c sinks later next (passed ++ b' ∷ [])
-Given-more f list a b c sinks now later numbers next passed b' gave gives = λ since has. gives since passed (gave since has)
-
--- a refused block stands in part of all
-pub Given-part : {S : Type 0} (f : writing.Ghosts S) (list : List TrackOutput) (a b c : S) (sinks now : List Sink) (numbers : List ℕ) (passed : List Block) (b' : Block) (all : List Block) → Given f list a b sinks now numbers passed → ((since : Names) (blocks : List Block) → HaveBlocks f since list b now numbers blocks → StandsInPart since (f.names c) (outputs_of list (blocks ++ b' ∷ []))) → AreBegun (outputs_of list (passed ++ b' ∷ [])) (outputs_of list all) → (since : Names) → HaveBeenGiven since (f.names a) (f.holder a) sinks (outputs_of list []) → StandsInPart since (f.names c) (outputs_of list all)
-Given-part f list a b c sinks now numbers passed b' all gave part begun since has =
-    StandsInPart-then since (f.names c) (outputs_of list (passed ++ b' ∷ [])) (outputs_of list all) (part since passed (gave since has)) begun
-
--- what was given so far stands in part of all
-pub Given-begun : {S : Type 0} (f : writing.Ghosts S) (list : List TrackOutput) (a b : S) (sinks now : List Sink) (numbers : List ℕ) (passed all : List Block) → Given f list a b sinks now numbers passed → AreBegun (outputs_of list passed) (outputs_of list all) → (since : Names) → HaveBeenGiven since (f.names a) (f.holder a) sinks (outputs_of list []) → StandsInPart since (f.names b) (outputs_of list all)
-Given-begun f list a b sinks now numbers passed all gave begun since has =
-    StandsInPart-then since (f.names b) (outputs_of list passed) (outputs_of list all)
-    (HaveBeenGiven-part since (f.names b) (f.holder b) now (outputs_of list passed) (gave since has).given)
-    begun
-
--- at the end they have them all
-pub Given-ends : {S : Type 0} (f : writing.Ghosts S) (list : List TrackOutput) (a b : S) (sinks now : List Sink) (numbers : List ℕ) (passed all : List Block) → Given f list a b sinks now numbers passed → passed ≡ all → (since : Names) → HaveBeenGiven since (f.names a) (f.holder a) sinks (outputs_of list []) → HaveBeenGiven since (f.names b) (f.holder b) now (outputs_of list all)
-Given-ends f list a b sinks now numbers passed all gave same since has =
-    subst (λ (bs : List Block). HaveBeenGiven since (f.names b) (f.holder b) now (outputs_of list bs)) same (gave since has).given
-
 -- ---- what was met, given and told
 
 -- What was met of a file was given to outputs, and its damages and bad frames were told; this is left.
@@ -140,13 +102,19 @@ pub record MetSoFar {S : Type 0} (f : writing.Ghosts S) (list : List TrackOutput
 
 pub MetSoFar-begins : {S : Type 0} (f : writing.Ghosts S) (list : List TrackOutput) (files : S) (sinks : List Sink) (numbers : List ℕ) (all : List Event) (damages bad : ToldDamages) → numbers ≡ replicate (length list) 1 → damages ≡ told_damages [] → bad ≡ told_damages [] → MetSoFar f list files files sinks sinks numbers all all damages bad
 MetSoFar-begins f list files sinks numbers all damages bad ones none good =
-    record { passed = []; has = Given-none f list files sinks numbers ones; met = MetUpTo-begins all damages none; told = good }
+    record { passed = []; has = λ since has. record { given = has; next = ones ∙ each list }; met = MetUpTo-begins all damages none; told = good }
+  where
+    each : (os : List TrackOutput) → replicate (length os) 1 ≡ numbers_after os []
+    each [] = refl
+    each (o ∷ os) = ap (λ (rest : List ℕ). 1 ∷ rest) (each os)
 
 -- the cursor went on
 pub MetSoFar-read : {S : Type 0} (f : writing.Ghosts S) (list : List TrackOutput) (a b c : S) (sinks now : List Sink) (numbers : List ℕ) (all left : List Event) (damages bad : ToldDamages) → MetSoFar f list a b sinks now numbers all left damages bad → f.names c ≡ f.names b → ((file : ℕ) → f.holder c file ≡ f.holder b file) → MetSoFar f list a c sinks now numbers all left damages bad
 MetSoFar-read f list a b c sinks now numbers all left damages bad so names holders = record {
   passed = so.passed;
-  has = Given-read f list a b c sinks now numbers so.passed so.has names holders;
+  has = λ since has.
+      let had = so.has since has in
+      record { given = HaveBeenGiven-moved since (f.names b) (f.names c) (f.holder b) (f.holder c) now (outputs_of list so.passed) had.given names holders; next = had.next };
   met = so.met;
   told = so.told;
 }
@@ -155,7 +123,7 @@ MetSoFar-read f list a b c sinks now numbers all left damages bad so names holde
 pub MetSoFar-block : {S : Type 0} (f : writing.Ghosts S) (list : List TrackOutput) (a b c : S) (sinks now later : List Sink) (numbers next : List ℕ) (all left behind : List Event) (damages bad more : ToldDamages) (given : Block) → MetSoFar f list a b sinks now numbers all left damages bad → left ≡ block given ∷ behind → ((since : Names) (blocks : List Block) → HaveBlocks f since list b now numbers blocks → HaveBlocks f since list c later next (blocks ++ given ∷ [])) → TellsMore bad more (bad_in list given) → MetSoFar f list a c sinks later next all behind damages more
 MetSoFar-block f list a b c sinks now later numbers next all left behind damages bad more given so is gives tells = record {
   passed = so.passed ++ given ∷ [];
-  has = Given-more f list a b c sinks now later numbers next so.passed given so.has gives;
+  has = λ since has. gives since so.passed (so.has since has);
   met = MetUpTo-block all left behind so.passed damages given so.met is;
   told = tells (bad_frames list so.passed) so.told ∙ ap told_damages (sym (bad_frames-more list so.passed given));
 }
@@ -167,19 +135,21 @@ MetSoFar-damage f list a b sinks now numbers all left behind damages bad more la
 
 -- what was given so far stands in part of all
 pub MetSoFar-begun : {S : Type 0} (f : writing.Ghosts S) (list : List TrackOutput) (a b : S) (sinks now : List Sink) (numbers : List ℕ) (all left : List Event) (damages bad : ToldDamages) → MetSoFar f list a b sinks now numbers all left damages bad → (since : Names) → HaveBeenGiven since (f.names a) (f.holder a) sinks (outputs_of list []) → StandsInPart since (f.names b) (outputs_of list (blocks_of all))
-MetSoFar-begun f list a b sinks now numbers all left damages bad so =
-    Given-begun f list a b sinks now numbers so.passed (blocks_of all) so.has (MetUpTo-begun list all left so.passed damages so.met)
+MetSoFar-begun f list a b sinks now numbers all left damages bad so = λ since has.
+    StandsInPart-then since (f.names b) (outputs_of list so.passed) (outputs_of list (blocks_of all))
+    (HaveBeenGiven-part since (f.names b) (f.holder b) now (outputs_of list so.passed) (so.has since has).given)
+    (MetUpTo-begun list all left so.passed damages so.met)
 
 -- and so does a block that was refused
 pub MetSoFar-part : {S : Type 0} (f : writing.Ghosts S) (list : List TrackOutput) (a b c : S) (sinks now : List Sink) (numbers : List ℕ) (all left behind : List Event) (damages bad : ToldDamages) (given : Block) → MetSoFar f list a b sinks now numbers all left damages bad → left ≡ block given ∷ behind → ((since : Names) (blocks : List Block) → HaveBlocks f since list b now numbers blocks → StandsInPart since (f.names c) (outputs_of list (blocks ++ given ∷ []))) → (since : Names) → HaveBeenGiven since (f.names a) (f.holder a) sinks (outputs_of list []) → StandsInPart since (f.names c) (outputs_of list (blocks_of all))
-MetSoFar-part f list a b c sinks now numbers all left behind damages bad given so is part =
-    Given-part f list a b c sinks now numbers so.passed given (blocks_of all) so.has part
+MetSoFar-part f list a b c sinks now numbers all left behind damages bad given so is part = λ since has.
+    StandsInPart-then since (f.names c) (outputs_of list (so.passed ++ given ∷ [])) (outputs_of list (blocks_of all)) (part since so.passed (so.has since has))
     (MetUpTo-begun list all behind (so.passed ++ given ∷ []) damages (MetUpTo-block all left behind so.passed damages given so.met is))
 
 -- at the end all was given
 pub MetSoFar-ends : {S : Type 0} (f : writing.Ghosts S) (list : List TrackOutput) (a b : S) (sinks now : List Sink) (numbers : List ℕ) (all left : List Event) (damages bad : ToldDamages) → MetSoFar f list a b sinks now numbers all left damages bad → left ≡ [] → (since : Names) → HaveBeenGiven since (f.names a) (f.holder a) sinks (outputs_of list []) → HaveBeenGiven since (f.names b) (f.holder b) now (outputs_of list (blocks_of all))
-MetSoFar-ends f list a b sinks now numbers all left damages bad so none =
-    Given-ends f list a b sinks now numbers so.passed (blocks_of all) so.has (MetUpTo-blocks all left so.passed damages so.met none)
+MetSoFar-ends f list a b sinks now numbers all left damages bad so none = λ since has.
+    subst (λ (bs : List Block). HaveBeenGiven since (f.names b) (f.holder b) now (outputs_of list bs)) (MetUpTo-blocks all left so.passed damages so.met none) (so.has since has).given
 
 -- and told
 pub MetSoFar-told : {S : Type 0} (f : writing.Ghosts S) (list : List TrackOutput) (a b : S) (sinks now : List Sink) (numbers : List ℕ) (all left : List Event) (told : Extracted) → MetSoFar f list a b sinks now numbers all left told.damages told.bad_frames → left ≡ [] → told ≡ told_of list all

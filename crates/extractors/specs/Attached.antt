@@ -1,11 +1,17 @@
 -- What an extraction of attached files writes: RFC 9559, section 5.1.6 (Attachments Element).
-use Rattle.std.specs.Prelude.{ℕ, suc, zero, List, [], ◌∷◌, Option, Some, None, slice_get}
+use Rattle.std.specs.Prelude.{ℕ, suc, zero, ◌+◌, ◌*◌, ◌≤◌, List, [], ◌∷◌, map, All, Option, Some, None, slice_get, Result}
 use Rattle.std.specs.List.{flat_map}
 use Rattle.mkv_io.specs.Contents.{octets_from}
+use Rattle.mkv_io.specs.Sources.{IfTold, file_size}
+use Rattle.mkv_io.specs.declared.outside.FileId.{FileId}
+use Rattle.mkv_io.specs.declared.reads.Reads.{Ghosts}
+use Rattle.mkv_io.specs.declared.files.Files as writing
 use Rattle.word_values.specs.declared.job.Target.{Target}
 use Rattle.mkv_outputs.specs.Outputs.{Output}
-use Rattle.meta_records.specs.Attached.{AttachedFile}
-use Rattle.extractors.specs.Whole.{output}
+use Rattle.meta_records.specs.Attached.{AttachedFile, in_file}
+use Rattle.meta_records.specs.Walk.{IsAttachedIn}
+use Rattle.extractors.specs.Whole.{AreWritten, output}
+use Rattle.extractors.specs.declared.source.Source.{Source}
 
 -- an attached file by its number, from 1
 abbrev pub attached_at : {A : Type 0} → List A → ℕ → Option A
@@ -24,3 +30,23 @@ attached_output bytes t (Some a) = output t.name (data_in bytes a) ∷ []
 -- the outputs of targets, in their order
 abbrev pub attached_outputs : List ℕ → List Target → List AttachedFile → List Output
 attached_outputs bytes targets files = flat_map (λ (t : Target). attached_output bytes t (attached_at files t.id)) targets
+
+-- ---- what the calls come to
+
+-- The data of all attached files of a source stand in its file.
+abbrev pub HasAttached : {S : Type 0} → Ghosts S → S → Source → Type 0
+HasAttached r files s = All (IsAttachedIn s.file (file_size r files s.file)) s.attachments
+
+-- The output of a target stands whole, if the source has the attached file, or after a refusal in part.
+abbrev pub WritesAttachment : {S T E : Type 0} → Ghosts S → writing.Ghosts S → Source → Target → S → S → Result T E → Type 0
+WritesAttachment r f s t old new result =
+    IfTold r old s.file (λ bytes. AreWritten (f.names old) (f.names new) (attached_output bytes t (attached_at (map in_file s.attachments) t.id)) result)
+
+-- The outputs of targets stand whole, or after a refusal in part.
+abbrev pub WritesAttached : {S T E : Type 0} → Ghosts S → writing.Ghosts S → Source → List Target → S → S → Result T E → Type 0
+WritesAttached r f s targets old new result =
+    IfTold r old s.file (λ bytes. AreWritten (f.names old) (f.names new) (attached_outputs bytes targets (map in_file s.attachments)) result)
+
+-- A file is read at most so many times.
+abbrev pub ReadsTimes : {S : Type 0} → Ghosts S → ℕ → FileId → S → S → Type 0
+ReadsTimes r times file old new = r.octets_read new ≤ r.octets_read old + times * file_size r old file

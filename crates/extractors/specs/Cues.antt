@@ -1,12 +1,16 @@
 -- What an extraction of cue points writes: RFC 9559, section 5.1.5 (Cues Element).
-use Rattle.std.specs.Prelude.{ℕ, List, [], ◌∷◌, Option, Some, None, slice_get}
+use Rattle.std.specs.Prelude.{ℕ, List, [], ◌∷◌, Option, Some, None, slice_get, Result}
 use Rattle.std.specs.List.{flat_map}
 use Rattle.word_values.specs.declared.job.Target.{Target}
 use Rattle.mkv_outputs.specs.Outputs.{Output}
 use Rattle.tree_format.specs.Node.{Node}
 use Rattle.file_format.specs.Entry.{number_of}
 use Rattle.extractors.specs.Lines.{cue_lines}
-use Rattle.extractors.specs.Whole.{output}
+use Rattle.extractors.specs.Source.{entries_in}
+use Rattle.extractors.specs.Whole.{AreWritten, output}
+use Rattle.extractors.specs.declared.source.Source.{Source}
+use Rattle.meta_records.specs.Records.{scale_of_info}
+use Rattle.mkv_io.specs.declared.files.Files.{Ghosts}
 
 -- the lines of the first Cues of a file that are of a track; without one there are none
 abbrev pub cues_text : ℕ → ℕ → Option Node → List ℕ
@@ -21,3 +25,14 @@ cues_output scale cues t (Some entry) = output t.name (cues_text scale (number_o
 -- the outputs of targets, in their order, where these are the entries of the tracks
 abbrev pub cues_outputs : ℕ → Option Node → List Target → List Node → List Output
 cues_outputs scale cues targets entries = flat_map (λ (t : Target). cues_output scale cues t (slice_get entries t.id)) targets
+
+-- ---- what the calls come to
+
+-- The output of a target stands whole, if the source has the track, or after a refusal in part.
+abbrev pub WritesTrackCues : {S T E : Type 0} → Ghosts S → Source → Target → S → S → Result T E → Type 0
+WritesTrackCues f s t old new result =
+    AreWritten (f.names old) (f.names new) (cues_output (scale_of_info s.info) s.cues t (slice_get (entries_in s) t.id)) result
+
+-- The outputs of targets stand whole, or after a refusal in part.
+abbrev pub WritesCues : {S T E : Type 0} → Ghosts S → Source → List Target → S → S → Result T E → Type 0
+WritesCues f s targets old new result = AreWritten (f.names old) (f.names new) (cues_outputs (scale_of_info s.info) s.cues targets (entries_in s)) result

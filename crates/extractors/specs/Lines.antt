@@ -12,6 +12,10 @@ abbrev pub number_or_dash : Option ℕ → List ℕ
 number_or_dash None = codes "-"
 number_or_dash (Some n) = decimal n
 
+-- a name, and a number behind it
+abbrev pub labelled : List ℕ → Option ℕ → List ℕ
+labelled name number = name ++ number_or_dash number
+
 -- the time of a cue point in nanoseconds, where it says one
 abbrev pub point_time : ℕ → Node → Option ℕ
 point_time scale point = option_map (λ ticks. ticks * scale) (integer_in CUE_TIME point)
@@ -23,7 +27,7 @@ cue_line time place =
     ++ (codes " cluster_position=" ++ (number_or_dash (integer_in CUE_CLUSTER_POSITION place)
     ++ (codes " relative_position=" ++ (number_or_dash (integer_in CUE_RELATIVE_POSITION place) ++ codes "\n")))))
 
--- the same, if it bears this TrackNumber
+-- the line of a CueTrackPositions, if it bears this TrackNumber
 abbrev pub place_lines : Option ℕ → ℕ → Node → List ℕ
 place_lines time track place = if option_map_or (λ own. own == track) (integer_in CUE_TRACK place) false then cue_line time place else []
 

@@ -1,5 +1,5 @@
 -- The first Cues of a file: RFC 9559, section 5.1.5 (Cues Element). Its limits are this project's.
-use Rattle.std.specs.Prelude.{ℕ, List, Option, Some, None, Result, Ok}
+use Rattle.std.specs.Prelude.{◌≡◌, ℕ, List, Option, Some, None, Result, Ok}
 use Rattle.mkv_schema.specs.declared.ids.TheConstants.{CUES}
 use Rattle.mkv_io.specs.declared.damage.Damage.{Damage}
 use Rattle.mkv_schema.specs.declared.element.Header.{Header}
@@ -8,6 +8,9 @@ use Rattle.mkv_schema.specs.Outline.{over, segment_run}
 use Rattle.mkv_io.specs.Results.{and_then, unless}
 use Rattle.mkv_schema.specs.Value.{body_of, first_of}
 use Rattle.tree_format.specs.Node.{Node}
+use Rattle.element_reader.specs.Outline.{FileOutline, outline_in}
+use Rattle.element_reader.specs.declared.outline_end.OutlineEnd.{OutlineEnd}
+use Rattle.meta_records.specs.Records.{ReadsAs}
 use Rattle.tree_format.specs.Reading.{tree_of}
 use Rattle.extractors.specs.declared.limits.TheConstants.{MOST_CUE_NODES}
 
@@ -21,3 +24,7 @@ cues_at bytes (Some h) =
 -- the first Cues of level 1
 abbrev pub first_cues : List ℕ → Header → Result (Option Node) Damage
 first_cues bytes segment = cues_at bytes (first_of CUES (segment_run bytes segment).list)
+
+-- The first Cues was read so, where this is the outline of the content.
+abbrev pub ReadsFirstCues : FileOutline → Result (Option Node) OutlineEnd → List ℕ → Type 0
+ReadsFirstCues outline result bytes = (held : ℕ) → outline_in held bytes ≡ Ok outline → ReadsAs (first_cues bytes outline.segment) result

@@ -1,18 +1,35 @@
 -- What is written on a walk over the blocks of a file.
-use Rattle.std.specs.Prelude.{◌≡◌, ◌≤◌, ◌<◌, ℕ, ◌+◌, ◌*◌, ◌^◌, List, [], ◌∷◌, ◌++◌, length, map, Result, Ok, Err}
+use Rattle.std.specs.Prelude.{◌≡◌, ◌≤◌, ◌<◌, ℕ, ◌+◌, ◌*◌, ◌^◌, List, [], ◌∷◌, ◌++◌, length, map, unwrap_or, Result, Ok, Err, IfOk}
 use Rattle.srt_texts.specs.Writing.{put_srt}
 use Rattle.mkv_io.specs.Names.{Names}
+use Rattle.mkv_io.specs.Sources.{IfTold, file_size}
+use Rattle.mkv_io.specs.declared.outside.FileId.{FileId}
 use Rattle.mkv_io.specs.Writing.{KeepsOthers}
 use Rattle.mkv_io.specs.declared.reads.Reads.{Ghosts}
 use Rattle.mkv_io.specs.declared.files.Files as writing
+use Rattle.word_values.specs.declared.job.Job.{Job}
+use Rattle.elementary.specs.Avc.{annex_b}
+use Rattle.elementary.specs.Aac.{adts}
+use Rattle.elementary.specs.declared.audio.Aac.{Aac}
 use Rattle.block_format.specs.Block.{Block}
-use Rattle.mkv_outputs.specs.Outputs.{Output, with_outputs}
-use Rattle.mkv_outputs.specs.Sinks.{AreOpen, HaveBeenGiven, ids_of, names_under}
+use Rattle.block_format.specs.Events.{blocks_of}
+use Rattle.block_records.specs.Buffered.{block_of}
+use Rattle.cluster_reader.specs.Reading.{Reading, left_of}
+use Rattle.cluster_reader.specs.Takes.{IsKnownByHead}
+use Rattle.cluster_reader.specs.ToldDamages.{ToldDamages}
+use Rattle.mkv_outputs.specs.Outputs.{Output, with_more}
+use Rattle.mkv_outputs.specs.Sinks.{AreOpen, Gives, HaveBeenGiven, ids_of, names_under}
 use Rattle.mkv_outputs.specs.Starts.{StandsInPart}
 use Rattle.mkv_outputs.specs.declared.sink.Sink.{Sink}
-use Rattle.extractors.specs.Content.{counted, entries_from, outputs_of}
+use Rattle.extractors.specs.BadFrames.{TellsMore, bad_in, told_of}
+use Rattle.extractors.specs.Content.{counted, entries_from, entry_of, outputs_of}
 use Rattle.extractors.specs.Codec.{CanWrite}
-use Rattle.extractors.specs.Frames.{Frame, frames_for, frames_of}
+use Rattle.extractors.specs.Frames.{Frame, frames_for, frames_in, frames_of}
+use Rattle.extractors.specs.Source.{events_in, outputs_in}
+use Rattle.extractors.specs.Takes.{IsEnoughFor, IsEnoughForAll}
+use Rattle.extractors.specs.Whole.{AreWritten}
+use Rattle.extractors.specs.declared.extracted.Extracted.{Extracted}
+use Rattle.extractors.specs.declared.source.Source.{Source}
 use Rattle.extractors.specs.declared.track_output.TrackOutput.{TrackOutput}
 use Rattle.extractors.specs.declared.frames.Framed.{Framed}
 
@@ -22,9 +39,9 @@ use Rattle.extractors.specs.declared.frames.Framed.{Framed}
 abbrev pub frame_of : Framed → Frame
 frame_of f = record { octets = f.octets.now; time = f.time; duration = f.duration }
 
--- the same as an entry of SubRip, whose text is the frame behind a prefix
-abbrev pub text_entry : List ℕ → Framed → List ℕ
-text_entry prefix f = put_srt f.number f.time f.duration (prefix ++ f.octets.now)
+-- a frame that is given as an entry of SubRip, whose text is the frame behind a prefix
+abbrev pub as_text : List ℕ → Framed → List ℕ
+as_text prefix f = put_srt f.number f.time f.duration (prefix ++ f.octets.now)
 
 -- how many frames a block has for an output: none, if it isn't of the output's track
 abbrev pub count_in : TrackOutput → Block → ℕ
@@ -38,6 +55,50 @@ piece o n b = entries_from o n (frames_for o.step o.track b)
 pub record IsReady (o : TrackOutput) : Type 0 where
   pub step : o.step < 2 ^ 48
   pub can : CanWrite o.form
+
+-- the units of a frame of AVC, each behind a start code; nothing of a bad one
+abbrev pub annexed : ℕ → List ℕ → List ℕ
+annexed length_size octets = unwrap_or (annex_b length_size octets) []
+
+-- a frame of AAC behind a prefix, both behind a header; nothing of a bad one
+abbrev pub headed : Aac → List ℕ → List ℕ → List ℕ
+headed aac prefix octets = unwrap_or (adts aac (prefix ++ octets)) []
+
+-- Whatever the outputs were given before, the k-th has then been given these octets too. After a refusal they stand in part.
+abbrev pub Adds : {S T E : Type 0} → writing.Ghosts S → S → S → List Sink → List Sink → ℕ → List ℕ → Result T E → Type 0
+Adds f old new sinks later k octets result = Gives f old new sinks later (with_more k octets) result
+
+-- The k-th output has been given what is written of a frame.
+abbrev pub AddsFrame : {S T E : Type 0} → writing.Ghosts S → TrackOutput → Framed → S → S → List Sink → List Sink → ℕ → Result T E → Type 0
+AddsFrame f o frame old new sinks later k result = Adds f old new sinks later k (entry_of o frame.number (frame_of frame)) result
+
+-- The k-th output has been given what is written of the frames of the block that a cursor lends, of which the first has this number.
+abbrev pub AddsLent : {S T E : Type 0} → writing.Ghosts S → TrackOutput → ℕ → Reading → S → S → List Sink → List Sink → ℕ → Result T E → Type 0
+AddsLent f o n c old new sinks later k result = Adds f old new sinks later k (entries_from o n (frames_in o.step (block_of c.block))) result
+
+-- This is the number of the frame behind them.
+abbrev pub CountsFrames : {E : Type 0} → TrackOutput → ℕ → Reading → Result ℕ E → Type 0
+CountsFrames o n c result = IfOk result (λ next. next ≡ counted (n + length (frames_in o.step (block_of c.block))))
+
+-- The k-th output has been given the times of the frames of a block of which a cursor lends the head.
+abbrev pub AddsTime : {S T E : Type 0} → writing.Ghosts S → TrackOutput → ℕ → Reading → S → S → List Sink → List Sink → ℕ → Result T E → Type 0
+AddsTime f o n c old new sinks later k result = (b : Block) → IsKnownByHead b c.block → Adds f old new sinks later k (entries_from o n (frames_in o.step b)) result
+
+-- This is the number of the frame behind them.
+abbrev pub CountsTimes : {E : Type 0} → TrackOutput → ℕ → Reading → Result ℕ E → Type 0
+CountsTimes o n c result = (b : Block) → IsKnownByHead b c.block → IfOk result (λ next. next ≡ counted (n + length (frames_in o.step b)))
+
+-- The k-th output has been given what it takes of a block of which a cursor lends enough.
+abbrev pub AddsPart : {S T E : Type 0} → writing.Ghosts S → TrackOutput → ℕ → Reading → S → S → List Sink → List Sink → ℕ → Result T E → Type 0
+AddsPart f o n c old new sinks later k result = (b : Block) → IsEnoughFor o b c.block → Adds f old new sinks later k (piece o n b) result
+
+-- This is the number of its next frame.
+abbrev pub CountsPiece : {E : Type 0} → TrackOutput → ℕ → Reading → Result ℕ E → Type 0
+CountsPiece o n c result = (b : Block) → IsEnoughFor o b c.block → IfOk result (λ next. next ≡ counted (n + count_in o b))
+
+-- The bad frames of a block of which a cursor lends enough are told behind the others.
+abbrev pub TellsBad : List TrackOutput → Reading → ToldDamages → ToldDamages → Type 0
+TellsBad list c old new = (b : Block) → IsEnoughForAll list b c.block → TellsMore old new (bad_in list b)
 
 -- ---- many blocks
 
@@ -59,6 +120,10 @@ abbrev pub GivesBlock : {S T E : Type 0} → writing.Ghosts S → List TrackOutp
 GivesBlock f list old new sinks later before after b (Ok _) = (since : Names) (blocks : List Block) → HaveBlocks f since list old sinks before blocks → HaveBlocks f since list new later after (blocks ++ b ∷ [])
 GivesBlock f list old new sinks later before after b (Err _) = (since : Names) (blocks : List Block) → HaveBlocks f since list old sinks before blocks → StandsInPart since (f.names new) (outputs_of list (blocks ++ b ∷ []))
 
+-- All outputs have been given a block of which a cursor lends enough.
+abbrev pub GivesLent : {S T E : Type 0} → writing.Ghosts S → List TrackOutput → Reading → S → S → List Sink → List Sink → List ℕ → List ℕ → Result T E → Type 0
+GivesLent f list c old new sinks later before after result = (b : Block) → IsEnoughForAll list b c.block → GivesBlock f list old new sinks later before after b result
+
 -- Outputs that were given no block yet have then been given all these. After a refusal that stands in part.
 abbrev pub GivesBlocks : {S T E : Type 0} → writing.Ghosts S → List TrackOutput → S → S → List Sink → List Sink → List Block → Result T E → Type 0
 GivesBlocks f list old new sinks later all (Ok _) = (since : Names) → HaveBeenGiven since (f.names old) (f.holder old) sinks (outputs_of list []) → HaveBeenGiven since (f.names new) (f.holder new) later (outputs_of list all)
@@ -68,11 +133,6 @@ GivesBlocks f list old new sinks later all (Err _) = (since : Names) → HaveBee
 abbrev pub Makes : {S T E : Type 0} → writing.Ghosts S → S → S → List Sink → List Output → Result T E → Type 0
 Makes f old new later given (Ok _) = HaveBeenGiven (f.names old) (f.names new) (f.holder new) later given
 Makes f old new later given (Err _) = StandsInPart (f.names old) (f.names new) given
-
--- Outputs stand whole, or after a refusal in part, and no other name has changed.
-abbrev pub Writes : {S T E : Type 0} → writing.Ghosts S → S → S → List Output → Result T E → Type 0
-Writes f old new outputs (Ok _) = f.names new ≡ with_outputs (f.names old) outputs
-Writes f old new outputs (Err _) = StandsInPart (f.names old) (f.names new) outputs
 
 -- Outputs are written while another file is read: their files are the same and stay open, and the live files of all
 -- other names stay.
@@ -85,3 +145,30 @@ pub record WritesAndReads {S : Type 0} (r : Ghosts S) (f : writing.Ghosts S) (ol
 abbrev pub ReadsFew : {T E : Type 0} → ℕ → ℕ → ℕ → Result T E → Type 0
 ReadsFew size before now (Ok _) = now ≤ before + size
 ReadsFew size before now (Err _) = now ≤ before + 2 * size
+
+-- ---- a walk to the end of a file
+
+-- Outputs that were given no block yet have then been given all that a cursor has left of its file.
+abbrev pub GivesLeft : {S T E : Type 0} → Ghosts S → writing.Ghosts S → List TrackOutput → Reading → S → S → List Sink → List Sink → Result T E → Type 0
+GivesLeft r f list c old new sinks later result = IfTold r old c.file (λ bytes. GivesBlocks f list old new sinks later (blocks_of (left_of bytes c)) result)
+
+-- Outputs stand whole, with all blocks that a cursor has left of its file, or after a refusal in part.
+abbrev pub WritesLeft : {S T E : Type 0} → Ghosts S → writing.Ghosts S → List TrackOutput → Reading → S → S → Result T E → Type 0
+WritesLeft r f list c old new result = IfTold r old c.file (λ bytes. AreWritten (f.names old) (f.names new) (outputs_of list (blocks_of (left_of bytes c))) result)
+
+-- What is told is what is wrong with all that a cursor has left of its file.
+abbrev pub TellsLeft : {S E : Type 0} → Ghosts S → List TrackOutput → Reading → S → Result Extracted E → Type 0
+TellsLeft r list c old result = IfTold r old c.file (λ bytes. IfOk result (λ extracted. extracted ≡ told_of list (left_of bytes c)))
+
+-- Of a file no octet is read twice, but those that a call which fails has read.
+abbrev pub ReadsFewOf : {S T E : Type 0} → Ghosts S → FileId → S → S → Result T E → Type 0
+ReadsFewOf r file old new result = ReadsFew (file_size r old file) (r.octets_read old) (r.octets_read new) result
+
+-- The outputs of a job stand whole, with all blocks of a source, or after a refusal in part.
+abbrev pub WritesTaken : {S T E : Type 0} → Ghosts S → writing.Ghosts S → Source → Job → S → S → Result T E → Type 0
+WritesTaken r f s job old new result =
+    IfTold r old s.file (λ bytes. AreWritten (f.names old) (f.names new) (outputs_of (outputs_in s job) (blocks_of (events_in s bytes))) result)
+
+-- What is told is what is wrong with a source, and with the frames that a job takes of it.
+abbrev pub TellsTaken : {S E : Type 0} → Ghosts S → Source → Job → S → Result Extracted E → Type 0
+TellsTaken r s job old result = IfTold r old s.file (λ bytes. IfOk result (λ extracted. extracted ≡ told_of (outputs_in s job) (events_in s bytes)))

@@ -1,6 +1,9 @@
 -- What a call leaves that makes, writes and closes one file.
 use Rattle.std.specs.Prelude.{◌≡◌, ◌≤◌, ℕ, ◌+◌, List, [], ◌∷◌, Result, Ok, Err}
 use Rattle.mkv_io.specs.Names.{Names}
+use Rattle.mkv_io.specs.Sources.{live_files}
+use Rattle.mkv_io.specs.declared.outside.FileId.{FileId}
+use Rattle.output_model.specs.Attached.{octets_told}
 use Rattle.mkv_io.specs.Writing.{KeepsOthers}
 use Rattle.mkv_io.specs.declared.reads.Reads.{Ghosts}
 use Rattle.mkv_io.specs.declared.files.Files as writing
@@ -12,6 +15,10 @@ use Rattle.mkv_outputs.specs.Starts.{StandsInPart}
 -- an output of a name, with these octets
 abbrev pub output : List ℕ → List ℕ → Output
 output name octets = record { name = name; content = octets }
+
+-- so many octets of a live file, from a place on
+abbrev pub octets_in : {S : Type 0} → Ghosts S → S → FileId → ℕ → ℕ → List ℕ
+octets_in r files file at len = octets_told ((live_files r files).content file.n) at len
 
 -- Outputs stand whole, or after a refusal in part, and no other name has changed.
 abbrev pub AreWritten : {T E : Type 0} → Names → Names → List Output → Result T E → Type 0

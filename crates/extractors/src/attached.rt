@@ -1,15 +1,12 @@
 //! Attached files are written, each into a file of its own.
 
-ghost use Rattle.std.specs.Prelude.{◌≡◌, ◌+◌, ◌*◌, ◌≤◌, ◌∷◌, [], length, map, All, option_map};
+ghost use Rattle.std.specs.Prelude.{◌≡◌, ◌+◌, ◌≤◌, ◌∷◌, [], length, option_map};
 ghost use Rattle.mkv_io.specs.Names.{AreOthers};
-ghost use Rattle.mkv_io.specs.Sources.{IfTold, IsLive, file_size};
+ghost use Rattle.mkv_io.specs.Sources.{IsLive, file_size};
 ghost use Rattle.mkv_io.specs.Writing.{KeepsOthers};
 ghost use Rattle.mkv_io.specs.Ends.{HasRemuxCause};
-ghost use Rattle.meta_records.specs.Walk.{IsAttachedIn};
-ghost use Rattle.meta_records.specs.Attached.{in_file};
 ghost use Rattle.extractors.specs.Job.{names_of};
-ghost use Rattle.extractors.specs.Whole.{AreWritten};
-ghost use Rattle.extractors.specs.Attached.{attached_at, attached_output, attached_outputs};
+ghost use Rattle.extractors.specs.Attached.{HasAttached, ReadsTimes, WritesAttached, WritesAttachment, attached_at};
 
 use crate::source::Source;
 use crate::whole::copy_file;
@@ -39,11 +36,10 @@ fn write_attachment<F: Files>(
     buffer: &mut [u8],
 ) -> Result<(), RemuxEnd>
     requires live { IsLive F.Reads files.old source.now.file }
-    requires attached { All (IsAttachedIn source.now.file (file_size F.Reads files.old source.now.file)) source.now.attachments }
+    requires attached { HasAttached F.Reads files.old source.now }
     requires other { AreOthers (F.holder files.old source.now.file.n) (target.now.name ∷ []) }
     requires buffer { 1 ≤ length buffer.old }
-    ensures writes { IfTold F.Reads files.old source.now.file (λ bytes. AreWritten (F.names files.old) (F.names files.new)
-        (attached_output bytes target.now (attached_at (map in_file source.now.attachments) target.now.id)) result) }
+    ensures writes { WritesAttachment F.Reads F.Files.own source.now target.now files.old files.new result }
     ensures kept { KeepsOthers F.Reads F.Files.own (target.now.name ∷ []) files.old files.new }
     ensures cause { HasRemuxCause F.Reads F.Files.own files.old files.new result }
     ensures reads { F.octets_read files.new ≤ F.octets_read files.old + file_size F.Reads files.old source.now.file }
@@ -69,15 +65,13 @@ fn write_each<F: Files>(
     buffer: &mut [u8],
 ) -> Result<(), RemuxEnd>
     requires live { IsLive F.Reads files.old source.now.file }
-    requires attached { All (IsAttachedIn source.now.file (file_size F.Reads files.old source.now.file)) source.now.attachments }
+    requires attached { HasAttached F.Reads files.old source.now }
     requires other { AreOthers (F.holder files.old source.now.file.n) (names_of targets.now) }
     requires buffer { 1 ≤ length buffer.old }
-    ensures writes { IfTold F.Reads files.old source.now.file (λ bytes. AreWritten (F.names files.old) (F.names files.new)
-        (attached_outputs bytes targets.now (map in_file source.now.attachments)) result) }
+    ensures writes { WritesAttached F.Reads F.Files.own source.now targets.now files.old files.new result }
     ensures kept { KeepsOthers F.Reads F.Files.own (names_of targets.now) files.old files.new }
     ensures cause { HasRemuxCause F.Reads F.Files.own files.old files.new result }
-    ensures reads { F.octets_read files.new
-        ≤ F.octets_read files.old + length targets.now * file_size F.Reads files.old source.now.file }
+    ensures reads { ReadsTimes F.Reads (length targets.now) source.now.file files.old files.new }
 {
     for target in targets {
         write_attachment(files, source, target, buffer)?;
@@ -94,14 +88,12 @@ pub fn write_attachments<F: Files>(
     targets: &[Target],
 ) -> Result<(), RemuxEnd>
     requires live { IsLive F.Reads files.old source.now.file }
-    requires attached { All (IsAttachedIn source.now.file (file_size F.Reads files.old source.now.file)) source.now.attachments }
+    requires attached { HasAttached F.Reads files.old source.now }
     requires other { AreOthers (F.holder files.old source.now.file.n) (names_of targets.now) }
-    ensures writes { IfTold F.Reads files.old source.now.file (λ bytes. AreWritten (F.names files.old) (F.names files.new)
-        (attached_outputs bytes targets.now (map in_file source.now.attachments)) result) }
+    ensures writes { WritesAttached F.Reads F.Files.own source.now targets.now files.old files.new result }
     ensures kept { KeepsOthers F.Reads F.Files.own (names_of targets.now) files.old files.new }
     ensures cause { HasRemuxCause F.Reads F.Files.own files.old files.new result }
-    ensures reads { F.octets_read files.new
-        ≤ F.octets_read files.old + length targets.now * file_size F.Reads files.old source.now.file }
+    ensures reads { ReadsTimes F.Reads (length targets.now) source.now.file files.old files.new }
 {
     let mut buffer = vec![in alloc; 0u8; CHUNK]?;
     write_each(files, source, targets, &mut buffer)

@@ -3,14 +3,12 @@
 ghost use Rattle.std.specs.Prelude.{◌≡◌, ◌++◌, ◌==◌, if◌then◌else◌, IfOk, OnOk, Some, is_none};
 ghost use Rattle.std.specs.List.{All, find};
 ghost use Rattle.std.specs.Option.{option_copied};
-ghost use Rattle.block_format.specs.Block.{Block};
 ghost use Rattle.block_records.specs.Buffered.{block_of};
 ghost use Rattle.cluster_reader.specs.ToldDamages.{with_damage};
 ghost use Rattle.elementary.specs.Avc.{IsLengthSize, annex_b};
-ghost use Rattle.extractors.specs.BadFrames.{TellsMore, bad_for, bad_frame, bad_in, is_bad};
+ghost use Rattle.extractors.specs.BadFrames.{TellsMore, bad_for, bad_frame, is_bad};
 ghost use Rattle.extractors.specs.Codec.{CanWrite};
-ghost use Rattle.extractors.specs.Takes.{IsEnoughForAll};
-ghost use Rattle.extractors.specs.Walks.{IsReady};
+ghost use Rattle.extractors.specs.Walks.{IsReady, TellsBad};
 ghost use Rattle.extractors.specs.declared.track_output.TrackOutput.{TrackOutput as OutputSeen};
 
 use crate::frame_form::FrameForm;
@@ -30,7 +28,7 @@ pub fn add_bad_frames(
     bad: &mut Damages,
 ) -> Result<(), AllocError>
     requires { All IsReady list.now }
-    ensures { OnOk result ((b : Block) → IsEnoughForAll list.now b cursor.now.block → TellsMore bad.old bad.new (bad_in list.now b)) }
+    ensures { OnOk result (TellsBad list.now cursor.now bad.old bad.new) }
 {
     match first_of(list, cursor.head().track) {
         Some(output) => add_bad_of(output, cursor, scratch, bad),

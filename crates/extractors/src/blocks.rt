@@ -1,20 +1,14 @@
 //! The blocks of a file are written into the outputs.
 
-ghost use Rattle.std.specs.Prelude.{◌≡◌, ◌<◌, ◌+◌, length, IfOk, OnOk};
+ghost use Rattle.std.specs.Prelude.{◌≡◌, ◌<◌, ◌+◌, length, OnOk};
 ghost use Rattle.std.specs.List.{All};
 ghost use Rattle.mkv_io.specs.Faults.{HasCause, is_make_failure};
 ghost use Rattle.mkv_io.specs.Names.{AreOthers};
-ghost use Rattle.mkv_io.specs.Sources.{IfTold, file_size, live_files};
+ghost use Rattle.mkv_io.specs.Sources.{live_files};
 ghost use Rattle.mkv_io.specs.Ends.{HasRemuxCause};
-ghost use Rattle.block_format.specs.Block.{Block};
-ghost use Rattle.block_format.specs.Events.{blocks_of};
-ghost use Rattle.cluster_reader.specs.Reading.{CanRead, left_of};
-ghost use Rattle.extractors.specs.BadFrames.{TellsMore, bad_in, told_of};
-ghost use Rattle.extractors.specs.Content.{counted};
-ghost use Rattle.extractors.specs.Takes.{IsEnoughFor, IsEnoughForAll};
-ghost use Rattle.mkv_outputs.specs.Outputs.{with_more};
-ghost use Rattle.mkv_outputs.specs.Sinks.{AreOpen, Gives, WritesOutputs, names_under};
-ghost use Rattle.extractors.specs.Walks.{GivesBlock, GivesBlocks, IsReady, ReadsFew, WritesAndReads, count_in, piece};
+ghost use Rattle.cluster_reader.specs.Reading.{CanRead};
+ghost use Rattle.mkv_outputs.specs.Sinks.{AreOpen, WritesOutputs, names_under};
+ghost use Rattle.extractors.specs.Walks.{AddsPart, CountsPiece, GivesLeft, GivesLent, IsReady, ReadsFewOf, TellsBad, TellsLeft, WritesAndReads};
 
 use crate::bad_frames::add_bad_frames;
 use crate::extracted::Extracted;
@@ -42,10 +36,8 @@ fn give_to<F: Files>(
     requires below { k < length outputs.old }
     requires open { AreOpen F.Reads files.old outputs.old }
     requires ready { IsReady output.now }
-    ensures gives { (b : Block) → IsEnoughFor output.now b cursor.now.block
-        → Gives F.Files.own files.old files.new outputs.old outputs.new (with_more k (piece output.now number b)) result }
-    ensures number { (b : Block) → IsEnoughFor output.now b cursor.now.block
-        → IfOk result (λ next. next ≡ counted (number + count_in output.now b)) }
+    ensures gives { AddsPart F.Files.own output.now number cursor.now files.old files.new outputs.old outputs.new k result }
+    ensures number { CountsPiece output.now number cursor.now result }
     ensures only { WritesOutputs F.Reads F.Files.own files.old files.new outputs.old outputs.new }
     ensures cause { HasCause is_make_failure (F.writing_faults files.old) (F.writing_faults files.new) result }
 {
@@ -71,8 +63,7 @@ fn give_block<F: Files>(
     requires numbers { length list.now ≡ length numbers.old.items }
     requires open { AreOpen F.Reads files.old outputs.old }
     requires steps { All IsReady list.now }
-    ensures gives { (b : Block) → IsEnoughForAll list.now b cursor.now.block → GivesBlock F.Files.own list.now
-        files.old files.new outputs.old outputs.new numbers.old.items numbers.new.items b result }
+    ensures gives { GivesLent F.Files.own list.now cursor.now files.old files.new outputs.old outputs.new numbers.old.items numbers.new.items result }
     ensures count { length numbers.new.items ≡ length numbers.old.items }
     ensures only { WritesOutputs F.Reads F.Files.own files.old files.new outputs.old outputs.new }
     ensures cause { HasCause is_make_failure (F.writing_faults files.old) (F.writing_faults files.new) result }
@@ -97,10 +88,9 @@ fn take_block<F: Files>(
     requires numbers { length list.now ≡ length numbers.old.items }
     requires open { AreOpen F.Reads files.old outputs.old }
     requires ready { All IsReady list.now }
-    ensures gives { (b : Block) → IsEnoughForAll list.now b cursor.now.block → GivesBlock F.Files.own list.now
-        files.old files.new outputs.old outputs.new numbers.old.items numbers.new.items b result }
+    ensures gives { GivesLent F.Files.own list.now cursor.now files.old files.new outputs.old outputs.new numbers.old.items numbers.new.items result }
     ensures count { length numbers.new.items ≡ length numbers.old.items }
-    ensures tells { OnOk result ((b : Block) → IsEnoughForAll list.now b cursor.now.block → TellsMore bad.old bad.new (bad_in list.now b)) }
+    ensures tells { OnOk result (TellsBad list.now cursor.now bad.old bad.new) }
     ensures only { WritesOutputs F.Reads F.Files.own files.old files.new outputs.old outputs.new }
     ensures cause { HasCause is_make_failure (F.writing_faults files.old) (F.writing_faults files.new) result }
 {
@@ -122,13 +112,11 @@ pub fn write_blocks<F: Files>(
     requires steps { All IsReady list.now }
     requires stands { CanRead (live_files F.Reads files.old) cursor.old }
     requires other { AreOthers (F.holder files.old cursor.old.file.n) (names_under F.Files.own files.old outputs.old) }
-    ensures gives { IfTold F.Reads files.old cursor.old.file (λ bytes.
-        GivesBlocks F.Files.own list.now files.old files.new outputs.old outputs.new (blocks_of (left_of bytes cursor.old)) result) }
-    ensures tells { IfTold F.Reads files.old cursor.old.file (λ bytes.
-        IfOk result (λ extracted. extracted ≡ told_of list.now (left_of bytes cursor.old))) }
+    ensures gives { GivesLeft F.Reads F.Files.own list.now cursor.old files.old files.new outputs.old outputs.new result }
+    ensures tells { TellsLeft F.Reads list.now cursor.old files.old result }
     ensures walks { WritesAndReads F.Reads F.Files.own files.old files.new outputs.old outputs.new }
     ensures cause { HasRemuxCause F.Reads F.Files.own files.old files.new result }
-    ensures octets { ReadsFew (file_size F.Reads files.old cursor.old.file) (F.octets_read files.old) (F.octets_read files.new) result }
+    ensures octets { ReadsFewOf F.Reads cursor.old.file files.old files.new result }
 {
     let takes = takes_of(list);
     let mut scratch = Scratch::new(alloc);

@@ -1,16 +1,14 @@
 //! Cue points are written as lines of text, each track's into a file of its own.
 
-ghost use Rattle.std.specs.Prelude.{◌≡◌, ◌≤◌, ◌∷◌, [], slice_get, IfOk, IfSome};
+ghost use Rattle.std.specs.Prelude.{◌≡◌, ◌≤◌, ◌∷◌, [], IfOk, IfSome};
 ghost use Rattle.std.specs.String.{string_bytes};
 ghost use Rattle.mkv_io.specs.Writing.{KeepsOthers};
 ghost use Rattle.mkv_io.specs.Ends.{HasRemuxCause};
 ghost use Rattle.mkv_schema.specs.declared.ids.TheConstants.{CUES as CUES_ID};
 ghost use Rattle.tree_format.specs.Standing.{IsSoundOf};
-ghost use Rattle.meta_records.specs.Records.{AreRead, IsGoodInfo, scale_of_info};
+ghost use Rattle.meta_records.specs.Records.{AreRead, IsGoodInfo};
 ghost use Rattle.extractors.specs.Job.{names_of};
-ghost use Rattle.extractors.specs.Whole.{AreWritten};
-ghost use Rattle.extractors.specs.Cues.{cues_output, cues_outputs, cues_text};
-ghost use Rattle.extractors.specs.Source.{entries_in};
+ghost use Rattle.extractors.specs.Cues.{WritesCues, WritesTrackCues, cues_text};
 
 use crate::lines::put_cues;
 use crate::source::Source;
@@ -48,8 +46,7 @@ fn write_track_cues<F: Files>(
     requires info { IfSome source.now.info IsGoodInfo }
     requires tracks { AreRead source.now.tracks }
     requires cues { IfSome source.now.cues (IsSoundOf CUES_ID) }
-    ensures writes { AreWritten (F.names files.old) (F.names files.new) (cues_output (scale_of_info source.now.info)
-        source.now.cues target.now (slice_get (entries_in source.now) target.now.id)) result }
+    ensures writes { WritesTrackCues F.Files.own source.now target.now files.old files.new result }
     ensures kept { KeepsOthers F.Reads F.Files.own (target.now.name ∷ []) files.old files.new }
     ensures cause { HasRemuxCause F.Reads F.Files.own files.old files.new result }
     ensures reads { F.octets_read files.new ≤ F.octets_read files.old }
@@ -74,8 +71,7 @@ pub fn write_cues<F: Files>(
     requires info { IfSome source.now.info IsGoodInfo }
     requires tracks { AreRead source.now.tracks }
     requires cues { IfSome source.now.cues (IsSoundOf CUES_ID) }
-    ensures writes { AreWritten (F.names files.old) (F.names files.new) (cues_outputs (scale_of_info source.now.info)
-        source.now.cues targets.now (entries_in source.now)) result }
+    ensures writes { WritesCues F.Files.own source.now targets.now files.old files.new result }
     ensures kept { KeepsOthers F.Reads F.Files.own (names_of targets.now) files.old files.new }
     ensures cause { HasRemuxCause F.Reads F.Files.own files.old files.new result }
     ensures reads { F.octets_read files.new ≤ F.octets_read files.old }

@@ -1,20 +1,18 @@
 //! An extraction: the outputs are made, written and closed.
 
-ghost use Rattle.std.specs.Prelude.{◌≡◌, ◌<◌, [], length, IfOk, IsSome};
+ghost use Rattle.std.specs.Prelude.{◌≡◌, ◌<◌, [], IsSome};
 ghost use Rattle.std.specs.List.{All};
 ghost use Rattle.mkv_io.specs.Faults.{HasCause, is_make_failure};
 ghost use Rattle.mkv_io.specs.Names.{AreApart, AreOthers};
-ghost use Rattle.mkv_io.specs.Sources.{IfTold, file_size, live_files};
+ghost use Rattle.mkv_io.specs.Sources.{live_files};
 ghost use Rattle.mkv_io.specs.Writing.{KeepsOthers};
 ghost use Rattle.mkv_io.specs.Ends.{HasRemuxCause};
-ghost use Rattle.block_format.specs.Events.{blocks_of};
-ghost use Rattle.cluster_reader.specs.Reading.{CanRead, left_of};
+ghost use Rattle.cluster_reader.specs.Reading.{CanRead};
 ghost use Rattle.mkv_outputs.specs.Sinks.{AreOpen, HaveBeenGiven, MadeSince};
-ghost use Rattle.extractors.specs.BadFrames.{told_of};
 ghost use Rattle.extractors.specs.Content.{names_in, outputs_of};
 ghost use Rattle.extractors.specs.Job.{form_of, names_of, targets_of};
-ghost use Rattle.extractors.specs.Source.{AreUsable, IsSource, events_in, outputs_in};
-ghost use Rattle.extractors.specs.Walks.{IsReady, Makes, ReadsFew, Writes};
+ghost use Rattle.extractors.specs.Source.{AreUsable, IsSource, outputs_in};
+ghost use Rattle.extractors.specs.Walks.{IsReady, Makes, ReadsFewOf, TellsLeft, TellsTaken, WritesLeft, WritesTaken};
 
 use crate::blocks::write_blocks;
 use crate::extracted::Extracted;
@@ -48,15 +46,13 @@ pub fn extract<F: Files>(
 
     // Each output is what its target asks for, and no other name changes. After a refusal first outputs stand, each a
     // first part.
-    ensures writes { IfTold F.Reads files.old source.now.file (λ bytes. Writes F.Files.own files.old files.new
-        (outputs_of (outputs_in source.now job.now) (blocks_of (events_in source.now bytes))) result) }
-    ensures tells { IfTold F.Reads files.old source.now.file (λ bytes.
-        IfOk result (λ extracted. extracted ≡ told_of (outputs_in source.now job.now) (events_in source.now bytes))) }
+    ensures writes { WritesTaken F.Reads F.Files.own source.now job.now files.old files.new result }
+    ensures tells { TellsTaken F.Reads source.now job.now files.old result }
 
     // No file stays open, whatever the answer.
     ensures kept { KeepsOthers F.Reads F.Files.own (names_in (outputs_in source.now job.now)) files.old files.new }
     ensures cause { HasRemuxCause F.Reads F.Files.own files.old files.new result }
-    ensures octets { ReadsFew (file_size F.Reads files.old source.now.file) (F.octets_read files.old) (F.octets_read files.new) result }
+    ensures octets { ReadsFewOf F.Reads source.now.file files.old files.new result }
 {
     let Some(form) = form_of(job) else {
         unreachable!()
@@ -77,13 +73,11 @@ fn write_tracks<F: Files>(
     requires steps { All IsReady list.now }
     requires stands { CanRead (live_files F.Reads files.old) cursor.old }
     requires other { AreOthers (F.holder files.old cursor.old.file.n) (names_in list.now) }
-    ensures writes { IfTold F.Reads files.old cursor.old.file (λ bytes. Writes F.Files.own files.old files.new
-        (outputs_of list.now (blocks_of (left_of bytes cursor.old))) result) }
-    ensures tells { IfTold F.Reads files.old cursor.old.file (λ bytes.
-        IfOk result (λ extracted. extracted ≡ told_of list.now (left_of bytes cursor.old))) }
+    ensures writes { WritesLeft F.Reads F.Files.own list.now cursor.old files.old files.new result }
+    ensures tells { TellsLeft F.Reads list.now cursor.old files.old result }
     ensures kept { KeepsOthers F.Reads F.Files.own (names_in list.now) files.old files.new }
     ensures cause { HasRemuxCause F.Reads F.Files.own files.old files.new result }
-    ensures octets { ReadsFew (file_size F.Reads files.old cursor.old.file) (F.octets_read files.old) (F.octets_read files.new) result }
+    ensures octets { ReadsFewOf F.Reads cursor.old.file files.old files.new result }
 {
     let mut outputs = Outputs::new(alloc);
     let ended = write_all(alloc, list, &mut outputs, files, cursor);
@@ -104,14 +98,12 @@ fn write_all<F: Files>(
     requires steps { All IsReady list.now }
     requires stands { CanRead (live_files F.Reads files.old) cursor.old }
     requires other { AreOthers (F.holder files.old cursor.old.file.n) (names_in list.now) }
-    ensures writes { IfTold F.Reads files.old cursor.old.file (λ bytes. Writes F.Files.own files.old files.new
-        (outputs_of list.now (blocks_of (left_of bytes cursor.old))) result) }
-    ensures tells { IfTold F.Reads files.old cursor.old.file (λ bytes.
-        IfOk result (λ extracted. extracted ≡ told_of list.now (left_of bytes cursor.old))) }
+    ensures writes { WritesLeft F.Reads F.Files.own list.now cursor.old files.old files.new result }
+    ensures tells { TellsLeft F.Reads list.now cursor.old files.old result }
     ensures open { AreOpen F.Reads files.new outputs.new }
     ensures made { MadeSince F.Reads F.Files.own (names_in list.now) files.old files.new outputs.new }
     ensures cause { HasRemuxCause F.Reads F.Files.own files.old files.new result }
-    ensures octets { ReadsFew (file_size F.Reads files.old cursor.old.file) (F.octets_read files.old) (F.octets_read files.new) result }
+    ensures octets { ReadsFewOf F.Reads cursor.old.file files.old files.new result }
 {
     make_all(list, outputs, files)?;
     let extracted = write_blocks(alloc, list, outputs, files, cursor)?;

@@ -1,19 +1,13 @@
 //! The frames of one block are written into one output.
 
-ghost use Rattle.std.specs.Prelude.{◌≡◌, ◌≢◌, ◌<◌, ◌+◌, [], ◌++◌, ◌^◌, length, IfOk, OnOk, unwrap_or};
+ghost use Rattle.std.specs.Prelude.{◌≡◌, ◌≢◌, ◌<◌, ◌++◌, ◌^◌, length, IfOk, OnOk};
 ghost use Rattle.mkv_io.specs.Faults.{HasCause, is_make_failure};
-ghost use Rattle.block_format.specs.Block.{Block};
-ghost use Rattle.block_records.specs.Buffered.{block_of};
-ghost use Rattle.cluster_reader.specs.Takes.{IsKnownByHead};
-ghost use Rattle.mkv_outputs.specs.Outputs.{with_more};
-ghost use Rattle.mkv_outputs.specs.Sinks.{AreOpen, Gives, WritesOutputs};
-ghost use Rattle.elementary.specs.Aac.{IsAac, adts};
-ghost use Rattle.elementary.specs.Avc.{IsLengthSize, annex_b};
+ghost use Rattle.mkv_outputs.specs.Sinks.{AreOpen, WritesOutputs};
+ghost use Rattle.elementary.specs.Aac.{IsAac};
+ghost use Rattle.elementary.specs.Avc.{IsLengthSize};
 ghost use Rattle.extractors.specs.Codec.{CanWrite};
-ghost use Rattle.extractors.specs.Content.{counted, entries_from, entry_of};
-ghost use Rattle.extractors.specs.Frames.{frames_in};
 ghost use Rattle.extractors.specs.Times.{time_line};
-ghost use Rattle.extractors.specs.Walks.{frame_of, text_entry};
+ghost use Rattle.extractors.specs.Walks.{Adds, AddsFrame, AddsLent, AddsTime, CountsFrames, CountsTimes, annexed, headed, as_text};
 ghost use Rattle.extractors.specs.declared.frame_form.FrameForm.TheVariants as form;
 
 use crate::frame_form::FrameForm;
@@ -88,9 +82,8 @@ pub fn give_frames<F: Files>(
     requires step { output.now.step < 2 ^ 48 }
     requires can { CanWrite output.now.form }
     requires octets { output.now.form ≢ form.Time }
-    ensures gives { Gives F.Files.own files.old files.new outputs.old outputs.new
-        (with_more k (entries_from output.now number (frames_in output.now.step (block_of cursor.now.block)))) result }
-    ensures number { IfOk result (λ next. next ≡ counted (number + length (frames_in output.now.step (block_of cursor.now.block)))) }
+    ensures gives { AddsLent F.Files.own output.now number cursor.now files.old files.new outputs.old outputs.new k result }
+    ensures number { CountsFrames output.now number cursor.now result }
     ensures only { WritesOutputs F.Reads F.Files.own files.old files.new outputs.old outputs.new }
     ensures cause { HasCause is_make_failure (F.writing_faults files.old) (F.writing_faults files.new) result }
 {
@@ -126,10 +119,8 @@ pub fn give_times<F: Files>(
     requires open { AreOpen F.Reads files.old outputs.old }
     requires step { output.now.step < 2 ^ 48 }
     requires times { output.now.form ≡ form.Time }
-    ensures gives { (b : Block) → IsKnownByHead b cursor.now.block → Gives F.Files.own files.old files.new outputs.old outputs.new
-        (with_more k (entries_from output.now number (frames_in output.now.step b))) result }
-    ensures number { (b : Block) → IsKnownByHead b cursor.now.block
-        → IfOk result (λ next. next ≡ counted (number + length (frames_in output.now.step b))) }
+    ensures gives { AddsTime F.Files.own output.now number cursor.now files.old files.new outputs.old outputs.new k result }
+    ensures number { CountsTimes output.now number cursor.now result }
     ensures only { WritesOutputs F.Reads F.Files.own files.old files.new outputs.old outputs.new }
     ensures cause { HasCause is_make_failure (F.writing_faults files.old) (F.writing_faults files.new) result }
 {
@@ -154,8 +145,7 @@ fn give_frame<F: Files>(
     requires open { AreOpen F.Reads files.old outputs.old }
     requires can { CanWrite output.now.form }
     requires octets { output.now.form ≢ form.Time }
-    ensures gives { Gives F.Files.own files.old files.new outputs.old outputs.new
-        (with_more k (entry_of output.now frame.entry.number (frame_of frame.entry))) result }
+    ensures gives { AddsFrame F.Files.own output.now frame.entry files.old files.new outputs.old outputs.new k result }
     ensures only { WritesOutputs F.Reads F.Files.own files.old files.new outputs.old outputs.new }
     ensures cause { HasCause is_make_failure (F.writing_faults files.old) (F.writing_faults files.new) result }
 {
@@ -189,7 +179,7 @@ fn give_behind<F: Files>(
 ) -> Result<(), MakeFault>
     requires below { k < length outputs.old }
     requires open { AreOpen F.Reads files.old outputs.old }
-    ensures gives { Gives F.Files.own files.old files.new outputs.old outputs.new (with_more k (prefix.now ++ octets.now)) result }
+    ensures gives { Adds F.Files.own files.old files.new outputs.old outputs.new k (prefix.now ++ octets.now) result }
     ensures only { WritesOutputs F.Reads F.Files.own files.old files.new outputs.old outputs.new }
     ensures cause { HasCause is_make_failure (F.writing_faults files.old) (F.writing_faults files.new) result }
 {
@@ -207,7 +197,7 @@ fn give_time<F: Files>(
 ) -> Result<(), MakeFault>
     requires below { k < length outputs.old }
     requires open { AreOpen F.Reads files.old outputs.old }
-    ensures gives { Gives F.Files.own files.old files.new outputs.old outputs.new (with_more k (time_line time)) result }
+    ensures gives { Adds F.Files.own files.old files.new outputs.old outputs.new k (time_line time) result }
     ensures only { WritesOutputs F.Reads F.Files.own files.old files.new outputs.old outputs.new }
     ensures cause { HasCause is_make_failure (F.writing_faults files.old) (F.writing_faults files.new) result }
 {
@@ -227,8 +217,7 @@ fn give_text<F: Files>(
 ) -> Result<(), MakeFault>
     requires below { k < length outputs.old }
     requires open { AreOpen F.Reads files.old outputs.old }
-    ensures gives { Gives F.Files.own files.old files.new outputs.old outputs.new
-        (with_more k (text_entry prefix.now frame.entry)) result }
+    ensures gives { Adds F.Files.own files.old files.new outputs.old outputs.new k (as_text prefix.now frame.entry) result }
     ensures only { WritesOutputs F.Reads F.Files.own files.old files.new outputs.old outputs.new }
     ensures cause { HasCause is_make_failure (F.writing_faults files.old) (F.writing_faults files.new) result }
 {
@@ -238,7 +227,7 @@ fn give_text<F: Files>(
 
 /// Puts a frame behind a prefix, as an entry of SubRip, into the scratch.
 fn put_text(prefix: &[u8], frame: Framed<'_>, scratch: &mut Scratch) -> Result<(), AllocError>
-    ensures { OnOk result (scratch.new.entry ≡ text_entry prefix.now frame.entry) }
+    ensures { OnOk result (scratch.new.entry ≡ as_text prefix.now frame.entry) }
 {
     let text = whole(&mut scratch.text, prefix, frame.octets)?;
     scratch.entry.truncate(0);
@@ -264,8 +253,7 @@ fn give_units<F: Files>(
     requires below { k < length outputs.old }
     requires open { AreOpen F.Reads files.old outputs.old }
     requires size { IsLengthSize length_size }
-    ensures gives { Gives F.Files.own files.old files.new outputs.old outputs.new
-        (with_more k (unwrap_or (annex_b length_size (prefix.now ++ octets.now)) [])) result }
+    ensures gives { Adds F.Files.own files.old files.new outputs.old outputs.new k (annexed length_size (prefix.now ++ octets.now)) result }
     ensures only { WritesOutputs F.Reads F.Files.own files.old files.new outputs.old outputs.new }
     ensures cause { HasCause is_make_failure (F.writing_faults files.old) (F.writing_faults files.new) result }
 {
@@ -284,8 +272,7 @@ fn give_join<F: Files>(
     requires below { k < length outputs.old }
     requires open { AreOpen F.Reads files.old outputs.old }
     requires size { IsLengthSize length_size }
-    ensures gives { Gives F.Files.own files.old files.new outputs.old outputs.new
-        (with_more k (unwrap_or (annex_b length_size frame.now) [])) result }
+    ensures gives { Adds F.Files.own files.old files.new outputs.old outputs.new k (annexed length_size frame.now) result }
     ensures only { WritesOutputs F.Reads F.Files.own files.old files.new outputs.old outputs.new }
     ensures cause { HasCause is_make_failure (F.writing_faults files.old) (F.writing_faults files.new) result }
 {
@@ -312,8 +299,7 @@ fn give_headed<F: Files>(
     requires below { k < length outputs.old }
     requires open { AreOpen F.Reads files.old outputs.old }
     requires can { IsAac aac.now }
-    ensures gives { Gives F.Files.own files.old files.new outputs.old outputs.new
-        (with_more k (unwrap_or (adts aac.now (prefix.now ++ octets.now)) [])) result }
+    ensures gives { Adds F.Files.own files.old files.new outputs.old outputs.new k (headed aac.now prefix.now octets.now) result }
     ensures only { WritesOutputs F.Reads F.Files.own files.old files.new outputs.old outputs.new }
     ensures cause { HasCause is_make_failure (F.writing_faults files.old) (F.writing_faults files.new) result }
 {

@@ -85,7 +85,7 @@ fn put_line(time: Option<u128>, place: &Tree, out: &mut String) -> Result<(), Al
 fn put_integer(name: &str, tree: &Tree, id: u32, out: &mut String) -> Result<(), AllocError>
     requires sound { IsSound tree.now }
     requires uint { HasUint (id_of tree.now) id }
-    ensures { OnOk result (string_bytes out.new ≡ string_bytes out.old ++ (name.now ++ spec.number_or_dash (integer_in id tree.now))) }
+    ensures { OnOk result (string_bytes out.new ≡ string_bytes out.old ++ spec.labelled name.now (integer_in id tree.now)) }
 {
     match integer_in(tree, id) {
         Some(number) => put_number(name, Some(u128::from(number)), out),
@@ -95,7 +95,7 @@ fn put_integer(name: &str, tree: &Tree, id: u32, out: &mut String) -> Result<(),
 
 /// Adds a name, and a number in decimal, or `-` where there is none.
 fn put_number(name: &str, number: Option<u128>, out: &mut String) -> Result<(), AllocError>
-    ensures { OnOk result (string_bytes out.new ≡ string_bytes out.old ++ (name.now ++ spec.number_or_dash number)) }
+    ensures { OnOk result (string_bytes out.new ≡ string_bytes out.old ++ spec.labelled name.now number) }
 {
     out.push_str(name)?;
     match number {

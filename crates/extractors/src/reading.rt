@@ -1,13 +1,12 @@
 //! The first Cues of a file, as a tree.
 
-ghost use Rattle.std.specs.Prelude.{◌≡◌, ◌+◌, ◌≤◌, List, ℕ, Ok, IfOk, IfSome};
+ghost use Rattle.std.specs.Prelude.{◌≡◌, ◌+◌, ◌≤◌, IfOk, IfSome};
 ghost use Rattle.mkv_io.specs.Faults.{HasCause};
 ghost use Rattle.mkv_io.specs.Sources.{IfTold, IsLive, file_size};
 ghost use Rattle.mkv_schema.specs.declared.ids.TheConstants.{CUES as CUES_ID};
 ghost use Rattle.tree_format.specs.Standing.{IsSoundOf};
-ghost use Rattle.element_reader.specs.Outline.{is_outline_fault, outline_in};
-ghost use Rattle.meta_records.specs.Records.{ReadsAs};
-ghost use Rattle.extractors.specs.Reading.{first_cues};
+ghost use Rattle.element_reader.specs.Outline.{is_outline_fault};
+ghost use Rattle.extractors.specs.Reading.{ReadsFirstCues};
 
 use crate::limits::MOST_CUE_NODES;
 use ebml_tree::{Tree, TreeEnd};
@@ -26,8 +25,7 @@ pub fn first_cues<R: Reads>(
 ) -> Result<Option<Tree>, OutlineEnd>
     requires live { IsLive R.Reads src.old file }
     requires whole { outline.now.total ≡ file_size R.Reads src.old file }
-    ensures exact { IfTold R.Reads src.old file (λ bytes. (held : ℕ) → outline_in held bytes ≡ Ok outline.now
-        → ReadsAs (first_cues bytes outline.now.segment) result) }
+    ensures exact { IfTold R.Reads src.old file (ReadsFirstCues outline.now result) }
     ensures sound { IfOk result (λ tree. IfSome tree (IsSoundOf CUES_ID)) }
     ensures standing { R.standing src.new ≡ R.standing src.old }
     ensures cause { HasCause is_outline_fault (R.reading_faults src.old) (R.reading_faults src.new) result }

@@ -1,9 +1,8 @@
 //! Files that are made, written and closed by one call.
 
 ghost use Rattle.std.specs.Prelude.{◌≢◌, ◌+◌, ◌≤◌, length};
-ghost use Rattle.mkv_io.specs.Sources.{IsLive, file_size, live_files};
-ghost use Rattle.output_model.specs.Attached.{octets_told};
-ghost use Rattle.extractors.specs.Whole.{WritesFile};
+ghost use Rattle.mkv_io.specs.Sources.{IsLive, file_size};
+ghost use Rattle.extractors.specs.Whole.{WritesFile, octets_in};
 
 use cues_seekhead::{append, copy_data};
 use mkv_io::{FileId, Files, RemuxEnd as OutEnd};
@@ -18,7 +17,7 @@ pub fn write_file<F: Files>(files: &mut F, name: &str, octets: &[u8]) -> Result<
     ended
 }
 
-/// The same with octets of another file, `len` of them from a place on, as many at a time as the buffer holds.
+/// Makes the file of a name, whatever it was, with octets of another file, `len` of them from a place on, as many at a time as the buffer holds.
 pub fn copy_file<F: Files>(
     files: &mut F,
     name: &str,
@@ -31,8 +30,7 @@ pub fn copy_file<F: Files>(
     requires other { F.holder files.old from.n ≢ name.now }
     requires inside { at + len ≤ file_size F.Reads files.old from }
     requires buffer { 1 ≤ length buffer.old }
-    ensures { WritesFile F.Reads F.Files.own name.now
-        (octets_told ((live_files F.Reads files.old).content from.n) at len) len files.old files.new result }
+    ensures { WritesFile F.Reads F.Files.own name.now (octets_in F.Reads files.old from at len) len files.old files.new result }
 {
     let file = files.create(name)?;
     let ended = copy_data(files, from, at, len, file, buffer);

@@ -12,7 +12,8 @@ use Rattle.extractors.specs.Job.{outputs_for, targets_of}
 use Rattle.extractors.specs.declared.extracted.Extracted.{Extracted}
 use Rattle.extractors.specs.declared.track_output.TrackOutput.{TrackOutput}
 use Rattle.extractors.specs.Source.{entries_in, events_in, outputs_in}
-use Rattle.extractors.specs.Walks.{IsReady, Writes}
+use Rattle.extractors.specs.Walks.{IsReady}
+use Rattle.extractors.specs.Whole.{AreWritten}
 use Rattle.extractors.proofs.JobLemmas.{each-entry, job_outputs-taken, outputs_for-apart, outputs_for-others, outputs_for-steps}
 use Rattle.extractors.proofs.extraction.extract.Goals as goal
 
@@ -53,8 +54,8 @@ returns-clause-writes g c = λ bytes told.
     let total : c.args.source.now.outline.total ≡ length bytes = c.requires.source.whole ∙ sym (g.met.F.Reads.told_size (g.F.Reads.standing c.args.files.now) c.args.source.now.file.n bytes told) in
     let events : left_of bytes c.in_ok-cursor.cursor ≡ events_in c.args.source.now bytes =
     c.in_ok-cursor.ensures.left bytes total ∙ ap (λ (scale : ℕ). events_of (with_limits scale) bytes c.args.source.now.outline.segment) c.scale_of.ensures.value in
-    subst (λ (l : List TrackOutput). Writes g.F.Files c.args.files.now c.write_tracks.new.files (outputs_of l (blocks_of (events_in c.args.source.now bytes))) c.write_tracks.result) list
-    (subst (λ (es : List Event). Writes g.F.Files c.args.files.now c.write_tracks.new.files (outputs_of c.deref.result.now (blocks_of es)) c.write_tracks.result) events
+    subst (λ (l : List TrackOutput). AreWritten (g.F.Files.names c.args.files.now) (g.F.Files.names c.write_tracks.new.files) (outputs_of l (blocks_of (events_in c.args.source.now bytes))) c.write_tracks.result) list
+    (subst (λ (es : List Event). AreWritten (g.F.Files.names c.args.files.now) (g.F.Files.names c.write_tracks.new.files) (outputs_of c.deref.result.now (blocks_of es)) c.write_tracks.result) events
     (c.write_tracks.ensures.writes bytes here))
 
 -- what is told is the file's

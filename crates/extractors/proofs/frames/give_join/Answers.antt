@@ -1,10 +1,10 @@
-use Rattle.std.proofs.Common.{◌≡◌, [], None, Some, unwrap_or, sym, ◌∙◌, subst, refl}
+use Rattle.std.proofs.Common.{◌≡◌, [], None, Some, unwrap_or, sym, ◌∙◌, refl}
 use Rattle.elementary.specs.Units.{unit_at}
 use Rattle.elementary.specs.Avc.{annex_b, start_coded}
 use Rattle.elementary.proofs.UnitsLemmas.{unit_at-fewer, join-step}
 use Rattle.mkv_outputs.proofs.FilesLemmas.{WritesOutputs-none, WritesOutputs-then}
 use Rattle.mkv_outputs.proofs.GivenLemmas.{length-same}
-use Rattle.extractors.proofs.FramesLemmas.{Gives-err, GivesUpTo, GivesUpTo-begins, GivesUpTo-ends, GivesUpTo-more, GivesUpTo-part, HasGiven-none}
+use Rattle.extractors.proofs.FramesLemmas.{GivesUpTo-begins, GivesUpTo-ends, GivesUpTo-more, GivesUpTo-stops, HasGiven-none}
 use Rattle.extractors.proofs.UnitsLemmas.{units-bad, units-next, units-none}
 use Rattle.extractors.proofs.frames.give_join.Goals as goal
 
@@ -19,7 +19,7 @@ returns-then-not-is_join-clause-only g c = WritesOutputs-none g.F.Reads g.F.File
 -- no unit was given yet
 pub loop-unit-init : goal.loop-unit-init
 loop-unit-init g c = record {
-  so = GivesUpTo-begins g.F.Files c.args.files.now c.args.outputs.now c.args.k _;
+  so = GivesUpTo-begins g.F.Files c.args.files.now c.args.outputs.now c.args.k _ _ refl;
   join = sym c.is_join.ensures ∙ c.if-not-is_join.false;
   count = refl;
   wrote = WritesOutputs-none g.F.Reads g.F.Files c.args.files.now c.args.outputs.now c.requires.open;
@@ -34,11 +34,9 @@ loop-unit-preserved g c =
     let unit = c.in-Some.unit.now in
     let behind = c.in-Some.behind.now in
     let found : unit_at w rest ≡ Some (unit, behind) = c.in-Some.ensures in
-    let next = units-next w rest unit behind found c.loop-unit.invariant.join in
     record {
-      so = GivesUpTo-more g.F.Files c.args.files.now c.loop-unit.files c.give_behind.new.files c.args.outputs.now c.loop-unit.outputs c.give_behind.new.outputs c.args.k _ (start_coded unit) (unwrap_or (annex_b w behind) [])
-          (subst (GivesUpTo g.F.Files c.args.files.now c.loop-unit.files c.args.outputs.now c.loop-unit.outputs c.args.k (unwrap_or (annex_b w c.args.frame.now) [])) next c.loop-unit.invariant.so)
-          c.in_ok-give_behind.ensures.gives;
+      so = GivesUpTo-more c.loop-unit.invariant.so c.give_behind.new.files c.give_behind.new.outputs (start_coded unit) (unwrap_or (annex_b w behind) [])
+          (units-next w rest unit behind found c.loop-unit.invariant.join) c.in_ok-give_behind.ensures.gives;
       join = sym (join-step w rest unit behind found) ∙ c.loop-unit.invariant.join;
       count = length-same c.loop-unit.outputs c.give_behind.new.outputs c.give_behind.ensures.only.same ∙ c.loop-unit.invariant.count;
       wrote = WritesOutputs-then g.F.Reads g.F.Files c.args.files.now c.loop-unit.files c.give_behind.new.files c.args.outputs.now c.loop-unit.outputs c.give_behind.new.outputs c.requires.open c.loop-unit.invariant.wrote c.give_behind.ensures.only;
@@ -58,11 +56,8 @@ returns-in_err-give_behind-clause-gives g c =
     let unit = c.in-Some.unit.now in
     let behind = c.in-Some.behind.now in
     let found : unit_at w rest ≡ Some (unit, behind) = c.in-Some.ensures in
-    let next = units-next w rest unit behind found c.loop-unit.invariant.join in
-    Gives-err g.F.Files c.args.files.now c.give_behind.new.files c.args.outputs.now c.give_behind.new.outputs c.args.k _ c.from_residual.result c.from_residual.ensures.0
-    (GivesUpTo-part g.F.Files c.args.files.now c.loop-unit.files c.give_behind.new.files c.args.outputs.now c.loop-unit.outputs c.args.k _ (start_coded unit) (unwrap_or (annex_b w behind) [])
-    (subst (GivesUpTo g.F.Files c.args.files.now c.loop-unit.files c.args.outputs.now c.loop-unit.outputs c.args.k (unwrap_or (annex_b w c.args.frame.now) [])) next c.loop-unit.invariant.so)
-    c.in_err-give_behind.ensures.gives)
+    GivesUpTo-stops c.loop-unit.invariant.so c.give_behind.new.files c.give_behind.new.outputs (start_coded unit) (unwrap_or (annex_b w behind) [])
+    (units-next w rest unit behind found c.loop-unit.invariant.join) c.from_residual.result c.from_residual.ensures.0 c.in_err-give_behind.ensures.gives
 
 -- what was written until then
 pub returns-in_err-give_behind-clause-only : goal.returns-in_err-give_behind-clause-only
@@ -73,5 +68,4 @@ returns-in_err-give_behind-clause-only g c =
 pub returns-clause-gives : goal.returns-clause-gives
 returns-clause-gives g c =
     let none : unit_at c.args.length_size c.loop-unit.rest.now ≡ None = c.in_default.ensures in
-    GivesUpTo-ends g.F.Files c.args.files.now c.loop-unit.files c.args.outputs.now c.loop-unit.outputs c.args.k _ _ c.loop-unit.invariant.so
-    (units-none c.args.length_size c.loop-unit.rest.now none)
+    GivesUpTo-ends c.loop-unit.invariant.so (units-none c.args.length_size c.loop-unit.rest.now none)
