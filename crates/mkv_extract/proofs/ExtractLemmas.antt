@@ -1,5 +1,5 @@
 -- How an extraction comes to its verdict.
-use Rattle.std.proofs.Common.{◌≡◌, ◌+◌, ◌≤◌, ℕ, zero, suc, nat_lt, if◌then◌else◌, slice_get, arith, List, [], ◌∷◌, ◌++◌, length, Bool, true, false, ◌||◌, map, cond, Option, Some, None, option_map, IsSome, Result, Err, IfOk, inl, refl, sym, ◌∙◌, ap, subst}
+use Rattle.std.proofs.Common.{◌≡◌, ◌+◌, ◌≤◌, ℕ, zero, suc, nat_lt, if◌then◌else◌, slice_get, arith, List, [], ◌∷◌, ◌++◌, length, Bool, true, false, ◌||◌, map, cond, append-nil, Option, Some, None, option_map, option_to_list, IsSome, Result, Err, IfOk, inl, refl, sym, ◌∙◌, ap, subst}
 use Rattle.std.specs.List.{All, find}
 use Rattle.std.specs.Str.{bytes_eq}
 use Rattle.std.proofs.lemmas.Bool.{le-ltb, lt-ltb}
@@ -23,19 +23,17 @@ use Rattle.extractors.specs.Attached.{attached_at, attached_output, attached_out
 use Rattle.extractors.specs.Cues.{cues_output, cues_outputs}
 use Rattle.mkv_io.specs.declared.damage.Damage.{Damage}
 use Rattle.tree_format.specs.Node.{Node}
-use Rattle.track_records.specs.declared.track.Track.{Track}
-use Rattle.block_format.specs.Events.{Event, blocks_of, damages_of}
-use Rattle.extractors.specs.Content.{names_in, outputs_of}
-use Rattle.extractors.specs.BadFrames.{bad_frames, told_of}
+use Rattle.block_format.specs.Events.{Event, blocks_of}
+use Rattle.cluster_reader.specs.ToldDamages.{told_damages}
+use Rattle.meta_records.specs.Records.{scale_of_info}
+use Rattle.extractors.specs.Content.{names_in}
 use Rattle.extractors.specs.Job.{first_unfit, form_of, job_outputs, job_refusal, names_for, outputs_taken, refusal_of, refusal_taken, targets_of}
-use Rattle.extractors.specs.declared.extracted.Extracted.{Extracted}
 use Rattle.extractors.specs.declared.frame_form.Unfit.TheVariants.{NoExtractor, BadConfig}
-use Rattle.extractors.specs.declared.track_output.TrackOutput.{TrackOutput}
 use Rattle.extractors.specs.Job as jobs
 use Rattle.extractors.proofs.ContentLemmas.{names_of-outputs}
 use Rattle.extractors.proofs.JobLemmas.{job_outputs-others}
 use Rattle.extractors.specs.Source.{entry_in}
-use Rattle.mkv_lines.specs.Line.{no_track_line, wrote_line}
+use Rattle.mkv_lines.specs.Line.{no_attachment_line, no_track_line, wrote_line}
 use Rattle.mkv_lines.specs.Said.{ReportLines, Says, SaysPart}
 use Rattle.mkv_lines.specs.Seen.{Seen}
 use Rattle.mkv_lines.specs.Verdict.{Reaches, at_once}
@@ -43,11 +41,13 @@ use Rattle.mkv_lines.specs.declared.status.Status.{Status}
 use Rattle.mkv_lines.specs.declared.status.Stop.{Stop}
 use Rattle.mkv_lines.proofs.SaidLemmas.{SaysPart-all}
 use Rattle.mkv_lines.proofs.VerdictLemmas.{Leaves-same, Reaches-behind}
-use Rattle.mkv_extract.specs.Extract.{absent, told_bad, told_lines, fit_verdict, has_absent, held_status, job_verdict, outline_lines, status_of, taken_verdict, targets_verdict}
+use Rattle.mkv_extract.specs.Extract.{Taken, absent, attached_taken, cues_taken, done_verdict, entries_of, frames_taken, is_any, status_of, taken_by, taken_whole, told_bad, told_lines, warned}
 use Rattle.mkv_extract.specs.Names.{first_written, is_read}
 use Rattle.mkv_extract.specs.Read.{FileRead}
-use Rattle.mkv_extract.specs.Told.{written}
-use Rattle.mkv_extract.proofs.ToldLemmas.{slice_get-past, slice_get-within, written-names}
+use Rattle.mkv_extract.specs.Told.{absent_lines, has_absent, line_of, outline_lines, written, wrote_lines}
+use Rattle.mkv_extract.specs.declared.telling.Missing.{Missing}
+use Rattle.mkv_extract.specs.declared.telling.Missing.TheVariants.{Attachment, Track}
+use Rattle.mkv_extract.proofs.ToldLemmas.{any-absent, slice_get-past, slice_get-within, written-names}
 
 -- ---- the names of the outputs
 
@@ -86,11 +86,9 @@ names-job (form.Attachments list) some = absurd (cc)
 names-job (form.Cues list) some = absurd (cc)
 names-job (form.Chapters out) some = absurd (cc)
 
-pub verdict-job : (name : List ℕ) (job : Job) (bytes : List ℕ) (file : FileRead) (events : List Event) → IsSome (form_of job) → fit_verdict name job file.tracks events ≡ job_verdict name job bytes file events
-verdict-job name (form.Tracks f list) bytes file events some = refl
-verdict-job name (form.Attachments list) bytes file events some = absurd (cc)
-verdict-job name (form.Cues list) bytes file events some = absurd (cc)
-verdict-job name (form.Chapters out) bytes file events some = absurd (cc)
+-- it takes them
+pub frames-taken : (name : List ℕ) (job : Job) (f : Form) (list : List Target) (bytes : List ℕ) (file : FileRead) (events : List Event) → job ≡ form.Tracks f list → frames_taken name job file events ≡ taken_by name job bytes file events
+frames-taken name job f list bytes file events is = subst (λ (j : Job). frames_taken name j file events ≡ taken_by name j bytes file events) (sym is) refl
 
 -- nothing is refused where no target is unfit
 none-refused : (unknown bad : Option ℕ) → refusal_of unknown bad ≡ None → (unknown ≡ None) × (bad ≡ None)
@@ -127,41 +125,6 @@ asks-extracted name made a b c d result opens makes closed =
     (asks-more (sidecar_of name ∷ []) made (with_sidecar name) made b c (λ other others. others.1) (λ other others. others) makes)
     (asks-none (IsBesides (with_sidecar name) made) c d closed))
 
--- ---- lines and outputs
-
--- a warning of an absent track couldn't be said
-pub taken-begun : (old new : Seen) (why : Stop) (name : List ℕ) (job : Job) (tracks : List Track) (events : List Event) (targets : List Target) (count : ℕ) → targets ≡ targets_of job → count ≡ length tracks → SaysPart old.lines new.lines (map (no_track_line name) (absent count targets)) → new.names ≡ old.names → Reaches old new (Err why) (taken_verdict name job tracks events)
-taken-begun old new why name job tracks events targets count is counted part names =
-    inl (
-      subst (λ (n : ℕ). SaysPart old.lines new.lines (map (no_track_line name) (absent n (targets_of job)))) counted
-          (subst (λ (ts : List Target). SaysPart old.lines new.lines (map (no_track_line name) (absent count ts))) is part),
-      Leaves-same old.names new.names (taken_verdict name job tracks events).outputs names,
-    )
-
--- all that isn't there was warned of, and the outputs stand whole
-pub taken-told : (old new : Seen) (mid : ReportLines) (r : Result Status Stop) (name : List ℕ) (job : Job) (tracks : List Track) (events : List Event) (targets : List Target) (count : ℕ) (told : Extracted) → IsSome (form_of job) → job_refusal job (map entry_in tracks) ≡ None → targets ≡ targets_of job → count ≡ length tracks → told ≡ told_of (job_outputs job (map entry_in tracks)) events → mid ≡ with_lines old.lines (map (no_track_line name) (absent count targets)) → Says mid new.lines (map wrote_line (written count targets) ++ (told_lines name told.damages ++ told_bad name told.bad_frames)) r → IfOk r (λ s. s ≡ status_of (has_absent count targets) (damages_of events ++ bad_frames (job_outputs job (map entry_in tracks)) (blocks_of events))) → new.names ≡ with_outputs old.names (outputs_of (job_outputs job (map entry_in tracks)) (blocks_of events)) → Reaches old new r (taken_verdict name job tracks events)
-taken-told old new mid r name job tracks events targets count told takes fit is counted whole said says status names =
-    Reaches-behind old new mid r (taken_verdict name job tracks events) (map wrote_line (names_of outputs) ++ (told_lines name (told_of list events).damages ++ told_bad name (told_of list events).bad_frames)) refl
-    (said ∙ ap (λ (n : ℕ). with_lines old.lines (map (no_track_line name) (absent n targets))) counted ∙ ap (λ (ts : List Target). with_lines old.lines (map (no_track_line name) (absent (length tracks) ts))) is)
-    (subst (λ (e : Extracted). Says mid new.lines (map wrote_line (names_of outputs) ++ (told_lines name e.damages ++ told_bad name e.bad_frames)) r) whole
-    (subst (λ (names : List (List ℕ)). Says mid new.lines (map wrote_line names ++ (told_lines name told.damages ++ told_bad name told.bad_frames)) r) named says))
-    (subst (λ (ts : List Target). IfOk r (λ s. s ≡ status_of (has_absent (length tracks) ts) (damages_of events ++ bad_frames list (blocks_of events)))) is
-    (subst (λ (n : ℕ). IfOk r (λ s. s ≡ status_of (has_absent n targets) (damages_of events ++ bad_frames list (blocks_of events)))) counted status))
-    names
-  where
-    list : List TrackOutput
-    list = job_outputs job (map entry_in tracks)
-
-    outputs : List Output
-    outputs = outputs_of list (blocks_of events)
-
-    named : written count targets ≡ names_of outputs
-    named =
-        ap (λ (ts : List Target). written count ts) is
-        ∙ ap (λ (n : ℕ). written n (targets_of job)) (counted ∙ sym (length-map tracks entry_in))
-        ∙ sym (taken-names (form_of job) (targets_of job) (map entry_in tracks) takes fit)
-        ∙ sym (names_of-outputs list (blocks_of events))
-
 -- ---- attached files
 
 -- those that a file has are told of
@@ -194,23 +157,79 @@ cues-names scale cues (t ∷ ts) entries = each (slice_get entries t.id) refl (c
         ap (λ (names : List (List ℕ)). t.name ∷ names) rest
         ∙ ap (λ (a : Bool). (if a then t.name ∷ [] else []) ++ written (length entries) ts) (sym (lt-ltb _ _ (slice_get-within entries t.id e is)))
 
--- ---- what targets name besides frames
+-- ---- lines and outputs
 
--- a warning of what isn't there couldn't be said
-pub targets-begun : (old new : Seen) (why : Stop) (name : List ℕ) (line : ℕ → List ℕ) (most count : ℕ) (targets : List Target) (outputs : List Output) (damage : Option Damage) → count ≡ most → SaysPart old.lines new.lines (map line (absent count targets)) → new.names ≡ old.names → Reaches old new (Err why) (targets_verdict name line most targets outputs damage)
-targets-begun old new why name line most count targets outputs damage is part names =
-    inl (subst (λ (n : ℕ). SaysPart old.lines new.lines (map line (absent n targets))) is part, Leaves-same old.names new.names (at_once outputs) names)
+-- What the calls say of what targets name is what the verdict tells of it.
+pub record IsToldBy (name : List ℕ) (t : Taken) (what : Missing) (count : ℕ) (targets : List Target) : Type 0 where
+  pub missing : t.missing ≡ absent_lines what name count targets
+  pub named : names_of t.outputs ≡ written count targets
 
--- an output wasn't written
-pub targets-stopped : (old new : Seen) (why : Stop) (name : List ℕ) (line : ℕ → List ℕ) (most count : ℕ) (targets : List Target) (outputs : List Output) (damage : Option Damage) → count ≡ most → new.lines ≡ with_lines old.lines (map line (absent count targets)) → StandsInPart old.names new.names outputs → Reaches old new (Err why) (targets_verdict name line most targets outputs damage)
-targets-stopped old new why name line most count targets outputs damage is said part =
-    inl (SaysPart-all old.lines new.lines (map line (absent most targets)) (said ∙ ap (λ (n : ℕ). with_lines old.lines (map line (absent n targets))) is), part)
+missing-same : (line : ℕ → List ℕ) (most count : ℕ) (named targets : List Target) → count ≡ most → targets ≡ named → map line (absent most named) ≡ map line (absent count targets)
+missing-same line most count named targets counted is =
+    ap (λ (n : ℕ). map line (absent n named)) (sym counted) ∙ ap (λ (ts : List Target). map line (absent count ts)) (sym is)
 
--- all that isn't there was warned of, and the outputs stand whole
-pub targets-told : (old new : Seen) (mid : ReportLines) (r : Result Status Stop) (name : List ℕ) (line : ℕ → List ℕ) (most count : ℕ) (targets : List Target) (outputs : List Output) (damage : Option Damage) → names_of outputs ≡ written most targets → count ≡ most → mid ≡ with_lines old.lines (map line (absent count targets)) → Says mid new.lines (map wrote_line (written count targets) ++ outline_lines name damage) r → IfOk r (λ s. s ≡ held_status (has_absent count targets) damage) → new.names ≡ with_outputs old.names outputs → Reaches old new r (targets_verdict name line most targets outputs damage)
-targets-told old new mid r name line most count targets outputs damage named is said says status names =
-    Reaches-behind old new mid r (targets_verdict name line most targets outputs damage) (map wrote_line (names_of outputs) ++ outline_lines name damage) refl
-    (said ∙ ap (λ (n : ℕ). with_lines old.lines (map line (absent n targets))) is)
-    (subst (λ (told : List (List ℕ)). Says mid new.lines (map wrote_line told ++ outline_lines name damage) r) (ap (λ (n : ℕ). written n targets) is ∙ sym named) says)
-    (subst (λ (n : ℕ). IfOk r (λ s. s ≡ held_status (has_absent n targets) damage)) is status)
-    names
+pub frames-told : (name : List ℕ) (job : Job) (file : FileRead) (events : List Event) (count : ℕ) (targets : List Target) → IsSome (form_of job) → job_refusal job (entries_of file) ≡ None → count ≡ length file.tracks → targets ≡ targets_of job → IsToldBy name (frames_taken name job file events) Track count targets
+frames-told name job file events count targets takes fit counted is = record {
+  missing = missing-same (no_track_line name) (length file.tracks) count (targets_of job) targets counted is;
+  named =
+      names_of-outputs (job_outputs job (entries_of file)) (blocks_of events) ∙ taken-names (form_of job) (targets_of job) (entries_of file) takes fit
+      ∙ ap (λ (n : ℕ). written n (targets_of job)) (length-map file.tracks entry_in ∙ sym counted) ∙ ap (written count) (sym is);
+}
+
+pub cues-told : (name : List ℕ) (file : FileRead) (count : ℕ) (targets : List Target) → count ≡ length file.tracks → IsToldBy name (cues_taken name targets file) Track count targets
+cues-told name file count targets counted = record {
+  missing = missing-same (no_track_line name) (length file.tracks) count targets targets counted refl;
+  named = cues-names (scale_of_info file.info) file.cues targets (entries_of file) ∙ ap (λ (n : ℕ). written n targets) (length-map file.tracks entry_in ∙ sym counted);
+}
+
+pub attached-told : (name : List ℕ) (bytes : List ℕ) (file : FileRead) (count : ℕ) (targets : List Target) → count ≡ length file.attachments → All (λ (t : Target). 1 ≤ t.id) targets → IsToldBy name (attached_taken name targets bytes file) Attachment (count + 1) targets
+attached-told name bytes file count targets counted numbers = record {
+  missing = missing-same (no_attachment_line name) (length file.attachments + 1) (count + 1) targets targets (ap (λ (n : ℕ). n + 1) counted) refl;
+  named = attached-names bytes targets file.attachments numbers ∙ ap (λ (n : ℕ). written (n + 1) targets) (sym counted);
+}
+
+-- the outputs stand whole, and what is wrong was told
+reaches : (old new : Seen) (mid : ReportLines) (r : Result Status Stop) (name : List ℕ) (t : Taken) → mid ≡ with_lines old.lines t.missing → Says mid new.lines (map wrote_line (names_of t.outputs) ++ warned name t) r → IfOk r (λ s. s ≡ status_of (is_any t.missing) (t.damages ++ t.bad_frames)) → new.names ≡ with_outputs old.names t.outputs → Reaches old new r (done_verdict name t)
+reaches old new mid r name t = Reaches-behind old new mid r (done_verdict name t) (map wrote_line (names_of t.outputs) ++ warned name t) refl
+
+-- of what isn't frames the damage of level 1
+outline-told : (name : List ℕ) (d : Option Damage) → outline_lines name d ≡ told_lines name (told_damages (option_to_list d)) ++ told_bad name (told_damages [])
+outline-told name None = refl
+outline-told name (Some d) = refl
+
+pub reaches-whole : (old new : Seen) (mid : ReportLines) (r : Result Status Stop) (name : List ℕ) (file : FileRead) (missing : List (List ℕ)) (outputs : List Output) (d : Option Damage) → d ≡ file.damage → mid ≡ with_lines old.lines missing → Says mid new.lines (map wrote_line (names_of outputs) ++ outline_lines name d) r → IfOk r (λ s. s ≡ status_of (is_any missing) (option_to_list d)) → new.names ≡ with_outputs old.names outputs → Reaches old new r (done_verdict name (taken_whole file missing outputs))
+reaches-whole old new mid r name file missing outputs d same said says status names =
+    reaches old new mid r name (taken_whole file missing outputs) said
+    (subst (λ (lines : List (List ℕ)). Says mid new.lines (map wrote_line (names_of outputs) ++ lines) r) (ap (outline_lines name) same ∙ outline-told name file.damage) says)
+    (subst (λ (ds : List Damage). IfOk r (λ s. s ≡ status_of (is_any missing) ds)) (ap option_to_list same ∙ sym (append-nil (option_to_list file.damage))) status) names
+
+-- what isn't there was warned of before
+module _ {name : List ℕ} {t : Taken} {what : Missing} {count : ℕ} {targets : List Target} (is : IsToldBy name t what count targets) where
+  missing-said : (old mid : ReportLines) → mid ≡ with_lines old (absent_lines what name count targets) → mid ≡ with_lines old t.missing
+  missing-said old mid said = said ∙ ap (with_lines old) (sym is.missing)
+
+  outputs-said : (mid new : ReportLines) (r : Result Status Stop) (more : List (List ℕ)) → Says mid new (wrote_lines count targets ++ more) r → Says mid new (map wrote_line (names_of t.outputs) ++ more) r
+  outputs-said mid new r more = subst (λ (ns : List (List ℕ)). Says mid new (map wrote_line ns ++ more) r) (sym is.named)
+
+  status-told : (r : Result Status Stop) (ds : List Damage) → IfOk r (λ s. s ≡ status_of (has_absent count targets) ds) → IfOk r (λ s. s ≡ status_of (is_any t.missing) ds)
+  status-told r ds = subst (λ (a : Bool). IfOk r (λ s. s ≡ status_of a ds)) (sym (ap is_any is.missing ∙ any-absent (line_of what name) count targets))
+
+  -- a warning of it couldn't be said
+  pub begun : (old new : Seen) (why : Stop) → SaysPart old.lines new.lines (absent_lines what name count targets) → new.names ≡ old.names → Reaches old new (Err why) (done_verdict name t)
+  begun old new why part names = inl (subst (SaysPart old.lines new.lines) (sym is.missing) part, Leaves-same old.names new.names (at_once t.outputs) names)
+
+  -- an output wasn't written
+  pub stopped : (old new : Seen) (why : Stop) → new.lines ≡ with_lines old.lines (absent_lines what name count targets) → StandsInPart old.names new.names t.outputs → Reaches old new (Err why) (done_verdict name t)
+  stopped old new why said part = inl (SaysPart-all old.lines new.lines t.missing (missing-said old.lines new.lines said), part)
+
+  -- the outputs stand whole
+  pub told : (old new : Seen) (mid : ReportLines) (r : Result Status Stop) (more : List (List ℕ)) → more ≡ warned name t → mid ≡ with_lines old.lines (absent_lines what name count targets) → Says mid new.lines (wrote_lines count targets ++ more) r → IfOk r (λ s. s ≡ status_of (has_absent count targets) (t.damages ++ t.bad_frames)) → new.names ≡ with_outputs old.names t.outputs → Reaches old new r (done_verdict name t)
+  told old new mid r more all said says status names =
+      reaches old new mid r name t (missing-said old.lines mid said)
+      (outputs-said mid new.lines r (warned name t) (subst (λ (lines : List (List ℕ)). Says mid new.lines (wrote_lines count targets ++ lines) r) all says))
+      (status-told r (t.damages ++ t.bad_frames) status) names
+
+pub told-whole : (file : FileRead) {name : List ℕ} {missing : List (List ℕ)} {outputs : List Output} {what : Missing} {count : ℕ} {targets : List Target} (is : IsToldBy name (taken_whole file missing outputs) what count targets) (old new : Seen) (mid : ReportLines) (r : Result Status Stop) (d : Option Damage) → d ≡ file.damage → mid ≡ with_lines old.lines (absent_lines what name count targets) → Says mid new.lines (wrote_lines count targets ++ outline_lines name d) r → IfOk r (λ s. s ≡ status_of (has_absent count targets) (option_to_list d)) → new.names ≡ with_outputs old.names outputs → Reaches old new r (done_verdict name (taken_whole file missing outputs))
+told-whole file {name = name} {missing = missing} {outputs = outputs} is old new mid r d same said says status names =
+    reaches-whole old new mid r name file missing outputs d same (missing-said is old.lines mid said)
+    (outputs-said is mid new.lines r (outline_lines name d) says) (status-told is r (option_to_list d) status) names

@@ -1,6 +1,5 @@
 -- The tracks that targets name, and what keeps their frames from being used.
 use Rattle.std.proofs.Common.{◌≡◌, ℕ, zero, suc, ◌+◌, ◌<◌, ◌≤◌, ◌==◌, Bool, true, false, ◌||◌, if◌then◌else◌, List, [], ◌∷◌, ◌++◌, length, drop, get_or, map, Some, None, IfSome, slice_get, Ok, refl, sym, ◌∙◌, ap, arith, eq-eqb}
-use Rattle.std.proofs.Math.Seq.{drop-cons}
 use Rattle.std.proofs.lemmas.List.{drop_all}
 use Rattle.mkv_io.specs.declared.damage.Damage.{Damage}
 use Rattle.word_values.specs.declared.job.Target.{Target}
@@ -15,23 +14,15 @@ use Rattle.meta_records.proofs.RecordsLemmas.{file_records-scale}
 use Rattle.file_format.specs.Encoding.{usable_causes}
 use Rattle.track_records.specs.declared.track.Track.{Track}
 use Rattle.extractors.specs.Source.{AreUsableOf, IsUsable, entry_in}
+use Rattle.mkv_extract.proofs.ToldLemmas.{next-left}
 use Rattle.mkv_extract.specs.Read.{causes_from, causes_of, first_unusable, is_named}
 
 -- ---- in a walk over the tracks
 
--- what is left from a track on
-causes-next : (targets : List Target) (tracks : List Track) (k : ℕ) (t : Track) → k < length tracks → t ≡ get_or tracks k t → causes_from targets k (drop k tracks) ≡ causes_of targets k t ++ causes_from targets (k + 1) (drop (k + 1) tracks)
-causes-next targets tracks k t below is =
-    ap (causes_from targets k) (drop-cons tracks k t below ∙ ap (λ (each : Track). each ∷ drop (suc k) tracks) (sym is))
-    ∙ ap (λ (n : ℕ). causes_of targets k t ++ causes_from targets (k + 1) (drop n tracks)) (one_more k)
-  where
-    one_more : (n : ℕ) → suc n ≡ n + 1
-    one_more n = omega arith
-
 -- one whose frames can't be used refuses the file
 pub causes-bad : (targets : List Target) (tracks : List Track) (k : ℕ) (t : Track) (d : Damage) → k < length tracks → t ≡ get_or tracks k t → first_damage (causes_of targets k t) ≡ Some d → first_damage (causes_from targets k (drop k tracks)) ≡ Some d
 causes-bad targets tracks k t d below is some =
-    ap first_damage (causes-next targets tracks k t below is)
+    ap (λ (ts : List Track). first_damage (causes_from targets k ts)) (next-left tracks k t below is)
     ∙ first_damage-some (causes_of targets k t) (causes_from targets (k + 1) (drop (k + 1) tracks)) d some
 
 -- at last none is left

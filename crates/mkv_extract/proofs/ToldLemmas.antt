@@ -1,10 +1,9 @@
 -- The lines of an extraction, one target after the other.
 use Rattle.std.proofs.Common.{◌≡◌, ℕ, zero, suc, ◌+◌, ◌<◌, ◌≤◌, ◌==◌, nat_le, nat_lt, Bool, true, false, not, ◌||◌, ◌&&◌, if◌then◌else◌, List, [], ◌∷◌, ◌++◌, length, take, drop, get_or, map, filter, Option, Some, None, slice_get, Result, Ok, Err, refl, sym, ◌∙◌, ap, subst, arith}
-use Rattle.std.proofs.Math.Seq.{drop-cons, take-suc}
-use Rattle.std.proofs.lemmas.Bool.{lt-ltb, le-ltb}
-use Rattle.std.proofs.lemmas.List.{drop_all}
+use Rattle.std.proofs.lemmas.Bool.{eqb-true, lt-ltb, le-ltb}
+use Rattle.std.proofs.lemmas.List.{drop_all, drop_more, take_more}
 use Rattle.std.proofs.lemmas.List.Folds.{list_any-append}
-use Rattle.std.specs.List.{find}
+use Rattle.std.specs.List.{find, list_any}
 use Rattle.std.specs.Option.{option_map, option_map_or}
 use Rattle.mkv_io.specs.declared.damage.Damage.{Damage}
 use Rattle.word_values.specs.declared.job.Target.{Target}
@@ -18,9 +17,13 @@ use Rattle.extractors.specs.Job.{first_unfit, is_unfit, names_unfit, output_for,
 use Rattle.extractors.specs.declared.frame_form.Coding.{Coding}
 use Rattle.extractors.specs.declared.frame_form.Unfit.{Unfit}
 use Rattle.extractors.specs.declared.frame_form.Unfit.TheVariants.{NoExtractor, BadConfig}
-use Rattle.mkv_extract.specs.Extract.{absent, once}
+use Rattle.mkv_extract.specs.Extract.{absent, is_any, once}
 use Rattle.mkv_extract.specs.Read.{is_named}
-use Rattle.mkv_extract.specs.Told.{written}
+use Rattle.mkv_extract.specs.Told.{has_absent, written}
+
+-- what is left of a list in a walk over it
+pub next-left : {A : Type 0} (xs : List A) (k : ℕ) (x : A) → k < length xs → x ≡ get_or xs k x → drop k xs ≡ x ∷ drop (k + 1) xs
+next-left xs k x below is = drop_more xs k x below ∙ ap (λ y. y ∷ drop (k + 1) xs) (sym is)
 
 -- ---- the tracks that a file hasn't
 
@@ -87,47 +90,22 @@ absent_left-step count seen t rest =
     step true false is = ap (λ (a : Bool). if a then t.id ∷ filter (λ n. nat_le count n) left else filter (λ n. nat_le count n) left) is
     step false false is = ap (λ (a : Bool). if a then t.id ∷ filter (λ n. nat_le count n) left else filter (λ n. nat_le count n) left) is
 
--- in a walk over the targets
-absent_left-at : (count : ℕ) (targets : List Target) (k : ℕ) (t : Target) → k < length targets → t ≡ get_or targets k t → absent_left count (take k targets) (drop k targets) ≡ (if nat_le count t.id && not (is_named (take k targets) t.id) then t.id ∷ absent_left count (take (k + 1) targets) (drop (k + 1) targets) else absent_left count (take (k + 1) targets) (drop (k + 1) targets))
-absent_left-at count targets k t below is =
-    ap (absent_left count (take k targets)) (drop-cons targets k t below ∙ ap (λ (each : Target). each ∷ drop (suc k) targets) (sym is))
-    ∙ absent_left-step count (take k targets) t (drop (suc k) targets)
-    ∙ ap (λ (left : List ℕ). if nat_le count t.id && not (is_named (take k targets) t.id) then t.id ∷ left else left) (same (one_more k))
-  where
-    one_more : (n : ℕ) → suc n ≡ n + 1
-    one_more n = omega arith
-
-    same : suc k ≡ k + 1 → absent_left count (take k targets ++ t ∷ []) (drop (suc k) targets) ≡ absent_left count (take (k + 1) targets) (drop (k + 1) targets)
-    same more =
-        ap (λ (seen : List Target). absent_left count seen (drop (suc k) targets)) (ap (λ (each : Target). take k targets ++ each ∷ []) is ∙ sym (take-suc targets k t below))
-        ∙ ap (λ (n : ℕ). absent_left count (take n targets) (drop n targets)) more
-
--- the next number is told
-pub absent_left-told : (count : ℕ) (targets : List Target) (k : ℕ) (t : Target) → k < length targets → t ≡ get_or targets k t → (nat_le count t.id && not (is_named (take k targets) t.id)) ≡ true → absent_left count (take k targets) (drop k targets) ≡ t.id ∷ absent_left count (take (k + 1) targets) (drop (k + 1) targets)
-absent_left-told count targets k t below is told =
-    absent_left-at count targets k t below is
-    ∙ ap (λ (a : Bool). if a then t.id ∷ absent_left count (take (k + 1) targets) (drop (k + 1) targets) else absent_left count (take (k + 1) targets) (drop (k + 1) targets)) told
-
--- or passed
-pub absent_left-passed : (count : ℕ) (targets : List Target) (k : ℕ) (t : Target) → k < length targets → t ≡ get_or targets k t → (nat_le count t.id && not (is_named (take k targets) t.id)) ≡ false → absent_left count (take k targets) (drop k targets) ≡ absent_left count (take (k + 1) targets) (drop (k + 1) targets)
-absent_left-passed count targets k t below is told =
-    absent_left-at count targets k t below is
-    ∙ ap (λ (a : Bool). if a then t.id ∷ absent_left count (take (k + 1) targets) (drop (k + 1) targets) else absent_left count (take (k + 1) targets) (drop (k + 1) targets)) told
-
 -- at last none is left
 pub absent_left-none : (count : ℕ) (seen : List Target) → absent_left count seen [] ≡ []
 unfolding absent_left ids_of
 absent_left-none count seen = refl
 
--- the next line is said
-pub absent-said : (old now : ReportLines) (all : List (List ℕ)) (line : ℕ → List ℕ) (count : ℕ) (targets : List Target) (k : ℕ) (t : Target) → k < length targets → t ≡ get_or targets k t → (nat_le count t.id && not (is_named (take k targets) t.id)) ≡ true → SaysUpTo old now all (map (line) (absent_left count (take k targets) (drop k targets))) → SaysUpTo old now all (line t.id ∷ map (line) (absent_left count (take (k + 1) targets) (drop (k + 1) targets)))
-absent-said old now all line count targets k t below is told way =
-    subst (SaysUpTo old now all) (ap (map (line)) (absent_left-told count targets k t below is told)) way
-
--- or none is
-pub absent-passed : (old now : ReportLines) (all : List (List ℕ)) (line : ℕ → List ℕ) (count : ℕ) (targets : List Target) (k : ℕ) (t : Target) → k < length targets → t ≡ get_or targets k t → (nat_le count t.id && not (is_named (take k targets) t.id)) ≡ false → SaysUpTo old now all (map (line) (absent_left count (take k targets) (drop k targets))) → SaysUpTo old now all (map (line) (absent_left count (take (k + 1) targets) (drop (k + 1) targets)))
-absent-passed old now all line count targets k t below is told way =
-    subst (SaysUpTo old now all) (ap (map (line)) (absent_left-passed count targets k t below is told)) way
+-- the next number is told, or it is passed
+pub absent-next : (old now : ReportLines) (all : List (List ℕ)) (line : ℕ → List ℕ) (count : ℕ) (targets : List Target) (k : ℕ) (t : Target) (told : Bool) → k < length targets → t ≡ get_or targets k t → (nat_le count t.id && not (is_named (take k targets) t.id)) ≡ told → SaysUpTo old now all (map line (absent_left count (take k targets) (drop k targets)))
+    → SaysUpTo old now all (map line (if told then t.id ∷ absent_left count (take (k + 1) targets) (drop (k + 1) targets) else absent_left count (take (k + 1) targets) (drop (k + 1) targets)))
+absent-next old now all line count targets k t told below is tells way =
+    let rest : List Target → List ℕ = λ seen. absent_left count seen (drop (k + 1) targets) in
+    subst (SaysUpTo old now all)
+    (ap (map line)
+    (ap (absent_left count (take k targets)) (next-left targets k t below is)
+    ∙ absent_left-step count (take k targets) t (drop (k + 1) targets)
+    ∙ ap (λ (seen : List Target). if nat_le count t.id && not (is_named (take k targets) t.id) then t.id ∷ rest seen else rest seen) (ap (λ (each : Target). take k targets ++ each ∷ []) is ∙ sym (take_more targets k t below))
+    ∙ ap (λ (a : Bool). if a then t.id ∷ rest (take (k + 1) targets) else rest (take (k + 1) targets)) tells)) way
 
 -- at last all are said
 pub absent-ends : (count : ℕ) (targets : List Target) (k : ℕ) (line : ℕ → List ℕ) → length targets ≤ k → map (line) (absent_left count (take k targets) (drop k targets)) ≡ []
@@ -135,22 +113,49 @@ absent-ends count targets k line all =
     ap (λ (rest : List Target). map (line) (absent_left count (take k targets) rest)) (drop_all k targets all)
     ∙ ap (map (line)) (absent_left-none count (take k targets))
 
--- ---- the outputs
+-- ---- whether there is one
 
--- the names that are left
-pub written-next : (count : ℕ) (targets : List Target) (k : ℕ) (t : Target) → k < length targets → t ≡ get_or targets k t → written count (drop k targets) ≡ (if nat_lt t.id count then t.name ∷ [] else []) ++ written count (drop (k + 1) targets)
-written-next count targets k t below is =
-    ap (written count) (drop-cons targets k t below ∙ ap (λ (each : Target). each ∷ drop (suc k) targets) (sym is))
-    ∙ ap (λ (n : ℕ). (if nat_lt t.id count then t.name ∷ [] else []) ++ written count (drop n targets)) (one_more k)
+-- a number of which a test fails is none for which it holds
+any-left : (p : ℕ → Bool) (n : ℕ) (ns : List ℕ) → p n ≡ false → list_any p (filter (λ m. not (n == m)) ns) ≡ list_any p ns
+any-left p n [] fails = refl
+any-left p n (m ∷ ms) fails = step (n == m) refl (any-left p n ms fails)
   where
-    one_more : (n : ℕ) → suc n ≡ n + 1
-    one_more n = omega arith
+    step : (same : Bool) → (n == m) ≡ same → list_any p (filter (λ k. not (n == k)) ms) ≡ list_any p ms
+        → list_any p (if not same then m ∷ filter (λ k. not (n == k)) ms else filter (λ k. not (n == k)) ms) ≡ (p m || list_any p ms)
+    step true is rest = rest ∙ ap (λ (a : Bool). a || list_any p ms) (sym (ap p (sym (eqb-true n m is)) ∙ fails))
+    step false is rest = ap (λ (a : Bool). p m || a) rest
+
+any-once : (p : ℕ → Bool) (ns : List ℕ) → list_any p (once ns) ≡ list_any p ns
+any-once p [] = refl
+any-once p (n ∷ ns) = step (p n) refl (any-once p ns)
+  where
+    step : (here : Bool) → p n ≡ here → list_any p (once ns) ≡ list_any p ns → (here || list_any p (filter (λ m. not (n == m)) (once ns))) ≡ (here || list_any p ns)
+    step true is rest = refl
+    step false is rest = any-left p n (once ns) is ∙ rest
+
+any-line : (line : ℕ → List ℕ) (p : ℕ → Bool) (ns : List ℕ) → is_any (map line (filter p ns)) ≡ list_any p ns
+any-line line p [] = refl
+any-line line p (n ∷ ns) = step (p n) (any-line line p ns)
+  where
+    step : (here : Bool) → is_any (map line (filter p ns)) ≡ list_any p ns → is_any (map line (if here then n ∷ filter p ns else filter p ns)) ≡ (here || list_any p ns)
+    step true rest = refl
+    step false rest = rest
+
+-- a line is told where targets name what isn't there
+pub any-absent : (line : ℕ → List ℕ) (count : ℕ) (targets : List Target) → is_any (map line (absent count targets)) ≡ has_absent count targets
+any-absent line count targets = any-line line (nat_le count) (once (map (λ (t : Target). t.id) targets)) ∙ any-once (nat_le count) (map (λ (t : Target). t.id) targets) ∙ ids targets
+  where
+    ids : (ts : List Target) → list_any (nat_le count) (map (λ (t : Target). t.id) ts) ≡ has_absent count ts
+    ids [] = refl
+    ids (t ∷ ts) = ap (λ (a : Bool). nat_le count t.id || a) (ids ts)
+
+-- ---- the outputs
 
 -- the line of an output is said
 pub written-said : (old now : ReportLines) (all : List (List ℕ)) (count : ℕ) (targets : List Target) (k : ℕ) (t : Target) → k < length targets → t ≡ get_or targets k t → t.id < count → SaysUpTo old now all (map wrote_line (written count (drop k targets))) → SaysUpTo old now all (wrote_line t.name ∷ map wrote_line (written count (drop (k + 1) targets)))
 written-said old now all count targets k t below is there way =
     subst (SaysUpTo old now all)
-    (ap (map wrote_line) (written-next count targets k t below is)
+    (ap (λ (left : List Target). map wrote_line (written count left)) (next-left targets k t below is)
     ∙ ap (λ (a : Bool). map wrote_line ((if a then t.name ∷ [] else []) ++ written count (drop (k + 1) targets))) (lt-ltb _ _ there)) way
 
 -- ---- what targets name
@@ -213,10 +218,4 @@ written-names kind (t ∷ ts) entries known good =
 
 -- the next warning is the first of those that are left
 pub warnings-next : (old now : ReportLines) (all : List (List ℕ)) (name : List ℕ) (first : List Damage) (k : ℕ) (d : Damage) → k < length first → d ≡ get_or first k d → SaysUpTo old now all (map (warning_line name) (drop k first)) → SaysUpTo old now all (warning_line name d ∷ map (warning_line name) (drop (k + 1) first))
-warnings-next old now all name first k d below is way =
-    subst (SaysUpTo old now all)
-    (ap (map (warning_line name)) (drop-cons first k d below ∙ ap (λ (each : Damage). each ∷ drop (suc k) first) (sym is))
-    ∙ ap (λ (n : ℕ). warning_line name d ∷ map (warning_line name) (drop n first)) (one_more k)) way
-  where
-    one_more : (n : ℕ) → suc n ≡ n + 1
-    one_more n = omega arith
+warnings-next old now all name first k d below is way = subst (SaysUpTo old now all) (ap (map (warning_line name)) (next-left first k d below is)) way

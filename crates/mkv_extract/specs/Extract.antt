@@ -1,37 +1,35 @@
 -- What `extract` comes to. All of it is this project's, after mkvextract(1).
-use Rattle.std.specs.Prelude.{ℕ, ◌+◌, ◌==◌, nat_le, Bool, true, false, not, List, [], ◌∷◌, ◌++◌, length, map, filter, Option, Some, None, Result, Ok, Err}
-use Rattle.std.specs.List.{list_any}
+use Rattle.std.specs.Prelude.{ℕ, ◌+◌, ◌==◌, nat_le, Bool, true, false, if◌then◌else◌, not, List, [], ◌∷◌, ◌++◌, length, map, filter, Option, Some, None, ok_or, option_map, option_to_list, Result, Ok, Err}
+use Rattle.mkv_io.specs.Results.{and_then, unless}
 use Rattle.mkv_io.specs.declared.damage.Damage.{Damage}
 use Rattle.word_values.specs.declared.job.Job.{Job}
 use Rattle.word_values.specs.declared.job.Job.TheVariants as jobs
 use Rattle.word_values.specs.declared.job.Target.{Target}
-use Rattle.track_records.specs.declared.track.Track.{Track}
+use Rattle.tree_format.specs.Node.{Node}
 use Rattle.block_format.specs.Events.{Event, blocks_of, damages_of}
 use Rattle.file_format.specs.FileBlocks.{file_events}
 use Rattle.cluster_reader.specs.ToldDamages.{ToldDamages, told_damages}
 use Rattle.mkv_outputs.specs.Outputs.{Output, names_of}
-use Rattle.extractors.specs.Chapters.{chapters_output}
+use Rattle.meta_records.specs.Records.{scale_of_info}
+use Rattle.extractors.specs.Attached.{attached_outputs}
 use Rattle.extractors.specs.BadFrames.{bad_frames}
+use Rattle.extractors.specs.Chapters.{chapters_output}
 use Rattle.extractors.specs.Content.{outputs_of}
+use Rattle.extractors.specs.Cues.{cues_outputs}
 use Rattle.extractors.specs.Job.{job_outputs, job_refusal, targets_of}
+use Rattle.extractors.specs.Source.{entry_in}
 use Rattle.extractors.specs.declared.frame_form.Refusal.{Refusal}
 use Rattle.extractors.specs.declared.frame_form.Unfit.{Unfit}
 use Rattle.extractors.specs.declared.frame_form.Unfit.TheVariants as unfit
-use Rattle.extractors.specs.declared.track_output.TrackOutput.{TrackOutput}
-use Rattle.meta_records.specs.Records.{scale_of_info}
-use Rattle.extractors.specs.Attached.{attached_outputs}
-use Rattle.extractors.specs.Cues.{cues_outputs}
-use Rattle.extractors.specs.Source.{entry_in, events_in}
-use Rattle.extractors.specs.declared.source.Source.{Source}
-use Rattle.mkv_lines.specs.Line.{bad_config_line, bad_frame_lines, damage_lines, missing_line, no_attachment_line, no_extractor_line, no_track_line, output_is_input_line, refusal_line, warning_line, wrote_line}
-use Rattle.mkv_lines.specs.Verdict.{Verdict, at_once, refused, unless_pending}
+use Rattle.mkv_lines.specs.Line.{bad_config_line, bad_frame_lines, damage_lines, missing_line, no_attachment_line, no_extractor_line, no_track_line, output_is_input_line, pending_edit_line, refusal_line, wrote_line}
+use Rattle.mkv_lines.specs.Verdict.{Verdict, at_once, refused}
 use Rattle.mkv_lines.specs.declared.status.Status.{Status}
 use Rattle.mkv_lines.specs.declared.status.Status.TheVariants.{Done, Warned}
 use Rattle.sidecar_edit.specs.Pending.{is_pending}
 use Rattle.mkv_extract.specs.Names.{first_written}
-use Rattle.mkv_extract.specs.Read.{FileRead, read_in, read_of}
+use Rattle.mkv_extract.specs.Read.{FileRead, read_of}
 
--- ---- the tracks that a file hasn't
+-- ---- what a job takes
 
 -- numbers in their order, each where it stands first
 abbrev pub once : List ℕ → List ℕ
@@ -42,129 +40,124 @@ once (n ∷ ns) = n ∷ filter (λ m. not (n == m)) (once ns)
 abbrev pub absent : ℕ → List Target → List ℕ
 absent count targets = filter (λ n. nat_le count n) (once (map (λ (t : Target). t.id) targets))
 
--- a target names a thing that a file hasn't: one with this number, or a higher one
-abbrev pub has_absent : ℕ → List Target → Bool
-has_absent count targets = list_any (λ (t : Target). nat_le count t.id) targets
+-- a line for each track that targets name and that a file hasn't
+abbrev pub missing_tracks : List ℕ → FileRead → List Target → List (List ℕ)
+missing_tracks name file targets = map (no_track_line name) (absent (length file.tracks) targets)
 
--- ---- the damages
+-- a line for each attached file that targets name and that a file hasn't: they are numbered from 1
+abbrev pub missing_attachments : List ℕ → FileRead → List Target → List (List ℕ)
+missing_attachments name file targets = map (no_attachment_line name) (absent (length file.attachments + 1) targets)
+
+-- What is taken of a file: a line for each thing that is named and that it hasn't; the outputs, in the order of the words; the damages of the
+-- file; and those of the frames that aren't written.
+pub record Taken : Type 0 where
+  pub missing : List (List ℕ)
+  pub outputs : List Output
+  pub damages : List Damage
+  pub bad_frames : List Damage
+
+-- the entries of the tracks of a file
+abbrev pub entries_of : FileRead → List Node
+entries_of file = map entry_in file.tracks
+
+-- frames of tracks, or their times, are taken of a file that has these blocks and damages
+abbrev pub frames_taken : List ℕ → Job → FileRead → List Event → Taken
+frames_taken name job file events = record {
+  missing = missing_tracks name file (targets_of job);
+  outputs = outputs_of (job_outputs job (entries_of file)) (blocks_of events);
+  damages = damages_of events;
+  bad_frames = bad_frames (job_outputs job (entries_of file)) (blocks_of events);
+}
+
+-- something else than frames is taken of a file, and of its damages that of level 1 is told
+abbrev pub taken_whole : FileRead → List (List ℕ) → List Output → Taken
+taken_whole file missing outputs = record { missing = missing; outputs = outputs; damages = option_to_list file.damage; bad_frames = [] }
+
+-- attached files are taken of a content
+abbrev pub attached_taken : List ℕ → List Target → List ℕ → FileRead → Taken
+attached_taken name targets bytes file = taken_whole file (missing_attachments name file targets) (attached_outputs bytes targets file.attachments)
+
+-- the cue points of tracks are taken of the first Cues
+abbrev pub cues_taken : List ℕ → List Target → FileRead → Taken
+cues_taken name targets file =
+    taken_whole file (missing_tracks name file targets) (cues_outputs (scale_of_info file.info) file.cues targets (entries_of file))
+
+-- the chapters of a file are taken
+abbrev pub chapters_taken : List ℕ → FileRead → Taken
+chapters_taken out file = taken_whole file [] (chapters_output out file.chapters ∷ [])
+
+-- what a job takes of a content of which this was read, and that has these blocks and damages
+abbrev pub taken_by : List ℕ → Job → List ℕ → FileRead → List Event → Taken
+taken_by name (jobs.Chapters out) bytes file events = chapters_taken out file
+taken_by name (jobs.Attachments list) bytes file events = attached_taken name list bytes file
+taken_by name (jobs.Cues list) bytes file events = cues_taken name list file
+taken_by name job bytes file events = frames_taken name job file events
+
+-- ---- why nothing is taken
+
+-- a track that can't be taken so, for this reason
+abbrev pub unfit_line : List ℕ → Unfit → ℕ → List ℕ
+unfit_line name unfit.NoExtractor number = no_extractor_line name number
+unfit_line name unfit.BadConfig number = bad_config_line name number
+
+-- a line for a track that is named and that can't be taken so, if there is one
+abbrev pub unfit_track : List ℕ → Job → FileRead → Option (List ℕ)
+unfit_track name job file = option_map (λ (r : Refusal). unfit_line name r.why r.track) (job_refusal job (entries_of file))
+
+-- what was read, or the line of the damage that refuses it
+abbrev pub or_line : {A : Type 0} → List ℕ → Result A Damage → Result A (List ℕ)
+or_line name (Ok x) = Ok x
+or_line name (Err d) = Err (refusal_line name d)
+
+-- What a job takes of a name in a world of names, or the line of the first of these that stands: an output has the name of a file that is read;
+-- the name has no content; an edit of it is pending; its content can't be read; a track that is named can't be taken so.
+abbrev pub taken_of : (List ℕ → Option (List ℕ)) → List ℕ → Job → Result Taken (List ℕ)
+taken_of world name job =
+    and_then (unless (option_map output_is_input_line (first_written name job)) (world name)) (λ (content : Option (List ℕ)).
+    and_then (ok_or content (missing_line name)) (λ (bytes : List ℕ).
+    and_then (unless (if is_pending world name then Some (pending_edit_line name) else None) (read_of job bytes)) (λ (found : Result FileRead Damage).
+    and_then (or_line name found) (λ (file : FileRead).
+    unless (unfit_track name job file) (taken_by name job bytes file (file_events true bytes file.segment))))))
+
+-- ---- the verdict
 
 -- a warning for each of the damages that are told one by one, and the number of the others
 abbrev pub told_lines : List ℕ → ToldDamages → List (List ℕ)
 told_lines name d = damage_lines name d.first d.more
 
--- the same for each of the frames that aren't written
+-- a warning for each of the frames that aren't written, as far as they are told one by one, and the number of the others
 abbrev pub told_bad : List ℕ → ToldDamages → List (List ℕ)
 told_bad name d = bad_frame_lines name d.first d.more
 
--- ---- the verdict
+-- what is wrong with the file, and then with frames
+abbrev pub warned : List ℕ → Taken → List (List ℕ)
+warned name t = told_lines name (told_damages t.damages) ++ told_bad name (told_damages t.bad_frames)
 
--- all is done; a track that isn't there and what is wrong with the file are warned of
+-- there is a line at least
+abbrev pub is_any : List (List ℕ) → Bool
+is_any [] = false
+is_any (line ∷ lines) = true
+
+-- all is done; a thing that isn't there and what is wrong with the file are warned of
 abbrev pub status_of : Bool → List Damage → Status
 status_of false [] = Done
 status_of false (d ∷ ds) = Warned
 status_of true damages = Warned
 
--- the tracks that the file hasn't; the outputs, in the order of the words; what is wrong with the file, and with frames
-abbrev pub extracted : List ℕ → List Target → ℕ → List Output → List Damage → List Damage → Verdict
-extracted name targets count outputs damages bad = record {
-  status = status_of (has_absent count targets) (damages ++ bad);
-  lines = map (no_track_line name) (absent count targets)
-      ++ (map wrote_line (names_of outputs) ++ (told_lines name (told_damages damages) ++ told_bad name (told_damages bad)));
-  before = map (no_track_line name) (absent count targets);
-  outputs = at_once outputs;
+-- What is taken is written. What isn't there is said before, and what is written and what is wrong behind.
+abbrev pub done_verdict : List ℕ → Taken → Verdict
+done_verdict name t = record {
+  status = status_of (is_any t.missing) (t.damages ++ t.bad_frames);
+  lines = t.missing ++ (map wrote_line (names_of t.outputs) ++ warned name t);
+  before = t.missing;
+  outputs = at_once t.outputs;
 }
 
--- what outputs take of a file with so many tracks, and these blocks and damages
-abbrev pub outputs_verdict : List ℕ → List Target → ℕ → List TrackOutput → List Event → Verdict
-outputs_verdict name targets count list events =
-    extracted name targets count (outputs_of list (blocks_of events)) (damages_of events) (bad_frames list (blocks_of events))
-
--- what a job takes of a file with these tracks, and these blocks and damages
-abbrev pub taken_verdict : List ℕ → Job → List Track → List Event → Verdict
-taken_verdict name job tracks events = outputs_verdict name (targets_of job) (length tracks) (job_outputs job (map entry_in tracks)) events
-
--- a track that isn't taken so, for this reason
-abbrev pub unfit_line : List ℕ → Unfit → ℕ → List ℕ
-unfit_line name unfit.NoExtractor number = no_extractor_line name number
-unfit_line name unfit.BadConfig number = bad_config_line name number
-
--- a track that is named and that can't be taken so is refused
-abbrev pub unless_unfit : List ℕ → Option Refusal → Verdict → Verdict
-unless_unfit name None v = v
-unless_unfit name (Some r) v = refused (unfit_line name r.why r.track)
-
-abbrev pub fit_verdict : List ℕ → Job → List Track → List Event → Verdict
-fit_verdict name job tracks events = unless_unfit name (job_refusal job (map entry_in tracks)) (taken_verdict name job tracks events)
-
--- ---- what isn't taken of blocks
-
--- the damage of level 1 is warned of
-abbrev pub outline_lines : List ℕ → Option Damage → List (List ℕ)
-outline_lines name None = []
-outline_lines name (Some d) = warning_line name d ∷ []
-
--- all is done; what isn't there and a damage are warned of
-abbrev pub held_status : Bool → Option Damage → Status
-held_status false None = Done
-held_status false (Some d) = Warned
-held_status true damage = Warned
-
--- what isn't there, if something isn't; the outputs, in the order of the words; and what is wrong with level 1
-abbrev pub held_verdict : List ℕ → Bool → List (List ℕ) → List Output → Option Damage → Verdict
-held_verdict name is_missing missing outputs damage = record {
-  status = held_status is_missing damage;
-  lines = missing ++ (map wrote_line (names_of outputs) ++ outline_lines name damage);
-  before = missing;
-  outputs = at_once outputs;
-}
-
--- what targets name of things of which the file has the numbers below this one: each number that it hasn't is told in a line
-abbrev pub targets_verdict : List ℕ → (ℕ → List ℕ) → ℕ → List Target → List Output → Option Damage → Verdict
-targets_verdict name line count targets outputs damage = held_verdict name (has_absent count targets) (map line (absent count targets)) outputs damage
-
--- what is taken of the chapters of a file
-abbrev pub chapters_verdict : List ℕ → List ℕ → FileRead → Verdict
-chapters_verdict name out file = held_verdict name false [] (chapters_output out file.chapters ∷ []) file.damage
-
--- what targets take of the attached files of a content, which are numbered from 1
-abbrev pub attached_verdict : List ℕ → List Target → List ℕ → FileRead → Verdict
-attached_verdict name targets bytes file =
-    targets_verdict name (no_attachment_line name) (length file.attachments + 1) targets (attached_outputs bytes targets file.attachments) file.damage
-
--- what targets take of the first Cues of a file with these tracks
-abbrev pub cues_verdict : List ℕ → List Target → FileRead → Verdict
-cues_verdict name targets file =
-    targets_verdict name (no_track_line name) (length file.tracks) targets (cues_outputs (scale_of_info file.info) file.cues targets (map entry_in file.tracks)) file.damage
-
--- what a job comes to of a content that was read so, and that has these blocks and damages
-abbrev pub job_verdict : List ℕ → Job → List ℕ → FileRead → List Event → Verdict
-job_verdict name (jobs.Chapters out) bytes file events = chapters_verdict name out file
-job_verdict name (jobs.Attachments list) bytes file events = attached_verdict name list bytes file
-job_verdict name (jobs.Cues list) bytes file events = cues_verdict name list file
-job_verdict name job bytes file events = fit_verdict name job file.tracks events
-
-abbrev pub read_verdict : List ℕ → Job → List ℕ → Result FileRead Damage → Verdict
-read_verdict name job bytes (Err d) = refused (refusal_line name d)
-read_verdict name job bytes (Ok file) = job_verdict name job bytes file (file_events true bytes file.segment)
-
--- what a job comes to of a content
-abbrev pub file_verdict : List ℕ → Job → List ℕ → Verdict
-file_verdict name job bytes = read_verdict name job bytes (read_of job bytes)
-
--- what a job comes to of a source whose file has this content
-abbrev pub source_verdict : List ℕ → Job → Source → List ℕ → Verdict
-source_verdict name job source bytes = job_verdict name job bytes (read_in source) (events_in source bytes)
-
--- what is told of a name, which may have no content, and of whose file an edit may be pending
-abbrev pub name_verdict : List ℕ → Job → Bool → Option (List ℕ) → Verdict
-name_verdict name job pending None = refused (missing_line name)
-name_verdict name job pending (Some bytes) = unless_pending name pending (file_verdict name job bytes)
-
--- an output that has the name of a file which is read is refused
-abbrev pub unless_written : Option (List ℕ) → Verdict → Verdict
-unless_written None v = v
-unless_written (Some out) v = refused (output_is_input_line out)
+-- what is taken is written, or a line says why nothing is
+abbrev pub verdict_of : List ℕ → Result Taken (List ℕ) → Verdict
+verdict_of name (Ok t) = done_verdict name t
+verdict_of name (Err line) = refused line
 
 -- what `extract` comes to in a world of names
 abbrev pub extract_verdict : (List ℕ → Option (List ℕ)) → List ℕ → Job → Verdict
-extract_verdict world name job = unless_written (first_written name job) (name_verdict name job (is_pending world name) (world name))
+extract_verdict world name job = verdict_of name (taken_of world name job)

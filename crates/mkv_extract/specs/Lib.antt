@@ -3,5 +3,6 @@ pub mod End
 pub mod Extract
 pub mod Names
 pub mod Read
+pub mod Steps
 pub mod Takes
 pub mod Told

@@ -1,5 +1,6 @@
--- What is told of targets. The lines are this project's.
-use Rattle.std.specs.Prelude.{◌≡◌, ℕ, ◌==◌, nat_lt, Bool, if◌then◌else◌, List, [], ◌∷◌, ◌++◌, map, Option, Result, IfOk}
+-- What the calls say of targets and of damages, as they go through them. The lines are this project's.
+use Rattle.std.specs.Prelude.{◌≡◌, ℕ, ◌==◌, nat_le, nat_lt, Bool, if◌then◌else◌, List, [], ◌∷◌, ◌++◌, map, Option, Some, None, option_to_list, Result, IfOk}
+use Rattle.std.specs.List.{list_any}
 use Rattle.mkv_io.specs.declared.damage.Damage.{Damage}
 use Rattle.word_values.specs.declared.job.Target.{Target}
 use Rattle.cluster_reader.specs.ToldDamages.{ToldDamages, told_damages}
@@ -7,22 +8,32 @@ use Rattle.extractors.specs.declared.extracted.Extracted.{Extracted}
 use Rattle.mkv_lines.specs.Line.{more_bad_frames_line, more_damages_line, no_attachment_line, no_track_line, warning_line, wrote_line}
 use Rattle.mkv_lines.specs.declared.status.Status.{Status}
 use Rattle.mkv_lines.specs.declared.status.Stop.{Stop}
-use Rattle.mkv_extract.specs.Extract.{absent, outline_lines, status_of, told_bad, told_lines}
+use Rattle.mkv_extract.specs.Extract.{absent, status_of, told_bad, told_lines}
 use Rattle.mkv_extract.specs.declared.telling.Missing.{Missing}
 use Rattle.mkv_extract.specs.declared.telling.Missing.TheVariants as missing
 use Rattle.mkv_extract.specs.declared.telling.Wrong.{Wrong}
 use Rattle.mkv_extract.specs.declared.telling.Wrong.TheVariants as wrong
+
+-- a target names a thing that a file hasn't: one with this number, or a higher one
+abbrev pub has_absent : ℕ → List Target → Bool
+has_absent count targets = list_any (λ (t : Target). nat_le count t.id) targets
+
+-- a warning of the damage of level 1, if there is one
+abbrev pub outline_lines : List ℕ → Option Damage → List (List ℕ)
+outline_lines name None = []
+outline_lines name (Some d) = warning_line name d ∷ []
 
 -- the line of a number that the file hasn't
 abbrev pub line_of : Missing → List ℕ → ℕ → List ℕ
 line_of missing.Track name = no_track_line name
 line_of missing.Attachment name = no_attachment_line name
 
--- more of what is wrong than is told one by one
+-- the line of how many more damages there are than are told one by one
 abbrev pub more_line : Wrong → List ℕ → ℕ → List ℕ
 more_line wrong.File name more = more_damages_line name more
 more_line wrong.Frames name more = more_bad_frames_line name more
 
+-- that line, if there are more
 abbrev pub others : Wrong → List ℕ → ℕ → List (List ℕ)
 others what name more = if more == 0 then [] else more_line what name more ∷ []
 

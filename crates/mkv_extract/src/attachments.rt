@@ -9,7 +9,7 @@ ghost use Rattle.extractors.specs.Job.{names_of};
 ghost use Rattle.extractors.specs.Source.{IsSource};
 ghost use Rattle.mkv_lines.specs.Command.{ComesTo, HasEnded};
 ghost use Rattle.mkv_io.specs.Bounds.{ReadsOf};
-ghost use Rattle.mkv_extract.specs.Extract.{attached_verdict};
+ghost use Rattle.mkv_extract.specs.Extract.{attached_taken, done_verdict};
 ghost use Rattle.mkv_extract.specs.Read.{read_in};
 
 use crate::extract::stop_of;
@@ -34,7 +34,7 @@ pub fn extract_attachments<F: Files, P: Report>(
     requires other { AreOthers (F.holder files.old source.now.file.n) (names_of targets.now) }
     ensures verdict { IfTold F.Reads files.old source.now.file (λ bytes.
         ComesTo F.Reads F.Files.own P.Report files.old files.new report.old report.new result
-        (attached_verdict name.now targets.now bytes (read_in source.now))) }
+        (done_verdict name.now (attached_taken name.now targets.now bytes (read_in source.now)))) }
     ensures ended { HasEnded F.Reads F.Files.own P.Report files.old files.new report.old report.new result }
     ensures asks { AsksOnly [] (names_of targets.now) (F.asked files.old) (F.asked files.new) }
     ensures octets { ReadsOf F.Reads files.old files.new source.now.file (λ octets. length targets.now * octets) }

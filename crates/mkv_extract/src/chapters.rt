@@ -1,6 +1,6 @@
 //! The chapters of a file are taken out.
 
-ghost use Rattle.std.specs.Prelude.{◌≡◌, ◌≤◌, [], ◌∷◌, false, IfOk, IfSome};
+ghost use Rattle.std.specs.Prelude.{◌≡◌, ◌≤◌, [], ◌∷◌, false, option_to_list, IfOk, IfSome};
 ghost use Rattle.mkv_io.specs.Asked.{AsksOnly};
 ghost use Rattle.mkv_schema.specs.declared.ids.TheConstants.{CHAPTERS};
 ghost use Rattle.tree_format.specs.Standing.{IsSoundOf};
@@ -8,8 +8,9 @@ ghost use Rattle.mkv_lines.specs.Command.{ComesTo, HasEnded, SaysTo};
 ghost use Rattle.mkv_lines.specs.Line.{wrote_line};
 ghost use Rattle.mkv_lines.specs.Ordinary.{IsOrdinary};
 ghost use Rattle.mkv_lines.specs.Said.{HasSayCause};
-ghost use Rattle.mkv_extract.specs.Extract.{chapters_verdict, held_status, outline_lines};
+ghost use Rattle.mkv_extract.specs.Extract.{chapters_taken, done_verdict, status_of};
 ghost use Rattle.mkv_extract.specs.Read.{read_in};
+ghost use Rattle.mkv_extract.specs.Told.{outline_lines};
 
 use crate::extract::stop_of;
 use crate::telling::warn_outline;
@@ -29,7 +30,7 @@ pub fn extract_chapters<F: Files, P: Report>(
 ) -> Result<Status, Stop>
     requires { IfSome source.now.chapters (IsSoundOf CHAPTERS) }
     ensures verdict { ComesTo F.Reads F.Files.own P.Report files.old files.new report.old report.new result
-        (chapters_verdict name.now out.now (read_in source.now)) }
+        (done_verdict name.now (chapters_taken out.now (read_in source.now))) }
     ensures ended { HasEnded F.Reads F.Files.own P.Report files.old files.new report.old report.new result }
     ensures asks { AsksOnly [] (out.now ∷ []) (F.asked files.old) (F.asked files.new) }
     ensures octets { F.octets_read files.new ≤ F.octets_read files.old }
@@ -49,7 +50,7 @@ fn tell_output<P: Report>(
     report: &mut P,
 ) -> Result<Status, Stop>
     ensures said { SaysTo P.Report report.old report.new (wrote_line out.now ∷ outline_lines name.now damage) result }
-    ensures status { IfOk result (λ status. status ≡ held_status false damage) }
+    ensures status { IfOk result (λ status. status ≡ status_of false (option_to_list damage)) }
     ensures ordinary { IfOk result IsOrdinary }
     ensures cause { HasSayCause (P.faults report.old) (P.faults report.new) result }
 {

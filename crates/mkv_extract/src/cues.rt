@@ -5,7 +5,7 @@ ghost use Rattle.mkv_io.specs.Asked.{AsksOnly};
 ghost use Rattle.extractors.specs.Job.{names_of};
 ghost use Rattle.extractors.specs.Source.{IsSource};
 ghost use Rattle.mkv_lines.specs.Command.{ComesTo, HasEnded};
-ghost use Rattle.mkv_extract.specs.Extract.{cues_verdict};
+ghost use Rattle.mkv_extract.specs.Extract.{cues_taken, done_verdict};
 ghost use Rattle.mkv_extract.specs.Read.{read_in};
 
 use crate::extract::stop_of;
@@ -27,7 +27,7 @@ pub fn extract_cues<F: Files, P: Report>(
 ) -> Result<Status, Stop>
     requires { IsSource F.Reads files.old source.now }
     ensures verdict { ComesTo F.Reads F.Files.own P.Report files.old files.new report.old report.new result
-        (cues_verdict name.now targets.now (read_in source.now)) }
+        (done_verdict name.now (cues_taken name.now targets.now (read_in source.now))) }
     ensures ended { HasEnded F.Reads F.Files.own P.Report files.old files.new report.old report.new result }
     ensures asks { AsksOnly [] (names_of targets.now) (F.asked files.old) (F.asked files.new) }
     ensures octets { F.octets_read files.new ≤ F.octets_read files.old }

@@ -3,19 +3,18 @@
 ghost use Rattle.std.specs.Prelude.{◌≡◌, ◌*◌, [], ◌∷◌, None, IsSome};
 ghost use Rattle.mkv_io.specs.Asked.{AsksOnly};
 ghost use Rattle.mkv_io.specs.Sources.{IfTold};
-ghost use Rattle.mkv_io.specs.Told.{Told};
 ghost use Rattle.extractors.specs.Job.{CanBeDone, form_of, job_refusal, names_for};
 ghost use Rattle.extractors.specs.Source.{entries_in, events_in};
 ghost use Rattle.sidecar_edit.specs.Name.{sidecar_of, with_sidecar};
-ghost use Rattle.sidecar_edit.specs.Pending.{is_pending};
 ghost use Rattle.mkv_lines.specs.Command.{ComesTo, HasEnded, with_sidecar_head};
 ghost use Rattle.mkv_io.specs.Bounds.{ReadsByNames, ReadsOf};
 ghost use Rattle.mkv_lines.specs.Line.{text_of};
-ghost use Rattle.mkv_lines.specs.Verdict.{unless_pending};
 ghost use Rattle.mkv_extract.specs.Bound.{most_of_content, most_of_file, most_to_extract};
 ghost use Rattle.mkv_extract.specs.End.{stop_of};
-ghost use Rattle.mkv_extract.specs.Extract.{extract_verdict, file_verdict, fit_verdict, source_verdict, taken_verdict, unfit_line};
-ghost use Rattle.mkv_extract.specs.Takes.{CanTake, CanTakeFrom};
+ghost use Rattle.mkv_extract.specs.Extract.{done_verdict, frames_taken, unfit_line};
+ghost use Rattle.mkv_extract.specs.Read.{read_in};
+ghost use Rattle.mkv_extract.specs.Steps.{TakesFile, TakesFrames, TakesSettled, TakesSource};
+ghost use Rattle.mkv_extract.specs.Takes.{CanTake, CanTakeFrom, Takes};
 
 use crate::attachments::extract_attachments;
 use crate::chapters::extract_chapters;
@@ -40,9 +39,7 @@ pub fn extract_of<F: Files, P: Report>(
     report: &mut P,
 ) -> Result<Status, Stop>
     requires job { CanBeDone job.now }
-    ensures verdict { Told (F.names files.old) (λ world.
-        ComesTo F.Reads F.Files.own P.Report files.old files.new report.old report.new result
-        (extract_verdict world name.now job.now)) }
+    ensures verdict { Takes F.Reads F.Files.own P.Report files.old files.new report.old report.new result name.now job.now }
     ensures ended { HasEnded F.Reads F.Files.own P.Report files.old files.new report.old report.new result }
     ensures asks { AsksOnly (with_sidecar name.now) (names_for job.now) (F.asked files.old) (F.asked files.new) }
     ensures octets { ReadsByNames F.Reads F.Files.own files.old files.new (λ world. most_to_extract world name.now job.now) }
@@ -77,9 +74,7 @@ fn extract_settled<F: Files, P: Report>(
     report: &mut P,
 ) -> Result<Status, Stop>
     requires { CanTake F.Reads F.Files.own files.old file job.now }
-    ensures verdict { Told (F.names files.old) (λ world. IfTold F.Reads files.old file (λ bytes.
-        ComesTo F.Reads F.Files.own P.Report files.old files.new report.old report.new result
-        (unless_pending name.now (is_pending world name.now) (file_verdict name.now job.now bytes)))) }
+    ensures verdict { TakesSettled F.Reads F.Files.own P.Report file files.old files.new report.old report.new result name.now job.now }
     ensures ended { HasEnded F.Reads F.Files.own P.Report files.old files.new report.old report.new result }
     ensures asks { AsksOnly (sidecar_of name.now ∷ []) (names_for job.now) (F.asked files.old) (F.asked files.new) }
     ensures octets { ReadsOf F.Reads files.old files.new file (with_sidecar_head (most_of_file job.now)) }
@@ -100,9 +95,7 @@ fn extract_file<F: Files, P: Report>(
     report: &mut P,
 ) -> Result<Status, Stop>
     requires { CanTake F.Reads F.Files.own files.old file job.now }
-    ensures verdict { IfTold F.Reads files.old file (λ bytes.
-        ComesTo F.Reads F.Files.own P.Report files.old files.new report.old report.new result
-        (file_verdict name.now job.now bytes)) }
+    ensures verdict { TakesFile F.Reads F.Files.own P.Report file files.old files.new report.old report.new result name.now job.now }
     ensures ended { HasEnded F.Reads F.Files.own P.Report files.old files.new report.old report.new result }
     ensures asks { AsksOnly [] (names_for job.now) (F.asked files.old) (F.asked files.new) }
     ensures octets { ReadsOf F.Reads files.old files.new file (most_of_file job.now) }
@@ -127,9 +120,7 @@ fn extract_job<F: Files, P: Report>(
     report: &mut P,
 ) -> Result<Status, Stop>
     requires { CanTakeFrom F.Reads F.Files.own files.old source.now job.now }
-    ensures verdict { IfTold F.Reads files.old source.now.file (λ bytes.
-        ComesTo F.Reads F.Files.own P.Report files.old files.new report.old report.new result
-        (source_verdict name.now job.now source.now bytes)) }
+    ensures verdict { TakesSource F.Reads F.Files.own P.Report source.now files.old files.new report.old report.new result name.now job.now }
     ensures ended { HasEnded F.Reads F.Files.own P.Report files.old files.new report.old report.new result }
     ensures asks { AsksOnly [] (names_for job.now) (F.asked files.old) (F.asked files.new) }
     ensures octets { ReadsOf F.Reads files.old files.new source.now.file (most_of_content job.now) }
@@ -162,9 +153,7 @@ fn extract_fit<F: Files, P: Report>(
 ) -> Result<Status, Stop>
     requires takes { IsSome (form_of job.now) }
     requires can { CanTakeFrom F.Reads F.Files.own files.old source.now job.now }
-    ensures verdict { IfTold F.Reads files.old source.now.file (λ bytes.
-        ComesTo F.Reads F.Files.own P.Report files.old files.new report.old report.new result
-        (fit_verdict name.now job.now source.now.tracks (events_in source.now bytes))) }
+    ensures verdict { TakesFrames F.Reads F.Files.own P.Report source.now files.old files.new report.old report.new result name.now job.now }
     ensures ended { HasEnded F.Reads F.Files.own P.Report files.old files.new report.old report.new result }
     ensures asks { AsksOnly [] (names_for job.now) (F.asked files.old) (F.asked files.new) }
     ensures octets { ReadsOf F.Reads files.old files.new source.now.file (λ octets. 2 * octets) }
@@ -201,7 +190,7 @@ fn extract_source<F: Files, P: Report>(
     requires can { CanTakeFrom F.Reads F.Files.own files.old source.now job.now }
     ensures verdict { IfTold F.Reads files.old source.now.file (λ bytes.
         ComesTo F.Reads F.Files.own P.Report files.old files.new report.old report.new result
-        (taken_verdict name.now job.now source.now.tracks (events_in source.now bytes))) }
+        (done_verdict name.now (frames_taken name.now job.now (read_in source.now) (events_in source.now bytes)))) }
     ensures ended { HasEnded F.Reads F.Files.own P.Report files.old files.new report.old report.new result }
     ensures asks { AsksOnly [] (names_for job.now) (F.asked files.old) (F.asked files.new) }
     ensures octets { ReadsOf F.Reads files.old files.new source.now.file (λ octets. 2 * octets) }

@@ -1,15 +1,15 @@
 //! What is told of an extraction.
 
-ghost use Rattle.std.specs.Prelude.{◌≡◌, false, ◌&&◌, not, nat_le, nat_lt, length, ◌∷◌, [], List, Ok, IfOk};
+ghost use Rattle.std.specs.Prelude.{◌≡◌, false, ◌&&◌, not, nat_le, nat_lt, length, option_to_list, ◌∷◌, [], List, Ok, IfOk};
 ghost use Rattle.mkv_io.specs.declared.damage.Damage.{Damage};
 ghost use Rattle.cluster_reader.specs.ToldDamages.{told_damages};
 ghost use Rattle.mkv_lines.specs.Line.{warning_line};
 ghost use Rattle.mkv_lines.specs.Ordinary.{IsOrdinary};
 ghost use Rattle.mkv_lines.specs.Said.{HasSayCause};
 ghost use Rattle.mkv_lines.specs.Command.{SaysTo};
-ghost use Rattle.mkv_extract.specs.Extract.{has_absent, held_status, outline_lines};
+ghost use Rattle.mkv_extract.specs.Extract.{status_of};
 ghost use Rattle.mkv_extract.specs.Read.{is_named};
-ghost use Rattle.mkv_extract.specs.Told.{HasStatusOf, absent_lines, extracted_lines, held_lines, line_of, more_line, warnings, wrong_lines, wrote_lines};
+ghost use Rattle.mkv_extract.specs.Told.{HasStatusOf, absent_lines, extracted_lines, has_absent, held_lines, line_of, more_line, outline_lines, warnings, wrong_lines, wrote_lines};
 
 use crate::reading::is_named;
 use cluster_reader::Damages;
@@ -183,7 +183,7 @@ pub fn tell_held<P: Report>(
     report: &mut P,
 ) -> Result<Status, Stop>
     ensures said { SaysTo P.Report report.old report.new (held_lines name.now count targets.now damage) result }
-    ensures status { IfOk result (λ status. status ≡ held_status (has_absent count targets.now) damage) }
+    ensures status { IfOk result (λ status. status ≡ status_of (has_absent count targets.now) (option_to_list damage)) }
     ensures ordinary { IfOk result IsOrdinary }
     ensures cause { HasSayCause (P.faults report.old) (P.faults report.new) result }
 {
@@ -204,7 +204,7 @@ pub fn warn_outline<P: Report>(
     report: &mut P,
 ) -> Result<Status, Stop>
     ensures said { SaysTo P.Report report.old report.new (outline_lines name.now damage) result }
-    ensures status { IfOk result (λ status. status ≡ held_status false damage) }
+    ensures status { IfOk result (λ status. status ≡ status_of false (option_to_list damage)) }
     ensures ordinary { IfOk result IsOrdinary }
     ensures cause { HasSayCause (P.faults report.old) (P.faults report.new) result }
 {

@@ -1,6 +1,7 @@
 -- What an extraction wrote of the times of a track.
 use Rattle.std.proofs.Common.{◌≡◌, ℕ, Bool, true, false, List, [], ◌∷◌, ◌++◌, map, Option, Some, None, Result, Ok, Err, refl, sym, ap, subst}
-use Rattle.std.specs.Prelude.{slice_get}
+use Rattle.std.specs.Prelude.{ok_or, option_map, slice_get}
+use Rattle.mkv_io.specs.Results.{and_then, unless}
 use Rattle.mkv_io.specs.declared.damage.Damage.{Damage}
 use Rattle.mkv_schema.specs.Outline.{Outlined, outline_of}
 use Rattle.mkv_schema.proofs.OutlineLemmas.{and_then-ok, unless-ok}
@@ -13,15 +14,16 @@ use Rattle.word_values.specs.declared.job.Form.TheVariants.{Times}
 use Rattle.mkv_outputs.specs.Outputs.{Output}
 use Rattle.extractors.specs.Codec.{times_head}
 use Rattle.extractors.specs.Content.{content_of, output_of, outputs_of}
-use Rattle.extractors.specs.Job.{job_refusal, output_for, output_with, targets_of}
+use Rattle.extractors.specs.Job.{output_for, output_with, targets_of}
 use Rattle.extractors.specs.Source.{entry_in}
 use Rattle.extractors.specs.Whole.{output}
 use Rattle.extractors.specs.declared.frame_form.Coding.{Coding}
 use Rattle.extractors.specs.declared.frame_form.FrameForm.TheVariants.{Time}
-use Rattle.extractors.specs.declared.frame_form.Refusal.{Refusal}
-use Rattle.mkv_lines.specs.Verdict.{Verdict, at_once, unless_pending}
+use Rattle.mkv_lines.specs.Verdict.{Verdict, at_once}
+use Rattle.mkv_lines.specs.Line.{missing_line, output_is_input_line}
 use Rattle.sidecar_edit.specs.Pending.{is_pending}
-use Rattle.mkv_extract.specs.Extract.{job_verdict, name_verdict, read_verdict, taken_verdict, unless_unfit, unless_written}
+use Rattle.mkv_extract.specs.Extract.{Taken, frames_taken, unfit_track, verdict_of}
+use Rattle.mkv_extract.specs.Steps.{file_taken, found_taken, settled_taken}
 use Rattle.mkv_extract.specs.Names.{first_written}
 use Rattle.mkv_extract.specs.Read.{FileRead, first_unusable, read_of, read_with}
 use Rattle.times_laws.specs.GivenBack.{World, WritesTimes, times_job}
@@ -46,30 +48,28 @@ module _ (name out : List ℕ) (id : ℕ) (content : List ℕ) where
   abbrev Writes : Verdict → Type 0
   Writes v = v.outputs ≡ at_once (output out content ∷ [])
 
-  unwritten : (o : Option (List ℕ)) (v : Verdict) → Writes (unless_written o v) → Writes v
-  unwritten None v is = is
-  unwritten (Some other) v is = absurd (cc)
+  -- of a file of which this was read
+  abbrev Takes : List ℕ → FileRead → Type 0
+  Takes bytes file = at_once (frames_taken name (times_job id out) file (file_events true bytes file.segment)).outputs ≡ at_once (output out content ∷ [])
 
-  settled : (pending : Bool) (v : Verdict) → Writes (unless_pending name pending v) → Writes v
-  settled false v is = is
-  settled true v is = absurd (cc)
+  fit : (o : Option (List ℕ)) (t : Taken) → Writes (verdict_of name (unless o t)) → at_once t.outputs ≡ at_once (output out content ∷ [])
+  fit None t is = is
+  fit (Some line) t is = absurd (cc)
 
-  fit : (o : Option Refusal) (v : Verdict) → Writes (unless_unfit name o v) → Writes v
-  fit None v is = is
-  fit (Some why) v is = absurd (cc)
-
-  -- what a file of these tracks comes to
-  abbrev comes_to : List ℕ → FileRead → Verdict
-  comes_to bytes file = job_verdict name (times_job id out) bytes file (file_events true bytes file.segment)
-
-  read : (bytes : List ℕ) (found : Result FileRead Damage) → Writes (read_verdict name (times_job id out) bytes found) → (file : FileRead) × ((found ≡ Ok file) × Writes (comes_to bytes file))
-  read bytes (Ok file) is = (file, (refl, is))
+  read : (bytes : List ℕ) (found : Result FileRead Damage) → Writes (verdict_of name (found_taken name (times_job id out) bytes found)) → (file : FileRead) × ((found ≡ Ok file) × Takes bytes file)
+  read bytes (Ok file) is = (file, (refl, fit (unfit_track name (times_job id out) file) (frames_taken name (times_job id out) file (file_events true bytes file.segment)) is))
   read bytes (Err d) is = absurd (cc)
 
-  there : (pending : Bool) (o : Option (List ℕ)) → Writes (name_verdict name (times_job id out) pending o)
-      → (bytes : List ℕ) × ((o ≡ Some bytes) × Writes (read_verdict name (times_job id out) bytes (read_of (times_job id out) bytes)))
-  there pending (Some bytes) is = (bytes, (refl, settled pending (read_verdict name (times_job id out) bytes (read_of (times_job id out) bytes)) is))
-  there pending None is = absurd (cc)
+  settled : (pending : Bool) (bytes : List ℕ) → Writes (verdict_of name (settled_taken name (times_job id out) pending bytes)) → Writes (verdict_of name (file_taken name (times_job id out) bytes))
+  settled false bytes is = is
+  settled true bytes is = absurd (cc)
+
+  there : (written : Option (List ℕ)) (pending : Bool) (o : Option (List ℕ))
+      → Writes (verdict_of name (and_then (unless (option_map output_is_input_line written) o) (λ (held : Option (List ℕ)). and_then (ok_or held (missing_line name)) (settled_taken name (times_job id out) pending))))
+      → (bytes : List ℕ) × ((o ≡ Some bytes) × Writes (verdict_of name (file_taken name (times_job id out) bytes)))
+  there None pending (Some bytes) is = (bytes, (refl, settled pending bytes is))
+  there None pending None is = absurd (cc)
+  there (Some other) pending o is = absurd (cc)
 
   -- the output of the track, if there is one
   one : (o : Option Node) (blocks : List Block) → at_once (outputs_of (output_for Times (record { id = id; name = out }) o ++ []) blocks) ≡ at_once (output out content ∷ [])
@@ -79,16 +79,14 @@ module _ (name out : List ℕ) (id : ℕ) (content : List ℕ) where
       (entry, (refl, ap (λ (each : Output). each.content) same))
   one None blocks is = absurd (cc)
 
-  lists : (bytes : List ℕ) (file : FileRead) → read_of (times_job id out) bytes ≡ Ok file → Writes (comes_to bytes file) → ListsTimes bytes id content
-  lists bytes file is writes =
+  lists : (bytes : List ℕ) (file : FileRead) → read_of (times_job id out) bytes ≡ Ok file → Takes bytes file → ListsTimes bytes id content
+  lists bytes file is takes =
       let outlined = and_then-ok (outline_of 0 bytes) _ file is in
       let o : Outlined = outlined.0 in
       let records = and_then-ok (file_records bytes o.segment) _ file outlined.1.1 in
       let r : FileRecords = records.0 in
       let good = unless-ok (first_unusable (targets_of (times_job id out)) r.tracks) (read_with o.segment o.damage r None) file records.1.1 in
-      let whole : Writes (comes_to bytes (read_with o.segment o.damage r None)) = subst (λ (f : FileRead). Writes (comes_to bytes f)) (sym good.1) writes in
-      let taken = fit (job_refusal (times_job id out) (map entry_in r.tracks)) (taken_verdict name (times_job id out) r.tracks (file_events true bytes o.segment)) whole in
-      let own = one (slice_get (map entry_in r.tracks) id) (blocks_of (file_events true bytes o.segment)) taken in
+      let own = one (slice_get (map entry_in r.tracks) id) (blocks_of (file_events true bytes o.segment)) (subst (Takes bytes) (sym good.1) takes) in
       record {
         outline = o;
         records = r;
@@ -105,7 +103,6 @@ pub extracted : (before : World) (name : List ℕ) (id : ℕ) (content : List �
 extracted before name id content writes =
     let out : List ℕ = writes.0 in
     let job = times_job id out in
-    let asked = unwritten name out id content (first_written name job) (name_verdict name job (is_pending before name) (before name)) writes.1 in
-    let named = there name out id content (is_pending before name) (before name) asked in
+    let named = there name out id content (first_written name job) (is_pending before name) (before name) writes.1 in
     let file = read name out id content named.0 (read_of job named.0) named.1.1 in
     (named.0, (named.1.0, lists name out id content named.0 file.0 file.1.0 file.1.1))

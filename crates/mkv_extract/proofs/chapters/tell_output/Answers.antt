@@ -2,7 +2,7 @@ use Rattle.std.proofs.Common.{[], ◌∷◌}
 use Rattle.std.proofs.lemmas.Result.{err_from_is_err_and}
 use Rattle.mkv_lines.specs.Line.{wrote_line}
 use Rattle.mkv_lines.proofs.SaidLemmas.{SaysPart-before, Says-then}
-use Rattle.mkv_extract.specs.Extract.{outline_lines}
+use Rattle.mkv_extract.specs.Told.{outline_lines}
 use Rattle.mkv_extract.proofs.chapters.tell_output.Goals as goal
 
 -- the line of the output couldn't be said

@@ -1,4 +1,6 @@
-use Rattle.std.proofs.Common.{◌≡◌, [], Some, refl, sym, ◌∙◌, ap, subst, rules}
+use Rattle.std.proofs.Common.{◌≡◌, List, [], Result, Some, refl, sym, ◌∙◌, ap, subst, rules}
+use Rattle.mkv_io.specs.declared.damage.Damage.{Damage}
+use Rattle.block_format.specs.Events.{Event}
 use Rattle.mkv_io.specs.Asked.{IsBesides}
 use Rattle.mkv_io.proofs.AskedLemmas.{asks-both, asks-none}
 use Rattle.extractors.specs.Job.{names_for}
@@ -10,8 +12,9 @@ use Rattle.mkv_lines.specs.Command.{seen_in}
 use Rattle.mkv_lines.specs.Seen.{Seen}
 use Rattle.mkv_lines.specs.Verdict.{Reaches, Verdict}
 use Rattle.mkv_lines.proofs.VerdictLemmas.{IsStopped-before}
-use Rattle.mkv_extract.specs.Extract.{job_verdict, read_verdict}
-use Rattle.mkv_extract.specs.Read.{read_in, read_of}
+use Rattle.mkv_extract.specs.Extract.{verdict_of}
+use Rattle.mkv_extract.specs.Steps.{file_taken, fit_taken, found_taken}
+use Rattle.mkv_extract.specs.Read.{FileRead, read_in}
 use Rattle.mkv_extract.proofs.extract.extract_file.Goals as goal
 
 -- the file couldn't be read
@@ -19,13 +22,13 @@ pub returns-in-Err-ReadFault-clause-verdict : goal.returns-in-Err-ReadFault-clau
 returns-in-Err-ReadFault-clause-verdict g c = λ bytes told.
     IsStopped-before (seen_in g.F.Reads g.F.Files g.P.Report c.args.files.now c.args.report.now)
     (seen_in g.F.Reads g.F.Files g.P.Report c.read_source.new.src c.args.report.now)
-    (read_verdict c.args.name.now c.args.job.now bytes (read_of c.args.job.now bytes)) refl (g.met.F.Files.names_stand c.read_source.new.src c.args.files.now c.in-Err-ReadFault.ensures.reads.standing)
+    (verdict_of c.args.name.now (file_taken c.args.name.now c.args.job.now bytes)) refl (g.met.F.Files.names_stand c.read_source.new.src c.args.files.now c.in-Err-ReadFault.ensures.reads.standing)
 
 pub returns-in-Err-Memory-clause-verdict : goal.returns-in-Err-Memory-clause-verdict
 returns-in-Err-Memory-clause-verdict g c = λ bytes told.
     IsStopped-before (seen_in g.F.Reads g.F.Files g.P.Report c.args.files.now c.args.report.now)
     (seen_in g.F.Reads g.F.Files g.P.Report c.read_source.new.src c.args.report.now)
-    (read_verdict c.args.name.now c.args.job.now bytes (read_of c.args.job.now bytes)) refl (g.met.F.Files.names_stand c.read_source.new.src c.args.files.now c.in-Err-Memory.ensures.reads.standing)
+    (verdict_of c.args.name.now (file_taken c.args.name.now c.args.job.now bytes)) refl (g.met.F.Files.names_stand c.read_source.new.src c.args.files.now c.in-Err-Memory.ensures.reads.standing)
 
 -- reading leaves all as it was
 pub returns-in-Ok-clause-verdict : goal.returns-in-Ok-clause-verdict
@@ -41,8 +44,8 @@ returns-in-Ok-clause-verdict g c = λ bytes told.
     let names : g.F.Files.names mid ≡ g.F.Files.names old = g.met.F.Files.names_stand mid old standing in
     let there : (live_files g.F.Reads mid).content source.file.n ≡ Some bytes =
     ap (λ s. (g.F.Reads.files s).content source.file.n) standing ∙ ap (λ (file : FileId). (live_files g.F.Reads old).content file.n) c.in-Ok.ensures.file ∙ told in
-    let read : job_verdict name job bytes (read_in source) (events_in source bytes) ≡ read_verdict name job bytes _ =
-    ap (job_verdict name job bytes (read_in source)) (c.in-Ok.ensures.events bytes told) ∙ ap (read_verdict name job bytes) (sym (c.in-Ok.ensures.exact bytes told)) in
+    let read : verdict_of name (fit_taken name job bytes (read_in source) (events_in source bytes)) ≡ verdict_of name (found_taken name job bytes _) =
+    ap (λ (es : List Event). verdict_of name (fit_taken name job bytes (read_in source) es)) (c.in-Ok.ensures.events bytes told) ∙ ap (λ (found : Result FileRead Damage). verdict_of name (found_taken name job bytes found)) (sym (c.in-Ok.ensures.exact bytes told)) in
     let before : Seen = seen_in g.F.Reads g.F.Files g.P.Report old c.args.report.now in
     let after : Seen = seen_in g.F.Reads g.F.Files g.P.Report c.extract_job.new.files c.extract_job.new.report in
     let same : seen_in g.F.Reads g.F.Files g.P.Report mid c.args.report.now ≡ before =
@@ -52,7 +55,7 @@ returns-in-Ok-clause-verdict g c = λ bytes told.
       names = names i;
     } in
     subst (λ (v : Verdict). Reaches before after c.extract_job.result v) read
-    (subst (λ (s : Seen). Reaches s after c.extract_job.result (job_verdict name job bytes (read_in source) (events_in source bytes))) same (c.extract_job.ensures.verdict bytes there))
+    (subst (λ (s : Seen). Reaches s after c.extract_job.result (verdict_of name (fit_taken name job bytes (read_in source) (events_in source bytes)))) same (c.extract_job.ensures.verdict bytes there))
 
 pub returns-in-Ok-clause-ended : goal.returns-in-Ok-clause-ended
 returns-in-Ok-clause-ended g c =

@@ -5,10 +5,9 @@ use Rattle.sidecar_edit.specs.Name.{sidecar_of}
 use Rattle.extractors.specs.Job.{names_for}
 use Rattle.sidecar_edit.specs.Pending.{is_pending}
 use Rattle.mkv_lines.specs.Command.{seen_in}
-use Rattle.mkv_lines.specs.Verdict.{unless_pending}
 use Rattle.mkv_lines.proofs.VerdictLemmas.{IsStopped-before}
-use Rattle.mkv_extract.specs.Extract.{read_verdict}
-use Rattle.mkv_extract.specs.Read.{read_of}
+use Rattle.mkv_extract.specs.Extract.{verdict_of}
+use Rattle.mkv_extract.specs.Steps.{settled_taken}
 use Rattle.mkv_extract.proofs.ExtractLemmas.{asks-settled}
 use Rattle.mkv_extract.proofs.extract.extract_settled.Goals as goal
 
@@ -21,7 +20,7 @@ returns-in_err-is_pending-clause-verdict g c = λ world told bytes is.
     rw p.1
     (IsStopped-before (seen_in g.F.Reads g.F.Files g.P.Report c.args.files.now c.args.report.now)
     (seen_in g.F.Reads g.F.Files g.P.Report c.is_pending.new.files c.args.report.now)
-    (unless_pending name (is_pending world name) (read_verdict name job bytes (read_of job bytes)))
+    (verdict_of name (settled_taken name job (is_pending world name) bytes))
     refl c.is_pending.ensures.looks.names)
 
 -- only the sidecar was opened

@@ -6,7 +6,9 @@ use Rattle.extractors.specs.BadFrames.{bad_frames}
 use Rattle.extractors.specs.Source.{entries_in, events_in, outputs_in}
 use Rattle.extractors.specs.declared.extracted.Extracted.{Extracted}
 use Rattle.mkv_lines.specs.Command.{seen_in}
-use Rattle.mkv_extract.proofs.ExtractLemmas.{asks-taken, names-job, taken-begun, taken-told}
+use Rattle.mkv_extract.specs.Read.{read_in}
+use Rattle.mkv_extract.specs.Told.{wrong_lines}
+use Rattle.mkv_extract.proofs.ExtractLemmas.{asks-taken, begun, frames-told, names-job, stopped, told}
 use Rattle.mkv_extract.proofs.extract.extract_source.Goals as goal
 
 -- the outputs have the names of the targets
@@ -19,26 +21,32 @@ extract-requires-clause-other g c =
 
 -- a warning of a track that isn't there couldn't be said
 pub returns-in_err-say_absent-clause-verdict : goal.returns-in_err-say_absent-clause-verdict
-returns-in_err-say_absent-clause-verdict g c = λ bytes told.
+returns-in_err-say_absent-clause-verdict g c = λ bytes is.
     let p = err_from_is_err_and c.from_residual.result c.from_residual.ensures.1 in
     rw p.1
-    (taken-begun (seen_in g.F.Reads g.F.Files g.P.Report c.args.files.now c.args.report.now)
-    (seen_in g.F.Reads g.F.Files g.P.Report c.args.files.now c.say_absent.new.report)
-    p.0 c.args.name.now c.args.job.now c.args.source.now.tracks (events_in c.args.source.now bytes) c.targets_of-targets.result.now c.len-count.result
-    c.targets_of-targets.ensures c.len-count.ensures c.in_err-say_absent.ensures.said refl)
+    (begun (frames-told c.args.name.now c.args.job.now (read_in c.args.source.now) (events_in c.args.source.now bytes) c.len-count.result c.targets_of-targets.result.now
+    c.requires.takes c.requires.fit c.len-count.ensures c.targets_of-targets.ensures)
+    (seen_in g.F.Reads g.F.Files g.P.Report c.args.files.now c.args.report.now) (seen_in g.F.Reads g.F.Files g.P.Report c.args.files.now c.say_absent.new.report) p.0 c.in_err-say_absent.ensures.said refl)
+
+-- an output wasn't written
+pub returns-in-Err-clause-verdict : goal.returns-in-Err-clause-verdict
+returns-in-Err-clause-verdict g c = λ bytes is.
+    stopped (frames-told c.args.name.now c.args.job.now (read_in c.args.source.now) (events_in c.args.source.now bytes) c.len-count.result c.targets_of-targets.result.now
+    c.requires.takes c.requires.fit c.len-count.ensures c.targets_of-targets.ensures)
+    (seen_in g.F.Reads g.F.Files g.P.Report c.args.files.now c.args.report.now) (seen_in g.F.Reads g.F.Files g.P.Report c.extract.new.files c.say_absent.new.report) c.stop_of.result c.in_ok-say_absent.ensures.said (c.in-Err.ensures.writes bytes is)
 
 -- the outputs stand whole
 pub returns-clause-verdict : goal.returns-clause-verdict
-returns-clause-verdict g c = λ bytes told.
+returns-clause-verdict g c = λ bytes is.
     let events = events_in c.args.source.now bytes in
     let list = outputs_in c.args.source.now c.args.job.now in
-    let tells = c.in-Ok.ensures.tells bytes told in
-    taken-told (seen_in g.F.Reads g.F.Files g.P.Report c.args.files.now c.args.report.now)
-    (seen_in g.F.Reads g.F.Files g.P.Report c.extract.new.files c.tell.new.report)
-    (g.P.Report.lines c.say_absent.new.report) c.tell.result c.args.name.now c.args.job.now c.args.source.now.tracks events c.targets_of-targets.result.now c.len-count.result c.in-Ok.extracted
-    c.requires.takes c.requires.fit c.targets_of-targets.ensures c.len-count.ensures tells c.in_ok-say_absent.ensures.said c.tell.ensures.said
+    let tells = c.in-Ok.ensures.tells bytes is in
+    told (frames-told c.args.name.now c.args.job.now (read_in c.args.source.now) (events_in c.args.source.now bytes) c.len-count.result c.targets_of-targets.result.now
+    c.requires.takes c.requires.fit c.len-count.ensures c.targets_of-targets.ensures)
+    (seen_in g.F.Reads g.F.Files g.P.Report c.args.files.now c.args.report.now) (seen_in g.F.Reads g.F.Files g.P.Report c.extract.new.files c.tell.new.report) (g.P.Report.lines c.say_absent.new.report) c.tell.result (wrong_lines c.args.name.now c.in-Ok.extracted)
+    (ap (wrong_lines c.args.name.now) tells) c.in_ok-say_absent.ensures.said c.tell.ensures.said
     (c.tell.ensures.status (damages_of events) (bad_frames list (blocks_of events)) (ap (λ (e : Extracted). e.damages) tells) (ap (λ (e : Extracted). e.bad_frames) tells))
-    (c.in-Ok.ensures.writes bytes told)
+    (c.in-Ok.ensures.writes bytes is)
 
 -- only outputs were made
 pub returns-in-Err-clause-asks : goal.returns-in-Err-clause-asks

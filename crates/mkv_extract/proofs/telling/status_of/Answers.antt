@@ -2,7 +2,8 @@ use Rattle.std.proofs.Common.{◌≡◌, nat_lt, Bool, true, false, List, [], �
 use Rattle.std.proofs.lemmas.Bool.{lt-ltb}
 use Rattle.mkv_io.specs.declared.damage.Damage.{Damage}
 use Rattle.mkv_lines.specs.declared.status.Status.TheVariants.{Done, Warned}
-use Rattle.mkv_extract.specs.Extract.{has_absent, status_of}
+use Rattle.mkv_extract.specs.Extract.{status_of}
+use Rattle.mkv_extract.specs.Told.{has_absent}
 use Rattle.mkv_extract.proofs.telling.status_of.Goals as goal
 
 -- a damage is warned of

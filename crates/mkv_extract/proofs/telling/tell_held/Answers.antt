@@ -2,8 +2,7 @@ use Rattle.std.proofs.Common.{map}
 use Rattle.std.proofs.lemmas.Result.{err_from_is_err_and}
 use Rattle.mkv_lines.specs.Line.{wrote_line}
 use Rattle.mkv_lines.proofs.SaidLemmas.{SaysPart-before, SaysPart-behind}
-use Rattle.mkv_extract.specs.Extract.{outline_lines}
-use Rattle.mkv_extract.specs.Told.{written}
+use Rattle.mkv_extract.specs.Told.{outline_lines, written}
 use Rattle.mkv_extract.proofs.telling.tell_held.Goals as goal
 
 -- the line of an output couldn't be said
