@@ -4,9 +4,8 @@ use Rattle.mkv_io.specs.Lines.{with_lines}
 use Rattle.mkv_io.specs.declared.damage.Damage.{Damage}
 use Rattle.mkv_schema.specs.declared.element.Header.{Header}
 use Rattle.mkv_schema.specs.Outline.{Outlined, outline_of, segment_run}
-use Rattle.mkv_schema.specs.declared.ids.TheConstants.{TRACKS}
-use Rattle.element_reader.specs.Outline.{FileOutline, first_in, outline_in}
-use Rattle.element_reader.proofs.OutlineLemmas.{Outlines, Outlines-shown, first_in-others}
+use Rattle.element_reader.specs.Outline.{FileOutline, outline_in}
+use Rattle.element_reader.proofs.OutlineLemmas.{Outlines, Outlines-shown}
 use Rattle.mkv_lines.specs.Line.{level_0_line, level_1_line, refusal_line}
 use Rattle.mkv_lines.specs.Said.{ReportLines, Says, SaysPart}
 use Rattle.mkv_lines.specs.Verdict.{SaysVerdict, Verdict, nothing, refused}
@@ -15,7 +14,7 @@ use Rattle.mkv_lines.specs.declared.status.Stop.{Stop}
 use Rattle.mkv_lines.proofs.SaidLemmas.{SaysPart-before, SaysPart-behind, Says-then}
 use Rattle.track_records.specs.declared.track.Track.{Track}
 use Rattle.mkv_info.specs.Listed.{element_lines, listed, listed_or_refused, listed_verdict, shown_lines, status_with, warnings, with_tracks}
-use Rattle.mkv_info.specs.Tracks.{file_tracks, track_lines, tracks_at}
+use Rattle.mkv_info.specs.Tracks.{file_tracks, track_lines}
 
 -- ---- the lines of the Elements
 
@@ -50,26 +49,20 @@ shown_lines-is bytes v of =
     ap (shown_lines bytes) of.shows
     ∙ ap (λ (l : List Header). level_0_line of.outlined.ebml ∷ level_0_line of.outlined.segment ∷ map level_1_line l) (sym of.list)
 
--- its tracks are the file's
-shown_tracks-are : (bytes : List ℕ) (v : FileOutline) (of : Outlines 0 bytes v) → tracks_at bytes (first_in TRACKS v) ≡ file_tracks bytes of.outlined
-shown_tracks-are bytes v of =
-    ap (λ (w : FileOutline). tracks_at bytes (first_in TRACKS w)) of.shows
-    ∙ ap (tracks_at bytes) (first_in-others TRACKS of.outlined.list refl)
-
 -- a file whose outline was read is listed, unless its tracks are refused
-verdict-is : (name bytes : List ℕ) (v : FileOutline) (of : Outlines 0 bytes v) (found : Result (List Track) Damage) → found ≡ tracks_at bytes (first_in TRACKS v) → listed_verdict name bytes ≡ with_tracks name of.outlined found
+verdict-is : (name bytes : List ℕ) (v : FileOutline) (of : Outlines 0 bytes v) (found : Result (List Track) Damage) → found ≡ file_tracks bytes v.segment → listed_verdict name bytes ≡ with_tracks name of.outlined found
 verdict-is name bytes v of found tracks =
     ap (listed_or_refused name bytes) of.is
-    ∙ ap (with_tracks name of.outlined) (sym (tracks ∙ shown_tracks-are bytes v of))
+    ∙ ap (with_tracks name of.outlined) (sym (tracks ∙ ap (λ (w : FileOutline). file_tracks bytes w.segment) of.shows))
 
 -- the tracks refuse the file
-pub reaches-refused : (old new : ReportLines) (name bytes : List ℕ) (v : FileOutline) (found : Result (List Track) Damage) (d : Damage) (r : Result Status Stop) → outline_in 0 bytes ≡ Ok v → found ≡ tracks_at bytes (first_in TRACKS v) → found ≡ Err d → SaysVerdict old new r (refused (refusal_line name d)) → SaysVerdict old new r (listed_verdict name bytes)
+pub reaches-refused : (old new : ReportLines) (name bytes : List ℕ) (v : FileOutline) (found : Result (List Track) Damage) (d : Damage) (r : Result Status Stop) → outline_in 0 bytes ≡ Ok v → found ≡ file_tracks bytes v.segment → found ≡ Err d → SaysVerdict old new r (refused (refusal_line name d)) → SaysVerdict old new r (listed_verdict name bytes)
 reaches-refused old new name bytes v found d r outline tracks is reaches =
     let of = Outlines-shown 0 bytes v outline in
     subst (λ (w : Verdict). SaysVerdict old new r w) (sym (verdict-is name bytes v of found tracks ∙ ap (with_tracks name of.outlined) is)) reaches
 
 -- the list was begun
-pub reaches-part : (old new : ReportLines) (name bytes : List ℕ) (v : FileOutline) (found : Result (List Track) Damage) (list : List Track) (why : Stop) → outline_in 0 bytes ≡ Ok v → found ≡ tracks_at bytes (first_in TRACKS v) → found ≡ Ok list → SaysPart old new (shown_lines bytes v) → SaysVerdict old new (Err why) (listed_verdict name bytes)
+pub reaches-part : (old new : ReportLines) (name bytes : List ℕ) (v : FileOutline) (found : Result (List Track) Damage) (list : List Track) (why : Stop) → outline_in 0 bytes ≡ Ok v → found ≡ file_tracks bytes v.segment → found ≡ Ok list → SaysPart old new (shown_lines bytes v) → SaysVerdict old new (Err why) (listed_verdict name bytes)
 reaches-part old new name bytes v found list why outline tracks is part =
     let of = Outlines-shown 0 bytes v outline in
     let o = of.outlined in
@@ -78,7 +71,7 @@ reaches-part old new name bytes v found list why outline tracks is part =
     (SaysPart-before old new (element_lines o) (track_lines 0 list ++ warnings name o.damage) lines)
 
 -- the Elements were said, and the tracks begun
-pub reaches-second : (old mid new : ReportLines) (name bytes : List ℕ) (v : FileOutline) (found : Result (List Track) Damage) (list : List Track) (why : Stop) → outline_in 0 bytes ≡ Ok v → found ≡ tracks_at bytes (first_in TRACKS v) → found ≡ Ok list → mid ≡ with_lines old (shown_lines bytes v) → SaysPart mid new (track_lines 0 list) → SaysVerdict old new (Err why) (listed_verdict name bytes)
+pub reaches-second : (old mid new : ReportLines) (name bytes : List ℕ) (v : FileOutline) (found : Result (List Track) Damage) (list : List Track) (why : Stop) → outline_in 0 bytes ≡ Ok v → found ≡ file_tracks bytes v.segment → found ≡ Ok list → mid ≡ with_lines old (shown_lines bytes v) → SaysPart mid new (track_lines 0 list) → SaysVerdict old new (Err why) (listed_verdict name bytes)
 reaches-second old mid new name bytes v found list why outline tracks is said part =
     let of = Outlines-shown 0 bytes v outline in
     let o = of.outlined in
@@ -92,7 +85,7 @@ reaches-listed : (old new : ReportLines) (name : List ℕ) (o : Outlined) (list 
 reaches-listed old new name o list (Ok s) says status = (status, says)
 reaches-listed old new name o list (Err why) says status = says
 
-pub reaches-warned : (old mid late new : ReportLines) (name bytes : List ℕ) (v : FileOutline) (found : Result (List Track) Damage) (list : List Track) (damage : Option Damage) (r : Result Status Stop) → outline_in 0 bytes ≡ Ok v → found ≡ tracks_at bytes (first_in TRACKS v) → found ≡ Ok list → damage ≡ v.damage → mid ≡ with_lines old (shown_lines bytes v) → late ≡ with_lines mid (track_lines 0 list) → Says late new (warnings name damage) r → IfOk r (λ s. s ≡ status_with damage) → SaysVerdict old new r (listed_verdict name bytes)
+pub reaches-warned : (old mid late new : ReportLines) (name bytes : List ℕ) (v : FileOutline) (found : Result (List Track) Damage) (list : List Track) (damage : Option Damage) (r : Result Status Stop) → outline_in 0 bytes ≡ Ok v → found ≡ file_tracks bytes v.segment → found ≡ Ok list → damage ≡ v.damage → mid ≡ with_lines old (shown_lines bytes v) → late ≡ with_lines mid (track_lines 0 list) → Says late new (warnings name damage) r → IfOk r (λ s. s ≡ status_with damage) → SaysVerdict old new r (listed_verdict name bytes)
 reaches-warned old mid late new name bytes v found list damage r outline tracks is same said then says status =
     let of = Outlines-shown 0 bytes v outline in
     let o = of.outlined in
@@ -114,5 +107,5 @@ listed-nothing name bytes = outline (outline_of 0 bytes)
     tracks o (Err d) = refl
 
     outline : (found : Result Outlined Damage) → (listed_or_refused name bytes found).outputs ≡ nothing
-    outline (Ok o) = tracks o (file_tracks bytes o)
+    outline (Ok o) = tracks o (file_tracks bytes o.segment)
     outline (Err d) = refl

@@ -16,7 +16,7 @@ use Rattle.mkv_info.specs.Tracks.{file_tracks, track_lines}
 abbrev pub element_lines : Outlined → List (List ℕ)
 element_lines o = level_0_line o.ebml ∷ level_0_line o.segment ∷ map level_1_line o.list
 
--- the same lines, of an outline that was read and the Elements that its Segment has
+-- these lines, by an outline that was read and the Elements that its Segment has
 abbrev pub shown_lines : List ℕ → FileOutline → List (List ℕ)
 shown_lines bytes o = level_0_line o.ebml ∷ level_0_line o.segment ∷ map level_1_line (segment_run bytes o.segment).list
 
@@ -29,6 +29,7 @@ abbrev pub warnings : List ℕ → Option Damage → List (List ℕ)
 warnings name None = []
 warnings name (Some d) = warning_line name d ∷ []
 
+-- all is done, or the damage is warned of
 abbrev pub status_with : Option Damage → Status
 status_with None = Done
 status_with (Some d) = Warned
@@ -42,9 +43,9 @@ abbrev pub with_tracks : List ℕ → Outlined → Result (List Track) Damage �
 with_tracks name o (Ok tracks) = listed name o tracks
 with_tracks name o (Err d) = refused (refusal_line name d)
 
--- nor is one whose outline is
+-- a file whose outline or whose tracks are refused isn't listed
 abbrev pub listed_or_refused : List ℕ → List ℕ → Result Outlined Damage → Verdict
-listed_or_refused name bytes (Ok o) = with_tracks name o (file_tracks bytes o)
+listed_or_refused name bytes (Ok o) = with_tracks name o (file_tracks bytes o.segment)
 listed_or_refused name bytes (Err d) = refused (refusal_line name d)
 
 -- what is told of a content that bears a name, line by line

@@ -1,18 +1,18 @@
 //! The tracks of a file, a line for each.
 
-ghost use Rattle.std.specs.Prelude.{◌≡◌, ◌+◌, ◌≤◌, ℕ, List, Ok, length, IfErr, IfOk, IsTrue};
+ghost use Rattle.std.specs.Prelude.{◌≡◌, ◌+◌, ◌≤◌, IfErr, IfOk, IfSome};
 ghost use Rattle.mkv_schema.specs.declared.ids.TheConstants.{TRACKS as TRACKS_ID};
 ghost use Rattle.mkv_io.specs.Faults.{HasCause, is_read_fault};
 ghost use Rattle.mkv_io.specs.Sources.{IfTold, IsLive, file_size};
-ghost use Rattle.element_reader.specs.Outline.{first_in, outline_in};
+ghost use Rattle.tree_format.specs.Standing.{IsSoundOf};
 ghost use Rattle.mkv_lines.specs.Said.{HasSayCause, Says};
 ghost use Rattle.mkv_lines.specs.Line.{text_of};
 ghost use Rattle.mkv_lines.specs.declared.line.Line.TheVariants as line;
-ghost use Rattle.mkv_info.specs.Tracks.{shown_track, track_lines, tracks_at, tracks_in};
-ghost use Rattle.mkv_io.specs.declared.outside.TheConstants.{LONGEST_FILE};
+ghost use Rattle.mkv_info.specs.Tracks.{AreTracksOf, shown_track, track_lines, tracks_in};
 
-use ebml_tree::{MOST_NODES, Tree, TreeEnd};
-use element_reader::{Header, LoadEnd, Outline, load};
+use ebml_tree::{Tree, TreeEnd};
+use element_reader::{Outline, OutlineEnd};
+use meta_records::first_tree;
 use mkv_io::{Damage, FileId, List, ReadEnd, Reads, Report};
 use mkv_lines::{Line, ShownTrack, Stop, say};
 use mkv_schema::ids::TRACKS;
@@ -28,39 +28,29 @@ pub fn tracks_of<R: Reads>(
 ) -> Result<Result<List<Track>, Damage>, ReadEnd>
     requires live { IsLive R.Reads src.old file }
     requires whole { outline.now.total ≡ file_size R.Reads src.old file }
-    ensures ok { IfOk result (λ found. IfTold R.Reads src.old file (λ bytes.
-        outline_in 0 bytes ≡ Ok outline.now → found ≡ tracks_at bytes (first_in TRACKS_ID outline.now))) }
+    ensures ok { IfOk result (λ found. IfTold R.Reads src.old file (AreTracksOf outline.now found)) }
     ensures standing { R.standing src.new ≡ R.standing src.old }
     ensures cause { HasCause is_read_fault (R.reading_faults src.old) (R.reading_faults src.new) result }
     ensures octets { R.octets_read src.new ≤ R.octets_read src.old + file_size R.Reads src.old file }
 {
-    let Some(header) = outline.first(TRACKS) else {
-        return Ok(Ok(List::new(alloc)));
-    };
-    match load(alloc, src, file, &header) {
-        Ok(body) => parse_tracks(alloc, &header, body.as_slice()),
-        Err(LoadEnd::TooLarge(damage)) => Ok(Err(damage)),
-        Err(LoadEnd::ReadFault) => Err(ReadEnd::ReadFault),
-        Err(LoadEnd::Memory) => Err(ReadEnd::Memory),
+    match first_tree(alloc, outline, src, file, TRACKS) {
+        Ok(tracks) => tracks_in(alloc, &tracks),
+        Err(OutlineEnd::Refused(damage)) => Ok(Err(damage)),
+        Err(OutlineEnd::ReadFault) => Err(ReadEnd::ReadFault),
+        Err(OutlineEnd::Memory) => Err(ReadEnd::Memory),
     }
 }
 
-// The tracks of a Tracks Element with this body, or what refuses them.
-fn parse_tracks(
-    alloc: Global,
-    header: &Header,
-    body: &[u8],
-) -> Result<Result<List<Track>, Damage>, ReadEnd>
-    requires { header.now.body + length body.now ≤ LONGEST_FILE }
-    ensures ok { IfOk result (λ found. found ≡ tracks_in header.now body.now) }
+// The tracks of a Tracks, or what refuses them; without a Tracks there are none.
+fn tracks_in(alloc: Global, tracks: &Option<Tree>) -> Result<Result<List<Track>, Damage>, ReadEnd>
+    requires { IfSome tracks.now (IsSoundOf TRACKS_ID) }
+    ensures ok { IfOk result (λ found. found ≡ tracks_in tracks.now) }
     ensures memory { IfErr result (λ end. end ≡ ReadEnd.Memory) }
 {
-    let tree = match Tree::parse(alloc, TRACKS, header.offset, body, header.body, MOST_NODES) {
-        Ok(tree) => tree,
-        Err(TreeEnd::Damage(damage)) => return Ok(Err(damage)),
-        Err(TreeEnd::Memory) => return Err(ReadEnd::Memory),
+    let Some(tracks) = tracks else {
+        return Ok(Ok(List::new(alloc)));
     };
-    match read_tracks(alloc, &tree) {
+    match read_tracks(alloc, tracks) {
         Ok(tracks) => Ok(Ok(tracks)),
         Err(TreeEnd::Damage(damage)) => Ok(Err(damage)),
         Err(TreeEnd::Memory) => Err(ReadEnd::Memory),

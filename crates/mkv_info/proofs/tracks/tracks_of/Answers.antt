@@ -1,11 +1,24 @@
-use Rattle.std.proofs.Common.{◌≡◌, Some, None, Err, sym, ◌∙◌, ap}
-use Rattle.mkv_info.proofs.TracksLemmas.{tracks-small}
+use Rattle.std.proofs.Common.{◌≡◌, List, Result, sym, ◌∙◌, ap}
+use Rattle.std.proofs.lemmas.Result.{IfOk-weaker}
+use Rattle.mkv_io.specs.Results.{and_then}
+use Rattle.mkv_io.specs.declared.damage.Damage.{Damage}
+use Rattle.track_records.specs.declared.track.Track.{Track}
+use Rattle.meta_records.proofs.RecordsLemmas.{held}
+use Rattle.mkv_info.specs.Tracks.{tracks_in}
 use Rattle.mkv_info.proofs.tracks.tracks_of.Goals as goal
 
--- what an outline keeps isn't too large
-pub returns-in-Err-TooLarge-clause-ok : goal.returns-in-Err-TooLarge-clause-ok
-returns-in-Err-TooLarge-clause-ok g c = λ bytes told outline.
-    let small = tracks-small bytes c.args.outline.now c.in-Some.header outline (sym c.first.ensures.kept ∙ c.in-Some.is) in
-    let large = (c.in-Err-TooLarge.ensures.large c.in-Err-TooLarge.damage).0 (ap (λ e. Err e) c.in-Err-TooLarge.field-0-is) in
-    let both : Some c.in-Err-TooLarge.damage ≡ None = sym large ∙ small in
-    absurd (cc)
+-- a Tracks is read whole
+pub first_tree-requires-clause-held : goal.first_tree-requires-clause-held
+first_tree-requires-clause-held g c = held.tracks
+
+-- its tracks are the file's
+pub returns-in-Ok-clause-ok : goal.returns-in-Ok-clause-ok
+returns-in-Ok-clause-ok g c =
+    IfOk-weaker c.tracks_in.result (λ (found : Result (List Track) Damage). found ≡ tracks_in c.in-Ok.tracks) _
+    (λ found is bytes told outline. is ∙ sym (ap (λ tree. and_then tree tracks_in) (c.in-Ok.ensures.exact bytes told 0 outline))) c.tracks_in.ensures.ok
+
+-- or it is refused
+pub returns-in-Err-Refused-clause-ok : goal.returns-in-Err-Refused-clause-ok
+returns-in-Err-Refused-clause-ok g c = λ bytes told outline.
+    rw c.in-Err-Refused.field-0-is
+    (sym (ap (λ tree. and_then tree tracks_in) (rw c.in-Err-Refused.field-0-is at (c.in-Err-Refused.ensures.exact bytes told 0 outline))))
