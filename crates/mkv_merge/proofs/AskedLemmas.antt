@@ -96,22 +96,25 @@ merge-asks-inputs words files old new same asks =
     merge-asks-opened (file_names words.files) (file_names words.files) words old new (λ name others. others)
     (subst (λ (each : List FileWords). AsksOnly (file_names each) [] old new) same asks)
 
--- what opens only inputs, or only sidecars, opens only these
-pub merge-asks-front : (words : MergeWords) (old new : List Asked) → AsksToMerge (file_names words.files) words old new → AsksToMerge (file_names words.files ++ sidecars_of words) words old new
-merge-asks-front words old new asks =
-    merge-asks-more (file_names words.files) (file_names words.files ++ sidecars_of words) words old new (λ name others. others-front name (file_names words.files) (sidecars_of words) others) asks
+-- a name that a merge doesn't open is none of its text files, of its inputs and of the sidecars
+others-opened : (words : MergeWords) (name : List ℕ) → AreOthers name (opened_by words) → AreOthers name (text_names words.chapters words.files) × AreOthers name (file_names words.files) × AreOthers name (sidecars_of words)
+others-opened words name others =
+    let behind = others-behind name (text_names words.chapters words.files) (file_names words.files ++ sidecars_of words) others in
+    (others-front name (text_names words.chapters words.files) (file_names words.files ++ sidecars_of words) others, others-front name (file_names words.files) (sidecars_of words) behind, others-behind name (file_names words.files) (sidecars_of words) behind)
 
-pub merge-asks-behind : (words : MergeWords) (old new : List Asked) → AsksToMerge (sidecars_of words) words old new → AsksToMerge (file_names words.files ++ sidecars_of words) words old new
-merge-asks-behind words old new asks =
-    merge-asks-more (sidecars_of words) (file_names words.files ++ sidecars_of words) words old new (λ name others. others-behind name (file_names words.files) (sidecars_of words) others) asks
+-- what opens only inputs, or only sidecars, opens only what a merge does
+pub merge-asks-files : (words : MergeWords) (old new : List Asked) → AsksToMerge (file_names words.files) words old new → AsksToMerge (opened_by words) words old new
+merge-asks-files words old new asks = merge-asks-more (file_names words.files) (opened_by words) words old new (λ name others. (others-opened words name others).1) asks
+
+pub merge-asks-sidecars : (words : MergeWords) (old new : List Asked) → AsksToMerge (sidecars_of words) words old new → AsksToMerge (opened_by words) words old new
+merge-asks-sidecars words old new asks = merge-asks-more (sidecars_of words) (opened_by words) words old new (λ name others. (others-opened words name others).2) asks
+
+-- sidecars are looked into
+pub merge-asks-looks : (words : MergeWords) (old new : List Asked) → AsksOnly (sidecars_of words) [] old new → AsksToMerge (sidecars_of words) words old new
+merge-asks-looks words old new asks = merge-asks-opened (sidecars_of words) (sidecars_of words) words old new (λ name others. others) asks
 
 -- text files are opened
 pub merge-asks-texts : (words : MergeWords) (files : List FileWords) (old new : List Asked) → files ≡ words.files → AsksOnly (text_names words.chapters files) [] old new → AsksToMerge (opened_by words) words old new
 merge-asks-texts words files old new same asks =
-    merge-asks-opened (text_names words.chapters words.files) (opened_by words) words old new (λ name others. others-front name (text_names words.chapters words.files) (file_names words.files ++ sidecars_of words) others)
+    merge-asks-opened (text_names words.chapters words.files) (opened_by words) words old new (λ name others. (others-opened words name others).0)
     (subst (λ (each : List FileWords). AsksOnly (text_names words.chapters each) [] old new) same asks)
-
--- and then what is behind them
-pub merge-asks-beside : (words : MergeWords) (old new : List Asked) → AsksToMerge (file_names words.files ++ sidecars_of words) words old new → AsksToMerge (opened_by words) words old new
-merge-asks-beside words old new asks =
-    merge-asks-more (file_names words.files ++ sidecars_of words) (opened_by words) words old new (λ name others. others-behind name (text_names words.chapters words.files) (file_names words.files ++ sidecars_of words) others) asks

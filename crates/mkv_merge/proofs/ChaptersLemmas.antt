@@ -1,5 +1,5 @@
 -- Inputs with the Chapters of a chapter file.
-use Rattle.std.proofs.Common.{◌≡◌, ℕ, Bool, true, false, not, List, [], ◌∷◌, ◌++◌, map, Option, Some, None, IfSome, Result, Ok, Err, IfOk, refl, sym, ◌∙◌, ap, subst}
+use Rattle.std.proofs.Common.{◌≡◌, ℕ, Bool, true, false, not, List, [], ◌∷◌, ◌++◌, map, Option, Some, None, IfSome, Ok, Err, refl, ◌∙◌, ap}
 use Rattle.std.specs.List.{All}
 use Rattle.std.proofs.lemmas.List.{map-append}
 use Rattle.std.proofs.lemmas.List.Elements.{All-nil, All-cons, All-head, All-tail}
@@ -11,19 +11,13 @@ use Rattle.ebml_tree.specs.Building.{IsRead}
 use Rattle.input_files.specs.ChapterFile.{CanBeWritten}
 use Rattle.input_files.specs.declared.chapter_file.ChapterFile.{ChapterFile}
 use Rattle.input_files.specs.declared.chapter_file.ChapterFile.TheVariants as file
-use Rattle.input_files.specs.declared.text_files.TextFiles.{TextFiles}
-use Rattle.merge_words.specs.declared.output.MergeWords.{MergeWords}
 use Rattle.merge_inputs.specs.Input.{InputRead, IsInput, read_in}
 use Rattle.merge_inputs.specs.Select.{kept_one}
 use Rattle.merge_inputs.specs.declared.input.Input.{Input}
 use Rattle.merge_plan.specs.Spots.{HasPlace}
-use Rattle.mkv_merge.specs.Chapters.{chaptered, chapters_refusal, first_with, with_chapters, with_file, with_tree}
-use Rattle.mkv_merge.specs.Prepared.{AreInputsOf, ReadsAs, reads_in}
-use Rattle.mkv_merge.specs.Read.{inputs_of, inputs_with}
-use Rattle.mkv_io.specs.Results.{and_then, unless}
-use Rattle.mkv_merge.specs.Texts.{with_times}
-use Rattle.mkv_merge.specs.declared.refusal.MergeEnd.{MergeEnd}
-use Rattle.mkv_merge.specs.declared.refusal.MergeEnd.TheVariants.{Refused, Stopped}
+use Rattle.mkv_merge.specs.Chapters.{chaptered, first_with, with_chapters, with_tree}
+use Rattle.mkv_merge.specs.Prepared.{AreInputsOf, reads_in}
+use Rattle.mkv_io.specs.Results.{unless}
 use Rattle.mkv_merge.specs.declared.refusal.Refusal.{Refusal}
 
 -- ---- the first of them has the Chapters
@@ -52,7 +46,7 @@ first-read : (chapters : Option Node) (inputs : List Input) → reads_in (first_
 first-read chapters [] = refl
 first-read chapters (i ∷ is) = ap (λ (rest : List InputRead). with_chapters chapters (read_in i) ∷ rest) (others-read is)
 
-chaptered-read : (webm : Bool) (f : ChapterFile) (inputs : List Input) → reads_in (chaptered with_tree webm f inputs) ≡ chaptered with_chapters webm f (reads_in inputs)
+pub chaptered-read : (webm : Bool) (f : ChapterFile) (inputs : List Input) → reads_in (chaptered with_tree webm f inputs) ≡ chaptered with_chapters webm f (reads_in inputs)
 chaptered-read webm file.Absent inputs = refl
 chaptered-read webm file.Missing inputs = refl
 chaptered-read webm (file.Refused why) inputs = refl
@@ -100,7 +94,7 @@ kept-read : (webm : Bool) (chapters : Node) → IsRead CHAPTERS chapters → IfS
 kept-read true chapters read = tt
 kept-read false chapters read = read
 
-chaptered-inputs : (f : LiveFiles) (list : List FileId) (webm : Bool) (c : ChapterFile) (inputs : List Input) → CanBeWritten c → AreInputsOf f list inputs → AreInputsOf f list (chaptered with_tree webm c inputs)
+pub chaptered-inputs : (f : LiveFiles) (list : List FileId) (webm : Bool) (c : ChapterFile) (inputs : List Input) → CanBeWritten c → AreInputsOf f list inputs → AreInputsOf f list (chaptered with_tree webm c inputs)
 chaptered-inputs f list webm file.Absent inputs written are = are
 chaptered-inputs f list webm file.Missing inputs written are = are
 chaptered-inputs f list webm (file.Refused why) inputs written are = are
@@ -112,52 +106,12 @@ chaptered-inputs f list webm (file.Read chapters) inputs written are =
       places = first-places kept inputs are.places;
     }
 
--- ---- what was made of inputs and a chapter file
+-- ---- an answer that nothing refuses, and one that something does
 
--- what is made of inputs that were read
-abbrev given : MergeWords → TextFiles → List InputRead → Result (List InputRead) Refusal
-given words texts reads = and_then (with_file with_chapters words.webm texts.chapters reads) (with_times texts.times)
-
-unrefused : {A : Type 0} (why : Option Refusal) (x y : A) → unless why x ≡ Ok y → (why ≡ None) × (x ≡ y)
+pub unrefused : {A : Type 0} (why : Option Refusal) (x y : A) → unless why x ≡ Ok y → (why ≡ None) × (x ≡ y)
 unrefused None x y is = (refl, cc)
 unrefused (Some why) x y is = absurd (cc)
 
--- it is what was read of them
-pub file-read : (webm : Bool) (c : ChapterFile) (inputs : List Input) (result : Result (List Input) MergeEnd) → ReadsAs (λ (list : List Input). list) (with_file with_tree webm c inputs) result → ReadsAs reads_in (with_file with_chapters webm c (reads_in inputs)) result
-file-read webm c inputs (Ok list) is =
-    let good = unrefused (chapters_refusal c) (chaptered with_tree webm c inputs) list is in
-    ap (λ (why : Option Refusal). unless why (chaptered with_chapters webm c (reads_in inputs))) good.0
-    ∙ ap (λ (reads : List InputRead). Ok reads) (sym (chaptered-read webm c inputs) ∙ ap reads_in good.1)
-file-read webm c inputs (Err (Refused why)) is = refused (chapters_refusal c) is
-  where
-    refused : (found : Option Refusal) → unless found (chaptered with_tree webm c inputs) ≡ Err why → unless found (chaptered with_chapters webm c (reads_in inputs)) ≡ Err why
-    refused None bad = absurd (cc)
-    refused (Some other) same = ap (λ (e : Refusal). Err e) (cc)
-file-read webm c inputs (Err (Stopped stop)) is = tt
-
--- they are inputs of the same files
-pub file-inputs : (f : LiveFiles) (list : List FileId) (webm : Bool) (c : ChapterFile) (inputs : List Input) (result : Result (List Input) MergeEnd) → CanBeWritten c → AreInputsOf f list inputs → ReadsAs (λ (made : List Input). made) (with_file with_tree webm c inputs) result → IfOk result (AreInputsOf f list)
-file-inputs f list webm c inputs (Ok made) written are is =
-    subst (AreInputsOf f list) (unrefused (chapters_refusal c) (chaptered with_tree webm c inputs) made is).1 (chaptered-inputs f list webm c inputs written are)
-file-inputs f list webm c inputs (Err end) written are is = tt
-
--- inputs that weren't read
-pub inputs-end : (words : MergeWords) (texts : TextFiles) (contents : List (List ℕ)) (end : MergeEnd) → ReadsAs reads_in (inputs_of words contents) (Err end) → ReadsAs reads_in (inputs_with words texts contents) (Err end)
-inputs-end words texts contents (Refused why) is = ap (λ (found : Result (List InputRead) Refusal). and_then found (given words texts)) is
-inputs-end words texts contents (Stopped stop) is = tt
-
--- a chapter file that wasn't taken
-pub chapters-end : (words : MergeWords) (texts : TextFiles) (contents : List (List ℕ)) (inputs : List Input) (end : MergeEnd) → inputs_of words contents ≡ Ok (reads_in inputs) → ReadsAs (λ (list : List Input). list) (with_file with_tree words.webm texts.chapters inputs) (Err end) → ReadsAs reads_in (inputs_with words texts contents) (Err end)
-chapters-end words texts contents inputs (Refused why) read made =
-    ap (λ (found : Result (List InputRead) Refusal). and_then found (given words texts)) read
-    ∙ ap (λ (found : Result (List InputRead) Refusal). and_then found (with_times texts.times)) (file-read words.webm texts.chapters inputs (Err (Refused why)) made)
-chapters-end words texts contents inputs (Stopped stop) read made = tt
-
--- and those that were, with the chapter file's
-pub inputs-then : (words : MergeWords) (texts : TextFiles) (contents : List (List ℕ)) (inputs chaptered : List Input) (result : Result (List Input) MergeEnd) → inputs_of words contents ≡ Ok (reads_in inputs)
-    → with_file with_tree words.webm texts.chapters inputs ≡ Ok chaptered → ReadsAs reads_in (with_times texts.times (reads_in chaptered)) result → ReadsAs reads_in (inputs_with words texts contents) result
-inputs-then words texts contents inputs chaptered result read made timed =
-    subst (λ (found : Result (List InputRead) Refusal). ReadsAs reads_in found result)
-    (sym (ap (λ (found : Result (List InputRead) Refusal). and_then found (given words texts)) read
-    ∙ ap (λ (found : Result (List InputRead) Refusal). and_then found (with_times texts.times)) (file-read words.webm texts.chapters inputs (Ok chaptered) made)))
-    timed
+pub stood : {A : Type 0} (why : Option Refusal) (x : A) (cause : Refusal) → unless why x ≡ Err cause → why ≡ Some cause
+stood None x cause is = absurd (cc)
+stood (Some other) x cause is = ap (λ (e : Refusal). Some e) (cc)

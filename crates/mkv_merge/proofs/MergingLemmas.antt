@@ -1,34 +1,69 @@
--- Inputs that are all there: their contents, and how much is read of them.
-use Rattle.std.proofs.Common.{◌≡◌, ℕ, suc, ◌+◌, ◌*◌, ◌≤◌, cond, true, List, [], ◌∷◌, length, map, Option, Some, None, Result, Ok, refl, sym, ◌∙◌, ap, subst, arith}
+-- Inputs that are all there: their contents, how much is read of them, and how a merge of them ends.
+use Rattle.std.proofs.Common.{◌≡◌, ℕ, suc, ◌+◌, ◌*◌, ◌≤◌, cond, true, List, [], ◌∷◌, length, map, Option, Some, None, Result, Ok, Err, IfOk, inl, inr, refl, sym, ◌∙◌, ap, ap₂, subst, arith}
 use Rattle.std.specs.Prelude.{Bool, is_none, option_map, unwrap_or}
 use Rattle.std.specs.List.{position_from}
+use Rattle.std.specs.Option.{option_or}
 use Rattle.std.proofs.lemmas.List.Sums.{sum_by-cons}
 use Rattle.mkv_io.specs.declared.outside.FileId.{FileId}
+use Rattle.mkv_io.specs.declared.outside.ReadEnd.{ReadEnd}
+use Rattle.mkv_io.specs.declared.outside.ReadEnd.TheVariants as read_end
+use Rattle.mkv_io.specs.Ends.{HasRemuxCause}
+use Rattle.mkv_io.specs.Faults.{HasCause, is_read_fault}
 use Rattle.mkv_io.specs.LiveFiles.{IsSameFile, LiveFiles}
+use Rattle.mkv_io.specs.Results.{unless}
 use Rattle.mkv_io.specs.Sources.{live_files}
 use Rattle.mkv_io.specs.Told.{Told}
 use Rattle.mkv_io.specs.Writing.{UsesOnly}
 use Rattle.mkv_io.specs.declared.reads.Reads.{Ghosts}
 use Rattle.mkv_io.specs.declared.files.Files as writing
-use Rattle.mkv_outputs.specs.Sinks.{AreLive}
+use Rattle.mkv_io.specs.declared.report.Report.{Ghosts as ReportGhosts}
+use Rattle.mkv_io.specs.declared.remux_end.RemuxEnd.{RemuxEnd}
+use Rattle.mkv_io.specs.declared.remux_end.RemuxEnd.TheVariants as remux_end
+use Rattle.mkv_outputs.specs.Sinks.{AreLive, holders_of}
 use Rattle.mkv_outputs.proofs.FilesLemmas.{AreLive-on}
 use Rattle.mkv_outputs.proofs.GivenLemmas.{holders_of-kept}
 use Rattle.input_files.specs.Inputs as inputs
-use Rattle.input_files.specs.Inputs.{file_names, first_missing}
-use Rattle.input_files.specs.TextFiles.{text_files, text_octets}
+use Rattle.input_files.specs.Inputs.{TellsMissing, file_names, first_missing, is_inputs_fault}
+use Rattle.input_files.specs.declared.inputs_end.InputsEnd.{InputsEnd}
+use Rattle.input_files.specs.declared.inputs_end.InputsEnd.TheVariants as inputs_end
 use Rattle.input_files.specs.declared.text_files.TextFiles.{TextFiles}
 use Rattle.merge_words.specs.declared.files.FileWords.{FileWords}
 use Rattle.merge_words.specs.declared.output.MergeWords.{MergeWords}
 use Rattle.merge_plan.specs.Front.{attached_length, reads_of}
 use Rattle.merge_plan.specs.Plan.{Source, lanes_given}
-use Rattle.mkv_merge.specs.Bound.{contents_length, files_size, most_beside, most_looked, most_of, most_read}
-use Rattle.mkv_merge.specs.Joined.{sources_alone}
-use Rattle.mkv_merge.specs.Merge.{sources_beside, sources_of, sources_settled, sources_with}
-use Rattle.mkv_merge.specs.Prepared.{AreTold}
-use Rattle.mkv_merge.specs.Read.{begun_refusal, first_written, unless_missing}
-use Rattle.mkv_io.specs.Results.{and_then, unless}
+use Rattle.remux_plan.specs.declared.summary.Summary.{Summary}
+use Rattle.mkv_lines.specs.Code.{stop_of as read_stop}
+use Rattle.mkv_lines.specs.Command.{ComesTo, HasEnded, HasFilesCause, files_counts, seen_in}
+use Rattle.mkv_io.specs.Bounds.{ReadsUpTo}
+use Rattle.mkv_lines.specs.Faults.{Counts, HasStopCause}
+use Rattle.mkv_lines.specs.Ordinary.{IsOrdinary}
+use Rattle.mkv_lines.specs.Seen.{Seen}
+use Rattle.mkv_lines.specs.Said.{ReportLines}
+use Rattle.mkv_lines.specs.Verdict.{IsStopped, Reaches, SaysVerdict, refused}
+use Rattle.mkv_lines.specs.declared.status.Status.{Status}
+use Rattle.mkv_lines.specs.declared.status.Status.TheVariants as status
+use Rattle.mkv_lines.specs.declared.status.Stop.{Stop}
+use Rattle.mkv_lines.specs.declared.status.Stop.TheVariants as stop
+use Rattle.mkv_lines.proofs.VerdictLemmas.{IsStopped-before, Reaches-lines}
+use Rattle.mkv_merge.specs.Bound.{contents_length, files_size, most_of}
+use Rattle.mkv_merge.specs.Ends.{HasReadCause, end_as, stop_of, unopened}
+use Rattle.mkv_merge.specs.Joined.{as_merged}
+use Rattle.mkv_merge.specs.Merge.{merged_verdict, refusals_read, sources_in, verdict_of}
+use Rattle.mkv_merge.specs.Prepared.{AreTold, ReadsAs, sources_with}
+use Rattle.mkv_merge.specs.Read.{contents_held, first_written, pending_of}
+use Rattle.mkv_merge.specs.Records.{AreShort, EndsReadable, HaveRecords}
+use Rattle.mkv_merge.specs.Refused.{first_cause, line_of}
+use Rattle.mkv_merge.specs.Stages.{Leads, MergesTo, as_command, begun_refusal, sources_there}
+use Rattle.mkv_merge.specs.Texts.{missing_text}
+use Rattle.mkv_merge.specs.declared.joining.Merged.{Merged}
+use Rattle.mkv_merge.specs.declared.joining.Merged.TheVariants as merged
+use Rattle.mkv_merge.specs.declared.joining.Merged.TheVariants.{Written}
+use Rattle.mkv_merge.specs.declared.preparing.Prepared.{Prepared}
+use Rattle.mkv_merge.specs.declared.refusal.MergeEnd.{MergeEnd}
+use Rattle.mkv_merge.specs.declared.refusal.MergeEnd.TheVariants.{Refused, Stopped}
 use Rattle.mkv_merge.specs.declared.refusal.Refusal.{Refusal}
-use Rattle.mkv_merge.specs.declared.refusal.Refusal.TheVariants.{OutputIsInput}
+use Rattle.mkv_merge.specs.declared.refusal.Refusal.TheVariants.{Missing, OutputIsInput}
+use Rattle.mkv_merge.proofs.WritingLemmas.{readable-found, readable-none}
 
 -- each name has a content, where none is missing from there on
 all-there-from : (world : List ℕ → Option (List ℕ)) (k : ℕ) (names : List (List ℕ)) → position_from (λ name. is_none (world name)) k names ≡ None
@@ -45,20 +80,57 @@ all-there-from world k (name ∷ names) none = step (world name) (all-there-from
 pub all-there : (world : List ℕ → Option (List ℕ)) (names : List (List ℕ)) → first_missing world names ≡ None → map world names ≡ map Some (map (λ name. unwrap_or (world name) []) names)
 all-there world names none = all-there-from world 0 names none
 
--- where no input is missing, nothing refuses their names
-pub opened-sources : (world : List ℕ → Option (List ℕ)) (words : MergeWords) (texts : TextFiles) (files : List FileWords) → files ≡ words.files → first_missing world (file_names files) ≡ None → sources_beside world words texts ≡ sources_settled world words texts (map (λ name. unwrap_or (world name) []) (file_names words.files))
-opened-sources world words texts files same there =
-    ap (λ (missing : Option ℕ). and_then (unless_missing missing (map (λ name. unwrap_or (world name) []) (file_names words.files))) (sources_settled world words texts))
-    (ap (λ (each : List FileWords). first_missing world (file_names each)) (sym same) ∙ there)
+-- ---- what refuses them before they are read
 
--- where no output is one of the files that are read, the chapter file counts as it was read
-pub chaptered-sources : (world : List ℕ → Option (List ℕ)) (words : MergeWords) (texts : TextFiles) → first_written words ≡ None → texts ≡ text_files world words.chapters words.files → sources_of world words ≡ sources_beside world words texts
-chaptered-sources world words texts apart is =
-    ap (λ (name : Option (List ℕ)). and_then (unless (option_map OutputIsInput name) (text_files world words.chapters words.files)) (sources_beside world words)) apart
-    ∙ ap (sources_beside world words) (sym is)
+module _ (world : List ℕ → Option (List ℕ)) (words : MergeWords) (behind : List (Option Refusal)) (sources : List Source) where
+  -- what is found of sources that all these may refuse
+  abbrev found_by : Option (List ℕ) → Option ℕ → Result (List Source) Refusal
+  found_by written missing = unless (first_cause (option_map OutputIsInput written ∷ option_map Missing missing ∷ behind)) sources
+
+  abbrev found : Result (List Source) Refusal
+  found = found_by (first_written words) (first_missing world (file_names words.files))
+
+  -- an output could have the name of a file that is read
+  pub written-found : (name : List ℕ) → first_written words ≡ Some name → found ≡ Err (OutputIsInput name)
+  written-found name is = ap (λ (o : Option (List ℕ)). found_by o (first_missing world (file_names words.files))) is
+
+  -- none could: an input isn't there, or all are
+  module _ (apart : first_written words ≡ None) (files : List FileWords) (same : files ≡ words.files) where
+    by-missing : (o : Option ℕ) → first_missing world (file_names files) ≡ o → found ≡ found_by None o
+    by-missing o is = ap₂ found_by apart (ap (λ (each : List FileWords). first_missing world (file_names each)) (sym same) ∙ is)
+
+    pub missing-found : (end : InputsEnd) → TellsMissing world (file_names files) (Err end) → ReadsAs {B = List Source} (λ (s : List Source). s) found (Err (unopened end))
+    missing-found (inputs_end.Missing input) is = by-missing (Some input) is
+    missing-found inputs_end.Failed is = tt
+    missing-found inputs_end.Memory is = tt
+
+    pub there-found : first_missing world (file_names files) ≡ None → found ≡ unless (first_cause behind) sources
+    there-found is = by-missing None is
+
+-- a text file isn't there, or an edit is pending
+pub begun-refused : (world : List ℕ → Option (List ℕ)) (words : MergeWords) (texts : TextFiles) (contents : List (List ℕ)) (why : Refusal) → begun_refusal world words texts ≡ Some why → sources_there world words texts contents ≡ Err why
+begun-refused world words texts contents why is =
+    ap (λ (o : Option Refusal). unless o (sources_in words texts contents)) (either (missing_text texts) (pending_of world words) is)
+  where
+    either : (first next : Option Refusal) → option_or first next ≡ Some why → first_cause (first ∷ next ∷ refusals_read words texts contents) ≡ Some why
+    either None None is = absurd (cc)
+    either None (Some cause) is = is
+    either (Some cause) next is = is
+
+-- neither
+pub begun-past : (world : List ℕ → Option (List ℕ)) (words : MergeWords) (texts : TextFiles) (contents : List (List ℕ)) → begun_refusal world words texts ≡ None → sources_there world words texts contents ≡ sources_with words texts contents
+begun-past world words texts contents is =
+    ap (λ (o : Option Refusal). unless o (sources_in words texts contents)) (neither (missing_text texts) (pending_of world words) is)
+  where
+    neither : (first next : Option Refusal) → option_or first next ≡ None → first_cause (first ∷ next ∷ refusals_read words texts contents) ≡ first_cause (refusals_read words texts contents)
+    neither None None is = refl
+    neither None (Some cause) is = absurd (cc)
+    neither (Some cause) next is = absurd (cc)
+
+-- ---- the inputs' contents
 
 -- and the files that were opened tell the contents of their names
-pub opened-told : (f : LiveFiles) (world : List ℕ → Option (List ℕ)) (words : MergeWords) (files : List FileWords) (list ids : List FileId) → files ≡ words.files → ids ≡ list → first_missing world (file_names files) ≡ None → inputs.contents_of f.content list ≡ map world (file_names files) → AreTold f ids (map (λ name. unwrap_or (world name) []) (file_names words.files))
+pub opened-told : (f : LiveFiles) (world : List ℕ → Option (List ℕ)) (words : MergeWords) (files : List FileWords) (list ids : List FileId) → files ≡ words.files → ids ≡ list → first_missing world (file_names files) ≡ None → inputs.contents_of f.content list ≡ map world (file_names files) → AreTold f ids (contents_held world words)
 opened-told f world words files list ids same of there told =
     ap (inputs.contents_of f.content) of ∙ told ∙ all-there world (file_names files) there
     ∙ ap (λ (each : List FileWords). map Some (map (λ name. unwrap_or (world name) []) (file_names each))) same
@@ -89,38 +161,13 @@ reads-both found sources lanes old mid new size now copied is count same copied_
     fits : (n d : ℕ) → new ≤ mid + (2 * (n * size) + d) → new ≤ old + (27 * size + (2 * (n * size) + d))
     fits n d more = omega arith
 
--- where nothing refuses them before, sidecars and then inputs are read
-pub reads-settled : (world : List ℕ → Option (List ℕ)) (words : MergeWords) (texts : TextFiles) (contents : List (List ℕ)) (old mid new size now look : ℕ) → begun_refusal world words texts ≡ None → now ≡ size → mid ≤ old + look → new ≤ mid + most_of (sources_with words texts contents) now → new ≤ old + (most_of (sources_settled world words texts contents) size + look)
-reads-settled world words texts contents old mid new size now look none same first second =
-    subst (λ (found : Option Refusal). new ≤ old + (most_of (and_then (unless found contents) (sources_with words texts)) size + look)) (sym none)
-    (within (most_of (sources_with words texts contents) size) (subst (λ (n : ℕ). new ≤ mid + most_of (sources_with words texts contents) n) same second))
+-- text files are read, inputs are opened, merged and closed
+pub reads-closed : (found there : Result (List Source) Refusal) (most size text look old read opened merged closed : ℕ) → found ≡ there → size ≡ most → read ≤ old + text → opened ≡ read → merged ≤ opened + (most_of there size + look) → closed ≡ merged → closed ≤ old + (text + (most_of found most + look))
+reads-closed found there most size text look old read opened merged closed is length first begun paid ended =
+    within (most_of there size) (most_of found most) (ap (most_of there) length ∙ ap (λ (r : Result (List Source) Refusal). most_of r most) (sym is)) paid
   where
-    within : (most : ℕ) → new ≤ mid + most → new ≤ old + (most + look)
-    within most second = omega (arith, first)
-
--- files are opened and closed without reading them
-pub reads-few : (world : List ℕ → Option (List ℕ)) (words : MergeWords) (texts : TextFiles) (found : Result (List Source) Refusal) (old opened merged closed size : ℕ) → sources_beside world words texts ≡ found → size ≡ contents_length world words.files → opened ≡ old → merged ≤ opened + (most_of found size + most_looked words) → closed ≡ merged → closed ≤ old + most_beside world words (sources_beside world words texts)
-reads-few world words texts found old opened merged closed size is length begun most ended =
-    within (most_of found size) (most_of (sources_beside world words texts) (contents_length world words.files)) (most_looked words) (ap (λ (n : ℕ). most_of found n) length ∙ ap (λ (r : Result (List Source) Refusal). most_of r (contents_length world words.files)) (sym is)) most
-  where
-    within : (n m l : ℕ) → n ≡ m → merged ≤ opened + (n + l) → closed ≤ old + (m + l)
-    within n m l same most = omega arith
-
--- the same where no sidecar is looked into
-pub reads-alone : (world : List ℕ → Option (List ℕ)) (words : MergeWords) (found : Result (List Source) Refusal) (old opened merged closed size : ℕ) → sources_alone world words ≡ found → size ≡ contents_length world words.files → opened ≡ old → merged ≤ opened + most_of found size → closed ≡ merged → closed ≤ old + most_of (sources_alone world words) (contents_length world words.files)
-reads-alone world words found old opened merged closed size is length begun most ended =
-    within (most_of found size) (most_of (sources_alone world words) (contents_length world words.files)) (ap (λ (n : ℕ). most_of found n) length ∙ ap (λ (r : Result (List Source) Refusal). most_of r (contents_length world words.files)) (sym is)) most
-  where
-    within : (n m : ℕ) → n ≡ m → merged ≤ opened + n → closed ≤ old + m
-    within n m same most = omega arith
-
--- the chapter file is read in front of them
-pub reads-chaptered : (world : List ℕ → Option (List ℕ)) (words : MergeWords) (found : Result (List Source) Refusal) (old mid new : ℕ) → sources_of world words ≡ found → mid ≤ old + text_octets world words.chapters words.files → new ≤ mid + most_beside world words found → new ≤ old + most_read world words
-reads-chaptered world words found old mid new is first second =
-    within (most_beside world words found) (most_beside world words (sources_of world words)) (text_octets world words.chapters words.files) (ap (most_beside world words) (sym is)) first second
-  where
-    within : (n m c : ℕ) → n ≡ m → mid ≤ old + c → new ≤ mid + n → new ≤ old + (c + m)
-    within n m c same first second = omega arith
+    within : (n m : ℕ) → n ≡ m → merged ≤ opened + (n + look) → closed ≤ old + (text + (m + look))
+    within n m same paid = omega arith
 
 -- ---- live files that are the same
 
@@ -130,6 +177,14 @@ inputs-stand r f names opened written old new ids are uses = record {
   live = AreLive-on (live_files r old).live (live_files r new).live ids are.live uses.live;
   rising = are.rising;
   under = holders_of-kept (live_files r old).live (f.holder old) (f.holder new) ids are.live uses.holders ∙ are.under;
+}
+
+-- and while they are only read
+pub inputs-kept : {S : Type 0} (r : Ghosts S) (f : writing.Ghosts S) (names : List (List ℕ)) (old new : S) (ids : List FileId) → inputs.AreInputs r f names old ids → r.standing new ≡ r.standing old → ((file : ℕ) → f.holder new file ≡ f.holder old file) → inputs.AreInputs r f names new ids
+inputs-kept r f names old new ids are standing holders = record {
+  live = subst (λ standing. AreLive (r.files standing).live ids) (sym standing) are.live;
+  rising = are.rising;
+  under = ap (λ (holder : ℕ → List ℕ). holders_of holder ids) (λ i file. holders file i) ∙ are.under;
 }
 
 -- they have the same contents
@@ -148,3 +203,144 @@ sizes-kept old new (f ∷ fs) same are =
     let left = sum_by-cons (λ (file : FileId). new.size file.n) f fs in
     let right = sum_by-cons (λ (file : FileId). old.size file.n) f fs in
     omega (arith, here, rest, left, right)
+
+-- ---- how it ends
+
+-- what reads files ended early
+pub early-cause : {A T : Type 0} (done : A → T) (told : Refusal → T) (before now writing report : ℕ) (end : MergeEnd) → HasReadCause {T = A} before now (Err end)
+    → HasStopCause (record { reading = before; writing = writing; report = report }) (record { reading = now; writing = writing; report = report }) (end_as done told (Err end))
+early-cause done told before now writing report (Refused why) same = λ i. record { reading = same i; writing = writing; report = report }
+early-cause done told before now writing report (Stopped stop.Memory) same = λ i. record { reading = same i; writing = writing; report = report }
+early-cause done told before now writing report (Stopped stop.Files) rose = (inl rose, refl)
+early-cause done told before now writing report (Stopped stop.Disk) never = absurd never
+early-cause done told before now writing report (Stopped stop.Report) never = absurd never
+
+-- text files weren't read, or inputs weren't opened
+pub texts-cause : (before now : ℕ) (why : ReadEnd) → HasCause {T = ℕ} is_read_fault before now (Err why) → HasReadCause {T = ℕ} before now (Err (Stopped (read_stop why)))
+texts-cause before now read_end.ReadFault rose = rose
+texts-cause before now read_end.Memory same = same
+
+pub inputs-cause : (before now : ℕ) (end : InputsEnd) → HasCause {T = ℕ} is_inputs_fault before now (Err end) → HasReadCause {T = ℕ} before now (Err (unopened end))
+inputs-cause before now (inputs_end.Missing input) same = same
+inputs-cause before now inputs_end.Failed rose = rose
+inputs-cause before now inputs_end.Memory same = same
+
+-- the same of what says nothing
+pub join-ended : {S : Type 0} (r : Ghosts S) (f : writing.Ghosts S) (old new : S) (end : MergeEnd) → HasReadCause {T = Prepared} (r.reading_faults old) (r.reading_faults new) (Err end) → f.writing_faults new ≡ f.writing_faults old → HasFilesCause r f old new (as_merged (Err end))
+join-ended r f old new end cause same =
+    subst (λ (n : ℕ). HasStopCause (files_counts r f old) (record { reading = r.reading_faults new; writing = n; report = 0 }) (as_merged (Err end))) (sym same)
+    (early-cause Written merged.Refused (r.reading_faults old) (r.reading_faults new) (f.writing_faults old) 0 end cause)
+
+-- and what was stopped while it wrote
+pub join-stopped : {S : Type 0} (r : Ghosts S) (f : writing.Ghosts S) (old mid new : S) (end : RemuxEnd) → r.reading_faults mid ≡ r.reading_faults old → f.writing_faults mid ≡ f.writing_faults old → HasRemuxCause {T = Summary} r f mid new (Err end) → HasFilesCause {T = Merged} r f old new (Err (stop_of end))
+join-stopped r f old mid new end reading writing cause =
+    subst (λ (counts : Counts). HasStopCause {T = Merged} counts (files_counts r f new) (Err (stop_of end))) (λ i. record { reading = reading i; writing = writing i; report = 0 }) (by_end end cause)
+  where
+    by_end : (end : RemuxEnd) → HasRemuxCause {T = Summary} r f mid new (Err end) → HasStopCause {T = Merged} (files_counts r f mid) (files_counts r f new) (Err (stop_of end))
+    by_end remux_end.ReadFault cause = (inl cause.reading, refl)
+    by_end remux_end.WriteFault cause = (inr cause.writing, refl)
+    by_end remux_end.Memory cause = λ i. record { reading = cause.reading i; writing = cause.writing i; report = 0 }
+
+-- what was written ends by itself, or is stopped
+abbrev pub as_end : Result Status Stop → Result Status MergeEnd
+as_end (Ok s) = Ok s
+as_end (Err why) = Err (Stopped why)
+
+module _ {F P : Type 0} (r : Ghosts F) (f : writing.Ghosts F) (p : ReportGhosts P) where
+  -- files that were only looked into are seen as before
+  pub seen-kept : (old new : F) (report : P) → r.reading_faults new ≡ r.reading_faults old → f.writing_faults new ≡ f.writing_faults old → f.names new ≡ f.names old → seen_in r f p new report ≡ seen_in r f p old report
+  seen-kept old new report reading writing names = λ i. record {
+    counts = record { reading = reading i; writing = writing i; report = p.faults report };
+    lines = p.lines report;
+    names = names i;
+  }
+
+  -- what ended before a line was said
+  pub merges-early : (old new : F) (report : P) (words : MergeWords) (found : Result (List Source) Refusal) (most : ℕ) (end : MergeEnd) → ReadsAs {B = List Source} (λ (s : List Source). s) found (Err end) → f.names new ≡ f.names old → ReadsUpTo r old new most
+      → MergesTo r f p old new report report words found most (Err end)
+  merges-early old new report words found most (Refused why) is names paid = record {
+    verdict = (is, refl, names);
+    readable = readable-none words found why (Ok status.Refused) is;
+    octets = paid;
+  }
+  merges-early old new report words found most (Stopped why) is names paid = record {
+    verdict = IsStopped-before (seen_in r f p old report) (seen_in r f p new report) (verdict_of words found) refl names;
+    readable = tt;
+    octets = paid;
+  }
+
+  pub ended-early : (old new : F) (report : P) (end : MergeEnd) → HasReadCause {T = Status} (r.reading_faults old) (r.reading_faults new) (Err end) → f.writing_faults new ≡ f.writing_faults old → ((file : ℕ) → (live_files r new).live file ≡ (live_files r old).live file)
+      → HasEnded r f p old new report report (as_command (Err end))
+  ended-early old new report end cause writing live = record {
+    ordinary = ordinary end;
+    live = live;
+    cause = subst (λ (n : ℕ). HasStopCause (seen_in r f p old report).counts (record { reading = r.reading_faults new; writing = n; report = p.faults report }) (as_command (Err end))) (sym writing)
+        (early-cause (λ (s : Status). s) (λ (why : Refusal). status.Refused) (r.reading_faults old) (r.reading_faults new) (f.writing_faults old) (p.faults report) end cause);
+  }
+    where
+      ordinary : (end : MergeEnd) → IfOk (as_command (Err end)) IsOrdinary
+      ordinary (Refused why) = tt
+      ordinary (Stopped why) = tt
+
+  -- what was found is written, and told
+  pub merges-written : (old mid new : F) (report report' : P) (words : MergeWords) (found : Result (List Source) Refusal) (sources : List Source) (most : ℕ) (result : Result Status Stop) → seen_in r f p mid report ≡ seen_in r f p old report → found ≡ Ok sources
+      → HaveRecords sources → IfOk result (λ (s : Status). AreShort words sources) → ComesTo r f p mid new report report' result (merged_verdict words sources) → ReadsUpTo r old new most → MergesTo r f p old new report report' words found most (as_end result)
+  merges-written old mid new report report' words found sources most result begun is have short comes paid = by_end result short comes
+    where
+      by_end : (result : Result Status Stop) → IfOk result (λ (s : Status). AreShort words sources) → ComesTo r f p mid new report report' result (merged_verdict words sources) → MergesTo r f p old new report report' words found most (as_end result)
+      by_end (Ok s) short comes = record {
+        verdict = subst (λ (o : Result (List Source) Refusal). Reaches (seen_in r f p old report) (seen_in r f p new report') (Ok s) (verdict_of words o)) (sym is)
+            (subst (λ (seen : Seen). Reaches seen (seen_in r f p new report') (Ok s) (merged_verdict words sources)) begun comes);
+        readable = readable-found words found sources (Ok s) is have short;
+        octets = paid;
+      }
+      by_end (Err why) short comes = record {
+        verdict = subst (λ (o : Result (List Source) Refusal). IsStopped (seen_in r f p old report) (seen_in r f p new report') (verdict_of words o)) (sym is)
+            (subst (λ (seen : Seen). IsStopped seen (seen_in r f p new report') (merged_verdict words sources)) begun comes);
+        readable = tt;
+        octets = paid;
+      }
+
+  pub ended-written : (old mid new : F) (report report' : P) (result : Result Status Stop) → seen_in r f p mid report ≡ seen_in r f p old report → ((file : ℕ) → (live_files r mid).live file ≡ (live_files r old).live file) → HasEnded r f p mid new report report' result
+      → HasEnded r f p old new report report' (as_command (as_end result))
+  ended-written old mid new report report' result begun live ended = by_end result ended
+    where
+      by_end : (result : Result Status Stop) → HasEnded r f p mid new report report' result → HasEnded r f p old new report report' (as_command (as_end result))
+      by_end (Ok s) ended = record {
+        ordinary = ended.ordinary;
+        live = λ file. ended.live file ∙ live file;
+        cause = subst (λ (seen : Seen). HasStopCause seen.counts (seen_in r f p new report').counts (Ok s)) begun ended.cause;
+      }
+      by_end (Err why) ended = record {
+        ordinary = ended.ordinary;
+        live = λ file. ended.live file ∙ live file;
+        cause = subst (λ (seen : Seen). HasStopCause {T = Status} seen.counts (seen_in r f p new report').counts (Err why)) begun ended.cause;
+      }
+
+  -- files were looked into before, and inputs were closed behind
+  pub merges-within : (old mid done new : F) (report report' : P) (words : MergeWords) (found there : Result (List Source) Refusal) (most more : ℕ) (result : Result Status MergeEnd) → seen_in r f p mid report ≡ seen_in r f p old report → seen_in r f p new report' ≡ seen_in r f p done report'
+      → found ≡ there → ReadsUpTo r old new most → MergesTo r f p mid done report report' words there more result → MergesTo r f p old new report report' words found most result
+  merges-within old mid done new report report' words found there most more result begun ended is paid merges = record {
+    verdict = subst (λ (seen : Seen). Leads seen (seen_in r f p new report') words found result) begun
+        (subst (λ (seen : Seen). Leads (seen_in r f p mid report) seen words found result) (sym ended)
+        (subst (λ (o : Result (List Source) Refusal). Leads (seen_in r f p mid report) (seen_in r f p done report') words o result) (sym is) merges.verdict));
+    readable = subst (λ (o : Result (List Source) Refusal). EndsReadable words o (as_command result)) (sym is) merges.readable;
+    octets = paid;
+  }
+
+  pub ended-within : (old mid done new : F) (report report' : P) (result : Result Status Stop) → seen_in r f p mid report ≡ seen_in r f p old report → seen_in r f p new report' ≡ seen_in r f p done report' → ((file : ℕ) → (live_files r new).live file ≡ (live_files r old).live file)
+      → HasEnded r f p mid done report report' result → HasEnded r f p old new report report' result
+  ended-within old mid done new report report' result begun ended live was = record {
+    ordinary = was.ordinary;
+    live = live;
+    cause = subst (λ (seen : Seen). HasStopCause seen.counts (seen_in r f p new report').counts result) begun
+        (subst (λ (seen : Seen). HasStopCause (seen_in r f p mid report).counts seen.counts result) (sym ended) was.cause);
+  }
+
+  -- what refuses a merge is told
+  pub refusal-told : (old new : F) (report mid report' : P) (words : MergeWords) (found : Result (List Source) Refusal) (most : ℕ) (why : Refusal) (result : Result Status Stop) → MergesTo r f p old new report mid words found most (Err (Refused why))
+      → SaysVerdict (p.lines mid) (p.lines report') result (refused (line_of words why)) → ComesTo r f p old new report report' result (verdict_of words found)
+  refusal-told old new report mid report' words found most why result merges says =
+      subst (λ (o : Result (List Source) Refusal). ComesTo r f p old new report report' result (verdict_of words o)) (sym merges.verdict.0)
+      (Reaches-lines (seen_in r f p old report) (seen_in r f p new report') result (refused (line_of words why))
+      (subst (λ (lines : ReportLines). SaysVerdict lines (p.lines report') result (refused (line_of words why))) merges.verdict.1 says) refl merges.verdict.2)

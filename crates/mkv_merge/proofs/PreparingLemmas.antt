@@ -2,6 +2,7 @@
 use Rattle.std.proofs.Common.{◌≡◌, ℕ, zero, suc, ◌+◌, ◌*◌, ◌<◌, ◌≤◌, Bool, true, false, if◌then◌else◌, List, [], ◌∷◌, ◌++◌, length, take, drop, get_or, map, Option, Some, None, Result, Ok, Err, refl, sym, ◌∙◌, ap, arith, append_assoc}
 use Rattle.std.specs.List.{All, AllByRecursion, sum_by, zip}
 use Rattle.std.specs.Option.{option_map, unwrap_or}
+use Rattle.std.specs.Result.{result_err}
 use Rattle.std.proofs.Math.Seq.{take-suc}
 use Rattle.std.proofs.lemmas.List.{append-nil, length-map, map-append}
 use Rattle.std.proofs.lemmas.List.Elements.{All-from_recursion}
@@ -21,23 +22,30 @@ use Rattle.merge_plan.specs.Appending.{append_refusal}
 use Rattle.merge_plan.specs.Front.{reads_of}
 use Rattle.merge_plan.specs.Places.{in_place}
 use Rattle.merge_plan.specs.Plan.{Source, later_by}
-use Rattle.merge_plan.specs.Planned.{source_in}
+use Rattle.merge_plan.specs.Planned.{Plans, source_in}
 use Rattle.merge_plan.specs.Refusal.{plan_refusal}
 use Rattle.merge_plan.specs.Spots.{HasPlace}
 use Rattle.merge_plan.specs.declared.appending.AppendDiffers.{AppendDiffers}
+use Rattle.merge_plan.specs.declared.refusal.PlanEnd.{PlanEnd}
+use Rattle.merge_plan.specs.declared.refusal.PlanEnd.TheVariants as plan_end
 use Rattle.merge_plan.specs.declared.refusal.PlanRefusal.{PlanRefusal}
 use Rattle.merge_plan.proofs.FileLemmas.{reads-in}
 use Rattle.merge_plan.specs.Placed.{StandInPlace, walked_length}
 use Rattle.merge_plan.proofs.PlaceLemmas.{walked-within}
 use Rattle.mkv_merge.specs.Bound.{files_size}
-use Rattle.mkv_merge.specs.Merge.{sources_read, sources_with, unless_refused}
-use Rattle.mkv_merge.specs.Prepared.{AreTold, ReadsAs, reads_in, sources_from}
-use Rattle.mkv_merge.specs.Read.{inputs_from, inputs_of, inputs_with, numbered}
+use Rattle.mkv_merge.specs.Chapters.{chaptered, chapters_refusal, with_chapters, with_file, with_tree}
+use Rattle.mkv_merge.specs.Ends.{unplanned}
+use Rattle.mkv_merge.specs.Merge.{refusals_read, sources_in}
+use Rattle.mkv_merge.specs.Prepared.{AreTold, Prepares, ReadsAs, ReadsEach, reads_in, sources_from, sources_with}
+use Rattle.mkv_merge.specs.Read.{found_in, inputs_from, inputs_of, numbered, reads_with}
+use Rattle.mkv_merge.specs.Refused.{first_cause}
+use Rattle.mkv_merge.specs.Texts.{timed_from, times_refusal, with_times}
 use Rattle.mkv_io.specs.Results.{and_then, unless}
 use Rattle.mkv_merge.specs.declared.refusal.MergeEnd.{MergeEnd}
 use Rattle.mkv_merge.specs.declared.refusal.MergeEnd.TheVariants.{Refused, Stopped}
 use Rattle.mkv_merge.specs.declared.refusal.Refusal.{Refusal}
 use Rattle.mkv_merge.specs.declared.refusal.Refusal.TheVariants.{Differs, Plan}
+use Rattle.mkv_merge.proofs.ChaptersLemmas.{chaptered-read, stood, unrefused}
 
 -- ---- a file and its content
 
@@ -189,36 +197,111 @@ inputs-size f (i ∷ is) =
 
 -- ---- what the inputs come to
 
-module _ (words : MergeWords) (texts : TextFiles) (contents : List (List ℕ)) (reads : List InputRead) (read : inputs_with words texts contents ≡ Ok reads) where
-  -- what tells of those that can't
-  found-differs : (o : Option AppendDiffers) → append_refusal reads ≡ o → sources_read words texts contents ≡ and_then (unless (option_map Differs o) reads) (λ rs. Ok (in_place (zip contents rs)))
-  found-differs o is =
-      ap (λ (r : Result (List InputRead) Refusal). and_then r (λ rs. and_then (unless (option_map Differs (append_refusal rs)) rs) (λ each. Ok (in_place (zip contents each))))) read
-      ∙ ap (λ (d : Option AppendDiffers). and_then (unless (option_map Differs d) reads) (λ rs. Ok (in_place (zip contents rs)))) is
+-- the first of what may refuse a merge doesn't stand, or it does
+pub past : (why : Option Refusal) (behind : List (Option Refusal)) → why ≡ None → first_cause (why ∷ behind) ≡ first_cause behind
+past why behind is = ap (λ (o : Option Refusal). first_cause (o ∷ behind)) is
 
-  -- one of them can't
-  pub reads-differ : (d : AppendDiffers) → append_refusal reads ≡ Some d → sources_read words texts contents ≡ Err (Differs d)
-  reads-differ d is = found-differs (Some d) is
+pub stands : (why : Option Refusal) (behind : List (Option Refusal)) (cause : Refusal) → why ≡ Some cause → first_cause (why ∷ behind) ≡ Some cause
+stands why behind cause is = ap (λ (o : Option Refusal). first_cause (o ∷ behind)) is
 
-  pub reads-alike : append_refusal reads ≡ None → sources_read words texts contents ≡ Ok (in_place (zip contents reads))
-  reads-alike is = found-differs None is
+-- the last of it
+last-cause : (why : Option Refusal) → first_cause (why ∷ []) ≡ why
+last-cause None = refl
+last-cause (Some cause) = refl
 
--- inputs that were set in place
-pub reads-placed : (f : LiveFiles) (words : MergeWords) (texts : TextFiles) (ids : List FileId) (contents : List (List ℕ)) (inputs placed : List Input) → map (λ (i : Input). i.file) inputs ≡ ids → map (λ (i : Input). i.file) placed ≡ map (λ (i : Input). i.file) inputs
-    → AreTold f ids contents → inputs_with words texts contents ≡ Ok (reads_in inputs) → append_refusal (reads_in inputs) ≡ None → StandInPlace f inputs placed → sources_read words texts contents ≡ Ok (sources_from contents placed)
-reads-placed f words texts ids contents inputs placed of same told read none stand =
-    let before = told-contents f ids contents inputs of told in
-    reads-alike words texts contents (reads_in inputs) read none
-    ∙ ap (λ (sources : List Source). Ok (in_place sources)) (sym (sources-told f inputs contents before))
-    ∙ ap (λ (sources : List Source). Ok sources) (sym (stand (each-told f inputs contents before)) ∙ sources-told f placed contents (told-contents f ids contents placed (same ∙ of) told))
+module _ (words : MergeWords) (texts : TextFiles) (contents : List (List ℕ)) where
+  -- what may refuse them behind the inputs, the chapter file, the files of times, and those that are appended
+  abbrev behind_append : List (Option Refusal)
+  behind_append = option_map Plan (plan_refusal words (reads_of (sources_in words texts contents))) ∷ []
 
--- what refuses the plan of inputs is what refuses that of their sources
-pub reads-planned : (f : LiveFiles) (words : MergeWords) (texts : TextFiles) (ids : List FileId) (contents : List (List ℕ)) (inputs : List Input) (o : Option PlanRefusal) → map (λ (i : Input). i.file) inputs ≡ ids → AreTold f ids contents
-    → sources_read words texts contents ≡ Ok (sources_from contents inputs) → plan_refusal words (reads_in inputs) ≡ o → sources_with words texts contents ≡ unless (option_map Plan o) (sources_from contents inputs)
-reads-planned f words texts ids contents inputs o of told read is =
-    let reads : reads_of (sources_from contents inputs) ≡ reads_in inputs = ap reads_of (sym (sources-told f inputs contents (told-contents f ids contents inputs of told))) ∙ reads-in f inputs in
-    ap (λ (r : Result (List Source) Refusal). and_then r (unless_refused words)) read
-    ∙ ap (λ (p : Option PlanRefusal). unless (option_map Plan p) (sources_from contents inputs)) (ap (plan_refusal words) reads ∙ is)
+  abbrev behind_times : List (Option Refusal)
+  behind_times = option_map Differs (append_refusal (reads_with words texts contents)) ∷ behind_append
+
+  abbrev behind_chapters : List (Option Refusal)
+  behind_chapters = times_refusal texts.times ∷ behind_times
+
+  abbrev behind_inputs : List (Option Refusal)
+  behind_inputs = chapters_refusal texts.chapters ∷ behind_chapters
+
+  refused-for : (cause : Refusal) → first_cause (refusals_read words texts contents) ≡ Some cause → sources_with words texts contents ≡ Err cause
+  refused-for cause is = ap (λ (o : Option Refusal). unless o (sources_in words texts contents)) is
+
+  all-read : (read : List Input) → inputs_of words contents ≡ Ok (reads_in read) → result_err (inputs_of words contents) ≡ None
+  all-read read is = ap (λ (r : Result (List InputRead) Refusal). result_err r) is
+
+  -- an input wasn't read
+  pub input-ended : (end : MergeEnd) → ReadsEach words contents (Err end) → Prepares words texts contents (Err end)
+  input-ended (Refused why) is = refused-for why (stands (result_err (inputs_of words contents)) behind_inputs why (ap (λ (r : Result (List InputRead) Refusal). result_err r) is))
+  input-ended (Stopped stop) is = tt
+
+  -- the chapter file wasn't taken
+  pub chapters-ended : (read : List Input) (end : MergeEnd) → inputs_of words contents ≡ Ok (reads_in read)
+      → ReadsAs {B = List Input} (λ (list : List Input). list) (with_file with_tree words.webm texts.chapters read) (Err end) → Prepares words texts contents (Err end)
+  chapters-ended read (Refused why) is made =
+      refused-for why (past (result_err (inputs_of words contents)) behind_inputs (all-read read is)
+      ∙ stands (chapters_refusal texts.chapters) behind_chapters why (stood (chapters_refusal texts.chapters) (chaptered with_tree words.webm texts.chapters read) why made))
+  chapters-ended read (Stopped stop) is made = tt
+
+  -- the inputs have the Chapters of the chapter file
+  module _ (read headed : List Input) (is : inputs_of words contents ≡ Ok (reads_in read)) (made : with_file with_tree words.webm texts.chapters read ≡ Ok headed) where
+    headed-is : (chapters_refusal texts.chapters ≡ None) × (chaptered with_tree words.webm texts.chapters read ≡ headed)
+    headed-is = unrefused (chapters_refusal texts.chapters) (chaptered with_tree words.webm texts.chapters read) headed made
+
+    past-chapters : first_cause (refusals_read words texts contents) ≡ first_cause behind_chapters
+    past-chapters = past (result_err (inputs_of words contents)) behind_inputs (all-read read is) ∙ past (chapters_refusal texts.chapters) behind_chapters headed-is.0
+
+    -- a file of times wasn't taken
+    pub times-ended : (end : MergeEnd) → ReadsAs {B = List Input} reads_in (with_times texts.times (reads_in headed)) (Err end) → Prepares words texts contents (Err end)
+    times-ended (Refused why) given =
+        refused-for why (past-chapters ∙ stands (times_refusal texts.times) behind_times why (stood (times_refusal texts.times) (timed_from texts.times 0 (reads_in headed)) why given))
+    times-ended (Stopped stop) given = tt
+
+    -- and the times of the files of times
+    module _ (timed : List Input) (given : with_times texts.times (reads_in headed) ≡ Ok (reads_in timed)) where
+      timed-is : (times_refusal texts.times ≡ None) × (timed_from texts.times 0 (reads_in headed) ≡ reads_in timed)
+      timed-is = unrefused (times_refusal texts.times) (timed_from texts.times 0 (reads_in headed)) (reads_in timed) given
+
+      reads-are : reads_with words texts contents ≡ reads_in timed
+      reads-are =
+          ap (λ (r : Result (List InputRead) Refusal). timed_from texts.times 0 (chaptered with_chapters words.webm texts.chapters (found_in r))) is
+          ∙ ap (timed_from texts.times 0) (sym (chaptered-read words.webm texts.chapters read) ∙ ap reads_in headed-is.1)
+          ∙ timed-is.1
+
+      past-times : first_cause (refusals_read words texts contents) ≡ first_cause behind_times
+      past-times = past-chapters ∙ past (times_refusal texts.times) behind_times timed-is.0
+
+      -- an appended one can't go on
+      pub differs-refused : (d : AppendDiffers) → append_refusal (reads_in timed) ≡ Some d → sources_with words texts contents ≡ Err (Differs d)
+      differs-refused d differs =
+          refused-for (Differs d) (past-times
+          ∙ stands (option_map Differs (append_refusal (reads_with words texts contents))) behind_append (Differs d) (ap (option_map Differs) (ap append_refusal reads-are ∙ differs)))
+
+      -- they were set in place
+      module _ (f : LiveFiles) (ids : List FileId) (placed : List Input) (of : map (λ (i : Input). i.file) timed ≡ ids) (same : map (λ (i : Input). i.file) placed ≡ map (λ (i : Input). i.file) timed)
+          (told : AreTold f ids contents) (none : append_refusal (reads_in timed) ≡ None) (stand : StandInPlace f timed placed) where
+        placed-told : map (source_in f) placed ≡ sources_from contents placed
+        placed-told = sources-told f placed contents (told-contents f ids contents placed (same ∙ of) told)
+
+        sources-are : sources_in words texts contents ≡ sources_from contents placed
+        sources-are =
+            let before = told-contents f ids contents timed of told in
+            ap (λ (reads : List InputRead). in_place (zip contents reads)) reads-are
+            ∙ ap in_place (sym (sources-told f timed contents before))
+            ∙ sym (stand (each-told f timed contents before)) ∙ placed-told
+
+        pub plan-found : (o : Option PlanRefusal) → plan_refusal words (reads_in placed) ≡ o → sources_with words texts contents ≡ unless (option_map Plan o) (sources_from contents placed)
+        plan-found o planned =
+            let reads : reads_of (sources_from contents placed) ≡ reads_in placed = ap reads_of (sym placed-told) ∙ reads-in f placed in
+            let why : plan_refusal words (reads_of (sources_in words texts contents)) ≡ o = ap (λ (each : List Source). plan_refusal words (reads_of each)) sources-are ∙ ap (plan_refusal words) reads ∙ planned in
+            ap (λ (cause : Option Refusal). unless cause (sources_in words texts contents))
+            (past-times ∙ past (option_map Differs (append_refusal (reads_with words texts contents))) behind_append (ap (option_map Differs) (ap append_refusal reads-are ∙ none))
+            ∙ last-cause (option_map Plan (plan_refusal words (reads_of (sources_in words texts contents)))) ∙ ap (option_map Plan) why)
+            ∙ ap (unless (option_map Plan o)) sources-are
+
+        -- they weren't planned
+        pub plan-ended : (end : PlanEnd) → Plans words placed (Err end) → Prepares words texts contents (Err (unplanned end))
+        plan-ended (plan_end.Refused why) is = plan-found (Some why) is
+        plan-ended plan_end.Memory is = tt
 
 -- ---- how much is read before the blocks
 

@@ -1,5 +1,5 @@
 -- Inputs that are given the times of files.
-use Rattle.std.proofs.Common.{◌≡◌, ℕ, suc, ◌+◌, Bool, true, false, if◌then◌else◌, List, [], ◌∷◌, ◌++◌, ◌<◌, length, drop, get_or, map, flat_map, Option, Some, None, Result, Ok, Err, IfOk, refl, sym, ◌∙◌, ap, ap₂, subst, add-one, append_assoc, drop-cons}
+use Rattle.std.proofs.Common.{◌≡◌, ℕ, suc, ◌+◌, Bool, true, false, if◌then◌else◌, List, [], ◌∷◌, ◌++◌, ◌<◌, length, drop, get_or, map, flat_map, Option, Some, None, Ok, Err, refl, sym, ◌∙◌, ap, ap₂, subst, add-one, append_assoc, drop-cons}
 use Rattle.std.specs.Prelude.{◌==◌}
 use Rattle.std.specs.List.{All}
 use Rattle.std.specs.Option.{option_or}
@@ -8,20 +8,23 @@ use Rattle.std.proofs.lemmas.List.Elements.{All-nil, All-cons, All-head, All-tai
 use Rattle.mkv_io.specs.declared.outside.FileId.{FileId}
 use Rattle.mkv_io.specs.LiveFiles.{LiveFiles}
 use Rattle.ext_times.specs.Listing.{Listing}
+use Rattle.input_files.specs.ChapterFile.{CanBeWritten}
+use Rattle.input_files.specs.declared.chapter_file.ChapterFile.{ChapterFile}
 use Rattle.input_files.specs.declared.times_file.TimesFile.{TimesFile}
 use Rattle.input_files.specs.declared.times_file.TimesGiven.{TimesGiven}
 use Rattle.input_files.specs.declared.times_file.TimesGiven.TheVariants as given
 use Rattle.merge_inputs.specs.Input.{InputRead, IsInput, read_in}
 use Rattle.merge_inputs.specs.declared.input.Input.{Input}
 use Rattle.merge_plan.specs.Spots.{HasPlace}
+use Rattle.mkv_merge.specs.Chapters.{chaptered, chapters_refusal, with_file, with_tree}
 use Rattle.mkv_merge.specs.Prepared.{AreInputsOf, reads_in}
 use Rattle.mkv_io.specs.Results.{unless}
 use Rattle.input_files.specs.declared.refusal.TextRefusal.{TextRefusal}
 use Rattle.mkv_merge.specs.Texts.{given_listing, given_refusal, listings_at, missing_given, missing_times, timed_from, times_refusal, with_listings, with_times}
 use Rattle.mkv_merge.specs.Timed.{IsSameBut, Listed, at_input, given_listed, listed_by, listed_in, listed_of, shared_at, shared_from, untimed}
-use Rattle.mkv_merge.specs.declared.refusal.MergeEnd.{MergeEnd}
 use Rattle.mkv_merge.specs.declared.refusal.Refusal.{Refusal}
 use Rattle.mkv_merge.specs.declared.texts.SharedTimes.{SharedTimes}
+use Rattle.mkv_merge.proofs.ChaptersLemmas.{chaptered-inputs, unrefused}
 
 -- ---- they are the inputs of the same files
 
@@ -71,13 +74,16 @@ same-places (i ∷ is) (n ∷ ns) same all =
     let rest : IsSameBut is ns = cc in
     All-cons HasPlace n ns (subst HasPlace (sym here) (All-head HasPlace i is all)) (same-places is ns rest (All-tail HasPlace i is all))
 
-pub timed-inputs : (f : LiveFiles) (list : List FileId) (inputs : List Input) (result : Result (List Input) MergeEnd) → AreInputsOf f list inputs → IfOk result (IsSameBut inputs) → IfOk result (AreInputsOf f list)
-timed-inputs f list inputs (Ok new) are same = record {
-  good = same-inputs f inputs new same are.good;
-  of = same-files inputs new same ∙ are.of;
-  places = same-places inputs new same are.places;
-}
-timed-inputs f list inputs (Err end) are same = tt
+-- with what text files give
+pub inputs-timed : (f : LiveFiles) (list : List FileId) (webm : Bool) (c : ChapterFile) (read headed timed : List Input) → CanBeWritten c → AreInputsOf f list read → with_file with_tree webm c read ≡ Ok headed → IsSameBut headed timed
+    → AreInputsOf f list timed
+inputs-timed f list webm c read headed timed written are made same =
+    let head = subst (AreInputsOf f list) (unrefused (chapters_refusal c) (chaptered with_tree webm c read) headed made).1 (chaptered-inputs f list webm c read written are) in
+    record {
+      good = same-inputs f headed timed same head.good;
+      of = same-files headed timed same ∙ head.of;
+      places = same-places headed timed same head.places;
+    }
 
 -- ---- what files list
 

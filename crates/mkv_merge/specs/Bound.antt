@@ -53,10 +53,7 @@ looked_into words = if is_none words.split then length words.files + 1 else leng
 abbrev pub most_looked : MergeWords → ℕ
 most_looked words = HEAD * looked_into words
 
--- what may be read of the sources of a merge, and of sidecars
-abbrev pub most_beside : (List ℕ → Option (List ℕ)) → MergeWords → Result (List Source) Refusal → ℕ
-most_beside world words sources = most_of sources (contents_length world words.files) + most_looked words
-
--- what a merge may read in a world of names: besides, the chapter file and each file of times once
+-- what a merge may read in a world of names: of its sources, of sidecars, and the chapter file and each file of times once
 abbrev pub most_read : (List ℕ → Option (List ℕ)) → MergeWords → ℕ
-most_read world words = text_octets world words.chapters words.files + most_beside world words (sources_of world words)
+most_read world words =
+    text_octets world words.chapters words.files + (most_of (sources_of world words) (contents_length world words.files) + most_looked words)

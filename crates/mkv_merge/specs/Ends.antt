@@ -1,20 +1,54 @@
 -- Why a merge ends before its output is begun.
-use Rattle.std.specs.Prelude.{Bool, false}
+use Rattle.std.specs.Prelude.{◌≡◌, ⊤, ℕ, Result, Ok, Err}
+use Rattle.input_files.specs.declared.inputs_end.InputsEnd.{InputsEnd}
+use Rattle.input_files.specs.declared.inputs_end.InputsEnd.TheVariants as inputs_end
 use Rattle.mkv_lines.specs.declared.status.Stop.{Stop}
 use Rattle.mkv_lines.specs.declared.status.Stop.TheVariants as stop
-use Rattle.mkv_io.specs.Faults.{is_read_fault}
+use Rattle.mkv_io.specs.Faults.{HasRisen}
 use Rattle.mkv_io.specs.declared.remux_end.RemuxEnd.{RemuxEnd}
 use Rattle.mkv_io.specs.declared.remux_end.RemuxEnd.TheVariants as remux_end
+use Rattle.merge_plan.specs.declared.refusal.PlanEnd.{PlanEnd}
+use Rattle.merge_plan.specs.declared.refusal.PlanEnd.TheVariants as plan_end
 use Rattle.mkv_merge.specs.declared.refusal.MergeEnd.{MergeEnd}
 use Rattle.mkv_merge.specs.declared.refusal.MergeEnd.TheVariants.{Refused, Stopped}
+use Rattle.mkv_merge.specs.declared.refusal.Refusal.TheVariants.{Missing, Plan}
+use Rattle.mkv_merge.specs.declared.refusal.Refusal.{Refusal}
 
--- an input couldn't be read
-abbrev pub is_files_fault : MergeEnd → Bool
-is_files_fault (Refused why) = false
-is_files_fault (Stopped s) = is_read_fault s
+-- What reads files is refused, or stopped for want of memory, or where reading failed, whose count then rose.
+abbrev pub HasReadCause : {T : Type 0} → ℕ → ℕ → Result T MergeEnd → Type 0
+HasReadCause before now (Ok _) = now ≡ before
+HasReadCause before now (Err (Refused why)) = now ≡ before
+HasReadCause before now (Err (Stopped stop.Memory)) = now ≡ before
+HasReadCause before now (Err (Stopped stop.Files)) = HasRisen before now
+HasReadCause before now (Err (Stopped stop.Disk)) = ⊥
+HasReadCause before now (Err (Stopped stop.Report)) = ⊥
+
+-- What reads none is refused, or stopped for want of memory.
+abbrev pub IsQuiet : MergeEnd → Type 0
+IsQuiet (Refused why) = ⊤
+IsQuiet (Stopped stop.Memory) = ⊤
+IsQuiet (Stopped stop.Files) = ⊥
+IsQuiet (Stopped stop.Disk) = ⊥
+IsQuiet (Stopped stop.Report) = ⊥
+
+-- how a merge ends whose inputs aren't opened, and one that isn't planned
+abbrev pub unopened : InputsEnd → MergeEnd
+unopened (inputs_end.Missing input) = Refused (Missing input)
+unopened inputs_end.Failed = Stopped stop.Files
+unopened inputs_end.Memory = Stopped stop.Memory
+
+abbrev pub unplanned : PlanEnd → MergeEnd
+unplanned (plan_end.Refused why) = Refused (Plan why)
+unplanned plan_end.Memory = Stopped stop.Memory
 
 -- why a command stops whose merge ended early
 abbrev pub stop_of : RemuxEnd → Stop
 stop_of remux_end.ReadFault = stop.Files
 stop_of remux_end.WriteFault = stop.Files
 stop_of remux_end.Memory = stop.Memory
+
+-- how what merges files ends, where this is what it has done, and what it makes of a refusal
+abbrev pub end_as : {A T : Type 0} → (A → T) → (Refusal → T) → Result A MergeEnd → Result T Stop
+end_as done told (Ok x) = Ok (done x)
+end_as done told (Err (Refused why)) = Ok (told why)
+end_as done told (Err (Stopped why)) = Err why

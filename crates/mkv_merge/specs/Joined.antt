@@ -1,5 +1,5 @@
 -- What a merge comes to of which nothing is said, and which looks at no file but its inputs. It is this project's.
-use Rattle.std.specs.Prelude.{◌≡◌, ℕ, List, [], map, flat_map, Option, Result, Ok, Err}
+use Rattle.std.specs.Prelude.{◌≡◌, ℕ, List, [], ◌∷◌, map, flat_map, Option, Result, Ok, Err}
 use Rattle.std.specs.List.{enumerate_from}
 use Rattle.std.specs.Option.{option_map}
 use Rattle.mkv_io.specs.Names.{Names}
@@ -8,6 +8,7 @@ use Rattle.mkv_io.specs.declared.outside.FileId.{FileId}
 use Rattle.mkv_io.specs.declared.reads.Reads.{Ghosts}
 use Rattle.mkv_io.specs.declared.files.Files as writing
 use Rattle.mkv_outputs.specs.Drafts.{StandsInTurn}
+use Rattle.input_files.specs.Inputs.{file_names, first_missing}
 use Rattle.input_files.specs.declared.text_files.TextFiles.{TextFiles}
 use Rattle.input_files.specs.declared.chapter_file.ChapterFile.TheVariants.{Absent}
 use Rattle.merge_words.specs.declared.output.MergeWords.{MergeWords}
@@ -18,29 +19,36 @@ use Rattle.remux_plan.specs.Summary.{written_of}
 use Rattle.remux_plan.specs.declared.summary.Summary.{Summary}
 use Rattle.remuxer.specs.Output.{WritesAll, drafts_of}
 use Rattle.mkv_lines.specs.declared.status.Stop.{Stop}
-use Rattle.mkv_merge.specs.Bound.{contents_length, most_of}
-use Rattle.mkv_merge.specs.Merge.{has_damage, is_some_of, outputs_of, sources_with, warnings}
-use Rattle.mkv_merge.specs.Prepared.{IfAllTold, sources_from}
-use Rattle.mkv_merge.specs.Read.{contents_of, first_written}
-use Rattle.mkv_io.specs.Results.{and_then, unless}
+use Rattle.mkv_io.specs.Bounds.{ReadsUpTo}
+use Rattle.mkv_merge.specs.Bound.{contents_length, live_size, most_of}
+use Rattle.mkv_merge.specs.Ends.{end_as}
+use Rattle.mkv_merge.specs.Merge.{has_damage, is_some_of, outputs_of, refusals_read, sources_in, warnings}
+use Rattle.mkv_io.specs.Results.{unless}
+use Rattle.mkv_merge.specs.Prepared.{IfAllTold, sources_with}
+use Rattle.mkv_merge.specs.Read.{contents_held, first_written}
+use Rattle.mkv_merge.specs.Refused.{first_cause}
 use Rattle.mkv_merge.specs.Told.{warnings_from}
 use Rattle.mkv_merge.specs.declared.joining.Merged.{Merged}
 use Rattle.mkv_merge.specs.declared.joining.Merged.TheVariants.{Written, Refused}
+use Rattle.mkv_merge.specs.declared.refusal.MergeEnd.{MergeEnd}
 use Rattle.mkv_merge.specs.declared.refusal.Refusal.{Refusal}
-use Rattle.mkv_merge.specs.declared.refusal.Refusal.TheVariants.{OutputIsInput}
+use Rattle.mkv_merge.specs.declared.refusal.Refusal.TheVariants.{Missing, OutputIsInput}
 
 -- no text file
 abbrev pub no_texts : TextFiles
 no_texts = record { chapters = Absent; times = [] }
 
--- the sources of a merge whose inputs have these contents, unless an output has a name that is read
+-- the sources of such a merge whose inputs have these contents, unless an output could have the name of a file that is read
 abbrev pub sources_apart : MergeWords → List (List ℕ) → Result (List Source) Refusal
-sources_apart words contents = and_then (unless (option_map OutputIsInput (first_written words)) contents) (sources_with words no_texts)
+sources_apart words contents =
+    unless (first_cause (option_map OutputIsInput (first_written words) ∷ refusals_read words no_texts contents)) (sources_in words no_texts contents)
 
--- the same of the inputs' names, in a world of names
+-- the same of the inputs' names, in a world of names; one of them may not be there
 abbrev pub sources_alone : (List ℕ → Option (List ℕ)) → MergeWords → Result (List Source) Refusal
 sources_alone world words =
-    and_then (unless (option_map OutputIsInput (first_written words)) words.files) (λ files. and_then (contents_of world files) (sources_with words no_texts))
+    unless (first_cause (option_map OutputIsInput (first_written words)
+    ∷ option_map Missing (first_missing world (file_names words.files))
+    ∷ refusals_read words no_texts (contents_held world words))) (sources_in words no_texts (contents_held world words))
 
 -- what such a merge may read in a world of names
 abbrev pub most_lone : (List ℕ → Option (List ℕ)) → MergeWords → ℕ
@@ -73,12 +81,17 @@ Merges old new words found (Ok (Written s)) = HasMerged old new words found s
 Merges old new words found (Ok (Refused why)) = (found ≡ Err why) × (new ≡ old)
 Merges old new words found (Err stop) = StandsInTurn old new (drafts_of (outputs_found words found))
 
--- So does a merge of what was prepared, where the files of the inputs are told; of live files; and of names, where they tell.
-abbrev pub MergesPrepared : {S : Type 0} → Ghosts S → writing.Ghosts S → S → S → MergeWords → List FileId → List Input → Result Merged Stop → Type 0
-MergesPrepared r f old new words list inputs result = IfAllTold r old list (λ contents. Merges (f.names old) (f.names new) words (Ok (sources_from contents inputs)) result)
+-- what came of a merge, of which nothing was said
+abbrev pub as_merged : Result Summary MergeEnd → Result Merged Stop
+as_merged result = end_as Written Refused result
 
+-- So does a merge of live files, and of names, where they tell.
 abbrev pub MergesLive : {S : Type 0} → Ghosts S → writing.Ghosts S → S → S → MergeWords → List FileId → Result Merged Stop → Type 0
 MergesLive r f old new words list result = IfAllTold r old list (λ contents. Merges (f.names old) (f.names new) words (sources_with words no_texts contents) result)
 
 abbrev pub MergesAlone : {S : Type 0} → writing.Ghosts S → S → S → MergeWords → Result Merged Stop → Type 0
 MergesAlone f old new words result = Told (f.names old) (λ world. Merges (f.names old) (f.names new) words (sources_alone world words) result)
+
+-- what such a merge may read of live files
+abbrev pub ReadsLive : {S : Type 0} → Ghosts S → S → S → MergeWords → List FileId → Type 0
+ReadsLive r old new words list = IfAllTold r old list (λ contents. ReadsUpTo r old new (most_of (sources_with words no_texts contents) (live_size r old list)))

@@ -2,6 +2,7 @@
 use Rattle.std.specs.Prelude.{ℕ, ◌==◌, nat_le, Bool, true, false, not, ◌&&◌, ◌||◌, if◌then◌else◌, List, [], ◌∷◌, ◌++◌, length, map, filter, flat_map, Option, Result, Ok, Err}
 use Rattle.std.specs.List.{enumerate_from, find, list_any, range_with_len, zip}
 use Rattle.std.specs.Option.{option_map, option_map_or}
+use Rattle.std.specs.Result.{result_err}
 use Rattle.mkv_io.specs.declared.damage.Damage.{Damage}
 use Rattle.mkv_io.specs.Faults.{counted}
 use Rattle.cluster_reader.specs.ToldDamages.{ToldDamages, told_damages}
@@ -18,7 +19,7 @@ use Rattle.remux_plan.specs.Parts.{PlannedOutput, drives_by, name_of, stretch_of
 use Rattle.remux_plan.specs.Parts.{chapters_of as chapters_within}
 use Rattle.remux_plan.specs.Uuids.{uuids_at, with_uuids}
 use Rattle.remuxer.specs.Output.{drafts_of}
-use Rattle.input_files.specs.TextFiles.{text_files}
+use Rattle.input_files.specs.Inputs.{file_names, first_missing}
 use Rattle.input_files.specs.declared.text_files.TextFiles.{TextFiles}
 use Rattle.merge_words.specs.declared.files.FileWords.{FileWords}
 use Rattle.merge_words.specs.declared.output.MergeWords.{MergeWords}
@@ -33,43 +34,45 @@ use Rattle.mkv_lines.specs.Line.{damage_lines, no_track_line, uuid_count_line, w
 use Rattle.mkv_lines.specs.Verdict.{Verdict, in_turn, refused}
 use Rattle.mkv_lines.specs.declared.status.Status.{Status}
 use Rattle.mkv_lines.specs.declared.status.Status.TheVariants.{Done, Warned}
-use Rattle.mkv_merge.specs.Read.{begun_refusal, contents_of, first_written, inputs_with, is_split}
-use Rattle.mkv_merge.specs.Refused.{line_of}
-use Rattle.mkv_io.specs.Results.{and_then, unless}
+use Rattle.mkv_merge.specs.Chapters.{chapters_refusal}
+use Rattle.mkv_merge.specs.Read.{contents_held, first_written, inputs_of, is_split, pending_of, reads_with, texts_held}
+use Rattle.mkv_merge.specs.Refused.{first_cause, line_of}
+use Rattle.mkv_merge.specs.Texts.{missing_text, times_refusal}
+use Rattle.mkv_io.specs.Results.{unless}
 use Rattle.mkv_merge.specs.declared.refusal.Refusal.{Refusal}
-use Rattle.mkv_merge.specs.declared.refusal.Refusal.TheVariants.{Differs, OutputIsInput, Plan}
+use Rattle.mkv_merge.specs.declared.refusal.Refusal.TheVariants.{Differs, Missing, OutputIsInput, Plan}
 
 -- ---- the sources
 
--- the sources of a merge whose inputs have these contents, each that is appended in its place; or what refuses them before they
--- are planned: what is read of each, what the text files give, and then one whose tracks can't go on in the lanes to which it is
--- appended
-abbrev pub sources_read : MergeWords → TextFiles → List (List ℕ) → Result (List Source) Refusal
-sources_read words texts contents =
-    and_then (inputs_with words texts contents) (λ reads.
-    and_then (unless (option_map Differs (append_refusal reads)) reads) (λ alike.
-    Ok (in_place (zip contents alike))))
+-- the sources of a merge whose inputs have these contents: what is read of each, with what the text files give, and each that is
+-- appended in its place
+abbrev pub sources_in : MergeWords → TextFiles → List (List ℕ) → List Source
+sources_in words texts contents = in_place (zip contents (reads_with words texts contents))
 
--- sources, unless what they come to is refused
-abbrev pub unless_refused : MergeWords → List Source → Result (List Source) Refusal
-unless_refused words sources = unless (option_map Plan (plan_refusal words (reads_of sources))) sources
+-- What refuses a merge once its files are read, in order: an input, the chapter file or a file of times that isn't taken, an appended
+-- input whose tracks can't go on in the lanes to which it is appended, and what all come to.
+abbrev pub refusals_read : MergeWords → TextFiles → List (List ℕ) → List (Option Refusal)
+refusals_read words texts contents =
+    result_err (inputs_of words contents)
+    ∷ chapters_refusal texts.chapters
+    ∷ times_refusal texts.times
+    ∷ option_map Differs (append_refusal (reads_with words texts contents))
+    ∷ option_map Plan (plan_refusal words (reads_of (sources_in words texts contents)))
+    ∷ []
 
--- the sources of a merge whose inputs have these contents, or what refuses them
-abbrev pub sources_with : MergeWords → TextFiles → List (List ℕ) → Result (List Source) Refusal
-sources_with words texts contents = and_then (sources_read words texts contents) (unless_refused words)
+-- What refuses a merge in a world of names, in order: an output that could have the name of a file that is read, an input and a text file
+-- that isn't there, an edit that is pending, and then what is read.
+abbrev pub refusals : (List ℕ → Option (List ℕ)) → MergeWords → List (Option Refusal)
+refusals world words =
+    option_map OutputIsInput (first_written words)
+    ∷ option_map Missing (first_missing world (file_names words.files))
+    ∷ missing_text (texts_held world words)
+    ∷ pending_of world words
+    ∷ refusals_read words (texts_held world words) (contents_held world words)
 
--- the same, unless a text file isn't there or an edit of one of the files is pending
-abbrev pub sources_settled : (List ℕ → Option (List ℕ)) → MergeWords → TextFiles → List (List ℕ) → Result (List Source) Refusal
-sources_settled world words texts contents = and_then (unless (begun_refusal world words texts) contents) (sources_with words texts)
-
--- the same of the inputs' names, unless an input isn't there
-abbrev pub sources_beside : (List ℕ → Option (List ℕ)) → MergeWords → TextFiles → Result (List Source) Refusal
-sources_beside world words texts = and_then (contents_of world words.files) (sources_settled world words texts)
-
--- the sources of a merge in a world of names, or the first thing that refuses it: an output's name, an input or a text file
--- that isn't there, an edit that is pending, and then what they hold
+-- The sources of a merge, or the first of what refuses it that stands.
 abbrev pub sources_of : (List ℕ → Option (List ℕ)) → MergeWords → Result (List Source) Refusal
-sources_of world words = and_then (unless (option_map OutputIsInput (first_written words)) (text_files world words.chapters words.files)) (sources_beside world words)
+sources_of world words = unless (first_cause (refusals world words)) (sources_in words (texts_held world words) (contents_held world words))
 
 -- ---- the outputs
 

@@ -2,7 +2,6 @@
 use Rattle.std.specs.Prelude.{◌≡◌, ⊤, ℕ, Bool, List, length, map, Some, Result, Ok, Err}
 use Rattle.std.specs.List.{All, zip}
 use Rattle.mkv_io.specs.declared.outside.FileId.{FileId}
-use Rattle.mkv_io.specs.Faults.{HasCause}
 use Rattle.mkv_io.specs.LiveFiles.{LiveFiles}
 use Rattle.mkv_io.specs.Sources.{live_files}
 use Rattle.mkv_io.specs.declared.reads.Reads.{Ghosts}
@@ -17,9 +16,11 @@ use Rattle.merge_inputs.specs.declared.input.Input.{Input}
 use Rattle.merge_plan.specs.Plan.{Source}
 use Rattle.merge_plan.specs.Planned.{CanBeWritten, IsPlanOf}
 use Rattle.merge_plan.specs.Spots.{HasPlace}
-use Rattle.mkv_merge.specs.Ends.{is_files_fault}
-use Rattle.mkv_merge.specs.Merge.{sources_read, sources_with}
-use Rattle.mkv_merge.specs.Read.{inputs_of, inputs_with, numbered}
+use Rattle.mkv_merge.specs.Ends.{HasReadCause}
+use Rattle.mkv_io.specs.Results.{unless}
+use Rattle.mkv_merge.specs.Merge.{refusals_read, sources_in}
+use Rattle.mkv_merge.specs.Read.{inputs_of, numbered}
+use Rattle.mkv_merge.specs.Refused.{first_cause}
 use Rattle.mkv_merge.specs.declared.preparing.Prepared.{Prepared}
 use Rattle.mkv_merge.specs.declared.refusal.MergeEnd.{MergeEnd}
 use Rattle.mkv_merge.specs.declared.refusal.MergeEnd.TheVariants.{Refused, Stopped}
@@ -42,7 +43,7 @@ pub record CanPrepare {S : Type 0} (r : Ghosts S) (s : S) (words : MergeWords) (
 -- A call that only reads leaves all that stands, and its count of faults rose where it was stopped by one.
 pub record EndsReading {S T : Type 0} (r : Ghosts S) (old new : S) (result : Result T MergeEnd) : Type 0 where
   pub standing : r.standing new ≡ r.standing old
-  pub cause : HasCause is_files_fault (r.reading_faults old) (r.reading_faults new) result
+  pub cause : HasReadCause (r.reading_faults old) (r.reading_faults new) result
 
 -- What was found is what was read, or what refuses it; a call of the outside may fail, and there may be no memory.
 abbrev pub ReadsAs : {A B : Type 0} → (B → A) → Result A Refusal → Result B MergeEnd → Type 0
@@ -53,15 +54,12 @@ ReadsAs shown found (Err (Stopped stop)) = ⊤
 abbrev pub reads_in : List Input → List InputRead
 reads_in inputs = map read_in inputs
 
--- An input was read that has this content, by its number; so was each of a merge; and so were all, with what the text files give.
+-- An input was read that has this content, by its number; so was each of a merge.
 abbrev pub ReadsOne : ℕ → FileWords → Bool → ℕ → List ℕ → Result Input MergeEnd → Type 0
 ReadsOne input words webm held bytes result = ReadsAs read_in (numbered input (input_of words webm held bytes)) result
 
 abbrev pub ReadsEach : MergeWords → List (List ℕ) → Result (List Input) MergeEnd → Type 0
 ReadsEach words contents result = ReadsAs reads_in (inputs_of words contents) result
-
-abbrev pub ReadsAll : MergeWords → TextFiles → List (List ℕ) → Result (List Input) MergeEnd → Type 0
-ReadsAll words texts contents result = ReadsAs reads_in (inputs_with words texts contents) result
 
 -- the sources of inputs that have these contents
 abbrev pub sources_from : List (List ℕ) → List Input → List Source
@@ -79,10 +77,10 @@ pub record IsPrepared (f : LiveFiles) (words : MergeWords) (list : List FileId) 
   pub plan : IsPlanOf words p.inputs p.plan
   pub written : CanBeWritten p.inputs p.plan
 
--- The inputs are those of a merge, each in its place, where they have these contents.
-abbrev pub ReadsInPlace : MergeWords → TextFiles → List (List ℕ) → Result (List Input) MergeEnd → Type 0
-ReadsInPlace words texts contents result = ReadsAs (sources_from contents) (sources_read words texts contents) result
+-- the sources of a merge whose inputs have these contents, or what refuses them
+abbrev pub sources_with : MergeWords → TextFiles → List (List ℕ) → Result (List Source) Refusal
+sources_with words texts contents = unless (first_cause (refusals_read words texts contents)) (sources_in words texts contents)
 
--- the sources of a merge that was prepared, where its inputs have these contents
+-- They are those of what was prepared.
 abbrev pub Prepares : MergeWords → TextFiles → List (List ℕ) → Result Prepared MergeEnd → Type 0
 Prepares words texts contents result = ReadsAs (λ (p : Prepared). sources_from contents p.inputs) (sources_with words texts contents) result

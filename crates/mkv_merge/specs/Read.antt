@@ -7,19 +7,20 @@ use Rattle.mkv_io.specs.Faults.{counted}
 use Rattle.sidecar_edit.specs.Name.{sidecar_of}
 use Rattle.sidecar_edit.specs.Pending.{is_pending}
 use Rattle.input_files.specs.TimesFile.{times_named, times_names}
+use Rattle.input_files.specs.TextFiles.{text_files}
 use Rattle.input_files.specs.declared.text_files.TextFiles.{TextFiles}
 use Rattle.splitter.specs.Names.{is_part_name}
 use Rattle.merge_words.specs.declared.files.FileWords.{FileWords}
 use Rattle.merge_words.specs.declared.output.MergeWords.{MergeWords}
 use Rattle.merge_words.specs.Sound.{IsSoundMerge}
-use Rattle.input_files.specs.Inputs.{file_names, first_missing, first_pending}
+use Rattle.input_files.specs.Inputs.{file_names, first_pending}
 use Rattle.merge_inputs.specs.Input.{InputRead, input_of}
 use Rattle.merge_inputs.specs.declared.input.InputRefusal.{InputRefusal}
-use Rattle.mkv_merge.specs.Chapters.{with_chapters, with_file}
-use Rattle.mkv_merge.specs.Texts.{missing_text, with_times}
+use Rattle.mkv_merge.specs.Chapters.{chaptered, with_chapters}
+use Rattle.mkv_merge.specs.Texts.{timed_from}
 use Rattle.mkv_io.specs.Results.{and_then}
 use Rattle.mkv_merge.specs.declared.refusal.Refusal.{Refusal}
-use Rattle.mkv_merge.specs.declared.refusal.Refusal.TheVariants.{Missing, PendingInput, PendingOutput, Input}
+use Rattle.mkv_merge.specs.declared.refusal.Refusal.TheVariants.{PendingInput, PendingOutput, Input}
 
 -- ---- the names
 
@@ -50,15 +51,14 @@ pub record IsApartMerge (words : MergeWords) : Type 0 where
   pub sound : IsSoundMerge words
   pub apart : first_written words ≡ None
 
--- ---- the contents
+-- ---- what the names hold
 
-abbrev pub unless_missing : Option ℕ → List (List ℕ) → Result (List (List ℕ)) Refusal
-unless_missing None contents = Ok contents
-unless_missing (Some input) contents = Err (Missing input)
+-- what the inputs hold, and what the text files that the words name give
+abbrev pub contents_held : (List ℕ → Option (List ℕ)) → MergeWords → List (List ℕ)
+contents_held world words = map (λ name. unwrap_or (world name) []) (file_names words.files)
 
--- the contents of the inputs, or the first that isn't there
-abbrev pub contents_of : (List ℕ → Option (List ℕ)) → List FileWords → Result (List (List ℕ)) Refusal
-contents_of world files = unless_missing (first_missing world (file_names files)) (map (λ name. unwrap_or (world name) []) (file_names files))
+abbrev pub texts_held : (List ℕ → Option (List ℕ)) → MergeWords → TextFiles
+texts_held world words = text_files world words.chapters words.files
 
 -- ---- pending edits
 
@@ -71,11 +71,6 @@ pending_refusal None false = None
 -- what refuses a merge of files of which an edit is pending: the first of the inputs, and then the output, where it isn't split
 abbrev pub pending_of : (List ℕ → Option (List ℕ)) → MergeWords → Option Refusal
 pending_of world words = pending_refusal (first_pending world (file_names words.files)) (is_none words.split && is_pending world words.output)
-
--- what refuses a merge whose inputs are there before they are read: a chapter file or a file of times that isn't there, or an edit that is
--- pending
-abbrev pub begun_refusal : (List ℕ → Option (List ℕ)) → MergeWords → TextFiles → Option Refusal
-begun_refusal world words texts = option_or (missing_text texts) (pending_of world words)
 
 -- ---- what stands before the blocks
 
@@ -96,9 +91,11 @@ inputs_from webm input held (file ∷ files) =
 abbrev pub inputs_of : MergeWords → List (List ℕ) → Result (List InputRead) Refusal
 inputs_of words contents = inputs_from words.webm 0 0 (zip words.files contents)
 
--- the same with what the chapter file and the files of times give, or what refuses these
-abbrev pub inputs_with : MergeWords → TextFiles → List (List ℕ) → Result (List InputRead) Refusal
-inputs_with words texts contents =
-    and_then (inputs_of words contents) (λ reads.
-    and_then (with_file with_chapters words.webm texts.chapters reads) (λ chaptered.
-    with_times texts.times chaptered))
+-- what is read of them, where none is refused
+abbrev pub found_in : Result (List InputRead) Refusal → List InputRead
+found_in (Ok reads) = reads
+found_in (Err why) = []
+
+-- the same with what the text files give: the Chapters of the chapter file, and the times of the files of times
+abbrev pub reads_with : MergeWords → TextFiles → List (List ℕ) → List InputRead
+reads_with words texts contents = timed_from texts.times 0 (chaptered with_chapters words.webm texts.chapters (found_in (inputs_of words contents)))

@@ -1,5 +1,5 @@
 -- Why nothing is merged, and the line that says so. The lines and their order are this project's.
-use Rattle.std.specs.Prelude.{ℕ, List, [], unwrap_or}
+use Rattle.std.specs.Prelude.{ℕ, List, [], ◌∷◌, Option, Some, None, unwrap_or, Result, Ok, Err}
 use Rattle.std.specs.List.{slice_get}
 use Rattle.std.specs.Option.{option_map_or}
 use Rattle.input_files.specs.declared.refusal.TextRefusal.{TextRefusal}
@@ -13,6 +13,14 @@ use Rattle.merge_plan.specs.declared.refusal.PlanRefusal.TheVariants.{NoLane, To
 use Rattle.mkv_lines.specs.Line.{append_differs_line, bad_text_line, missing_line, no_lane_line, not_webm_line, output_is_input_line, pending_edit_line, refusal_line, text_too_large_line, too_large_line, too_many_lanes_line}
 use Rattle.mkv_merge.specs.declared.refusal.Refusal.{Refusal}
 use Rattle.mkv_merge.specs.declared.refusal.Refusal.TheVariants.{OutputIsInput, Missing, MissingChapters, MissingTimes, PendingInput, PendingOutput, Input, Chapters, Times, Differs, Plan}
+
+-- ---- the first that stands
+
+-- of all that may refuse a merge, in order, the first that stands
+abbrev pub first_cause : List (Option Refusal) → Option Refusal
+first_cause [] = None
+first_cause (None ∷ causes) = first_cause causes
+first_cause (Some why ∷ causes) = Some why
 
 -- ---- the lines
 

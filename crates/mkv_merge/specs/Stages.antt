@@ -1,5 +1,8 @@
--- What a merge comes to at each of its stages, what it reads, and what it leaves to be read again; where the names tell, and the live files.
-use Rattle.std.specs.Prelude.{◌+◌, List, IfOk, Result}
+-- What a merge comes to at the stages of its code, what it reads, and what it leaves to be read again; where the names tell, and the live files. No
+-- verdict stands on these words: a lemma ties them to what `Merge` says.
+use Rattle.std.specs.Prelude.{◌≡◌, ℕ, ◌+◌, List, [], ◌∷◌, Option, IfOk, Result, Ok, Err}
+use Rattle.std.specs.Option.{option_or}
+use Rattle.mkv_io.specs.Results.{unless}
 use Rattle.mkv_io.specs.Told.{Told}
 use Rattle.mkv_io.specs.declared.outside.FileId.{FileId}
 use Rattle.mkv_io.specs.declared.files.Files as writing
@@ -8,74 +11,72 @@ use Rattle.mkv_io.specs.declared.report.Report.{Ghosts as ReportGhosts}
 use Rattle.input_files.specs.declared.text_files.TextFiles.{TextFiles}
 use Rattle.merge_words.specs.declared.output.MergeWords.{MergeWords}
 use Rattle.merge_inputs.specs.declared.input.Input.{Input}
+use Rattle.merge_plan.specs.Plan.{Source}
 use Rattle.remux_plan.specs.declared.plan.MergePlan.{MergePlan}
-use Rattle.mkv_lines.specs.Command.{ComesTo}
+use Rattle.mkv_lines.specs.Command.{ComesTo, seen_in}
 use Rattle.mkv_io.specs.Bounds.{ReadsUpTo}
+use Rattle.mkv_lines.specs.Seen.{Seen}
+use Rattle.mkv_lines.specs.Verdict.{IsStopped, Reaches}
 use Rattle.mkv_lines.specs.declared.status.Status.{Status}
+use Rattle.mkv_lines.specs.declared.status.Status.TheVariants as status
 use Rattle.mkv_lines.specs.declared.status.Stop.{Stop}
-use Rattle.mkv_merge.specs.Bound.{live_size, most_beside, most_looked, most_of, most_planned}
-use Rattle.mkv_merge.specs.Merge.{merged_verdict, sources_beside, sources_settled, sources_with, verdict_of}
+use Rattle.mkv_merge.specs.Bound.{live_size, most_looked, most_of, most_planned}
+use Rattle.mkv_merge.specs.Ends.{end_as}
+use Rattle.mkv_merge.specs.Merge.{merged_verdict, refusals_read, sources_in, verdict_of}
 use Rattle.mkv_merge.specs.Prepared.{IfAllTold, sources_from}
+use Rattle.mkv_merge.specs.Read.{pending_of}
 use Rattle.mkv_merge.specs.Records.{AreShort, EndsReadable}
+use Rattle.mkv_merge.specs.Refused.{first_cause}
+use Rattle.mkv_merge.specs.Texts.{missing_text}
+use Rattle.mkv_merge.specs.declared.refusal.MergeEnd.{MergeEnd}
+use Rattle.mkv_merge.specs.declared.refusal.MergeEnd.TheVariants.{Refused, Stopped}
+use Rattle.mkv_merge.specs.declared.refusal.Refusal.{Refusal}
 
--- ---- what it comes to
+-- ---- what was planned is written
 
--- with these inputs, which were read of these files
+-- what it comes to with these inputs, which were read of these files
 abbrev pub ReachesPlanned : {F P : Type 0} → Ghosts F → writing.Ghosts F → ReportGhosts P → F → F → P → P → MergeWords → List FileId → List Input → Result Status Stop → Type 0
 ReachesPlanned r f p files files' report report' words list inputs result = IfAllTold r files list (λ contents.
     ComesTo r f p files files' report report' result (merged_verdict words (sources_from contents inputs)))
 
--- with live files
-abbrev pub ReachesWith : {F P : Type 0} → Ghosts F → writing.Ghosts F → ReportGhosts P → F → F → P → P → MergeWords → TextFiles → List FileId → Result Status Stop → Type 0
-ReachesWith r f p files files' report report' words texts list result = IfAllTold r files list (λ contents.
-    ComesTo r f p files files' report report' result (verdict_of words (sources_with words texts contents)))
-
--- with live files, unless a text file isn't there or an edit is pending
-abbrev pub ReachesSettled : {F P : Type 0} → Ghosts F → writing.Ghosts F → ReportGhosts P → F → F → P → P → MergeWords → TextFiles → List FileId → Result Status Stop → Type 0
-ReachesSettled r f p files files' report report' words texts list result = Told (f.names files) (λ world. IfAllTold r files list (λ contents.
-    ComesTo r f p files files' report report' result (verdict_of words (sources_settled world words texts contents))))
-
--- with the inputs' names
-abbrev pub ReachesBeside : {F P : Type 0} → Ghosts F → writing.Ghosts F → ReportGhosts P → F → F → P → P → MergeWords → TextFiles → Result Status Stop → Type 0
-ReachesBeside r f p files files' report report' words texts result = Told (f.names files) (λ world.
-    ComesTo r f p files files' report report' result (verdict_of words (sources_beside world words texts)))
-
--- ---- how much is read
-
--- of a plan, whose inputs are these files
+-- how much is read of a plan, whose inputs are these files
 abbrev pub ReadsPlanned : {S : Type 0} → Ghosts S → S → S → List FileId → MergePlan → Type 0
 ReadsPlanned r old new list plan = ReadsUpTo r old new (most_planned plan (live_size r old list))
-
--- of live files
-abbrev pub ReadsWith : {S : Type 0} → Ghosts S → S → S → MergeWords → TextFiles → List FileId → Type 0
-ReadsWith r old new words texts list = IfAllTold r old list (λ contents. ReadsUpTo r old new (most_of (sources_with words texts contents) (live_size r old list)))
-
--- of live files, and of sidecars before
-abbrev pub ReadsSettled : {S : Type 0} → Ghosts S → writing.Ghosts S → S → S → MergeWords → TextFiles → List FileId → Type 0
-ReadsSettled r f old new words texts list = Told (f.names old) (λ world. IfAllTold r old list (λ contents.
-    ReadsUpTo r old new (most_of (sources_settled world words texts contents) (live_size r old list) + most_looked words)))
-
--- of the inputs' names
-abbrev pub ReadsBeside : {S : Type 0} → Ghosts S → writing.Ghosts S → S → S → MergeWords → TextFiles → Type 0
-ReadsBeside r f old new words texts = Told (f.names old) (λ world. ReadsUpTo r old new (most_beside world words (sources_beside world words texts)))
-
--- ---- what can be read again
 
 -- no output of these inputs is longer than a file may be
 abbrev pub EndsShort : {S : Type 0} → Ghosts S → writing.Ghosts S → S → MergeWords → List FileId → List Input → Result Status Stop → Type 0
 EndsShort r f files words list inputs result = Told (f.names files) (λ world. IfAllTold r files list (λ contents.
     IfOk result (λ _. AreShort words (sources_from contents inputs))))
 
--- what was written of live files
-abbrev pub EndsReadableWith : {S : Type 0} → Ghosts S → writing.Ghosts S → S → MergeWords → TextFiles → List FileId → Result Status Stop → Type 0
-EndsReadableWith r f files words texts list result = Told (f.names files) (λ world. IfAllTold r files list (λ contents.
-    EndsReadable words (sources_with words texts contents) result))
+-- ---- a merge up to its verdict, where a refusal isn't told yet
 
--- of live files, unless a text file isn't there or an edit is pending
-abbrev pub EndsReadableSettled : {S : Type 0} → Ghosts S → writing.Ghosts S → S → MergeWords → TextFiles → List FileId → Result Status Stop → Type 0
-EndsReadableSettled r f files words texts list result = Told (f.names files) (λ world. IfAllTold r files list (λ contents.
-    EndsReadable words (sources_settled world words texts contents) result))
+-- what refuses a merge whose inputs are there before they are read: a text file that isn't there, or an edit that is pending
+abbrev pub begun_refusal : (List ℕ → Option (List ℕ)) → MergeWords → TextFiles → Option Refusal
+begun_refusal world words texts = option_or (missing_text texts) (pending_of world words)
 
--- of the inputs' names
-abbrev pub EndsReadableBeside : {S : Type 0} → Ghosts S → writing.Ghosts S → S → MergeWords → TextFiles → Result Status Stop → Type 0
-EndsReadableBeside r f files words texts result = Told (f.names files) (λ world. EndsReadable words (sources_beside world words texts) result)
+-- the sources of a merge whose inputs are there and have these contents, and whose text files give this
+abbrev pub sources_there : (List ℕ → Option (List ℕ)) → MergeWords → TextFiles → List (List ℕ) → Result (List Source) Refusal
+sources_there world words texts contents =
+    unless (first_cause (missing_text texts ∷ pending_of world words ∷ refusals_read words texts contents)) (sources_in words texts contents)
+
+-- how the command ends that tells a refusal
+abbrev pub as_command : Result Status MergeEnd → Result Status Stop
+as_command result = end_as (λ s. s) (λ why. status.Refused) result
+
+-- A merge of what is found has come to its verdict; or what refuses it is found, and nothing was said or written; or it has stopped on the way.
+abbrev pub Leads : Seen → Seen → MergeWords → Result (List Source) Refusal → Result Status MergeEnd → Type 0
+Leads old new words found (Ok s) = Reaches old new (Ok s) (verdict_of words found)
+Leads old new words found (Err (Refused why)) = (found ≡ Err why) × (new.lines ≡ old.lines) × (new.names ≡ old.names)
+Leads old new words found (Err (Stopped why)) = IsStopped old new (verdict_of words found)
+
+-- The same over files and a report. What was written can be read again, and no more than so many octets were read.
+pub record MergesTo {F P : Type 0} (r : Ghosts F) (f : writing.Ghosts F) (p : ReportGhosts P) (files files' : F) (report report' : P) (words : MergeWords) (found : Result (List Source) Refusal) (most : ℕ) (result : Result Status MergeEnd) : Type 0 where
+  pub verdict : Leads (seen_in r f p files report) (seen_in r f p files' report') words found result
+  pub readable : EndsReadable words found (as_command result)
+  pub octets : ReadsUpTo r files files' most
+
+-- of live files
+abbrev pub MergesThere : {F P : Type 0} → Ghosts F → writing.Ghosts F → ReportGhosts P → F → F → P → P → MergeWords → TextFiles → List FileId → Result Status MergeEnd → Type 0
+MergesThere r f p files files' report report' words texts list result = Told (f.names files) (λ world. IfAllTold r files list (λ contents.
+    let found = sources_there world words texts contents in
+    MergesTo r f p files files' report report' words found (most_of found (live_size r files list) + most_looked words) result))

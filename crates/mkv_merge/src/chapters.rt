@@ -1,8 +1,8 @@
 //! The Chapters of a chapter file in place of those of the inputs: RFC 9559, section 5.1.7 (Chapters Element).
 
-ghost use Rattle.std.specs.Prelude.{◌≡◌, false, IfOk, IfErr};
+ghost use Rattle.std.specs.Prelude.{◌≡◌, IfOk, IfErr};
 ghost use Rattle.mkv_merge.specs.Chapters.{first_with, with_file, with_tree};
-ghost use Rattle.mkv_merge.specs.Ends.{is_files_fault};
+ghost use Rattle.mkv_merge.specs.Ends.{IsQuiet};
 ghost use Rattle.mkv_merge.specs.Prepared.{ReadsAs};
 
 use crate::refusal::{MergeEnd, Refusal};
@@ -37,7 +37,7 @@ pub fn with_file(
     inputs: List<Input>,
 ) -> Result<List<Input>, MergeEnd>
     ensures exact { ReadsAs (λ list. list) (with_file with_tree webm file inputs) result }
-    ensures cause { IfErr result (λ end. is_files_fault end ≡ false) }
+    ensures cause { IfErr result IsQuiet }
 {
     match file {
         ChapterFile::Absent | ChapterFile::Missing => Ok(inputs),

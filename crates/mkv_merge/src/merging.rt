@@ -1,6 +1,5 @@
 //! Files are opened, merged and closed.
 
-ghost use Rattle.std.specs.Prelude.{[], ◌++◌};
 ghost use Rattle.mkv_io.specs.Told.{Told};
 ghost use Rattle.input_files.specs.ChapterFile.{CanBeWritten};
 ghost use Rattle.merge_words.specs.Sound.{IsSoundMerge};
@@ -12,8 +11,7 @@ ghost use Rattle.mkv_merge.specs.Bound.{most_read};
 ghost use Rattle.mkv_merge.specs.Merge.{merge_verdict, sources_of};
 ghost use Rattle.mkv_merge.specs.Read.{IsApartMerge};
 ghost use Rattle.mkv_merge.specs.Records.{EndsReadable};
-ghost use Rattle.mkv_merge.specs.Stages.{EndsReadableBeside, EndsReadableSettled, EndsReadableWith};
-ghost use Rattle.mkv_merge.specs.Stages.{ReachesBeside, ReachesSettled, ReachesWith, ReadsBeside, ReadsSettled, ReadsWith};
+ghost use Rattle.mkv_merge.specs.Stages.{MergesThere, MergesTo, as_command};
 
 use crate::names::first_written;
 use crate::pending::begun_refusal;
@@ -21,13 +19,14 @@ use crate::preparing::prepare;
 use crate::refusal::{MergeEnd, Refusal};
 use crate::telling::refuse;
 use crate::writing::write;
-use input_files::{InputsEnd, TextFiles, close_all, open_all, read_text_files};
+use input_files::{TextFiles, close_all, open_all, read_text_files};
 use merge_words::MergeWords;
 use mkv_io::{FileId, Files, Report};
 use mkv_lines::{Status, Stop};
-use std::alloc::{AllocError, Global};
+use std::alloc::Global;
 
-/// Merges live files, the inputs of these words.
+/// Merges live files, the inputs of these words, unless a text file isn't there, or an edit of one of them or of the output is
+/// pending.
 fn merge_opened<F: Files, P: Report>(
     alloc: Global,
     words: &MergeWords,
@@ -35,73 +34,40 @@ fn merge_opened<F: Files, P: Report>(
     ids: &[FileId],
     files: &mut F,
     report: &mut P,
-) -> Result<Status, Stop>
+) -> Result<Status, MergeEnd>
     requires words { IsApartMerge words.now }
     requires inputs { AreInputs F.Reads F.Files.own (file_names words.now.files) files.old ids.now }
     requires chapters { CanBeWritten texts.chapters }
-    ensures verdict { ReachesWith F.Reads F.Files.own P.Report files.old files.new report.old report.new words.now texts ids.now result }
-    ensures ended { HasEnded F.Reads F.Files.own P.Report files.old files.new report.old report.new result }
-    ensures readable { EndsReadableWith F.Reads F.Files.own files.old words.now texts ids.now result }
-    ensures asks { AsksToMerge [] words.now (F.asked files.old) (F.asked files.new) }
-    ensures octets { ReadsWith F.Reads files.old files.new words.now texts ids.now }
-{
-    match prepare(alloc, words, texts, files, ids) {
-        Ok(prepared) => write(alloc, words, prepared, ids, files, report),
-        Err(MergeEnd::Refused(why)) => refuse(alloc, words, &why, report),
-        Err(MergeEnd::Stopped(why)) => Err(Stop::from(why)),
-    }
-}
-
-/// Merges live files, unless a text file isn't there, or an edit of one of them or of the output is pending.
-fn merge_settled<F: Files, P: Report>(
-    alloc: Global,
-    words: &MergeWords,
-    texts: TextFiles,
-    ids: &[FileId],
-    files: &mut F,
-    report: &mut P,
-) -> Result<Status, Stop>
-    requires words { IsApartMerge words.now }
-    requires inputs { AreInputs F.Reads F.Files.own (file_names words.now.files) files.old ids.now }
-    requires chapters { CanBeWritten texts.chapters }
-    ensures verdict { ReachesSettled F.Reads F.Files.own P.Report files.old files.new report.old report.new words.now texts ids.now result }
-    ensures ended { HasEnded F.Reads F.Files.own P.Report files.old files.new report.old report.new result }
-    ensures readable { EndsReadableSettled F.Reads F.Files.own files.old words.now texts ids.now result }
+    ensures merges { MergesThere F.Reads F.Files.own P.Report files.old files.new report.old report.new words.now texts ids.now result }
+    ensures ended { HasEnded F.Reads F.Files.own P.Report files.old files.new report.old report.new (as_command result) }
     ensures asks { AsksToMerge (sidecars_of words.now) words.now (F.asked files.old) (F.asked files.new) }
-    ensures octets { ReadsSettled F.Reads F.Files.own files.old files.new words.now texts ids.now }
 {
-    match begun_refusal(alloc, words, &texts, files) {
-        Ok(None) => merge_opened(alloc, words, texts, ids, files, report),
-        Ok(Some(why)) => refuse(alloc, words, &why, report),
-        Err(why) => Err(Stop::from(why)),
+    if let Some(why) = begun_refusal(alloc, words, &texts, files)? {
+        return Err(MergeEnd::Refused(why));
     }
+    let prepared = prepare(alloc, words, texts, files, ids)?;
+    Ok(write(alloc, words, prepared, ids, files, report)?)
 }
 
-/// Merges the files of the inputs' names.
-fn merge_beside<F: Files, P: Report>(
+/// Merges the files of the inputs' names, unless an output could have the name of a file that is read.
+fn merge_named<F: Files, P: Report>(
     alloc: Global,
     words: &MergeWords,
-    texts: TextFiles,
     files: &mut F,
     report: &mut P,
-) -> Result<Status, Stop>
-    requires words { IsApartMerge words.now }
-    requires chapters { CanBeWritten texts.chapters }
-    ensures verdict { ReachesBeside F.Reads F.Files.own P.Report files.old files.new report.old report.new words.now texts result }
-    ensures ended { HasEnded F.Reads F.Files.own P.Report files.old files.new report.old report.new result }
-    ensures readable { EndsReadableBeside F.Reads F.Files.own files.old words.now texts result }
-    ensures asks { AsksToMerge (file_names words.now.files ++ sidecars_of words.now) words.now (F.asked files.old) (F.asked files.new) }
-    ensures octets { ReadsBeside F.Reads F.Files.own files.old files.new words.now texts }
+) -> Result<Status, MergeEnd>
+    requires { IsSoundMerge words.now }
+    ensures merges { Told (F.names files.old) (λ world. MergesTo F.Reads F.Files.own P.Report files.old files.new report.old report.new words.now
+        (sources_of world words.now) (most_read world words.now) result) }
+    ensures ended { HasEnded F.Reads F.Files.own P.Report files.old files.new report.old report.new (as_command result) }
+    ensures asks { AsksToMerge (opened_by words.now) words.now (F.asked files.old) (F.asked files.new) }
 {
-    let ids = match open_all(alloc, words.files.as_slice(), files) {
-        Ok(ids) => ids,
-        Err(InputsEnd::Missing { input }) => {
-            return refuse(alloc, words, &Refusal::Missing { input }, report);
-        }
-        Err(InputsEnd::Failed) => return Err(Stop::Files),
-        Err(InputsEnd::Memory) => return Err(Stop::Memory),
-    };
-    let ended = merge_settled(alloc, words, texts, ids.as_slice(), files, report);
+    if let Some(name) = first_written(alloc, words)? {
+        return Err(MergeEnd::Refused(Refusal::OutputIsInput { name }));
+    }
+    let texts = read_text_files(alloc, &words.chapters, words.files.as_slice(), files)?;
+    let ids = open_all(alloc, words.files.as_slice(), files)?;
+    let ended = merge_opened(alloc, words, texts, ids.as_slice(), files, report);
     close_all(files, ids.as_slice());
     ended
 }
@@ -125,15 +91,9 @@ pub fn merge_of<F: Files, P: Report>(
     ensures asks { AsksToMerge (opened_by words.now) words.now (F.asked files.old) (F.asked files.new) }
     ensures octets { Told (F.names files.old) (λ world. ReadsUpTo F.Reads files.old files.new (most_read world words.now)) }
 {
-    match first_written(alloc, words) {
-        Ok(None) => {}
-        Ok(Some(name)) => {
-            return refuse(alloc, words, &Refusal::OutputIsInput { name }, report);
-        }
-        Err(AllocError) => return Err(Stop::Memory),
-    }
-    match read_text_files(alloc, &words.chapters, words.files.as_slice(), files) {
-        Ok(texts) => merge_beside(alloc, words, texts, files, report),
-        Err(why) => Err(Stop::from(why)),
+    match merge_named(alloc, words, files, report) {
+        Ok(status) => Ok(status),
+        Err(MergeEnd::Refused(why)) => refuse(alloc, words, &why, report),
+        Err(MergeEnd::Stopped(why)) => Err(why),
     }
 }

@@ -6,7 +6,8 @@ ghost use Rattle.mkv_io.specs.Told.{Told};
 ghost use Rattle.sidecar_edit.specs.Pending.{LooksOnly};
 ghost use Rattle.mkv_merge.specs.Asked.{sidecars_of};
 ghost use Rattle.mkv_merge.specs.Bound.{most_looked};
-ghost use Rattle.mkv_merge.specs.Read.{begun_refusal, pending_of};
+ghost use Rattle.mkv_merge.specs.Read.{pending_of};
+ghost use Rattle.mkv_merge.specs.Stages.{begun_refusal};
 
 use crate::refusal::Refusal;
 use crate::texts::missing_text;

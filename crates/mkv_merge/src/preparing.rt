@@ -7,7 +7,7 @@ ghost use Rattle.merge_words.specs.Sound.{IsSoundFile};
 ghost use Rattle.merge_inputs.specs.Input.{IsInput, IsReadOf, held_in};
 ghost use Rattle.mkv_merge.specs.Bound.{live_size};
 ghost use Rattle.mkv_merge.specs.Prepared.{AreInputsOf, CanPrepare, EndsReading, IfAllTold, IsPrepared, Prepares};
-ghost use Rattle.mkv_merge.specs.Prepared.{ReadsAll, ReadsEach, ReadsInPlace, ReadsOne};
+ghost use Rattle.mkv_merge.specs.Prepared.{ReadsEach, ReadsOne};
 ghost use Rattle.mkv_io.specs.Bounds.{ReadsUpTo};
 
 use crate::chapters::with_file;
@@ -15,9 +15,10 @@ use crate::refusal::{MergeEnd, Refusal};
 use crate::texts::with_times;
 use input_files::TextFiles;
 use merge_inputs::{Blocks, Input, InputEnd, read_input};
-use merge_plan::{PlanEnd, append_refusal, plan_of, set_in_place};
+use merge_plan::{append_refusal, plan_of, set_in_place};
 use merge_words::{FileWords, MergeWords};
-use mkv_io::{FileId, List, ReadEnd, Reads};
+use mkv_io::{FileId, List, Reads};
+use mkv_lines::Stop;
 use remux_plan::MergePlan;
 use std::alloc::Global;
 
@@ -50,8 +51,8 @@ fn read_one<R: Reads>(
     match read_input(alloc, words, webm, held, src, file) {
         Ok(read) => Ok(read),
         Err(InputEnd::Refused(why)) => Err(MergeEnd::Refused(Refusal::Input { input, why })),
-        Err(InputEnd::ReadFault) => Err(MergeEnd::Stopped(ReadEnd::ReadFault)),
-        Err(InputEnd::Memory) => Err(MergeEnd::Stopped(ReadEnd::Memory)),
+        Err(InputEnd::ReadFault) => Err(MergeEnd::Stopped(Stop::Files)),
+        Err(InputEnd::Memory) => Err(MergeEnd::Stopped(Stop::Memory)),
     }
 }
 
@@ -89,50 +90,6 @@ fn read_inputs<R: Reads>(
     Ok(inputs)
 }
 
-/// The same with what the text files give, or what refuses these.
-fn read_all<R: Reads>(
-    alloc: Global,
-    words: &MergeWords,
-    texts: TextFiles,
-    src: &mut R,
-    files: &[FileId],
-) -> Result<List<Input>, MergeEnd>
-    requires ready { CanPrepare R.Reads src.old words.now files.now }
-    requires chapters { CanBeWritten texts.chapters }
-    ensures exact { IfAllTold R.Reads src.old files.now (λ contents. ReadsAll words.now texts contents result) }
-    ensures inputs { IfOk result (AreInputsOf (live_files R.Reads src.new) files.now) }
-    ensures reading { EndsReading R.Reads src.old src.new result }
-    ensures octets { ReadsUpTo R.Reads src.old src.new (25 * live_size R.Reads src.old files.now) }
-{
-    let TextFiles { chapters, times } = texts;
-    let read = read_inputs(alloc, words, src, files)?;
-    let chaptered = with_file(alloc, words.webm, chapters, read)?;
-    with_times(alloc, times, chaptered)
-}
-
-/// The inputs as they were read, each that is appended in its place; or what refuses them: what is read of each, what the
-/// text files give, and then one whose tracks can't go on in the lanes to which it is appended.
-fn inputs_in_place<R: Reads>(
-    alloc: Global,
-    words: &MergeWords,
-    texts: TextFiles,
-    src: &mut R,
-    files: &[FileId],
-) -> Result<List<Input>, MergeEnd>
-    requires ready { CanPrepare R.Reads src.old words.now files.now }
-    requires chapters { CanBeWritten texts.chapters }
-    ensures exact { IfAllTold R.Reads src.old files.now (λ contents. ReadsInPlace words.now texts contents result) }
-    ensures inputs { IfOk result (AreInputsOf (live_files R.Reads src.new) files.now) }
-    ensures reading { EndsReading R.Reads src.old src.new result }
-    ensures octets { ReadsUpTo R.Reads src.old src.new (27 * live_size R.Reads src.old files.now) }
-{
-    let inputs = read_all(alloc, words, texts, src, files)?;
-    if let Some(differs) = append_refusal(inputs.as_slice()) {
-        return Err(MergeEnd::Refused(Refusal::Differs(differs)));
-    }
-    Ok(set_in_place(alloc, inputs, src)?)
-}
-
 /// What these words make of these live files and of the text files, or what refuses them.
 pub fn prepare<R: Reads>(
     alloc: Global,
@@ -148,10 +105,14 @@ pub fn prepare<R: Reads>(
     ensures reading { EndsReading R.Reads src.old src.new result }
     ensures octets { ReadsUpTo R.Reads src.old src.new (27 * live_size R.Reads src.old files.now) }
 {
-    let inputs = inputs_in_place(alloc, words, texts, src, files)?;
-    match plan_of(alloc, words, inputs.as_slice()) {
-        Ok(plan) => Ok(Prepared { inputs, plan }),
-        Err(PlanEnd::Refused(why)) => Err(MergeEnd::Refused(Refusal::Plan(why))),
-        Err(PlanEnd::Memory) => Err(MergeEnd::Stopped(ReadEnd::Memory)),
+    let TextFiles { chapters, times } = texts;
+    let read = read_inputs(alloc, words, src, files)?;
+    let chaptered = with_file(alloc, words.webm, chapters, read)?;
+    let timed = with_times(alloc, times, chaptered)?;
+    if let Some(differs) = append_refusal(timed.as_slice()) {
+        return Err(MergeEnd::Refused(Refusal::Differs(differs)));
     }
+    let inputs = set_in_place(alloc, timed, src)?;
+    let plan = plan_of(alloc, words, inputs.as_slice())?;
+    Ok(Prepared { inputs, plan })
 }

@@ -1,13 +1,16 @@
 //! Why nothing is merged.
 
 ghost use Rattle.std.specs.Prelude.{◌≡◌};
-ghost use Rattle.mkv_io.specs.declared.outside.ReadEnd.TheVariants as read_end;
+ghost use Rattle.mkv_lines.specs.Code.{stop_of as read_stop};
+ghost use Rattle.mkv_lines.specs.declared.status.Stop.TheVariants as stop;
+ghost use Rattle.mkv_merge.specs.Ends.{stop_of, unopened, unplanned};
 ghost use Rattle.mkv_merge.specs.declared.refusal.MergeEnd.TheVariants as merge_end;
 
-use input_files::TextRefusal;
+use input_files::{InputsEnd, TextRefusal};
 use merge_inputs::InputRefusal;
-use merge_plan::{AppendDiffers, PlanRefusal};
-use mkv_io::{ReadEnd, Text};
+use merge_plan::{AppendDiffers, PlanEnd, PlanRefusal};
+use mkv_io::{ReadEnd, RemuxEnd, Text};
+use mkv_lines::Stop;
 use std::alloc::AllocError;
 
 /// Why nothing is merged. Inputs count from 0, in the order of the words.
@@ -38,25 +41,74 @@ pub enum Refusal {
     Plan(PlanRefusal),
 }
 
-/// Why a merge ends before its output is begun: it is refused, or an input couldn't be read, or there is no memory.
+/// Why a merge ends without its outputs: it is refused, or it is stopped.
 #[derive(Debug, Drop)]
 pub enum MergeEnd {
     Refused(Refusal),
-    Stopped(ReadEnd),
+    Stopped(Stop),
 }
 
 impl From<AllocError> for MergeEnd {
-    ghost from_gives = { λ _ end. end ≡ merge_end.Stopped read_end.Memory };
+    ghost from_gives = { λ _ end. end ≡ merge_end.Stopped stop.Memory };
 
     fn from(_error: AllocError) -> MergeEnd {
-        MergeEnd::Stopped(ReadEnd::Memory)
+        MergeEnd::Stopped(Stop::Memory)
+    }
+}
+
+impl From<Stop> for MergeEnd {
+    ghost from_gives = { λ why end. end ≡ merge_end.Stopped why };
+
+    fn from(why: Stop) -> MergeEnd {
+        MergeEnd::Stopped(why)
     }
 }
 
 impl From<ReadEnd> for MergeEnd {
-    ghost from_gives = { λ why end. end ≡ merge_end.Stopped why };
+    ghost from_gives = { λ why end. end ≡ merge_end.Stopped (read_stop why) };
 
     fn from(why: ReadEnd) -> MergeEnd {
-        MergeEnd::Stopped(why)
+        MergeEnd::Stopped(Stop::from(why))
+    }
+}
+
+impl From<RemuxEnd> for MergeEnd {
+    ghost from_gives = { λ why end. end ≡ merge_end.Stopped (stop_of why) };
+
+    fn from(why: RemuxEnd) -> MergeEnd {
+        MergeEnd::Stopped(stop_of(why))
+    }
+}
+
+impl From<InputsEnd> for MergeEnd {
+    ghost from_gives = { λ why end. end ≡ unopened why };
+
+    fn from(why: InputsEnd) -> MergeEnd {
+        match why {
+            InputsEnd::Missing { input } => MergeEnd::Refused(Refusal::Missing { input }),
+            InputsEnd::Failed => MergeEnd::Stopped(Stop::Files),
+            InputsEnd::Memory => MergeEnd::Stopped(Stop::Memory),
+        }
+    }
+}
+
+impl From<PlanEnd> for MergeEnd {
+    ghost from_gives = { λ why end. end ≡ unplanned why };
+
+    fn from(why: PlanEnd) -> MergeEnd {
+        match why {
+            PlanEnd::Refused(why) => MergeEnd::Refused(Refusal::Plan(why)),
+            PlanEnd::Memory => MergeEnd::Stopped(Stop::Memory),
+        }
+    }
+}
+
+/// Why a command stops whose merge ended early.
+pub fn stop_of(end: RemuxEnd) -> Stop
+    ensures { result ≡ stop_of end }
+{
+    match end {
+        RemuxEnd::ReadFault | RemuxEnd::WriteFault => Stop::Files,
+        RemuxEnd::Memory => Stop::Memory,
     }
 }

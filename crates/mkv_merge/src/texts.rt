@@ -1,8 +1,8 @@
 //! The times of files in place of those of tracks, and what refuses text files.
 
-ghost use Rattle.std.specs.Prelude.{◌≡◌, ◌++◌, false, map, IfOk, IfErr, OnOk};
+ghost use Rattle.std.specs.Prelude.{◌≡◌, ◌++◌, map, IfOk, IfErr, OnOk};
 ghost use Rattle.merge_inputs.specs.Input.{listings_in, read_in};
-ghost use Rattle.mkv_merge.specs.Ends.{is_files_fault};
+ghost use Rattle.mkv_merge.specs.Ends.{IsQuiet};
 ghost use Rattle.mkv_merge.specs.Prepared.{ReadsAs, reads_in};
 ghost use Rattle.mkv_merge.specs.Texts.{missing_text, missing_times, times_refusal, with_times};
 ghost use Rattle.mkv_merge.specs.Timed.{IsSameBut, at_input, listed_by, listed_in, listed_of, shared_at, shared_for, shared_from};
@@ -159,7 +159,7 @@ pub fn with_times(
 ) -> Result<List<Input>, MergeEnd>
     ensures exact { ReadsAs reads_in (with_times files (reads_in inputs)) result }
     ensures same { IfOk result (IsSameBut inputs) }
-    ensures cause { IfErr result (λ end. is_files_fault end ≡ false) }
+    ensures cause { IfErr result IsQuiet }
 {
     if let Some(why) = times_refusal(files.as_slice())? {
         return Err(MergeEnd::Refused(why));

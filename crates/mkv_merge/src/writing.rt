@@ -7,30 +7,20 @@ ghost use Rattle.mkv_lines.specs.Command.{HasEnded};
 ghost use Rattle.mkv_lines.specs.Ordinary.{IsOrdinary};
 ghost use Rattle.mkv_lines.specs.Said.{HasSayCause, Says};
 ghost use Rattle.mkv_merge.specs.Asked.{AsksToMerge};
-ghost use Rattle.mkv_merge.specs.Ends.{stop_of};
 ghost use Rattle.mkv_merge.specs.Prepared.{IsPrepared};
 ghost use Rattle.mkv_merge.specs.Read.{IsApartMerge};
 ghost use Rattle.mkv_merge.specs.Stages.{EndsShort, ReachesPlanned, ReadsPlanned};
 ghost use Rattle.mkv_merge.specs.Told.{told_outputs, told_status, told_summary, wrote_lines};
 
 use crate::preparing::Prepared;
+use crate::refusal::stop_of;
 use crate::telling::{has_absent, has_other_count, say_absent, say_uuids, warn};
 use merge_words::MergeWords;
-use mkv_io::{FileId, Files, RemuxEnd, Report};
+use mkv_io::{FileId, Files, Report};
 use mkv_lines::{Line, Status, Stop, say};
 use remux_plan::{Summary, Written};
 use remuxer::remux;
 use std::alloc::Global;
-
-/// Why a command stops whose merge ended early.
-pub fn stop_of(end: RemuxEnd) -> Stop
-    ensures { result ≡ stop_of end }
-{
-    match end {
-        RemuxEnd::ReadFault | RemuxEnd::WriteFault => Stop::Files,
-        RemuxEnd::Memory => Stop::Memory,
-    }
-}
 
 /// Tells of the outputs, which stand whole.
 fn say_wrote<P: Report>(alloc: Global, outputs: &[Written], report: &mut P) -> Result<(), Stop>

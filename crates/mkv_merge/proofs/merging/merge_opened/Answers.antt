@@ -1,110 +1,204 @@
-use Rattle.std.proofs.Common.{◌≡◌, [], length, refl, sym, ◌∙◌, ap, subst}
-use Rattle.std.specs.List.{zip}
+use Rattle.std.proofs.Common.{◌≡◌, ℕ, ◌+◌, List, [], Result, Ok, Err, length, sym, ◌∙◌, ap, subst, arith}
+use Rattle.std.proofs.lemmas.Result.{err_from_is_err_and}
+use Rattle.mkv_io.specs.Asked.{AsksOnly}
 use Rattle.mkv_io.specs.LiveFiles.{LiveFiles}
 use Rattle.mkv_io.specs.Sources.{live_files}
+use Rattle.mkv_io.specs.declared.asked.Asked.{Asked}
+use Rattle.input_files.specs.Inputs.{file_names}
+use Rattle.merge_plan.specs.Plan.{Source}
 use Rattle.remuxer.specs.Plan.{data_length}
-use Rattle.mkv_lines.specs.Seen.{Seen, seen}
-use Rattle.mkv_lines.specs.Verdict.{Reaches, Verdict}
-use Rattle.mkv_lines.proofs.VerdictLemmas.{IsStopped-before}
-use Rattle.mkv_merge.specs.Merge.{sources_with, verdict_of}
-use Rattle.mkv_merge.specs.Bound.{files_size}
-use Rattle.mkv_merge.specs.Prepared.{AreTold, reads_in}
-use Rattle.mkv_merge.proofs.MergingLemmas.{reads-both}
-use Rattle.mkv_merge.proofs.WritingLemmas.{data-counted, lanes-count, many-inputs, merge-is, readable-found, readable-none, records-are}
-use Rattle.mkv_merge.proofs.AskedLemmas.{merge-asks-both, merge-asks-none}
+use Rattle.mkv_lines.specs.Code.{stop_of as read_stop}
+use Rattle.mkv_lines.specs.declared.status.Status.{Status}
+use Rattle.mkv_merge.specs.Asked.{AsksToMerge, sidecars_of}
+use Rattle.mkv_merge.specs.Bound.{files_size, most_looked, most_of}
+use Rattle.mkv_merge.specs.Ends.{HasReadCause}
+use Rattle.mkv_merge.specs.Prepared.{AreTold, ReadsAs, sources_from}
+use Rattle.mkv_merge.specs.Stages.{sources_there}
+use Rattle.mkv_merge.specs.declared.refusal.MergeEnd.TheVariants.{Refused, Stopped}
+use Rattle.mkv_merge.specs.declared.refusal.Refusal.{Refusal}
+use Rattle.mkv_merge.proofs.MergingLemmas.{begun-past, begun-refused, contents-kept, ended-early, ended-written, inputs-kept, inputs-stand, merges-early, merges-written, reads-both, seen-kept, sizes-kept, texts-cause}
+use Rattle.mkv_merge.proofs.WritingLemmas.{data-counted, lanes-count, many-inputs, merge-is, records-are}
+use Rattle.mkv_merge.proofs.AskedLemmas.{merge-asks-both, merge-asks-looks, merge-asks-more}
 use Rattle.mkv_merge.proofs.merging.merge_opened.Goals as goal
 
--- reading has changed nothing that is seen, and what was prepared is what the sources come to
-pub returns-in-Ok-clause-verdict : goal.returns-in-Ok-clause-verdict
-returns-in-Ok-clause-verdict g c = λ contents told.
-    let old = c.args.files.now in
-    let mid = c.prepare.new.src in
-    let standing : g.F.Reads.standing mid ≡ g.F.Reads.standing old = c.in-Ok.ensures.reading.standing in
-    let same : live_files g.F.Reads mid ≡ live_files g.F.Reads old = ap g.F.Reads.files standing in
-    let was = seen g.F.Reads g.F.Files.writing_faults g.F.Files.names g.P.Report old c.args.report.now in
-    let read = seen g.F.Reads g.F.Files.writing_faults g.F.Files.names g.P.Report mid c.args.report.now in
-    let now = seen g.F.Reads g.F.Files.writing_faults g.F.Files.names g.P.Report c.write.new.files c.write.new.report in
-    let reading : g.F.Reads.reading_faults mid ≡ g.F.Reads.reading_faults old = c.in-Ok.ensures.reading.cause in
-    let writing : g.F.Files.writing_faults mid ≡ g.F.Files.writing_faults old = g.met.F.Files.writing_stands mid old standing in
-    let names : g.F.Files.names mid ≡ g.F.Files.names old = g.met.F.Files.names_stand mid old standing in
-    let nothing : read ≡ was = λ i. record {
-      counts = record { reading = reading i; writing = writing i; report = g.P.Report.faults c.args.report.now };
-      lines = g.P.Report.lines c.args.report.now;
-      names = names i;
-    } in
-    subst (λ (s : Seen). Reaches s now c.write.result (verdict_of c.args.words.now (sources_with c.args.words.now c.args.texts contents))) nothing
-    (subst (λ (v : Verdict). Reaches read now c.write.result v) (ap (verdict_of c.args.words.now) (sym (c.in-Ok.ensures.exact contents told)))
-    (c.write.ensures.verdict contents (subst (λ (f : LiveFiles). AreTold f c.args.ids.now contents) (sym same) told)))
+-- the inputs stand while sidecars are looked into, and what is there is read
+pub write-requires-clause-inputs : goal.write-requires-clause-inputs
+write-requires-clause-inputs g c =
+    let names = file_names c.args.words.now.files in
+    let mid = c.begun_refusal.new.files in
+    let standing = c.in_ok-prepared.ensures.reading.standing in
+    inputs-kept g.F.Reads g.F.Files names mid c.prepare.new.src c.args.ids.now
+    (inputs-stand g.F.Reads g.F.Files names (sidecars_of c.args.words.now) [] c.args.files.now mid c.args.ids.now c.requires.inputs c.begun_refusal.ensures.looks.kept)
+    standing (g.met.F.Files.holders_stand c.prepare.new.src mid standing)
 
--- an input couldn't be read
-pub returns-in-Err-Stopped-clause-verdict : goal.returns-in-Err-Stopped-clause-verdict
-returns-in-Err-Stopped-clause-verdict g c = λ contents told.
+-- a sidecar couldn't be looked into
+pub returns-in_err-why-clause-merges : goal.returns-in_err-why-clause-merges
+returns-in_err-why-clause-merges g c = λ world told contents held.
+    let p = err_from_is_err_and c.from_residual.result c.from_residual.ensures.1 in
     let words = c.args.words.now in
-    let old = c.args.files.now in
-    let mid = c.prepare.new.src in
-    IsStopped-before (seen g.F.Reads g.F.Files.writing_faults g.F.Files.names g.P.Report old c.args.report.now)
-    (seen g.F.Reads g.F.Files.writing_faults g.F.Files.names g.P.Report mid c.args.report.now)
-    (verdict_of words (sources_with words c.args.texts contents)) refl (g.met.F.Files.names_stand mid old c.in-Err-Stopped.ensures.reading.standing)
+    let found = sources_there world words c.args.texts contents in
+    let most = most_of found (files_size (live_files g.F.Reads c.args.files.now) c.args.ids.now) + most_looked words in
+    rw (p.1, p.2) (merges-early g.F.Reads g.F.Files g.P.Report c.args.files.now c.begun_refusal.new.files c.args.report.now words found most (Stopped (read_stop c.in_err-why.field-0.0)) tt
+    c.begun_refusal.ensures.looks.names (omega (arith, c.begun_refusal.ensures.octets)))
 
--- ---- how much is read
+-- a text file isn't there, or an edit is pending
+pub returns-in-Some-clause-merges : goal.returns-in-Some-clause-merges
+returns-in-Some-clause-merges g c = λ world told contents held.
+    let words = c.args.words.now in
+    let found = sources_there world words c.args.texts contents in
+    let most = most_of found (files_size (live_files g.F.Reads c.args.files.now) c.args.ids.now) + most_looked words in
+    merges-early g.F.Reads g.F.Files g.P.Report c.args.files.now c.begun_refusal.new.files c.args.report.now words found most (Refused c.in-Some.why)
+    (begun-refused world words c.args.texts contents c.in-Some.why (sym (c.in_ok-why.ensures.exact world told) ∙ c.in-Some.is))
+    c.begun_refusal.ensures.looks.names (omega (arith, c.begun_refusal.ensures.octets))
 
-pub returns-in-Ok-clause-octets : goal.returns-in-Ok-clause-octets
-returns-in-Ok-clause-octets g c = λ contents told.
+-- an input couldn't be read, or what was read is refused
+pub returns-in_err-prepared-clause-merges : goal.returns-in_err-prepared-clause-merges
+returns-in_err-prepared-clause-merges g c = λ world told contents held.
+    let p = err_from_is_err_and c.from_residual-in_err-prepared.result c.from_residual-in_err-prepared.ensures.1 in
     let words = c.args.words.now in
     let ids = c.args.ids.now in
-    let old = c.args.files.now in
-    let mid = c.prepare.new.src in
-    let p = c.in-Ok.prepared in
-    let now = live_files g.F.Reads mid in
-    let same : now ≡ live_files g.F.Reads old = ap g.F.Reads.files c.in-Ok.ensures.reading.standing in
-    let sources = zip contents (reads_in p.inputs) in
-    let many = many-inputs g.F.Reads g.F.Files old words ids p.inputs c.requires.inputs c.in-Ok.ensures.prepared.inputs.of in
-    let is = merge-is now words ids contents p c.in-Ok.ensures.prepared (subst (λ (f : LiveFiles). AreTold f ids contents) (sym same) told) many in
-    reads-both (sources_with words c.args.texts contents) sources (length p.plan.lanes) (g.F.Reads.octets_read old) (g.F.Reads.octets_read mid) (g.F.Reads.octets_read c.write.new.files) (files_size (live_files g.F.Reads old) ids) (files_size now ids) (data_length p.plan)
-    (c.in-Ok.ensures.exact contents told) (lanes-count now words p.inputs p.plan sources is) (ap (λ (f : LiveFiles). files_size f ids) same) (data-counted now words p.inputs p.plan sources is) c.prepare.ensures.octets c.write.ensures.octets
+    let old = live_files g.F.Reads c.args.files.now in
+    let mid = live_files g.F.Reads c.begun_refusal.new.files in
+    let kept = c.begun_refusal.ensures.looks.kept in
+    let found = sources_there world words c.args.texts contents in
+    let size : files_size mid ids ≡ files_size old ids = sizes-kept old mid ids (λ file. kept.others file tt) c.requires.inputs.live in
+    let mid-told : AreTold mid ids contents = contents-kept old.live old.content mid.content ids (λ file live. (kept.others file tt).content live) c.requires.inputs.live ∙ held in
+    let past = begun-past world words c.args.texts contents (sym (c.in_ok-why.ensures.exact world told) ∙ c.in_default.is) in
+    rw (p.1, p.2) (merges-early g.F.Reads g.F.Files g.P.Report c.args.files.now c.prepare.new.src c.args.report.now words found (most_of found (files_size old ids) + most_looked words) c.in_err-prepared.field-0.0
+    (subst (λ (o : Result (List Source) Refusal). ReadsAs {B = List Source} (λ (s : List Source). s) o (Err c.in_err-prepared.field-0.0)) (sym past) (c.in_err-prepared.ensures.exact contents mid-told))
+    (g.met.F.Files.names_stand c.prepare.new.src c.begun_refusal.new.files c.in_err-prepared.ensures.reading.standing ∙ c.begun_refusal.ensures.looks.names)
+    (omega (arith, c.begun_refusal.ensures.octets, c.prepare.ensures.octets, size)))
 
--- ---- what can be read again
-
-pub returns-in-Ok-clause-readable : goal.returns-in-Ok-clause-readable
-returns-in-Ok-clause-readable g c = λ world named contents told.
+-- what was prepared is written, or its writing was stopped
+pub returns-in_err-write-clause-merges : goal.returns-in_err-write-clause-merges
+returns-in_err-write-clause-merges g c = λ world told contents held.
+    let p = err_from_is_err_and c.from_residual-in_err-write.result c.from_residual-in_err-write.ensures.1 in
     let words = c.args.words.now in
     let ids = c.args.ids.now in
-    let old = c.args.files.now in
-    let p = c.in-Ok.prepared in
+    let prepared = c.in_ok-prepared.prepared in
+    let old = live_files g.F.Reads c.args.files.now in
+    let mid = live_files g.F.Reads c.begun_refusal.new.files in
     let now = live_files g.F.Reads c.prepare.new.src in
-    let same : now ≡ live_files g.F.Reads old = ap g.F.Reads.files c.in-Ok.ensures.reading.standing in
-    let sources = zip contents (reads_in p.inputs) in
-    let many = many-inputs g.F.Reads g.F.Files old words ids p.inputs c.requires.inputs c.in-Ok.ensures.prepared.inputs.of in
-    let mid-told : AreTold now ids contents = subst (λ (f : LiveFiles). AreTold f ids contents) (sym same) told in
-    let is = merge-is now words ids contents p c.in-Ok.ensures.prepared mid-told many in
-    readable-found words (sources_with words c.args.texts contents) sources c.write.result (c.in-Ok.ensures.exact contents told)
-    (records-are now words p.inputs p.plan sources is c.in-Ok.ensures.prepared.written)
-    (c.write.ensures.short world (g.met.F.Files.names_stand c.prepare.new.src old c.in-Ok.ensures.reading.standing ∙ named) contents mid-told)
+    let looks = c.begun_refusal.ensures.looks in
+    let standing = c.in_ok-prepared.ensures.reading.standing in
+    let found = sources_there world words c.args.texts contents in
+    let size : files_size mid ids ≡ files_size old ids = sizes-kept old mid ids (λ file. looks.kept.others file tt) c.requires.inputs.live in
+    let same : now ≡ mid = ap g.F.Reads.files standing in
+    let mid-told : AreTold mid ids contents = contents-kept old.live old.content mid.content ids (λ file live. (looks.kept.others file tt).content live) c.requires.inputs.live ∙ held in
+    let now-told : AreTold now ids contents = subst (λ (f : LiveFiles). AreTold f ids contents) (sym same) mid-told in
+    let is : found ≡ Ok (sources_from contents prepared.inputs) = begun-past world words c.args.texts contents (sym (c.in_ok-why.ensures.exact world told) ∙ c.in_default.is) ∙ c.in_ok-prepared.ensures.exact contents mid-told in
+    let many = many-inputs g.F.Reads g.F.Files c.args.files.now words ids prepared.inputs c.requires.inputs c.in_ok-prepared.ensures.prepared.inputs.of in
+    let merge = merge-is now words ids contents prepared c.in_ok-prepared.ensures.prepared now-told many in
+    let names = g.met.F.Files.names_stand c.prepare.new.src c.begun_refusal.new.files standing ∙ looks.names in
+    let seen = seen-kept g.F.Reads g.F.Files g.P.Report c.args.files.now c.prepare.new.src c.args.report.now (c.in_ok-prepared.ensures.reading.cause ∙ c.in_ok-why.ensures.cause)
+    (g.met.F.Files.writing_stands c.prepare.new.src c.begun_refusal.new.files standing ∙ looks.writing) names in
+    let paid = reads-both found (sources_from contents prepared.inputs) (length prepared.plan.lanes) (g.F.Reads.octets_read c.begun_refusal.new.files) (g.F.Reads.octets_read c.prepare.new.src) (g.F.Reads.octets_read c.write.new.files) (files_size old ids) (files_size now ids) (data_length prepared.plan)
+    is (lanes-count now words prepared.inputs prepared.plan (sources_from contents prepared.inputs) merge) (ap (λ (f : LiveFiles). files_size f ids) same ∙ size)
+    (data-counted now words prepared.inputs prepared.plan (sources_from contents prepared.inputs) merge) (omega (arith, c.prepare.ensures.octets, size)) c.write.ensures.octets in
+    rw (p.1, p.2)
+    (merges-written g.F.Reads g.F.Files g.P.Report c.args.files.now c.prepare.new.src c.write.new.files c.args.report.now c.write.new.report words found (sources_from contents prepared.inputs) (most_of found (files_size old ids) + most_looked words) (Err c.in_err-write.field-0.0)
+    seen is (records-are now words prepared.inputs prepared.plan (sources_from contents prepared.inputs) merge c.in_ok-prepared.ensures.prepared.written) (c.in_err-write.ensures.short world (names ∙ told) contents now-told)
+    (c.in_err-write.ensures.verdict contents now-told) (omega (arith, c.begun_refusal.ensures.octets, paid)))
 
--- refused
-pub returns-in-Err-Refused-clause-readable : goal.returns-in-Err-Refused-clause-readable
-returns-in-Err-Refused-clause-readable g c = λ world named contents told.
-    readable-none c.args.words.now (sources_with c.args.words.now c.args.texts contents) c.in-Err-Refused.why c.refuse.result (rw c.in-Err-Refused.field-0-is at (c.in-Err-Refused.ensures.exact contents told))
+pub returns-clause-merges : goal.returns-clause-merges
+returns-clause-merges g c = λ world told contents held.
+    let words = c.args.words.now in
+    let ids = c.args.ids.now in
+    let prepared = c.in_ok-prepared.prepared in
+    let old = live_files g.F.Reads c.args.files.now in
+    let mid = live_files g.F.Reads c.begun_refusal.new.files in
+    let now = live_files g.F.Reads c.prepare.new.src in
+    let looks = c.begun_refusal.ensures.looks in
+    let standing = c.in_ok-prepared.ensures.reading.standing in
+    let found = sources_there world words c.args.texts contents in
+    let size : files_size mid ids ≡ files_size old ids = sizes-kept old mid ids (λ file. looks.kept.others file tt) c.requires.inputs.live in
+    let same : now ≡ mid = ap g.F.Reads.files standing in
+    let mid-told : AreTold mid ids contents = contents-kept old.live old.content mid.content ids (λ file live. (looks.kept.others file tt).content live) c.requires.inputs.live ∙ held in
+    let now-told : AreTold now ids contents = subst (λ (f : LiveFiles). AreTold f ids contents) (sym same) mid-told in
+    let is : found ≡ Ok (sources_from contents prepared.inputs) = begun-past world words c.args.texts contents (sym (c.in_ok-why.ensures.exact world told) ∙ c.in_default.is) ∙ c.in_ok-prepared.ensures.exact contents mid-told in
+    let many = many-inputs g.F.Reads g.F.Files c.args.files.now words ids prepared.inputs c.requires.inputs c.in_ok-prepared.ensures.prepared.inputs.of in
+    let merge = merge-is now words ids contents prepared c.in_ok-prepared.ensures.prepared now-told many in
+    let names = g.met.F.Files.names_stand c.prepare.new.src c.begun_refusal.new.files standing ∙ looks.names in
+    let seen = seen-kept g.F.Reads g.F.Files g.P.Report c.args.files.now c.prepare.new.src c.args.report.now (c.in_ok-prepared.ensures.reading.cause ∙ c.in_ok-why.ensures.cause)
+    (g.met.F.Files.writing_stands c.prepare.new.src c.begun_refusal.new.files standing ∙ looks.writing) names in
+    let paid = reads-both found (sources_from contents prepared.inputs) (length prepared.plan.lanes) (g.F.Reads.octets_read c.begun_refusal.new.files) (g.F.Reads.octets_read c.prepare.new.src) (g.F.Reads.octets_read c.write.new.files) (files_size old ids) (files_size now ids) (data_length prepared.plan)
+    is (lanes-count now words prepared.inputs prepared.plan (sources_from contents prepared.inputs) merge) (ap (λ (f : LiveFiles). files_size f ids) same ∙ size)
+    (data-counted now words prepared.inputs prepared.plan (sources_from contents prepared.inputs) merge) (omega (arith, c.prepare.ensures.octets, size)) c.write.ensures.octets in
+    (merges-written g.F.Reads g.F.Files g.P.Report c.args.files.now c.prepare.new.src c.write.new.files c.args.report.now c.write.new.report words found (sources_from contents prepared.inputs) (most_of found (files_size old ids) + most_looked words) (Ok c.in_ok-write.field-0)
+    seen is (records-are now words prepared.inputs prepared.plan (sources_from contents prepared.inputs) merge c.in_ok-prepared.ensures.prepared.written) (c.in_ok-write.ensures.short world (names ∙ told) contents now-told)
+    (c.in_ok-write.ensures.verdict contents now-told) (omega (arith, c.begun_refusal.ensures.octets, paid)))
+
+-- ---- how it ends
+
+pub returns-in_err-why-clause-ended : goal.returns-in_err-why-clause-ended
+returns-in_err-why-clause-ended g c =
+    let p = err_from_is_err_and c.from_residual.result c.from_residual.ensures.1 in
+    let looks = c.begun_refusal.ensures.looks in
+    rw (p.1, p.2) (ended-early g.F.Reads g.F.Files g.P.Report c.args.files.now c.begun_refusal.new.files c.args.report.now (Stopped (read_stop c.in_err-why.field-0.0)) (texts-cause _ _ c.in_err-why.field-0.0 c.in_err-why.ensures.cause) looks.writing looks.kept.live)
+
+pub returns-in_err-prepared-clause-ended : goal.returns-in_err-prepared-clause-ended
+returns-in_err-prepared-clause-ended g c =
+    let p = err_from_is_err_and c.from_residual-in_err-prepared.result c.from_residual-in_err-prepared.ensures.1 in
+    let looks = c.begun_refusal.ensures.looks in
+    let standing = c.in_err-prepared.ensures.reading.standing in
+    rw (p.1, p.2) (ended-early g.F.Reads g.F.Files g.P.Report c.args.files.now c.prepare.new.src c.args.report.now c.in_err-prepared.field-0.0
+    (subst (λ (n : ℕ). HasReadCause {T = Status} n (g.F.Reads.reading_faults c.prepare.new.src) (Err c.in_err-prepared.field-0.0)) c.in_ok-why.ensures.cause c.in_err-prepared.ensures.reading.cause)
+    (g.met.F.Files.writing_stands c.prepare.new.src c.begun_refusal.new.files standing ∙ looks.writing) (λ file. ap (λ standing. (g.F.Reads.files standing).live file) standing ∙ looks.kept.live file))
+
+pub returns-in_err-write-clause-ended : goal.returns-in_err-write-clause-ended
+returns-in_err-write-clause-ended g c =
+    let p = err_from_is_err_and c.from_residual-in_err-write.result c.from_residual-in_err-write.ensures.1 in
+    let looks = c.begun_refusal.ensures.looks in
+    let standing = c.in_ok-prepared.ensures.reading.standing in
+    let seen = seen-kept g.F.Reads g.F.Files g.P.Report c.args.files.now c.prepare.new.src c.args.report.now (c.in_ok-prepared.ensures.reading.cause ∙ c.in_ok-why.ensures.cause)
+    (g.met.F.Files.writing_stands c.prepare.new.src c.begun_refusal.new.files standing ∙ looks.writing) (g.met.F.Files.names_stand c.prepare.new.src c.begun_refusal.new.files standing ∙ looks.names) in
+    rw (p.1, p.2)
+    (ended-written g.F.Reads g.F.Files g.P.Report c.args.files.now c.prepare.new.src c.write.new.files c.args.report.now c.write.new.report (Err c.in_err-write.field-0.0) seen
+    (λ file. ap (λ standing. (g.F.Reads.files standing).live file) standing ∙ looks.kept.live file) c.in_err-write.ensures.ended)
+
+pub returns-clause-ended : goal.returns-clause-ended
+returns-clause-ended g c =
+    let looks = c.begun_refusal.ensures.looks in
+    let standing = c.in_ok-prepared.ensures.reading.standing in
+    let seen = seen-kept g.F.Reads g.F.Files g.P.Report c.args.files.now c.prepare.new.src c.args.report.now (c.in_ok-prepared.ensures.reading.cause ∙ c.in_ok-why.ensures.cause)
+    (g.met.F.Files.writing_stands c.prepare.new.src c.begun_refusal.new.files standing ∙ looks.writing) (g.met.F.Files.names_stand c.prepare.new.src c.begun_refusal.new.files standing ∙ looks.names) in
+    (ended-written g.F.Reads g.F.Files g.P.Report c.args.files.now c.prepare.new.src c.write.new.files c.args.report.now c.write.new.report (Ok c.in_ok-write.field-0) seen
+    (λ file. ap (λ standing. (g.F.Reads.files standing).live file) standing ∙ looks.kept.live file) c.in_ok-write.ensures.ended)
 
 -- ---- what is asked for
 
+-- sidecars are looked into
+pub returns-in_err-why-clause-asks : goal.returns-in_err-why-clause-asks
+returns-in_err-why-clause-asks g c = merge-asks-looks c.args.words.now (g.F.Files.asked c.args.files.now) (g.F.Files.asked c.begun_refusal.new.files) c.begun_refusal.ensures.looks.kept.asks
+
+pub returns-in-Some-clause-asks : goal.returns-in-Some-clause-asks
+returns-in-Some-clause-asks g c = merge-asks-looks c.args.words.now (g.F.Files.asked c.args.files.now) (g.F.Files.asked c.begun_refusal.new.files) c.begun_refusal.ensures.looks.kept.asks
+
 -- reading asks for nothing
-pub returns-in-Ok-clause-asks : goal.returns-in-Ok-clause-asks
-returns-in-Ok-clause-asks g c =
+pub returns-in_err-prepared-clause-asks : goal.returns-in_err-prepared-clause-asks
+returns-in_err-prepared-clause-asks g c =
+    let mid = c.begun_refusal.new.files in
+    merge-asks-looks c.args.words.now (g.F.Files.asked c.args.files.now) (g.F.Files.asked c.prepare.new.src)
+    (subst (λ (asked : List Asked). AsksOnly (sidecars_of c.args.words.now) [] (g.F.Files.asked c.args.files.now) asked) (sym (g.met.F.Files.asked_stands c.prepare.new.src mid c.in_err-prepared.ensures.reading.standing)) c.begun_refusal.ensures.looks.kept.asks)
+
+pub returns-in_err-write-clause-asks : goal.returns-in_err-write-clause-asks
+returns-in_err-write-clause-asks g c =
     let words = c.args.words.now in
-    let old = c.args.files.now in
-    let mid = c.prepare.new.src in
-    merge-asks-both [] words (g.F.Files.asked old) (g.F.Files.asked mid) (g.F.Files.asked c.write.new.files)
-    (merge-asks-none [] words (g.F.Files.asked old) (g.F.Files.asked mid) (g.met.F.Files.asked_stands mid old c.in-Ok.ensures.reading.standing)) c.write.ensures.asks
+    let old = g.F.Files.asked c.args.files.now in
+    let mid = g.F.Files.asked c.begun_refusal.new.files in
+    let read = g.F.Files.asked c.prepare.new.src in
+    let new = g.F.Files.asked c.write.new.files in
+    merge-asks-both (sidecars_of words) words old mid new (merge-asks-looks words old mid c.begun_refusal.ensures.looks.kept.asks)
+    (merge-asks-more [] (sidecars_of words) words mid new (λ name others. tt)
+    (subst (λ (asked : List Asked). AsksToMerge [] words asked new) (g.met.F.Files.asked_stands c.prepare.new.src c.begun_refusal.new.files c.in_ok-prepared.ensures.reading.standing) c.in_err-write.ensures.asks))
 
-pub returns-in-Err-Refused-clause-asks : goal.returns-in-Err-Refused-clause-asks
-returns-in-Err-Refused-clause-asks g c =
-    let old = c.args.files.now in
-    let mid = c.prepare.new.src in
-    merge-asks-none [] c.args.words.now (g.F.Files.asked old) (g.F.Files.asked mid) (g.met.F.Files.asked_stands mid old c.in-Err-Refused.ensures.reading.standing)
-
-pub returns-in-Err-Stopped-clause-asks : goal.returns-in-Err-Stopped-clause-asks
-returns-in-Err-Stopped-clause-asks g c =
-    let old = c.args.files.now in
-    let mid = c.prepare.new.src in
-    merge-asks-none [] c.args.words.now (g.F.Files.asked old) (g.F.Files.asked mid) (g.met.F.Files.asked_stands mid old c.in-Err-Stopped.ensures.reading.standing)
+pub returns-clause-asks : goal.returns-clause-asks
+returns-clause-asks g c =
+    let words = c.args.words.now in
+    let old = g.F.Files.asked c.args.files.now in
+    let mid = g.F.Files.asked c.begun_refusal.new.files in
+    let read = g.F.Files.asked c.prepare.new.src in
+    let new = g.F.Files.asked c.write.new.files in
+    merge-asks-both (sidecars_of words) words old mid new (merge-asks-looks words old mid c.begun_refusal.ensures.looks.kept.asks)
+    (merge-asks-more [] (sidecars_of words) words mid new (λ name others. tt)
+    (subst (λ (asked : List Asked). AsksToMerge [] words asked new) (g.met.F.Files.asked_stands c.prepare.new.src c.begun_refusal.new.files c.in_ok-prepared.ensures.reading.standing) c.in_ok-write.ensures.asks))

@@ -1,19 +1,138 @@
--- The inputs are what they come to.
-use Rattle.std.proofs.Common.{None, Some, map, sym, ◌∙◌, ap}
+-- The inputs were read, set in place and planned.
+use Rattle.std.proofs.Common.{◌≡◌, None, List, Err, length, map, sym, ◌∙◌, ap, subst, arith}
+use Rattle.std.proofs.lemmas.List.{length-map}
+use Rattle.std.proofs.lemmas.Result.{err_from_is_err_and}
+use Rattle.mkv_io.specs.LiveFiles.{LiveFiles}
 use Rattle.mkv_io.specs.Sources.{live_files}
+use Rattle.mkv_io.specs.declared.outside.FileId.{FileId}
 use Rattle.merge_inputs.specs.Input.{read_in}
+use Rattle.merge_inputs.specs.declared.input.Input.{Input}
+use Rattle.merge_plan.specs.Appending.{append_refusal}
+use Rattle.merge_plan.specs.Placed.{StandInPlace, walked_length}
+use Rattle.merge_plan.specs.Planned.{CanBeWritten, IsPlanOf, Plans}
 use Rattle.merge_plan.specs.Refusal.{plan_refusal}
-use Rattle.mkv_merge.proofs.PreparingLemmas.{reads-planned}
+use Rattle.mkv_merge.proofs.PreparingLemmas.{chapters-ended, differs-refused, input-ended, pays-both, plan-ended, plan-found, times-ended}
+use Rattle.mkv_merge.proofs.TextsLemmas.{inputs-timed}
 use Rattle.mkv_merge.proofs.preparing.prepare.Goals as goal
 
--- they are planned
-pub returns-in-Ok-clause-exact : goal.returns-in-Ok-clause-exact
-returns-in-Ok-clause-exact g c = λ contents told.
-    reads-planned (live_files g.R.Reads c.args.src.now) c.args.words.now c.args.texts c.args.files.now contents c.in_ok-inputs.inputs None c.in_ok-inputs.ensures.inputs.of told (c.in_ok-inputs.ensures.exact contents told)
-    (ap (plan_refusal c.args.words.now) (sym (ap (map read_in) c.as_slice.ensures)) ∙ c.in-Ok.ensures.exact.0)
+-- an input wasn't read
+pub returns-in_err-read-clause-exact : goal.returns-in_err-read-clause-exact
+returns-in_err-read-clause-exact g c = λ contents told.
+    let p = err_from_is_err_and c.from_residual.result c.from_residual.ensures.1 in
+    rw (p.1, p.2) (input-ended c.args.words.now c.args.texts contents c.in_err-read.field-0.0 (c.in_err-read.ensures.exact contents told))
 
--- or refused
-pub returns-in-Err-Refused-clause-exact : goal.returns-in-Err-Refused-clause-exact
-returns-in-Err-Refused-clause-exact g c = λ contents told.
-    reads-planned (live_files g.R.Reads c.args.src.now) c.args.words.now c.args.texts c.args.files.now contents c.in_ok-inputs.inputs (Some c.in-Err-Refused.why) c.in_ok-inputs.ensures.inputs.of told (c.in_ok-inputs.ensures.exact contents told)
-    (ap (plan_refusal c.args.words.now) (sym (ap (map read_in) c.as_slice.ensures)) ∙ rw c.in-Err-Refused.field-0-is at c.in-Err-Refused.ensures.exact)
+-- the chapter file wasn't taken
+pub returns-in_err-chaptered-clause-exact : goal.returns-in_err-chaptered-clause-exact
+returns-in_err-chaptered-clause-exact g c = λ contents told.
+    let p = err_from_is_err_and c.from_residual-in_err-chaptered.result c.from_residual-in_err-chaptered.ensures.1 in
+    rw (p.1, p.2) (chapters-ended c.args.words.now c.args.texts contents c.in_ok-read.read c.in_err-chaptered.field-0.0 (c.in_ok-read.ensures.exact contents told) c.in_err-chaptered.ensures.exact)
+
+-- a file of times wasn't
+pub returns-in_err-timed-clause-exact : goal.returns-in_err-timed-clause-exact
+returns-in_err-timed-clause-exact g c = λ contents told.
+    let p = err_from_is_err_and c.from_residual-in_err-timed.result c.from_residual-in_err-timed.ensures.1 in
+    rw (p.1, p.2)
+    (times-ended c.args.words.now c.args.texts contents c.in_ok-read.read c.in_ok-chaptered.chaptered (c.in_ok-read.ensures.exact contents told) c.in_ok-chaptered.ensures.exact c.in_err-timed.field-0.0 c.in_err-timed.ensures.exact)
+
+-- an appended one can't go on
+pub returns-in-Some-clause-exact : goal.returns-in-Some-clause-exact
+returns-in-Some-clause-exact g c = λ contents told.
+    differs-refused c.args.words.now c.args.texts contents c.in_ok-read.read c.in_ok-chaptered.chaptered (c.in_ok-read.ensures.exact contents told) c.in_ok-chaptered.ensures.exact
+    c.in_ok-timed.timed c.in_ok-timed.ensures.exact c.in-Some.differs
+    (ap append_refusal (sym (ap (map read_in) c.as_slice.ensures)) ∙ sym c.append_refusal.ensures ∙ c.in-Some.is)
+
+-- what was read are inputs of these files
+pub set_in_place-requires-clause-inputs : goal.set_in_place-requires-clause-inputs
+set_in_place-requires-clause-inputs g c =
+    (inputs-timed (live_files g.R.Reads c.read_inputs.new.src) c.args.files.now c.args.words.now.webm c.args.texts.chapters c.in_ok-read.read c.in_ok-chaptered.chaptered c.in_ok-timed.timed
+    c.requires.chapters c.in_ok-read.ensures.inputs c.in_ok-chaptered.ensures.exact c.in_ok-timed.ensures.same).good
+
+-- there are no more than 64
+pub set_in_place-requires-clause-few : goal.set_in_place-requires-clause-few
+set_in_place-requires-clause-few g c =
+    let inputs : List Input = c.in_ok-timed.timed in
+    let are = inputs-timed (live_files g.R.Reads c.read_inputs.new.src) c.args.files.now c.args.words.now.webm c.args.texts.chapters c.in_ok-read.read c.in_ok-chaptered.chaptered inputs
+    c.requires.chapters c.in_ok-read.ensures.inputs c.in_ok-chaptered.ensures.exact c.in_ok-timed.ensures.same in
+    omega (arith, length-map inputs (λ (i : Input). i.file), ap (λ (l : List FileId). length l) are.of, c.requires.ready.each, c.requires.ready.sound.files.most)
+
+-- they aren't planned
+pub returns-in_err-plan-clause-exact : goal.returns-in_err-plan-clause-exact
+returns-in_err-plan-clause-exact g c = λ contents told.
+    let p = err_from_is_err_and c.from_residual-in_err-plan.result c.from_residual-in_err-plan.ensures.1 in
+    let words = c.args.words.now in
+    let ids = c.args.files.now in
+    let f = live_files g.R.Reads c.args.src.now in
+    let timed : List Input = c.in_ok-timed.timed in
+    let placed : List Input = c.in_ok-inputs.inputs in
+    let are = inputs-timed (live_files g.R.Reads c.read_inputs.new.src) ids c.args.words.now.webm c.args.texts.chapters c.in_ok-read.read c.in_ok-chaptered.chaptered timed
+    c.requires.chapters c.in_ok-read.ensures.inputs c.in_ok-chaptered.ensures.exact c.in_ok-timed.ensures.same in
+    let same : live_files g.R.Reads c.read_inputs.new.src ≡ f = ap g.R.Reads.files c.in_ok-read.ensures.reading.standing in
+    rw (p.1, p.2)
+    (plan-ended words c.args.texts contents c.in_ok-read.read c.in_ok-chaptered.chaptered (c.in_ok-read.ensures.exact contents told) c.in_ok-chaptered.ensures.exact timed c.in_ok-timed.ensures.exact
+    f ids placed are.of c.in_ok-inputs.ensures.placed.files told (ap append_refusal (sym (ap (map read_in) c.as_slice.ensures)) ∙ sym c.append_refusal.ensures ∙ c.in_default.is)
+    (subst (λ (now : LiveFiles). StandInPlace now timed placed) same c.in_ok-inputs.ensures.exact)
+    c.in_err-plan.field-0.0 (subst (λ (inputs : List Input). Plans words inputs (Err c.in_err-plan.field-0.0)) c.as_slice-2.ensures c.in_err-plan.ensures.exact))
+
+-- they are
+pub returns-clause-exact : goal.returns-clause-exact
+returns-clause-exact g c = λ contents told.
+    let words = c.args.words.now in
+    let ids = c.args.files.now in
+    let f = live_files g.R.Reads c.args.src.now in
+    let timed : List Input = c.in_ok-timed.timed in
+    let placed : List Input = c.in_ok-inputs.inputs in
+    let are = inputs-timed (live_files g.R.Reads c.read_inputs.new.src) ids c.args.words.now.webm c.args.texts.chapters c.in_ok-read.read c.in_ok-chaptered.chaptered timed
+    c.requires.chapters c.in_ok-read.ensures.inputs c.in_ok-chaptered.ensures.exact c.in_ok-timed.ensures.same in
+    let same : live_files g.R.Reads c.read_inputs.new.src ≡ f = ap g.R.Reads.files c.in_ok-read.ensures.reading.standing in
+    plan-found words c.args.texts contents c.in_ok-read.read c.in_ok-chaptered.chaptered (c.in_ok-read.ensures.exact contents told) c.in_ok-chaptered.ensures.exact timed c.in_ok-timed.ensures.exact
+    f ids placed are.of c.in_ok-inputs.ensures.placed.files told (ap append_refusal (sym (ap (map read_in) c.as_slice.ensures)) ∙ sym c.append_refusal.ensures ∙ c.in_default.is)
+    (subst (λ (now : LiveFiles). StandInPlace now timed placed) same c.in_ok-inputs.ensures.exact)
+    None (ap (plan_refusal words) (sym (ap (map read_in) c.as_slice-2.ensures)) ∙ c.in_ok-plan.ensures.exact.0)
+
+pub returns-clause-prepared : goal.returns-clause-prepared
+returns-clause-prepared g c =
+    let ids = c.args.files.now in
+    let timed : List Input = c.in_ok-timed.timed in
+    let placed = c.in_ok-inputs.ensures.placed in
+    let are = inputs-timed (live_files g.R.Reads c.read_inputs.new.src) ids c.args.words.now.webm c.args.texts.chapters c.in_ok-read.read c.in_ok-chaptered.chaptered timed
+    c.requires.chapters c.in_ok-read.ensures.inputs c.in_ok-chaptered.ensures.exact c.in_ok-timed.ensures.same in
+    record {
+      inputs = record { good = placed.good; of = placed.files ∙ are.of; places = placed.places };
+      plan = subst (λ (inputs : List Input). IsPlanOf c.args.words.now inputs c.in_ok-plan.plan) c.as_slice-2.ensures c.in_ok-plan.ensures.exact.1;
+      written = subst (λ (inputs : List Input). CanBeWritten inputs c.in_ok-plan.plan) c.as_slice-2.ensures c.in_ok-plan.ensures.written;
+    }
+
+-- ---- how much is read
+
+pub returns-in_err-inputs-clause-octets : goal.returns-in_err-inputs-clause-octets
+returns-in_err-inputs-clause-octets g c =
+    let ids = c.args.files.now in
+    let f = live_files g.R.Reads c.args.src.now in
+    let timed : List Input = c.in_ok-timed.timed in
+    let are = inputs-timed (live_files g.R.Reads c.read_inputs.new.src) ids c.args.words.now.webm c.args.texts.chapters c.in_ok-read.read c.in_ok-chaptered.chaptered timed
+    c.requires.chapters c.in_ok-read.ensures.inputs c.in_ok-chaptered.ensures.exact c.in_ok-timed.ensures.same in
+    let same : live_files g.R.Reads c.read_inputs.new.src ≡ f = ap g.R.Reads.files c.in_ok-read.ensures.reading.standing in
+    pays-both f ids timed (g.R.Reads.octets_read c.args.src.now) (g.R.Reads.octets_read c.read_inputs.new.src) (g.R.Reads.octets_read c.set_in_place.new.src) are.of c.read_inputs.ensures.octets
+    (omega (arith, c.set_in_place.ensures.octets, ap (λ (now : LiveFiles). walked_length now timed) same))
+
+pub returns-in_err-plan-clause-octets : goal.returns-in_err-plan-clause-octets
+returns-in_err-plan-clause-octets g c =
+    let ids = c.args.files.now in
+    let f = live_files g.R.Reads c.args.src.now in
+    let timed : List Input = c.in_ok-timed.timed in
+    let are = inputs-timed (live_files g.R.Reads c.read_inputs.new.src) ids c.args.words.now.webm c.args.texts.chapters c.in_ok-read.read c.in_ok-chaptered.chaptered timed
+    c.requires.chapters c.in_ok-read.ensures.inputs c.in_ok-chaptered.ensures.exact c.in_ok-timed.ensures.same in
+    let same : live_files g.R.Reads c.read_inputs.new.src ≡ f = ap g.R.Reads.files c.in_ok-read.ensures.reading.standing in
+    pays-both f ids timed (g.R.Reads.octets_read c.args.src.now) (g.R.Reads.octets_read c.read_inputs.new.src) (g.R.Reads.octets_read c.set_in_place.new.src) are.of c.read_inputs.ensures.octets
+    (omega (arith, c.set_in_place.ensures.octets, ap (λ (now : LiveFiles). walked_length now timed) same))
+
+pub returns-clause-octets : goal.returns-clause-octets
+returns-clause-octets g c =
+    let ids = c.args.files.now in
+    let f = live_files g.R.Reads c.args.src.now in
+    let timed : List Input = c.in_ok-timed.timed in
+    let are = inputs-timed (live_files g.R.Reads c.read_inputs.new.src) ids c.args.words.now.webm c.args.texts.chapters c.in_ok-read.read c.in_ok-chaptered.chaptered timed
+    c.requires.chapters c.in_ok-read.ensures.inputs c.in_ok-chaptered.ensures.exact c.in_ok-timed.ensures.same in
+    let same : live_files g.R.Reads c.read_inputs.new.src ≡ f = ap g.R.Reads.files c.in_ok-read.ensures.reading.standing in
+    pays-both f ids timed (g.R.Reads.octets_read c.args.src.now) (g.R.Reads.octets_read c.read_inputs.new.src) (g.R.Reads.octets_read c.set_in_place.new.src) are.of c.read_inputs.ensures.octets
+    (omega (arith, c.set_in_place.ensures.octets, ap (λ (now : LiveFiles). walked_length now timed) same))

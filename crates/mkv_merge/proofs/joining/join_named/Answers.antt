@@ -1,0 +1,111 @@
+use Rattle.std.proofs.Common.{◌≡◌, ℕ, List, [], None, Result, Ok, Err, refl, sym, ◌∙◌, subst, arith}
+use Rattle.std.proofs.lemmas.Result.{err_from_is_err_and}
+use Rattle.mkv_io.specs.Names.{Names}
+use Rattle.mkv_io.specs.Sources.{live_files}
+use Rattle.input_files.specs.Inputs.{file_names}
+use Rattle.merge_plan.specs.Plan.{Source}
+use Rattle.mkv_lines.specs.declared.status.Stop.TheVariants as stop
+use Rattle.mkv_merge.specs.Bound.{contents_length, files_size}
+use Rattle.mkv_merge.specs.Ends.{unopened}
+use Rattle.mkv_merge.specs.Joined.{Merges, as_merged, no_texts, sources_alone}
+use Rattle.mkv_merge.specs.Merge.{refusals_read, sources_in}
+use Rattle.mkv_merge.specs.Prepared.{AreTold, sources_with}
+use Rattle.mkv_merge.specs.Read.{contents_held, first_written}
+use Rattle.mkv_merge.specs.declared.refusal.MergeEnd.TheVariants.{Stopped}
+use Rattle.mkv_merge.specs.declared.refusal.Refusal.{Refusal}
+use Rattle.mkv_merge.proofs.JoinedLemmas.{merges-ended}
+use Rattle.mkv_merge.proofs.MergingLemmas.{inputs-cause, join-ended, missing-found, opened-told, reads-closed, size-told, there-found, written-found}
+use Rattle.mkv_merge.proofs.AskedLemmas.{merge-asks-both, merge-asks-inputs, merge-asks-more, merge-asks-none}
+use Rattle.mkv_merge.proofs.joining.join_named.Goals as goal
+
+-- there was no memory for the names of the outputs
+pub returns-in_err-name-clause-merges : goal.returns-in_err-name-clause-merges
+returns-in_err-name-clause-merges g c = λ world told.
+    let p = err_from_is_err_and c.from_residual.result c.from_residual.ensures.1 in
+    let names = g.F.Files.names c.args.files.now in
+    rw (p.1, p.2) (merges-ended names names c.args.words.now (sources_alone world c.args.words.now) (Stopped stop.Memory) tt refl)
+
+-- an output could have the name of a file that is read
+pub returns-in-Some-clause-merges : goal.returns-in-Some-clause-merges
+returns-in-Some-clause-merges g c = λ world told.
+    let words = c.args.words.now in
+    (written-found world words (refusals_read words no_texts (contents_held world words)) (sources_in words no_texts (contents_held world words)) c.in-Some.name (sym c.in_ok-name.ensures ∙ c.in-Some.is), refl)
+
+-- an input isn't there, or couldn't be opened
+pub returns-in_err-ids-clause-merges : goal.returns-in_err-ids-clause-merges
+returns-in_err-ids-clause-merges g c = λ world told.
+    let p = err_from_is_err_and c.from_residual-in_err-ids.result c.from_residual-in_err-ids.ensures.1 in
+    let words = c.args.words.now in
+    let end = c.in_err-ids.field-0.0 in
+    rw (p.1, p.2) (merges-ended (g.F.Files.names c.args.files.now) (g.F.Files.names c.open_all.new.files) words (sources_alone world words) (unopened end)
+    (missing-found world words (refusals_read words no_texts (contents_held world words)) (sources_in words no_texts (contents_held world words)) (sym c.in_ok-name.ensures ∙ c.in_default.is) c.as_slice.result.now c.as_slice.ensures end (c.in_err-ids.ensures.missing world told))
+    c.open_all.ensures.same.names)
+
+-- they were opened, merged and closed
+pub returns-clause-merges : goal.returns-clause-merges
+returns-clause-merges g c = λ world told.
+    let words = c.args.words.now in
+    let contents = contents_held world words in
+    let there = c.in_ok-ids.ensures.missing world told in
+    let f = live_files g.F.Reads c.open_all.new.files in
+    let found : sources_alone world words ≡ sources_with words no_texts contents =
+    there-found world words (refusals_read words no_texts contents) (sources_in words no_texts contents) (sym c.in_ok-name.ensures ∙ c.in_default.is) c.as_slice.result.now c.as_slice.ensures there in
+    let contents-told : AreTold f c.as_slice-2.result.now contents =
+    opened-told f world words c.as_slice.result.now c.in_ok-ids.ids c.as_slice-2.result.now c.as_slice.ensures c.as_slice-2.ensures there (c.in_ok-ids.ensures.contents world told) in
+    subst (λ (now : Names). Merges (g.F.Files.names c.args.files.now) now words (sources_alone world words) (as_merged c.join_opened-ended.result)) (sym c.close_all.ensures.names)
+    (subst (λ (before : Names). Merges before (g.F.Files.names c.join_opened-ended.new.files) words (sources_alone world words) (as_merged c.join_opened-ended.result)) c.in_ok-ids.ensures.same.names
+    (subst (λ (o : Result (List Source) Refusal). Merges (g.F.Files.names c.open_all.new.files) (g.F.Files.names c.join_opened-ended.new.files) words o (as_merged c.join_opened-ended.result)) (sym found)
+    (c.join_opened-ended.ensures.merges contents contents-told)))
+
+-- ---- how it ends
+
+pub returns-in_err-ids-clause-cause : goal.returns-in_err-ids-clause-cause
+returns-in_err-ids-clause-cause g c =
+    let p = err_from_is_err_and c.from_residual-in_err-ids.result c.from_residual-in_err-ids.ensures.1 in
+    rw (p.1, p.2) (join-ended g.F.Reads g.F.Files c.args.files.now c.open_all.new.files (unopened c.in_err-ids.field-0.0) (inputs-cause _ _ c.in_err-ids.field-0.0 c.in_err-ids.ensures.cause) c.open_all.ensures.same.writing)
+
+-- ---- how much is read
+
+pub returns-clause-octets : goal.returns-clause-octets
+returns-clause-octets g c = λ world told.
+    let words = c.args.words.now in
+    let opened = c.open_all.new.files in
+    let ids = c.as_slice-2.result.now in
+    let f = live_files g.F.Reads opened in
+    let contents = contents_held world words in
+    let there = c.in_ok-ids.ensures.missing world told in
+    let contents-told : AreTold f ids contents =
+    opened-told f world words c.as_slice.result.now c.in_ok-ids.ids ids c.as_slice.ensures c.as_slice-2.ensures there (c.in_ok-ids.ensures.contents world told) in
+    let paid = c.join_opened-ended.ensures.octets contents contents-told in
+    let closed = reads-closed (sources_alone world words) (sources_with words no_texts contents) (contents_length world words.files) (files_size f ids) 0 0
+    (g.F.Reads.octets_read c.args.files.now) (g.F.Reads.octets_read c.args.files.now) (g.F.Reads.octets_read opened) (g.F.Reads.octets_read c.join_opened-ended.new.files) (g.F.Reads.octets_read c.close_all.new.files)
+    (there-found world words (refusals_read words no_texts contents) (sources_in words no_texts contents) (sym c.in_ok-name.ensures ∙ c.in_default.is) c.as_slice.result.now c.as_slice.ensures there)
+    (size-told f (g.met.F.Reads.told_size (g.F.Reads.standing opened)) world words.files ids contents-told) (omega arith) c.in_ok-ids.ensures.same.octets (omega (arith, paid)) c.close_all.ensures.octets in
+    omega (arith, closed)
+
+-- ---- what is asked for
+
+-- inputs are opened
+pub returns-clause-asks : goal.returns-clause-asks
+returns-clause-asks g c =
+    let words = c.args.words.now in
+    let names = file_names words.files in
+    let old = g.F.Files.asked c.args.files.now in
+    let opened = g.F.Files.asked c.open_all.new.files in
+    let merged = g.F.Files.asked c.join_opened-ended.new.files in
+    let closed = g.F.Files.asked c.close_all.new.files in
+    merge-asks-both names words old opened closed (merge-asks-inputs words c.as_slice.result.now old opened c.as_slice.ensures c.in_ok-ids.ensures.opens.asks)
+    (merge-asks-both names words opened merged closed (merge-asks-more [] names words opened merged (λ name others. tt) c.join_opened-ended.ensures.asks)
+    (merge-asks-none names words merged closed c.close_all.ensures.asked))
+
+-- they couldn't be opened
+pub returns-in_err-ids-clause-asks : goal.returns-in_err-ids-clause-asks
+returns-in_err-ids-clause-asks g c =
+    merge-asks-inputs c.args.words.now c.as_slice.result.now (g.F.Files.asked c.args.files.now) (g.F.Files.asked c.open_all.new.files) c.as_slice.ensures c.in_err-ids.ensures.refused.asks
+
+-- nothing was looked at
+pub returns-in-Some-clause-asks : goal.returns-in-Some-clause-asks
+returns-in-Some-clause-asks g c = merge-asks-none (file_names c.args.words.now.files) c.args.words.now (g.F.Files.asked c.args.files.now) (g.F.Files.asked c.args.files.now) refl
+
+pub returns-in_err-name-clause-asks : goal.returns-in_err-name-clause-asks
+returns-in_err-name-clause-asks g c = merge-asks-none (file_names c.args.words.now.files) c.args.words.now (g.F.Files.asked c.args.files.now) (g.F.Files.asked c.args.files.now) refl
