@@ -8,6 +8,7 @@ use Rattle.mkv_outputs.specs.Drafts.{StandsInTurn}
 use Rattle.mkv_outputs.specs.Outputs.{with_outputs}
 use Rattle.mkv_outputs.proofs.DraftsLemmas.{StandsInTurn-none}
 use Rattle.output_model.specs.Document.{layout}
+use Rattle.input_files.specs.Inputs.{file_names, first_missing}
 use Rattle.merge_words.specs.declared.output.MergeWords.{MergeWords}
 use Rattle.merge_plan.specs.Plan.{Source}
 use Rattle.remux_plan.specs.Parts.{PlannedOutput}
@@ -21,12 +22,13 @@ use Rattle.mkv_merge.specs.declared.joining.Merged.TheVariants as merged
 use Rattle.splitter.specs.Sections.{Part}
 use Rattle.splitter.proofs.SectionLemmas.{whole-part}
 use Rattle.mkv_merge.specs.Joined.{Merges, no_texts, outputs_found, sources_alone, sources_apart}
-use Rattle.mkv_merge.specs.Merge.{blocks_of, output_at, sources_with, split_of, status_of}
+use Rattle.mkv_merge.specs.Merge.{blocks_of, output_at, refusals_read, sources_in, split_of, status_of}
 use Rattle.mkv_merge.specs.Merge.{outputs_of as merge_outputs}
-use Rattle.mkv_merge.specs.Read.{contents_of, first_written as name_written, unless_missing}
+use Rattle.mkv_merge.specs.Read.{contents_held, first_written as name_written}
+use Rattle.mkv_merge.specs.Refused.{first_cause}
 use Rattle.mkv_io.specs.Results.{and_then, unless}
 use Rattle.mkv_merge.specs.declared.refusal.Refusal.{Refusal}
-use Rattle.mkv_merge.specs.declared.refusal.Refusal.TheVariants.{OutputIsInput}
+use Rattle.mkv_merge.specs.declared.refusal.Refusal.TheVariants.{Missing, OutputIsInput}
 use Rattle.generator.specs.declared.making.Done.{Done}
 use Rattle.generator.specs.declared.making.Outcome.{Outcome}
 use Rattle.generator.specs.declared.making.Outcome.TheVariants.{Made, Refused}
@@ -34,7 +36,6 @@ use Rattle.generator.specs.declared.names.Names as own
 use Rattle.generator.specs.declared.blocks.Medium.TheVariants.{Pictures, Sounds}
 use Rattle.generator.specs.Files.{file_of}
 use Rattle.generator.specs.Generate.{MergeMade, both_words, first_written, line_for, made_file, made_of, made_outputs, merge_of, parts_words, two_files, verdict_of, with_both, with_parts}
-use Rattle.mkv_merge.specs.Plain.{plain_file}
 use Rattle.generator.specs.Outcome.{HasMade, IsOneFile, Makes, MakesBoth, MakesParts}
 use Rattle.remuxer.proofs.OutputsLemmas.{told-with, world_with}
 use Rattle.generator.proofs.TurnLemmas.{drafts-append, first-told, in_turn-more, last-told, stopped-behind, written-behind}
@@ -42,19 +43,24 @@ use Rattle.generator.proofs.TurnLemmas.{drafts-append, first-told, in_turn-more,
 -- ---- the contents of the inputs
 
 -- in a world that has the inputs, a merge is that of their contents
-pub alone-is : (world : List ℕ → Option (List ℕ)) (words : MergeWords) (contents : List (List ℕ)) → contents_of world words.files ≡ Ok contents → sources_alone world words ≡ sources_apart words contents
-alone-is world words contents is = by-name (option_map OutputIsInput (name_written words))
+pub alone-is : (world : List ℕ → Option (List ℕ)) (words : MergeWords) (contents : List (List ℕ)) → (first_missing world (file_names words.files) ≡ None) × (contents_held world words ≡ contents) → sources_alone world words ≡ sources_apart words contents
+alone-is world words contents is = ap₂ (found (name_written words)) is.0 is.1 ∙ by_name (name_written words)
   where
-    by-name : (o : Option Refusal) → and_then (unless o words.files) (λ files. and_then (contents_of world files) (sources_with words no_texts)) ≡ and_then (unless o contents) (sources_with words no_texts)
-    by-name None = ap (λ (r : Result (List (List ℕ)) Refusal). and_then r (sources_with words no_texts)) is
-    by-name (Some why) = refl
+    found : Option (List ℕ) → Option ℕ → List (List ℕ) → Result (List Source) Refusal
+    found written missing all = unless (first_cause (option_map OutputIsInput written ∷ option_map Missing missing ∷ refusals_read words no_texts all)) (sources_in words no_texts all)
 
-two-contents : (world : List ℕ → Option (List ℕ)) (a b x y : List ℕ) → world a ≡ Some x → world b ≡ Some y → contents_of world (plain_file a ∷ (plain_file b ∷ [])) ≡ Ok (x ∷ (y ∷ []))
-two-contents world a b x y first second =
-    ap₂ (λ (p q : Option (List ℕ)). unless_missing (cond (is_none p) (Some 0) (cond (is_none q) (Some 1) None)) (unwrap_or p [] ∷ (unwrap_or q [] ∷ []))) first second
+    by_name : (written : Option (List ℕ)) → found written None contents ≡ unless (first_cause (option_map OutputIsInput written ∷ refusals_read words no_texts contents)) (sources_in words no_texts contents)
+    by_name None = refl
+    by_name (Some name) = refl
 
-one-content : (world : List ℕ → Option (List ℕ)) (a x : List ℕ) → world a ≡ Some x → contents_of world (plain_file a ∷ []) ≡ Ok (x ∷ [])
-one-content world a x is = ap (λ (p : Option (List ℕ)). unless_missing (cond (is_none p) (Some 0) None) (unwrap_or p [] ∷ [])) is
+two-held : (world : List ℕ → Option (List ℕ)) (a b x y : List ℕ) → world a ≡ Some x → world b ≡ Some y → (first_missing world (a ∷ (b ∷ [])) ≡ None) × (map (λ name. unwrap_or (world name) []) (a ∷ (b ∷ [])) ≡ x ∷ (y ∷ []))
+two-held world a b x y first second = (
+  ap₂ (λ (p q : Option (List ℕ)). cond (is_none p) (Some 0) (cond (is_none q) (Some 1) None)) first second,
+  ap₂ (λ (p q : Option (List ℕ)). unwrap_or p [] ∷ (unwrap_or q [] ∷ [])) first second,
+)
+
+one-held : (world : List ℕ → Option (List ℕ)) (a x : List ℕ) → world a ≡ Some x → (first_missing world (a ∷ []) ≡ None) × (map (λ name. unwrap_or (world name) []) (a ∷ []) ≡ x ∷ [])
+one-held world a x is = (ap (λ (p : Option (List ℕ)). cond (is_none p) (Some 0) None) is, ap (λ (p : Option (List ℕ)). unwrap_or p [] ∷ []) is)
 
 -- what the names tell once outputs stand
 pub told-then : (before now : Names) (world : List ℕ → Option (List ℕ)) (done : List PlannedOutput) → before ≡ Some world → WritesAll before now done → now ≡ Some (world_with world (map laid_out done))
@@ -66,7 +72,7 @@ pub both-found : (world : List ℕ → Option (List ℕ)) (n : ℕ) (names : own
 both-found world n names apart =
     let all = map laid_out (two_files n names) in
     alone-is (world_with world all) (both_words names) (map (λ (o : PlannedOutput). layout o.document) (two_files n names))
-    (two-contents (world_with world all) names.pictures names.sounds (layout (file_of Pictures n)) (layout (file_of Sounds n))
+    (two-held (world_with world all) names.pictures names.sounds (layout (file_of Pictures n)) (layout (file_of Sounds n))
     (first-told world (laid_out (made_file Pictures n names.pictures)) (laid_out (made_file Sounds n names.sounds)) apart)
     (last-told world (laid_out (made_file Pictures n names.pictures) ∷ []) (laid_out (made_file Sounds n names.sounds))))
 
@@ -103,7 +109,7 @@ parts-found world n names outputs file alone named = subst P (sym alone) base
     P os = sources_alone (world_with world (map laid_out (two_files n names ++ os))) (parts_words names) ≡ sources_apart (parts_words names) (map (λ (o : PlannedOutput). layout o.document) os)
 
     base : P (file ∷ [])
-    base = alone-is (world_with world (map laid_out (two_files n names ++ file ∷ []))) (parts_words names) (layout file.document ∷ []) (one-content (world_with world (map laid_out (two_files n names ++ file ∷ []))) names.both (layout file.document) (both-there world n names file named))
+    base = alone-is (world_with world (map laid_out (two_files n names ++ file ∷ []))) (parts_words names) (layout file.document ∷ []) (one-held (world_with world (map laid_out (two_files n names ++ file ∷ []))) names.both (layout file.document) (both-there world n names file named))
 
 -- ---- what stands on the way
 

@@ -1,7 +1,8 @@
 -- What is read of the inputs of a merge can be written.
 use Rattle.std.proofs.Common.{◌≡◌, ◌<◌, ◌≤◌, ℕ, suc, ◌+◌, ◌^◌, ◌==◌, Bool, true, false, not, ◌&&◌, ◌||◌, if◌then◌else◌, cond, List, [], ◌∷◌, length, find, map, Option, Some, None, IfSome, Result, Ok, Err, inl, inr, ◌⊎◌, eqb-true, refl, sym, ap, subst, ◌∙◌, arith, unwrap_or}
-use Rattle.std.specs.List.{All, list_all, zip}
+use Rattle.std.specs.List.{All, AllByRecursion, list_all, zip}
 use Rattle.std.specs.Option.{option_map, option_map_or}
+use Rattle.std.specs.Result.{result_err}
 use Rattle.std.specs.Str.{IsUtf8, is_utf8}
 use Rattle.std.proofs.lemmas.List.{length-map}
 use Rattle.std.proofs.lemmas.List.Elements.{All-nil, All-cons, All-head, All-tail, All-append, All-map}
@@ -18,7 +19,7 @@ use Rattle.mkv_io.specs.Faults.{counted}
 use Rattle.mkv_schema.specs.declared.element.Header.{Header}
 use Rattle.mkv_schema.specs.Element.{stated_end}
 use Rattle.mkv_schema.specs.Outline.{outline_of, segment_run}
-use Rattle.mkv_io.specs.Results.{and_then}
+use Rattle.mkv_io.specs.Results.{and_then, unless}
 use Rattle.mkv_schema.specs.Value.{body_of, first_of, text_of}
 use Rattle.mkv_schema.proofs.OutlineLemmas.{and_then-ok, unless-ok}
 use Rattle.tree_format.specs.declared.limits.TheConstants.{MOST_NODES}
@@ -46,7 +47,6 @@ use Rattle.record_laws.proofs.WholeLemmas.{read-entries-whole}
 use Rattle.merged_records.proofs.OutputLemmas.{title-in}
 use Rattle.mkv_io.specs.declared.entry.Entry.{Entry}
 use Rattle.ext_times.specs.Listing.{Listing}
-use Rattle.input_files.specs.TextFiles.{text_files}
 use Rattle.input_files.specs.declared.text_files.TextFiles.{TextFiles}
 use Rattle.input_files.specs.declared.times_file.TimesFile.{TimesFile}
 use Rattle.input_files.specs.TextFile.{srt_text}
@@ -59,7 +59,7 @@ use Rattle.merge_model.specs.declared.limits.TheConstants.{MOST_SHIFT}
 use Rattle.merge_words.specs.declared.files.FileWords.{FileWords}
 use Rattle.merge_words.specs.declared.output.MergeWords.{MergeWords}
 use Rattle.merge_words.specs.Sound.{IsSoundFile, IsSoundMerge}
-use Rattle.input_files.specs.Inputs.{file_names, first_missing}
+use Rattle.input_files.specs.Inputs.{file_names}
 use Rattle.merge_inputs.specs.Input.{InputRead, file_read, found_then, input_of, input_with, refusal_of, text_read, text_then, text_with, unless_refused}
 use Rattle.merge_inputs.specs.Select.{is_taken, kept_one, takes, unmoved}
 use Rattle.merge_inputs.specs.Taken.{first_unusable, taken_from, taken_one, taken_track, value_for}
@@ -69,20 +69,18 @@ use Rattle.mkv_schema.specs.declared.track_type.TheConstants.{AUDIO_TRACK, SUBTI
 use Rattle.merge_inputs.specs.declared.input.InputRefusal.{InputRefusal}
 use Rattle.merge_inputs.specs.declared.input.InputRefusal.TheVariants.{Damaged}
 use Rattle.merge_inputs.proofs.TakenLemmas.{AreTaken-read, taken-tracks}
-use Rattle.merge_plan.specs.Appending.{append_refusal}
 use Rattle.merge_plan.specs.Front.{reads_of}
 use Rattle.merge_plan.specs.Places.{in_place}
 use Rattle.merge_plan.specs.Plan.{Source}
 use Rattle.merge_plan.specs.Refusal.{plan_refusal}
 use Rattle.merge_plan.specs.declared.refusal.PlanRefusal.{PlanRefusal}
-use Rattle.mkv_merge.specs.Merge as merge
-use Rattle.mkv_merge.specs.Merge.{sources_beside, sources_of, sources_read, sources_settled, sources_with}
-use Rattle.mkv_merge.specs.Chapters.{chaptered, chapters_refusal, first_with, with_chapters, with_file}
-use Rattle.mkv_merge.specs.Texts.{listings_at, times_refusal, timed_from, with_listings, with_times}
-use Rattle.mkv_merge.specs.Read.{begun_refusal, contents_of, first_written, inputs_from, inputs_of, inputs_with, numbered, unless_missing}
-use Rattle.mkv_merge.specs.Refused as refused
+use Rattle.mkv_merge.specs.Merge.{refusals, sources_in, sources_of}
+use Rattle.mkv_merge.specs.Chapters.{chaptered, first_with, with_chapters}
+use Rattle.mkv_merge.specs.Texts.{listings_at, timed_from, with_listings}
+use Rattle.mkv_merge.specs.Read.{contents_held, found_in, inputs_from, inputs_of, numbered, texts_held}
+use Rattle.mkv_merge.specs.Refused.{first_cause}
 use Rattle.mkv_merge.specs.declared.refusal.Refusal.{Refusal}
-use Rattle.mkv_merge.specs.declared.refusal.Refusal.TheVariants.{Differs, OutputIsInput, Plan}
+use Rattle.mkv_merge.specs.declared.refusal.Refusal.TheVariants.{Plan}
 use Rattle.merge_words.specs.Texts.{HasTexts, AreTexts}
 use Rattle.merged_outputs.specs.Sources.{HoldsOctets, IsReadSource, IsReadTrack, AreSources, is_taken_type}
 use Rattle.merged_outputs.proofs.PlaceLemmas.{placed-read}
@@ -343,7 +341,7 @@ input-taken words webm held bytes read = of (is_srt words.name bytes)
 
 -- ---- all inputs
 
-pub then-ok : {A B : Type 0} (found : Result A Refusal) (more : A → Result B Refusal) (y : B) → refused.and_then found more ≡ Ok y → (x : A) × ((found ≡ Ok x) × (more x ≡ Ok y))
+pub then-ok : {A B : Type 0} (found : Result A Refusal) (more : A → Result B Refusal) (y : B) → and_then found more ≡ Ok y → (x : A) × ((found ≡ Ok x) × (more x ≡ Ok y))
 then-ok (Ok x) more y is = (x, (refl, is))
 then-ok (Err why) more y is = absurd (cc)
 
@@ -420,11 +418,7 @@ contents-octets world [] holds = All-nil AreOctets
 contents-octets world (name ∷ names) holds =
     All-cons AreOctets (unwrap_or (world name) []) (map (λ (n : List ℕ). unwrap_or (world n) []) names) (content-octets world name (world name) holds refl) (contents-octets world names holds)
 
-there-ok : (missing : Option ℕ) (contents all : List (List ℕ)) → unless_missing missing contents ≡ Ok all → contents ≡ all
-there-ok None contents all is = cc
-there-ok (Some input) contents all is = absurd (cc)
-
-no-refusal : (why : Option Refusal) (sources found : List Source) → refused.unless why sources ≡ Ok found → (why ≡ None) × (sources ≡ found)
+no-refusal : (why : Option Refusal) (sources found : List Source) → unless why sources ≡ Ok found → (why ≡ None) × (sources ≡ found)
 no-refusal None sources found is = (refl, cc)
 no-refusal (Some why) sources found is = absurd (cc)
 
@@ -432,13 +426,15 @@ unplanned : (why : Option PlanRefusal) → option_map Plan why ≡ None → why 
 unplanned None is = refl
 unplanned (Some why) is = absurd (cc)
 
-all-alike : (why : Option Refusal) (reads alike : List InputRead) → refused.unless why reads ≡ Ok alike → reads ≡ alike
-all-alike None reads alike is = cc
-all-alike (Some why) reads alike is = absurd (cc)
+-- nothing that may refuse a merge stands
+none-stands : (causes : List (Option Refusal)) → first_cause causes ≡ None → AllByRecursion (λ (cause : Option Refusal). cause ≡ None) causes
+none-stands [] is = tt
+none-stands (None ∷ causes) is = (refl, none-stands causes is)
+none-stands (Some why ∷ causes) is = absurd (cc)
 
--- what the files of a merge hold
-abbrev pub contents_held : (List ℕ → Option (List ℕ)) → MergeWords → List (List ℕ)
-contents_held world words = map (λ (name : List ℕ). unwrap_or (world name) []) (file_names words.files)
+all-found : (reads : Result (List InputRead) Refusal) → result_err reads ≡ None → reads ≡ Ok (found_in reads)
+all-found (Ok reads) is = refl
+all-found (Err why) is = absurd (cc)
 
 -- What the sources of a merge were read of: of each file what it holds; then they got the Chapters and the times of text files, and were put
 -- in place.
@@ -449,44 +445,20 @@ pub record WereRead (world : List ℕ → Option (List ℕ)) (words : MergeWords
   pub placed : in_place (zip (contents_held world words) (timed_from given.times 0 (chaptered with_chapters words.webm given.chapters found))) ≡ sources
   pub unrefused : plan_refusal words (reads_of sources) ≡ None
 
-module _ (world : List ℕ → Option (List ℕ)) (words : MergeWords) (sources : List Source) where
-  abbrev contents : List (List ℕ)
-  contents = contents_held world words
-
-  with-contents : (given : TextFiles) → sources_with words given contents ≡ Ok sources → WereRead world words sources
-  with-contents given is =
-      let planned = then-ok (sources_read words given contents) (merge.unless_refused words) sources is in
-      let good = no-refusal (option_map Plan (plan_refusal words (reads_of planned.0))) planned.0 sources planned.1.1 in
-      let inputs = then-ok (inputs_with words given contents) _ planned.0 planned.1.0 in
-      let reads : List InputRead = inputs.0 in
-      let found = then-ok (inputs_of words contents) _ reads inputs.1.0 in
-      let chapters : ChapterFile = given.chapters in
-      let headed = then-ok (with_file with_chapters words.webm chapters found.0) (with_times given.times) reads found.1.1 in
-      let whole : chaptered with_chapters words.webm chapters found.0 ≡ headed.0 = all-alike (chapters_refusal chapters) (chaptered with_chapters words.webm chapters found.0) headed.0 headed.1.0 in
-      let timed : timed_from given.times 0 headed.0 ≡ reads = all-alike (times_refusal given.times) (timed_from given.times 0 headed.0) reads headed.1.1 in
-      let alike = then-ok (refused.unless (option_map Differs (append_refusal reads)) reads) _ planned.0 inputs.1.1 in
-      let made : in_place (zip contents alike.0) ≡ planned.0 = (let last = alike.1.1 in cc) in
-      let all : timed_from given.times 0 (chaptered with_chapters words.webm chapters found.0) ≡ alike.0 = ap (timed_from given.times 0) whole ∙ timed ∙ all-alike (option_map Differs (append_refusal reads)) reads alike.0 alike.1.0 in
-      record {
-        given = given;
-        found = found.0;
-        read = found.1.0;
-        placed = ap (λ (rs : List InputRead). in_place (zip contents rs)) all ∙ made ∙ good.1;
-        unrefused = ap (λ (each : List Source). plan_refusal words (reads_of each)) (sym good.1) ∙ unplanned (plan_refusal words (reads_of planned.0)) good.0;
-      }
-
-  settled-ok : (given : TextFiles) (why : Option Refusal) → refused.and_then (refused.unless why contents) (sources_with words given) ≡ Ok sources → sources_with words given contents ≡ Ok sources
-  settled-ok given None is = is
-  settled-ok given (Some why) is = absurd (cc)
-
-  -- The sources of a merge were read so.
-  pub were-read : sources_of world words ≡ Ok sources → WereRead world words sources
-  were-read is =
-      let begun = then-ok (refused.unless (option_map OutputIsInput (first_written words)) (text_files world words.chapters words.files)) (sources_beside world words) sources is in
-      let given : TextFiles = begun.0 in
-      let there = then-ok (contents_of world words.files) (sources_settled world words given) sources begun.1.1 in
-      let same = there-ok (first_missing world (file_names words.files)) contents there.0 there.1.0 in
-      with-contents given (settled-ok given (begun_refusal world words given) (ap (sources_settled world words given) same ∙ there.1.1))
+-- The sources of a merge were read so.
+pub were-read : (world : List ℕ → Option (List ℕ)) (words : MergeWords) (sources : List Source) → sources_of world words ≡ Ok sources → WereRead world words sources
+were-read world words sources is =
+    let contents = contents_held world words in
+    let all = sources_in words (texts_held world words) contents in
+    let good = no-refusal (first_cause (refusals world words)) all sources is in
+    let read = (none-stands (refusals world words) good.0).1.1.1.1 in
+    record {
+      given = texts_held world words;
+      found = found_in (inputs_of words contents);
+      read = all-found (inputs_of words contents) read.0;
+      placed = good.1;
+      unrefused = ap (λ (each : List Source). plan_refusal words (reads_of each)) (sym good.1) ∙ unplanned (plan_refusal words (reads_of all)) read.1.1.1.1.0;
+    }
 
 -- The sources of a merge can be written.
 pub sources-read : (words : MergeWords) (sources : List Source) → IsSoundMerge words → AreTexts words → (world : List ℕ → Option (List ℕ)) → HoldsOctets world → sources_of world words ≡ Ok sources → AreSources words sources

@@ -1,6 +1,8 @@
 -- An output that is merged alone is read as the one source of that merge.
-use Rattle.std.proofs.Common.{◌≡◌, ℕ, Bool, true, false, not, ◌&&◌, ◌||◌, if◌then◌else◌, List, [], ◌∷◌, length, zip, Option, None, Result, Ok, refl, ap, ◌∙◌}
-use Rattle.std.specs.Option.{option_map, option_or}
+use Rattle.std.proofs.Common.{◌≡◌, ℕ, Bool, true, false, not, ◌&&◌, ◌||◌, if◌then◌else◌, cond, List, [], ◌∷◌, length, zip, Option, Some, None, Result, Ok, refl, ap, ◌∙◌}
+use Rattle.std.specs.Prelude.{is_none, unwrap_or}
+use Rattle.std.specs.Option.{option_map}
+use Rattle.std.specs.Result.{result_err}
 use Rattle.mkv_io.specs.declared.damage.Damage.{Damage}
 use Rattle.ebml_numbers.specs.Number.{uint_width}
 use Rattle.mkv_schema.specs.Outline.{Outlined, outline_of}
@@ -22,14 +24,15 @@ use Rattle.merge_plan.specs.Places.{in_place}
 use Rattle.merge_plan.specs.Plan.{Source}
 use Rattle.merge_plan.specs.Refusal.{plan_refusal}
 use Rattle.merge_plan.specs.declared.refusal.PlanRefusal.{PlanRefusal}
-use Rattle.mkv_merge.specs.Chapters.{with_chapters, with_file}
-use Rattle.mkv_merge.specs.Merge.{sources_beside, sources_of, sources_settled, sources_with, status_of, unless_refused, verdict_of}
+use Rattle.mkv_merge.specs.Chapters.{chaptered, chapters_refusal, with_chapters}
+use Rattle.mkv_merge.specs.Merge.{refusals_read, sources_in, sources_of, status_of, verdict_of}
 use Rattle.mkv_merge.specs.Plain.{plain_file}
-use Rattle.mkv_merge.specs.Read.{numbered}
+use Rattle.mkv_merge.specs.Read.{first_written, found_in, inputs_of, numbered, pending_of}
+use Rattle.mkv_merge.specs.Refused.{first_cause}
 use Rattle.mkv_io.specs.Results.{and_then, unless}
-use Rattle.mkv_merge.specs.Texts.{missing_text, with_times}
+use Rattle.mkv_merge.specs.Texts.{missing_text, timed_from, times_refusal}
 use Rattle.mkv_merge.specs.declared.refusal.Refusal.{Refusal}
-use Rattle.mkv_merge.specs.declared.refusal.Refusal.TheVariants.{Differs, OutputIsInput, Plan}
+use Rattle.mkv_merge.specs.declared.refusal.Refusal.TheVariants.{Differs, Missing, OutputIsInput, Plan}
 use Rattle.repeated_merge.specs.AgainSources.{CanBegin, MergeIsDone, OutputsAreSources}
 use Rattle.repeated_merge.specs.Plain.{plain_merge}
 use Rattle.repeated_merge.specs.Repeat.{source_again}
@@ -73,26 +76,35 @@ module _ (world : List ℕ → Option (List ℕ)) (out name : List ℕ) (d : Doc
 
   -- ---- the one source
 
-  -- what a merge makes of what is read of its one input: the source, unless it goes on in no lane
-  abbrev placed_by : List InputRead → Result (List Source) Refusal
-  placed_by reads = and_then (unless (option_map Differs (append_refusal reads)) reads) (λ (alike : List InputRead). Ok (in_place (zip (layout d ∷ []) alike)))
+  -- what refuses a merge of the one input, of which this is read; and the sources
+  abbrev sources_by : List InputRead → List Source
+  sources_by reads = in_place (zip (layout d ∷ []) (timed_from texts.times 0 (chaptered with_chapters false texts.chapters reads)))
 
-  abbrev reads_by : Result InputRead InputRefusal → Result (List InputRead) Refusal
-  reads_by found =
-      and_then (and_then (numbered 0 found) (λ (read : InputRead). Ok (read ∷ [])))
-      (λ (reads : List InputRead). and_then (with_file with_chapters false texts.chapters reads) (with_times texts.times))
+  abbrev refusals_by : Result (List InputRead) Refusal → List (Option Refusal)
+  refusals_by found =
+      result_err found ∷ chapters_refusal texts.chapters ∷ times_refusal texts.times
+      ∷ option_map Differs (append_refusal (timed_from texts.times 0 (chaptered with_chapters false texts.chapters (found_in found))))
+      ∷ option_map Plan (plan_refusal words (reads_of (sources_by (found_in found)))) ∷ []
 
-  abbrev sources_by : Result InputRead InputRefusal → Result (List Source) Refusal
-  sources_by found = and_then (and_then (reads_by found) placed_by) (unless_refused words)
+  -- the same, of what the name holds, and of what is read of it
+  abbrev found_by : Option (List ℕ) → Option (List ℕ) → Option Refusal → Result (List InputRead) Refusal → Result (List Source) Refusal
+  found_by written held pending found =
+      unless (first_cause (option_map OutputIsInput written ∷ option_map Missing (cond (is_none held) (Some 0) None) ∷ missing_text texts ∷ pending ∷ refusals_by found)) (sources_by (found_in found))
+
+  -- what is read of the one input
+  abbrev read_by : Result InputRead InputRefusal → Result (List InputRead) Refusal
+  read_by found = and_then (numbered 0 found) (λ (read : InputRead). Ok (read ∷ []))
 
   one-source : CanBegin world words (layout d) → input_of (plain_file name) false 0 (layout d) ≡ Ok source.1 → plan_refusal words (reads_of (source ∷ [])) ≡ None
       → sources_of world words ≡ Ok (source ∷ [])
   one-source begun read planned =
-      ap (λ (written : Option (List ℕ)). and_then (unless (option_map OutputIsInput written) texts) (sources_beside world words)) begun.apart
-      ∙ ap (λ (contents : Result (List (List ℕ)) Refusal). and_then contents (sources_settled world words texts)) begun.there
-      ∙ ap (λ (pending : Option Refusal). and_then (unless (option_or (missing_text texts) pending) (layout d ∷ [])) (sources_with words texts)) begun.settled
-      ∙ ap sources_by read
-      ∙ ap (λ (why : Option PlanRefusal). unless (option_map Plan why) (source ∷ [])) planned
+      let held : world name ≡ Some (layout d) = cc (begun.there) in
+      ap (λ (o : Option (List ℕ)). unless (first_cause (option_map OutputIsInput (first_written words) ∷ option_map Missing (cond (is_none o) (Some 0) None) ∷ missing_text texts ∷ pending_of world words
+      ∷ refusals_read words texts (unwrap_or o [] ∷ []))) (sources_in words texts (unwrap_or o [] ∷ []))) held
+      ∙ ap (λ (o : Option (List ℕ)). found_by o (Some (layout d)) (pending_of world words) (inputs_of words (layout d ∷ []))) begun.apart
+      ∙ ap (λ (o : Option Refusal). found_by None (Some (layout d)) o (inputs_of words (layout d ∷ []))) begun.settled
+      ∙ ap (λ (found : Result InputRead InputRefusal). found_by None (Some (layout d)) None (read_by found)) read
+      ∙ ap (λ (why : Option PlanRefusal). unless (first_cause (option_map Plan why ∷ [])) (source ∷ [])) planned
 
 pub outputs-sources : OutputsAreSources
 outputs-sources world out name d r begun outlined records usable planned = one-source world out name d r begun (read-again world out name d r outlined records usable) planned

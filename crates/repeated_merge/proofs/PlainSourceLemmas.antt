@@ -26,15 +26,15 @@ use Rattle.merge_plan.specs.Plan.{Source}
 use Rattle.merge_plan.specs.Records.{tracks_taken}
 use Rattle.mkv_merge.specs.Chapters.{chaptered, first_with, with_chapters}
 use Rattle.mkv_merge.specs.Merge.{sources_of}
-use Rattle.mkv_merge.specs.Read.{inputs_from, numbered}
+use Rattle.mkv_merge.specs.Read.{contents_held, inputs_from, numbered}
 use Rattle.mkv_merge.specs.Texts.{listings_at, timed_from, with_listings}
 use Rattle.merged_outputs.specs.Laws.{SourcesAreRead}
-use Rattle.merged_outputs.specs.Sources.{IsReadSource}
-use Rattle.merged_outputs.proofs.DocumentLemmas.{title-is, tracks-are}
-use Rattle.merged_outputs.proofs.SourceLemmas.{contents_held, input-taken, numbered-ok, taken-all, then-ok, were-read}
+use Rattle.merged_outputs.specs.Sources.{IsReadSource, IsReadTrack}
+use Rattle.merged_outputs.proofs.DocumentLemmas.{all-tracks, title-is, tracks-are}
+use Rattle.merged_outputs.proofs.SourceLemmas.{input-taken, numbered-ok, taken-all, then-ok, were-read}
 use Rattle.repeated_merge.specs.PlainSources.{SourcesArePlain}
 use Rattle.repeated_merge.specs.Repeat.{IsUsual}
-use Rattle.repeated_merge.proofs.RepeatTrackLemmas.{HasUsualCues}
+use Rattle.repeated_merge.proofs.RepeatTrackLemmas.{HasUsualCues, IsOfTakenType}
 
 -- ---- the title
 

@@ -1,9 +1,10 @@
 -- An output that is merged alone is read as the one source of that merge: RFC 8794, section 8 (EBML Document). What refuses a merge, and how one ends, is this project's.
-use Rattle.std.specs.Prelude.{◌≡◌, ℕ, false, List, [], ◌∷◌, length, Option, None, Ok}
+use Rattle.std.specs.Prelude.{◌≡◌, ℕ, false, List, [], ◌∷◌, length, map, Option, Some, None, Ok}
 use Rattle.mkv_schema.specs.Outline.{outline_of}
 use Rattle.meta_records.specs.Records.{FileRecords, file_records}
 use Rattle.output_laws.specs.Reading.{header_of_segment, outline_of_document}
 use Rattle.output_model.specs.Document.{Document, layout}
+use Rattle.input_files.specs.Inputs.{file_names}
 use Rattle.merge_words.specs.declared.output.MergeWords.{MergeWords}
 use Rattle.merge_inputs.specs.Taken.{first_unusable, taken_from}
 use Rattle.merge_plan.specs.Front.{reads_of}
@@ -12,7 +13,7 @@ use Rattle.merge_plan.specs.Refusal.{plan_refusal}
 use Rattle.mkv_lines.specs.declared.status.Status.TheVariants.{Done}
 use Rattle.mkv_merge.specs.Merge.{has_damage, merge_verdict, sources_of}
 use Rattle.mkv_merge.specs.Plain.{plain_file}
-use Rattle.mkv_merge.specs.Read.{contents_of, first_written, pending_of}
+use Rattle.mkv_merge.specs.Read.{first_written, pending_of}
 use Rattle.repeated_merge.specs.Plain.{plain_merge}
 use Rattle.repeated_merge.specs.Repeat.{source_again}
 
@@ -20,7 +21,7 @@ use Rattle.repeated_merge.specs.Repeat.{source_again}
 -- and no edit is pending.
 pub record CanBegin (world : List ℕ → Option (List ℕ)) (words : MergeWords) (bytes : List ℕ) : Type 0 where
   pub apart : first_written words ≡ None
-  pub there : contents_of world words.files ≡ Ok (bytes ∷ [])
+  pub there : map world (file_names words.files) ≡ Some bytes ∷ []
   pub settled : pending_of world words ≡ None
 
 -- A merge of an output, without options, has the output as its one source, with the outline and the records that are read of it, where nothing refuses

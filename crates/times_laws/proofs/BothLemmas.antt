@@ -23,13 +23,6 @@ both-unless P None (Some why) x y same is = absurd (cc)
 both-unless P (Some why) None x y same is = absurd (cc)
 both-unless P (Some why) (Some because) x y same is = cc
 
--- the same refuses both, or what stands behind it is so
-pub both-past : {A B : Type 0} (Q : B → B → Type 0) (o p : Option Refusal) (x y : A) (f g : A → Result B Refusal) → o ≡ p → Both Q (f x) (g y) → Both Q (and_then (unless o x) f) (and_then (unless p y) g)
-both-past Q None None x y f g same both = both
-both-past Q None (Some why) x y f g same both = absurd (cc)
-both-past Q (Some why) None x y f g same both = absurd (cc)
-both-past Q (Some why) (Some because) x y f g same both = cc
-
 pub both-same : {A : Type 0} (P : A → A → Type 0) (r : Result A Refusal) → ((x : A) → r ≡ Ok x → P x x) → Both P r r
 both-same P (Ok x) holds = holds x refl
 both-same P (Err why) holds = refl

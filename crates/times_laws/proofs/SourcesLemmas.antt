@@ -1,7 +1,8 @@
 -- The sources of a merge whose words name one more file of times.
-use Rattle.std.proofs.Common.{◌≡◌, ◌<◌, ℕ, zero, suc, Bool, ◌&&◌, List, [], ◌∷◌, map, Option, Some, None, Result, Ok, refl, sym, ap, subst, not, is_none, unwrap_or, arith}
+use Rattle.std.proofs.Common.{◌≡◌, ◌<◌, ℕ, zero, suc, Bool, ◌&&◌, List, [], ◌∷◌, map, Option, Some, None, Result, Ok, Err, refl, sym, ap, subst, not, is_none, unwrap_or, arith}
 use Rattle.std.specs.List.{slice_get, zip}
 use Rattle.std.specs.Option.{option_map, option_or}
+use Rattle.std.specs.Result.{result_err}
 use Rattle.sidecar_edit.specs.Pending.{is_pending}
 use Rattle.tree_format.specs.Node.{Node}
 use Rattle.ext_times.specs.Listing.{Listing}
@@ -28,19 +29,19 @@ use Rattle.merge_plan.specs.Plan.{Source}
 use Rattle.merge_plan.specs.Records.{entries_of}
 use Rattle.merge_plan.specs.Refusal.{lanes_refusal, plan_refusal}
 use Rattle.merge_plan.specs.declared.refusal.PlanRefusal.TheVariants.{HeaderTooLarge}
-use Rattle.mkv_merge.specs.Chapters.{chaptered, chapters_refusal, first_with, missing_chapters, with_chapters, with_file}
-use Rattle.mkv_merge.specs.Merge as merge
-use Rattle.mkv_merge.specs.Merge.{sources_beside, sources_of, sources_read, sources_settled, sources_with}
-use Rattle.mkv_merge.specs.Read.{begun_refusal, contents_of, first_written, inputs_of, inputs_with, pending_refusal, unless_missing}
-use Rattle.mkv_io.specs.Results.{and_then, unless}
-use Rattle.mkv_merge.specs.Texts.{missing_times, times_refusal, timed_from, with_times}
+use Rattle.mkv_merge.specs.Chapters.{chaptered, chapters_refusal, first_with, missing_chapters, with_chapters}
+use Rattle.mkv_merge.specs.Merge.{refusals, refusals_read, sources_in, sources_of}
+use Rattle.mkv_merge.specs.Read.{first_written, found_in, inputs_of, pending_of, pending_refusal, reads_with}
+use Rattle.mkv_merge.specs.Refused.{first_cause}
+use Rattle.mkv_io.specs.Results.{unless}
+use Rattle.mkv_merge.specs.Texts.{missing_text, missing_times, times_refusal, timed_from}
 use Rattle.mkv_merge.specs.declared.refusal.Refusal.{Refusal}
-use Rattle.mkv_merge.specs.declared.refusal.Refusal.TheVariants.{Differs, OutputIsInput, Plan}
+use Rattle.mkv_merge.specs.declared.refusal.Refusal.TheVariants.{Differs, Missing, OutputIsInput, Plan}
 use Rattle.times_laws.specs.GivenBack.{World, untold, with_input}
 use Rattle.times_laws.proofs.GivenLemmas.{GivesTheSame}
 use Rattle.times_laws.proofs.BareLemmas.{AreAlike, differs-bare, records-bare, reads-same, same-of, tracks-bare, untimed}
 use Rattle.times_laws.proofs.AlikeLemmas.{AllAlike, At, ListsMore, placed-alike, timed-alike, timed-same}
-use Rattle.times_laws.proofs.BothLemmas.{Both, both-past, both-then, both-unless}
+use Rattle.times_laws.proofs.BothLemmas.{Both, both-unless}
 use Rattle.times_laws.proofs.InputsLemmas.{held_by, inputs-same, names-same}
 
 -- ---- inputs with the Chapters of a file
@@ -135,74 +136,61 @@ module _ (world : World) (words : MergeWords) (n : TimesName) (times : Listing) 
   inputs-both : Both Same (inputs_of more contents) (inputs_of words contents)
   inputs-both = inputs-same world words.webm new_words own own_alike Good gives n.input 0 0 words.files found
 
-  timed-both : (reads : List InputRead) → At n.input Good (zip contents reads) → Both AreTimed (with_times more_texts.times reads) (with_times texts.times reads)
-  timed-both reads good =
-      both-unless AreTimed (times_refusal more_texts.times) (times_refusal texts.times) (timed_from more_texts.times 0 reads) (timed_from texts.times 0 reads) refuses (record {
-        alike = timed-alike n.input n.id times more_texts.times texts.times lists n.input 0 contents reads (omega arith) good;
-        same = timed-same more_texts.times texts.times 0 reads;
-        has = timed-has n.id times texts.times n.input 0 contents reads good;
+  -- they are refused alike, and what is found is the same
+  found-both : (new old : Result (List InputRead) Refusal) → Both Same new old → (result_err new ≡ result_err old) × Same (found_in new) (found_in old)
+  found-both (Ok new) (Ok old) same = (refl, same)
+  found-both (Ok new) (Err why) never = absurd never
+  found-both (Err why) (Ok old) never = absurd never
+  found-both (Err why) (Err because) same = (ap (λ (e : Refusal). Some e) same, (refl, none contents))
+    where
+      none : (contents : List (List ℕ)) → At n.input Good (zip contents [])
+      none [] = tt
+      none (c ∷ cs) = tt
+
+  both : (result_err (inputs_of more contents) ≡ result_err (inputs_of words contents)) × Same (found_in (inputs_of more contents)) (found_in (inputs_of words contents))
+  both = found-both (inputs_of more contents) (inputs_of words contents) inputs-both
+
+  timed-both : AreTimed (reads_with more more_texts contents) (reads_with words texts contents)
+  timed-both =
+      let headed = chaptered with_chapters words.webm texts.chapters in
+      let old = headed (found_in (inputs_of words contents)) in
+      let good = chaptered-gives n.id times words.webm texts.chapters n.input contents (found_in (inputs_of words contents)) both.1.1 in
+      subst (λ (reads : List InputRead). AreTimed (timed_from more_texts.times 0 (headed reads)) (reads_with words texts contents)) (sym both.1.0) (record {
+        alike = timed-alike n.input n.id times more_texts.times texts.times lists n.input 0 contents old (omega arith) good;
+        same = timed-same more_texts.times texts.times 0 old;
+        has = timed-has n.id times texts.times n.input 0 contents old good;
       })
 
-  with-both : Both AreTimed (inputs_with more more_texts contents) (inputs_with words texts contents)
-  with-both =
-      both-then Same AreTimed (inputs_of more contents) (inputs_of words contents)
-      (λ (reads : List InputRead). and_then (with_file with_chapters words.webm texts.chapters reads) (with_times more_texts.times))
-      (λ (reads : List InputRead). and_then (with_file with_chapters words.webm texts.chapters reads) (with_times texts.times))
-      inputs-both
-      (λ new old is.
-      both-then Same AreTimed (with_file with_chapters words.webm texts.chapters new) (with_file with_chapters words.webm texts.chapters old) (with_times more_texts.times) (with_times texts.times)
-      (both-unless Same (chapters_refusal texts.chapters) (chapters_refusal texts.chapters) (chaptered with_chapters words.webm texts.chapters new) (chaptered with_chapters words.webm texts.chapters old) refl
-      (ap (chaptered with_chapters words.webm texts.chapters) is.0, chaptered-gives n.id times words.webm texts.chapters n.input contents old is.1))
-      (λ a b same. subst (λ (reads : List InputRead). Both AreTimed (with_times more_texts.times reads) (with_times texts.times b)) (sym same.0) (timed-both b same.1)))
-
-  placed-given : (new old : List InputRead) → AreTimed new old → AreGiven n (in_place (zip contents new)) (in_place (zip contents old))
-  placed-given new old are = record {
-    alike = placed-alike 0 (zip contents new) (zip contents old) are.alike;
-    has = placed-has n.id n.input 0 (zip contents old) are.has;
+  placed-given : AreGiven n (sources_in more more_texts contents) (sources_in words texts contents)
+  placed-given = record {
+    alike = placed-alike 0 (zip contents (reads_with more more_texts contents)) (zip contents (reads_with words texts contents)) timed-both.alike;
+    has = placed-has n.id n.input 0 (zip contents (reads_with words texts contents)) timed-both.has;
   }
 
-  -- inputs in their places
-  abbrev placed : List InputRead → Result (List Source) Refusal
-  placed reads = Ok (in_place (zip contents reads))
-
-  read-both : Both (AreGiven n) (sources_read more more_texts contents) (sources_read words texts contents)
-  read-both =
-      both-then AreTimed (AreGiven n) (inputs_with more more_texts contents) (inputs_with words texts contents)
-      (λ (reads : List InputRead). and_then (unless (option_map Differs (append_refusal reads)) reads) placed)
-      (λ (reads : List InputRead). and_then (unless (option_map Differs (append_refusal reads)) reads) placed)
-      with-both
-      (λ new old are. both-past (AreGiven n) (option_map Differs (append_refusal new)) (option_map Differs (append_refusal old)) new old placed placed
-      (ap (option_map Differs) (same-of append_refusal (differs-bare [] 0) new old are.same)) (placed-given new old are))
-
-  with-sources : Both (AreGiven n) (sources_with more more_texts contents) (sources_with words texts contents)
-  with-sources =
-      both-then (AreGiven n) (AreGiven n) (sources_read more more_texts contents) (sources_read words texts contents) (merge.unless_refused more) (merge.unless_refused words) read-both
-      (λ new old are. both-unless (AreGiven n) (option_map Plan (plan_refusal words (reads_of new))) (option_map Plan (plan_refusal words (reads_of old))) new old
-      (ap (option_map Plan) (same-of (plan_refusal words) (plan-bare words) (reads_of new) (reads_of old) (reads-same new old are.alike))) are)
+  -- the same refuses them
+  read-both : refusals_read more more_texts contents ≡ refusals_read words texts contents
+  read-both = λ i.
+      both.0 i
+      ∷ chapters_refusal texts.chapters
+      ∷ refuses i
+      ∷ option_map Differs (same-of append_refusal (differs-bare [] 0) (reads_with more more_texts contents) (reads_with words texts contents) timed-both.same i)
+      ∷ option_map Plan (same-of (plan_refusal words) (plan-bare words) (reads_of (sources_in more more_texts contents)) (reads_of (sources_in words texts contents))
+      (reads-same (sources_in more more_texts contents) (sources_in words texts contents) placed-given.alike) i)
+      ∷ []
 
   -- the names are the same
   names : file_names more.files ≡ file_names words.files
   names = names-same n.input new_words own words.files (ap (λ (file : FileWords). file.name) own_alike) found
 
-  begun : begun_refusal world more more_texts ≡ begun_refusal world words texts
-  begun = λ i. option_or (option_or (missing_chapters texts.chapters) (misses i)) (pending_refusal (first_pending world (names i)) (is_none words.split && is_pending world words.output))
-
-  settled-both : Both (AreGiven n) (sources_settled world more more_texts contents) (sources_settled world words texts contents)
-  settled-both = both-past (AreGiven n) (begun_refusal world more more_texts) (begun_refusal world words texts) contents contents (sources_with more more_texts) (sources_with words texts) begun with-sources
-
-  there : contents_of world more.files ≡ contents_of world words.files
-  there = ap (λ (all : List (List ℕ)). unless_missing (first_missing world all) (held_by world all)) names
-
-  beside-both : Both (AreGiven n) (sources_beside world more more_texts) (sources_beside world words texts)
-  beside-both =
-      subst (λ (r : Result (List (List ℕ)) Refusal). Both (AreGiven n) (and_then r (sources_settled world more more_texts)) (sources_beside world words texts)) (sym there)
-      (by_missing (first_missing world (file_names words.files)))
-    where
-      by_missing : (missing : Option ℕ) → Both (AreGiven n) (and_then (unless_missing missing contents) (sources_settled world more more_texts)) (and_then (unless_missing missing contents) (sources_settled world words texts))
-      by_missing None = settled-both
-      by_missing (Some input) = refl
+  -- what may refuse a merge of these words, whose inputs have these names
+  abbrev refusals_by : List (List ℕ) → List (Option Refusal)
+  refusals_by all =
+      option_map OutputIsInput (first_written more) ∷ option_map Missing (first_missing world all) ∷ missing_text more_texts
+      ∷ pending_refusal (first_pending world all) (is_none words.split && is_pending world words.output) ∷ refusals_read more more_texts (held_by world all)
 
   pub sources-both : Both (AreGiven n) (sources_of world more) (sources_of world words)
   sources-both =
-      both-past (AreGiven n) (option_map OutputIsInput (first_written more)) (option_map OutputIsInput (first_written words)) more_texts texts (sources_beside world more) (sources_beside world words)
-      (ap (option_map OutputIsInput) name_is) beside-both
+      subst (λ (all : List (List ℕ)). Both (AreGiven n) (unless (first_cause (refusals_by all)) (sources_in more more_texts (held_by world all))) (sources_of world words)) (sym names)
+      (both-unless (AreGiven n) (first_cause (refusals_by (file_names words.files))) (first_cause (refusals world words)) (sources_in more more_texts contents) (sources_in words texts contents)
+      (λ i. first_cause (option_map OutputIsInput (name_is i) ∷ option_map Missing (first_missing world (file_names words.files)) ∷ option_or (missing_chapters texts.chapters) (misses i) ∷ pending_of world words ∷ read-both i))
+      placed-given)
