@@ -1,15 +1,18 @@
 -- An output that is begun, and one that ends.
-use Rattle.std.proofs.Common.{◌≡◌, ◌≢◌, ◌≤◌, ◌<◌, ℕ, zero, suc, List, [], ◌∷◌, ◌++◌, length, map, All, get_or, true, false, ◌⊎◌, inl, inr, refl, sym, ap, ◌∙◌, arith}
+use Rattle.std.proofs.Common.{◌≡◌, ◌≤◌, ◌<◌, ℕ, zero, suc, List, [], ◌∷◌, ◌++◌, length, map, All, get_or, true, false, Result, ◌⊎◌, inl, inr, refl, sym, ap, ◌∙◌, arith}
 use Rattle.mkv_io.specs.declared.outside.FileId.{FileId}
 use Rattle.mkv_io.specs.Contents.{with_appended}
-use Rattle.mkv_io.specs.Asked.{AsksOnly}
-use Rattle.mkv_io.specs.LiveFiles.{LiveFiles, KeepsFiles, KeepsHolders}
+use Rattle.mkv_io.specs.Asked.{AsksFor}
+use Rattle.mkv_io.specs.LiveFiles.{LiveFiles}
 use Rattle.mkv_io.specs.Names.{Names, with_change, with_content}
+use Rattle.mkv_io.specs.Seen.{IsNewFile, ReadsNothing, SameLive, StaysAtClosing, StaysAtMaking}
 use Rattle.mkv_io.specs.Sources.{live_files, file_size}
 use Rattle.mkv_io.specs.Told.{Told}
 use Rattle.mkv_io.specs.Writing.{KeepsOthers}
+use Rattle.mkv_io.specs.declared.asked.Asked.TheVariants.{Made}
 use Rattle.mkv_io.specs.declared.reads.Reads.{Ghosts}
 use Rattle.mkv_io.specs.declared.files.Files as writing
+use Rattle.mkv_io.proofs.AskedLemmas.{asks-made}
 use Rattle.mkv_outputs.specs.Sinks.{EndsOnly}
 use Rattle.mkv_outputs.specs.Starts.{StandsInPart}
 use Rattle.mkv_outputs.specs.Written.{PassesSome}
@@ -32,49 +35,46 @@ use Rattle.cues_seekhead.proofs.DraftLemmas.{appended-to}
 
 -- ---- a file is made, or isn't
 
-pub KeepsOthers-unmade : {S : Type 0} (r : Ghosts S) (f : writing.Ghosts S) (name : List ℕ) (old new : S) → ((file : ℕ) → (live_files r old).live file ≡ true → file < f.given old) → ((file : ℕ) → (live_files r new).live file ≡ (live_files r old).live file) → f.given old ≤ f.given new
-    → KeepsHolders (live_files r old).live (f.holder old) (f.holder new) → KeepsFiles (live_files r old) (live_files r new) (λ file. (file < f.given old) × (f.holder old file ≢ name))
-    → AsksOnly [] (name ∷ []) (f.asked old) (f.asked new) → KeepsOthers r f (name ∷ []) old new
-KeepsOthers-unmade r f name old new numbered alive given holders others asks = record {
+pub KeepsOthers-unmade : {S T E : Type 0} (r : Ghosts S) (f : writing.Ghosts S) (name : List ℕ) (old new : S) (result : Result T E) → ((file : ℕ) → (live_files r old).live file ≡ true → file < f.given old)
+    → SameLive r old new → StaysAtMaking r f.holder f.given old new name → AsksFor (Made name) (f.asked old) (f.asked new) result → KeepsOthers r f (name ∷ []) old new
+KeepsOthers-unmade r f name old new result numbered alive stays asks = record {
   live = alive;
-  given = given;
-  holders = holders;
+  given = stays.given;
+  holders = stays.holders;
   others = λ file is. record {
     alive = alive file;
-    size = λ live. (others file (numbered file live, λ same. is.0 (sym same))).size live;
-    content = λ live. (others file (numbered file live, λ same. is.0 (sym same))).content live;
+    size = λ live. (stays.others file (numbered file live, λ same. is.0 (sym same))).size live;
+    content = λ live. (stays.others file (numbered file live, λ same. is.0 (sym same))).content live;
   };
-  asks = asks;
+  asks = asks-made [] name (f.asked old) (f.asked new) result asks;
 }
 
-pub MakesFile-created : {S : Type 0} (r : Ghosts S) (f : writing.Ghosts S) (name : List ℕ) (file : FileId) (old new : S) → ((other : ℕ) → (live_files r old).live other ≡ true → other < f.given old) → f.given old ≤ file.n → (live_files r new).live file.n ≡ true → f.holder new file.n ≡ name
-    → ((other : ℕ) → other ≢ file.n → (live_files r new).live other ≡ (live_files r old).live other) → f.given old ≤ f.given new
-    → KeepsHolders (live_files r old).live (f.holder old) (f.holder new) → KeepsFiles (live_files r old) (live_files r new) (λ other. (other < f.given old) × (f.holder old other ≢ name))
-    → AsksOnly [] (name ∷ []) (f.asked old) (f.asked new) → MakesFile r f name file old new
-MakesFile-created r f name file old new numbered newer live holder besides given holders others asks = record {
-  newer = newer;
-  live = live;
-  holder = holder;
-  besides = besides;
-  given = given;
-  holders = holders;
-  others = λ other is. others other (numbered other is.0, λ same. is.1.0 (sym same));
-  asks = asks;
+pub MakesFile-created : {S T E : Type 0} (r : Ghosts S) (f : writing.Ghosts S) (name : List ℕ) (file : FileId) (old new : S) (result : Result T E) → ((other : ℕ) → (live_files r old).live other ≡ true → other < f.given old)
+    → IsNewFile r f.holder f.given old new name file → StaysAtMaking r f.holder f.given old new name → AsksFor (Made name) (f.asked old) (f.asked new) result → MakesFile r f name file old new
+MakesFile-created r f name file old new result numbered is_new stays asks = record {
+  newer = is_new.number.0;
+  live = is_new.live;
+  holder = is_new.holder;
+  besides = is_new.alone;
+  given = stays.given;
+  holders = stays.holders;
+  others = λ other is. stays.others other (numbered other is.0, λ same. is.1.0 (sym same));
+  asks = asks-made [] name (f.asked old) (f.asked new) result asks;
 }
 
 -- a file ends
-pub EndsOnly-one : {S : Type 0} (r : Ghosts S) (f : writing.Ghosts S) (old new : S) (file : FileId) → (live_files r new).live file.n ≡ false → KeepsFiles (live_files r old) (live_files r new) (λ other. other ≢ file.n) → f.names new ≡ f.names old → f.given new ≡ f.given old
-    → KeepsHolders (live_files r new).live (f.holder old) (f.holder new) → f.writing_faults new ≡ f.writing_faults old → r.reading_faults new ≡ r.reading_faults old → r.octets_read new ≡ r.octets_read old → f.asked new ≡ f.asked old → EndsOnly r f old new (file ∷ [])
-EndsOnly-one r f old new file ended others names given holders writing reading octets asked = record {
+pub EndsOnly-one : {S : Type 0} (r : Ghosts S) (f : writing.Ghosts S) (old new : S) (file : FileId) → (live_files r new).live file.n ≡ false → StaysAtClosing r f.names f.holder f.given f.writing_faults f.asked old new file → ReadsNothing r old new
+    → EndsOnly r f old new (file ∷ [])
+EndsOnly-one r f old new file ended stays unread = record {
   ended = at;
-  others = λ other none. others other (λ same. none 0 file (omega arith) (sym same));
-  names = names;
-  given = given;
-  holders = holders;
-  asked = asked;
-  writing = writing;
-  reading = reading;
-  octets = octets;
+  others = λ other none. stays.others other (λ same. none 0 file (omega arith) (sym same));
+  names = stays.names;
+  given = stays.given;
+  holders = stays.holders;
+  asked = stays.asks;
+  writing = stays.writing;
+  reading = unread.reading;
+  octets = unread.octets;
 }
   where
     at : (k : ℕ) (d : FileId) → k < 1 → (live_files r new).live (get_or (file ∷ []) k d).n ≡ false

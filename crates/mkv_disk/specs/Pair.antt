@@ -1,8 +1,9 @@
 -- The two files of a disk: a medium, and the sidecar beside it.
-use Rattle.std.specs.Prelude.{◌≡◌, ℕ, zero, suc, true, List}
+use Rattle.std.specs.Prelude.{◌≡◌, ℕ, zero, suc, List, Option, Some}
 use Rattle.mkv_disk.specs.Image.{DiskFile, IsImage, clean}
 use Rattle.mkv_io.specs.declared.outside.FileId.{FileId}
-use Rattle.mkv_io.specs.LiveFiles.{LiveFiles}
+use Rattle.mkv_io.specs.Sources.{IsLive}
+use Rattle.mkv_io.specs.declared.reads.Reads.{Ghosts}
 use Rattle.mkv_disk.specs.declared.disk.TheConstants.{MEDIA, SIDECAR}
 
 pub record Pair : Type 0 where
@@ -36,6 +37,8 @@ IsSynced p = p ≡ both p.media.reads p.sidecar.reads
 abbrev pub IsPairWith : FileId → (DiskFile → DiskFile) → Pair → List ℕ → List ℕ → Type 0
 IsPairWith file change p = IsPairImage (on file.n change p)
 
--- Both files are live.
-abbrev pub AreBothLive : LiveFiles → Type 0
-AreBothLive files = (files.live MEDIA.n ≡ true) × (files.live SIDECAR.n ≡ true)
+-- Both files are live, and the medium that was opened last has this name.
+pub record OpensPair {S : Type 0} (r : Ghosts S) (opened : S → Option (List ℕ)) (disk : S) (name : List ℕ) : Type 0 where
+  pub media : IsLive r disk MEDIA
+  pub sidecar : IsLive r disk SIDECAR
+  pub name : opened disk ≡ Some name

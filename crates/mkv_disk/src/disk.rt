@@ -3,8 +3,9 @@
 ghost use Rattle.std.specs.Prelude.{◌≡◌, ◌↔◌, ℕ, ◌+◌, ◌<◌, ◌≤◌, max, Bool, true, false, List, length, Option, Some, None, OnOk, OnErr, IsErrOf, IsTrue};
 ghost use Rattle.mkv_io.specs.Faults.{HasCause, is_failure, is_open_failure};
 ghost use Rattle.mkv_disk.specs.Image.{written_at, cut_to, all_synced};
-ghost use Rattle.mkv_disk.specs.Pair.{AreBothLive, IsPairImage, IsPairWith, Pair, file_of, on};
+ghost use Rattle.mkv_disk.specs.Pair.{IsPairImage, IsPairWith, OpensPair, Pair, file_of, on};
 ghost use Rattle.mkv_disk.specs.Moments.{ChangesOne, LeavesOnly};
+ghost use Rattle.mkv_io.specs.Seen.{KeepsOtherCounts, ReadsNothing};
 ghost use Rattle.mkv_io.specs.Sources.{file_size, live_files};
 
 use mkv_io::{Failed, FileId, OpenFault, Reads};
@@ -49,8 +50,7 @@ pub trait Disk: Reads {
     /// there is made, empty.
     fn open_pair(&mut self, name: &str) -> Result<(), OpenFault>
         ensures missing { IsTrue told → IsErrOf result OpenFault.Missing ↔ (is_there self.old name.now ≡ false) }
-        ensures live { OnOk result (AreBothLive (live_files Self.Reads self.new)) }
-        ensures opened { OnOk result (opened self.new ≡ Some name.now) }
+        ensures opened { OnOk result (OpensPair Self.Reads opened self.new name.now) }
         ensures err { OnErr result (Self.standing self.new ≡ Self.standing self.old) }
 
         // No content changes, and neither does what a crash may leave.
@@ -58,8 +58,7 @@ pub trait Disk: Reads {
         ensures any_moment { IsTrue told → LeavesOnly moment left_since self.old self.new (IsPairImage (pair self.old)) }
 
         ensures cause { HasCause is_open_failure (Self.reading_faults self.old) (Self.reading_faults self.new) result }
-        ensures writing { writing_faults self.new ≡ writing_faults self.old }
-        ensures octets { Self.octets_read self.new ≡ Self.octets_read self.old };
+        ensures counts { KeepsOtherCounts Self.Reads writing_faults self.old self.new };
 
     /// Writes octets from `at` octets behind the file's first on, over others and past the end.
     fn write_at(&mut self, file: FileId, at: u64, bytes: &[u8]) -> Result<(), Failed>
@@ -72,8 +71,7 @@ pub trait Disk: Reads {
 
         ensures opened { opened self.new ≡ opened self.old }
         ensures cause { HasCause is_failure (writing_faults self.old) (writing_faults self.new) result }
-        ensures reading { Self.reading_faults self.new ≡ Self.reading_faults self.old }
-        ensures octets { Self.octets_read self.new ≡ Self.octets_read self.old };
+        ensures unread { ReadsNothing Self.Reads self.old self.new };
 
     /// Cuts a file to its first octets, so many of them.
     fn cut(&mut self, file: FileId, len: u64) -> Result<(), Failed>
@@ -86,8 +84,7 @@ pub trait Disk: Reads {
 
         ensures opened { opened self.new ≡ opened self.old }
         ensures cause { HasCause is_failure (writing_faults self.old) (writing_faults self.new) result }
-        ensures reading { Self.reading_faults self.new ≡ Self.reading_faults self.old }
-        ensures octets { Self.octets_read self.new ≡ Self.octets_read self.old };
+        ensures unread { ReadsNothing Self.Reads self.old self.new };
 
     /// Makes sure of what is read of a file: after Ok a crash leaves that and nothing else of it.
     fn sync(&mut self, file: FileId) -> Result<(), Failed>
@@ -99,8 +96,7 @@ pub trait Disk: Reads {
 
         ensures opened { opened self.new ≡ opened self.old }
         ensures cause { HasCause is_failure (writing_faults self.old) (writing_faults self.new) result }
-        ensures reading { Self.reading_faults self.new ≡ Self.reading_faults self.old }
-        ensures octets { Self.octets_read self.new ≡ Self.octets_read self.old };
+        ensures unread { ReadsNothing Self.Reads self.old self.new };
 
     /// A content that is told is what the pair reads.
     ghost contents: { (x : Self) → IsTrue told → ((Self.Reads.files (Self.Reads.standing x)).content 0 ≡ Some (pair x).media.reads) × ((Self.Reads.files (Self.Reads.standing x)).content 1 ≡ Some (pair x).sidecar.reads) };

@@ -1,12 +1,14 @@
 -- Calls that only write to live files, one after the other: laws for whoever writes files.
-use Rattle.std.proofs.Common.{◌≡◌, ◌≢◌, ◌≤◌, ℕ, Bool, true, false, MatchBool, List, [], ◌∷◌, Result, Ok, Err, refl, sym, ◌∙◌, ap, subst, arith}
+use Rattle.std.proofs.Common.{◌≡◌, ◌≤◌, ℕ, Bool, true, false, MatchBool, List, [], ◌∷◌, Result, Ok, Err, refl, sym, ◌∙◌, ap, subst, arith}
 use Rattle.mkv_io.specs.Asked.{IsBesides}
 use Rattle.mkv_io.specs.Faults.{HasCause, HasRisen}
-use Rattle.mkv_io.specs.LiveFiles.{IsSameFile, KeepsFiles, KeepsHolders, LiveFiles}
+use Rattle.mkv_io.specs.LiveFiles.{IsSameFile, KeepsHolders, LiveFiles}
 use Rattle.mkv_io.specs.Names.{AreOthers}
+use Rattle.mkv_io.specs.Seen.{ReadsNothing, StaysAtWriting}
 use Rattle.mkv_io.specs.Sources.{OnlyReads, live_files}
 use Rattle.mkv_io.specs.Writing.{KeepsOthers, UsesOnly, WritesOnly}
 use Rattle.mkv_io.proofs.AskedLemmas.{asks-more, asks-none}
+use Rattle.mkv_io.specs.declared.outside.FileId.{FileId}
 use Rattle.mkv_io.specs.declared.reads.Reads.{Ghosts}
 use Rattle.mkv_io.specs.declared.files.Files as writing
 
@@ -125,20 +127,21 @@ HasCause-later is_fault before now (Err fault) cause = step (is_fault fault) cau
     step false same = omega (arith, same)
 
 -- an append or an overwrite of a live file
-pub WritesOnly-one : {S T E : Type 0} (r : Ghosts S) (f : writing.Ghosts S) (old new : S) (file : ℕ) (is_fault : E → Bool) (result : Result T E)
-    → f.given new ≡ f.given old
-    → ((other : ℕ) → (live_files r new).live other ≡ (live_files r old).live other)
-    → KeepsFiles (live_files r old) (live_files r new) (λ other. f.holder old other ≢ f.holder old file)
-    → KeepsHolders (live_files r old).live (f.holder old) (f.holder new)
+pub WritesOnly-one : {S T E : Type 0} (r : Ghosts S) (f : writing.Ghosts S) (old new : S) (file : FileId) (is_fault : E → Bool) (result : Result T E)
+    → StaysAtWriting r f.holder f.given f.asked old new file
     → HasCause is_fault (f.writing_faults old) (f.writing_faults new) result
-    → r.reading_faults new ≡ r.reading_faults old
-    → r.octets_read new ≡ r.octets_read old
-    → f.asked new ≡ f.asked old
-    → WritesOnly r f (f.holder old file ∷ []) old new
-WritesOnly-one r f old new file is_fault result given alive others holders cause reading octets asked = record {
-  kept = record { live = alive; given = omega (arith, given); holders = holders; others = λ other differs. others other (λ same. differs.0 (sym same)); asks = asks-none (IsBesides [] (f.holder old file ∷ [])) (f.asked old) (f.asked new) asked };
-  given = given;
-  reading = reading;
-  octets = octets;
+    → ReadsNothing r old new
+    → WritesOnly r f (f.holder old file.n ∷ []) old new
+WritesOnly-one r f old new file is_fault result stays cause unread = record {
+  kept = record {
+    live = stays.alive;
+    given = let given = stays.given in omega (arith, given);
+    holders = stays.holders;
+    others = λ other differs. stays.others other (λ same. differs.0 (sym same));
+    asks = asks-none (IsBesides [] (f.holder old file.n ∷ [])) (f.asked old) (f.asked new) stays.asks;
+  };
+  given = stays.given;
+  reading = unread.reading;
+  octets = unread.octets;
   faults = HasCause-later is_fault (f.writing_faults old) (f.writing_faults new) result cause;
 }

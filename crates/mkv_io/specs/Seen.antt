@@ -1,13 +1,16 @@
 -- What a call makes of the live files, as they are seen before it and behind it.
-use Rattle.std.specs.Prelude.{◌≡◌, ◌≢◌, ◌<◌, ℕ, List, length, Result, IfOk}
-use Rattle.mkv_io.specs.LiveFiles.{Appends, AppendsPart, KeepsFiles, Overwrites, OverwritesWithin}
-use Rattle.mkv_io.specs.Names.{Names}
-use Rattle.mkv_io.specs.Sources.{content_of, live_files}
+use Rattle.std.specs.Prelude.{◌≡◌, ◌≢◌, ◌<◌, ◌≤◌, ℕ, List, [], length, Result, OnErr, IsErrOf}
+use Rattle.mkv_io.specs.LiveFiles.{Appends, AppendsPart, KeepsFiles, KeepsHolders, Overwrites, OverwritesWithin}
+use Rattle.mkv_io.specs.Names.{MayEmpty, Names, with_content}
+use Rattle.mkv_io.specs.Sources.{IsLive, content_of, file_size, live_files}
 use Rattle.mkv_io.specs.Told.{Told}
+use Rattle.mkv_io.specs.declared.asked.Asked.{Asked}
 use Rattle.mkv_io.specs.declared.outside.FileId.{FileId}
+use Rattle.mkv_io.specs.declared.outside.MakeFault.{MakeFault}
+use Rattle.mkv_io.specs.declared.outside.MakeFault.TheVariants as make_fault
 use Rattle.mkv_io.specs.declared.reads.Reads.{Ghosts}
 
--- The numbers that pass a test are those of live files where they were before.
+-- Of the numbers that pass a test the same are those of live files as before.
 abbrev pub StayLive : {S : Type 0} → Ghosts S → S → S → (ℕ → Type 0) → Type 0
 StayLive r old new Is = (file : ℕ) → Is file → (live_files r new).live file ≡ (live_files r old).live file
 
@@ -15,23 +18,17 @@ StayLive r old new Is = (file : ℕ) → Is file → (live_files r new).live fil
 abbrev pub SameLive : {S : Type 0} → Ghosts S → S → S → Type 0
 SameLive r old new = (file : ℕ) → (live_files r new).live file ≡ (live_files r old).live file
 
--- But for the file that is answered none became live, and none ended.
-abbrev pub OpensAlone : {S E : Type 0} → Ghosts S → S → S → Result FileId E → Type 0
-OpensAlone r old new result = IfOk result (λ file. StayLive r old new (λ other. other ≢ file.n))
-
 -- Every live file that passes a test has the length and the content that it had.
 abbrev pub FilesStay : {S : Type 0} → Ghosts S → S → S → (ℕ → Type 0) → Type 0
 FilesStay r old new Is = KeepsFiles (live_files r old) (live_files r new) Is
-
--- The file that is answered has the content of this name, where contents are told.
-abbrev pub HoldsContent : {S E : Type 0} → Ghosts S → S → Names → List ℕ → Result FileId E → Type 0
-HoldsContent r new names name result = IfOk result (λ file. Told names (λ world. content_of r new file ≡ world name))
 
 -- A file of a number below this one, and of another name.
 abbrev pub IsAnother : ℕ → (ℕ → List ℕ) → List ℕ → ℕ → Type 0
 IsAnother given holder name file = (file < given) × (holder file ≢ name)
 
--- These octets stand at the end of a file, which was opened under the name that it holds; or a first part of them does.
+-- ---- a call on one live file
+
+-- These octets stand at the end of a file, and of the content of its name; or a first part of them does.
 abbrev pub Adds : {S : Type 0} → Ghosts S → (S → Names) → (S → ℕ → List ℕ) → S → S → FileId → List ℕ → Type 0
 Adds r names holder old new file more = Appends (live_files r old) (live_files r new) (names old) (names new) file.n (holder old file.n) more
 
@@ -44,3 +41,75 @@ Puts r names holder old new file at now = Overwrites (live_files r old) (live_fi
 
 abbrev pub PutsSome : {S : Type 0} → Ghosts S → (S → Names) → (S → ℕ → List ℕ) → S → S → FileId → ℕ → List ℕ → Type 0
 PutsSome r names holder old new file at now = OverwritesWithin (live_files r old) (live_files r new) (names old) (names new) file.n (holder old file.n) at (length now)
+
+-- ---- the counts
+
+-- No octet is read, and no reading fails.
+pub record ReadsNothing {S : Type 0} (r : Ghosts S) (old new : S) : Type 0 where
+  pub reading : r.reading_faults new ≡ r.reading_faults old
+  pub octets : r.octets_read new ≡ r.octets_read old
+
+-- What can't be opened or read is counted alone: no writing failed, and no octet was read.
+pub record KeepsOtherCounts {S : Type 0} (r : Ghosts S) (writing_faults : S → ℕ) (old new : S) : Type 0 where
+  pub writing : writing_faults new ≡ writing_faults old
+  pub octets : r.octets_read new ≡ r.octets_read old
+
+-- ---- a file that is opened or made
+
+-- A number that was never given before is that of a live file, whose name is this one, and no other became live.
+pub record IsNewFile {S : Type 0} (r : Ghosts S) (holder : S → ℕ → List ℕ) (given : S → ℕ) (old new : S) (name : List ℕ) (file : FileId) : Type 0 where
+  pub number : (given old ≤ file.n) × (file.n < given new)
+  pub live : IsLive r new file
+  pub alone : StayLive r old new (λ other. other ≢ file.n)
+  pub holder : holder new file.n ≡ name
+
+-- A new file has the content that its name had, where contents are told.
+pub record IsOpenedFile {S : Type 0} (r : Ghosts S) (names : S → Names) (holder : S → ℕ → List ℕ) (given : S → ℕ) (old new : S) (name : List ℕ) (file : FileId) : Type 0 where
+  pub is_new : IsNewFile r holder given old new name file
+  pub content : Told (names old) (λ world. content_of r new file ≡ world name)
+
+-- A new file is empty, and so is the content of its name, whatever it was.
+pub record IsMadeFile {S : Type 0} (r : Ghosts S) (names : S → Names) (holder : S → ℕ → List ℕ) (given : S → ℕ) (old new : S) (name : List ℕ) (file : FileId) : Type 0 where
+  pub is_new : IsNewFile r holder given old new name file
+  pub size : file_size r new file ≡ 0
+  pub names : names new ≡ with_content (names old) name []
+
+-- What a call leaves that couldn't make a file: no other file is live, the content of the name is as before or empty,
+-- and after want of memory everything is as before.
+pub record LeavesUnmade {S T : Type 0} (r : Ghosts S) (names : S → Names) (old new : S) (name : List ℕ) (result : Result T MakeFault) : Type 0 where
+  pub live : OnErr result (SameLive r old new)
+  pub names : OnErr result (MayEmpty (names old) (names new) name)
+  pub memory : IsErrOf result make_fault.Memory → r.standing new ≡ r.standing old
+
+-- ---- what stays
+
+-- Where a file is opened all names and the files before it stay, and so do the counts of writing and of octets.
+pub record StaysAtOpening {S : Type 0} (r : Ghosts S) (names : S → Names) (holder : S → ℕ → List ℕ) (given writing_faults : S → ℕ) (old new : S) : Type 0 where
+  pub names : names new ≡ names old
+  pub others : FilesStay r old new (λ file. file < given old)
+  pub holders : KeepsHolders (live_files r old).live (holder old) (holder new)
+  pub counts : KeepsOtherCounts r writing_faults old new
+
+-- Where a file is made those before it stay live, and those of other names stay as they were.
+pub record StaysAtMaking {S : Type 0} (r : Ghosts S) (holder : S → ℕ → List ℕ) (given : S → ℕ) (old new : S) (name : List ℕ) : Type 0 where
+  pub given : given old ≤ given new
+  pub alive : StayLive r old new (λ file. file < given old)
+  pub others : FilesStay r old new (IsAnother (given old) (holder old) name)
+  pub holders : KeepsHolders (live_files r old).live (holder old) (holder new)
+
+-- Where a file is written the live files stay live, and those of other names stay as they were. None was asked for.
+pub record StaysAtWriting {S : Type 0} (r : Ghosts S) (holder : S → ℕ → List ℕ) (given : S → ℕ) (asked : S → List Asked) (old new : S) (file : FileId) : Type 0 where
+  pub given : given new ≡ given old
+  pub alive : SameLive r old new
+  pub others : FilesStay r old new (λ other. holder old other ≢ holder old file.n)
+  pub holders : KeepsHolders (live_files r old).live (holder old) (holder new)
+  pub asks : asked new ≡ asked old
+
+-- Where a file is closed all names and the other files stay. None was asked for, and none was written.
+pub record StaysAtClosing {S : Type 0} (r : Ghosts S) (names : S → Names) (holder : S → ℕ → List ℕ) (given writing_faults : S → ℕ) (asked : S → List Asked) (old new : S) (file : FileId) : Type 0 where
+  pub names : names new ≡ names old
+  pub given : given new ≡ given old
+  pub others : FilesStay r old new (λ other. other ≢ file.n)
+  pub holders : KeepsHolders (live_files r new).live (holder old) (holder new)
+  pub asks : asked new ≡ asked old
+  pub writing : writing_faults new ≡ writing_faults old

@@ -1,14 +1,13 @@
 //! Files that are opened by name, made, and written.
 
-ghost use Rattle.std.specs.Prelude.{◌≡◌, ◌≢◌, ◌⊎◌, ◌↔◌, ℕ, ◌+◌, ◌<◌, ◌≤◌, Bool, true, false, List, [], length, Option, Some, None, is_some, OnOk, OnErr, IfOk, IsErrOf, IsTrue};
+ghost use Rattle.std.specs.Prelude.{◌≡◌, ◌⊎◌, ◌↔◌, ℕ, ◌+◌, ◌<◌, ◌≤◌, Bool, true, false, List, length, Option, Some, None, is_some, OnOk, OnErr, IfOk, IsErrOf, IsTrue};
 ghost use Rattle.mkv_io.specs.Asked.{AsksFor};
 ghost use Rattle.mkv_io.specs.declared.asked.Asked.{Asked};
 ghost use Rattle.mkv_io.specs.declared.asked.Asked.TheVariants.{Opened, Made};
 ghost use Rattle.mkv_io.specs.Faults.{HasCause, is_failure, is_make_failure, is_open_failure, last_count};
-ghost use Rattle.mkv_io.specs.LiveFiles.{KeepsHolders};
-ghost use Rattle.mkv_io.specs.Names.{MayEmpty, Names, with_content};
-ghost use Rattle.mkv_io.specs.Seen.{Adds, AddsPart, FilesStay, HoldsContent, IsAnother, OpensAlone, Puts, PutsSome, SameLive, StayLive};
-ghost use Rattle.mkv_io.specs.Sources.{IsLive, content_of, file_size, live_files};
+ghost use Rattle.mkv_io.specs.Names.{Names};
+ghost use Rattle.mkv_io.specs.Seen.{Adds, AddsPart, IsMadeFile, IsOpenedFile, LeavesUnmade, Puts, PutsSome, ReadsNothing, StaysAtClosing, StaysAtMaking, StaysAtOpening, StaysAtWriting};
+ghost use Rattle.mkv_io.specs.Sources.{IsLive, file_size, live_files};
 ghost use Rattle.mkv_io.specs.Told.{Told};
 ghost use Rattle.mkv_io.specs.declared.outside.TheConstants.{LONGEST_FILE};
 
@@ -36,52 +35,32 @@ pub trait Files: Reads {
     /// Opens the file of a name.
     fn open_file(&mut self, name: &str) -> Result<FileId, OpenFault>
         ensures missing { Told (names self.old) (λ world. IsErrOf result OpenFault.Missing ↔ (world name.now ≡ None)) }
-        ensures number { IfOk result (λ file. (given self.old ≤ file.n) × (file.n < given self.new)) }
-        ensures live { IfOk result (λ file. IsLive Self.Reads self.new file) }
-        ensures alone { OpensAlone Self.Reads self.old self.new result }
-        ensures holder { IfOk result (λ file. holder self.new file.n ≡ name.now) }
-        ensures content { HoldsContent Self.Reads self.new (names self.old) name.now result }
+        ensures opened { IfOk result (IsOpenedFile Self.Reads names holder given self.old self.new name.now) }
 
         // At the last number no file is opened.
         ensures full { given self.old ≡ last_count → IsErrOf result OpenFault.Missing ⊎ IsErrOf result OpenFault.Failed }
 
-        // Names and the other files stay, and a refusal leaves everything but the count of faults.
+        // A refusal leaves everything but the count of faults.
         ensures err { OnErr result (Self.standing self.new ≡ Self.standing self.old) }
-        ensures names { names self.new ≡ names self.old }
-        ensures others { FilesStay Self.Reads self.old self.new (λ file. file < given self.old) }
-        ensures holders { KeepsHolders (live_files Self.Reads self.old).live (holder self.old) (holder self.new) }
+        ensures stays { StaysAtOpening Self.Reads names holder given writing_faults self.old self.new }
 
         ensures cause { HasCause is_open_failure (Self.reading_faults self.old) (Self.reading_faults self.new) result }
-        ensures asks { AsksFor (Opened name.now) (asked self.old) (asked self.new) result }
-        ensures writing { writing_faults self.new ≡ writing_faults self.old }
-        ensures octets { Self.octets_read self.new ≡ Self.octets_read self.old };
+        ensures asks { AsksFor (Opened name.now) (asked self.old) (asked self.new) result };
 
     /// Makes the content of a name empty, whatever it was, and opens it. After a refusal the
     /// content is as before or empty.
     fn create(&mut self, name: &str) -> Result<FileId, MakeFault>
-        ensures number { IfOk result (λ file. (given self.old ≤ file.n) × (file.n < given self.new)) }
-        ensures live { IfOk result (λ file. IsLive Self.Reads self.new file) }
-        ensures alone { OpensAlone Self.Reads self.old self.new result }
-        ensures holder { IfOk result (λ file. holder self.new file.n ≡ name.now) }
-        ensures size { IfOk result (λ file. file_size Self.Reads self.new file ≡ 0) }
-        ensures ok { OnOk result (names self.new ≡ with_content (names self.old) name.now []) }
+        ensures made { IfOk result (IsMadeFile Self.Reads names holder given self.old self.new name.now) }
 
         // At the last number no file is made.
         ensures full { given self.old ≡ last_count → IsErrOf result MakeFault.Failed }
 
-        // A refusal leaves no other file live, and after want of memory everything is as before.
-        ensures refused { OnErr result (SameLive Self.Reads self.old self.new) }
-        ensures err { OnErr result (MayEmpty (names self.old) (names self.new) name.now) }
-        ensures memory { IsErrOf result MakeFault.Memory → Self.standing self.new ≡ Self.standing self.old }
-        ensures given { given self.old ≤ given self.new }
-        ensures alive { StayLive Self.Reads self.old self.new (λ file. file < given self.old) }
-        ensures others { FilesStay Self.Reads self.old self.new (IsAnother (given self.old) (holder self.old) name.now) }
-        ensures holders { KeepsHolders (live_files Self.Reads self.old).live (holder self.old) (holder self.new) }
+        ensures refused { LeavesUnmade Self.Reads names self.old self.new name.now result }
+        ensures stays { StaysAtMaking Self.Reads holder given self.old self.new name.now }
 
         ensures asks { AsksFor (Made name.now) (asked self.old) (asked self.new) result }
         ensures cause { HasCause is_make_failure (writing_faults self.old) (writing_faults self.new) result }
-        ensures reading { Self.reading_faults self.new ≡ Self.reading_faults self.old }
-        ensures octets { Self.octets_read self.new ≡ Self.octets_read self.old };
+        ensures unread { ReadsNothing Self.Reads self.old self.new };
 
     /// Adds octets at the end of a live file. After `Failed` a first part of them is there.
     fn append(&mut self, file: FileId, bytes: &[u8]) -> Result<(), MakeFault>
@@ -93,16 +72,9 @@ pub trait Files: Reads {
         // No file grows past 2^48 octets.
         ensures short { LONGEST_FILE < file_size Self.Reads self.old file + length bytes.now → IsErrOf result MakeFault.Failed }
 
-        // The live files stay live, and those of other names stay as they were.
-        ensures given { given self.new ≡ given self.old }
-        ensures alive { SameLive Self.Reads self.old self.new }
-        ensures others { FilesStay Self.Reads self.old self.new (λ other. holder self.old other ≢ holder self.old file.n) }
-        ensures holders { KeepsHolders (live_files Self.Reads self.old).live (holder self.old) (holder self.new) }
-
-        ensures asks { asked self.new ≡ asked self.old }
+        ensures stays { StaysAtWriting Self.Reads holder given asked self.old self.new file }
         ensures cause { HasCause is_make_failure (writing_faults self.old) (writing_faults self.new) result }
-        ensures reading { Self.reading_faults self.new ≡ Self.reading_faults self.old }
-        ensures octets { Self.octets_read self.new ≡ Self.octets_read self.old };
+        ensures unread { ReadsNothing Self.Reads self.old self.new };
 
     /// Writes octets over those of a live file, from `at` octets behind its first on. After
     /// `Failed` those of the range may be anything.
@@ -112,30 +84,16 @@ pub trait Files: Reads {
         ensures ok { OnOk result (Puts Self.Reads names holder self.old self.new file at bytes.now) }
         ensures err { OnErr result (PutsSome Self.Reads names holder self.old self.new file at bytes.now) }
 
-        // The live files stay live, and those of other names stay as they were.
-        ensures given { given self.new ≡ given self.old }
-        ensures alive { SameLive Self.Reads self.old self.new }
-        ensures others { FilesStay Self.Reads self.old self.new (λ other. holder self.old other ≢ holder self.old file.n) }
-        ensures holders { KeepsHolders (live_files Self.Reads self.old).live (holder self.old) (holder self.new) }
-
-        ensures asks { asked self.new ≡ asked self.old }
+        ensures stays { StaysAtWriting Self.Reads holder given asked self.old self.new file }
         ensures cause { HasCause is_failure (writing_faults self.old) (writing_faults self.new) result }
-        ensures reading { Self.reading_faults self.new ≡ Self.reading_faults self.old }
-        ensures octets { Self.octets_read self.new ≡ Self.octets_read self.old };
+        ensures unread { ReadsNothing Self.Reads self.old self.new };
 
     /// Ends a live file. The content of its name stays.
     fn close(&mut self, file: FileId)
         requires { IsLive Self.Reads self.old file }
         ensures ended { (live_files Self.Reads self.new).live file.n ≡ false }
-        ensures names { names self.new ≡ names self.old }
-        ensures given { given self.new ≡ given self.old }
-        ensures others { FilesStay Self.Reads self.old self.new (λ other. other ≢ file.n) }
-        ensures holders { KeepsHolders (live_files Self.Reads self.new).live (holder self.old) (holder self.new) }
-
-        ensures asks { asked self.new ≡ asked self.old }
-        ensures writing { writing_faults self.new ≡ writing_faults self.old }
-        ensures reading { Self.reading_faults self.new ≡ Self.reading_faults self.old }
-        ensures octets { Self.octets_read self.new ≡ Self.octets_read self.old };
+        ensures stays { StaysAtClosing Self.Reads names holder given writing_faults asked self.old self.new file }
+        ensures unread { ReadsNothing Self.Reads self.old self.new };
 
     /// Where the names are told, a live file's content is that of the name under which it was opened.
     ghost named: { (x : Self) (file : ℕ) → (Self.Reads.files (Self.Reads.standing x)).live file ≡ true → Told (names x) (λ world. (Self.Reads.files (Self.Reads.standing x)).content file ≡ world (holder x file)) };

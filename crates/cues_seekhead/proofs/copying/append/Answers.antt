@@ -8,27 +8,27 @@ use Rattle.cues_seekhead.proofs.copying.append.Goals as goal
 -- the octets stand at the end
 pub returns : goal.returns
 returns g c =
-    let only = WritesOnly-one g.F.Reads g.F.Files c.args.files.now c.append.new.self c.args.file.n is_make_failure c.append.result
-    c.append.ensures.given c.append.ensures.alive c.append.ensures.others c.append.ensures.holders c.append.ensures.cause c.append.ensures.reading c.append.ensures.octets c.append.ensures.asks in
+    let only = WritesOnly-one g.F.Reads g.F.Files c.args.files.now c.append.new.self c.args.file is_make_failure c.append.result
+    c.append.ensures.stays c.append.ensures.cause c.append.ensures.unread in
     record {
       appended = c.in_ok-append.ensures.ok.names;
       size = c.in_ok-append.ensures.ok.size;
       kept = only.kept;
-      cause = record { reading = c.append.ensures.reading; writing = c.in_ok-append.ensures.cause };
-      reads = omega (arith, c.append.ensures.octets);
+      cause = record { reading = c.append.ensures.unread.reading; writing = c.in_ok-append.ensures.cause };
+      reads = omega (arith, c.append.ensures.unread.octets);
     }
 
 -- a first part of them does
 pub returns-in_err-append : goal.returns-in_err-append
 returns-in_err-append g c =
     let p = err_from_is_err_and c.from_residual.result c.from_residual.ensures.1 in
-    let only = WritesOnly-one g.F.Reads g.F.Files c.args.files.now c.append.new.self c.args.file.n is_make_failure c.append.result
-    c.append.ensures.given c.append.ensures.alive c.append.ensures.others c.append.ensures.holders c.append.ensures.cause c.append.ensures.reading c.append.ensures.octets c.append.ensures.asks in
+    let only = WritesOnly-one g.F.Reads g.F.Files c.args.files.now c.append.new.self c.args.file is_make_failure c.append.result
+    c.append.ensures.stays c.append.ensures.cause c.append.ensures.unread in
     rw (p.1, p.2) (record {
       appended = PassesSome-refused c.in_err-append.field-0.0 _ _ _ _ c.args.file.n _ c.args.octets.now c.in_err-append.ensures.failed
           (λ is. g.met.F.Files.names_stand c.append.new.self c.args.files.now (c.in_err-append.ensures.memory is));
       size = tt;
       kept = only.kept;
-      cause = cause-make (Unit {0}) g.F.Reads g.F.Files c.args.files.now c.append.new.self c.in_err-append.field-0.0 c.append.ensures.reading c.in_err-append.ensures.cause;
-      reads = omega (arith, c.append.ensures.octets);
+      cause = cause-make (Unit {0}) g.F.Reads g.F.Files c.args.files.now c.append.new.self c.in_err-append.field-0.0 c.append.ensures.unread.reading c.in_err-append.ensures.cause;
+      reads = omega (arith, c.append.ensures.unread.octets);
     })

@@ -12,19 +12,19 @@ loop-id-preserved g c =
     let at : (d : FileId) → get_or c.args.ids.now c.loop-id.id-index d ≡ closed =
     λ d. get_or_default c.args.ids.now c.loop-id.id-index d (record { n = 0 }) c.loop-id-test.true in
     let more = closed-more (g.F.Reads.files (g.F.Reads.standing c.loop-id.files)).live (g.F.Reads.files (g.F.Reads.standing c.close.new.self)).live c.args.ids.now c.loop-id.id-index closed
-    c.requires.rising c.loop-id-test.true at c.close.ensures.ended (λ file other. (c.close.ensures.others file other).alive) c.loop-id.invariant.ended c.loop-id.invariant.left in
+    c.requires.rising c.loop-id-test.true at c.close.ensures.ended (λ file other. (c.close.ensures.stays.others file other).alive) c.loop-id.invariant.ended c.loop-id.invariant.left in
     record {
       ended = more.0;
       left = more.1;
       others = λ file other. IsSameFile-twice _ _ _ file (c.loop-id.invariant.others file other)
-          (c.close.ensures.others file (λ same. other c.loop-id.id-index (record { n = 0 }) c.loop-id-test.true (sym same)));
-      names = c.close.ensures.names ∙ c.loop-id.invariant.names;
+          (c.close.ensures.stays.others file (λ same. other c.loop-id.id-index (record { n = 0 }) c.loop-id-test.true (sym same)));
+      names = c.close.ensures.stays.names ∙ c.loop-id.invariant.names;
       holders = λ file live.
           let other = still-live (g.F.Reads.files (g.F.Reads.standing c.close.new.self)).live closed.n file c.close.ensures.ended live in
-          c.close.ensures.holders file live ∙ c.loop-id.invariant.holders file (sym (c.close.ensures.others file other).alive ∙ live);
-      numbers = c.close.ensures.given ∙ c.loop-id.invariant.numbers;
-      asked = c.close.ensures.asks ∙ c.loop-id.invariant.asked;
-      writing = c.close.ensures.writing ∙ c.loop-id.invariant.writing;
-      reading = c.close.ensures.reading ∙ c.loop-id.invariant.reading;
-      octets = c.close.ensures.octets ∙ c.loop-id.invariant.octets;
+          c.close.ensures.stays.holders file live ∙ c.loop-id.invariant.holders file (sym (c.close.ensures.stays.others file other).alive ∙ live);
+      numbers = c.close.ensures.stays.given ∙ c.loop-id.invariant.numbers;
+      asked = c.close.ensures.stays.asks ∙ c.loop-id.invariant.asked;
+      writing = c.close.ensures.stays.writing ∙ c.loop-id.invariant.writing;
+      reading = c.close.ensures.unread.reading ∙ c.loop-id.invariant.reading;
+      octets = c.close.ensures.unread.octets ∙ c.loop-id.invariant.octets;
     }

@@ -24,7 +24,7 @@ returns-in-Err-clause-refused g c =
     c.args.files.now c.loop-k.files c.open_file.new.self c.close_all.new.files c.loop-k.ids.items
     c.loop-k.invariant.opens
     (UsesOnly-unopened g.F.Reads g.F.Files name c.loop-k.files c.open_file.new.self fault
-    (g.met.F.Files.given_stands c.open_file.new.self c.loop-k.files fault) c.open_file.ensures.holders
+    (g.met.F.Files.given_stands c.open_file.new.self c.loop-k.files fault) c.open_file.ensures.stays.holders
     (asks-opened name [] (g.F.Files.asked c.loop-k.files) (g.F.Files.asked c.open_file.new.self) c.open_file.result c.open_file.ensures.asks))
     (subst (EndsOnly g.F.Reads g.F.Files c.open_file.new.self c.close_all.new.files) c.as_slice.ensures.value c.close_all.ensures))
 
@@ -37,13 +37,13 @@ loop-k-preserved g c = record {
       (sym (names-more c.args.words.now c.loop-k.k c.index-words-k.result c.as_str.result.now c.loop-k-test.true c.index-words-k.is c.as_str.ensures.same))
       (OpensInputs-more g.F.Reads g.F.Files (file_names (take c.loop-k.k c.args.words.now)) c.as_str.result.now c.args.files.now c.loop-k.files c.open_file.new.self c.loop-k.ids.items c.in-Ok.file
       g.met.F.Files.numbered c.loop-k.invariant.opens (record {
-        least = c.in-Ok.ensures.number.0;
-        most = c.in-Ok.ensures.number.1;
-        live = c.in-Ok.ensures.live;
-        alone = c.in-Ok.ensures.alone;
-        holder = c.in-Ok.ensures.holder;
-        holders = c.open_file.ensures.holders;
-        others = c.open_file.ensures.others;
+        least = c.in-Ok.ensures.opened.is_new.number.0;
+        most = c.in-Ok.ensures.opened.is_new.number.1;
+        live = c.in-Ok.ensures.opened.is_new.live;
+        alone = c.in-Ok.ensures.opened.is_new.alone;
+        holder = c.in-Ok.ensures.opened.is_new.holder;
+        holders = c.open_file.ensures.stays.holders;
+        others = c.open_file.ensures.stays.others;
         asks = asks-opened c.as_str.result.now [] (g.F.Files.asked c.loop-k.files) (g.F.Files.asked c.open_file.new.self) c.open_file.result c.open_file.ensures.asks;
       })));
   missing = λ world told.
@@ -51,9 +51,9 @@ loop-k-preserved g c = record {
       ∙ missing-passed world c.args.words.now c.loop-k.k c.index-words-k.result c.loop-k-test.true c.index-words-k.is
       (λ none. let refused = (c.in-Ok.ensures.missing world (c.loop-k.invariant.same.names ∙ told)).1 (ap world c.as_str.ensures.same ∙ none) in absurd (cc));
   same = record {
-    names = c.open_file.ensures.names ∙ c.loop-k.invariant.same.names;
-    writing = c.open_file.ensures.writing ∙ c.loop-k.invariant.same.writing;
-    octets = c.open_file.ensures.octets ∙ c.loop-k.invariant.same.octets;
+    names = c.open_file.ensures.stays.names ∙ c.loop-k.invariant.same.names;
+    writing = c.open_file.ensures.stays.counts.writing ∙ c.loop-k.invariant.same.writing;
+    octets = c.open_file.ensures.stays.counts.octets ∙ c.loop-k.invariant.same.octets;
   };
   count = c.push_reserved.ensures.len ∙ ap (λ (n : ℕ). n + 1) c.loop-k.invariant.count;
   room = c.push_reserved.ensures.capacity ∙ c.loop-k.invariant.room;

@@ -17,7 +17,7 @@ extract_settled-ended-requires g c = record {
   done = c.requires.job;
   live = search rules;
   other =
-      others-input c.args.name.now (g.F.Files.holder c.open_file.new.self c.in-Ok.file.n) c.args.job.now (sym c.in-Ok-None.ensures ∙ ap option_copied c.in-Ok-None.field-0-is) c.in-Ok.ensures.holder;
+      others-input c.args.name.now (g.F.Files.holder c.open_file.new.self c.in-Ok.file.n) c.args.job.now (sym c.in-Ok-None.ensures ∙ ap option_copied c.in-Ok-None.field-0-is) c.in-Ok.ensures.opened.is_new.holder;
 }
 
 -- the name of the sidecar couldn't be made
@@ -31,13 +31,13 @@ pub returns-in-Err-Failed-clause-verdict : goal.returns-in-Err-Failed-clause-ver
 returns-in-Err-Failed-clause-verdict g c = λ world told.
     IsStopped-before (seen_in g.F.Reads g.F.Files g.P.Report c.args.files.now c.args.report.now)
     (seen_in g.F.Reads g.F.Files g.P.Report c.open_file.new.self c.args.report.now)
-    (extract_verdict world c.args.name.now c.args.job.now) refl c.open_file.ensures.names
+    (extract_verdict world c.args.name.now c.args.job.now) refl c.open_file.ensures.stays.names
 
 pub returns-in-Err-Memory-clause-verdict : goal.returns-in-Err-Memory-clause-verdict
 returns-in-Err-Memory-clause-verdict g c = λ world told.
     IsStopped-before (seen_in g.F.Reads g.F.Files g.P.Report c.args.files.now c.args.report.now)
     (seen_in g.F.Reads g.F.Files g.P.Report c.open_file.new.self c.args.report.now)
-    (extract_verdict world c.args.name.now c.args.job.now) refl c.open_file.ensures.names
+    (extract_verdict world c.args.name.now c.args.job.now) refl c.open_file.ensures.stays.names
 
 -- the file was asked for all the same
 pub returns-in-Err-Missing-clause-asks : goal.returns-in-Err-Missing-clause-asks
@@ -56,4 +56,4 @@ returns-in-Err-Memory-clause-asks g c =
 pub returns-clause-asks : goal.returns-clause-asks
 returns-clause-asks g c =
     asks-extracted c.args.name.now (names_for c.args.job.now) (g.F.Files.asked c.args.files.now) (g.F.Files.asked c.open_file.new.self) (g.F.Files.asked c.extract_settled-ended.new.files) (g.F.Files.asked c.close.new.self) c.open_file.result
-    c.open_file.ensures.asks c.extract_settled-ended.ensures.asks c.close.ensures.asks
+    c.open_file.ensures.asks c.extract_settled-ended.ensures.asks c.close.ensures.stays.asks

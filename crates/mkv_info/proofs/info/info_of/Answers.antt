@@ -15,25 +15,25 @@ pub returns-in-Err-Failed-clause-verdict : goal.returns-in-Err-Failed-clause-ver
 returns-in-Err-Failed-clause-verdict g c = λ world told.
     IsStopped-before (seen_in g.F.Reads g.F.Files g.P.Report c.args.files.now c.args.report.now)
     (seen_in g.F.Reads g.F.Files g.P.Report c.open_file.new.self c.args.report.now)
-    (info_verdict c.args.form world c.args.name.now) refl c.open_file.ensures.names
+    (info_verdict c.args.form world c.args.name.now) refl c.open_file.ensures.stays.names
 
 pub returns-in-Err-Memory-clause-verdict : goal.returns-in-Err-Memory-clause-verdict
 returns-in-Err-Memory-clause-verdict g c = λ world told.
     IsStopped-before (seen_in g.F.Reads g.F.Files g.P.Report c.args.files.now c.args.report.now)
     (seen_in g.F.Reads g.F.Files g.P.Report c.open_file.new.self c.args.report.now)
-    (info_verdict c.args.form world c.args.name.now) refl c.open_file.ensures.names
+    (info_verdict c.args.form world c.args.name.now) refl c.open_file.ensures.stays.names
 
 -- the file was there
 pub returns-clause-verdict : goal.returns-clause-verdict
 returns-clause-verdict g c = λ world told.
     let name = c.args.name.now in
-    let opened = c.open_file.ensures.names in
+    let opened = c.open_file.ensures.stays.names in
     reaches-settled (seen_in g.F.Reads g.F.Files g.P.Report c.args.files.now c.args.report.now)
     (seen_in g.F.Reads g.F.Files g.P.Report c.close.new.self c.tell_settled-ended.new.report)
     c.tell_settled-ended.result c.args.form name (is_pending world name) (world name)
     (λ none. let refused = (c.in-Ok.ensures.missing world told).1 none in absurd (cc))
-    (λ bytes is. c.tell_settled-ended.ensures.verdict world (opened ∙ told) bytes (c.in-Ok.ensures.content world told ∙ is))
-    (c.close.ensures.names ∙ c.tell_settled-ended.ensures.looks.names ∙ opened)
+    (λ bytes is. c.tell_settled-ended.ensures.verdict world (opened ∙ told) bytes (c.in-Ok.ensures.opened.content world told ∙ is))
+    (c.close.ensures.stays.names ∙ c.tell_settled-ended.ensures.looks.names ∙ opened)
 
 -- it was asked for all the same
 pub returns-in-Err-Missing-clause-asks : goal.returns-in-Err-Missing-clause-asks
@@ -52,4 +52,4 @@ returns-in-Err-Memory-clause-asks g c =
 pub returns-clause-asks : goal.returns-clause-asks
 returns-clause-asks g c =
     asks-told c.args.name.now (g.F.Files.asked c.args.files.now) (g.F.Files.asked c.open_file.new.self) (g.F.Files.asked c.tell_settled-ended.new.files) (g.F.Files.asked c.close.new.self) c.open_file.result
-    c.open_file.ensures.asks c.tell_settled-ended.ensures.looks.kept.asks c.close.ensures.asks
+    c.open_file.ensures.asks c.tell_settled-ended.ensures.looks.kept.asks c.close.ensures.stays.asks

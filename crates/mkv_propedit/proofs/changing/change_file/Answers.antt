@@ -15,8 +15,8 @@ use Rattle.mkv_propedit.proofs.changing.change_file.Goals as goal
 
 pub change_open-requires : goal.change_open-requires
 change_open-requires g c = record {
-  media = c.in-Ok.ensures.live.0;
-  sidecar = c.in-Ok.ensures.live.1;
+  media = c.in-Ok.ensures.opened.media;
+  sidecar = c.in-Ok.ensures.opened.sidecar;
   at_rest = λ tells. subst IsSynced (sym (c.open_pair.ensures.pair tells)) (c.requires tells);
 }
 
@@ -31,7 +31,7 @@ returns-in-Ok-clause-verdict g c = λ tells.
 pub returns-in-Ok-clause-edit : goal.returns-in-Ok-clause-edit
 returns-in-Ok-clause-edit g c = record {
   leaves = edit-then g.D.Disk (writes_of_change c.args.change.now) c.args.disk.now c.open_pair.new.self c.change_open.new.disk (status_of c.change_open.result) c.requires c.open_pair.ensures.pair c.open_pair.ensures.any_moment c.change_open.ensures.edit;
-  opened = inl (c.change_open.ensures.stays.opened ∙ c.in-Ok.ensures.opened);
+  opened = inl (c.change_open.ensures.stays.opened ∙ c.in-Ok.ensures.opened.name);
 }
 
 pub returns-in-Ok-clause-octets : goal.returns-in-Ok-clause-octets
@@ -40,12 +40,12 @@ returns-in-Ok-clause-octets g c = λ tells.
     let size = g.met.D.Reads.told_size (g.D.Reads.standing b) 0 (g.D.Disk.pair b).media.reads (g.met.D.Disk.contents b tells).0 in
     let same = ap (λ (p : Pair). length p.media.reads) (c.open_pair.ensures.pair tells) in
     let most = ap (most_to_plan_change c.args.change.now) (sym size ∙ same) in
-    omega (arith, most, c.change_open.ensures.stays.octets, c.open_pair.ensures.octets)
+    omega (arith, most, c.change_open.ensures.stays.octets, c.open_pair.ensures.counts.octets)
 
 pub returns-in-Ok-clause-cause : goal.returns-in-Ok-clause-cause
 returns-in-Ok-clause-cause g c =
     stop-then g.D.Reads g.D.Disk c.args.disk.now c.open_pair.new.self c.change_open.new.disk (g.R.Report.faults c.args.report.now) (g.R.Report.faults c.change_open.new.report) c.change_open.result
-    (record { reading = c.in-Ok.ensures.cause; writing = c.open_pair.ensures.writing }) c.change_open.ensures.cause
+    (record { reading = c.in-Ok.ensures.cause; writing = c.open_pair.ensures.counts.writing }) c.change_open.ensures.cause
 
 -- ---- it isn't
 

@@ -13,8 +13,8 @@ use Rattle.mkv_propedit.proofs.recovering.recover_of.Goals as goal
 
 pub recover_open-requires : goal.recover_open-requires
 recover_open-requires g c = record {
-  media = c.in-Ok.ensures.live.0;
-  sidecar = c.in-Ok.ensures.live.1;
+  media = c.in-Ok.ensures.opened.media;
+  sidecar = c.in-Ok.ensures.opened.sidecar;
   at_rest = λ tells. subst IsSynced (sym (c.open_pair.ensures.pair tells)) (c.requires tells);
 }
 
@@ -30,13 +30,13 @@ returns-in-Ok-clause-recovery g c =
     let a = c.args.disk.now in let b = c.open_pair.new.self in
     record {
       leaves = recovery-then g.D.Disk a b c.recover_open.new.disk (status_of c.recover_open.result) c.requires c.open_pair.ensures.pair c.open_pair.ensures.any_moment c.recover_open.ensures.recovery;
-      opened = inl (c.recover_open.ensures.stays.opened ∙ c.in-Ok.ensures.opened);
+      opened = inl (c.recover_open.ensures.stays.opened ∙ c.in-Ok.ensures.opened.name);
     }
 
 pub returns-in-Ok-clause-cause : goal.returns-in-Ok-clause-cause
 returns-in-Ok-clause-cause g c =
     stop-then g.D.Reads g.D.Disk c.args.disk.now c.open_pair.new.self c.recover_open.new.disk (g.R.Report.faults c.args.report.now) (g.R.Report.faults c.recover_open.new.report) c.recover_open.result
-    (record { reading = c.in-Ok.ensures.cause; writing = c.open_pair.ensures.writing }) c.recover_open.ensures.cause
+    (record { reading = c.in-Ok.ensures.cause; writing = c.open_pair.ensures.counts.writing }) c.recover_open.ensures.cause
 
 -- ---- it isn't
 

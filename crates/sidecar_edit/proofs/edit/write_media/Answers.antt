@@ -68,8 +68,8 @@ loop-place-preserved g c =
       only = record {
         live = λ file. c.write_at.ensures.others.live file ∙ was.live file;
         opened = c.write_at.ensures.opened ∙ was.opened;
-        reading = c.write_at.ensures.reading ∙ was.reading;
-        octets = c.write_at.ensures.octets ∙ was.octets;
+        reading = c.write_at.ensures.unread.reading ∙ was.reading;
+        octets = c.write_at.ensures.unread.octets ∙ was.octets;
         writing = let faults = c.in_ok-write_at.ensures.cause ∙ c.loop-place.invariant.faults in omega (arith, faults);
       };
       faults = c.in_ok-write_at.ensures.cause ∙ c.loop-place.invariant.faults;

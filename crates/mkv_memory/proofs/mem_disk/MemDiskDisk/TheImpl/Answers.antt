@@ -22,8 +22,7 @@ write_at-tells c =
       others = makes-others old new file change c.result live c.ensures.exact;
       opened = makes-opened old new file change c.result c.ensures.exact;
       cause = c.ensures.cause;
-      reading = makes-reading old new file change c.result c.ensures.exact;
-      octets = makes-octets old new file change c.result c.ensures.exact;
+      unread = record { reading = makes-reading old new file change c.result c.ensures.exact; octets = makes-octets old new file change c.result c.ensures.exact };
     }
 
 pub cut-tells : goal.cut-tells
@@ -38,8 +37,7 @@ cut-tells c =
       others = makes-others old new file change c.result live c.ensures.exact;
       opened = makes-opened old new file change c.result c.ensures.exact;
       cause = c.ensures.cause;
-      reading = makes-reading old new file change c.result c.ensures.exact;
-      octets = makes-octets old new file change c.result c.ensures.exact;
+      unread = record { reading = makes-reading old new file change c.result c.ensures.exact; octets = makes-octets old new file change c.result c.ensures.exact };
     }
 
 pub sync-tells : goal.sync-tells
@@ -54,6 +52,5 @@ sync-tells c =
       others = makes-others old new file change c.result live c.ensures.exact;
       opened = makes-opened old new file change c.result c.ensures.exact;
       cause = c.ensures.cause;
-      reading = makes-reading old new file change c.result c.ensures.exact;
-      octets = makes-octets old new file change c.result c.ensures.exact;
+      unread = record { reading = makes-reading old new file change c.result c.ensures.exact; octets = makes-octets old new file change c.result c.ensures.exact };
     }

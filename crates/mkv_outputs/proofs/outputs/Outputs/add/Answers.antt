@@ -17,7 +17,7 @@ returns-in_err-reserve-clause-gives g c = Gives-refused g.F.Files _ _ c.from_res
 
 -- a refused making leaves the name as it was, or empty
 pub returns-in_err-file-clause-gives : goal.returns-in_err-file-clause-gives
-returns-in_err-file-clause-gives g c = Gives-refused g.F.Files _ _ c.from_residual-in_err-file.result _ _ c.args.name.now c.from_residual-in_err-file.ensures.0 c.in_err-file.ensures.err
+returns-in_err-file-clause-gives g c = Gives-refused g.F.Files _ _ c.from_residual-in_err-file.result _ _ c.args.name.now c.from_residual-in_err-file.ensures.0 c.in_err-file.ensures.refused.names
 
 -- the new output stands behind the others, and has no octets yet
 pub returns-clause-gives : goal.returns-clause-gives
@@ -26,7 +26,7 @@ returns-clause-gives g c = λ since given has.
     c.push_reserved.ensures.items ∙ ap (λ (ss : List Sink). ss ++ record { file = c.in_ok-file.file; waiting = c.in_ok-waiting.waiting } ∷ []) (c.reserve.ensures.items ∙ c.self.view_is) in
     subst (λ (ss : List Sink). HaveBeenGiven since (g.F.Files.names c.create.new.self) (g.F.Files.holder c.create.new.self) ss (given ++ empty c.args.name.now ∷ [])) (sym added)
     (HaveBeenGiven-added since _ _ (g.F.Reads.files (g.F.Reads.standing c.args.files.now)).live _ _ c.args.self.now (record { file = c.in_ok-file.file; waiting = c.in_ok-waiting.waiting }) given c.args.name.now has
-    c.in_ok-file.ensures.ok c.in_ok-waiting.ensures c.in_ok-file.ensures.holder c.requires.outputs.live c.create.ensures.holders c.requires.apart)
+    c.in_ok-file.ensures.made.names c.in_ok-waiting.ensures c.in_ok-file.ensures.made.is_new.holder c.requires.outputs.live c.create.ensures.stays.holders c.requires.apart)
 
 -- its number is new, so the others' files are live as before
 pub returns-clause-only : goal.returns-clause-only
@@ -38,18 +38,18 @@ returns-clause-only g c =
       outputs = record {
         live = AreLive-added (g.F.Reads.files (g.F.Reads.standing c.create.new.self)).live c.args.self.now (record { file = c.in_ok-file.file; waiting = c.in_ok-waiting.waiting })
             (AreLive-below (g.F.Reads.files (g.F.Reads.standing c.args.files.now)).live (g.F.Reads.files (g.F.Reads.standing c.create.new.self)).live (g.F.Files.given c.args.files.now) (ids_of c.args.self.now)
-            c.requires.outputs.live (λ file live. g.met.F.Files.numbered c.args.files.now file live) c.create.ensures.alive)
-            c.in_ok-file.ensures.live;
-        rising = AreRising-added (g.F.Files.given c.args.files.now) c.args.self.now (record { file = c.in_ok-file.file; waiting = c.in_ok-waiting.waiting }) c.requires.outputs.rising numbered c.in_ok-file.ensures.number.0;
+            c.requires.outputs.live (λ file live. g.met.F.Files.numbered c.args.files.now file live) c.create.ensures.stays.alive)
+            c.in_ok-file.ensures.made.is_new.live;
+        rising = AreRising-added (g.F.Files.given c.args.files.now) c.args.self.now (record { file = c.in_ok-file.file; waiting = c.in_ok-waiting.waiting }) c.requires.outputs.rising numbered c.in_ok-file.ensures.made.is_new.number.0;
       };
-      newer = λ least below newer. AreNewer-added least c.args.self.now (record { file = c.in_ok-file.file; waiting = c.in_ok-waiting.waiting }) newer (omega (arith, below, c.in_ok-file.ensures.number.0));
+      newer = λ least below newer. AreNewer-added least c.args.self.now (record { file = c.in_ok-file.file; waiting = c.in_ok-waiting.waiting }) newer (omega (arith, below, c.in_ok-file.ensures.made.is_new.number.0));
       among = λ file none. (IsNoneOf-added c.args.self.now (record { file = c.in_ok-file.file; waiting = c.in_ok-waiting.waiting }) file none).0;
-      besides = λ file none. c.in_ok-file.ensures.alone file (IsNoneOf-added c.args.self.now (record { file = c.in_ok-file.file; waiting = c.in_ok-waiting.waiting }) file none).1;
-      given = c.create.ensures.given;
-      alive = c.create.ensures.alive;
-      holders = c.create.ensures.holders;
-      others = c.create.ensures.others;
+      besides = λ file none. c.in_ok-file.ensures.made.is_new.alone file (IsNoneOf-added c.args.self.now (record { file = c.in_ok-file.file; waiting = c.in_ok-waiting.waiting }) file none).1;
+      given = c.create.ensures.stays.given;
+      alive = c.create.ensures.stays.alive;
+      holders = c.create.ensures.stays.holders;
+      others = c.create.ensures.stays.others;
       asks = asks-made [] c.args.name.now (g.F.Files.asked c.args.files.now) (g.F.Files.asked c.create.new.self) c.create.result c.create.ensures.asks;
-      reading = c.create.ensures.reading;
-      octets = c.create.ensures.octets;
+      reading = c.create.ensures.unread.reading;
+      octets = c.create.ensures.unread.octets;
     })

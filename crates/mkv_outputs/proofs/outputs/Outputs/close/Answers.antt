@@ -29,19 +29,19 @@ loop-sink-preserved g c =
     λ d. ids_of-at c.args.self c.loop-sink.sink-index c.sink-item.result d below ∙ ap (λ (s : Sink). s.file) (sym is) in
     let within : c.loop-sink.sink-index < length (ids_of c.args.self) = omega (arith, length-ids_of c.args.self) in
     let more = closed-more (g.F.Reads.files (g.F.Reads.standing c.loop-sink.files)).live (g.F.Reads.files (g.F.Reads.standing c.close.new.self)).live (ids_of c.args.self) c.loop-sink.sink-index c.sink-item.result.file
-    c.requires.rising within at c.close.ensures.ended (λ file other. (c.close.ensures.others file other).alive) c.loop-sink.invariant.ended c.loop-sink.invariant.left in
+    c.requires.rising within at c.close.ensures.ended (λ file other. (c.close.ensures.stays.others file other).alive) c.loop-sink.invariant.ended c.loop-sink.invariant.left in
     record {
       ended = more.0;
       left = more.1;
       others = λ file other. IsSameFile-twice _ _ _ file (c.loop-sink.invariant.others file other)
-          (c.close.ensures.others file (λ same. other c.loop-sink.sink-index c.sink-item.result.file within (ap (λ (f : FileId). f.n) (at c.sink-item.result.file) ∙ sym same)));
-      names = c.close.ensures.names ∙ c.loop-sink.invariant.names;
+          (c.close.ensures.stays.others file (λ same. other c.loop-sink.sink-index c.sink-item.result.file within (ap (λ (f : FileId). f.n) (at c.sink-item.result.file) ∙ sym same)));
+      names = c.close.ensures.stays.names ∙ c.loop-sink.invariant.names;
       holders = λ file live.
           let other = still-live (g.F.Reads.files (g.F.Reads.standing c.close.new.self)).live c.sink-item.result.file.n file c.close.ensures.ended live in
-          c.close.ensures.holders file live ∙ c.loop-sink.invariant.holders file (sym (c.close.ensures.others file other).alive ∙ live);
-      numbers = c.close.ensures.given ∙ c.loop-sink.invariant.numbers;
-      asked = c.close.ensures.asks ∙ c.loop-sink.invariant.asked;
-      writing = c.close.ensures.writing ∙ c.loop-sink.invariant.writing;
-      reading = c.close.ensures.reading ∙ c.loop-sink.invariant.reading;
-      octets = c.close.ensures.octets ∙ c.loop-sink.invariant.octets;
+          c.close.ensures.stays.holders file live ∙ c.loop-sink.invariant.holders file (sym (c.close.ensures.stays.others file other).alive ∙ live);
+      numbers = c.close.ensures.stays.given ∙ c.loop-sink.invariant.numbers;
+      asked = c.close.ensures.stays.asks ∙ c.loop-sink.invariant.asked;
+      writing = c.close.ensures.stays.writing ∙ c.loop-sink.invariant.writing;
+      reading = c.close.ensures.unread.reading ∙ c.loop-sink.invariant.reading;
+      octets = c.close.ensures.unread.octets ∙ c.loop-sink.invariant.octets;
     }
