@@ -1,5 +1,5 @@
 -- A walk over the Elements of a file, one turn after the other.
-use Rattle.std.specs.Prelude.{◌≡◌, ◌≤◌, ◌<◌, ⊤, ℕ, true, not, ◌==◌, ◌||◌, Bool, false, if◌then◌else◌, List, [], ◌∷◌, length, Option, Some, Result, Ok, Err, IfOk, IsTrue}
+use Rattle.std.specs.Prelude.{◌≡◌, ◌≤◌, ◌<◌, ⊤, ℕ, true, not, ◌==◌, ◌||◌, Bool, false, if◌then◌else◌, List, [], ◌∷◌, length, Option, Some, None, Result, Ok, Err, IfOk, IsTrue}
 use Rattle.mkv_io.specs.declared.damage.Damage.{Damage}
 use Rattle.mkv_io.specs.declared.outside.ReadEnd.{ReadEnd}
 use Rattle.mkv_io.specs.declared.reads.Reads.{Ghosts}
@@ -23,8 +23,6 @@ use Rattle.cluster_reader.specs.declared.place.Place.{Place}
 use Rattle.cluster_reader.specs.declared.step.Step.{Step}
 use Rattle.cluster_reader.specs.declared.takes.Takes.{Takes}
 use Rattle.cluster_reader.specs.declared.step.Step.TheVariants.{Block}
-use Rattle.cluster_reader.specs.declared.turn.Turn.{Turn}
-use Rattle.cluster_reader.specs.declared.turn.Turn.TheVariants as turn
 use Rattle.cluster_reader.specs.declared.turn.Child.{Child}
 use Rattle.cluster_reader.specs.declared.turn.Child.TheVariants as child
 use Rattle.cluster_reader.specs.declared.walk.Walk.{Walk}
@@ -95,24 +93,24 @@ pub record KeepsWalk (id : ℕ) (old new : Walk) : Type 0 where
 -- ---- what a turn gives
 
 -- It gives what is answered, as a cursor does; where an Element is passed the same is left.
-abbrev pub Turns : Takes → List ℕ → Walk → Walk → Result Turn ReadEnd → Type 0
-Turns takes bytes old new (Ok turn.Passed) = left_of bytes (shown new) ≡ left_of bytes (shown old)
-Turns takes bytes old new (Ok (turn.Gives step)) = GivesWanted takes bytes (shown old) (shown new) (Ok step)
+abbrev pub Turns : Takes → List ℕ → Walk → Walk → Result (Option Step) ReadEnd → Type 0
+Turns takes bytes old new (Ok None) = left_of bytes (shown new) ≡ left_of bytes (shown old)
+Turns takes bytes old new (Ok (Some step)) = GivesWanted takes bytes (shown old) (shown new) (Ok step)
 Turns takes bytes old new (Err end) = left_of bytes (shown new) ≡ left_of bytes (shown old)
 
 -- The place goes on; where an Element is passed, fewer turns are left.
-abbrev pub TurnsOn : Place → Place → Turn → Type 0
-TurnsOn old new turn.Passed = (turns_left new < turns_left old) × (old.at ≤ new.at)
-TurnsOn old new (turn.Gives step) = GoesOn step old.at new.at
+abbrev pub TurnsOn : Place → Place → Option Step → Type 0
+TurnsOn old new None = (turns_left new < turns_left old) × (old.at ≤ new.at)
+TurnsOn old new (Some step) = GoesOn step old.at new.at
 
-abbrev pub LendsForTurn : Takes → Turn → Buffered → Type 0
-LendsForTurn takes turn.Passed b = ⊤
-LendsForTurn takes (turn.Gives step) b = LendsWanted takes step b
+abbrev pub LendsForTurn : Takes → Option Step → Buffered → Type 0
+LendsForTurn takes None b = ⊤
+LendsForTurn takes (Some step) b = LendsWanted takes step b
 
 -- A turn notes what a call does; one that gives nothing notes nothing.
-abbrev pub TurnNotes : Walk → Walk → Result Turn ReadEnd → Type 0
-TurnNotes old new (Ok turn.Passed) = new.stopped ≡ old.stopped
-TurnNotes old new (Ok (turn.Gives step)) = Notes (shown old) (shown new) (Ok step)
+abbrev pub TurnNotes : Walk → Walk → Result (Option Step) ReadEnd → Type 0
+TurnNotes old new (Ok None) = new.stopped ≡ old.stopped
+TurnNotes old new (Ok (Some step)) = Notes (shown old) (shown new) (Ok step)
 TurnNotes old new (Err end) = new.stopped ≡ old.stopped
 
 -- ---- where a walk stands
@@ -128,7 +126,7 @@ abbrev pub IsSameWalk : Walk → Walk → Type 0
 IsSameWalk old new = IsSameSegment (shown old) (shown new)
 
 -- A turn goes on in the same Segment, and notes a damage that ends what is read.
-pub record TakesTurn (takes : Takes) (old new : Walk) (result : Result Turn ReadEnd) : Type 0 where
+pub record TakesTurn (takes : Takes) (old new : Walk) (result : Result (Option Step) ReadEnd) : Type 0 where
   pub same : IsSameWalk old new
   pub on : IfOk result (TurnsOn old.place new.place)
   pub notes : TurnNotes old new result

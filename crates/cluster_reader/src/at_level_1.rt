@@ -7,14 +7,13 @@ ghost use Rattle.cluster_reader.specs.Walks.{IsReady, PaysFor, TakesTurn, Turns}
 ghost use Rattle.cluster_reader.specs.declared.takes.Takes.{Takes};
 
 use crate::step::Step;
-use crate::turn::Turn;
 use crate::walk::Walk;
 use elements::{Parent, ends_segment, id_of};
 use mkv_io::{ReadEnd, Reads};
 use mkv_schema::ids::CLUSTER;
 
 /// What the Element of level 1 at the place makes of a walk.
-pub fn turn_at_level_1<R: Reads>(walk: &mut Walk, src: &mut R) -> Result<Turn, ReadEnd>
+pub fn turn_at_level_1<R: Reads>(walk: &mut Walk, src: &mut R) -> Result<Option<Step>, ReadEnd>
     requires ready { IsReady (live_files R.Reads src.old) walk.old }
     requires outside { walk.old.place.cluster ≡ None }
     ensures gives { IfTold R.Reads src.old walk.old.file (λ bytes. (takes : Takes) → Turns takes bytes walk.old walk.new result) }
@@ -25,27 +24,27 @@ pub fn turn_at_level_1<R: Reads>(walk: &mut Walk, src: &mut R) -> Result<Turn, R
     ensures pays { PaysFor R.Reads src.old src.new walk.old walk.new result }
 {
     if walk.place.at >= walk.place.end {
-        return Ok(Turn::Gives(Step::End));
+        return Ok(Some(Step::End));
     }
     let end = walk.place.end;
     let found = walk.element(src, Parent::Segment, end)?;
     if ends_segment(walk.place.size, id_of(&found)) {
         walk.place = walk.place.outside(end);
-        return Ok(Turn::Gives(Step::End));
+        return Ok(Some(Step::End));
     }
     match found {
         Ok(header) => {
             if header.id == CLUSTER {
                 let total = src.size(walk.file);
                 walk.place = walk.place.entered(&header, total);
-                return Ok(Turn::Passed);
+                return Ok(None);
             }
             walk.place = walk.place.behind(&header);
-            Ok(Turn::Passed)
+            Ok(None)
         }
         Err(damage) => {
             walk.stop();
-            Ok(Turn::Gives(Step::Damaged(damage)))
+            Ok(Some(Step::Damaged(damage)))
         }
     }
 }

@@ -11,7 +11,7 @@ use crate::child::read_child;
 use crate::place::Inside;
 use crate::step::Step;
 use crate::takes::Takes;
-use crate::turn::{Child, Turn};
+use crate::turn::Child;
 use crate::walk::Walk;
 use elements::{Parent, ends_cluster, id_of};
 use mkv_io::{ReadEnd, Reads};
@@ -30,7 +30,7 @@ pub fn turn_in_cluster<R: Reads>(
     src: &mut R,
     cluster: Inside,
     takes: Takes,
-) -> Result<Turn, ReadEnd>
+) -> Result<Option<Step>, ReadEnd>
     requires ready { IsReady (live_files R.Reads src.old) walk.old }
     requires inside { walk.old.place.cluster ≡ Some cluster }
     ensures gives { IfTold R.Reads src.old walk.old.file (λ bytes. Turns takes bytes walk.old walk.new result) }
@@ -43,18 +43,18 @@ pub fn turn_in_cluster<R: Reads>(
     let at = walk.place.at;
     if at >= cluster.end {
         walk.place = walk.place.outside(cluster.end);
-        return Ok(Turn::Passed);
+        return Ok(None);
     }
     let found = walk.element(src, Parent::Master, cluster.end)?;
     if ends_children(cluster.unknown, id_of(&found)) {
         walk.place = walk.place.outside(at);
-        return Ok(Turn::Passed);
+        return Ok(None);
     }
     match found {
         Ok(header) => turn_child(walk, src, cluster, &header, takes),
         Err(damage) => {
             walk.break_off(&cluster);
-            Ok(Turn::Gives(Step::Damaged(damage)))
+            Ok(Some(Step::Damaged(damage)))
         }
     }
 }
@@ -66,7 +66,7 @@ fn turn_child<R: Reads>(
     cluster: Inside,
     header: &Header,
     takes: Takes,
-) -> Result<Turn, ReadEnd>
+) -> Result<Option<Step>, ReadEnd>
     requires ready { IsReady (live_files R.Reads src.old) walk.old }
     requires inside { walk.old.place.cluster ≡ Some cluster }
     requires later { walk.old.place.at < header.now.body }
@@ -91,15 +91,15 @@ fn turn_child<R: Reads>(
     match child {
         Child::Passed(timestamp) => {
             walk.place = walk.place.passed(cluster, header, timestamp);
-            Ok(Turn::Passed)
+            Ok(None)
         }
         Child::Block => {
             walk.place = walk.place.passed(cluster, header, cluster.timestamp);
-            Ok(Turn::Gives(Step::Block))
+            Ok(Some(Step::Block))
         }
         Child::Damaged(damage) => {
             walk.break_off(&cluster);
-            Ok(Turn::Gives(Step::Damaged(damage)))
+            Ok(Some(Step::Damaged(damage)))
         }
     }
 }

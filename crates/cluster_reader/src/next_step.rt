@@ -10,7 +10,6 @@ use crate::at_level_1::turn_at_level_1;
 use crate::in_cluster::turn_in_cluster;
 use crate::step::Step;
 use crate::takes::Takes;
-use crate::turn::Turn;
 use crate::walk::Walk;
 use mkv_io::{ReadEnd, Reads};
 
@@ -25,15 +24,14 @@ pub fn next_step<R: Reads>(walk: &mut Walk, src: &mut R, takes: Takes) -> Result
     ensures pays { PaysFor R.Reads src.old src.new walk.old walk.new result }
 {
     loop {
-        match turn(walk, src, takes)? {
-            Turn::Passed => {}
-            Turn::Gives(step) => return Ok(step),
+        if let Some(step) = turn(walk, src, takes)? {
+            return Ok(step);
         }
     }
 }
 
 // What the Element at the place makes of a walk.
-fn turn<R: Reads>(walk: &mut Walk, src: &mut R, takes: Takes) -> Result<Turn, ReadEnd>
+fn turn<R: Reads>(walk: &mut Walk, src: &mut R, takes: Takes) -> Result<Option<Step>, ReadEnd>
     requires { IsReady (live_files R.Reads src.old) walk.old }
     ensures gives { IfTold R.Reads src.old walk.old.file (λ bytes. Turns takes bytes walk.old walk.new result) }
     ensures takes { TakesTurn takes walk.old walk.new result }

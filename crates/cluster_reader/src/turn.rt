@@ -1,16 +1,6 @@
-//! What one Element makes of a walk.
+//! What a child of a Cluster gives.
 
-use crate::step::Step;
 use mkv_io::Damage;
-
-/// What one Element makes of a walk.
-#[derive(Clone, Copy)]
-pub enum Turn {
-    /// It was passed, entered or left.
-    Passed,
-    /// It gives something, or nothing is left.
-    Gives(Step),
-}
 
 /// What a child of a Cluster gives.
 #[derive(Clone, Copy)]

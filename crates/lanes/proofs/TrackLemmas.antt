@@ -1,5 +1,5 @@
 -- A turn at a link, one answer of its cursor after the other: what it gives, how far it goes, and what it reads.
-use Rattle.std.proofs.Common.{◌≡◌, ℕ, suc, zero, ◌+◌, ◌-◌, ◌*◌, ◌<◌, ◌≤◌, Bool, true, false, List, [], ◌∷◌, ◌++◌, length, drop, Some, None, Result, Ok, Err, refl, sym, ◌∙◌, ap, subst, add-one, arith}
+use Rattle.std.proofs.Common.{◌≡◌, ℕ, suc, zero, ◌+◌, ◌-◌, ◌*◌, ◌<◌, ◌≤◌, Bool, true, false, List, [], ◌∷◌, ◌++◌, length, drop, Option, Some, None, Result, Ok, Err, refl, sym, ◌∙◌, ap, subst, add-one, arith}
 use Rattle.std.specs.Prelude.{◌||◌, ◌==◌}
 use Rattle.std.specs.Result.{IsErr}
 use Rattle.std.specs.List.{All, slice_get}
@@ -36,8 +36,8 @@ use Rattle.merge_model.specs.declared.link.TrackLink.{TrackLink}
 use Rattle.lanes.specs.Turns.{GivesFirst, LendsBlock, Pays, Turns}
 use Rattle.lanes.specs.Frames.{by_head, frames_of}
 use Rattle.lanes.specs.Walks.{HasCounted, IsAt, IsReady, due, files_length, left, lent_by, lent_by_track, lent_in, links_left, text_of, told_in_all, track_behind, track_due, track_left, track_way, way}
-use Rattle.lanes.specs.declared.turn.Turn.{Turn}
-use Rattle.lanes.specs.declared.turn.Turn.TheVariants.{Passed, Gives as GivesBlock}
+use Rattle.lanes.specs.declared.lane.LaneStep.{LaneStep}
+use Rattle.lanes.specs.declared.lane.LaneStep.TheVariants.{Block as ABlock}
 use Rattle.lanes.specs.declared.walk.Walk.{Walk}
 use Rattle.lanes.proofs.EndLemmas.{frames-lent}
 use Rattle.lanes.proofs.LinkLemmas.{damage-blocks, damage-stops, damage-told, end-blocks, end-stops, track-block}
@@ -161,7 +161,7 @@ module _ (f : LiveFiles) (scale : ℕ) {links : List Link} {t : TrackLink} {old 
   stays stops = record { rest = later f links old.at; was = was; now = now; stops = stops; at = is.same }
 
   -- a call that gives nothing
-  pub turns-same : new.frames ≡ old.frames → new.stopped ≡ old.stopped → new.greatest ≡ old.greatest → new.told ≡ old.told → left_of (octets_in f t.file.n) d ≡ left_of (octets_in f t.file.n) c → (result : Result Turn ReadEnd) → IsErr result → Turns f scale links old new result
+  pub turns-same : new.frames ≡ old.frames → new.stopped ≡ old.stopped → new.greatest ≡ old.greatest → new.told ≡ old.told → left_of (octets_in f t.file.n) d ≡ left_of (octets_in f t.file.n) c → (result : Result (Option LaneStep) ReadEnd) → IsErr result → Turns f scale links old new result
   turns-same frames stopped greatest told gives result err = record {
     blocks = refused result err (left-passes f scale links old new _ _ (stays (ap (λ g. g.stops) same)) (ap (given_blocks scale) same) greatest);
     damages = told-passes f links old new _ _ (stays (ap (λ g. g.stops) same)) (ap (λ g. g.damages) same) told;
@@ -173,7 +173,7 @@ module _ (f : LiveFiles) (scale : ℕ) {links : List Link} {t : TrackLink} {old 
           ∙ ap (λ st. track_behind t old.frames st (left_of (octets_in f t.file.n) d)) (sym stopped)
           ∙ ap (λ (k : ℕ). track_behind t k new.stopped (left_of (octets_in f t.file.n) d)) (sym frames)
 
-      refused : (r : Result Turn ReadEnd) → IsErr r → left f scale links new ≡ left f scale links old → GivesFirst (left f scale links old) (left f scale links new) (lent_in links new) r
+      refused : (r : Result (Option LaneStep) ReadEnd) → IsErr r → left f scale links new ≡ left f scale links old → GivesFirst (left f scale links old) (left f scale links new) (lent_in links new) r
       refused (Ok turn) err passes = absurd (cc)
       refused (Err end) err passes = passes
 
@@ -194,7 +194,7 @@ module _ (f : LiveFiles) (scale : ℕ) {links : List Link} {t : TrackLink} {old 
     block-told = told-passes f links old new _ _ block-stays (ap (λ es. (track_behind t old.frames old.stopped es).damages) gives) told
 
     -- one that isn't the lane's
-    pub turns-other : new.greatest ≡ old.greatest → track_placed scale t old.frames b ≡ [] → Turns f scale links old new (Ok Passed)
+    pub turns-other : new.greatest ≡ old.greatest → track_placed scale t old.frames b ≡ [] → Turns f scale links old new (Ok None)
     turns-other greatest none = record {
       blocks = left-passes f scale links old new _ _ block-stays
           (block-blocks ∙ ap (λ bs. bs ++ given_blocks scale (track_behind t new.frames new.stopped (left_of (octets_in f t.file.n) d))) none) greatest;
@@ -202,7 +202,7 @@ module _ (f : LiveFiles) (scale : ℕ) {links : List Link} {t : TrackLink} {old 
     }
 
     -- one that is
-    pub turns-gives : IsPlaced (track_placed scale t old.frames b) old.greatest (track_lent t d.block new.placed) → new.greatest ≡ new.placed.head.order → Turns f scale links old new (Ok GivesBlock)
+    pub turns-gives : IsPlaced (track_placed scale t old.frames b) old.greatest (track_lent t d.block new.placed) → new.greatest ≡ new.placed.head.order → Turns f scale links old new (Ok (Some ABlock))
     turns-gives placed greatest = record {
       blocks =
           left-gives f scale links old new _ _ (track_lent t d.block new.placed) block-stays
@@ -214,7 +214,7 @@ module _ (f : LiveFiles) (scale : ℕ) {links : List Link} {t : TrackLink} {old 
   -- ---- a damage
 
   pub turns-damage : (last : Bool) (x : Damage) (r : ToldDamages) → new.frames ≡ old.frames → new.stopped ≡ (last || old.stopped) → new.greatest ≡ old.greatest → left_of (octets_in f t.file.n) c ≡ damage_event last x ∷ left_of (octets_in f t.file.n) d
-      → slice_get old.told.items old.at ≡ Some r → old.at < length old.told.items → new.told.items ≡ set old.told.items old.at (with_damage r x) → Turns f scale links old new (Ok Passed)
+      → slice_get old.told.items old.at ≡ Some r → old.at < length old.told.items → new.told.items ≡ set old.told.items old.at (with_damage r x) → Turns f scale links old new (Ok None)
   turns-damage last x r frames stopped greatest gives here inside told = record {
     blocks = left-passes f scale links old new _ _ damage-stays
         (ap (λ es. given_blocks scale (track_behind t old.frames old.stopped es)) gives
@@ -244,7 +244,7 @@ module _ (f : LiveFiles) (scale : ℕ) {links : List Link} {t : TrackLink} {old 
       due-stays f links (Track t) old new before now is.at is.same (omega (arith, less, both.0, both.1))
 
   -- one that is refused
-  pub refused-pays : c.file ≡ t.file → (before now : ℕ) (result : Result Turn ReadEnd) → IsErr result → now + read_to c ≤ before + read_to d + f.size c.file.n → read_to d ≤ f.size c.file.n → Pays f links old new before now result
+  pub refused-pays : c.file ≡ t.file → (before now : ℕ) (result : Result (Option LaneStep) ReadEnd) → IsErr result → now + read_to c ≤ before + read_to d + f.size c.file.n → read_to d ≤ f.size c.file.n → Pays f links old new before now result
   refused-pays file before now (Ok turn) err pays most = absurd (cc)
   refused-pays file before now (Err end) err pays most =
       let size : f.size c.file.n ≡ f.size t.file.n = ap (λ each. f.size each.n) file in
@@ -255,7 +255,7 @@ module _ (f : LiveFiles) (scale : ℕ) {links : List Link} {t : TrackLink} {old 
 -- ---- the end of its file
 
 module _ (f : LiveFiles) (scale : ℕ) (links : List Link) (t : TrackLink) (old new : Walk) (c : Reading) (at : slice_get links old.at ≡ Some (Track t)) (cursor : old.cursor ≡ Some c) (has : HasLeft (length links) old new) where
-  pub turns-ends : (r : ToldDamages) → left_of (octets_in f t.file.n) c ≡ [] → slice_get old.told.items old.at ≡ Some r → length old.told.items ≡ length links → Turns f scale links old new (Ok Passed)
+  pub turns-ends : (r : ToldDamages) → left_of (octets_in f t.file.n) c ≡ [] → slice_get old.told.items old.at ≡ Some r → length old.told.items ≡ length links → Turns f scale links old new (Ok None)
   turns-ends r none here long = record {
     blocks = left-leaves f scale links old new (track_behind t old.frames old.stopped (left_of (octets_in f t.file.n) c)) leaves
         (ap (λ es. given_blocks scale (track_behind t old.frames old.stopped es)) none ∙ end-blocks scale t old.frames old.stopped);
@@ -290,7 +290,7 @@ module _ (f : LiveFiles) (scale : ℕ) (links : List Link) (t : TrackLink) (old 
   opened_now : new.cursor ≡ Some d
   opened_now = ap (λ (w : Walk). w.cursor) is
 
-  pub turns-opened : old.frames ≡ 0 → old.stopped ≡ false → left_of (octets_in f t.file.n) d ≡ track_events f t → Turns f scale links old new (Ok Passed)
+  pub turns-opened : old.frames ≡ 0 → old.stopped ≡ false → left_of (octets_in f t.file.n) d ≡ track_events f t → Turns f scale links old new (Ok None)
   turns-opened frames stopped begins = record {
     blocks = left-passes f scale links old new (given_in f (Track t)) (given_in f (Track t)) stays refl (ap (λ (w : Walk). w.greatest) is);
     damages = told-passes f links old new (given_in f (Track t)) (given_in f (Track t)) stays refl (ap (λ (w : Walk). w.told) is);
@@ -379,14 +379,14 @@ module _ (f : LiveFiles) (scale : ℕ) {links : List Link} {t : TextLink} {old n
   }
 
   -- an entry that is dropped
-  pub text-other : new.greatest ≡ old.greatest → entry_placed scale t e ≡ [] → Turns f scale links old new (Ok Passed)
+  pub text-other : new.greatest ≡ old.greatest → entry_placed scale t e ≡ [] → Turns f scale links old new (Ok None)
   text-other greatest none = record {
     blocks = left-passes f scale links old new _ _ text-stays (ap (λ bs. bs ++ given_blocks scale (text_with t (drop (suc old.next) t.entries))) none) greatest;
     damages = told-passes f links old new _ _ text-stays refl is.told;
   }
 
   -- one that is given
-  pub text-gives : IsPlaced (entry_placed scale t e) old.greatest (text_lent e.text new.placed) → new.greatest ≡ new.placed.head.order → Turns f scale links old new (Ok GivesBlock)
+  pub text-gives : IsPlaced (entry_placed scale t e) old.greatest (text_lent e.text new.placed) → new.greatest ≡ new.placed.head.order → Turns f scale links old new (Ok (Some ABlock))
   text-gives placed greatest = record {
     blocks =
         left-gives f scale links old new _ _ (text_lent e.text new.placed) text-stays (ap (λ bs. bs ++ given_blocks scale (text_with t (drop (suc old.next) t.entries))) placed.block) placed.order greatest
@@ -397,7 +397,7 @@ module _ (f : LiveFiles) (scale : ℕ) {links : List Link} {t : TextLink} {old n
 -- ---- the end of a text
 
 module _ (f : LiveFiles) (scale : ℕ) (links : List Link) (t : TextLink) (old new : Walk) (at : slice_get links old.at ≡ Some (Entries t)) (past : slice_get t.entries old.next ≡ None) (has : HasLeft (length links) old new) where
-  pub turns-text_ends : (r : ToldDamages) → old.stopped ≡ false → slice_get old.told.items old.at ≡ Some r → length old.told.items ≡ length links → Turns f scale links old new (Ok Passed)
+  pub turns-text_ends : (r : ToldDamages) → old.stopped ≡ false → slice_get old.told.items old.at ≡ Some r → length old.told.items ≡ length links → Turns f scale links old new (Ok None)
   turns-text_ends r stopped here long = record {
     blocks = left-leaves f scale links old new (text_with t []) leaves refl;
     damages = told-leaves f links old new (text_with t []) r leaves refl here long;

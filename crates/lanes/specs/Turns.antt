@@ -1,5 +1,5 @@
 -- What a turn makes of a walk.
-use Rattle.std.specs.Prelude.{◌≡◌, ℕ, ◌+◌, ◌<◌, ◌≤◌, ⊤, List, [], ◌∷◌, Result, Ok, Err}
+use Rattle.std.specs.Prelude.{◌≡◌, ℕ, ◌+◌, ◌<◌, ◌≤◌, ⊤, List, [], ◌∷◌, Option, Some, None, Result, Ok, Err}
 use Rattle.mkv_io.specs.declared.outside.ReadEnd.{ReadEnd}
 use Rattle.mkv_io.specs.LiveFiles.{LiveFiles}
 use Rattle.output_model.specs.OutputBlock.{IsLent, Lent}
@@ -7,19 +7,19 @@ use Rattle.merge_model.specs.Merged.{Ordered}
 use Rattle.lanes.specs.Lent.{HasFewTicks, lent_ordered}
 use Rattle.merge_model.specs.declared.link.Link.{Link}
 use Rattle.lanes.specs.Walks.{IsEnded, due, files_length, left, lent_in, told_in_all, way}
-use Rattle.lanes.specs.declared.turn.Turn.{Turn}
-use Rattle.lanes.specs.declared.turn.Turn.TheVariants.{Passed, Gives, End}
+use Rattle.lanes.specs.declared.lane.LaneStep.{LaneStep}
+use Rattle.lanes.specs.declared.lane.LaneStep.TheVariants.{Block, End}
 use Rattle.lanes.specs.declared.walk.Walk.{Walk}
 
 -- The first of these blocks is lent and the others are left, the same are left, or none is.
-abbrev pub GivesFirst : List Ordered → List Ordered → Lent → Result Turn ReadEnd → Type 0
-GivesFirst old new lent (Ok Passed) = new ≡ old
-GivesFirst old new lent (Ok Gives) = old ≡ lent_ordered lent ∷ new
-GivesFirst old new lent (Ok End) = (old ≡ []) × (new ≡ [])
+abbrev pub GivesFirst : List Ordered → List Ordered → Lent → Result (Option LaneStep) ReadEnd → Type 0
+GivesFirst old new lent (Ok None) = new ≡ old
+GivesFirst old new lent (Ok (Some Block)) = old ≡ lent_ordered lent ∷ new
+GivesFirst old new lent (Ok (Some End)) = (old ≡ []) × (new ≡ [])
 GivesFirst old new lent (Err end) = new ≡ old
 
 -- What is left of the blocks, by what a turn gives; and the damages that will have been told in the end stay.
-pub record Turns (f : LiveFiles) (scale : ℕ) (links : List Link) (old new : Walk) (result : Result Turn ReadEnd) : Type 0 where
+pub record Turns (f : LiveFiles) (scale : ℕ) (links : List Link) (old new : Walk) (result : Result (Option LaneStep) ReadEnd) : Type 0 where
   pub blocks : GivesFirst (left f scale links old) (left f scale links new) (lent_in links new) result
   pub damages : told_in_all f links new ≡ told_in_all f links old
 
@@ -29,10 +29,10 @@ pub record LendsBlock (scale : ℕ) (links : List Link) (w : Walk) : Type 0 wher
   pub ticks : HasFewTicks scale w.placed
   pub order : w.placed.head.order ≡ w.greatest
 
-abbrev pub LendsFor : ℕ → List Link → Walk → Turn → Type 0
-LendsFor scale links w Passed = ⊤
-LendsFor scale links w Gives = LendsBlock scale links w
-LendsFor scale links w End = ⊤
+abbrev pub LendsFor : ℕ → List Link → Walk → Option LaneStep → Type 0
+LendsFor scale links w None = ⊤
+LendsFor scale links w (Some Block) = LendsBlock scale links w
+LendsFor scale links w (Some End) = ⊤
 
 -- No more turns are left than before, and all links were left.
 pub record Ends (links : List Link) (old new : Walk) : Type 0 where
@@ -40,13 +40,13 @@ pub record Ends (links : List Link) (old new : Walk) : Type 0 where
   pub ended : IsEnded links new
 
 -- Fewer turns are left, or all links were left.
-abbrev pub GoesOn : List Link → Walk → Walk → Turn → Type 0
-GoesOn links old new Passed = way links new < way links old
-GoesOn links old new Gives = way links new < way links old
-GoesOn links old new End = Ends links old new
+abbrev pub GoesOn : List Link → Walk → Walk → Option LaneStep → Type 0
+GoesOn links old new None = way links new < way links old
+GoesOn links old new (Some Block) = way links new < way links old
+GoesOn links old new (Some End) = Ends links old new
 
 -- A turn goes on, and what it lends can be written.
-pub record Moves (scale : ℕ) (links : List Link) (old new : Walk) (turn : Turn) : Type 0 where
+pub record Moves (scale : ℕ) (links : List Link) (old new : Walk) (turn : Option LaneStep) : Type 0 where
   pub on : GoesOn links old new turn
   pub lends : LendsFor scale links new turn
 

@@ -14,7 +14,7 @@ ghost use Rattle.lanes.specs.Told.{link_damages, more_of};
 ghost use Rattle.lanes.specs.Walks.{text_of};
 
 use crate::told::{LinkDamage, damage_at, more_of};
-use crate::turn::{Turn, take_turn};
+use crate::turn::take_turn;
 use crate::walk::Walk;
 use cluster_reader::Damages;
 use merge_model::{LaneSpec, Link, TextLink};
@@ -121,12 +121,12 @@ impl Lane {
                 &mut self.walk,
                 src,
             )? {
-                Turn::Passed => {}
-                Turn::Gives => {
+                None => {}
+                Some(LaneStep::Block) => {
                     self.given = self.given.saturating_add(1);
                     return Ok(LaneStep::Block);
                 }
-                Turn::End => return Ok(LaneStep::End),
+                Some(LaneStep::End) => return Ok(LaneStep::End),
             }
         }
     }

@@ -11,6 +11,7 @@ ghost use Rattle.lanes.specs.Walks.{IsReady, due};
 ghost use Rattle.lanes.specs.Turns.{Moves, Pays, Turns};
 
 use crate::frames::frames_of;
+use crate::lane::LaneStep;
 use crate::place::{place_block, place_entry};
 use crate::walk::Walk;
 use cluster_reader::{Cursor, Step, Takes};
@@ -18,18 +19,7 @@ use merge_model::{Link, TextLink, TrackLink};
 use mkv_io::{ReadEnd, Reads};
 use std::alloc::Global;
 
-/// What a turn gives.
-#[derive(Clone, Copy)]
-pub enum Turn {
-    /// Nothing; the walk has gone on.
-    Passed,
-    /// A block, which is lent.
-    Gives,
-    /// No block is left.
-    End,
-}
-
-// One turn in the file of a track.
+// One turn in the file of a track: None where it was passed, and the walk has gone on.
 fn turn_track<R: Reads>(
     alloc: Global,
     links: &[Link],
@@ -37,7 +27,7 @@ fn turn_track<R: Reads>(
     scale: u64,
     walk: &mut Walk,
     src: &mut R,
-) -> Result<Turn, ReadEnd>
+) -> Result<Option<LaneStep>, ReadEnd>
     requires here { slice_get links.now walk.old.at ≡ Some (ATrack track.now) }
     requires scale { 1 ≤ scale }
     requires small { All IsSmallLink links.now }
@@ -52,7 +42,7 @@ fn turn_track<R: Reads>(
     let Some(cursor) = walk.cursor.as_mut() else {
         let cursor = Cursor::start(alloc, &*track.outline, track.file, track.scale)?;
         walk.cursor = Some(cursor);
-        return Ok(Turn::Passed);
+        return Ok(None);
     };
     match cursor.advance_for(src, Takes::Track(track.number))? {
         Step::Block => {
@@ -67,25 +57,25 @@ fn turn_track<R: Reads>(
                 &mut walk.placed,
             ) {
                 walk.greatest = walk.placed.head.order;
-                Ok(Turn::Gives)
+                Ok(Some(LaneStep::Block))
             } else {
-                Ok(Turn::Passed)
+                Ok(None)
             }
         }
         Step::Damaged(damage) => {
             walk.stopped = cursor.stopped() || walk.stopped;
             walk.told[walk.at].add(damage);
-            Ok(Turn::Passed)
+            Ok(None)
         }
         Step::End => {
             walk.leave(links.len());
-            Ok(Turn::Passed)
+            Ok(None)
         }
     }
 }
 
 // One turn in a text.
-fn turn_text(links: &[Link], text: &TextLink, scale: u64, walk: &mut Walk) -> Turn
+fn turn_text(links: &[Link], text: &TextLink, scale: u64, walk: &mut Walk) -> Option<LaneStep>
     requires here { slice_get links.now walk.old.at ≡ Some (AText text.now) }
     requires scale { 1 ≤ scale }
     requires small { All IsSmallLink links.now }
@@ -97,25 +87,25 @@ fn turn_text(links: &[Link], text: &TextLink, scale: u64, walk: &mut Walk) -> Tu
 {
     let Some(entry) = text.entries.get(walk.next) else {
         walk.leave(links.len());
-        return Turn::Passed;
+        return None;
     };
     walk.next += 1;
     if place_entry(text, scale, entry, walk.greatest, &mut walk.placed) {
         walk.greatest = walk.placed.head.order;
-        Turn::Gives
+        Some(LaneStep::Block)
     } else {
-        Turn::Passed
+        None
     }
 }
 
-/// One turn of a walk over these links.
+/// One turn of a walk over these links: None where something was passed, and the walk has gone on.
 pub fn take_turn<R: Reads>(
     alloc: Global,
     links: &[Link],
     scale: u64,
     walk: &mut Walk,
     src: &mut R,
-) -> Result<Turn, ReadEnd>
+) -> Result<Option<LaneStep>, ReadEnd>
     requires scale { 1 ≤ scale }
     requires small { All IsSmallLink links.now }
     requires ready { IsReady (live_files R.Reads src.old) links.now walk.old }
@@ -129,6 +119,6 @@ pub fn take_turn<R: Reads>(
     match links.get(walk.at) {
         Some(Link::Track(track)) => turn_track(alloc, links, track, scale, walk, src),
         Some(Link::Entries(text)) => Ok(turn_text(links, text, scale, walk)),
-        None => Ok(Turn::End),
+        None => Ok(Some(LaneStep::End)),
     }
 }

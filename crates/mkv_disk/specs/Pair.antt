@@ -41,4 +41,4 @@ IsPairWith file change p = IsPairImage (on file.n change p)
 pub record OpensPair {S : Type 0} (r : Ghosts S) (opened : S → Option (List ℕ)) (disk : S) (name : List ℕ) : Type 0 where
   pub media : IsLive r disk MEDIA
   pub sidecar : IsLive r disk SIDECAR
-  pub name : opened disk ≡ Some name
+  pub named : opened disk ≡ Some name

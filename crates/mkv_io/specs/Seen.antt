@@ -57,59 +57,59 @@ pub record KeepsOtherCounts {S : Type 0} (r : Ghosts S) (writing_faults : S → 
 -- ---- a file that is opened or made
 
 -- A number that was never given before is that of a live file, whose name is this one, and no other became live.
-pub record IsNewFile {S : Type 0} (r : Ghosts S) (holder : S → ℕ → List ℕ) (given : S → ℕ) (old new : S) (name : List ℕ) (file : FileId) : Type 0 where
-  pub number : (given old ≤ file.n) × (file.n < given new)
+pub record IsNewFile {S : Type 0} (r : Ghosts S) (held : S → ℕ → List ℕ) (numbers : S → ℕ) (old new : S) (name : List ℕ) (file : FileId) : Type 0 where
+  pub number : (numbers old ≤ file.n) × (file.n < numbers new)
   pub live : IsLive r new file
   pub alone : StayLive r old new (λ other. other ≢ file.n)
-  pub holder : holder new file.n ≡ name
+  pub holder : held new file.n ≡ name
 
 -- A new file has the content that its name had, where contents are told.
-pub record IsOpenedFile {S : Type 0} (r : Ghosts S) (names : S → Names) (holder : S → ℕ → List ℕ) (given : S → ℕ) (old new : S) (name : List ℕ) (file : FileId) : Type 0 where
-  pub is_new : IsNewFile r holder given old new name file
-  pub content : Told (names old) (λ world. content_of r new file ≡ world name)
+pub record IsOpenedFile {S : Type 0} (r : Ghosts S) (contents : S → Names) (held : S → ℕ → List ℕ) (numbers : S → ℕ) (old new : S) (name : List ℕ) (file : FileId) : Type 0 where
+  pub is_new : IsNewFile r held numbers old new name file
+  pub content : Told (contents old) (λ world. content_of r new file ≡ world name)
 
 -- A new file is empty, and so is the content of its name, whatever it was.
-pub record IsMadeFile {S : Type 0} (r : Ghosts S) (names : S → Names) (holder : S → ℕ → List ℕ) (given : S → ℕ) (old new : S) (name : List ℕ) (file : FileId) : Type 0 where
-  pub is_new : IsNewFile r holder given old new name file
+pub record IsMadeFile {S : Type 0} (r : Ghosts S) (contents : S → Names) (held : S → ℕ → List ℕ) (numbers : S → ℕ) (old new : S) (name : List ℕ) (file : FileId) : Type 0 where
+  pub is_new : IsNewFile r held numbers old new name file
   pub size : file_size r new file ≡ 0
-  pub names : names new ≡ with_content (names old) name []
+  pub names : contents new ≡ with_content (contents old) name []
 
 -- What a call leaves that couldn't make a file: no other file is live, the content of the name is as before or empty,
 -- and after want of memory everything is as before.
-pub record LeavesUnmade {S T : Type 0} (r : Ghosts S) (names : S → Names) (old new : S) (name : List ℕ) (result : Result T MakeFault) : Type 0 where
+pub record LeavesUnmade {S T : Type 0} (r : Ghosts S) (contents : S → Names) (old new : S) (name : List ℕ) (result : Result T MakeFault) : Type 0 where
   pub live : OnErr result (SameLive r old new)
-  pub names : OnErr result (MayEmpty (names old) (names new) name)
+  pub names : OnErr result (MayEmpty (contents old) (contents new) name)
   pub memory : IsErrOf result make_fault.Memory → r.standing new ≡ r.standing old
 
 -- ---- what stays
 
 -- Where a file is opened all names and the files before it stay, and so do the counts of writing and of octets.
-pub record StaysAtOpening {S : Type 0} (r : Ghosts S) (names : S → Names) (holder : S → ℕ → List ℕ) (given writing_faults : S → ℕ) (old new : S) : Type 0 where
-  pub names : names new ≡ names old
-  pub others : FilesStay r old new (λ file. file < given old)
-  pub holders : KeepsHolders (live_files r old).live (holder old) (holder new)
+pub record StaysAtOpening {S : Type 0} (r : Ghosts S) (contents : S → Names) (held : S → ℕ → List ℕ) (numbers writing_faults : S → ℕ) (old new : S) : Type 0 where
+  pub names : contents new ≡ contents old
+  pub others : FilesStay r old new (λ file. file < numbers old)
+  pub holders : KeepsHolders (live_files r old).live (held old) (held new)
   pub counts : KeepsOtherCounts r writing_faults old new
 
 -- Where a file is made those before it stay live, and those of other names stay as they were.
-pub record StaysAtMaking {S : Type 0} (r : Ghosts S) (holder : S → ℕ → List ℕ) (given : S → ℕ) (old new : S) (name : List ℕ) : Type 0 where
-  pub given : given old ≤ given new
-  pub alive : StayLive r old new (λ file. file < given old)
-  pub others : FilesStay r old new (IsAnother (given old) (holder old) name)
-  pub holders : KeepsHolders (live_files r old).live (holder old) (holder new)
+pub record StaysAtMaking {S : Type 0} (r : Ghosts S) (held : S → ℕ → List ℕ) (numbers : S → ℕ) (old new : S) (name : List ℕ) : Type 0 where
+  pub given : numbers old ≤ numbers new
+  pub alive : StayLive r old new (λ file. file < numbers old)
+  pub others : FilesStay r old new (IsAnother (numbers old) (held old) name)
+  pub holders : KeepsHolders (live_files r old).live (held old) (held new)
 
 -- Where a file is written the live files stay live, and those of other names stay as they were. None was asked for.
-pub record StaysAtWriting {S : Type 0} (r : Ghosts S) (holder : S → ℕ → List ℕ) (given : S → ℕ) (asked : S → List Asked) (old new : S) (file : FileId) : Type 0 where
-  pub given : given new ≡ given old
+pub record StaysAtWriting {S : Type 0} (r : Ghosts S) (held : S → ℕ → List ℕ) (numbers : S → ℕ) (asked : S → List Asked) (old new : S) (file : FileId) : Type 0 where
+  pub given : numbers new ≡ numbers old
   pub alive : SameLive r old new
-  pub others : FilesStay r old new (λ other. holder old other ≢ holder old file.n)
-  pub holders : KeepsHolders (live_files r old).live (holder old) (holder new)
+  pub others : FilesStay r old new (λ other. held old other ≢ held old file.n)
+  pub holders : KeepsHolders (live_files r old).live (held old) (held new)
   pub asks : asked new ≡ asked old
 
 -- Where a file is closed all names and the other files stay. None was asked for, and none was written.
-pub record StaysAtClosing {S : Type 0} (r : Ghosts S) (names : S → Names) (holder : S → ℕ → List ℕ) (given writing_faults : S → ℕ) (asked : S → List Asked) (old new : S) (file : FileId) : Type 0 where
-  pub names : names new ≡ names old
-  pub given : given new ≡ given old
+pub record StaysAtClosing {S : Type 0} (r : Ghosts S) (contents : S → Names) (held : S → ℕ → List ℕ) (numbers writing_faults : S → ℕ) (asked : S → List Asked) (old new : S) (file : FileId) : Type 0 where
+  pub names : contents new ≡ contents old
+  pub given : numbers new ≡ numbers old
   pub others : FilesStay r old new (λ other. other ≢ file.n)
-  pub holders : KeepsHolders (live_files r new).live (holder old) (holder new)
+  pub holders : KeepsHolders (live_files r new).live (held old) (held new)
   pub asks : asked new ≡ asked old
   pub writing : writing_faults new ≡ writing_faults old

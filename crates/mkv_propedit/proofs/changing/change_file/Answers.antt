@@ -31,7 +31,7 @@ returns-in-Ok-clause-verdict g c = λ tells.
 pub returns-in-Ok-clause-edit : goal.returns-in-Ok-clause-edit
 returns-in-Ok-clause-edit g c = record {
   leaves = edit-then g.D.Disk (writes_of_change c.args.change.now) c.args.disk.now c.open_pair.new.self c.change_open.new.disk (status_of c.change_open.result) c.requires c.open_pair.ensures.pair c.open_pair.ensures.any_moment c.change_open.ensures.edit;
-  opened = inl (c.change_open.ensures.stays.opened ∙ c.in-Ok.ensures.opened.name);
+  opened = inl (c.change_open.ensures.stays.opened ∙ c.in-Ok.ensures.opened.named);
 }
 
 pub returns-in-Ok-clause-octets : goal.returns-in-Ok-clause-octets

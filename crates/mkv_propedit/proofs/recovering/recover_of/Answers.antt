@@ -30,7 +30,7 @@ returns-in-Ok-clause-recovery g c =
     let a = c.args.disk.now in let b = c.open_pair.new.self in
     record {
       leaves = recovery-then g.D.Disk a b c.recover_open.new.disk (status_of c.recover_open.result) c.requires c.open_pair.ensures.pair c.open_pair.ensures.any_moment c.recover_open.ensures.recovery;
-      opened = inl (c.recover_open.ensures.stays.opened ∙ c.in-Ok.ensures.opened.name);
+      opened = inl (c.recover_open.ensures.stays.opened ∙ c.in-Ok.ensures.opened.named);
     }
 
 pub returns-in-Ok-clause-cause : goal.returns-in-Ok-clause-cause
