@@ -22,7 +22,7 @@ use Rattle.generator.specs.declared.names.Names as own
 use Rattle.generator.specs.Files.{file_of}
 use Rattle.generator.specs.Bound.{ReadsBoth, ReadsParts, layouts, most_behind, most_merged}
 use Rattle.generator.specs.Generate.{both_words, made_file, made_of, merge_of, parts_words, two_files}
-use Rattle.mkv_merge.specs.Plain.{plain_file}
+use Rattle.merge_words.specs.Plain.{plain_file}
 use Rattle.generator.proofs.MakingLemmas.{both-found, both-one, both-there, parts-found, told-then}
 use Rattle.generator.proofs.TurnLemmas.{first-told, last-told, written-behind}
 

@@ -5,7 +5,7 @@ use Rattle.merge_words.specs.Sound.{IsSoundFile, IsSoundMerge}
 use Rattle.merge_words.specs.declared.output.MergeWords.{MergeWords}
 use Rattle.generator.specs.declared.names.Names as own
 use Rattle.generator.specs.Generate.{both_words, names_of, parts_words}
-use Rattle.mkv_merge.specs.Plain.{plain_file}
+use Rattle.merge_words.specs.Plain.{plain_file}
 
 -- a file of which nothing is said
 file-sound : (name : List ℕ) → IsSoundFile (plain_file name)

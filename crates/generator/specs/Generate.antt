@@ -11,7 +11,7 @@ use Rattle.remuxer.specs.Output.{drafts_of}
 use Rattle.merge_plan.specs.Plan.{Source}
 use Rattle.mkv_merge.specs.Joined.{sources_apart}
 use Rattle.mkv_merge.specs.Merge.{has_damage, outputs_of, status_of, warnings}
-use Rattle.mkv_merge.specs.Plain.{plain_file, plain_words}
+use Rattle.merge_words.specs.Plain.{plain_file, plain_words}
 use Rattle.mkv_merge.specs.Refused.{line_of}
 use Rattle.mkv_io.specs.Results.{and_then}
 use Rattle.mkv_merge.specs.declared.refusal.Refusal.{Refusal}

@@ -2,7 +2,7 @@
 
 ghost use Rattle.std.specs.Prelude.{◌≡◌, IfOk};
 ghost use Rattle.generator.specs.Generate.{both_words, parts_words};
-ghost use Rattle.mkv_merge.specs.Plain.{plain_file, plain_words};
+ghost use Rattle.merge_words.specs.Plain.{plain_file, plain_words};
 
 use crate::front::SCALE;
 use crate::names::Names;

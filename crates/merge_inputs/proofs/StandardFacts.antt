@@ -3,6 +3,7 @@ use Rattle.std.proofs.Common.{◌≡◌, ℕ, Bool, true, false, [], ◌∷◌, 
 use Rattle.std.specs.Prelude.{ℤ, pos, neg_ℤ}
 use Rattle.word_values.specs.declared.lists.Select.{Select}
 use Rattle.word_values.specs.declared.lists.Select.TheVariants.{All, These, AllBut, Off}
+use Rattle.merge_words.specs.Plain.{plain_file}
 use Rattle.merge_words.specs.declared.files.FileWords.{FileWords}
 use Rattle.merge_inputs.specs.Select.{is_taken, keeps_attachments, keeps_chapters, keeps_tags}
 use Rattle.merge_inputs.specs.Taken.{value_for}
@@ -11,9 +12,7 @@ use Rattle.merge_inputs.specs.Taken.{value_for}
 
 -- with these selections, and with what is kept besides tracks: attached files, chapters, tags of tracks, and other tags
 abbrev words_with : Select → Select → Select → Bool → Bool → Bool → Bool → FileWords
-words_with video audio subtitles attachments chapters track_tags global_tags = record {
-  name = [];
-  appended = false;
+words_with video audio subtitles attachments chapters track_tags global_tags = record (plain_file []) {
   video = video;
   audio = audio;
   subtitles = subtitles;
@@ -21,19 +20,11 @@ words_with video audio subtitles attachments chapters track_tags global_tags = r
   track_tags = track_tags;
   global_tags = global_tags;
   chapters = chapters;
-  syncs = [];
-  names = [];
-  languages = [];
-  defaults = [];
-  forced = [];
-  cues = [];
-  times = [];
-  named = [];
 }
 
 -- no word stands before the file
 abbrev plain : FileWords
-plain = words_with All All All true true true true
+plain = plain_file []
 
 -- `-d 0 -a !1 -S`
 abbrev chosen : FileWords

@@ -6,3 +6,4 @@ pub mod Output
 pub mod Merge
 pub mod Sound
 pub mod Texts
+pub mod Plain

@@ -19,6 +19,7 @@ use Rattle.word_values.specs.declared.usage.Usage.{Usage}
 use Rattle.word_values.specs.declared.usage.Why.TheVariants.{BadValue}
 use Rattle.word_values.specs.declared.values.CueWord.TheVariants.{Never, Key, All as EachCue}
 use Rattle.merge_words.specs.declared.files.FileWords.{FileWords}
+use Rattle.merge_words.specs.Plain.{plain_file, plain_words}
 use Rattle.merge_words.specs.declared.output.MergeWords.{MergeWords}
 use Rattle.mkv_args.specs.declared.command.Command.{Command}
 use Rattle.mkv_args.specs.declared.command.Command.TheVariants as commands
@@ -58,41 +59,7 @@ refused line word = (line, wrong word BadValue)
 
 -- a merge of these files, without an option
 abbrev merging : List ℕ → List FileWords → MergeWords
-merging output files = record {
-  output = output;
-  webm = false;
-  title = None;
-  chapters = None;
-  scale = 1000000;
-  blocks = 65535;
-  span = 5000000000;
-  split = None;
-  files = files;
-  uuids = [];
-  link = false;
-}
-
--- a file of a merge, before which no option stands
-abbrev plain : List ℕ → FileWords
-plain name = record {
-  name = name;
-  appended = false;
-  video = All;
-  audio = All;
-  subtitles = All;
-  attachments = true;
-  track_tags = true;
-  global_tags = true;
-  chapters = true;
-  syncs = [];
-  names = [];
-  languages = [];
-  defaults = [];
-  forced = [];
-  cues = [];
-  times = [];
-  named = [];
-}
+merging output files = plain_words output None files
 
 -- the line asks for a merge of these files
 abbrev asks_merge : List ℕ → List ℕ → List FileWords → Row
@@ -100,7 +67,7 @@ asks_merge line output files = asks line (commands.Merge (merging output files))
 
 -- the line asks for a merge of a file `f` to `o` that is split so
 abbrev asks_split : List ℕ → SplitWords → Row
-asks_split line division = asks line (commands.Merge (record (merging (codes "o") (plain (codes "f") ∷ [])) { split = Some division }))
+asks_split line division = asks line (commands.Merge (record (merging (codes "o") (plain_file (codes "f") ∷ [])) { split = Some division }))
 
 -- the line asks for a merge to `o` of this file alone
 abbrev asks_file : List ℕ → FileWords → Row
@@ -172,23 +139,23 @@ changes = refl
 
 -- `merge`, for the whole output
 pub outputs : Hold (
-    asks_merge (codes "merge -o out.mkv s1.mkv") (codes "out.mkv") (plain (codes "s1.mkv") ∷ []) ∷
-    asks_merge (codes "merge s1.mkv --output out.mkv") (codes "out.mkv") (plain (codes "s1.mkv") ∷ []) ∷
-    asks_merge (codes "merge -o  s1.mkv") [] (plain (codes "s1.mkv") ∷ []) ∷
-    asks_merge (codes "merge -o out.mkv -") (codes "out.mkv") (plain (codes "-") ∷ []) ∷
-    asks_merge (codes "merge -o o  f") (codes "o") (plain [] ∷ plain (codes "f") ∷ []) ∷
-    asks_file (codes "merge  -o o") (plain []) ∷
+    asks_merge (codes "merge -o out.mkv s1.mkv") (codes "out.mkv") (plain_file (codes "s1.mkv") ∷ []) ∷
+    asks_merge (codes "merge s1.mkv --output out.mkv") (codes "out.mkv") (plain_file (codes "s1.mkv") ∷ []) ∷
+    asks_merge (codes "merge -o  s1.mkv") [] (plain_file (codes "s1.mkv") ∷ []) ∷
+    asks_merge (codes "merge -o out.mkv -") (codes "out.mkv") (plain_file (codes "-") ∷ []) ∷
+    asks_merge (codes "merge -o o  f") (codes "o") (plain_file [] ∷ plain_file (codes "f") ∷ []) ∷
+    asks_file (codes "merge  -o o") (plain_file []) ∷
     refused (codes "merge -o o --title a" ++ 0 ∷ codes "b f") 4 ∷
-    asks (codes "merge -o o --chapters a" ++ 0 ∷ codes "b f") (commands.Merge (record (merging (codes "o") (plain (codes "f") ∷ [])) { chapters = Some (97 ∷ 0 ∷ 98 ∷ []) })) ∷
-    asks (codes "merge -w -o w.webm s1.mkv") (commands.Merge (record (merging (codes "w.webm") (plain (codes "s1.mkv") ∷ [])) { webm = true })) ∷
-    asks (codes "merge -o o --title x --chapters c.txt f") (commands.Merge (record (merging (codes "o") (plain (codes "f") ∷ [])) { title = Some (codes "x"); chapters = Some (codes "c.txt") })) ∷
-    asks (codes "merge -o o --title  f") (commands.Merge (record (merging (codes "o") (plain (codes "f") ∷ [])) { title = Some [] })) ∷
-    asks (codes "merge -o o --chapters -c f") (commands.Merge (record (merging (codes "o") (plain (codes "f") ∷ [])) { chapters = Some (codes "-c") })) ∷
-    asks (codes "merge -o o --timestamp-scale 1000 f") (commands.Merge (record (merging (codes "o") (plain (codes "f") ∷ [])) { scale = 1000 })) ∷
-    asks (codes "merge -o o --timestamp-scale 010000000 f") (commands.Merge (record (merging (codes "o") (plain (codes "f") ∷ [])) { scale = 10000000 })) ∷
-    asks (codes "merge -o o --cluster-length 1 f") (commands.Merge (record (merging (codes "o") (plain (codes "f") ∷ [])) { blocks = 1 })) ∷
-    asks (codes "merge -o o --cluster-length 100ms f") (commands.Merge (record (merging (codes "o") (plain (codes "f") ∷ [])) { span = 100000000 })) ∷
-    asks (codes "merge -o o --cluster-length 32000ms f") (commands.Merge (record (merging (codes "o") (plain (codes "f") ∷ [])) { span = 32000000000 })) ∷
+    asks (codes "merge -o o --chapters a" ++ 0 ∷ codes "b f") (commands.Merge (record (merging (codes "o") (plain_file (codes "f") ∷ [])) { chapters = Some (97 ∷ 0 ∷ 98 ∷ []) })) ∷
+    asks (codes "merge -w -o w.webm s1.mkv") (commands.Merge (record (merging (codes "w.webm") (plain_file (codes "s1.mkv") ∷ [])) { webm = true })) ∷
+    asks (codes "merge -o o --title x --chapters c.txt f") (commands.Merge (record (merging (codes "o") (plain_file (codes "f") ∷ [])) { title = Some (codes "x"); chapters = Some (codes "c.txt") })) ∷
+    asks (codes "merge -o o --title  f") (commands.Merge (record (merging (codes "o") (plain_file (codes "f") ∷ [])) { title = Some [] })) ∷
+    asks (codes "merge -o o --chapters -c f") (commands.Merge (record (merging (codes "o") (plain_file (codes "f") ∷ [])) { chapters = Some (codes "-c") })) ∷
+    asks (codes "merge -o o --timestamp-scale 1000 f") (commands.Merge (record (merging (codes "o") (plain_file (codes "f") ∷ [])) { scale = 1000 })) ∷
+    asks (codes "merge -o o --timestamp-scale 010000000 f") (commands.Merge (record (merging (codes "o") (plain_file (codes "f") ∷ [])) { scale = 10000000 })) ∷
+    asks (codes "merge -o o --cluster-length 1 f") (commands.Merge (record (merging (codes "o") (plain_file (codes "f") ∷ [])) { blocks = 1 })) ∷
+    asks (codes "merge -o o --cluster-length 100ms f") (commands.Merge (record (merging (codes "o") (plain_file (codes "f") ∷ [])) { span = 100000000 })) ∷
+    asks (codes "merge -o o --cluster-length 32000ms f") (commands.Merge (record (merging (codes "o") (plain_file (codes "f") ∷ [])) { span = 32000000000 })) ∷
     [])
 unfolding command first_command command_named verbs merge merged items complete meaning_of table item_at option_at append_at file_at since_file merge_words file named_in value_of text scale cluster_length number whole
 outputs = refl
@@ -218,8 +185,8 @@ splits-of-merges = refl
 
 -- `merge` with `--segment-uid`, `--link` and `-J`
 pub identifiers : Hold (
-    asks (codes "merge -o o --segment-uid 00000000000000000000000000000001 f") (commands.Merge (record (merging (codes "o") (plain (codes "f") ∷ [])) { uuids = (1 ∷ []) })) ∷
-    asks (codes "merge -o o --segment-uid ffffffffffffffffffffffffffffffff,0000000000000000000000000000000A --link f") (commands.Merge (record (merging (codes "o") (plain (codes "f") ∷ [])) { uuids = (340282366920938463463374607431768211455 ∷ 10 ∷ []); link = true })) ∷
+    asks (codes "merge -o o --segment-uid 00000000000000000000000000000001 f") (commands.Merge (record (merging (codes "o") (plain_file (codes "f") ∷ [])) { uuids = (1 ∷ []) })) ∷
+    asks (codes "merge -o o --segment-uid ffffffffffffffffffffffffffffffff,0000000000000000000000000000000A --link f") (commands.Merge (record (merging (codes "o") (plain_file (codes "f") ∷ [])) { uuids = (340282366920938463463374607431768211455 ∷ 10 ∷ []); link = true })) ∷
     asks (codes "merge -J f") (commands.Identify (codes "f")) ∷
     asks (codes "merge -J -") (commands.Identify (codes "-")) ∷
     [])
@@ -228,15 +195,15 @@ identifiers = refl
 
 -- `merge`, for the next file
 pub selections : Hold (
-    asks_merge (codes "merge -o -a s1.mkv") (codes "-a") (plain (codes "s1.mkv") ∷ []) ∷
-    asks_file (codes "merge -o o -a 1 f") (record (plain (codes "f")) { audio = These (1 ∷ []); named = (1 ∷ []) }) ∷
-    asks_file (codes "merge -o o --audio-tracks !1,02,1 f") (record (plain (codes "f")) { audio = AllBut (1 ∷ 2 ∷ 1 ∷ []); named = (1 ∷ 2 ∷ []) }) ∷
-    asks_file (codes "merge -o o -d 0,0 --subtitle-tracks 5 f") (record (plain (codes "f")) { video = These (0 ∷ 0 ∷ []); subtitles = These (5 ∷ []); named = (0 ∷ 5 ∷ []) }) ∷
-    asks_file (codes "merge -o o -A -D -S f") (record (plain (codes "f")) { video = Off; audio = Off; subtitles = Off }) ∷
-    asks_file (codes "merge -o o --no-audio --no-video --no-subtitles f") (record (plain (codes "f")) { video = Off; audio = Off; subtitles = Off }) ∷
-    asks_merge (codes "merge -o o --video-tracks 1 f -d 2 g") (codes "o") (record (plain (codes "f")) { video = These (1 ∷ []); named = (1 ∷ []) } ∷ record (plain (codes "g")) { video = These (2 ∷ []); named = (2 ∷ []) } ∷ []) ∷
-    asks_merge (codes "merge -o o -M -T --no-global-tags --no-chapters f g") (codes "o") (record (plain (codes "f")) { attachments = false; track_tags = false; global_tags = false; chapters = false } ∷ plain (codes "g") ∷ []) ∷
-    asks_file (codes "merge -o o --no-attachments --no-track-tags f") (record (plain (codes "f")) { attachments = false; track_tags = false }) ∷
+    asks_merge (codes "merge -o -a s1.mkv") (codes "-a") (plain_file (codes "s1.mkv") ∷ []) ∷
+    asks_file (codes "merge -o o -a 1 f") (record (plain_file (codes "f")) { audio = These (1 ∷ []); named = (1 ∷ []) }) ∷
+    asks_file (codes "merge -o o --audio-tracks !1,02,1 f") (record (plain_file (codes "f")) { audio = AllBut (1 ∷ 2 ∷ 1 ∷ []); named = (1 ∷ 2 ∷ []) }) ∷
+    asks_file (codes "merge -o o -d 0,0 --subtitle-tracks 5 f") (record (plain_file (codes "f")) { video = These (0 ∷ 0 ∷ []); subtitles = These (5 ∷ []); named = (0 ∷ 5 ∷ []) }) ∷
+    asks_file (codes "merge -o o -A -D -S f") (record (plain_file (codes "f")) { video = Off; audio = Off; subtitles = Off }) ∷
+    asks_file (codes "merge -o o --no-audio --no-video --no-subtitles f") (record (plain_file (codes "f")) { video = Off; audio = Off; subtitles = Off }) ∷
+    asks_merge (codes "merge -o o --video-tracks 1 f -d 2 g") (codes "o") (record (plain_file (codes "f")) { video = These (1 ∷ []); named = (1 ∷ []) } ∷ record (plain_file (codes "g")) { video = These (2 ∷ []); named = (2 ∷ []) } ∷ []) ∷
+    asks_merge (codes "merge -o o -M -T --no-global-tags --no-chapters f g") (codes "o") (record (plain_file (codes "f")) { attachments = false; track_tags = false; global_tags = false; chapters = false } ∷ plain_file (codes "g") ∷ []) ∷
+    asks_file (codes "merge -o o --no-attachments --no-track-tags f") (record (plain_file (codes "f")) { attachments = false; track_tags = false }) ∷
     [])
 unfolding command first_command command_named verbs merge merged items complete meaning_of table item_at option_at append_at file_at since_file merge_words file named_in value_of ids numbers number whole
 selections = refl
@@ -245,28 +212,28 @@ selections = refl
 pub options-of-tracks : Hold (
     refused (codes "merge -o o --track-name 0:a" ++ 0 ∷ codes " f") 4 ∷
     refused (codes "merge -o o --language 0:a" ++ 0 ∷ codes "b f") 4 ∷
-    asks_file (codes "merge -o o -y 0:-10 --sync 1:5 f") (record (plain (codes "f")) { syncs = ((0, neg_ℤ (pos 10000000)) ∷ (1, pos 5000000) ∷ []); named = (0 ∷ 1 ∷ []) }) ∷
-    asks_file (codes "merge -o o -y 9:100 s1.mkv") (record (plain (codes "s1.mkv")) { syncs = ((9, pos 100000000) ∷ []); named = (9 ∷ []) }) ∷
-    asks_file (codes "merge -o o -y 0:36028797018 f") (record (plain (codes "f")) { syncs = ((0, pos 36028797018000000) ∷ []); named = (0 ∷ []) }) ∷
-    asks_file (codes "merge -o o -y 0:-36028797018 f") (record (plain (codes "f")) { syncs = ((0, neg_ℤ (pos 36028797018000000)) ∷ []); named = (0 ∷ []) }) ∷
-    asks_file (codes "merge -o o -y 0:-0 f") (record (plain (codes "f")) { syncs = ((0, pos 0) ∷ []); named = (0 ∷ []) }) ∷
-    asks_merge (codes "merge -o o -y 0:1 f -y 0:2 g") (codes "o") (record (plain (codes "f")) { syncs = ((0, pos 1000000) ∷ []); named = (0 ∷ []) } ∷ record (plain (codes "g")) { syncs = ((0, pos 2000000) ∷ []); named = (0 ∷ []) } ∷ []) ∷
-    asks_file (codes "merge -o o -y 3:1 --track-name 2:a:b --language 3:ger f") (record (plain (codes "f")) { syncs = ((3, pos 1000000) ∷ []); names = ((2, codes "a:b") ∷ []); languages = ((3, codes "ger") ∷ []); named = (3 ∷ 2 ∷ []) }) ∷
-    asks_file (codes "merge -o o --track-name 2: f") (record (plain (codes "f")) { names = ((2, []) ∷ []); named = (2 ∷ []) }) ∷
-    asks_file (codes "merge -o o --default-track-flag 0 --default-track-flag 1:0 --forced-display-flag 2:1 f") (record (plain (codes "f")) { defaults = ((0, true) ∷ (1, false) ∷ []); forced = ((2, true) ∷ []); named = (0 ∷ 1 ∷ 2 ∷ []) }) ∷
-    asks_file (codes "merge -o o --cues 0:none --cues 1:iframes --cues 2:all f") (record (plain (codes "f")) { cues = ((0, Never) ∷ (1, Key) ∷ (2, EachCue) ∷ []); named = (0 ∷ 1 ∷ 2 ∷ []) }) ∷
-    asks_file (codes "merge -o o --timestamps 0:t.txt f") (record (plain (codes "f")) { times = ((0, codes "t.txt") ∷ []); named = (0 ∷ []) }) ∷
-    asks_file (codes "merge -o o --timestamps 1: -a !4 f") (record (plain (codes "f")) { audio = AllBut (4 ∷ []); times = ((1, []) ∷ []); named = (1 ∷ 4 ∷ []) }) ∷
+    asks_file (codes "merge -o o -y 0:-10 --sync 1:5 f") (record (plain_file (codes "f")) { syncs = ((0, neg_ℤ (pos 10000000)) ∷ (1, pos 5000000) ∷ []); named = (0 ∷ 1 ∷ []) }) ∷
+    asks_file (codes "merge -o o -y 9:100 s1.mkv") (record (plain_file (codes "s1.mkv")) { syncs = ((9, pos 100000000) ∷ []); named = (9 ∷ []) }) ∷
+    asks_file (codes "merge -o o -y 0:36028797018 f") (record (plain_file (codes "f")) { syncs = ((0, pos 36028797018000000) ∷ []); named = (0 ∷ []) }) ∷
+    asks_file (codes "merge -o o -y 0:-36028797018 f") (record (plain_file (codes "f")) { syncs = ((0, neg_ℤ (pos 36028797018000000)) ∷ []); named = (0 ∷ []) }) ∷
+    asks_file (codes "merge -o o -y 0:-0 f") (record (plain_file (codes "f")) { syncs = ((0, pos 0) ∷ []); named = (0 ∷ []) }) ∷
+    asks_merge (codes "merge -o o -y 0:1 f -y 0:2 g") (codes "o") (record (plain_file (codes "f")) { syncs = ((0, pos 1000000) ∷ []); named = (0 ∷ []) } ∷ record (plain_file (codes "g")) { syncs = ((0, pos 2000000) ∷ []); named = (0 ∷ []) } ∷ []) ∷
+    asks_file (codes "merge -o o -y 3:1 --track-name 2:a:b --language 3:ger f") (record (plain_file (codes "f")) { syncs = ((3, pos 1000000) ∷ []); names = ((2, codes "a:b") ∷ []); languages = ((3, codes "ger") ∷ []); named = (3 ∷ 2 ∷ []) }) ∷
+    asks_file (codes "merge -o o --track-name 2: f") (record (plain_file (codes "f")) { names = ((2, []) ∷ []); named = (2 ∷ []) }) ∷
+    asks_file (codes "merge -o o --default-track-flag 0 --default-track-flag 1:0 --forced-display-flag 2:1 f") (record (plain_file (codes "f")) { defaults = ((0, true) ∷ (1, false) ∷ []); forced = ((2, true) ∷ []); named = (0 ∷ 1 ∷ 2 ∷ []) }) ∷
+    asks_file (codes "merge -o o --cues 0:none --cues 1:iframes --cues 2:all f") (record (plain_file (codes "f")) { cues = ((0, Never) ∷ (1, Key) ∷ (2, EachCue) ∷ []); named = (0 ∷ 1 ∷ 2 ∷ []) }) ∷
+    asks_file (codes "merge -o o --timestamps 0:t.txt f") (record (plain_file (codes "f")) { times = ((0, codes "t.txt") ∷ []); named = (0 ∷ []) }) ∷
+    asks_file (codes "merge -o o --timestamps 1: -a !4 f") (record (plain_file (codes "f")) { audio = AllBut (4 ∷ []); times = ((1, []) ∷ []); named = (1 ∷ 4 ∷ []) }) ∷
     [])
 unfolding command first_command command_named verbs merge merged items complete meaning_of table item_at option_at append_at file_at since_file merge_words file named_in value_of text language ids numbers track_flag track_value track_and_rest cue_word delay delay_size cut number whole
 options-of-tracks = refl
 
 -- `merge` with `+`, with options behind the last file, and with many files
 pub joins : Hold (
-    asks_merge (codes "merge -o o f + g") (codes "o") (plain (codes "f") ∷ record (plain (codes "g")) { appended = true } ∷ []) ∷
-    asks (codes "merge -o o f -a 1 + -w g h") (commands.Merge (record (merging (codes "o") (plain (codes "f") ∷ record (plain (codes "g")) { appended = true; audio = These (1 ∷ []); named = (1 ∷ []) } ∷ plain (codes "h") ∷ [])) { webm = true })) ∷
-    asks_merge (codes "merge -o o f + g + h") (codes "o") (plain (codes "f") ∷ record (plain (codes "g")) { appended = true } ∷ record (plain (codes "h")) { appended = true } ∷ []) ∷
-    asks_merge (codes "merge -o o" ++ flat_map {X = ℕ} (λ _. codes " f") (replicate 64 0)) (codes "o") (replicate 64 (plain (codes "f"))) ∷
+    asks_merge (codes "merge -o o f + g") (codes "o") (plain_file (codes "f") ∷ record (plain_file (codes "g")) { appended = true } ∷ []) ∷
+    asks (codes "merge -o o f -a 1 + -w g h") (commands.Merge (record (merging (codes "o") (plain_file (codes "f") ∷ record (plain_file (codes "g")) { appended = true; audio = These (1 ∷ []); named = (1 ∷ []) } ∷ plain_file (codes "h") ∷ [])) { webm = true })) ∷
+    asks_merge (codes "merge -o o f + g + h") (codes "o") (plain_file (codes "f") ∷ record (plain_file (codes "g")) { appended = true } ∷ record (plain_file (codes "h")) { appended = true } ∷ []) ∷
+    asks_merge (codes "merge -o o" ++ flat_map {X = ℕ} (λ _. codes " f") (replicate 64 0)) (codes "o") (replicate 64 (plain_file (codes "f"))) ∷
     [])
 unfolding command first_command command_named verbs merge merged items complete meaning_of table item_at option_at append_at file_at since_file merge_words file named_in value_of ids numbers number whole
 joins = refl

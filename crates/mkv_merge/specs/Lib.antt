@@ -1,6 +1,5 @@
 pub mod Bound
 pub mod Merge
-pub mod Plain
 pub mod Prepared
 pub mod Read
 pub mod Asked

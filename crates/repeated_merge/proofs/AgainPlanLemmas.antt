@@ -63,7 +63,7 @@ use Rattle.repeated_merge.specs.AgainTracks.{ArePlainTracks}
 use Rattle.repeated_merge.specs.Alike.{AreAlike, MayBeAlike}
 use Rattle.merge_plan.specs.Identifiers.{Have64Bits, identifiers_of}
 use Rattle.repeated_merge.specs.Placed.{MayStandAs}
-use Rattle.mkv_merge.specs.Plain.{plain_file}
+use Rattle.merge_words.specs.Plain.{plain_file}
 use Rattle.repeated_merge.specs.Plain.{plain_merge}
 use Rattle.repeated_merge.specs.Records.{AreTracksOf}
 use Rattle.repeated_merge.specs.Tracks.{IsTrackOf}

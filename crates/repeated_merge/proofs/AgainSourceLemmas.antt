@@ -26,7 +26,7 @@ use Rattle.merge_plan.specs.Refusal.{plan_refusal}
 use Rattle.merge_plan.specs.declared.refusal.PlanRefusal.{PlanRefusal}
 use Rattle.mkv_merge.specs.Chapters.{chaptered, chapters_refusal, with_chapters}
 use Rattle.mkv_merge.specs.Merge.{refusals_read, sources_in, sources_of, status_of, verdict_of}
-use Rattle.mkv_merge.specs.Plain.{plain_file}
+use Rattle.merge_words.specs.Plain.{plain_file}
 use Rattle.mkv_merge.specs.Read.{first_written, found_in, inputs_of, numbered, pending_of}
 use Rattle.mkv_merge.specs.Refused.{first_cause}
 use Rattle.mkv_io.specs.Results.{and_then, unless}

@@ -31,7 +31,7 @@ use Rattle.merged_outputs.specs.Sources.{is_taken_type}
 use Rattle.merged_outputs.proofs.EntryLemmas.{taken-whole}
 use Rattle.repeated_merge.specs.AgainLanes.{IsTakenPlain}
 use Rattle.repeated_merge.specs.AgainTracks.{AreTakenOf, ArePlainTracks, EntriesAreWrittenAgain, TracksAreTakenAgain}
-use Rattle.mkv_merge.specs.Plain.{plain_file}
+use Rattle.merge_words.specs.Plain.{plain_file}
 use Rattle.repeated_merge.specs.Records.{AreTracksOf}
 use Rattle.repeated_merge.specs.Tracks.{IsTrackOf}
 use Rattle.repeated_merge.proofs.OwnTrackLemmas.{own-tracks}

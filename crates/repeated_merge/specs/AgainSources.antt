@@ -12,7 +12,7 @@ use Rattle.merge_plan.specs.Plan.{Source}
 use Rattle.merge_plan.specs.Refusal.{plan_refusal}
 use Rattle.mkv_lines.specs.declared.status.Status.TheVariants.{Done}
 use Rattle.mkv_merge.specs.Merge.{has_damage, merge_verdict, sources_of}
-use Rattle.mkv_merge.specs.Plain.{plain_file}
+use Rattle.merge_words.specs.Plain.{plain_file}
 use Rattle.mkv_merge.specs.Read.{first_written, pending_of}
 use Rattle.repeated_merge.specs.Plain.{plain_merge}
 use Rattle.repeated_merge.specs.Repeat.{source_again}

@@ -18,7 +18,7 @@ use Rattle.merge_plan.specs.Records.{title_of, tracks_taken}
 use Rattle.merge_plan.specs.Refusal.{plan_refusal}
 use Rattle.mkv_merge.specs.Merge.{has_damage, outputs_of}
 use Rattle.mkv_merge.specs.Records.{HaveRecords}
-use Rattle.mkv_merge.specs.Plain.{plain_file}
+use Rattle.merge_words.specs.Plain.{plain_file}
 use Rattle.merged_outputs.specs.Merge.{laid_out}
 use Rattle.merged_outputs.specs.Sources.{AreSources}
 use Rattle.repeated_merge.specs.Limits.{IsWithinLimits}

@@ -7,7 +7,7 @@ use Rattle.word_values.specs.declared.edit.Change.TheVariants.{Set, Delete}
 use Rattle.word_values.specs.declared.edit.Selector.TheVariants.{Info, Typed}
 use Rattle.word_values.specs.declared.job.Form.TheVariants as form
 use Rattle.word_values.specs.declared.job.Job.TheVariants as jobs
-use Rattle.word_values.specs.declared.lists.Select.TheVariants.{All, AllBut, Off}
+use Rattle.word_values.specs.declared.lists.Select.TheVariants.{AllBut, Off}
 use Rattle.word_values.specs.declared.lists.SplitWords.TheVariants as splits
 use Rattle.word_values.specs.declared.values.CueWord.TheVariants.{Never}
 use Rattle.mkv_args.specs.declared.command.Command.TheVariants as commands
@@ -17,6 +17,7 @@ use Rattle.word_laws.specs.Spelled.{spelled}
 use Rattle.std.proofs.lemmas.List.Elements.{All-nil, All-cons}
 use Rattle.std.proofs.lemmas.Slice.Eq.{bytes_eq-Decides}
 use Rattle.std.specs.Str.{bytes_eq}
+use Rattle.merge_words.specs.Plain.{plain_file, plain_words}
 use Rattle.merge_words.specs.declared.files.FileWords.{FileWords}
 use Rattle.merge_words.specs.declared.output.MergeWords.{MergeWords}
 use Rattle.word_laws.specs.SpellableMerge.{AreOfTracks, IsDelay, IsText, IsLanguage, IsMergeFile, IsSpellableMerge}
@@ -44,59 +45,25 @@ simple_commands = refl
 
 -- a file with options for it and for its tracks
 abbrev first_file : FileWords
-first_file = record {
-  name = codes "f.mkv";
-  appended = false;
-  video = All;
+first_file = record (plain_file (codes "f.mkv")) {
   audio = Off;
   subtitles = AllBut (1 ∷ 3 ∷ []);
-  attachments = true;
-  track_tags = true;
-  global_tags = true;
   chapters = false;
   syncs = (0, neg_ℤ (pos 20000000)) ∷ [];
-  names = [];
   languages = (0, codes "eng") ∷ [];
-  defaults = [];
   forced = (2, true) ∷ [];
   cues = (0, Never) ∷ [];
-  times = [];
   named = 1 ∷ 3 ∷ 0 ∷ 2 ∷ [];
 }
 
 -- one that is appended
 abbrev second_file : FileWords
-second_file = record {
-  name = codes "g.mkv";
-  appended = true;
-  video = All;
-  audio = All;
-  subtitles = All;
-  attachments = true;
-  track_tags = true;
-  global_tags = true;
-  chapters = true;
-  syncs = [];
-  names = [];
-  languages = [];
-  defaults = [];
-  forced = [];
-  cues = [];
-  times = [];
-  named = [];
-}
+second_file = record (plain_file (codes "g.mkv")) { appended = true }
 
 abbrev merging : MergeWords
-merging = record {
-  output = codes "o.mkv";
-  webm = false;
+merging = record (plain_words (codes "o.mkv") (Some (splits.Duration 3723500000000)) (first_file ∷ second_file ∷ [])) {
   title = Some (codes "x");
-  chapters = None;
-  scale = 1000000;
-  blocks = 65535;
   span = 250000000;
-  split = Some (splits.Duration 3723500000000);
-  files = first_file ∷ second_file ∷ [];
   uuids = 10 ∷ [];
   link = true;
 }

@@ -1,4 +1,4 @@
--- The words of a merge without options. They are this project's.
+-- The words of a merge without options, and with a split where one is given. They are this project's.
 use Rattle.std.specs.Prelude.{ℕ, false, true, List, [], Option, None}
 use Rattle.word_values.specs.declared.lists.Select.TheVariants.{All}
 use Rattle.word_values.specs.declared.lists.SplitWords.{SplitWords}
