@@ -19,8 +19,8 @@ abbrev pub SameLive : {S : Type 0} → Ghosts S → S → S → Type 0
 SameLive r old new = (file : ℕ) → (live_files r new).live file ≡ (live_files r old).live file
 
 -- Every live file that passes a test has the length and the content that it had.
-abbrev pub FilesStay : {S : Type 0} → Ghosts S → S → S → (ℕ → Type 0) → Type 0
-FilesStay r old new Is = KeepsFiles (live_files r old) (live_files r new) Is
+abbrev pub LiveFilesStay : {S : Type 0} → Ghosts S → S → S → (ℕ → Type 0) → Type 0
+LiveFilesStay r old new Is = KeepsFiles (live_files r old) (live_files r new) Is
 
 -- A file of a number below this one, and of another name.
 abbrev pub IsAnother : ℕ → (ℕ → List ℕ) → List ℕ → ℕ → Type 0
@@ -29,11 +29,11 @@ IsAnother given holder name file = (file < given) × (holder file ≢ name)
 -- ---- a call on one live file
 
 -- These octets stand at the end of a file, and of the content of its name; or a first part of them does.
-abbrev pub Adds : {S : Type 0} → Ghosts S → (S → Names) → (S → ℕ → List ℕ) → S → S → FileId → List ℕ → Type 0
-Adds r names holder old new file more = Appends (live_files r old) (live_files r new) (names old) (names new) file.n (holder old file.n) more
+abbrev pub AddsOctets : {S : Type 0} → Ghosts S → (S → Names) → (S → ℕ → List ℕ) → S → S → FileId → List ℕ → Type 0
+AddsOctets r names holder old new file more = Appends (live_files r old) (live_files r new) (names old) (names new) file.n (holder old file.n) more
 
-abbrev pub AddsPart : {S : Type 0} → Ghosts S → (S → Names) → (S → ℕ → List ℕ) → S → S → FileId → List ℕ → Type 0
-AddsPart r names holder old new file more = AppendsPart (live_files r old) (live_files r new) (names old) (names new) file.n (holder old file.n) more
+abbrev pub AddsFirst : {S : Type 0} → Ghosts S → (S → Names) → (S → ℕ → List ℕ) → S → S → FileId → List ℕ → Type 0
+AddsFirst r names holder old new file more = AppendsPart (live_files r old) (live_files r new) (names old) (names new) file.n (holder old file.n) more
 
 -- These octets stand in a file from a place on; or some octets do, as many as these.
 abbrev pub Puts : {S : Type 0} → Ghosts S → (S → Names) → (S → ℕ → List ℕ) → S → S → FileId → ℕ → List ℕ → Type 0
@@ -86,7 +86,7 @@ pub record LeavesUnmade {S T : Type 0} (r : Ghosts S) (contents : S → Names) (
 -- Where a file is opened all names and the files before it stay, and so do the counts of writing and of octets.
 pub record StaysAtOpening {S : Type 0} (r : Ghosts S) (contents : S → Names) (held : S → ℕ → List ℕ) (numbers writing_faults : S → ℕ) (old new : S) : Type 0 where
   pub names : contents new ≡ contents old
-  pub others : FilesStay r old new (λ file. file < numbers old)
+  pub others : LiveFilesStay r old new (λ file. file < numbers old)
   pub holders : KeepsHolders (live_files r old).live (held old) (held new)
   pub counts : KeepsOtherCounts r writing_faults old new
 
@@ -94,14 +94,14 @@ pub record StaysAtOpening {S : Type 0} (r : Ghosts S) (contents : S → Names) (
 pub record StaysAtMaking {S : Type 0} (r : Ghosts S) (held : S → ℕ → List ℕ) (numbers : S → ℕ) (old new : S) (name : List ℕ) : Type 0 where
   pub given : numbers old ≤ numbers new
   pub alive : StayLive r old new (λ file. file < numbers old)
-  pub others : FilesStay r old new (IsAnother (numbers old) (held old) name)
+  pub others : LiveFilesStay r old new (IsAnother (numbers old) (held old) name)
   pub holders : KeepsHolders (live_files r old).live (held old) (held new)
 
 -- Where a file is written the live files stay live, and those of other names stay as they were. None was asked for.
 pub record StaysAtWriting {S : Type 0} (r : Ghosts S) (held : S → ℕ → List ℕ) (numbers : S → ℕ) (asked : S → List Asked) (old new : S) (file : FileId) : Type 0 where
   pub given : numbers new ≡ numbers old
   pub alive : SameLive r old new
-  pub others : FilesStay r old new (λ other. held old other ≢ held old file.n)
+  pub others : LiveFilesStay r old new (λ other. held old other ≢ held old file.n)
   pub holders : KeepsHolders (live_files r old).live (held old) (held new)
   pub asks : asked new ≡ asked old
 
@@ -109,7 +109,7 @@ pub record StaysAtWriting {S : Type 0} (r : Ghosts S) (held : S → ℕ → List
 pub record StaysAtClosing {S : Type 0} (r : Ghosts S) (contents : S → Names) (held : S → ℕ → List ℕ) (numbers writing_faults : S → ℕ) (asked : S → List Asked) (old new : S) (file : FileId) : Type 0 where
   pub names : contents new ≡ contents old
   pub given : numbers new ≡ numbers old
-  pub others : FilesStay r old new (λ other. other ≢ file.n)
+  pub others : LiveFilesStay r old new (λ other. other ≢ file.n)
   pub holders : KeepsHolders (live_files r new).live (held old) (held new)
   pub asks : asked new ≡ asked old
   pub writing : writing_faults new ≡ writing_faults old

@@ -6,7 +6,7 @@ ghost use Rattle.mkv_io.specs.declared.asked.Asked.{Asked};
 ghost use Rattle.mkv_io.specs.declared.asked.Asked.TheVariants.{Opened, Made};
 ghost use Rattle.mkv_io.specs.Faults.{HasCause, is_failure, is_make_failure, is_open_failure, last_count};
 ghost use Rattle.mkv_io.specs.Names.{Names};
-ghost use Rattle.mkv_io.specs.Seen.{Adds, AddsPart, IsMadeFile, IsOpenedFile, LeavesUnmade, Puts, PutsSome, ReadsNothing, StaysAtClosing, StaysAtMaking, StaysAtOpening, StaysAtWriting};
+ghost use Rattle.mkv_io.specs.Seen.{AddsOctets, AddsFirst, IsMadeFile, IsOpenedFile, LeavesUnmade, Puts, PutsSome, ReadsNothing, StaysAtClosing, StaysAtMaking, StaysAtOpening, StaysAtWriting};
 ghost use Rattle.mkv_io.specs.Sources.{IsLive, file_size, live_files};
 ghost use Rattle.mkv_io.specs.Told.{Told};
 ghost use Rattle.mkv_io.specs.declared.outside.TheConstants.{LONGEST_FILE};
@@ -62,11 +62,11 @@ pub trait Files: Reads {
         ensures cause { HasCause is_make_failure (writing_faults self.old) (writing_faults self.new) result }
         ensures unread { ReadsNothing Self.Reads self.old self.new };
 
-    /// Adds octets at the end of a live file. After `Failed` a first part of them is there.
+    /// AddsOctets octets at the end of a live file. After `Failed` a first part of them is there.
     fn append(&mut self, file: FileId, bytes: &[u8]) -> Result<(), MakeFault>
         requires { IsLive Self.Reads self.old file }
-        ensures ok { OnOk result (Adds Self.Reads names holder self.old self.new file bytes.now) }
-        ensures failed { IsErrOf result MakeFault.Failed → AddsPart Self.Reads names holder self.old self.new file bytes.now }
+        ensures ok { OnOk result (AddsOctets Self.Reads names holder self.old self.new file bytes.now) }
+        ensures failed { IsErrOf result MakeFault.Failed → AddsFirst Self.Reads names holder self.old self.new file bytes.now }
         ensures memory { IsErrOf result MakeFault.Memory → Self.standing self.new ≡ Self.standing self.old }
 
         // No file grows past 2^48 octets.

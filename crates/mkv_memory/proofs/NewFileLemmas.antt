@@ -1,5 +1,5 @@
 -- A file that is opened or made, by each fact of it.
-use Rattle.std.proofs.Common.{◌≡◌, ◌≢◌, ◌≤◌, ◌<◌, ℕ, List, [], Result, Ok, Err, IfOk, tt}
+use Rattle.std.proofs.Common.{◌≡◌, ◌≢◌, ◌≤◌, ◌<◌, ℕ, List, [], Result, Ok, Err, IfOk}
 use Rattle.mkv_io.specs.Names.{Names, with_content}
 use Rattle.mkv_io.specs.Seen.{IsMadeFile, IsOpenedFile, StayLive}
 use Rattle.mkv_io.specs.Sources.{IsLive, content_of, file_size}
