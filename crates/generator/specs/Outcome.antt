@@ -9,7 +9,8 @@ use Rattle.mkv_lines.specs.Verdict.{Leaves, Verdict, list_of}
 use Rattle.mkv_lines.specs.declared.status.Status.{Status}
 use Rattle.mkv_lines.specs.declared.status.Status.TheVariants as status
 use Rattle.mkv_lines.specs.declared.status.Stop.{Stop}
-use Rattle.mkv_merge.specs.Merge.{is_some_of, status_of}
+use Rattle.mkv_io.specs.Lists.{is_some_of}
+use Rattle.mkv_merge.specs.Merge.{status_of}
 use Rattle.mkv_merge.specs.Refused.{line_of}
 use Rattle.mkv_merge.specs.Told.{warnings_from}
 use Rattle.generator.specs.declared.making.Done.{Done}

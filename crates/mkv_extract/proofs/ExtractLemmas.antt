@@ -22,6 +22,7 @@ use Rattle.meta_records.specs.Attached.{AttachedFile}
 use Rattle.extractors.specs.Attached.{attached_at, attached_output, attached_outputs}
 use Rattle.extractors.specs.Cues.{cues_output, cues_outputs}
 use Rattle.mkv_io.specs.declared.damage.Damage.{Damage}
+use Rattle.mkv_io.specs.Lists.{is_some_of}
 use Rattle.tree_format.specs.Node.{Node}
 use Rattle.block_format.specs.Events.{Event, blocks_of}
 use Rattle.cluster_reader.specs.ToldDamages.{told_damages}
@@ -41,7 +42,7 @@ use Rattle.mkv_lines.specs.declared.status.Status.{Status}
 use Rattle.mkv_lines.specs.declared.status.Stop.{Stop}
 use Rattle.mkv_lines.proofs.SaidLemmas.{SaysPart-all}
 use Rattle.mkv_lines.proofs.VerdictLemmas.{Leaves-same, Reaches-behind}
-use Rattle.mkv_extract.specs.Extract.{Taken, absent, attached_taken, cues_taken, done_verdict, entries_of, frames_taken, is_any, status_of, taken_by, taken_whole, told_bad, told_lines, warned}
+use Rattle.mkv_extract.specs.Extract.{Taken, absent, attached_taken, cues_taken, done_verdict, entries_of, frames_taken, status_of, taken_by, taken_whole, told_bad, told_lines, warned}
 use Rattle.mkv_extract.specs.Names.{first_written, is_read}
 use Rattle.mkv_extract.specs.Read.{FileRead}
 use Rattle.mkv_extract.specs.Told.{absent_lines, has_absent, line_of, outline_lines, written, wrote_lines}
@@ -189,7 +190,7 @@ attached-told name bytes file count targets counted numbers = record {
 }
 
 -- the outputs stand whole, and what is wrong was told
-reaches : (old new : Seen) (mid : ReportLines) (r : Result Status Stop) (name : List ℕ) (t : Taken) → mid ≡ with_lines old.lines t.missing → Says mid new.lines (map wrote_line (names_of t.outputs) ++ warned name t) r → IfOk r (λ s. s ≡ status_of (is_any t.missing) (t.damages ++ t.bad_frames)) → new.names ≡ with_outputs old.names t.outputs → Reaches old new r (done_verdict name t)
+reaches : (old new : Seen) (mid : ReportLines) (r : Result Status Stop) (name : List ℕ) (t : Taken) → mid ≡ with_lines old.lines t.missing → Says mid new.lines (map wrote_line (names_of t.outputs) ++ warned name t) r → IfOk r (λ s. s ≡ status_of (is_some_of t.missing) (t.damages ++ t.bad_frames)) → new.names ≡ with_outputs old.names t.outputs → Reaches old new r (done_verdict name t)
 reaches old new mid r name t = Reaches-behind old new mid r (done_verdict name t) (map wrote_line (names_of t.outputs) ++ warned name t) refl
 
 -- of what isn't frames the damage of level 1
@@ -197,11 +198,11 @@ outline-told : (name : List ℕ) (d : Option Damage) → outline_lines name d �
 outline-told name None = refl
 outline-told name (Some d) = refl
 
-pub reaches-whole : (old new : Seen) (mid : ReportLines) (r : Result Status Stop) (name : List ℕ) (file : FileRead) (missing : List (List ℕ)) (outputs : List Output) (d : Option Damage) → d ≡ file.damage → mid ≡ with_lines old.lines missing → Says mid new.lines (map wrote_line (names_of outputs) ++ outline_lines name d) r → IfOk r (λ s. s ≡ status_of (is_any missing) (option_to_list d)) → new.names ≡ with_outputs old.names outputs → Reaches old new r (done_verdict name (taken_whole file missing outputs))
+pub reaches-whole : (old new : Seen) (mid : ReportLines) (r : Result Status Stop) (name : List ℕ) (file : FileRead) (missing : List (List ℕ)) (outputs : List Output) (d : Option Damage) → d ≡ file.damage → mid ≡ with_lines old.lines missing → Says mid new.lines (map wrote_line (names_of outputs) ++ outline_lines name d) r → IfOk r (λ s. s ≡ status_of (is_some_of missing) (option_to_list d)) → new.names ≡ with_outputs old.names outputs → Reaches old new r (done_verdict name (taken_whole file missing outputs))
 reaches-whole old new mid r name file missing outputs d same said says status names =
     reaches old new mid r name (taken_whole file missing outputs) said
     (subst (λ (lines : List (List ℕ)). Says mid new.lines (map wrote_line (names_of outputs) ++ lines) r) (ap (outline_lines name) same ∙ outline-told name file.damage) says)
-    (subst (λ (ds : List Damage). IfOk r (λ s. s ≡ status_of (is_any missing) ds)) (ap option_to_list same ∙ sym (append-nil (option_to_list file.damage))) status) names
+    (subst (λ (ds : List Damage). IfOk r (λ s. s ≡ status_of (is_some_of missing) ds)) (ap option_to_list same ∙ sym (append-nil (option_to_list file.damage))) status) names
 
 -- what isn't there was warned of before
 module _ {name : List ℕ} {t : Taken} {what : Missing} {count : ℕ} {targets : List Target} (is : IsToldBy name t what count targets) where
@@ -211,8 +212,8 @@ module _ {name : List ℕ} {t : Taken} {what : Missing} {count : ℕ} {targets :
   outputs-said : (mid new : ReportLines) (r : Result Status Stop) (more : List (List ℕ)) → Says mid new (wrote_lines count targets ++ more) r → Says mid new (map wrote_line (names_of t.outputs) ++ more) r
   outputs-said mid new r more = subst (λ (ns : List (List ℕ)). Says mid new (map wrote_line ns ++ more) r) (sym is.named)
 
-  status-told : (r : Result Status Stop) (ds : List Damage) → IfOk r (λ s. s ≡ status_of (has_absent count targets) ds) → IfOk r (λ s. s ≡ status_of (is_any t.missing) ds)
-  status-told r ds = subst (λ (a : Bool). IfOk r (λ s. s ≡ status_of a ds)) (sym (ap is_any is.missing ∙ any-absent (line_of what name) count targets))
+  status-told : (r : Result Status Stop) (ds : List Damage) → IfOk r (λ s. s ≡ status_of (has_absent count targets) ds) → IfOk r (λ s. s ≡ status_of (is_some_of t.missing) ds)
+  status-told r ds = subst (λ (a : Bool). IfOk r (λ s. s ≡ status_of a ds)) (sym (ap is_some_of is.missing ∙ any-absent (line_of what name) count targets))
 
   -- a warning of it couldn't be said
   pub begun : (old new : Seen) (why : Stop) → SaysPart old.lines new.lines (absent_lines what name count targets) → new.names ≡ old.names → Reaches old new (Err why) (done_verdict name t)

@@ -6,6 +6,7 @@ use Rattle.std.proofs.lemmas.List.Folds.{list_any-append}
 use Rattle.std.specs.List.{find, list_any}
 use Rattle.std.specs.Option.{option_map, option_map_or}
 use Rattle.mkv_io.specs.declared.damage.Damage.{Damage}
+use Rattle.mkv_io.specs.Lists.{is_some_of}
 use Rattle.word_values.specs.declared.job.Target.{Target}
 use Rattle.tree_format.specs.Node.{Node}
 use Rattle.mkv_lines.specs.Line.{warning_line, wrote_line}
@@ -17,7 +18,7 @@ use Rattle.extractors.specs.Job.{first_unfit, is_unfit, names_unfit, output_for,
 use Rattle.extractors.specs.declared.frame_form.Coding.{Coding}
 use Rattle.extractors.specs.declared.frame_form.Unfit.{Unfit}
 use Rattle.extractors.specs.declared.frame_form.Unfit.TheVariants.{NoExtractor, BadConfig}
-use Rattle.mkv_extract.specs.Extract.{absent, is_any, once}
+use Rattle.mkv_extract.specs.Extract.{absent, once}
 use Rattle.mkv_extract.specs.Read.{is_named}
 use Rattle.mkv_extract.specs.Told.{has_absent, written}
 
@@ -133,16 +134,16 @@ any-once p (n ∷ ns) = step (p n) refl (any-once p ns)
     step true is rest = refl
     step false is rest = any-left p n (once ns) is ∙ rest
 
-any-line : (line : ℕ → List ℕ) (p : ℕ → Bool) (ns : List ℕ) → is_any (map line (filter p ns)) ≡ list_any p ns
+any-line : (line : ℕ → List ℕ) (p : ℕ → Bool) (ns : List ℕ) → is_some_of (map line (filter p ns)) ≡ list_any p ns
 any-line line p [] = refl
 any-line line p (n ∷ ns) = step (p n) (any-line line p ns)
   where
-    step : (here : Bool) → is_any (map line (filter p ns)) ≡ list_any p ns → is_any (map line (if here then n ∷ filter p ns else filter p ns)) ≡ (here || list_any p ns)
+    step : (here : Bool) → is_some_of (map line (filter p ns)) ≡ list_any p ns → is_some_of (map line (if here then n ∷ filter p ns else filter p ns)) ≡ (here || list_any p ns)
     step true rest = refl
     step false rest = rest
 
 -- a line is told where targets name what isn't there
-pub any-absent : (line : ℕ → List ℕ) (count : ℕ) (targets : List Target) → is_any (map line (absent count targets)) ≡ has_absent count targets
+pub any-absent : (line : ℕ → List ℕ) (count : ℕ) (targets : List Target) → is_some_of (map line (absent count targets)) ≡ has_absent count targets
 any-absent line count targets = any-line line (nat_le count) (once (map (λ (t : Target). t.id) targets)) ∙ any-once (nat_le count) (map (λ (t : Target). t.id) targets) ∙ ids targets
   where
     ids : (ts : List Target) → list_any (nat_le count) (map (λ (t : Target). t.id) ts) ≡ has_absent count ts

@@ -1,5 +1,6 @@
 -- What `extract` comes to. All of it is this project's, after mkvextract(1).
 use Rattle.std.specs.Prelude.{ℕ, ◌+◌, ◌==◌, nat_le, Bool, true, false, if◌then◌else◌, not, List, [], ◌∷◌, ◌++◌, length, map, filter, Option, Some, None, ok_or, option_map, option_to_list, Result, Ok, Err}
+use Rattle.mkv_io.specs.Lists.{is_some_of}
 use Rattle.mkv_io.specs.Results.{and_then, unless}
 use Rattle.mkv_io.specs.declared.damage.Damage.{Damage}
 use Rattle.word_values.specs.declared.job.Job.{Job}
@@ -133,11 +134,6 @@ told_bad name d = bad_frame_lines name d.first d.more
 abbrev pub warned : List ℕ → Taken → List (List ℕ)
 warned name t = told_lines name (told_damages t.damages) ++ told_bad name (told_damages t.bad_frames)
 
--- there is a line at least
-abbrev pub is_any : List (List ℕ) → Bool
-is_any [] = false
-is_any (line ∷ lines) = true
-
 -- all is done; a thing that isn't there and what is wrong with the file are warned of
 abbrev pub status_of : Bool → List Damage → Status
 status_of false [] = Done
@@ -147,7 +143,7 @@ status_of true damages = Warned
 -- What is taken is written. What isn't there is said before, and what is written and what is wrong behind.
 abbrev pub done_verdict : List ℕ → Taken → Verdict
 done_verdict name t = record {
-  status = status_of (is_any t.missing) (t.damages ++ t.bad_frames);
+  status = status_of (is_some_of t.missing) (t.damages ++ t.bad_frames);
   lines = t.missing ++ (map wrote_line (names_of t.outputs) ++ warned name t);
   before = t.missing;
   outputs = at_once t.outputs;

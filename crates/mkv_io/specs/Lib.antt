@@ -15,3 +15,4 @@ pub mod Results
 pub mod Sorted
 pub mod Seen
 pub mod Bounds
+pub mod Lists

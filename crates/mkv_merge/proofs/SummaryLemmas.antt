@@ -26,7 +26,8 @@ use Rattle.merge_plan.specs.Plan.{Source, inputs_given, lanes_given, numbers_of}
 use Rattle.merge_plan.specs.Records.{is_appended}
 use Rattle.merge_plan.proofs.ChainLemmas.{numbers-below}
 use Rattle.mkv_lines.specs.Line.{more_damages_line, warning_line}
-use Rattle.mkv_merge.specs.Merge.{damages_met, has_damage, is_some_of, links_met, told_lines, warnings}
+use Rattle.mkv_io.specs.Lists.{is_some_of}
+use Rattle.mkv_merge.specs.Merge.{damages_met, has_damage, links_met, told_lines, warnings}
 use Rattle.mkv_merge.specs.Told.{damages_at, input_warnings, more_at, warnings_from}
 
 -- ---- tests of numbers

@@ -14,7 +14,8 @@ use Rattle.mkv_lines.proofs.SaidLemmas.{SaysUpTo-begins, SaysUpTo-ends, SaysUpTo
 use Rattle.remux_plan.specs.declared.summary.InputDamage.{InputDamage}
 use Rattle.remux_plan.specs.declared.summary.MoreDamage.{MoreDamage}
 use Rattle.remux_plan.specs.declared.summary.Summary.{Summary}
-use Rattle.mkv_merge.specs.Merge.{absent, absent_lines, absent_of, has_absent, is_some_of, lines_before}
+use Rattle.mkv_io.specs.Lists.{is_some_of}
+use Rattle.mkv_merge.specs.Merge.{absent, absent_lines, absent_of, has_absent, lines_before}
 use Rattle.mkv_merge.specs.Prepared.{reads_in}
 use Rattle.mkv_merge.specs.Told.{damages_at, input_warnings, more_at, warnings_from}
 

@@ -22,7 +22,8 @@ use Rattle.mkv_lines.specs.declared.status.Stop.{Stop}
 use Rattle.mkv_io.specs.Bounds.{ReadsUpTo}
 use Rattle.mkv_merge.specs.Bound.{contents_length, live_size, most_of}
 use Rattle.mkv_merge.specs.Ends.{end_as}
-use Rattle.mkv_merge.specs.Merge.{has_damage, is_some_of, outputs_of, refusals_read, sources_in, warnings}
+use Rattle.mkv_io.specs.Lists.{is_some_of}
+use Rattle.mkv_merge.specs.Merge.{has_damage, outputs_of, refusals_read, sources_in, warnings}
 use Rattle.mkv_io.specs.Results.{unless}
 use Rattle.mkv_merge.specs.Prepared.{IfAllTold, sources_with}
 use Rattle.mkv_merge.specs.Read.{contents_held, first_written}

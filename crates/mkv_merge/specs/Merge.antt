@@ -5,6 +5,7 @@ use Rattle.std.specs.Option.{option_map, option_map_or}
 use Rattle.std.specs.Result.{result_err}
 use Rattle.mkv_io.specs.declared.damage.Damage.{Damage}
 use Rattle.mkv_io.specs.Faults.{counted}
+use Rattle.mkv_io.specs.Lists.{is_some_of}
 use Rattle.cluster_reader.specs.ToldDamages.{ToldDamages, told_damages}
 use Rattle.output_model.specs.OutputBlock.{OutputBlock}
 use Rattle.tree_format.specs.Node.{Node}
@@ -117,11 +118,6 @@ abbrev pub outputs_of : MergeWords → List Source → List PlannedOutput
 outputs_of words sources = map (output_at words sources) (enumerate_from 1 (parts_of words sources))
 
 -- ---- what is warned of
-
--- a list has something
-abbrev pub is_some_of : {A : Type 0} → List A → Bool
-is_some_of [] = false
-is_some_of (x ∷ xs) = true
 
 -- the tracks that the words name of a file, each once, and that it hasn't, which has so many
 abbrev pub absent_of : FileWords → ℕ → List ℕ

@@ -4,7 +4,8 @@ use Rattle.merge_words.specs.declared.files.FileWords.{FileWords}
 use Rattle.merge_words.specs.declared.output.MergeWords.{MergeWords}
 use Rattle.mkv_lines.specs.Line.{more_damages_line, warning_line, wrote_blocks_line}
 use Rattle.mkv_lines.specs.declared.status.Status.{Status}
-use Rattle.mkv_merge.specs.Merge.{has_other_count, is_some_of, status_of, uuid_lines}
+use Rattle.mkv_io.specs.Lists.{is_some_of}
+use Rattle.mkv_merge.specs.Merge.{has_other_count, status_of, uuid_lines}
 use Rattle.remux_plan.specs.declared.summary.InputDamage.{InputDamage}
 use Rattle.remux_plan.specs.declared.summary.MoreDamage.{MoreDamage}
 use Rattle.remux_plan.specs.declared.summary.Summary.{Summary}

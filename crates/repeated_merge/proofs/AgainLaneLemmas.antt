@@ -25,7 +25,8 @@ use Rattle.merge_inputs.specs.declared.taken.TakenTrack.{TakenTrack}
 use Rattle.merge_plan.specs.Chains.{columns_from}
 use Rattle.merge_plan.specs.Plan.{Source, given_from, inputs_given, lanes_given}
 use Rattle.merge_plan.specs.Front.{reads_of}
-use Rattle.mkv_merge.specs.Merge.{has_damage, is_some_of, links_met}
+use Rattle.mkv_io.specs.Lists.{is_some_of}
+use Rattle.mkv_merge.specs.Merge.{has_damage, links_met}
 use Rattle.repeated_merge.specs.AgainLanes.{IsReadOfOutput, IsTakenPlain, LanesAreMergedAgain}
 
 -- ---- one source

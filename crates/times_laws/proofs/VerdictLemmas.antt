@@ -29,7 +29,8 @@ use Rattle.merge_plan.specs.Plan.{Source, drivers_by, inputs_given, is_video, la
 use Rattle.merge_plan.specs.Records.{entries_of, first_title, records_of, tracks_taken}
 use Rattle.mkv_lines.specs.Line.{append_differs_line, missing_line, no_track_line, pending_edit_line}
 use Rattle.mkv_lines.specs.Verdict.{Verdict, in_turn, refused}
-use Rattle.mkv_merge.specs.Merge.{absent, absent_lines, absent_of, front_for, has_absent, has_damage, has_other_count, is_some_of, lines_before, links_met, merged_verdict, output_line, outputs_of, status_of, told_lines, uuid_lines, verdict_of, warnings}
+use Rattle.mkv_io.specs.Lists.{is_some_of}
+use Rattle.mkv_merge.specs.Merge.{absent, absent_lines, absent_of, front_for, has_absent, has_damage, has_other_count, lines_before, links_met, merged_verdict, output_line, outputs_of, status_of, told_lines, uuid_lines, verdict_of, warnings}
 use Rattle.mkv_merge.specs.Read.{is_split}
 use Rattle.mkv_merge.specs.Refused.{input_line, line_of}
 use Rattle.mkv_merge.specs.declared.refusal.Refusal.{Refusal}

@@ -1,7 +1,8 @@
 -- None of the first files lacks a track.
 use Rattle.std.proofs.Common.{◌≡◌}
 use Rattle.std.specs.List.{list_any}
-use Rattle.mkv_merge.specs.Merge.{absent, has_absent, is_some_of}
+use Rattle.mkv_io.specs.Lists.{is_some_of}
+use Rattle.mkv_merge.specs.Merge.{absent, has_absent}
 use Rattle.mkv_merge.specs.Prepared.{reads_in}
 use Rattle.mkv_merge.proofs.TellingLemmas.{files_left}
 use Rattle.mkv_merge.proofs.telling.has_absent.Given as goal

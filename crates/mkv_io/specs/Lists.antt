@@ -1,0 +1,7 @@
+-- Lists, whatever their elements are.
+use Rattle.std.specs.Prelude.{Bool, true, false, List, [], ◌∷◌}
+
+-- a list has elements
+abbrev pub is_some_of : {A : Type 0} → List A → Bool
+is_some_of [] = false
+is_some_of (x ∷ xs) = true
