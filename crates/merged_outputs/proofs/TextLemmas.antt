@@ -21,7 +21,8 @@ use Rattle.track_records.specs.declared.track.Track.{Track}
 use Rattle.ebml_tree.proofs.LeafLemmas.{uint-stands, text-stands}
 use Rattle.meta_records.specs.Records.{AreRead}
 use Rattle.output_model.specs.Sound.{IsKeptElement}
-use Rattle.srt_texts.specs.Fields.{behind, cut, digits, sixtieth}
+use Rattle.mkv_io.specs.Octets.{cut}
+use Rattle.srt_texts.specs.Fields.{behind, digits, sixtieth}
 use Rattle.srt_texts.specs.Lines.{lines_of}
 use Rattle.srt_texts.proofs.FieldsLemmas.{most_digits}
 use Rattle.mkv_io.specs.declared.entry.Entry.{Entry}

@@ -18,7 +18,8 @@ use Rattle.word_values.specs.declared.edit.Selector.{Selector}
 use Rattle.word_values.specs.declared.edit.Selector.TheVariants as selector_is
 use Rattle.word_values.specs.declared.usage.ArgsEnd.{ArgsEnd}
 use Rattle.word_values.specs.Answers.{Tells, ◌>>=◌}
-use Rattle.word_values.specs.Numbers.{below, from, number, cut}
+use Rattle.mkv_io.specs.Octets.{cut}
+use Rattle.word_values.specs.Numbers.{below, from, number}
 use Rattle.word_values.specs.Place.{due, due_at, file_at, end_at, is_option}
 use Rattle.word_values.specs.Values.{track_and_rest}
 use Rattle.word_values.specs.Sound.{IsWithin}

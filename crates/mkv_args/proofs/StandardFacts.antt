@@ -25,7 +25,8 @@ use Rattle.mkv_args.specs.declared.command.Command.{Command}
 use Rattle.mkv_args.specs.declared.command.Command.TheVariants as commands
 use Rattle.mkv_args.specs.declared.commands.Verb.TheVariants as verb
 use Rattle.word_values.specs.Answers.{wrong}
-use Rattle.word_values.specs.Numbers.{amount, clock, cut, delay, delay_size, fraction, number, seconds, sixtieth, size, time, uuid, whole}
+use Rattle.mkv_io.specs.Octets.{cut}
+use Rattle.word_values.specs.Numbers.{amount, clock, delay, delay_size, fraction, number, seconds, sixtieth, size, time, uuid, whole}
 use Rattle.word_values.specs.Lists.{chapters as chapters_split, duration, ids, numbers, span, spans, split, split_of, times, uuids}
 use Rattle.word_values.specs.Values.{cluster_length, cue_word, language, scale, text, track_and_rest, track_flag, track_value, value_of}
 use Rattle.merge_words.specs.Options.{meaning_of, table}

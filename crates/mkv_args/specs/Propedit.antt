@@ -20,7 +20,8 @@ use Rattle.mkv_args.specs.Entry.{Entry, entry, meant}
 use Rattle.mkv_io.specs.Characters.{EQUALS}
 use Rattle.merge_words.specs.Items.{read_value}
 use Rattle.word_values.specs.Answers.{wrong, ◌>>=◌}
-use Rattle.word_values.specs.Numbers.{cut, from, number}
+use Rattle.mkv_io.specs.Octets.{cut}
+use Rattle.word_values.specs.Numbers.{from, number}
 use Rattle.word_values.specs.Place.{due, due_at, file_at}
 
 -- a place, counted from 1

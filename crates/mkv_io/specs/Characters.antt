@@ -1,5 +1,10 @@
--- Characters of texts and of words, as octets: marks, and the first digit.
-use Rattle.std.specs.Prelude.{ℕ}
+-- Characters of texts and of words, as octets: marks, the first digit, and any that is given as a text.
+use Rattle.std.specs.Prelude.{ℕ, slice_index, codes}
+use Prim.Native.String.{String}
+
+-- the octet of a text of one character
+abbrev pub char : String → ℕ
+char text = slice_index (codes text) 0
 
 abbrev pub TAB : ℕ
 TAB = 0x09

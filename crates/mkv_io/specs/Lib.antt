@@ -16,3 +16,5 @@ pub mod Sorted
 pub mod Seen
 pub mod Bounds
 pub mod Lists
+pub mod Octets
+pub mod Optional

@@ -6,11 +6,11 @@ use Rattle.std.specs.Prelude.{◌==◌, codes, option_and_then, option_map}
 use Rattle.std.specs.List.{list_all, position, prefix_len}
 use Rattle.std.specs.Char.{is_ascii_digit}
 use Rattle.std.specs.Str.{bytes_eq}
-use Rattle.srt_texts.specs.Fields.{cut, behind, digits, sixtieth}
+use Rattle.mkv_io.specs.Octets.{cut, lacks}
+use Rattle.srt_texts.specs.Fields.{behind, digits, sixtieth}
 use Rattle.srt_texts.specs.Pieces.{two_digits, three_digits, two_or_more, stamp}
 use Rattle.srt_texts.specs.Times.{seconds, clock, times, span, is_number}
 use Rattle.srt_texts.specs.Srt.{has_arrow}
-use Rattle.record_laws.specs.Plain.{lacks}
 use Rattle.record_laws.proofs.DigitsLemmas.{digits_lack, cut_behind, two_all, padded_all, digits_padded, digits_three, sixtieth_two}
 use Rattle.record_laws.proofs.LineLemmas.{parts_of}
 

@@ -11,7 +11,8 @@ use Rattle.srt_texts.specs.Pairs.{first_line, second_line, time_of}
 use Rattle.srt_texts.specs.Turn.{pairs}
 use Rattle.srt_texts.specs.ChapterWriting.{put_pair}
 use Rattle.srt_texts.proofs.PairsLemmas.{first_good, second_good, pairs_end, simple_is}
-use Rattle.record_laws.specs.Plain.{lacks, ends_with_return, IsLine}
+use Rattle.mkv_io.specs.Octets.{lacks}
+use Rattle.record_laws.specs.Plain.{ends_with_return, IsLine}
 use Rattle.record_laws.specs.SimpleChapters.{put_pairs, IsPlain, ChaptersAreReadBack}
 use Rattle.record_laws.proofs.DigitsLemmas.{digits_lack, cut_behind, two_all, padded_all, digits_two, digits_three, sixtieth_two, digits_padded}
 use Rattle.record_laws.proofs.LineLemmas.{lacks_both, ends_both, line_first, behind_front, parts_of, stamp_lacks, stamp_ends}

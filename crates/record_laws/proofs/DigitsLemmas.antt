@@ -8,9 +8,9 @@ use Rattle.std.specs.List.{list_all, position_or_len}
 use Rattle.std.specs.Char.{is_ascii_digit, digit_value}
 use Rattle.std.specs.Str.Parse.{digits_value, AllDigits}
 use Rattle.std.specs.Fmt.{decimal}
-use Rattle.srt_texts.specs.Fields.{cut, digits, sixtieth}
+use Rattle.mkv_io.specs.Octets.{cut, lacks}
+use Rattle.srt_texts.specs.Fields.{digits, sixtieth}
 use Rattle.srt_texts.specs.Pieces.{digit, two_digits, three_digits, two_or_more}
-use Rattle.record_laws.specs.Plain.{lacks}
 
 -- ---- digits are no other octet
 pub digit_is_not : (o b : ℕ) → is_ascii_digit o ≡ false → is_ascii_digit b ≡ true → (b == o) ≡ false

@@ -14,7 +14,8 @@ use Rattle.std.specs.Str.{bytes_eq}
 use Rattle.std.specs.Str.Lines.{lines, lines_of_parts, strip_carriage_return}
 use Rattle.srt_texts.specs.Fields.{behind}
 use Rattle.srt_texts.specs.Pieces.{digit, two_digits, three_digits, two_or_more, stamp}
-use Rattle.record_laws.specs.Plain.{lacks, ends_with_return, IsLine}
+use Rattle.mkv_io.specs.Octets.{lacks}
+use Rattle.record_laws.specs.Plain.{ends_with_return, IsLine}
 use Rattle.record_laws.proofs.DigitsLemmas.{digits_lack, two_all, three_all, padded_all}
 
 -- ---- what a text lacks

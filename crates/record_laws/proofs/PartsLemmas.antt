@@ -5,7 +5,8 @@ use Rattle.std.specs.Prelude.{◌==◌}
 use Rattle.std.specs.List.{onto_first, join_with_byte}
 use Rattle.std.specs.Str.Lines.{lines}
 use Rattle.srt_texts.specs.Srt.{trimmed, onto_lines, text_of}
-use Rattle.record_laws.specs.Plain.{lacks, IsLine}
+use Rattle.mkv_io.specs.Octets.{lacks}
+use Rattle.record_laws.specs.Plain.{IsLine}
 use Rattle.record_laws.specs.SubRip.{lines_in, ends_with_break}
 use Rattle.record_laws.proofs.LineLemmas.{lacks_more, line_first}
 

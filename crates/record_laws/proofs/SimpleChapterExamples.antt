@@ -3,7 +3,8 @@ use Rattle.std.proofs.Common.{◌≡◌, ℕ, List, [], ◌∷◌, ◌++◌, cod
 use Rattle.std.specs.Str.{is_utf8, chars}
 use lib.Utf8.{encode}
 use Rattle.srt_texts.specs.declared.chapter_reading.Chapter.{Chapter}
-use Rattle.srt_texts.specs.Fields.{cut, digits, sixtieth}
+use Rattle.mkv_io.specs.Octets.{cut}
+use Rattle.srt_texts.specs.Fields.{digits, sixtieth}
 use Rattle.srt_texts.specs.Pairs.{time_of, first_line, second_line, simple}
 use Rattle.record_laws.proofs.SubRipExamples.{text}
 

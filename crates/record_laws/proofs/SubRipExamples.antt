@@ -3,7 +3,8 @@ use Rattle.std.proofs.Common.{◌≡◌, ℕ, List, [], ◌∷◌, ◌++◌, cod
 use Rattle.std.specs.Str.{is_utf8, chars}
 use lib.Utf8.{encode}
 use Rattle.mkv_io.specs.declared.entry.Entry.{Entry}
-use Rattle.srt_texts.specs.Fields.{cut, digits, sixtieth}
+use Rattle.mkv_io.specs.Octets.{cut}
+use Rattle.srt_texts.specs.Fields.{digits, sixtieth}
 use Rattle.srt_texts.specs.Times.{seconds, clock, times, is_number}
 use Rattle.srt_texts.specs.Srt.{head, before_head, trimmed, entries, has_arrow, first_bad, srt}
 

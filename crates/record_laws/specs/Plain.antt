@@ -1,10 +1,6 @@
 -- Texts that a text file can hold in a line of its own.
-use Rattle.std.specs.Prelude.{◌≡◌, ℕ, ◌-◌, ◌==◌, Bool, true, false, not, List, length, slice_index}
-use Rattle.std.specs.List.{list_all}
-
--- no octet of a text is this one
-abbrev pub lacks : ℕ → List ℕ → Bool
-lacks octet text = list_all (λ b. not (b == octet)) text
+use Rattle.std.specs.Prelude.{◌≡◌, ℕ, ◌-◌, ◌==◌, Bool, true, false, List, length, slice_index}
+use Rattle.mkv_io.specs.Octets.{lacks}
 
 -- the last octet of a text is CR
 abbrev pub ends_with_return : List ℕ → Bool

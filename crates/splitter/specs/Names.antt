@@ -4,8 +4,7 @@ use Rattle.std.specs.List.{list_all, starts_with, ends_with}
 use Rattle.std.specs.Option.{option_and_then, option_map_or}
 use Rattle.std.specs.Char.{is_ascii_digit}
 use Rattle.std.specs.Fmt.{decimal}
-use Rattle.mkv_io.specs.Characters.{DIGIT_0, POINT}
-use Rattle.word_values.specs.Numbers.{char}
+use Rattle.mkv_io.specs.Characters.{DIGIT_0, POINT, char}
 
 -- no point and no `/`
 abbrev pub is_plain : ℕ → Bool

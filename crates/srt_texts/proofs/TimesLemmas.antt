@@ -5,7 +5,8 @@ use Rattle.std.proofs.lemmas.Bool.Decides.{nat_tests}
 use Rattle.std.specs.Prelude.{◌==◌, option_and_then}
 use Rattle.std.specs.List.{list_all, prefix_len, position_or_len}
 use Rattle.std.specs.Char.{is_ascii_digit}
-use Rattle.srt_texts.specs.Fields.{digits, sixtieth, cut}
+use Rattle.mkv_io.specs.Octets.{cut}
+use Rattle.srt_texts.specs.Fields.{digits, sixtieth}
 use Rattle.srt_texts.specs.Times.{seconds, is_blank, clock, times, is_number}
 
 none_behind : (o : Option ℕ) (f : ℕ → Option ℕ) → ((n : ℕ) → f n ≡ None) → option_and_then f o ≡ None

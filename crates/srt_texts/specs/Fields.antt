@@ -1,17 +1,10 @@
 -- The fields of a line of a text, in this project's grammar.
-use Rattle.std.specs.Prelude.{ℕ, ◌+◌, ◌&&◌, ◌==◌, nat_lt, nat_le, if◌then◌else◌, List, length, take, drop, Option, Some, None, option_map, option_and_then}
-use Rattle.std.specs.List.{list_all, position}
+use Rattle.std.specs.Prelude.{ℕ, ◌&&◌, nat_lt, nat_le, if◌then◌else◌, List, length, take, drop, Option, Some, None}
+use Rattle.std.specs.List.{list_all}
 use Rattle.std.specs.Str.{bytes_eq}
 use Rattle.std.specs.Char.{is_ascii_digit}
 use Rattle.std.specs.Str.Parse.{digits_value}
-
-infixl 10 ◌>>=◌
-abbrev pub ◌>>=◌ : {A B : Type 0} → Option A → (A → Option B) → Option B
-o >>= f = option_and_then f o
-
--- what stands before the first such octet, and what behind it
-unfoldable pub cut : ℕ → List ℕ → Option (List ℕ × List ℕ)
-cut octet word = option_map (λ i. (take i word, drop (i + 1) word)) (position (λ b. b == octet) word)
+use Rattle.mkv_io.specs.Optional.{◌>>=◌}
 
 -- what stands behind a text, where it is in front
 abbrev pub behind : List ℕ → List ℕ → Option (List ℕ)

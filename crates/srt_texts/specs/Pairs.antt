@@ -4,7 +4,9 @@ use Rattle.std.specs.List.{filter}
 use Rattle.std.specs.Str.{is_utf8}
 use Rattle.mkv_io.specs.Characters.{COLON, EQUALS, POINT}
 use Rattle.srt_texts.specs.Lines.{Line, all_lines, lines_of, numbered}
-use Rattle.srt_texts.specs.Fields.{◌>>=◌, cut, behind, digits, sixtieth}
+use Rattle.mkv_io.specs.Optional.{◌>>=◌}
+use Rattle.mkv_io.specs.Octets.{cut}
+use Rattle.srt_texts.specs.Fields.{behind, digits, sixtieth}
 use Rattle.srt_texts.specs.declared.chapter_reading.Chapter.{Chapter}
 use Rattle.mkv_io.specs.Results.{and_then}
 

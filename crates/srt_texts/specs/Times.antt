@@ -3,7 +3,9 @@ use Rattle.std.specs.Prelude.{ℕ, ◌+◌, ◌*◌, Bool, ◌&&◌, ◌||◌, �
 use Rattle.std.specs.List.{list_all, prefix_len}
 use Rattle.std.specs.Char.{is_ascii_digit}
 use Rattle.mkv_io.specs.Characters.{COLON, COMMA, POINT, SPACE, TAB}
-use Rattle.srt_texts.specs.Fields.{◌>>=◌, cut, behind, digits, sixtieth}
+use Rattle.mkv_io.specs.Optional.{◌>>=◌}
+use Rattle.mkv_io.specs.Octets.{cut}
+use Rattle.srt_texts.specs.Fields.{behind, digits, sixtieth}
 use Rattle.srt_texts.specs.declared.times.Times.{Times}
 
 -- `SS,mmm` or `SS.mmm` in front, in milliseconds

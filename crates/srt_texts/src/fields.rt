@@ -2,15 +2,16 @@
 
 ghost use Rattle.std.specs.Prelude.{◌≡◌, ◌<◌, ◌≤◌, ◌^◌, true, false, IfSome, MatchOption, option_map};
 ghost use Rattle.std.specs.Str.{is_utf8};
+ghost use Rattle.mkv_io.specs.Octets as octets;
 ghost use Rattle.srt_texts.specs.Fields as spec;
 
 use crate::lines::place_of;
 use std::str;
 
 /// What stands before and behind the first such octet.
-#[tactic(auto, unfolding(crate::specs::Fields::cut))]
+#[tactic(auto, unfolding(mkv_io::specs::Octets::cut))]
 pub fn cut(word: &[u8], octet: u8) -> Option<(&[u8], &[u8])>
-    ensures { option_map (λ p. (p.0.now, p.1.now)) result ≡ spec.cut octet word.now }
+    ensures { option_map (λ p. (p.0.now, p.1.now)) result ≡ octets.cut octet word.now }
 {
     let at = place_of(word, octet)?;
     Some((&word[..at], &word[at + 1..]))

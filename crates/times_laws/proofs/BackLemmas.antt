@@ -4,7 +4,8 @@ use Rattle.std.proofs.lemmas.Bool.Decides.{nat_tests}
 use Rattle.std.specs.Prelude.{◌==◌, codes, slice_index, flat_map}
 use Rattle.std.specs.Str.Lines.{lines}
 use Rattle.srt_texts.specs.Lines.{lines_of}
-use Rattle.record_laws.specs.Plain.{lacks, ends_with_return, IsLine}
+use Rattle.mkv_io.specs.Octets.{lacks}
+use Rattle.record_laws.specs.Plain.{ends_with_return, IsLine}
 use Rattle.record_laws.proofs.LineLemmas.{ends_more, line_first}
 use Rattle.ext_times.specs.Counted.{is_passed, counted}
 use Rattle.ext_times.specs.Listing.{Each, times, each_listed, listing}

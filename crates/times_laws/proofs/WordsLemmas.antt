@@ -9,8 +9,8 @@ use Rattle.std.specs.List.{list_all, position_or_len}
 use Rattle.std.specs.Char.{is_ascii_digit, digit_value}
 use Rattle.std.specs.Str.Parse.{digits_value}
 use Rattle.std.specs.Fmt.{decimal}
-use Rattle.srt_texts.specs.Fields.{cut, digits}
-use Rattle.record_laws.specs.Plain.{lacks}
+use Rattle.mkv_io.specs.Octets.{cut, lacks}
+use Rattle.srt_texts.specs.Fields.{digits}
 use Rattle.record_laws.proofs.DigitsLemmas.{digit_is_not, digits_lack, cut_behind, decimal_all}
 use Rattle.record_laws.proofs.LineLemmas.{lacks_both, lacks_more}
 use Rattle.ext_times.specs.Fields.{fraction, millionths, time_size, time}

@@ -9,9 +9,10 @@ use Rattle.std.specs.List.{list_all, position_or_len}
 use Rattle.std.specs.Char.{is_ascii_digit, digit_value}
 use Rattle.std.specs.Str.Parse.{AllDigits}
 use Rattle.std.specs.Fmt.{decimal}
-use Rattle.word_values.specs.Numbers.{cut, whole, number}
+use Rattle.mkv_io.specs.Octets.{cut, lacks}
+use Rattle.word_values.specs.Numbers.{whole, number}
 use Rattle.word_values.specs.Values.{track_and_rest}
-use Rattle.word_laws.specs.Values.{HasFewDigits, with_number, lacks}
+use Rattle.word_laws.specs.Values.{HasFewDigits, with_number}
 
 -- ---- the digits of a number
 value_digit : (c : ℕ) → digit_value c < 10 → is_ascii_digit c ≡ true

@@ -16,7 +16,8 @@ use Rattle.word_values.specs.Numbers.{ends, whole, time, size, amount, uuid}
 use Rattle.word_values.specs.Lists.{times, span, spans, duration, chapters, split_of, split, uuids}
 use Rattle.word_values.specs.Values.{value_of}
 use Rattle.word_values.specs.Sound.{IsSoundSplit, IsSpan, AreUuids}
-use Rattle.word_laws.specs.Values.{is_in, size_word, lacks, with_commas, numbers_word, last_digits, time_word, span_word, split_word}
+use Rattle.mkv_io.specs.Octets.{lacks}
+use Rattle.word_laws.specs.Values.{is_in, size_word, with_commas, numbers_word, last_digits, time_word, span_word, split_word}
 use Rattle.word_laws.specs.SpellableMerge.{is_size, AreIds, IsSplit}
 use Rattle.word_laws.proofs.NumberLemmas.{decimal_all, whole_read, cut_behind}
 use Rattle.word_laws.proofs.SimpleLemmas.{other_word}

@@ -16,7 +16,8 @@ use Rattle.word_values.specs.declared.lists.SpanWords.{SpanWords}
 use Rattle.word_values.specs.Numbers.{whole, sixtieth, fraction, seconds, clock, ends, time, is_hex, uuid}
 use Rattle.word_values.specs.Lists.{span, span_of}
 use Rattle.word_values.specs.Sound.{IsSpan}
-use Rattle.word_laws.specs.Values.{lacks, last_digits, time_word, end_word, span_word}
+use Rattle.mkv_io.specs.Octets.{lacks}
+use Rattle.word_laws.specs.Values.{last_digits, time_word, end_word, span_word}
 use Rattle.word_laws.proofs.NumberLemmas.{decimal_lacks, digits_lack, whole_read, cut_behind}
 use Rattle.word_laws.proofs.ValueLemmas.{digits_end}
 

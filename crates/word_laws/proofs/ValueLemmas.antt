@@ -20,7 +20,8 @@ use Rattle.word_values.specs.Numbers.{number, delay_size, delay, ends, front}
 use Rattle.word_values.specs.Lists.{pieces, each, numbers, ids}
 use Rattle.word_values.specs.Values.{text, is_language, language, scale, cluster_length, track_flag, cue_word, track_value, value_of}
 use Rattle.word_values.specs.Sound.{IsWithin}
-use Rattle.word_laws.specs.Values.{HasFewDigits, with_number, lacks, with_commas, numbers_word, delay_word, flag_word, cues_word}
+use Rattle.mkv_io.specs.Octets.{lacks}
+use Rattle.word_laws.specs.Values.{HasFewDigits, with_number, with_commas, numbers_word, delay_word, flag_word, cues_word}
 use Rattle.word_laws.proofs.NumberLemmas.{digit_is_not, lacks_parts, short_fits, decimal_all, decimal_lacks, first_other, number_read, numbered_read}
 
 -- ---- texts

@@ -14,7 +14,8 @@ use Rattle.mkv_args.specs.declared.commands.Verb.{Verb}
 use Rattle.mkv_args.specs.declared.commands.Verb.TheVariants as verb
 use Rattle.mkv_args.specs.declared.propedit.TheConstants.{VIDEO_TRACK, AUDIO_TRACK, SUBTITLE_TRACK}
 use Rattle.mkv_io.specs.Characters.{EQUALS}
-use Rattle.word_laws.specs.Values.{HasFewDigits, lacks}
+use Rattle.mkv_io.specs.Octets.{lacks}
+use Rattle.word_laws.specs.Values.{HasFewDigits}
 use Rattle.word_laws.specs.Names.{IsFile, IsInput}
 use Rattle.word_laws.specs.SpellableMerge.{IsSpellableMerge}
 

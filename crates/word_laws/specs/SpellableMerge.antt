@@ -11,7 +11,8 @@ use Rattle.merge_words.specs.declared.files.FileWords.{FileWords}
 use Rattle.merge_words.specs.declared.output.MergeWords.{MergeWords}
 use Rattle.merge_words.specs.Files.{ids_of_select, once}
 use Rattle.word_laws.specs.Names.{IsInput}
-use Rattle.word_laws.specs.Values.{HasFewDigits, lacks, is_in}
+use Rattle.mkv_io.specs.Octets.{lacks}
+use Rattle.word_laws.specs.Values.{HasFewDigits, is_in}
 
 -- the tracks of which something is said
 abbrev pub tracks_of : {X : Type 0} → List (ℕ × X) → List ℕ

@@ -1,6 +1,5 @@
 -- How values are spelled.
-use Rattle.std.specs.Prelude.{ℕ, zero, suc, ◌/◌, ◌%◌, ◌^◌, ◌<◌, ◌==◌, ℤ, nat_abs, pos, Bool, not, ◌&&◌, nat_lt, if◌then◌else◌, List, [], ◌∷◌, ◌++◌, map, codes, Option, Some, None}
-use Rattle.std.specs.List.{list_all}
+use Rattle.std.specs.Prelude.{ℕ, zero, suc, ◌/◌, ◌%◌, ◌^◌, ◌<◌, ◌==◌, ℤ, nat_abs, pos, Bool, ◌&&◌, nat_lt, if◌then◌else◌, List, [], ◌∷◌, ◌++◌, map, codes, Option, Some, None}
 use Rattle.std.specs.Char.{digit_char}
 use Rattle.std.specs.Fmt.{decimal}
 use Rattle.word_values.specs.declared.lists.SpanWords.{SpanWords}
@@ -16,10 +15,6 @@ HasFewDigits n = n < 10 ^ 18
 -- a number, and what is said of it
 abbrev pub with_number : ℕ → List ℕ → List ℕ
 with_number n rest = decimal n ++ (codes ":" ++ rest)
-
--- no octet of a word is this one
-abbrev pub lacks : ℕ → List ℕ → Bool
-lacks octet word = list_all (λ b. not (b == octet)) word
 
 -- commas between words
 abbrev pub with_commas : List (List ℕ) → List ℕ

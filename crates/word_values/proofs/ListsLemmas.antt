@@ -4,7 +4,7 @@ use Rattle.std.proofs.lemmas.Grind.{common_steps}
 use Rattle.std.proofs.lemmas.Bool.Decides.{nat_tests}
 use Rattle.std.specs.Prelude.{option_map, unwrap_or, ◌==◌}
 use Rattle.std.specs.List.{slice_split, position_or_len}
-use Rattle.word_values.specs.Numbers.{cut}
+use Rattle.mkv_io.specs.Octets.{cut}
 use Rattle.word_values.specs.Lists.{pieces, each, onto, ascend}
 
 -- the parts before and behind the first that passes

@@ -11,7 +11,8 @@ use denote.Ref.{Bor}
 use lib.Dec.{eqb}
 use Rattle.std.specs.Char.{is_ascii_digit, digit_value}
 use Rattle.std.specs.Str.Parse.{digits_value, digits_value_after}
-use Rattle.word_values.specs.Numbers.{below, whole, is_hex, cut}
+use Rattle.mkv_io.specs.Octets.{cut}
+use Rattle.word_values.specs.Numbers.{below, whole, is_hex}
 
 -- what digits write behind those of a number
 abbrev pub read_on : ℕ → List ℕ → Option ℕ

@@ -15,8 +15,10 @@ use Rattle.word_values.specs.declared.values.ValueForm.TheVariants as form
 use Rattle.word_values.specs.declared.values.Value.{Value}
 use Rattle.word_values.specs.declared.values.Value.TheVariants.{Flag, File, Text, Scale, Blocks, Span, Split, Uuids, Tracks, TrackDelay, TrackText, TrackLanguage, TrackFlag, TrackCues, TrackFile}
 use Rattle.word_values.specs.declared.lists.Select.TheVariants.{Off}
-use Rattle.mkv_io.specs.Characters.{COLON, DASH}
-use Rattle.word_values.specs.Numbers.{◌>>=◌, below, char, from, cut, number, delay_size, delay, ends, front, clock, whole, time, amount, times_unit, size, uuid}
+use Rattle.mkv_io.specs.Characters.{COLON, DASH, char}
+use Rattle.mkv_io.specs.Optional.{◌>>=◌}
+use Rattle.mkv_io.specs.Octets.{cut}
+use Rattle.word_values.specs.Numbers.{below, from, number, delay_size, delay, ends, front, clock, whole, time, amount, times_unit, size, uuid}
 use Rattle.word_values.specs.Lists.{pieces, onto, each, passing, ascend, times, span_of, span, follow, spans, differ, uuids, numbers, ids, duration, chapters, split_of, split}
 use Rattle.word_values.specs.Values.{flag_of, text, is_language, language, scale, cluster_length, track_and_rest, flag_in, track_flag, cue_word, track_value, value_of}
 use Rattle.word_values.proofs.AnswerLemmas.{either}

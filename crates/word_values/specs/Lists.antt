@@ -7,8 +7,10 @@ use Rattle.word_values.specs.declared.lists.Select.TheVariants.{These, AllBut}
 use Rattle.word_values.specs.declared.lists.SpanWords.{SpanWords}
 use Rattle.word_values.specs.declared.lists.SplitWords.{SplitWords}
 use Rattle.word_values.specs.declared.lists.SplitWords.TheVariants.{Duration, Times, Parts, AllChapters, Chapters, Size}
-use Rattle.mkv_io.specs.Characters.{COLON, COMMA, DASH}
-use Rattle.word_values.specs.Numbers.{◌>>=◌, char, cut, from, number, size, time, uuid}
+use Rattle.mkv_io.specs.Characters.{COLON, COMMA, DASH, char}
+use Rattle.mkv_io.specs.Optional.{◌>>=◌}
+use Rattle.mkv_io.specs.Octets.{cut}
+use Rattle.word_values.specs.Numbers.{from, number, size, time, uuid}
 
 -- what stands between the commas
 abbrev pub pieces : List ℕ → List (List ℕ)

@@ -1,14 +1,11 @@
 -- Numbers, times and sizes, as they are spelled in words: this project's grammar.
-use Rattle.std.specs.Prelude.{ℕ, ℤ, pos, neg_ℤ, ◌+◌, ◌-◌, ◌*◌, ◌^◌, min, Bool, ◌&&◌, ◌==◌, nat_lt, nat_le, if◌then◌else◌, List, length, take, drop, slice_index, codes, Option, Some, None, option_map, option_and_then}
-use Rattle.std.specs.List.{list_all, position}
+use Rattle.std.specs.Prelude.{ℕ, ℤ, pos, neg_ℤ, ◌+◌, ◌-◌, ◌*◌, ◌^◌, min, Bool, ◌&&◌, ◌==◌, nat_lt, nat_le, if◌then◌else◌, List, length, take, drop, slice_index, Option, Some, None, option_map}
+use Rattle.std.specs.List.{list_all}
 use Rattle.std.specs.Char.{is_ascii_digit, is_digit}
 use Rattle.std.specs.Str.Parse.{digits_value}
-use Prim.Native.String.{String}
-use Rattle.mkv_io.specs.Characters.{COLON, DASH, POINT}
-
-infixl 10 ◌>>=◌
-abbrev pub ◌>>=◌ : {A B : Type 0} → Option A → (A → Option B) → Option B
-o >>= f = option_and_then f o
+use Rattle.mkv_io.specs.Characters.{COLON, DASH, POINT, char}
+use Rattle.mkv_io.specs.Octets.{cut}
+use Rattle.mkv_io.specs.Optional.{◌>>=◌}
 
 -- the number, where it is below the limit
 abbrev pub below : ℕ → Option ℕ → Option ℕ
@@ -19,10 +16,6 @@ below limit (Some n) = if nat_lt n limit then Some n else None
 abbrev pub from : ℕ → Option ℕ → Option ℕ
 from least None = None
 from least (Some n) = if nat_le least n then Some n else None
-
--- what stands before the first such octet, and what behind it
-unfoldable pub cut : ℕ → List ℕ → Option (List ℕ × List ℕ)
-cut octet word = option_map (λ i. (take i word, drop (i + 1) word)) (position (λ b. b == octet) word)
 
 -- one or more decimal digits
 unfoldable pub whole : List ℕ → Option ℕ
@@ -70,10 +63,6 @@ clock word = do
   minutes ← sixtieth m.0
   n ← seconds m.1
   Some ((hours * 3600 + minutes * 60) * 1000000000 + n)
-
--- the octet of a text of one character
-abbrev pub char : String → ℕ
-char text = slice_index (codes text) 0
 
 -- the word ends with this octet
 abbrev pub ends : List ℕ → ℕ → Bool

@@ -10,8 +10,10 @@ use Rattle.word_values.specs.declared.values.ValueForm.{ValueForm}
 use Rattle.word_values.specs.declared.values.ValueForm.TheVariants as form
 use Rattle.word_values.specs.declared.values.Value.{Value}
 use Rattle.word_values.specs.declared.values.Value.TheVariants.{Flag, File, Text, Scale, Blocks, Span, Split, Uuids, Tracks, TrackDelay, TrackText, TrackLanguage, TrackFlag, TrackCues, TrackFile}
-use Rattle.mkv_io.specs.Characters.{COLON}
-use Rattle.word_values.specs.Numbers.{◌>>=◌, below, from, char, cut, number, delay, ends, front}
+use Rattle.mkv_io.specs.Characters.{COLON, char}
+use Rattle.mkv_io.specs.Optional.{◌>>=◌}
+use Rattle.mkv_io.specs.Octets.{cut}
+use Rattle.word_values.specs.Numbers.{below, from, number, delay, ends, front}
 use Rattle.word_values.specs.Lists.{ids, split, uuids}
 
 -- what an option without a value says; none where a value is due

@@ -2,6 +2,7 @@
 
 ghost use Rattle.std.specs.Prelude.{◌≡◌, ◌==◌, ◌^◌, ◌<◌, IfSome, option_map};
 ghost use Rattle.std.specs.List.{position};
+ghost use Rattle.mkv_io.specs.Octets as octets;
 ghost use Rattle.word_values.specs.Numbers as spec;
 ghost use Rattle.word_values.specs.Numbers.{below};
 
@@ -16,9 +17,9 @@ const TIME_LIMIT: u64 = 1 << 63;
 const DELAY_LIMIT: u64 = 1 << 55;
 
 /// What stands before and behind the first such octet.
-#[tactic(auto, unfolding(crate::specs::Numbers::cut))]
+#[tactic(auto, unfolding(mkv_io::specs::Octets::cut))]
 pub(crate) fn cut(word: &[u8], octet: u8) -> Option<(&[u8], &[u8])>
-    ensures { option_map (λ p. (p.0.now, p.1.now)) result ≡ spec.cut octet word.now }
+    ensures { option_map (λ p. (p.0.now, p.1.now)) result ≡ octets.cut octet word.now }
 {
     let at = place_of(word, octet)?;
     Some((&word[..at], &word[at + 1..]))
@@ -27,7 +28,7 @@ pub(crate) fn cut(word: &[u8], octet: u8) -> Option<(&[u8], &[u8])>
 /// The same of text, at an ASCII character.
 pub fn cut_text(word: &str, mark: char) -> Option<(&str, &str)>
     requires { mark < 128 }
-    ensures { option_map (λ p. (p.0.now, p.1.now)) result ≡ spec.cut mark word.now }
+    ensures { option_map (λ p. (p.0.now, p.1.now)) result ≡ octets.cut mark word.now }
 {
     word.split_once(mark)
 }

@@ -1,6 +1,6 @@
 use Rattle.std.proofs.Common.{arith, sym, ◌≡◌, Some, None}
 use Rattle.std.proofs.lemmas.Grind.{common_steps}
-use Rattle.word_values.specs.Numbers.{cut}
+use Rattle.mkv_io.specs.Octets.{cut}
 use Rattle.word_values.proofs.ListsLemmas.{joined_more, joined_bad, joined_last, joined_last_bad, cut_shorter}
 use Rattle.word_values.proofs.lists.list_of.Goals as goal
 
