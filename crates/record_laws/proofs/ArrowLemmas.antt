@@ -11,7 +11,8 @@ use Rattle.srt_texts.specs.Fields.{behind, digits, sixtieth}
 use Rattle.srt_texts.specs.Pieces.{two_digits, three_digits, two_or_more, stamp}
 use Rattle.srt_texts.specs.Times.{seconds, clock, times, span, is_number}
 use Rattle.srt_texts.specs.Srt.{has_arrow}
-use Rattle.record_laws.proofs.DigitsLemmas.{digits_lack, cut_behind, two_all, padded_all, digits_padded, digits_three, sixtieth_two}
+use Rattle.mkv_io.proofs.OctetsLemmas.{digits_lack, cut_behind}
+use Rattle.record_laws.proofs.DigitsLemmas.{two_all, padded_all, digits_padded, digits_three, sixtieth_two}
 use Rattle.record_laws.proofs.LineLemmas.{parts_of}
 
 -- ---- an arrow

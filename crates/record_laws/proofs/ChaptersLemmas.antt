@@ -14,8 +14,9 @@ use Rattle.srt_texts.proofs.PairsLemmas.{first_good, second_good, pairs_end, sim
 use Rattle.mkv_io.specs.Octets.{lacks}
 use Rattle.record_laws.specs.Plain.{ends_with_return, IsLine}
 use Rattle.record_laws.specs.SimpleChapters.{put_pairs, IsPlain, ChaptersAreReadBack}
-use Rattle.record_laws.proofs.DigitsLemmas.{digits_lack, cut_behind, two_all, padded_all, digits_two, digits_three, sixtieth_two, digits_padded}
-use Rattle.record_laws.proofs.LineLemmas.{lacks_both, ends_both, line_first, behind_front, parts_of, stamp_lacks, stamp_ends}
+use Rattle.mkv_io.proofs.OctetsLemmas.{digits_lack, cut_behind, lacks_both}
+use Rattle.record_laws.proofs.DigitsLemmas.{two_all, padded_all, digits_two, digits_three, sixtieth_two, digits_padded}
+use Rattle.record_laws.proofs.LineLemmas.{ends_both, line_first, behind_front, parts_of, stamp_lacks, stamp_ends}
 
 -- a time of fewer than 100 hours is read back
 time_written : (ms : ℕ) → ms < 360000000 → time_of (stamp 46 ms) ≡ Some (ms * 1000000)

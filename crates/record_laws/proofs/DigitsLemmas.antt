@@ -1,59 +1,15 @@
 -- Numbers that are written are read back.
-use Rattle.std.proofs.Common.{◌≡◌, ℕ, suc, ◌+◌, ◌/◌, ◌%◌, ◌^◌, ◌<◌, ◌≤◌, Bool, true, false, not, ◌&&◌, cond, nat_lt, nat_le, List, [], ◌∷◌, ◌++◌, length, take, drop, Some, refl, arith, eqb-true}
+use Rattle.std.proofs.Common.{◌≡◌, ℕ, ◌/◌, ◌%◌, ◌^◌, ◌<◌, ◌≤◌, Bool, true, false, cond, nat_lt, nat_le, length, Some, refl, arith}
 use Rattle.std.proofs.lemmas.Grind.{common_steps}
 use Rattle.std.proofs.lemmas.Bool.Decides.{nat_tests}
 use Rattle.std.proofs.lemmas.Fmt.{decimal_is_IsNumeral, decimal_step, length-decimal-le}
-use Rattle.std.specs.Prelude.{◌==◌}
-use Rattle.std.specs.List.{list_all, position_or_len}
+use Rattle.std.specs.List.{list_all}
 use Rattle.std.specs.Char.{is_ascii_digit, digit_value}
-use Rattle.std.specs.Str.Parse.{digits_value, AllDigits}
+use Rattle.std.specs.Str.Parse.{digits_value}
 use Rattle.std.specs.Fmt.{decimal}
-use Rattle.mkv_io.specs.Octets.{cut, lacks}
+use Rattle.mkv_io.proofs.OctetsLemmas.{decimal_all}
 use Rattle.srt_texts.specs.Fields.{digits, sixtieth}
 use Rattle.srt_texts.specs.Pieces.{digit, two_digits, three_digits, two_or_more}
-
--- ---- digits are no other octet
-pub digit_is_not : (o b : ℕ) → is_ascii_digit o ≡ false → is_ascii_digit b ≡ true → (b == o) ≡ false
-digit_is_not o b other is = split (b == o) refl
-  where
-    split : (c : Bool) → (b == o) ≡ c → (b == o) ≡ false
-    split true same = let e : b ≡ o = eqb-true b o same in absurd (cc)
-    split false same = same
-
-pub digits_lack : (o : ℕ) (ds : List ℕ) → is_ascii_digit o ≡ false → list_all is_ascii_digit ds ≡ true → lacks o ds ≡ true
-digits_lack o [] other all = refl
-digits_lack o (b ∷ bs) other all = split (is_ascii_digit b) refl all (λ h. digits_lack o bs other h)
-  where
-    split : (c : Bool) → is_ascii_digit b ≡ c → (c && list_all is_ascii_digit bs) ≡ true → (list_all is_ascii_digit bs ≡ true → lacks o bs ≡ true) → lacks o (b ∷ bs) ≡ true
-    split true is all more = let no = digit_is_not o b other is in let r = more all in rw (no, r) refl
-    split false is all more = absurd (cc)
-
--- ---- the first such octet
-same_octet : (o : ℕ) → (o == o) ≡ true
-same_octet o = grind (arith, nat_tests)
-
-first_at : (o : ℕ) (w rest : List ℕ) → lacks o w ≡ true → position_or_len (λ b. b == o) (w ++ (o ∷ rest)) ≡ length w
-first_at o [] rest none = rw (same_octet o) refl
-first_at o (b ∷ bs) rest none = split (b == o) refl none (λ h. first_at o bs rest h)
-  where
-    split : (c : Bool) → (b == o) ≡ c → (not c && lacks o bs) ≡ true → (lacks o bs ≡ true → position_or_len (λ d. d == o) (bs ++ (o ∷ rest)) ≡ length bs)
-        → position_or_len (λ d. d == o) ((b ∷ bs) ++ (o ∷ rest)) ≡ length (b ∷ bs)
-    split true is none more = absurd (cc)
-    split false is none more = let r = more none in rw (is, r) (omega arith)
-
-drop_behind : (w : List ℕ) (o : ℕ) (rest : List ℕ) → drop (length w + 1) (w ++ (o ∷ rest)) ≡ rest
-drop_behind [] o rest = refl
-drop_behind (b ∷ bs) o rest = let e : suc (length bs) + 1 ≡ suc (length bs + 1) = omega arith in rw e (drop_behind bs o rest)
-
--- what stands before and behind the first such octet
-pub cut_behind : (o : ℕ) (w rest : List ℕ) → lacks o w ≡ true → cut o (w ++ (o ∷ rest)) ≡ Some (w, rest)
-unfolding cut
-cut_behind o w rest none =
-    let at = first_at o w rest none in
-    let within : nat_lt (length w) (length (w ++ (o ∷ rest))) ≡ true = grind (arith, nat_tests, common_steps) in
-    let front : take (length w) (w ++ (o ∷ rest)) ≡ w = grind (arith, common_steps) in
-    let back : drop (length w + 1) (w ++ (o ∷ rest)) ≡ rest = drop_behind w o rest in
-    rw (at, within, front, back) refl
 
 -- ---- numbers of two and of three digits
 pub digit_is : (n : ℕ) → is_ascii_digit (digit n) ≡ true
@@ -91,16 +47,6 @@ sixtieth_two n small =
     rw e (rw b refl)
 
 -- ---- numbers of any width
-value_digit : (c : ℕ) → digit_value c < 10 → is_ascii_digit c ≡ true
-value_digit c small = grind (arith, nat_tests, common_steps)
-
-all_digits : (ds : List ℕ) → AllDigits 10 ds → list_all is_ascii_digit ds ≡ true
-all_digits [] all = refl
-all_digits (c ∷ cs) all = rw (value_digit c all.0, all_digits cs all.1) refl
-
-pub decimal_all : (n : ℕ) → n < 2 ^ 64 → list_all is_ascii_digit (decimal n) ≡ true
-decimal_all n small = all_digits (decimal n) (decimal_is_IsNumeral n small).0.1
-
 decimal_long : (n : ℕ) → 10 ≤ n → n < 2 ^ 64 → 2 ≤ length (decimal n)
 decimal_long n large small =
     let step = decimal_step n large small in

@@ -3,7 +3,6 @@ use Rattle.std.proofs.Common.{◌≡◌, ℕ, suc, ◌+◌, ◌-◌, ◌*◌, �
 use Rattle.std.proofs.lemmas.Grind.{common_steps}
 use Rattle.std.proofs.lemmas.Bool.Decides.{nat_tests}
 use Rattle.std.proofs.lemmas.List.Splits.{slice_split_at, length-slice_split}
-use Rattle.std.proofs.lemmas.List.Folds.{list_all-append}
 use Rattle.std.proofs.lemmas.List.Elements.{All-nil, All-cons}
 use Rattle.std.proofs.Math.Seq.{drop-append_seam}
 use Rattle.std.proofs.Math.Nat.{div-div-eq-div-mul}
@@ -16,14 +15,12 @@ use Rattle.srt_texts.specs.Fields.{behind}
 use Rattle.srt_texts.specs.Pieces.{digit, two_digits, three_digits, two_or_more, stamp}
 use Rattle.mkv_io.specs.Octets.{lacks}
 use Rattle.record_laws.specs.Plain.{ends_with_return, IsLine}
-use Rattle.record_laws.proofs.DigitsLemmas.{digits_lack, two_all, three_all, padded_all}
+use Rattle.mkv_io.proofs.OctetsLemmas.{digits_lack, lacks_both}
+use Rattle.record_laws.proofs.DigitsLemmas.{two_all, three_all, padded_all}
 
 -- ---- what a text lacks
 both_true : (a b : Bool) → a ≡ true → b ≡ true → (a && b) ≡ true
 both_true a b p q = rw (p, q) refl
-
-pub lacks_both : (o : ℕ) (a b : List ℕ) → lacks o a ≡ true → lacks o b ≡ true → lacks o (a ++ b) ≡ true
-lacks_both o a b p q = rw (list_all-append (λ c. not (c == o)) a b) (both_true (lacks o a) (lacks o b) p q)
 
 pub lacks_more : (o b : ℕ) (w : List ℕ) → (b == o) ≡ false → lacks o w ≡ true → lacks o (b ∷ w) ≡ true
 lacks_more o b w other none = both_true (not (b == o)) (lacks o w) (rw other refl) none

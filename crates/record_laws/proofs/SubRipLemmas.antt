@@ -22,8 +22,9 @@ use Rattle.srt_texts.specs.Writing.{put_srt}
 use Rattle.srt_texts.proofs.SrtLemmas.{head_is, head_other, entries_other, entries_head, entries_end, bad_other, bad_head, bad_end, second_good, before_other, before_at, before_end}
 use Rattle.record_laws.specs.Plain.{ends_with_return, IsLine}
 use Rattle.record_laws.specs.SubRip.{put_entries, lines_in, IsPlainLine, IsPlainEntry, Ascend, EntriesAreReadBack}
-use Rattle.record_laws.proofs.DigitsLemmas.{digit_is_not, digits_lack, two_all, three_all, padded_all, decimal_all}
-use Rattle.record_laws.proofs.LineLemmas.{lacks_both, ends_more, line_first, stamp_lacks, stamp_ends}
+use Rattle.mkv_io.proofs.OctetsLemmas.{digit_is_not, digits_lack, decimal_all, lacks_both}
+use Rattle.record_laws.proofs.DigitsLemmas.{two_all, three_all, padded_all}
+use Rattle.record_laws.proofs.LineLemmas.{ends_more, line_first, stamp_lacks, stamp_ends}
 use Rattle.record_laws.proofs.PartsLemmas.{AllLack, AreLines, lines_lack, text_back, text_lines}
 use Rattle.record_laws.proofs.ArrowLemmas.{arrow_none, lacks_arrow, no_times, times_written, number_line}
 

@@ -11,8 +11,8 @@ use Rattle.std.specs.Str.Parse.{digits_value}
 use Rattle.std.specs.Fmt.{decimal}
 use Rattle.mkv_io.specs.Octets.{cut, lacks}
 use Rattle.srt_texts.specs.Fields.{digits}
-use Rattle.record_laws.proofs.DigitsLemmas.{digit_is_not, digits_lack, cut_behind, decimal_all}
-use Rattle.record_laws.proofs.LineLemmas.{lacks_both, lacks_more}
+use Rattle.mkv_io.proofs.OctetsLemmas.{digits_lack, cut_behind, decimal_all, lacks_both, decimal_lacks, first_other}
+use Rattle.record_laws.proofs.LineLemmas.{lacks_more}
 use Rattle.ext_times.specs.Fields.{fraction, millionths, time_size, time}
 use Rattle.extractors.specs.Times.{six_digits, milliseconds, sign}
 
@@ -98,9 +98,6 @@ cut_none : (o : ℕ) (w : List ℕ) → lacks o w ≡ true → cut o w ≡ None
 unfolding cut
 cut_none o w none = let e = lacks_at o w none in let no : nat_lt (position_or_len (λ b. b == o) w) (length w) ≡ false = grind (arith, nat_tests) in rw no refl
 
-decimal_lacks : (o n : ℕ) → is_ascii_digit o ≡ false → n < 2 ^ 64 → lacks o (decimal n) ≡ true
-decimal_lacks o n other small = digits_lack o (decimal n) other (decimal_all n small)
-
 size_written : (n : ℕ) → n < 2 ^ 57 → time_size (milliseconds n) ≡ Some n
 unfolding time_size millionths
 size_written n small = split (n % 1000000 == 0) refl
@@ -120,14 +117,6 @@ size_written n small = split (n % 1000000 == 0) refl
         rw parts (rw (digits_whole 12 (n / 1000000) (omega arith) (omega arith) few) (rw (fraction_six (n % 1000000) (omega arith)) (rw (whole, below) refl)))
 
 -- ---- a time
-first_other : (o : ℕ) (ds tail : List ℕ) → is_ascii_digit o ≡ false → 0 < length ds → list_all is_ascii_digit ds ≡ true → (slice_index (ds ++ tail) 0 == o) ≡ false
-first_other o [] tail other some all = absurd (omega arith)
-first_other o (d ∷ ds) tail other some all = split (is_ascii_digit d) refl all
-  where
-    split : (c : Bool) → is_ascii_digit d ≡ c → (c && list_all is_ascii_digit ds) ≡ true → (d == o) ≡ false
-    split true is all = digit_is_not o d other is
-    split false is all = absurd (cc)
-
 -- what stands behind the whole milliseconds
 abbrev tail_of : Bool → ℕ → List ℕ
 tail_of b n = cond b [] (codes "." ++ six_digits (n % 1000000))

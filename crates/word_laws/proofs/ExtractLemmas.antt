@@ -21,7 +21,8 @@ use Rattle.word_laws.specs.Values.{HasFewDigits, with_number}
 use Rattle.word_laws.specs.Spelled.{target_word, job_words}
 use Rattle.word_laws.specs.Names.{IsFile}
 use Rattle.word_laws.specs.Spellable.{HaveFewDigits, IsJob}
-use Rattle.word_laws.proofs.NumberLemmas.{short_fits, decimal_all, first_other, numbered_read}
+use Rattle.mkv_io.proofs.OctetsLemmas.{decimal_all, first_other}
+use Rattle.word_laws.proofs.NumberLemmas.{short_fits, numbered_read}
 use Rattle.word_laws.proofs.SimpleLemmas.{other_word, no_option, by_verb, more_help_none}
 
 -- ---- targets

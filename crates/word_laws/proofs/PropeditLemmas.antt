@@ -25,7 +25,8 @@ use Rattle.word_laws.specs.Values.{HasFewDigits}
 use Rattle.word_laws.specs.Spelled.{section_word, change_word, property_word, edit_words}
 use Rattle.word_laws.specs.Names.{IsFile}
 use Rattle.word_laws.specs.Spellable.{IsNamedType, IsSection, IsProperty, IsSpellableEdit}
-use Rattle.word_laws.proofs.NumberLemmas.{short_fits, decimal_all, first_other, number_read, cut_behind}
+use Rattle.mkv_io.proofs.OctetsLemmas.{decimal_all, first_other, cut_behind}
+use Rattle.word_laws.proofs.NumberLemmas.{short_fits, number_read}
 use Rattle.word_laws.proofs.SimpleLemmas.{by_verb, more_help_none}
 
 -- ---- sections

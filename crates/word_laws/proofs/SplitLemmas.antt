@@ -19,7 +19,8 @@ use Rattle.word_values.specs.Sound.{IsSoundSplit, IsSpan, AreUuids}
 use Rattle.mkv_io.specs.Octets.{lacks}
 use Rattle.word_laws.specs.Values.{is_in, size_word, with_commas, numbers_word, last_digits, time_word, span_word, split_word}
 use Rattle.word_laws.specs.SpellableMerge.{is_size, AreIds, IsSplit}
-use Rattle.word_laws.proofs.NumberLemmas.{decimal_all, whole_read, cut_behind}
+use Rattle.mkv_io.proofs.OctetsLemmas.{decimal_all, cut_behind}
+use Rattle.word_laws.proofs.NumberLemmas.{whole_read}
 use Rattle.word_laws.proofs.SimpleLemmas.{other_word}
 use Rattle.word_laws.proofs.ValueLemmas.{last_is, ends_is, front_is, digits_end, list_read, numbers_read, numbers_first}
 use Rattle.word_laws.proofs.TimeLemmas.{time_read, time_lacks, span_is_read, span_lacks, uuid_read, uuid_lacks}

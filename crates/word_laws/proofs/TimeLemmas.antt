@@ -1,5 +1,5 @@
 -- Times, stretches of time and identifiers are read back.
-use Rattle.std.proofs.Common.{◌≡◌, ◌<◌, ◌^◌, ℕ, zero, suc, ◌+◌, ◌-◌, ◌*◌, ◌/◌, ◌%◌, Bool, true, false, not, ◌&&◌, nat_lt, List, [], ◌∷◌, ◌++◌, length, codes, Option, Some, None, IfSome, refl, ap, ◌∙◌, subst, arith, length-append}
+use Rattle.std.proofs.Common.{◌≡◌, ◌<◌, ◌^◌, ℕ, zero, suc, ◌+◌, ◌-◌, ◌*◌, ◌/◌, ◌%◌, Bool, true, false, ◌&&◌, nat_lt, List, [], ◌∷◌, ◌++◌, length, codes, Option, Some, None, IfSome, refl, ap, ◌∙◌, subst, arith, length-append}
 use Rattle.std.proofs.Math.Nat.{div-div-eq-div-mul}
 use Rattle.std.proofs.lemmas.List.Folds.{list_all-append}
 use Rattle.std.proofs.lemmas.Bool.Decides.{nat_tests}
@@ -18,7 +18,8 @@ use Rattle.word_values.specs.Lists.{span, span_of}
 use Rattle.word_values.specs.Sound.{IsSpan}
 use Rattle.mkv_io.specs.Octets.{lacks}
 use Rattle.word_laws.specs.Values.{last_digits, time_word, end_word, span_word}
-use Rattle.word_laws.proofs.NumberLemmas.{decimal_lacks, digits_lack, whole_read, cut_behind}
+use Rattle.mkv_io.proofs.OctetsLemmas.{decimal_lacks, digits_lack, cut_behind, lacks_both}
+use Rattle.word_laws.proofs.NumberLemmas.{whole_read}
 use Rattle.word_laws.proofs.ValueLemmas.{digits_end}
 
 -- ---- the last digits of a number
@@ -89,9 +90,6 @@ unfolding fraction
 fraction_read n small = rw (last_length 10 9 n) (rw (last_whole 9 n (omega arith) (omega arith)) (ap Some (omega arith)))
 
 -- ---- a time
-lacks_both : (o : ℕ) (a b : List ℕ) → lacks o a ≡ true → lacks o b ≡ true → lacks o (a ++ b) ≡ true
-lacks_both o a b p q = list_all-append (λ c. not (c == o)) a b ∙ rw (p, q) refl
-
 seconds_read : (t : ℕ) → seconds (last_digits 10 2 (t / 1000000000 % 60) ++ (codes "." ++ last_digits 10 9 (t % 1000000000))) ≡ Some (t / 1000000000 % 60 * 1000000000 + t % 1000000000)
 unfolding seconds
 seconds_read t =

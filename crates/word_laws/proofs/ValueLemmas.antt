@@ -22,7 +22,8 @@ use Rattle.word_values.specs.Values.{text, is_language, language, scale, cluster
 use Rattle.word_values.specs.Sound.{IsWithin}
 use Rattle.mkv_io.specs.Octets.{lacks}
 use Rattle.word_laws.specs.Values.{HasFewDigits, with_number, with_commas, numbers_word, delay_word, flag_word, cues_word}
-use Rattle.word_laws.proofs.NumberLemmas.{digit_is_not, lacks_parts, short_fits, decimal_all, decimal_lacks, first_other, number_read, numbered_read}
+use Rattle.mkv_io.proofs.OctetsLemmas.{digit_is_not, lacks_parts, decimal_all, decimal_lacks, first_other}
+use Rattle.word_laws.proofs.NumberLemmas.{short_fits, number_read, numbered_read}
 
 -- ---- texts
 lacks_any : (o : ℕ) (w : List ℕ) → lacks o w ≡ true → list_any (λ b. b == o) w ≡ false
