@@ -6,6 +6,8 @@ use Rattle.mkv_io.specs.declared.outside.ReadEnd.{ReadEnd}
 use Rattle.output_model.specs.declared.TheConstants.{MOST_OF_PREFIX}
 use Rattle.mkv_io.specs.Faults.{counted}
 use Rattle.mkv_io.specs.LiveFiles.{LiveFiles}
+use Rattle.mkv_io.specs.Sources.{live_files}
+use Rattle.mkv_io.specs.declared.reads.Reads.{Ghosts}
 use Rattle.cluster_reader.specs.ToldDamages.{ToldDamages, told_damages}
 use Rattle.output_model.specs.OutputBlock.{Lent}
 use Rattle.merge_model.specs.Lanes.{lane_blocks, lane_damages}
@@ -92,6 +94,10 @@ pub record Gives (f : LiveFiles) (old new : LaneSeen) (result : Result LaneStep 
   pub blocks : GivesBlock f old new result
   pub damages : told_in_all f new ≡ told_in_all f old
 
+-- The same where the files of its links are told.
+abbrev pub GivesIfTold : LiveFiles → LaneSeen → LaneSeen → Result LaneStep ReadEnd → Type 0
+GivesIfTold f old new result = IsTold f old → Gives f old new result
+
 abbrev pub given_by : Result LaneStep ReadEnd → ℕ
 given_by (Ok Block) = 1
 given_by (Ok End) = 0
@@ -141,3 +147,7 @@ files_length f l = walks.files_length f l.links
 abbrev pub Pays : {T : Type 0} → LiveFiles → LaneSeen → LaneSeen → ℕ → ℕ → Result T ReadEnd → Type 0
 Pays f old new before now (Ok answer) = now + due f new ≤ before + due f old
 Pays f old new before now (Err end) = now + due f new ≤ before + due f old + files_length f old
+
+-- The same of a call on what reads the files, by how many octets it has read before and behind it.
+abbrev pub PaysFor : {S T : Type 0} → Ghosts S → S → S → LaneSeen → LaneSeen → Result T ReadEnd → Type 0
+PaysFor r src src' old new result = Pays (live_files r src) old new (r.octets_read src) (r.octets_read src') result

@@ -4,8 +4,13 @@ use Rattle.std.specs.List.{All}
 use Rattle.std.specs.Option.{IfSome}
 use Rattle.block_format.specs.declared.limits.TheConstants.{TOO_LARGE_TIME}
 use Rattle.block_records.specs.Time.{IsSmallTime}
+use Rattle.block_records.specs.Buffered.{Buffered, block_of}
+use Rattle.mkv_io.specs.declared.entry.Entry.{Entry}
 use Rattle.output_model.specs.OutputBlock.{Lent, OutputBlock, lent_block}
 use Rattle.merge_model.specs.Merged.{Ordered}
+use Rattle.merge_model.specs.declared.link.TextLink.{TextLink}
+use Rattle.merge_model.specs.declared.link.TrackLink.{TrackLink}
+use Rattle.lanes.specs.Placed.{entry_placed, text_lent, track_lent, track_placed}
 use Rattle.lanes.specs.Times.{most_time}
 use Rattle.lanes.specs.declared.place.Placed.{Placed}
 
@@ -32,3 +37,11 @@ pub record IsPlaced (blocks : List OutputBlock) (greatest : ℕ) (l : Lent) : Ty
 abbrev pub Becomes : List OutputBlock → ℕ → Lent → Bool → Type 0
 Becomes blocks greatest l true = IsPlaced blocks greatest l
 Becomes blocks greatest l false = blocks ≡ []
+
+-- A track makes this of the block that its cursor has given, where so many of its frames stand before it.
+abbrev pub TrackBecomes : ℕ → TrackLink → ℕ → Buffered → ℕ → Placed → Bool → Type 0
+TrackBecomes scale t k b greatest p given = Becomes (track_placed scale t k (block_of b)) greatest (track_lent t b p) given
+
+-- A text makes this of an entry.
+abbrev pub EntryBecomes : ℕ → TextLink → Entry → ℕ → Placed → Bool → Type 0
+EntryBecomes scale t e greatest p given = Becomes (entry_placed scale t e) greatest (text_lent e.text p) given

@@ -1,9 +1,11 @@
 -- What is known of a file for those that are appended to it.
-use Rattle.std.specs.Prelude.{◌≡◌, ⊤, ℕ, Bool, false, ◌||◌, List, [], ◌∷◌, Option, Some, None}
+use Rattle.std.specs.Prelude.{◌≡◌, ⊤, ℕ, Bool, false, ◌||◌, List, [], ◌∷◌, Option, Some, None, map, Result, IfOk}
 use Rattle.std.specs.List.{All}
 use Rattle.mkv_io.specs.LiveFiles.{LiveFiles}
+use Rattle.mkv_io.specs.declared.outside.ReadEnd.{ReadEnd}
 use Rattle.merge_model.specs.Links.{Given}
 use Rattle.merge_model.specs.Ends.{file_end}
+use Rattle.merge_model.specs.FileLinks.{IsToldLink, given_in}
 use Rattle.merge_model.specs.declared.link.Link.{Link}
 use Rattle.merge_model.specs.declared.link.Link.TheVariants.{Track, Entries}
 use Rattle.merge_model.specs.declared.link.TrackLink.{TrackLink}
@@ -38,6 +40,10 @@ stops_any (g ∷ gs) = g.stops || stops_any gs
 pub record IsSurvey (given : List Given) (s : Survey) : Type 0 where
   pub end : s.end ≡ file_end given
   pub stopped : s.stopped ≡ stops_any given
+
+-- A survey of the file of these links finds this, where the files are told.
+abbrev pub Surveys : LiveFiles → List Link → Result Survey ReadEnd → Type 0
+Surveys f links result = All (IsToldLink f) links → IfOk result (IsSurvey (map (given_in f) links))
 
 -- the length of the file that is walked over
 abbrev pub length_of : LiveFiles → Option TrackLink → ℕ

@@ -1,9 +1,13 @@
 -- What a turn makes of a walk.
 use Rattle.std.specs.Prelude.{◌≡◌, ℕ, ◌+◌, ◌<◌, ◌≤◌, ⊤, List, [], ◌∷◌, Option, Some, None, Result, Ok, Err}
+use Rattle.std.specs.List.{All}
 use Rattle.mkv_io.specs.declared.outside.ReadEnd.{ReadEnd}
 use Rattle.mkv_io.specs.LiveFiles.{LiveFiles}
+use Rattle.mkv_io.specs.Sources.{live_files}
+use Rattle.mkv_io.specs.declared.reads.Reads.{Ghosts}
 use Rattle.output_model.specs.OutputBlock.{IsLent, Lent}
 use Rattle.merge_model.specs.Merged.{Ordered}
+use Rattle.merge_model.specs.FileLinks.{IsToldLink}
 use Rattle.lanes.specs.Lent.{HasFewTicks, lent_ordered}
 use Rattle.merge_model.specs.declared.link.Link.{Link}
 use Rattle.lanes.specs.Walks.{IsEnded, due, files_length, left, lent_in, told_in_all, way}
@@ -22,6 +26,10 @@ GivesFirst old new lent (Err end) = new ≡ old
 pub record Turns (f : LiveFiles) (scale : ℕ) (links : List Link) (old new : Walk) (result : Result (Option LaneStep) ReadEnd) : Type 0 where
   pub blocks : GivesFirst (left f scale links old) (left f scale links new) (lent_in links new) result
   pub damages : told_in_all f links new ≡ told_in_all f links old
+
+-- The same where the files of the links are told.
+abbrev pub TurnsIfTold : LiveFiles → ℕ → List Link → Walk → Walk → Result (Option LaneStep) ReadEnd → Type 0
+TurnsIfTold f scale links old new result = All (IsToldLink f) links → Turns f scale links old new result
 
 -- The block that is lent can be written, and its order number is the greatest tick so far.
 pub record LendsBlock (scale : ℕ) (links : List Link) (w : Walk) : Type 0 where
@@ -55,3 +63,7 @@ pub record Moves (scale : ℕ) (links : List Link) (old new : Walk) (turn : Opti
 abbrev pub Pays : {T : Type 0} → LiveFiles → List Link → Walk → Walk → ℕ → ℕ → Result T ReadEnd → Type 0
 Pays f links old new before now (Ok answer) = now + due f links new ≤ before + due f links old
 Pays f links old new before now (Err end) = now + due f links new ≤ before + due f links old + files_length f links
+
+-- The same of a call on what reads the files, by how many octets it has read before and behind it.
+abbrev pub PaysFor : {S T : Type 0} → Ghosts S → S → S → List Link → Walk → Walk → Result T ReadEnd → Type 0
+PaysFor r src src' links old new result = Pays (live_files r src) links old new (r.octets_read src) (r.octets_read src') result

@@ -1,6 +1,10 @@
 -- What a walk over a file finds for the links that take blocks of it.
-use Rattle.std.specs.Prelude.{◌≡◌, List, is_some}
+use Rattle.std.specs.Prelude.{◌≡◌, List, is_some, Result, IfOk}
+use Rattle.mkv_io.specs.Sources.{IfTold}
+use Rattle.mkv_io.specs.declared.outside.ReadEnd.{ReadEnd}
+use Rattle.mkv_io.specs.declared.reads.Reads.{Ghosts}
 use Rattle.block_format.specs.Events.{Event, last_of}
+use Rattle.cluster_reader.specs.Reading.{Reading, left_of}
 use Rattle.merge_model.specs.declared.link.Link.{Link}
 use Rattle.lanes.specs.Ends.{end_of}
 use Rattle.lanes.specs.declared.found.Survey.{Survey}
@@ -9,3 +13,7 @@ use Rattle.lanes.specs.declared.found.Survey.{Survey}
 pub record IsWalked (events : List Event) (links : List Link) (s : Survey) : Type 0 where
   pub end : s.end ≡ end_of events links
   pub stopped : s.stopped ≡ is_some (last_of events)
+
+-- A walk over all that a cursor has left finds this, where its file is told.
+abbrev pub WalksLeft : {S : Type 0} → Ghosts S → S → Reading → List Link → Result Survey ReadEnd → Type 0
+WalksLeft r src c links result = IfTold r src c.file (λ bytes. IfOk result (IsWalked (left_of bytes c) links))

@@ -1,5 +1,5 @@
 -- A walk over the links of a lane: what is left of them, what it lends, and how it stands among the files.
-use Rattle.std.specs.Prelude.{◌≡◌, ℕ, ◌+◌, ◌-◌, ◌*◌, ◌≤◌, ⊤, Bool, false, ◌||◌, List, [], ◌∷◌, ◌++◌, length, map, take, drop, Option, Some, None, is_some}
+use Rattle.std.specs.Prelude.{◌≡◌, ℕ, ◌+◌, ◌-◌, ◌*◌, ◌≤◌, ⊤, Bool, false, ◌||◌, List, [], ◌∷◌, ◌++◌, length, map, take, drop, Option, Some, None, is_some, if◌then◌else◌}
 use Rattle.std.specs.List.{All, slice_get}
 use Rattle.mkv_io.specs.LiveFiles.{LiveFiles}
 use Rattle.block_format.specs.Events.{Event, last_of}
@@ -93,6 +93,10 @@ pub record IsReady (f : LiveFiles) (links : List Link) (w : Walk) : Type 0 where
   pub told : length w.told.items ≡ length links
   pub stopped : w.cursor ≡ None → w.stopped ≡ false
   pub frames : HasCounted w.frames w.cursor
+
+-- the walk that has left the link at which it stood, of so many: it is at the next one, or behind all where its file wasn't read to its end
+abbrev pub behind_link : ℕ → Walk → Walk
+behind_link count w = record w { at = if w.stopped then count else w.at + 1; cursor = None; next = 0; frames = 0; stopped = false }
 
 -- All links were left.
 abbrev pub IsEnded : List Link → Walk → Type 0

@@ -9,7 +9,7 @@ ghost use Rattle.mkv_io.specs.Sources.{live_files};
 ghost use Rattle.block_format.specs.declared.limits.TheConstants.{MOST_OF_BLOCK};
 ghost use Rattle.merge_model.specs.declared.limits.TheConstants.{MOST_LINKS};
 ghost use Rattle.merge_model.specs.FileLinks.{IsSmallEntry, IsSmallLink};
-ghost use Rattle.lanes.specs.Lane.{Begins, Gives, HasFew, IsReady, IsTold, Moves, Pays, Starts, as_lent, lent};
+ghost use Rattle.lanes.specs.Lane.{Begins, GivesIfTold, HasFew, IsReady, Moves, PaysFor, Starts, as_lent, lent};
 ghost use Rattle.lanes.specs.Told.{link_damages, more_of};
 ghost use Rattle.lanes.specs.Walks.{text_of};
 
@@ -104,14 +104,14 @@ impl Lane {
     /// same block is looked for again; damages that were reached on the way stay so.
     pub fn advance<R: Reads>(&mut self, src: &mut R) -> Result<LaneStep, ReadEnd>
         requires { IsReady (live_files R.Reads src.old) self.old }
-        ensures gives { IsTold (live_files R.Reads src.old) self.old → Gives (live_files R.Reads src.old) self.old self.new result }
+        ensures gives { GivesIfTold (live_files R.Reads src.old) self.old self.new result }
         ensures moves { Moves self.old self.new result }
         ensures ready { IsReady (live_files R.Reads src.new) self.new }
         ensures standing { R.standing src.new ≡ R.standing src.old }
         ensures cause { HasCause is_read_fault (R.reading_faults src.old) (R.reading_faults src.new) result }
 
         // What is read adds up to at most the lengths of the files, and to these once more for each call that fails.
-        ensures pays { Pays (live_files R.Reads src.old) self.old self.new (R.octets_read src.old) (R.octets_read src.new) result }
+        ensures pays { PaysFor R.Reads src.old src.new self.old self.new result }
     {
         'turns: loop {
             match take_turn(

@@ -5,15 +5,14 @@ ghost use Rattle.std.specs.Bool.{OnTrue};
 ghost use Rattle.std.specs.List.{All};
 ghost use Rattle.block_format.specs.Content.{frames_cut};
 ghost use Rattle.block_format.specs.declared.limits.TheConstants.{MOST_REFERENCES, TOO_LARGE_TIME};
-ghost use Rattle.block_records.specs.Buffered.{block_of};
 ghost use Rattle.block_records.specs.Lendable.{IsLendable};
 ghost use Rattle.block_records.specs.Time.{IsSmallTime};
 ghost use Rattle.output_model.specs.OutputBlock.{IsLent};
 ghost use Rattle.merge_model.specs.Ticks.{ticks_for, ticks_to};
 ghost use Rattle.merge_model.specs.Links.{lace_for};
-ghost use Rattle.lanes.specs.Lent.{Becomes, HasFewTicks};
+ghost use Rattle.lanes.specs.Lent.{HasFewTicks, EntryBecomes, TrackBecomes};
 ghost use Rattle.merge_model.specs.FileLinks.{CanMove, IsSmallEntry, IsSmallTrack};
-ghost use Rattle.lanes.specs.Placed.{entry_placed, text_lent, track_lent, track_placed};
+ghost use Rattle.lanes.specs.Placed.{text_lent, track_lent};
 ghost use Rattle.lanes.specs.Times.{most_time};
 
 use crate::frames::time_of;
@@ -106,7 +105,7 @@ pub fn place_block(
 ) -> bool
     requires scale { 1 ≤ scale }
     requires small { IsSmallTrack track.now }
-    ensures becomes { Becomes (track_placed scale track.now before (block_of cursor.now.block)) greatest (track_lent track.now cursor.now.block placed.new) result }
+    ensures becomes { TrackBecomes scale track.now before cursor.now.block greatest placed.new result }
 
     ensures own { OnTrue result (cursor.now.block.head.track ≡ track.now.number) }
 
@@ -150,7 +149,7 @@ pub fn place_entry(
     requires scale { 1 ≤ scale }
     requires moves { CanMove text.now.delay text.now.shift }
     requires small { IsSmallEntry entry.now }
-    ensures becomes { Becomes (entry_placed scale text.now entry.now) greatest (text_lent entry.now.text placed.new) result }
+    ensures becomes { EntryBecomes scale text.now entry.now greatest placed.new result }
     ensures lent { OnTrue result (IsLent (text_lent entry.now.text placed.new)) }
     ensures ticks { OnTrue result (HasFewTicks scale placed.new) }
 {

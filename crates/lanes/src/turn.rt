@@ -5,10 +5,10 @@ ghost use Rattle.std.specs.List.{All, slice_get};
 ghost use Rattle.mkv_io.specs.Faults.{HasCause, is_read_fault};
 ghost use Rattle.mkv_io.specs.LiveFiles.{LiveFiles};
 ghost use Rattle.mkv_io.specs.Sources.{live_files};
-ghost use Rattle.merge_model.specs.FileLinks.{IsSmallLink, IsToldLink};
+ghost use Rattle.merge_model.specs.FileLinks.{IsSmallLink};
 ghost use Rattle.merge_model.specs.declared.link.Link.TheVariants.{Track as ATrack, Entries as AText};
 ghost use Rattle.lanes.specs.Walks.{IsReady, due};
-ghost use Rattle.lanes.specs.Turns.{Moves, Pays, Turns};
+ghost use Rattle.lanes.specs.Turns.{Moves, PaysFor, Turns, TurnsIfTold};
 
 use crate::frames::frames_of;
 use crate::lane::LaneStep;
@@ -32,12 +32,12 @@ fn turn_track<R: Reads>(
     requires scale { 1 ≤ scale }
     requires small { All IsSmallLink links.now }
     requires ready { IsReady (live_files R.Reads src.old) links.now walk.old }
-    ensures gives { All (IsToldLink (live_files R.Reads src.old)) links.now → Turns (live_files R.Reads src.old) scale links.now walk.old walk.new result }
+    ensures gives { TurnsIfTold (live_files R.Reads src.old) scale links.now walk.old walk.new result }
     ensures moves { IfOk result (Moves scale links.now walk.old walk.new) }
     ensures ready { IsReady (live_files R.Reads src.new) links.now walk.new }
     ensures standing { R.standing src.new ≡ R.standing src.old }
     ensures cause { HasCause is_read_fault (R.reading_faults src.old) (R.reading_faults src.new) result }
-    ensures pays { Pays (live_files R.Reads src.old) links.now walk.old walk.new (R.octets_read src.old) (R.octets_read src.new) result }
+    ensures pays { PaysFor R.Reads src.old src.new links.now walk.old walk.new result }
 {
     let Some(cursor) = walk.cursor.as_mut() else {
         let cursor = Cursor::start(alloc, &*track.outline, track.file, track.scale)?;
@@ -109,12 +109,12 @@ pub fn take_turn<R: Reads>(
     requires scale { 1 ≤ scale }
     requires small { All IsSmallLink links.now }
     requires ready { IsReady (live_files R.Reads src.old) links.now walk.old }
-    ensures gives { All (IsToldLink (live_files R.Reads src.old)) links.now → Turns (live_files R.Reads src.old) scale links.now walk.old walk.new result }
+    ensures gives { TurnsIfTold (live_files R.Reads src.old) scale links.now walk.old walk.new result }
     ensures moves { IfOk result (Moves scale links.now walk.old walk.new) }
     ensures ready { IsReady (live_files R.Reads src.new) links.now walk.new }
     ensures standing { R.standing src.new ≡ R.standing src.old }
     ensures cause { HasCause is_read_fault (R.reading_faults src.old) (R.reading_faults src.new) result }
-    ensures pays { Pays (live_files R.Reads src.old) links.now walk.old walk.new (R.octets_read src.old) (R.octets_read src.new) result }
+    ensures pays { PaysFor R.Reads src.old src.new links.now walk.old walk.new result }
 {
     match links.get(walk.at) {
         Some(Link::Track(track)) => turn_track(alloc, links, track, scale, walk, src),

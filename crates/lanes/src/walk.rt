@@ -1,7 +1,8 @@
 //! A walk over the links of a lane.
 
-ghost use Rattle.std.specs.Prelude.{◌≡◌, ◌+◌, ◌<◌, None, false, if◌then◌else◌, IfOk};
+ghost use Rattle.std.specs.Prelude.{◌≡◌, ◌<◌, IfOk};
 ghost use Rattle.lanes.specs.Begun.{Begins};
+ghost use Rattle.lanes.specs.Walks.{behind_link};
 
 use crate::place::Placed;
 use cluster_reader::{Cursor, Damages};
@@ -53,7 +54,7 @@ impl Walk {
     /// read to its end.
     pub fn leave(&mut self, count: usize)
         requires { self.old.at < count }
-        ensures { self.new ≡ record self.old { at = if self.old.stopped then count else self.old.at + 1; cursor = None; next = 0; frames = 0; stopped = false } }
+        ensures { self.new ≡ behind_link count self.old }
     {
         self.at = if self.stopped { count } else { self.at + 1 };
         self.cursor = None;

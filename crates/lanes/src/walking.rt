@@ -1,15 +1,16 @@
 //! A walk over a file.
 
-ghost use Rattle.std.specs.Prelude.{◌≡◌, ◌+◌, ◌*◌, ◌≤◌, IfOk, length, map, replicate};
+ghost use Rattle.std.specs.Prelude.{◌≡◌, ◌+◌, ◌*◌, ◌≤◌, IfOk, length, replicate};
 ghost use Rattle.std.specs.List.{All};
 ghost use Rattle.std.specs.Option.{option_copied};
+ghost use Rattle.mkv_io.specs.Bounds.{ReadsUpTo};
 ghost use Rattle.mkv_io.specs.Faults.{HasCause, is_read_fault};
-ghost use Rattle.mkv_io.specs.Sources.{IfTold, file_size, live_files};
-ghost use Rattle.cluster_reader.specs.Reading.{CanRead, left_of};
-ghost use Rattle.merge_model.specs.FileLinks.{IsOpenLink, IsToldLink, given_in};
+ghost use Rattle.mkv_io.specs.Sources.{file_size, live_files};
+ghost use Rattle.cluster_reader.specs.Reading.{CanRead};
+ghost use Rattle.merge_model.specs.FileLinks.{IsOpenLink};
 ghost use Rattle.lanes.specs.Ends.{IsTimed};
-ghost use Rattle.lanes.specs.Survey.{AreOfOneFile, IsSurvey, first_track, surveyed_length};
-ghost use Rattle.lanes.specs.Walked.{IsWalked};
+ghost use Rattle.lanes.specs.Survey.{AreOfOneFile, Surveys, first_track, surveyed_length};
+ghost use Rattle.lanes.specs.Walked.{WalksLeft};
 ghost use Rattle.lanes.specs.declared.found.TheConstants.{MOST_END};
 
 use crate::ends::{count_frames, greatest_end, texts_end};
@@ -29,7 +30,7 @@ fn walk<R: Reads>(
     requires ready { CanRead (live_files R.Reads src.old) cursor.old }
     requires timed { All IsTimed links.now }
     requires counts { counts.old ≡ replicate (length links.now) 0 }
-    ensures value { IfTold R.Reads src.old cursor.old.file (λ bytes. IfOk result (IsWalked (left_of bytes cursor.old) links.now)) }
+    ensures value { WalksLeft R.Reads src.old cursor.old links.now result }
     ensures small { IfOk result (λ survey. survey.end ≤ MOST_END) }
     ensures standing { R.standing src.new ≡ R.standing src.old }
     ensures cause { HasCause is_read_fault (R.reading_faults src.old) (R.reading_faults src.new) result }
@@ -69,13 +70,13 @@ pub fn survey<R: Reads>(alloc: Global, src: &mut R, links: &List<Link>) -> Resul
     requires open { All (IsOpenLink (live_files R.Reads src.old)) links.now }
     requires timed { All IsTimed links.now }
     requires one { AreOfOneFile links.now }
-    ensures value { All (IsToldLink (live_files R.Reads src.old)) links.now → IfOk result (IsSurvey (map (given_in (live_files R.Reads src.old)) links.now)) }
+    ensures value { Surveys (live_files R.Reads src.old) links.now result }
     ensures small { IfOk result (λ survey. survey.end ≤ MOST_END) }
     ensures standing { R.standing src.new ≡ R.standing src.old }
     ensures cause { HasCause is_read_fault (R.reading_faults src.old) (R.reading_faults src.new) result }
 
     // One octet for each of the file, and one more where a read fails.
-    ensures octets { R.octets_read src.new ≤ R.octets_read src.old + 2 * surveyed_length (live_files R.Reads src.old) links.now }
+    ensures octets { ReadsUpTo R.Reads src.old src.new (2 * surveyed_length (live_files R.Reads src.old) links.now) }
 {
     let links = links.as_slice();
     let Some(track) = first_track(links) else {

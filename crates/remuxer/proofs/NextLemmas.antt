@@ -7,7 +7,7 @@ use Rattle.mkv_io.specs.LiveFiles.{LiveFiles}
 use Rattle.mkv_io.specs.Sources.{live_files}
 use Rattle.mkv_io.specs.declared.reads.Reads.{Ghosts}
 use Rattle.output_model.specs.OutputBlock.{OutputBlock}
-use Rattle.time_merge.specs.Merge.{Gives, IsReady, IsTold, MergeSeen, Moves, Pays, damages, due, files_length, left, way}
+use Rattle.time_merge.specs.Merge.{Gives, IsReady, IsTold, MergeSeen, Moves, damages, due, files_length, left, way}
 use Rattle.time_merge.proofs.QueueLemmas.{length-same, told-kept}
 use Rattle.splitter.specs.Sections.{Part, beyond, parts, parts_in, sections_at, within}
 use Rattle.splitter.specs.Split.{keeps}

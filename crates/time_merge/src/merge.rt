@@ -6,7 +6,7 @@ ghost use Rattle.mkv_io.specs.Faults.{HasCause, is_read_fault};
 ghost use Rattle.mkv_io.specs.LiveFiles.{LiveFiles};
 ghost use Rattle.mkv_io.specs.Sources.{live_files};
 ghost use Rattle.output_model.specs.declared.TheConstants.{MOST_LANES};
-ghost use Rattle.time_merge.specs.Merge.{Begins, Gives, IsReady, IsTold, Moves, Pays, Starts};
+ghost use Rattle.time_merge.specs.Merge.{Begins, GivesIfTold, IsReady, Moves, PaysFor, Starts};
 
 use crate::queues::Queues;
 use lanes::Lane;
@@ -50,14 +50,14 @@ impl Merge {
     /// answered where none is left, and again from then on. After a refusal the same block is looked for again.
     pub fn step<R: Reads>(&mut self, src: &mut R) -> Result<Option<usize>, ReadEnd>
         requires { IsReady (live_files R.Reads src.old) self.old }
-        ensures gives { IsTold (live_files R.Reads src.old) self.old → Gives (live_files R.Reads src.old) self.old self.new result }
+        ensures gives { GivesIfTold (live_files R.Reads src.old) self.old self.new result }
         ensures moves { Moves self.old self.new result }
         ensures ready { IsReady (live_files R.Reads src.new) self.new }
         ensures standing { R.standing src.new ≡ R.standing src.old }
         ensures cause { HasCause is_read_fault (R.reading_faults src.old) (R.reading_faults src.new) result }
 
         // Each of the files is read once at most, and once more where a call fails.
-        ensures pays { Pays (live_files R.Reads src.old) self.old self.new (R.octets_read src.old) (R.octets_read src.new) result }
+        ensures pays { PaysFor R.Reads src.old src.new self.old.queues self.new.queues result }
     {
         self.queues.fill(src)?;
         let Some(k) = self.queues.take() else {

@@ -3,8 +3,8 @@
 ghost use Rattle.std.specs.Prelude.{◌≡◌, true};
 ghost use Rattle.mkv_io.specs.Faults.{HasCause, is_read_fault};
 ghost use Rattle.mkv_io.specs.Sources.{live_files};
-ghost use Rattle.lanes.specs.Lane.{IsReady};
-ghost use Rattle.time_merge.specs.Queues.{Fills, KeepsWaiting, Pays, StaysQueue, is_due};
+ghost use Rattle.lanes.specs.Lane.{IsReady, PaysFor};
+ghost use Rattle.time_merge.specs.Queues.{Fills, KeepsWaiting, StaysQueue, is_due};
 
 use lanes::{Lane, LaneStep};
 use mkv_io::{ReadEnd, Reads};
@@ -38,7 +38,7 @@ impl Queue {
         ensures ready { IsReady (live_files R.Reads src.new) self.new.lane }
         ensures standing { R.standing src.new ≡ R.standing src.old }
         ensures cause { HasCause is_read_fault (R.reading_faults src.old) (R.reading_faults src.new) result }
-        ensures pays { Pays (live_files R.Reads src.old) self.old self.new (R.octets_read src.old) (R.octets_read src.new) result }
+        ensures pays { PaysFor R.Reads src.old src.new self.old.lane self.new.lane result }
     {
         match self.lane.advance(src)? {
             LaneStep::Block => {
