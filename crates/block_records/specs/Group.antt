@@ -9,11 +9,11 @@ use Rattle.mkv_schema.specs.Element.{in_master, stated_end}
 use Rattle.mkv_schema.specs.Elements.{Run, children_in}
 use Rattle.mkv_schema.specs.Value.{body_of, first_of}
 use Rattle.block_format.specs.declared.limits.TheConstants.{SLICES, MOST_REFERENCES}
-use Rattle.block_format.specs.Elements.{group_refusal, references_among, is_kept, kept_of}
+use Rattle.block_format.specs.Elements.{group_refusal, references_among, is_kept, kept_of, element_octets}
 use Rattle.block_records.specs.declared.gathered.Gathered.{Gathered}
 use Rattle.block_records.specs.declared.gathered.Part.{Part}
 use Rattle.block_records.specs.declared.gathered.Part.TheVariants as part
-use Rattle.elements.specs.Body.{IfBody, end_behind}
+use Rattle.elements.specs.Body.{IfBody, IsBody, end_behind}
 
 -- the first Block, the ticks of the first BlockDuration and of the ReferenceBlocks that a reader takes, the
 -- first that is one too many, and the octets of what is kept
@@ -45,3 +45,7 @@ IsPart id part.LeftOut = (id ≡ VOID) ⊎ ((id ≡ CRC_32) ⊎ (id ≡ SLICES))
 pub record IsInside (base end : ℕ) (h : Header) : Type 0 where
   pub from : base ≤ h.body
   pub within : stated_end h ≤ end
+
+-- These are the octets of a child, its header's and its body's, in each file in which the body of its group stands so.
+abbrev pub AreOctetsOf : ℕ → List ℕ → Header → List ℕ → Type 0
+AreOctetsOf base body child octets = (bytes : List ℕ) (total : ℕ) → IsBody bytes base total body → octets ≡ element_octets bytes child

@@ -1,9 +1,10 @@
 -- What is read of the octets of a Block or a SimpleBlock.
 use Rattle.std.specs.Prelude.{◌≡◌, ◌≤◌, ℕ, ◌+◌, if◌then◌else◌, List, length, take, drop, sum, Option, Some, None, Result, Ok, Err}
 use Rattle.lacing.specs.declared.kind.Lace.{Lace}
+use Rattle.lacing.specs.declared.kind.Lace.TheVariants as laces
 use Rattle.lacing.specs.Writing.{FitsKind}
 use Rattle.mkv_io.specs.declared.damage.Kind.{Kind}
-use Rattle.block_format.specs.Content.{Content, has_no_header, track_in, relative_in, flags_in, header_len, lace_of, frames_cut, content_in}
+use Rattle.block_format.specs.Content.{Content, has_no_header, track_in, relative_in, flags_in, header_len, lace_of, frames_cut, content_in, frames_in}
 use Rattle.block_records.specs.declared.content.BlockHeader.{BlockHeader}
 use Rattle.block_records.specs.declared.content.Spelled.{Spelled}
 
@@ -27,6 +28,10 @@ pub record AreFrames (kind : Lace) (octets sizes : List ℕ) (start : ℕ) : Typ
 abbrev pub Cuts : Lace → List ℕ → List ℕ → Result (List (List ℕ)) Kind → Result ℕ Kind → Type 0
 Cuts lace octets sizes found (Ok start) = (found ≡ Ok (frames_cut sizes (drop start octets))) × AreFrames lace octets sizes start
 Cuts lace octets sizes found (Err kind) = found ≡ Err kind
+
+-- All the octets are one frame, which begins there.
+abbrev pub CutsWhole : List ℕ → List ℕ → ℕ → Type 0
+CutsWhole octets sizes start = Cuts laces.None octets sizes (frames_in laces.None octets) (Ok start)
 
 -- what was read, and frames, as a content
 abbrev pub content_of : Spelled → List (List ℕ) → Content

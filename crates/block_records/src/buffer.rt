@@ -6,7 +6,7 @@ ghost use Rattle.mkv_io.specs.Faults.{HasCause, is_read_fault};
 ghost use Rattle.mkv_io.specs.Sources.{IfTold, IsLive, file_size};
 ghost use Rattle.mkv_schema.specs.Element.{is_unknown, known, stated_end};
 ghost use Rattle.mkv_schema.specs.Value.{body_of};
-ghost use Rattle.elements.specs.Looks.{Goes, GoesTo};
+ghost use Rattle.elements.specs.Looks.{GoesOver};
 ghost use Rattle.elements.specs.Window.{Holds};
 ghost use Rattle.lacing.specs.Writing.{FitsKind};
 ghost use Rattle.block_records.specs.Lendable.{HasSmallTimes, LendsNothing};
@@ -79,7 +79,7 @@ impl BlockBuffer {
         ensures standing { R.standing src.new ≡ R.standing src.old }
         ensures cause { HasCause is_read_fault (R.reading_faults src.old) (R.reading_faults src.new) result }
         ensures holds { IfTold R.Reads src.old file (λ bytes. Holds bytes window.new) }
-        ensures goes { GoesTo R.Reads file header.now.body (stated_end header.now) window.old window.new src.old src.new result }
+        ensures goes { GoesOver R.Reads file header.now window.old window.new src.old src.new result }
     {
         self.parts.forget();
         self.len = 0;

@@ -1,10 +1,10 @@
 //! What the octets of a Block or a SimpleBlock spell: RFC 9559, sections 10.1 (Block Structure), 10.2
 //! (SimpleBlock Structure) and 10.3 (Block Lacing).
 
-ghost use Rattle.std.specs.Prelude.{◌≡◌, ◌≤◌, [], length, Ok, IfOk, MatchResult, OnErr};
+ghost use Rattle.std.specs.Prelude.{◌≡◌, ◌≤◌, [], length, IfOk, MatchResult, OnErr};
 ghost use Rattle.block_format.specs.Content.{frames_in, has_flag, lace_of, laced_frames};
 ghost use Rattle.lacing.specs.Reading.{data_of};
-ghost use Rattle.block_records.specs.Spelled.{header_in, Cuts, Spells};
+ghost use Rattle.block_records.specs.Spelled.{header_in, Cuts, Spells, CutsWhole};
 
 use block_format::MOST_OF_BLOCK;
 use ebml_numbers::{Size, read_int, read_size};
@@ -90,7 +90,7 @@ pub fn header_in(octets: &[u8]) -> Option<BlockHeader>
 fn one_frame(octets: &[u8], sizes: &mut SmallVec<u32, 8, Global>) -> Result<usize, AllocError>
     requires short { length octets.now ≤ MOST_OF_BLOCK }
     requires empty { sizes.old.items ≡ [] }
-    ensures exact { IfOk result (λ start. Cuts Lace.None octets.now sizes.new.items (frames_in Lace.None octets.now) (Ok start)) }
+    ensures exact { IfOk result (CutsWhole octets.now sizes.new.items) }
     ensures empty { OnErr result (sizes.new.items ≡ []) }
 {
     sizes.push(octets.len() as u32)?;

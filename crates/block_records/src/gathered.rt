@@ -5,9 +5,7 @@ ghost use Rattle.mkv_schema.specs.declared.ids.TheConstants.{BLOCK_GROUP as GROU
 ghost use Rattle.mkv_schema.specs.Element.{in_master, stated_end};
 ghost use Rattle.mkv_schema.specs.Elements.{children_in};
 ghost use Rattle.mkv_schema.specs.Value.{is_known_value};
-ghost use Rattle.elements.specs.Body.{IsBody};
-ghost use Rattle.block_format.specs.Elements.{element_octets};
-ghost use Rattle.block_records.specs.Group.{Gathers, GathersBody, GathersRun, IsInside, IsPart};
+ghost use Rattle.block_records.specs.Group.{AreOctetsOf, Gathers, GathersBody, GathersRun, IsInside, IsPart};
 ghost use Rattle.mkv_io.specs.declared.outside.TheConstants.{LONGEST_FILE};
 ghost use Rattle.block_records.specs.Says.{GathersChild, GathersReference};
 
@@ -41,7 +39,7 @@ fn element_of<'a>(body: &'a [u8], base: u64, child: &Header) -> &'a [u8]
     requires from { base ≤ child.now.offset }
     requires order { child.now.offset ≤ stated_end child.now }
     requires inside { stated_end child.now ≤ base + length body.now }
-    ensures exact { (bytes : List ℕ) (total : ℕ) → IsBody bytes base total body.now → result.now ≡ element_octets bytes child.now }
+    ensures exact { AreOctetsOf base body.now child.now result.now }
     ensures length { length result.now ≡ stated_end child.now - child.now.offset }
 {
     let end = child.body + known(child.size);

@@ -1,5 +1,5 @@
 -- What a Cluster's buffer holds.
-use Rattle.std.specs.Prelude.{◌≡◌, ◌≤◌, ◌<◌, ◌⊎◌, ⊤, ℕ, ◌+◌, ◌^◌, Bool, true, List, [], ◌++◌, length, Option, Some, None, is_none, unwrap_or}
+use Rattle.std.specs.Prelude.{◌≡◌, ◌≤◌, ◌<◌, ◌⊎◌, ⊤, ℕ, ◌+◌, ◌^◌, Bool, true, List, [], ◌++◌, length, Option, Some, None, is_none, unwrap_or, ℤ}
 use Rattle.mkv_schema.specs.declared.ids.TheConstants.{CLUSTER}
 use Rattle.output_model.specs.Element.{element, octets_of, joined}
 use Rattle.output_model.specs.declared.TheConstants.{MOST_OF_CLUSTER}
@@ -7,7 +7,8 @@ use Rattle.output_model.specs.declared.heads.ClusterLimits.{ClusterLimits}
 use Rattle.output_model.specs.OutputBlock.{OutputBlock, Lent, IsLent}
 use Rattle.output_model.specs.Block.{block_element}
 use Rattle.output_model.specs.Cluster.{OutputCluster, timestamp_element, block_elements, begun, with_block, joins, may_have}
-use Rattle.cluster_writer.specs.Lent.{block_put}
+use Rattle.cluster_writer.specs.Lent.{block_put, lent}
+use Rattle.output_model.specs.declared.heads.OutHead.{OutHead}
 use Rattle.cluster_writer.specs.Lengths.{octets_taken}
 
 -- Where Clusters end; the Timestamp, where there is a block; how many blocks there are, and the octets of
@@ -107,6 +108,11 @@ pub record AddsBlock (b : OutputBlock) (old new : Gathered) : Type 0 where
   pub elements : new.elements ≡ old.elements ++ octets_of (block_element (timestamp_for old b.tick) b)
   pub spare : old.spare ≤ new.spare + octets_taken b
 
+-- The same of the block that is put of these parts of what a lane hands out.
+abbrev pub AddsLent : ℕ → ℕ → OutHead → List ℕ → List ℕ → List ℕ → List ℤ → List ℕ → Gathered → Gathered → Type 0
+AddsLent lane tick head prefix body sizes references kept old new =
+    AddsBlock (block_put lane tick (lent head prefix body sizes references kept)) old new
+
 -- ---- what a caller follows: the Cluster that is held
 
 -- It is told whether a block at this tick, whose Element has so many octets, joins the Cluster.
@@ -121,3 +127,8 @@ HoldsSame old new = (c : Option OutputCluster) → Holds c old → Holds c new
 -- the Cluster has one block more
 abbrev pub HoldsNext : OutputBlock → Gathered → Gathered → Type 0
 HoldsNext b old new = (c : Option OutputCluster) → Holds c old → Holds (Some (with_next c b)) new
+
+-- The same of the block that is put of these parts of what a lane hands out.
+abbrev pub HoldsLent : ℕ → ℕ → OutHead → List ℕ → List ℕ → List ℕ → List ℤ → List ℕ → Gathered → Gathered → Type 0
+HoldsLent lane tick head prefix body sizes references kept old new =
+    HoldsNext (block_put lane tick (lent head prefix body sizes references kept)) old new

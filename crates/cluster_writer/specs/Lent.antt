@@ -3,7 +3,7 @@ use Rattle.std.specs.Prelude.{◌≡◌, ◌<◌, ◌≤◌, ◌^◌, ℕ, ℤ, 
 use Rattle.output_model.specs.declared.heads.OutHead.{OutHead}
 use Rattle.output_model.specs.OutputBlock.{OutputBlock, Lent, IsLent, lent_block, in_output}
 use Rattle.output_model.specs.Cluster.{is_near}
-use Rattle.cluster_writer.specs.Lengths.{prefixed_sizes, block_len, body_len, octets_taken}
+use Rattle.cluster_writer.specs.Lengths.{prefixed_sizes, block_len, body_len, octets_taken, behind_len}
 use Rattle.cluster_writer.specs.declared.lent.LentBlock.{LentBlock}
 use Rattle.cluster_writer.specs.declared.lent.BlockLengths.{BlockLengths}
 
@@ -36,9 +36,18 @@ pub record Measures (own : OutHead) (front : ℕ) (parts : List ℕ) (others : L
   pub references : l.references ≡ others
   pub kept : length l.kept ≡ extra
 
+-- So many octets the Element takes of each block that measures this.
+abbrev pub IsLenOf : OutHead → ℕ → List ℕ → List ℤ → ℕ → ℕ → Type 0
+IsLenOf head prefix sizes references kept len =
+    (l : Lent) → IsLent l → Measures head prefix sizes references kept l → len ≡ octets_taken (lent_block l)
+
 -- the sizes of its frames with their prefix
 abbrev pub sizes_put : LentBlock → List ℕ
 sizes_put b = prefixed_sizes (length b.prefix.now) b.sizes.now
+
+-- how many octets stand behind its Block in its group
+abbrev pub behind_put : LentBlock → ℕ
+behind_put b = behind_len b.head.now.duration b.references.now (length b.kept.now)
 
 -- These are the lengths of a block as it is written: of its Block, of what stands behind the header of its Element, and of
 -- the Element, which has 128 MiB at most.

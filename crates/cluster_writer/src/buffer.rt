@@ -4,8 +4,8 @@ ghost use Rattle.std.specs.Prelude.{◌≡◌, ◌^◌, ◌≤◌, Some, None, O
 ghost use Rattle.std.specs.Borrow.{sem};
 ghost use Rattle.output_model.specs.Element.{octets_of};
 ghost use Rattle.output_model.specs.Cluster.{OutputCluster, cluster_element, timestamp_element};
-ghost use Rattle.cluster_writer.specs.Lent.{AreLengths, block_of, block_put, lent, lent_of};
-ghost use Rattle.cluster_writer.specs.Gathered.{AddsBlock, AreFew, CanPut, Holds, HoldsNext, HoldsSame, HoldsSmall, TellsJoining, cluster_with, has_place, is_empty, place_in, timestamp_for};
+ghost use Rattle.cluster_writer.specs.Lent.{AreLengths, block_of, lent, lent_of};
+ghost use Rattle.cluster_writer.specs.Gathered.{AddsBlock, AddsLent, AreFew, CanPut, Holds, HoldsLent, HoldsNext, HoldsSame, HoldsSmall, TellsJoining, cluster_with, has_place, is_empty, place_in, timestamp_for};
 ghost use Rattle.cluster_writer.specs.Staying.{StaysAsItIs};
 
 use crate::block::add_element;
@@ -108,8 +108,8 @@ impl ClusterBuf {
         extra: &[u8],
     ) -> u64
         requires { CanPut self.old lane tick (lent head.now prefix.now body.now sizes.now refs.now extra.now) }
-        ensures added { AddsBlock (block_put lane tick (lent head.now prefix.now body.now sizes.now refs.now extra.now)) self.old self.new }
-        ensures holds { HoldsNext (block_put lane tick (lent head.now prefix.now body.now sizes.now refs.now extra.now)) self.old self.new }
+        ensures added { AddsLent lane tick head.now prefix.now body.now sizes.now refs.now extra.now self.old self.new }
+        ensures holds { HoldsLent lane tick head.now prefix.now body.now sizes.now refs.now extra.now self.old self.new }
         ensures place { result ≡ place_in self.old tick }
         ensures most { HoldsSmall self.new }
     {

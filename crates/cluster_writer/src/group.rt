@@ -4,8 +4,8 @@ ghost use Rattle.std.specs.Prelude.{◌≡◌, ◌+◌, ◌*◌, ◌^◌, ◌<�
 ghost use Rattle.output_model.specs.Element.{joined, octets_of};
 ghost use Rattle.cluster_writer.specs.Room.{Adds, HasRoom};
 ghost use Rattle.output_model.specs.Block.{duration_elements, reference_element};
-ghost use Rattle.cluster_writer.specs.Lent.{block_of};
-ghost use Rattle.cluster_writer.specs.Lengths.{duration_len, references_len, behind_len, group_len, behind_octets};
+ghost use Rattle.cluster_writer.specs.Lent.{block_of, behind_put};
+ghost use Rattle.cluster_writer.specs.Lengths.{duration_len, references_len, group_len, behind_octets};
 
 use crate::element::{add, add_header, add_uint, element_len, uint_len};
 use crate::lent::LentBlock;
@@ -38,7 +38,7 @@ fn duration_len(duration: Option<u64>) -> u64
 
 /// Adds what stands behind the Block of a group.
 pub(crate) fn add_behind(out: &mut Vec<u8>, block: &LentBlock<'_>)
-    requires { HasRoom out.old (behind_len block.now.head.now.duration block.now.references.now (length block.now.kept.now)) }
+    requires { HasRoom out.old (behind_put block.now) }
     ensures { Adds out.old out.new (behind_octets (block_of block.now)) }
 {
     add_duration(out, block.head.duration);

@@ -1,8 +1,8 @@
 //! A block that is put into a Cluster, and how long its Element is.
 
 ghost use Rattle.std.specs.Prelude.{◌≡◌, ◌≤◌, ◌^◌, ℕ, length};
-ghost use Rattle.output_model.specs.OutputBlock.{CanBeLent, IsLent, Lent, lent_block};
-ghost use Rattle.cluster_writer.specs.Lent.{AreLengths, Measures, block_of, lent_of};
+ghost use Rattle.output_model.specs.OutputBlock.{CanBeLent, IsLent};
+ghost use Rattle.cluster_writer.specs.Lent.{AreLengths, IsLenOf, block_of, lent_of};
 ghost use Rattle.cluster_writer.specs.Lengths.{block_len, body_len, octets_taken, prefixed_sizes, taken_len};
 
 use crate::block::block_len;
@@ -64,8 +64,7 @@ impl LentBlock<'_> {
 /// lane and Cluster.
 pub fn element_len(head: &OutHead, prefix: usize, sizes: &[u32], refs: &[i64], extra: usize) -> u64
     requires { CanBeLent head.now.lace prefix sizes.now (length refs.now) extra }
-    ensures exact { (l : Lent) → IsLent l → Measures head.now prefix sizes.now refs.now extra l
-        → result ≡ octets_taken (lent_block l) }
+    ensures exact { IsLenOf head.now prefix sizes.now refs.now extra result }
     ensures most { result ≤ 2 ^ 27 }
 {
     lengths_of(head, prefix, sizes, refs, extra).whole

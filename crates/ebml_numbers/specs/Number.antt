@@ -1,5 +1,5 @@
 -- The numbers of EBML: RFC 8794, sections 4 (Variable-Size Integer), 5 (Element ID), 6 (Element Data Size) and 7 (EBML Element Types).
-use Rattle.std.specs.Prelude.{◌≡◌, ◌≤◌, ⊤, true, ℕ, suc, ◌+◌, ◌-◌, ◌*◌, ◌%◌, ◌^◌, ◌==◌, nat_lt, nat_le, Bool, not, ◌&&◌, ◌||◌, if◌then◌else◌, ℤ, pos, negsuc, List, [], ◌∷◌, length, slice_index, ◌<◌, find, unwrap_or, Result, Ok, Err}
+use Rattle.std.specs.Prelude.{◌≡◌, ◌≤◌, ⊤, true, ℕ, suc, ◌+◌, ◌-◌, ◌*◌, ◌%◌, ◌^◌, ◌==◌, nat_lt, nat_le, Bool, not, ◌&&◌, ◌||◌, if◌then◌else◌, ℤ, pos, negsuc, List, [], ◌∷◌, length, slice_index, ◌<◌, find, unwrap_or, Result, Ok, Err, ◌++◌, IsTrue}
 use Rattle.std.specs.Int.{w8, leading_zeros}
 use Rattle.byteorder.specs.Endian.{big_number, big_bytes, twos_complement}
 use Rattle.ebml_numbers.specs.declared.number.IdRead.{IdRead}
@@ -182,3 +182,13 @@ int_octets_in w (negsuc n) = big_bytes w (256 ^ w - suc n)
 -- a signed number in its fewest octets
 abbrev pub int_octets : ℤ → List ℕ
 int_octets z = int_octets_in (int_width z) z
+
+-- ---- read back
+
+-- Octets are read as a known size of this width, whatever follows them.
+abbrev pub ReadsAsSize : List ℕ → ℕ → ℕ → Type 0
+ReadsAsSize octets value width = (rest : List ℕ) → size_at (octets ++ rest) ≡ Ok (record { size = Known value; len = width })
+
+-- Octets are read as an ID of this width where it is a valid one, whatever follows them.
+abbrev pub ReadsAsId : List ℕ → ℕ → ℕ → Type 0
+ReadsAsId octets id width = (rest : List ℕ) → IsTrue (is_id id) → id_at (octets ++ rest) ≡ Ok (record { id = id; len = width })

@@ -1,11 +1,10 @@
 //! Numbers written in the fewest octets, or in as many as are asked for: RFC 8794, sections 4 to 7.
-ghost use Rattle.std.specs.Prelude.{◌≡◌, ℕ, ◌+◌, ◌*◌, ◌^◌, ◌≤◌, ◌<◌, ◌-◌, ◌++◌, List, Ok, IsTrue};
+ghost use Rattle.std.specs.Prelude.{◌≡◌, ◌+◌, ◌*◌, ◌^◌, ◌≤◌, ◌<◌, ◌-◌, IsTrue};
 ghost use Rattle.std.specs.Int.{w64};
 ghost use Rattle.byteorder.specs.Endian.{low_bytes};
-ghost use Rattle.ebml_numbers.specs.Number.{IsLeastWidth, all_ones, least_size_width, size_octets, size_at, is_id, is_written_id, id_octets, id_at, uint_width, uint_octets, uint_of, magnitude, int_width, int_octets, int_of};
+ghost use Rattle.ebml_numbers.specs.Number.{IsLeastWidth, all_ones, least_size_width, size_octets, is_written_id, id_octets, uint_width, uint_octets, uint_of, magnitude, int_width, int_octets, int_of, ReadsAsId, ReadsAsSize};
 ghost use Rattle.ebml_numbers.specs.Octets.{octets_of};
 
-use crate::number::Size;
 use crate::octets::Octets;
 use crate::vint::marker;
 
@@ -28,8 +27,7 @@ pub fn put_size(value: u64, width: u8) -> Octets
     ensures len { result.len ≡ width }
 
     // It is read back, whatever follows it.
-    ensures read { (rest : List ℕ) → size_at (octets_of result ++ rest)
-        ≡ Ok (record { size = Size.Known value; len = width }) }
+    ensures read { ReadsAsSize (octets_of result) value width }
 {
     Octets::big_endian(marker(width) + value, width)
 }
@@ -42,8 +40,7 @@ pub fn put_id(id: u32) -> Octets
     ensures len { result.len ≡ uint_width id }
 
     // A valid ID is read back, whatever follows it.
-    ensures read { (rest : List ℕ) → IsTrue (is_id id) → id_at (octets_of result ++ rest)
-        ≡ Ok (record { id = id; len = result.len }) }
+    ensures read { ReadsAsId (octets_of result) id result.len }
 {
     put_uint(u64::from(id))
 }

@@ -100,6 +100,11 @@ is_frame_count count = nat_le 1 count && nat_le count 256
 unfoldable pub lace_in : Lace → ℕ → List ℕ → Option (List ℕ × ℕ)
 lace_in kind count octets = if is_frame_count count then frames_in kind count octets else None
 
+-- A head is read back as these sizes, whatever frames of theirs stand behind it.
+abbrev pub IsReadBack : Lace → List ℕ → List ℕ → Type 0
+IsReadBack kind sizes head =
+    (frames : List ℕ) → length frames ≡ sum sizes → lace_in kind (length sizes) (head ++ frames) ≡ Some (sizes, length head)
+
 -- What is read from the front of octets is the lace that stands there, if one does.
 abbrev pub ReadsTheLace : Type 0
 ReadsTheLace =

@@ -3,7 +3,7 @@ use Rattle.std.specs.Prelude.{◌≡◌, ℕ, ◌-◌, ◌≤◌, nat_le, Bool, 
 use Rattle.ebml_numbers.specs.Number.{AreOctets}
 use Rattle.lacing.specs.declared.kind.Lace.{Lace}
 use Rattle.lacing.specs.Lace.{FindsLace}
-use Rattle.lacing.specs.Reading.{lace_in}
+use Rattle.lacing.specs.Reading.{lace_in, sizes_in, with_last}
 
 -- a front of so many octets, with zeros in place of the others
 abbrev pub with_zeros : List ℕ → ℕ → List ℕ
@@ -18,6 +18,10 @@ has_head_within front (Some (sizes, head)) = nat_le head (length front)
 -- one, and its head lies within the front.
 abbrev pub is_settled : Lace → ℕ → List ℕ → ℕ → Bool
 is_settled kind count front len = has_head_within front (lace_in kind count (with_zeros front len))
+
+-- The front of so many octets settles all sizes of so many frames but the last, and these leave it a size of 0 or more.
+abbrev pub settles_sizes : Lace → ℕ → List ℕ → ℕ → Bool
+settles_sizes kind count front len = has_head_within front (with_last len (sizes_in kind (count - 1) None (with_zeros front len)))
 
 -- The octets are a lace of so many frames, whose head lies within this front of them.
 pub record HasLace (kind : Lace) (frames : ℕ) (front octets : List ℕ) : Type 0 where

@@ -1,7 +1,6 @@
 //! What octets at the front settle of a lace: RFC 9559, section 10.3 (Block Lacing).
-ghost use Rattle.std.specs.Prelude.{◌≡◌, ◌-◌, ◌^◌, ◌≤◌, None, length};
-ghost use Rattle.lacing.specs.Reading.{sizes_in, with_last};
-ghost use Rattle.lacing.specs.Settled.{has_head_within, is_settled, with_zeros};
+ghost use Rattle.std.specs.Prelude.{◌≡◌, ◌^◌, ◌≤◌, length};
+ghost use Rattle.lacing.specs.Settled.{is_settled, settles_sizes};
 
 use crate::kind::Lace;
 use crate::reading::{fitting_size, is_frame_count};
@@ -29,7 +28,7 @@ fn settles_sizes(kind: Lace, count: usize, front: &[u8], len: usize) -> bool
     requires short { len ≤ 2 ^ 25 }
     requires some { 1 ≤ count }
     requires most { count ≤ 256 }
-    ensures { result ≡ has_head_within front.now (with_last len (sizes_in kind (count - 1) None (with_zeros front.now len))) }
+    ensures { result ≡ settles_sizes kind count front.now len }
 {
     let mut head = 0;
     let mut before = None;

@@ -1,8 +1,8 @@
 //! A lace written: RFC 9559, section 10.3 (Block Lacing).
-ghost use Rattle.std.specs.Prelude.{◌≡◌, ℕ, ◌+◌, ◌^◌, ◌<◌, ◌≤◌, ◌++◌, List, Some, None, length, take, drop, sum};
+ghost use Rattle.std.specs.Prelude.{◌≡◌, ◌+◌, ◌^◌, ◌<◌, ◌≤◌, ◌++◌, None, length, take, drop, sum};
 ghost use Rattle.ebml_numbers.specs.Octets.{octets_of};
 ghost use Rattle.lacing.specs.Lace.{but_last, IsLace};
-ghost use Rattle.lacing.specs.Reading.{lace_in};
+ghost use Rattle.lacing.specs.Reading.{IsReadBack};
 ghost use Rattle.lacing.specs.Writing.{CanLace, difference_octets, ebml_octets, octets_of_size, octets_of_sizes, lace_head};
 
 use crate::difference::{bias, difference_width};
@@ -26,8 +26,7 @@ pub fn put_lace(kind: Lace, sizes: &[u32], out: &mut [u8])
 
     // It is the head of a lace, and with the frames behind it is split into the same sizes.
     ensures lace { IsLace kind out.new sizes.now (length out.new + sum sizes.now) }
-    ensures read { (frames : List ℕ) → length frames ≡ sum sizes.now
-        → lace_in kind (length sizes.now) (out.new ++ frames) ≡ Some (sizes.now, length out.new) }
+    ensures read { IsReadBack kind sizes.now out.new }
 {
     put_spelled(kind, but_last(sizes), out);
 }
