@@ -98,6 +98,10 @@ Turns takes bytes old new (Ok None) = left_of bytes (shown new) ≡ left_of byte
 Turns takes bytes old new (Ok (Some step)) = GivesWanted takes bytes (shown old) (shown new) (Ok step)
 Turns takes bytes old new (Err end) = left_of bytes (shown new) ≡ left_of bytes (shown old)
 
+-- The same whatever blocks are wanted.
+abbrev pub TurnsForAll : List ℕ → Walk → Walk → Result Turn ReadEnd → Type 0
+TurnsForAll bytes old new result = (takes : Takes) → Turns takes bytes old new result
+
 -- The place goes on; where an Element is passed, fewer turns are left.
 abbrev pub TurnsOn : Place → Place → Option Step → Type 0
 TurnsOn old new None = (turns_left new < turns_left old) × (old.at ≤ new.at)

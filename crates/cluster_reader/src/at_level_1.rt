@@ -3,7 +3,7 @@
 ghost use Rattle.std.specs.Prelude.{◌≡◌, None};
 ghost use Rattle.mkv_io.specs.Faults.{HasCause, is_read_fault};
 ghost use Rattle.mkv_io.specs.Sources.{IfTold, live_files};
-ghost use Rattle.cluster_reader.specs.Walks.{IsReady, PaysFor, TakesTurn, Turns};
+ghost use Rattle.cluster_reader.specs.Walks.{IsReady, PaysFor, TakesTurn, TurnsForAll};
 ghost use Rattle.cluster_reader.specs.declared.takes.Takes.{Takes};
 
 use crate::step::Step;
@@ -16,7 +16,7 @@ use mkv_schema::ids::CLUSTER;
 pub fn turn_at_level_1<R: Reads>(walk: &mut Walk, src: &mut R) -> Result<Option<Step>, ReadEnd>
     requires ready { IsReady (live_files R.Reads src.old) walk.old }
     requires outside { walk.old.place.cluster ≡ None }
-    ensures gives { IfTold R.Reads src.old walk.old.file (λ bytes. (takes : Takes) → Turns takes bytes walk.old walk.new result) }
+    ensures gives { IfTold R.Reads src.old walk.old.file (λ bytes. TurnsForAll bytes walk.old walk.new result) }
     ensures takes { (takes : Takes) → TakesTurn takes walk.old walk.new result }
     ensures ready { IsReady (live_files R.Reads src.new) walk.new }
     ensures standing { R.standing src.new ≡ R.standing src.old }

@@ -6,7 +6,7 @@ ghost use Rattle.mkv_io.specs.Sources.{IfTold, IsLive, file_size};
 ghost use Rattle.ebml_numbers.specs.Number.{uint_of};
 ghost use Rattle.mkv_schema.specs.Element.{known, stated_end};
 ghost use Rattle.mkv_schema.specs.Value.{body_of};
-ghost use Rattle.elements.specs.Looks.{Goes, GoesTo};
+ghost use Rattle.elements.specs.Looks.{GoesOver};
 ghost use Rattle.elements.specs.Window.{Holds};
 
 use block_format::MOST_TIMESTAMP;
@@ -30,7 +30,7 @@ pub fn read_timestamp<R: Reads>(
     ensures holds { IfTold R.Reads src.old file (λ bytes. Holds bytes window.new) }
     ensures standing { R.standing src.new ≡ R.standing src.old }
     ensures cause { HasCause is_failure (R.reading_faults src.old) (R.reading_faults src.new) result }
-    ensures goes { GoesTo R.Reads file header.now.body (stated_end header.now) window.old window.new src.old src.new result }
+    ensures goes { GoesOver R.Reads file header.now window.old window.new src.old src.new result }
 {
     let len = known(header.size) as u16;
     window.hold(src, file, header.body, len)?;

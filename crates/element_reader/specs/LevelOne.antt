@@ -1,12 +1,14 @@
 -- The Elements of level 1 of a Segment, given one after the other.
-use Rattle.std.specs.Prelude.{◌≡◌, true, ℕ, ◌<◌, ◌≤◌, if◌then◌else◌, List, [], ◌∷◌, length, Option, Some, None}
+use Rattle.std.specs.Prelude.{◌≡◌, true, ℕ, ◌<◌, ◌≤◌, if◌then◌else◌, List, [], ◌∷◌, length, Option, Some, None, Result}
 use Rattle.ebml_numbers.specs.declared.number.Size.{Size}
 use Rattle.mkv_io.specs.declared.outside.FileId.{FileId}
 use Rattle.mkv_io.specs.LiveFiles.{LiveFiles}
 use Rattle.mkv_io.specs.Told.{Told}
+use Rattle.mkv_io.specs.declared.reads.Reads.{Ghosts}
 use Rattle.mkv_schema.specs.declared.element.Header.{Header}
 use Rattle.mkv_schema.specs.Element.{end_in, is_unknown}
 use Rattle.mkv_schema.specs.Elements.{level_1}
+use Rattle.elements.specs.Looks.{GoesTo}
 use Rattle.elements.specs.Window.{ReadAhead, Holds, nothing_at}
 use Rattle.mkv_schema.specs.Outline.{segment_run}
 use Rattle.element_reader.specs.declared.outline.Outline.{Outline}
@@ -65,6 +67,10 @@ pub record StandsOn (files : LiveFiles) (old new : Listing) : Type 0 where
   pub segment : IsSameSegment old new
   pub inside : new.at ≤ new.end
   pub reads : CanRead files new
+
+-- The way from one place to another pays for what is read.
+abbrev pub GoesAlong : {S T E : Type 0} → Ghosts S → Listing → Listing → S → S → Result T E → Type 0
+GoesAlong r old new before now result = GoesTo r old.file old.at new.at old.ahead new.ahead before now result
 
 -- All Elements of level 1 are left of a file that has this outline.
 abbrev pub HasAllLeft : Outline → Listing → Type 0

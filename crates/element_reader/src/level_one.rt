@@ -4,9 +4,8 @@ ghost use Rattle.std.specs.Prelude.{◌≡◌, ℕ, ◌≤◌, List, length, IfO
 ghost use Rattle.mkv_io.specs.Faults.{HasCause, is_failure};
 ghost use Rattle.mkv_io.specs.Sources.{IfRead, IfTold, OnlyReads, live_files};
 ghost use Rattle.mkv_schema.specs.Outline.{segment_run};
-ghost use Rattle.elements.specs.Looks.{Goes, GoesTo};
 ghost use Rattle.elements.specs.Window.{nothing_at};
-ghost use Rattle.element_reader.specs.LevelOne.{CanRead, GivesNext, GoesOn, HasAllLeft, StandsOn, first_place, left};
+ghost use Rattle.element_reader.specs.LevelOne.{CanRead, GivesNext, GoesAlong, GoesOn, HasAllLeft, StandsOn, first_place, left};
 
 use crate::level::segment_bound;
 use crate::outline::Outline;
@@ -71,7 +70,7 @@ impl LevelOne {
         ensures stands { StandsOn (live_files R.Reads src.new) self.old self.new }
         ensures same { OnlyReads R.Reads src.old src.new }
         ensures cause { HasCause is_failure (R.reading_faults src.old) (R.reading_faults src.new) result }
-        ensures goes { GoesTo R.Reads self.old.file self.old.at self.new.at self.old.ahead self.new.ahead src.old src.new result }
+        ensures goes { GoesAlong R.Reads self.old self.new src.old src.new result }
     {
         let window = &mut self.window;
         let Ok(step) = next_of_segment(window, src, self.file, self.size, self.at, self.end) else {

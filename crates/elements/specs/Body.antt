@@ -1,6 +1,8 @@
 -- The body of an Element that is held as octets.
-use Rattle.std.specs.Prelude.{◌≡◌, ℕ, ◌+◌, ◌≤◌, List, length}
-use Rattle.mkv_schema.specs.Element.{octets_between}
+use Rattle.std.specs.Prelude.{◌≡◌, ℕ, ◌+◌, ◌≤◌, List, length, Result}
+use Rattle.mkv_io.specs.declared.damage.Damage.{Damage}
+use Rattle.mkv_schema.specs.declared.element.Header.{Header}
+use Rattle.mkv_schema.specs.Element.{element_at, octets_between, Setting}
 
 -- These octets are what begins at a place of a content of `total` octets.
 pub record IsBody (bytes : List ℕ) (base total : ℕ) (body : List ℕ) : Type 0 where
@@ -15,3 +17,7 @@ IfBody base total body P = (bytes : List ℕ) → IsBody bytes base total body �
 -- the place behind the last
 abbrev pub end_behind : ℕ → List ℕ → ℕ
 end_behind base body = base + length body
+
+-- In each such file this is the Element at a place of the body, or what is wrong there.
+abbrev pub IsChildAt : Setting → ℕ → ℕ → List ℕ → ℕ → Result Header Damage → Type 0
+IsChildAt s base total body at found = IfBody base total body (λ bytes. found ≡ element_at s bytes at (end_behind base body))

@@ -4,7 +4,7 @@ use Rattle.mkv_io.specs.declared.outside.FileId.{FileId}
 use Rattle.mkv_io.specs.Sources.{IfTold, file_size}
 use Rattle.mkv_io.specs.declared.reads.Reads.{Ghosts}
 use Rattle.mkv_schema.specs.declared.element.Header.{Header}
-use Rattle.mkv_schema.specs.Element.{Setting, element_at}
+use Rattle.mkv_schema.specs.Element.{Setting, element_at, stated_end}
 use Rattle.mkv_schema.specs.Placed.{StandsAt, IsWhole}
 use Rattle.elements.specs.Window.{ReadAhead, nothing_at, HasRange, held_from, kept_from, wanted_at, HasNotPassed, MovesTo, Spends}
 use Rattle.mkv_io.specs.declared.damage.Damage.{Damage}
@@ -69,3 +69,7 @@ LooksThrough g ahead file room at len old new before now result = Looks g file r
 -- So does the way from the body of an Element on.
 abbrev pub GoesBody : {S T E W : Type 0} → Ghosts S → (W → ReadAhead) → FileId → Header → (T → ℕ) → W → W → S → S → Result T E → Type 0
 GoesBody g ahead file h to old new before now result = GoesThrough g ahead file h.body to old new before now result
+
+-- The same of the way through the body of an Element.
+abbrev pub GoesOver : {S T E : Type 0} → Ghosts S → FileId → Header → ReadAhead → ReadAhead → S → S → Result T E → Type 0
+GoesOver g file h old new before now result = GoesTo g file h.body (stated_end h) old new before now result

@@ -1,11 +1,11 @@
 //! The children of a master: RFC 8794, section 7.7 (Master Element).
 
 ghost use Rattle.std.specs.Prelude.{◌≡◌, ℕ, ◌+◌, ◌^◌, ◌<◌, ◌≤◌, List, length, IfOk};
-ghost use Rattle.mkv_schema.specs.Element.{element_at, known, stated_end};
+ghost use Rattle.mkv_schema.specs.Element.{known, stated_end};
 ghost use Rattle.mkv_schema.specs.Placed.{StandsAt, IsWhole};
 ghost use Rattle.mkv_schema.specs.Value.{body_of};
 ghost use Rattle.elements.specs.Parent.{setting_of};
-ghost use Rattle.elements.specs.Body.{IfBody, IsBody, end_behind};
+ghost use Rattle.elements.specs.Body.{IsBody, IsChildAt};
 
 use crate::header::read_header;
 use crate::parent::Parent;
@@ -25,7 +25,7 @@ pub fn child_at(
     requires from { base ≤ at }
     requires inside { at < base + length body.now }
     requires short { base + length body.now ≤ 2 ^ 63 }
-    ensures exact { IfBody base total body.now (λ bytes. result ≡ element_at (setting_of parent) bytes at (end_behind base body.now)) }
+    ensures exact { IsChildAt (setting_of parent) base total body.now at result }
     ensures placed { IfOk result (StandsAt at (base + length body.now)) }
     ensures whole { IfOk result (IsWhole (setting_of parent) (base + length body.now)) }
 {
