@@ -132,3 +132,7 @@ pub record AreGood (file : FileId) (total : ℕ) (r : Records) : Type 0 where
 -- a fact of a file's content, where it is told and this is its outline, whatever earlier inputs have held
 abbrev pub IfOutlined : {S : Type 0} → Ghosts S → S → FileId → FileOutline → (List ℕ → Type 0) → Type 0
 IfOutlined r src file outline P = IfTold r src file (λ bytes. (held : ℕ) → outline_in held bytes ≡ Ok outline → P bytes)
+
+-- The same of what such a content and its Segment come to.
+abbrev pub IfOutlinedAs : {S X : Type 0} → Ghosts S → S → FileId → FileOutline → (List ℕ → Header → X) → (X → Type 0) → Type 0
+IfOutlinedAs r src file outline found P = IfOutlined r src file outline (λ bytes. P (found bytes outline.segment))

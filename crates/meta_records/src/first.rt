@@ -6,7 +6,7 @@ ghost use Rattle.mkv_io.specs.Sources.{IfTold, IsLive, file_size};
 ghost use Rattle.tree_format.specs.Standing.{IsSoundOf};
 ghost use Rattle.ebml_tree.specs.Building.{IsRead};
 ghost use Rattle.element_reader.specs.Outline.{is_outline_fault, outline_in};
-ghost use Rattle.meta_records.specs.Records.{IfOutlined, IsHeld, ReadsAs, first_tree};
+ghost use Rattle.meta_records.specs.Records.{IfOutlinedAs, IsHeld, ReadsAs, first_tree};
 
 use ebml_tree::{MOST_NODES, Tree, TreeEnd};
 use element_reader::{LoadEnd, Outline, OutlineEnd, load};
@@ -24,7 +24,7 @@ pub fn first_tree<R: Reads>(
     requires live { IsLive R.Reads src.old file }
     requires whole { outline.now.total ≡ file_size R.Reads src.old file }
     requires held { IsHeld id }
-    ensures exact { IfOutlined R.Reads src.old file outline.now (λ bytes. ReadsAs (first_tree id bytes outline.now.segment) result) }
+    ensures exact { IfOutlinedAs R.Reads src.old file outline.now (first_tree id) (λ found. ReadsAs found result) }
     ensures sound { IfOk result (λ tree. IfSome tree (IsSoundOf id)) }
     ensures read { IfOk result (λ tree. IfSome tree (IsRead id)) }
     ensures standing { R.standing src.new ≡ R.standing src.old }

@@ -8,7 +8,7 @@ ghost use Rattle.element_reader.specs.Outline.{is_outline_fault, outline_in};
 ghost use Rattle.meta_records.specs.declared.limits.TheConstants.{MOST_OF_ATTACHMENTS};
 ghost use Rattle.meta_records.specs.Walk.{IsAttachedIn};
 ghost use Rattle.meta_records.specs.Attached.{ReadsAttached, first_attached};
-ghost use Rattle.meta_records.specs.Records.{IfOutlined};
+ghost use Rattle.meta_records.specs.Records.{IfOutlinedAs};
 
 use crate::attachments::read_attachments;
 use crate::end::AttachmentsEnd;
@@ -28,7 +28,7 @@ pub fn first_attachments<R: Reads>(
 ) -> Result<List<Attachment>, OutlineEnd>
     requires live { IsLive R.Reads src.old file }
     requires whole { outline.now.total ≡ file_size R.Reads src.old file }
-    ensures exact { IfOutlined R.Reads src.old file outline.now (λ bytes. ReadsAttached (first_attached bytes outline.now.segment) result) }
+    ensures exact { IfOutlinedAs R.Reads src.old file outline.now first_attached (λ found. ReadsAttached found result) }
     ensures sound { IfOk result (All (IsAttachedIn file outline.now.total)) }
     ensures standing { R.standing src.new ≡ R.standing src.old }
     ensures cause { HasCause is_outline_fault (R.reading_faults src.old) (R.reading_faults src.new) result }

@@ -7,7 +7,7 @@ ghost use Rattle.mkv_io.specs.Sources.{IfTold, IsLive, file_size};
 ghost use Rattle.tree_format.specs.Standing.{IsSoundOf};
 ghost use Rattle.meta_records.specs.declared.limits.TheConstants.{MOST_OF_ATTACHMENTS};
 ghost use Rattle.element_reader.specs.Outline.{is_outline_fault, outline_in};
-ghost use Rattle.meta_records.specs.Records.{AreGood, AreRead, IfOutlined, IsGoodInfo, ReadsAs, ReadsRecords, file_records, good_info, good_tracks, scale_of_info};
+ghost use Rattle.meta_records.specs.Records.{AreGood, AreRead, IfOutlinedAs, IsGoodInfo, ReadsAs, ReadsRecords, file_records, good_info, good_tracks, scale_of_info};
 ghost use Rattle.mkv_io.specs.Bounds.{ReadsOf};
 
 use crate::first::first_tree;
@@ -49,7 +49,7 @@ pub fn read_records<R: Reads>(
 ) -> Result<Records, OutlineEnd>
     requires live { IsLive R.Reads src.old file }
     requires whole { outline.now.total ≡ file_size R.Reads src.old file }
-    ensures exact { IfOutlined R.Reads src.old file outline.now (λ bytes. ReadsRecords (file_records bytes outline.now.segment) result) }
+    ensures exact { IfOutlinedAs R.Reads src.old file outline.now file_records (λ found. ReadsRecords found result) }
     ensures good { IfOk result (AreGood file outline.now.total) }
     ensures standing { R.standing src.new ≡ R.standing src.old }
     ensures cause { HasCause is_outline_fault (R.reading_faults src.old) (R.reading_faults src.new) result }
