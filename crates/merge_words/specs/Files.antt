@@ -10,6 +10,9 @@ use Rattle.merge_words.specs.declared.options.Subject.{Subject}
 use Rattle.merge_words.specs.declared.options.Subject.TheVariants as subject
 use Rattle.merge_words.specs.declared.item.Item.{Item}
 use Rattle.merge_words.specs.declared.files.FileWords.{FileWords}
+use Rattle.merge_words.specs.declared.files.Choice.{Choice}
+use Rattle.merge_words.specs.declared.files.Marks.{Marks}
+use Rattle.merge_words.specs.declared.files.Texts.{Texts}
 use Rattle.merge_words.specs.Items.{is_file, stands, track_in}
 use Rattle.merge_words.specs.Said.{value_in, said_about, file_of, tracks_of, delay_of, track_text_of, track_language_of, track_flag_of, track_cues_of, track_file_of}
 
@@ -52,6 +55,27 @@ cues_in items = said_about track_cues_of subject.Cues items
 
 abbrev pub times_in : List Item → List (ℕ × List ℕ)
 times_in items = said_about track_file_of subject.Times items
+
+-- which tracks of each type they take
+abbrev pub choice_in : List Item → Choice
+choice_in items = record {
+  video = tracks_in subject.Video items;
+  audio = tracks_in subject.Audio items;
+  subtitles = tracks_in subject.Subtitles items;
+}
+
+-- what they call tracks, and where the times of these stand
+abbrev pub texts_in : List Item → Texts
+texts_in items = record { names = names_in items; languages = languages_in items; times = times_in items }
+
+-- the delays that they give to tracks, the flags and the cue points
+abbrev pub marks_in : List Item → Marks
+marks_in items = record {
+  syncs = delays_in items;
+  defaults = flags_in subject.DefaultFlag items;
+  forced = flags_in subject.ForcedFlag items;
+  cues = cues_in items;
+}
 
 -- the numbers but one
 abbrev pub without : ℕ → List ℕ → List ℕ

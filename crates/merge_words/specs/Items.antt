@@ -1,6 +1,6 @@
 -- The items of a merge's words: an option with its value, `+`, or the name of a file. Each is read
 -- behind the items before it.
-use Rattle.std.specs.Prelude.{ℕ, ◌+◌, Bool, false, ◌&&◌, ◌==◌, nat_le, if◌then◌else◌, List, codes, count_by, Option, Some, None, option_map, unwrap_or, Result, Ok}
+use Rattle.std.specs.Prelude.{ℕ, ◌+◌, Bool, false, ◌&&◌, ◌==◌, nat_le, if◌then◌else◌, List, codes, count_by, Option, Some, None, option_map, unwrap_or, Result, Ok, slice_get}
 use Rattle.std.specs.List.{after_last, list_any}
 use Rattle.std.specs.Str.{bytes_eq}
 use Rattle.word_values.specs.declared.usage.Usage.{Usage}
@@ -126,3 +126,8 @@ item_at before s count =
     if bytes_eq s.word (codes "+") then append_at before s.at
     else if is_option s.word then known before s.at s.means s.next count
     else file_at before s.at s.word
+
+-- the item at a word of these, by its number, which means this as an option
+abbrev pub item_in : List Item → List (List ℕ) → ℕ → List ℕ → Option Meaning → ℕ → Result Item Usage
+item_in before words at word means count =
+    item_at before (record { at = at; word = word; means = means; next = slice_get words (at + 1) }) count

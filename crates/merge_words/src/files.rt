@@ -112,7 +112,7 @@ fn file(alloc: Global, items: &[Item], name: &Value) -> Result<FileWords, AllocE
 }
 
 fn choice_in(alloc: Global, items: &[Item]) -> Result<Choice, AllocError>
-    ensures { IfOk result (λ c. c ≡ record { video = spec.tracks_in Subject.Video items.now; audio = spec.tracks_in Subject.Audio items.now; subtitles = spec.tracks_in Subject.Subtitles items.now }) }
+    ensures { IfOk result (λ choice. choice ≡ spec.choice_in items.now) }
 {
     Ok(Choice {
         video: tracks_in(alloc, Subject::Video, items)?,
@@ -122,7 +122,7 @@ fn choice_in(alloc: Global, items: &[Item]) -> Result<Choice, AllocError>
 }
 
 fn texts_in(alloc: Global, items: &[Item]) -> Result<Texts, AllocError>
-    ensures { IfOk result (λ t. t ≡ record { names = spec.names_in items.now; languages = spec.languages_in items.now; times = spec.times_in items.now }) }
+    ensures { IfOk result (λ texts. texts ≡ spec.texts_in items.now) }
 {
     Ok(Texts {
         names: names_in(alloc, items)?,
@@ -132,7 +132,7 @@ fn texts_in(alloc: Global, items: &[Item]) -> Result<Texts, AllocError>
 }
 
 fn marks_in(alloc: Global, items: &[Item]) -> Result<Marks, AllocError>
-    ensures { IfOk result (λ m. m ≡ record { syncs = spec.delays_in items.now; defaults = spec.flags_in Subject.DefaultFlag items.now; forced = spec.flags_in Subject.ForcedFlag items.now; cues = spec.cues_in items.now }) }
+    ensures { IfOk result (λ marks. marks ≡ spec.marks_in items.now) }
 {
     Ok(Marks {
         syncs: delays_in(alloc, items)?,

@@ -35,7 +35,7 @@ pub(crate) fn item_at(
     before: &[Item],
 ) -> Result<Item, ArgsEnd>
     requires { at < length words.now }
-    ensures { Tells result (spec.item_at before.now (record { at = at; word = word.now; means = means; next = slice_get (texts words.now) (at + 1) }) (length words.now)) }
+    ensures { Tells result (spec.item_in before.now (texts words.now) at word.now means (length words.now)) }
 {
     if word == "+" {
         return append_at(at, before);

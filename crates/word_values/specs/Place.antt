@@ -1,5 +1,5 @@
 -- The words by their numbers, counted from 0, and what is wrong where one is due or too many.
-use Rattle.std.specs.Prelude.{ℕ, Bool, ◌&&◌, ◌==◌, nat_lt, nat_le, if◌then◌else◌, List, length, map, slice_get, slice_index, Option, Some, None, Result, Ok}
+use Rattle.std.specs.Prelude.{ℕ, Bool, ◌&&◌, ◌==◌, nat_lt, nat_le, if◌then◌else◌, List, length, map, slice_get, slice_index, Option, Some, None, Result, Ok, ◌≡◌, ◌+◌, ◌∷◌, drop}
 use Rattle.std.specs.String.{string_bytes}
 use Rattle.std.specs.declared.string.String.{String}
 use Rattle.std.specs.declared.alloc.Global.{Global}
@@ -11,6 +11,10 @@ use Rattle.word_values.specs.Answers.{wrong, ◌>>=◌}
 -- the octets of each word
 abbrev pub texts : List (String Global) → List (List ℕ)
 texts words = map string_bytes words
+
+-- This word stands at a number, and the words from there on are it and those behind.
+abbrev pub IsWordAt : List (List ℕ) → ℕ → List ℕ → Type 0
+IsWordAt words at word = drop at words ≡ word ∷ drop (at + 1) words
 
 -- the word, where there is one; else the number of words is named
 abbrev pub due : ℕ → Option (List ℕ) → Result (List ℕ) Usage

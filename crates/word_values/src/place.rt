@@ -1,16 +1,16 @@
 //! The words by their numbers, counted from 0, and what is wrong where one is due or too many.
 
-ghost use Rattle.std.specs.Prelude.{◌≡◌, ◌+◌, ◌<◌, [], ◌∷◌, MatchOption, OnSome, drop, length, slice_get, option_map};
+ghost use Rattle.std.specs.Prelude.{◌≡◌, ◌<◌, [], MatchOption, OnSome, drop, length, slice_get, option_map};
 ghost use Rattle.word_values.specs.Answers.{Tells, TellsOf, refuses};
 ghost use Rattle.word_values.specs.Place as place;
-ghost use Rattle.word_values.specs.Place.{texts};
+ghost use Rattle.word_values.specs.Place.{texts, IsWordAt};
 
 use crate::usage::{ArgsEnd, Usage, Why};
 
 /// The word at a number, counted from 0.
 pub fn word_at(words: &[String], at: usize) -> Option<&str>
     ensures same { option_map (λ w. w.now) result ≡ slice_get (texts words.now) at }
-    ensures rest { MatchOption result (drop at (texts words.now) ≡ []) (λ w. drop at (texts words.now) ≡ w.now ∷ drop (at + 1) (texts words.now)) }
+    ensures rest { MatchOption result (drop at (texts words.now) ≡ []) (λ word. IsWordAt (texts words.now) at word.now) }
     ensures within { OnSome result (at < length words.now) }
 {
     match text_at(words, at) {
