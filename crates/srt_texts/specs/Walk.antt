@@ -1,6 +1,6 @@
 -- How a reader finds the first bad line of SubRip, line by line. No verdict stands on this but by the law that it is
 -- `Srt.first_bad`, `bad_is` of proofs/WalkLemmas.
-use Rattle.std.specs.Prelude.{ℕ, ◌+◌, Bool, not, ◌||◌, ◌==◌, nat_lt, if◌then◌else◌, List, [], ◌∷◌, length, Option, Some, None}
+use Rattle.std.specs.Prelude.{ℕ, ◌+◌, Bool, not, ◌||◌, ◌==◌, nat_lt, if◌then◌else◌, List, [], ◌∷◌, length, Option, Some, None, ◌≡◌, false}
 use Rattle.std.specs.Option.{is_some}
 use Rattle.std.specs.Str.{is_utf8}
 use Rattle.srt_texts.specs.declared.times.Times.{Times}
@@ -28,6 +28,10 @@ is_misplaced Behind begins l = has_arrow l
 -- it isn't UTF-8, or can't stand there
 abbrev pub is_bad_at : Place → Bool → List ℕ → Bool
 is_bad_at place begins l = not (is_utf8 l) || is_misplaced place begins l
+
+-- The line may stand behind a head, and this is it as text.
+abbrev pub IsPlain : List ℕ → List ℕ → Type 0
+IsPlain line text = (is_bad_at Behind false line ≡ false) × (text ≡ line)
 
 -- the number of the first bad line, where the first of these lines has this number
 unfoldable pub bad_from : Place → ℕ → List (List ℕ) → Option ℕ
