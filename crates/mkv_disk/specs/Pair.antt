@@ -1,8 +1,8 @@
 -- The two files of a disk: a medium, and the sidecar beside it.
-use Rattle.std.specs.Prelude.{◌≡◌, ℕ, zero, suc, List, Option, Some}
+use Rattle.std.specs.Prelude.{◌≡◌, ℕ, zero, suc, List, Option, Some, max}
 use Rattle.mkv_disk.specs.Image.{DiskFile, IsImage, clean}
 use Rattle.mkv_io.specs.declared.outside.FileId.{FileId}
-use Rattle.mkv_io.specs.Sources.{IsLive}
+use Rattle.mkv_io.specs.Sources.{IsLive, file_size}
 use Rattle.mkv_io.specs.declared.reads.Reads.{Ghosts}
 use Rattle.mkv_disk.specs.declared.disk.TheConstants.{MEDIA, SIDECAR}
 
@@ -42,3 +42,7 @@ pub record OpensPair {S : Type 0} (r : Ghosts S) (opened : S → Option (List �
   pub media : IsLive r disk MEDIA
   pub sidecar : IsLive r disk SIDECAR
   pub named : opened disk ≡ Some name
+
+-- The file is as long as it was, or up to this place where that is farther.
+abbrev pub ReachesTo : {S : Type 0} → Ghosts S → S → S → FileId → ℕ → Type 0
+ReachesTo r old new file end = file_size r new file ≡ max (file_size r old file) end

@@ -1,10 +1,10 @@
 //! Two files that are changed in place, and what a crash may leave of them.
 
-ghost use Rattle.std.specs.Prelude.{◌≡◌, ◌↔◌, ℕ, ◌+◌, ◌<◌, ◌≤◌, max, Bool, true, false, List, length, Option, Some, None, OnOk, OnErr, IsErrOf, IsTrue};
+ghost use Rattle.std.specs.Prelude.{◌≡◌, ◌↔◌, ℕ, ◌+◌, ◌<◌, ◌≤◌, Bool, true, false, List, length, Option, Some, None, OnOk, OnErr, IsErrOf, IsTrue};
 ghost use Rattle.mkv_io.specs.Faults.{HasCause, is_failure, is_open_failure};
 ghost use Rattle.mkv_disk.specs.Image.{written_at, cut_to, all_synced};
-ghost use Rattle.mkv_disk.specs.Pair.{IsPairImage, IsPairWith, OpensPair, Pair, file_of, on};
-ghost use Rattle.mkv_disk.specs.Moments.{ChangesOne, LeavesOnly};
+ghost use Rattle.mkv_disk.specs.Pair.{IsPairImage, OpensPair, Pair, ReachesTo, file_of, on};
+ghost use Rattle.mkv_disk.specs.Moments.{ChangesOne, LeavesChanged, LeavesOnly};
 ghost use Rattle.mkv_io.specs.Seen.{KeepsOtherCounts, ReadsNothing};
 ghost use Rattle.mkv_io.specs.Sources.{file_size, live_files};
 
@@ -65,8 +65,8 @@ pub trait Disk: Reads {
         requires live { IsTrue ((Self.files (Self.standing self.old)).live file.n) }
         requires inside { IsTrue told → at ≤ length (file_of file.n (pair self.old)).reads }
         ensures ok { IsTrue told → OnOk result (pair self.new ≡ on file.n (written_at at bytes.now) (pair self.old)) }
-        ensures any_moment { IsTrue told → LeavesOnly moment left_since self.old self.new (IsPairWith file (written_at at bytes.now) (pair self.old)) }
-        ensures size { OnOk result (file_size Self.Reads self.new file ≡ max (file_size Self.Reads self.old file) (at + length bytes.now)) }
+        ensures any_moment { LeavesChanged told moment left_since pair self.old self.new file (written_at at bytes.now) }
+        ensures size { OnOk result (ReachesTo Self.Reads self.old self.new file (at + length bytes.now)) }
         ensures others { ChangesOne (live_files Self.Reads self.old) (live_files Self.Reads self.new) file.n }
 
         ensures opened { opened self.new ≡ opened self.old }
@@ -78,7 +78,7 @@ pub trait Disk: Reads {
         requires live { IsTrue ((Self.files (Self.standing self.old)).live file.n) }
         requires inside { IsTrue told → len ≤ length (file_of file.n (pair self.old)).reads }
         ensures ok { IsTrue told → OnOk result (pair self.new ≡ on file.n (cut_to len) (pair self.old)) }
-        ensures any_moment { IsTrue told → LeavesOnly moment left_since self.old self.new (IsPairWith file (cut_to len) (pair self.old)) }
+        ensures any_moment { LeavesChanged told moment left_since pair self.old self.new file (cut_to len) }
         ensures size { OnOk result (file_size Self.Reads self.new file ≡ len) }
         ensures others { ChangesOne (live_files Self.Reads self.old) (live_files Self.Reads self.new) file.n }
 

@@ -3,7 +3,8 @@ use Rattle.std.specs.Prelude.{◌≡◌, ◌≤◌, ℕ, zero, suc, ◌+◌, ◌
 use Rattle.std.specs.Vec.{vec_capacity}
 use Rattle.std.specs.declared.alloc.Global.{Global}
 use Rattle.std.specs.declared.vec.Vec.{Vec}
-use Rattle.mkv_disk.specs.Pair.{Pair, both}
+use Rattle.mkv_disk.specs.Pair.{Pair, both, file_of}
+use Rattle.mkv_disk.specs.Image.{DiskFile}
 use Rattle.mkv_memory.specs.Changes.{CanReplay, Change, Made, cut, first_pair, pair_of, replay, synced, written}
 use Rattle.mkv_memory.specs.Logged.{Logged}
 use Rattle.mkv_memory.specs.declared.done.Call.{Call}
@@ -34,6 +35,10 @@ made_in (call ∷ calls) octets = made_by call octets ∷ made_in calls (drop (o
 -- two files after calls that were made to them
 abbrev pub replayed : List ℕ → List ℕ → List Call → List ℕ → Pair
 replayed media sidecar calls octets = replay (made_in calls octets) (both media sidecar)
+
+-- the one of this number
+abbrev pub file_replayed : ℕ → List ℕ → List ℕ → List Call → List ℕ → DiskFile
+file_replayed file media sidecar calls octets = file_of file (replayed media sidecar calls octets)
 
 -- how many octets they wrote
 abbrev pub octets_by : List Call → ℕ

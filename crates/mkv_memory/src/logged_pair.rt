@@ -4,7 +4,7 @@ ghost use Rattle.std.specs.Prelude.{◌≡◌, ◌+◌, ◌≤◌, ℕ, [], leng
 ghost use Rattle.mkv_disk.specs.Pair.{both, file_of};
 ghost use Rattle.mkv_memory.specs.Changes.{CanChange, CanReplay, pair_of};
 ghost use Rattle.mkv_memory.specs.Logged.{and_then, has_room, unchanged};
-ghost use Rattle.mkv_memory.specs.LogIn.{change_of, is_same, made_in, octets_by, octets_done, replayed};
+ghost use Rattle.mkv_memory.specs.LogIn.{change_of, file_replayed, is_same, made_in, octets_by, octets_done};
 ghost use Rattle.mkv_memory.specs.Shows.{Shows};
 
 use crate::done::{Call, Done, apply, octets_done};
@@ -129,7 +129,7 @@ fn replayed(
 ) -> Result<Pending, AllocError>
     requires count { length octets.now ≡ octets_by calls.now }
     requires can { CanReplay (made_in calls.now octets.now) (both media.now sidecar.now) }
-    ensures { IfOk result (λ pending. Shows pending (file_of file.n (replayed media.now sidecar.now calls.now octets.now))) }
+    ensures { IfOk result (λ pending. Shows pending (file_replayed file.n media.now sidecar.now calls.now octets.now)) }
 {
     let mut pending = Pending::new(alloc, if file == MEDIA { media } else { sidecar })?;
     let mut rest = octets;
