@@ -1,3 +1,5 @@
 pub mod Opened
 pub mod Folders
 pub mod OpenedPair
+pub mod Written
+pub mod Errors

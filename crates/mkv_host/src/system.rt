@@ -1,10 +1,11 @@
 //! Calls of the system that open files.
 
-ghost use Rattle.std.specs.Prelude.{◌≡◌, ◌↔◌, ◌⊎◌, ℕ, ◌≤◌, pos, ◌<ℤ◌, IfOk, IsOk, IsTrue};
+ghost use Rattle.std.specs.Prelude.{◌≡◌, ◌↔◌, ℕ, ◌≤◌, pos, ◌<ℤ◌, IfOk, IsOk, IsTrue};
 ghost use Rattle.std.specs.Fd.{file_raw_fd};
 ghost use Rattle.std.specs.IoError.{error_kind};
 ghost use Rattle.std.specs.Fs.{IsFile, file_type};
 ghost use Rattle.mkv_host.specs.Folders.{folder_in};
+ghost use Rattle.mkv_host.specs.Errors.{IsMissing};
 ghost use Rattle.mkv_io.specs.declared.outside.TheConstants.{LONGEST_FILE};
 
 use mkv_io::LONGEST_FILE;
@@ -25,7 +26,7 @@ pub struct Node {
 /// Whether an error says that there is no file of a name: none has it, none can have it, since it is too long, or its
 /// way leads through a file.
 pub fn is_missing(error: &io::Error) -> bool
-    ensures { IsTrue result ↔ ((error_kind error.now ≡ ErrorKind.NotFound) ⊎ ((error_kind error.now ≡ ErrorKind.NotADirectory) ⊎ (error_kind error.now ≡ ErrorKind.InvalidFilename))) }
+    ensures { IsTrue result ↔ IsMissing (error_kind error.now) }
 {
     matches!(
         error.kind(),

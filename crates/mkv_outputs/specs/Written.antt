@@ -4,6 +4,7 @@ use Rattle.mkv_io.specs.declared.outside.FileId.{FileId}
 use Rattle.mkv_io.specs.Contents.{with_appended}
 use Rattle.mkv_io.specs.Names.{Names, with_change}
 use Rattle.mkv_io.specs.declared.files.Files.{Ghosts}
+use Rattle.mkv_outputs.specs.declared.sink.Sink.{Sink}
 
 -- Of octets the first are appended to a name's content, and these are left.
 pub record PassesOn (old new : Names) (holder octets left : List ℕ) : Type 0 where
@@ -24,3 +25,7 @@ Passes old new holder octets left (Err _) = PassesSome old new holder octets
 -- the same of the name of a live file
 abbrev pub PassesTo : {S T E : Type 0} → Ghosts S → FileId → S → S → List ℕ → List ℕ → Result T E → Type 0
 PassesTo f file old new octets left result = Passes (f.names old) (f.names new) (f.holder old file.n) octets left result
+
+-- Octets that are written to an output pass to its file behind those that waited, or wait.
+abbrev pub PassesThrough : {S T E : Type 0} → Ghosts S → Sink → Sink → S → S → List ℕ → Result T E → Type 0
+PassesThrough f sink sink' old new octets result = PassesTo f sink.file old new (sink.waiting ++ octets) sink'.waiting result

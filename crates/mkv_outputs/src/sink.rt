@@ -1,10 +1,10 @@
 //! One output that is being written.
 
-ghost use Rattle.std.specs.Prelude.{◌≡◌, [], ◌∷◌, ◌++◌, OnOk};
+ghost use Rattle.std.specs.Prelude.{◌≡◌, [], ◌∷◌, OnOk};
 ghost use Rattle.mkv_io.specs.Faults.{HasCause, is_make_failure};
 ghost use Rattle.mkv_io.specs.Sources.{IsLive};
 ghost use Rattle.mkv_io.specs.Writing.{WritesOnly};
-ghost use Rattle.mkv_outputs.specs.Written.{PassesTo};
+ghost use Rattle.mkv_outputs.specs.Written.{PassesTo, PassesThrough};
 ghost use Rattle.mkv_outputs.specs.Waiting.{WaitFew};
 
 use mkv_io::{Bytes, FileId, Files, MakeFault};
@@ -41,8 +41,7 @@ pub fn flush<F: Files>(sink: &mut Sink, files: &mut F) -> Result<(), MakeFault>
 pub fn write<F: Files>(sink: &mut Sink, files: &mut F, bytes: &[u8]) -> Result<(), MakeFault>
     requires live { IsLive F.Reads files.old sink.old.file }
     requires few { WaitFew sink.old }
-    ensures passes { PassesTo F.Files.own sink.old.file files.old files.new (sink.old.waiting ++ bytes.now)
-        sink.new.waiting result }
+    ensures passes { PassesThrough F.Files.own sink.old sink.new files.old files.new bytes.now result }
     ensures few { WaitFew sink.new }
     ensures file { sink.new.file ≡ sink.old.file }
     ensures only { WritesOnly F.Reads F.Files.own (F.holder files.old sink.old.file.n ∷ []) files.old files.new }
