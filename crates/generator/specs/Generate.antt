@@ -14,10 +14,16 @@ use Rattle.mkv_merge.specs.Merge.{has_damage, outputs_of, status_of, warnings}
 use Rattle.merge_words.specs.Plain.{plain_file, plain_words}
 use Rattle.mkv_merge.specs.Refused.{line_of}
 use Rattle.mkv_io.specs.Results.{and_then}
+use Rattle.mkv_io.specs.Told.{Told}
+use Rattle.mkv_io.specs.declared.files.Files.{Ghosts as FilesGhosts}
+use Rattle.mkv_io.specs.declared.reads.Reads.{Ghosts as ReadsGhosts}
+use Rattle.mkv_io.specs.declared.report.Report.{Ghosts as ReportGhosts}
+use Rattle.mkv_lines.specs.Command.{ComesTo}
 use Rattle.mkv_merge.specs.declared.refusal.Refusal.{Refusal}
 use Rattle.mkv_lines.specs.Line.{generated_line}
 use Rattle.mkv_lines.specs.Verdict.{Verdict, in_turn}
 use Rattle.mkv_lines.specs.declared.status.Status.{Status}
+use Rattle.mkv_lines.specs.declared.status.Stop.{Stop}
 use Rattle.mkv_lines.specs.declared.status.Status.TheVariants.{Refused}
 use Rattle.generator.specs.declared.blocks.Medium.{Medium}
 use Rattle.generator.specs.declared.blocks.Medium.TheVariants.{Pictures, Sounds}
@@ -107,3 +113,12 @@ verdict_of n names = with_both n names (two_files n names) (merge_of (both_words
 -- What `generate N PREFIX` comes to, whatever the names hold.
 abbrev pub generate_verdict : ℕ → List ℕ → Verdict
 generate_verdict n prefix = verdict_of n (names_of prefix)
+
+-- Where the names are told, making the files of these names has reached its verdict, or stopped on the way.
+abbrev pub MakesAll : {F P : Type 0} → ReadsGhosts F → FilesGhosts F → ReportGhosts P → F → F → P → P → Result Status Stop → ℕ → Names → Type 0
+MakesAll r f p files files' report report' result n names =
+    Told (f.names files) (λ world. ComesTo r f p files files' report report' result (verdict_of n names))
+
+-- The same of `generate N PREFIX`.
+abbrev pub Generates : {F P : Type 0} → ReadsGhosts F → FilesGhosts F → ReportGhosts P → F → F → P → P → Result Status Stop → ℕ → List ℕ → Type 0
+Generates r f p files files' report report' result n prefix = MakesAll r f p files files' report report' result n (names_of prefix)

@@ -1,15 +1,14 @@
 //! The command.
 
 ghost use Rattle.std.specs.Prelude.{◌≡◌, ◌≢◌, ◌≤◌, IfOk};
-ghost use Rattle.mkv_io.specs.Told.{Told};
-ghost use Rattle.mkv_lines.specs.Command.{ComesTo, HasEnded};
+ghost use Rattle.mkv_lines.specs.Command.{HasEnded};
 ghost use Rattle.mkv_io.specs.Bounds.{ReadsByNames};
 ghost use Rattle.mkv_lines.specs.Line.{text_of};
 ghost use Rattle.mkv_lines.specs.Ordinary.{IsOrdinary};
 ghost use Rattle.mkv_lines.specs.Said.{HasSayCause, Says};
 ghost use Rattle.generator.specs.Asked.{AsksToGenerate};
 ghost use Rattle.generator.specs.Bound.{most_made, most_to_generate};
-ghost use Rattle.generator.specs.Generate.{first_written, generate_verdict, line_for, names_of, verdict_of};
+ghost use Rattle.generator.specs.Generate.{Generates, MakesAll, first_written, line_for, names_of};
 ghost use Rattle.generator.specs.Outcome.{lines_of, status_for};
 
 use crate::making::{Done, Outcome, make};
@@ -102,8 +101,7 @@ fn generate<F: Files, P: Report>(
 ) -> Result<Status, Stop>
     requires most { n ≤ 100000 }
     requires apart { names.now.pictures ≢ names.now.sounds }
-    ensures verdict { Told (F.names files.old) (λ world.
-        ComesTo F.Reads F.Files.own P.Report files.old files.new report.old report.new result (verdict_of n names.now)) }
+    ensures verdict { MakesAll F.Reads F.Files.own P.Report files.old files.new report.old report.new result n names.now }
     ensures ended { HasEnded F.Reads F.Files.own P.Report files.old files.new report.old report.new result }
     ensures asks { AsksToGenerate names.now (F.asked files.old) (F.asked files.new) }
     ensures octets { ReadsByNames F.Reads F.Files.own files.old files.new (λ _. most_made n names.now) }
@@ -127,8 +125,7 @@ pub fn generate_of<F: Files, P: Report>(
 ) -> Result<Status, Stop>
     requires least { 1 ≤ n }
     requires most { n ≤ 100000 }
-    ensures verdict { Told (F.names files.old) (λ world.
-        ComesTo F.Reads F.Files.own P.Report files.old files.new report.old report.new result (generate_verdict n prefix.now)) }
+    ensures verdict { Generates F.Reads F.Files.own P.Report files.old files.new report.old report.new result n prefix.now }
     ensures ended { HasEnded F.Reads F.Files.own P.Report files.old files.new report.old report.new result }
     ensures asks { AsksToGenerate (names_of prefix.now) (F.asked files.old) (F.asked files.new) }
     ensures octets { ReadsByNames F.Reads F.Files.own files.old files.new (λ _. most_to_generate n prefix.now) }

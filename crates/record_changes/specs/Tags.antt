@@ -47,6 +47,14 @@ aims_of numbers targets = record {
   written = list_any (λ n. is_some (number_of numbers n)) targets;
 }
 
+-- what some targets name, and others
+abbrev pub both_aims : Aims → Aims → Aims
+both_aims some others = record {
+  any = some.any || others.any;
+  track = some.track || others.track;
+  written = some.written || others.written;
+}
+
 -- what the targets of a Tag name, of all its Targets
 abbrev pub aims_in : (ℕ → ℕ → Option ℕ) → Node → Aims
 aims_in numbers tag = aims_of numbers (flat_map targets_in (children tag))

@@ -1,6 +1,7 @@
 //! What the targets of a Tag name.
 
-ghost use Rattle.std.specs.Prelude.{◌≡◌, ◌||◌};
+ghost use Rattle.std.specs.Prelude.{◌≡◌};
+ghost use Rattle.record_changes.specs.Tags.{both_aims};
 
 /// What some targets name: anything; a track; anything that is written.
 #[derive(Clone, Copy)]
@@ -20,7 +21,7 @@ impl Aims {
 
     /// Those of some targets and of others.
     pub fn or(self, other: Aims) -> Aims
-        ensures { result ≡ record { any = self.any || other.any; track = self.track || other.track; written = self.written || other.written } }
+        ensures { result ≡ both_aims self other }
     {
         Aims {
             any: self.any || other.any,

@@ -1,5 +1,5 @@
 -- Whether a sidecar holds an edit that was begun: by the layout of `Fields`.
-use Rattle.std.specs.Prelude.{◌≡◌, ◌≢◌, ◌<◌, ◌≤◌, ◌^◌, ℕ, zero, suc, ◌+◌, ◌==◌, nat_le, nat_lt, max, Bool, true, not, ◌&&◌, ◌||◌, if◌then◌else◌, List, [], ◌∷◌, ◌++◌, length, drop, slice_index, Option, Some, None}
+use Rattle.std.specs.Prelude.{◌≡◌, ◌≢◌, ◌<◌, ◌≤◌, ◌^◌, ℕ, zero, suc, ◌+◌, ◌==◌, nat_le, nat_lt, max, Bool, true, not, ◌&&◌, ◌||◌, if◌then◌else◌, List, [], ◌∷◌, ◌++◌, length, drop, slice_index, Option, Some, None, ◌*◌}
 use Rattle.std.specs.List.{list_all}
 use Rattle.std.specs.Str.{bytes_eq}
 use Rattle.mkv_io.specs.Contents.{octets_from}
@@ -36,6 +36,10 @@ abbrev pub is_new_len : ℕ → Option ℕ → ℕ → ℕ → Bool
 is_new_len version None new_len end = (version == 2) || nat_le end new_len
 is_new_len version (Some old) new_len end = new_len == max old end
 
+-- the new length that a record has is so, by what else stands in it
+abbrev pub has_new_len : List ℕ → Bool
+has_new_len s = is_new_len (version_in s) (old_len_of s) (new_len_in s) (last_end 0 (used_in s))
+
 -- The rules of places, of which the first one's is at `octet` and so many are used: a used one has octets, begins no sooner
 -- than the one before it ends, and is joined; one that isn't used is zero.
 abbrev pub place_rules : Option ℕ → ℕ → ℕ → ℕ → List Place → List Rule
@@ -45,6 +49,11 @@ place_rules old octet zero from (p ∷ ps) =
 place_rules old octet (suc used) from (p ∷ ps) =
     record { octet = octet; kept = nat_le 1 p.len && nat_le from p.at && is_joined old from p }
     ∷ place_rules old (octet + 16) used (p.at + p.len) ps
+
+-- The places that a record doesn't use break a rule of theirs first at this octet, or none, whatever stands before them.
+abbrev pub IsUnusedBreach : List ℕ → Option ℕ → Type 0
+IsUnusedBreach s breach = (old : Option ℕ) (from : ℕ) →
+    breach ≡ first_breach (place_rules old (32 + 16 * count_in s) 0 from (drop (count_in s) (places_in s)))
 
 -- The octets past the end of a file that has fewer than are kept are zero, where the sidecar is long enough for them.
 abbrev pub is_padded : List ℕ → Bool
@@ -64,7 +73,7 @@ is_total s = nat_le (sum_of (used_in s)) MOST_OCTETS && (total_in s == head_len 
 abbrev pub counted_rules : List ℕ → List Rule
 counted_rules s =
     record { octet = 8; kept = is_total s }
-    ∷ record { octet = 16; kept = is_new_len (version_in s) (old_len_of s) (new_len_in s) (last_end 0 (used_in s)) }
+    ∷ record { octet = 16; kept = has_new_len s }
     ∷ record { octet = 26; kept = are_zeros (octets_from s 26 6) }
     ∷ (place_rules (old_len_of s) 32 (count_in s) 0 (places_in s) ++ record { octet = 168; kept = is_padded s } ∷ [])
 

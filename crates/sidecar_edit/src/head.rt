@@ -1,8 +1,8 @@
 //! What a sidecar's first octets say.
 
-ghost use Rattle.std.specs.Prelude.{◌≡◌, ◌≤◌, ◌<◌, ℕ, ◌+◌, ◌*◌, ◌^◌, ◌&&◌, ◌==◌, nat_le, drop, length, min, Option};
-ghost use Rattle.sidecar_edit.specs.Fields.{count_in, head_len, last_end, new_len_in, number_at, place_in, places_in, sum_of, total_in, used_in, version_in};
-ghost use Rattle.sidecar_edit.specs.Gate.{IsLiveHead, are_zeros, counted_rules, first_breach, gate_of, is_count, is_joined, is_new_len, is_padded, is_total, is_version, old_len_of, place_rules, rules_of};
+ghost use Rattle.std.specs.Prelude.{◌≡◌, ◌≤◌, ◌<◌, ◌+◌, ◌*◌, ◌^◌, ◌&&◌, ◌==◌, nat_le, length, min};
+ghost use Rattle.sidecar_edit.specs.Fields.{count_in, head_len, last_end, number_at, place_in, places_in, sum_of, total_in, used_in, version_in};
+ghost use Rattle.sidecar_edit.specs.Gate.{IsLiveHead, IsUnusedBreach, are_zeros, counted_rules, first_breach, gate_of, has_new_len, is_count, is_joined, is_padded, is_total, is_version, old_len_of, place_rules, rules_of};
 
 use crate::held::Gate;
 use crate::place::{HEAD, HEAD_1, KEPT, MOST_OCTETS, MOST_WRITES, OPEN, Place};
@@ -106,7 +106,7 @@ fn is_total(head: &[u8]) -> bool
 fn is_new_len(head: &[u8]) -> bool
     requires long { HEAD_1 ≤ length head.now }
     requires few { count_in head.now ≤ MOST_WRITES }
-    ensures { result ≡ is_new_len (version_in head.now) (old_len_of head.now) (new_len_in head.now) (last_end 0 (used_in head.now)) }
+    ensures { result ≡ has_new_len head.now }
 {
     let new_len = u128::from(number_at(head, 16));
     let end = end_in(head);
@@ -168,7 +168,7 @@ fn place_breach(head: &[u8], old_len: Option<u64>) -> Option<u64>
 fn unused_breach(head: &[u8]) -> Option<u64>
     requires long { HEAD_1 ≤ length head.now }
     requires few { count_in head.now ≤ MOST_WRITES }
-    ensures { (old : Option ℕ) (from : ℕ) → result ≡ first_breach (place_rules old (32 + 16 * count_in head.now) 0 from (drop (count_in head.now) (places_in head.now))) }
+    ensures { IsUnusedBreach head.now result }
 {
     for k in usize::from(head[25])..MOST_WRITES as usize {
         let place = place_in(head, k);
