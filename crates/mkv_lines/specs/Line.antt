@@ -16,6 +16,26 @@ level_0_line h = level_0_name h.id ++ place_text h
 abbrev pub level_1_line : Header → List ℕ
 level_1_line h = codes "  " ++ (level_1_name h.id ++ place_text h)
 
+-- ---- shapes of lines
+
+-- a head, a file, and a damage
+abbrev pub damaged_line : List ℕ → List ℕ → Damage → List ℕ
+damaged_line head name d = head ++ (shown_text name ++ (codes ": " ++ damage_text d))
+
+-- a warning of a file, with how many there are of something
+abbrev pub counted_line : List ℕ → ℕ → List ℕ → List ℕ
+counted_line name count what = codes "warning: " ++ (shown_text name ++ (codes ": " ++ (decimal count ++ what)))
+
+-- a head, a file, and what is said of it, up to a number
+abbrev pub numbered_line : List ℕ → List ℕ → List ℕ → ℕ → List ℕ
+numbered_line head name what number = head ++ (shown_text name ++ (what ++ decimal number))
+
+-- a file that isn't taken, with the Element for which it isn't
+abbrev pub refused_element_line : List ℕ → List ℕ → ℕ → List ℕ
+refused_element_line name why id = codes "error: " ++ (shown_text name ++ (codes ": " ++ (why ++ element_text id)))
+
+-- ---- each line
+
 -- a file that isn't taken
 abbrev pub refusal_line : List ℕ → Damage → List ℕ
 refusal_line name d = codes "error: " ++ (shown_text name ++ (codes ": " ++ damage_text d))

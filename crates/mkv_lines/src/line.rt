@@ -1,9 +1,9 @@
 //! The lines that a user is told.
 
-ghost use Rattle.std.specs.Prelude.{◌++◌, codes};
-ghost use Rattle.std.specs.Fmt.{WritesOnOk, decimal};
-ghost use Rattle.mkv_lines.specs.Shown.{damage_text, element_text, shown_text};
-ghost use Rattle.mkv_lines.specs.Line.{edit_refused_line, edit_too_large_line, foreign_line, generated_line, level_0_line, level_1_line, no_room_line, reindexed_line, uuid_count_line, wrote_blocks_line};
+ghost use Rattle.std.specs.Prelude.{◌++◌};
+ghost use Rattle.std.specs.Fmt.{WritesOnOk};
+ghost use Rattle.mkv_lines.specs.Shown.{shown_text};
+ghost use Rattle.mkv_lines.specs.Line.{counted_line, damaged_line, edit_refused_line, edit_too_large_line, foreign_line, generated_line, level_0_line, level_1_line, no_room_line, numbered_line, refused_element_line, reindexed_line, uuid_count_line, wrote_blocks_line};
 
 use crate::shown::{
     Level0Name, Level1Name, ShownDamage, ShownElement, ShownMark, ShownPlace, ShownTrack,
@@ -293,7 +293,7 @@ fn damaged<W: fmt::Write>(
     name: &str,
     damage: Damage,
 ) -> fmt::Result
-    ensures { WritesOnOk W.write_str_gives f.old result (head.now ++ (shown_text name.now ++ (codes ": " ++ damage_text damage))) f.new }
+    ensures { WritesOnOk W.write_str_gives f.old result (damaged_line head.now name.now damage) f.new }
 {
     let (name, damage) = (ShownText(name), ShownDamage(damage));
     write!(f, "{head}{name}: {damage}")
@@ -305,7 +305,7 @@ fn counted<W: fmt::Write>(
     count: u64,
     what: &str,
 ) -> fmt::Result
-    ensures { WritesOnOk W.write_str_gives f.old result (codes "warning: " ++ (shown_text name.now ++ (codes ": " ++ (decimal count ++ what.now)))) f.new }
+    ensures { WritesOnOk W.write_str_gives f.old result (counted_line name.now count what.now) f.new }
 {
     let name = ShownText(name);
     write!(f, "warning: {name}: {count}{what}")
@@ -318,7 +318,7 @@ fn numbered<W: fmt::Write>(
     what: &str,
     number: u64,
 ) -> fmt::Result
-    ensures { WritesOnOk W.write_str_gives f.old result (head.now ++ (shown_text name.now ++ (what.now ++ decimal number))) f.new }
+    ensures { WritesOnOk W.write_str_gives f.old result (numbered_line head.now name.now what.now number) f.new }
 {
     let name = ShownText(name);
     write!(f, "{head}{name}{what}{number}")
@@ -349,7 +349,7 @@ fn of_element<W: fmt::Write>(
     why: &str,
     id: u32,
 ) -> fmt::Result
-    ensures { WritesOnOk W.write_str_gives f.old result (codes "error: " ++ (shown_text name.now ++ (codes ": " ++ (why.now ++ element_text id)))) f.new }
+    ensures { WritesOnOk W.write_str_gives f.old result (refused_element_line name.now why.now id) f.new }
 {
     let (name, element) = (ShownText(name), ShownElement(id));
     write!(f, "error: {name}: {why}{element}")
