@@ -15,6 +15,7 @@ use Rattle.mkv_outputs.specs.Sinks.{AreLive, AreRising, IsNoneOf, holders_of}
 use Rattle.input_files.specs.declared.inputs_end.InputsEnd.{InputsEnd}
 use Rattle.input_files.specs.declared.inputs_end.InputsEnd.TheVariants as inputs_end
 use Rattle.mkv_io.specs.Told.{Told}
+use Rattle.mkv_io.specs.Writing.{IfByNames}
 
 -- the names of the inputs, in the order of the words
 abbrev pub file_names : List FileWords → List (List ℕ)
@@ -71,6 +72,10 @@ end_of k open_fault.Memory = inputs_end.Memory
 -- the first of these names, from 0, of whose file an edit is pending
 abbrev pub first_pending : (List ℕ → Option (List ℕ)) → List (List ℕ) → Option ℕ
 first_pending world names = position_from (is_pending world) 0 names
+
+-- This is the first input of a merge of which an edit is pending, where the names are told.
+abbrev pub FindsPending : {S E : Type 0} → writing.Ghosts S → List FileWords → S → Result (Option ℕ) E → Type 0
+FindsPending f words old result = IfByNames f old result (λ world first. first ≡ first_pending world (file_names words))
 
 -- the outside failed
 abbrev pub is_inputs_fault : InputsEnd → Bool

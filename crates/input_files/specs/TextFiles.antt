@@ -1,10 +1,14 @@
 -- The text files of a merge besides its inputs: its chapter file and its files of times. What is taken of them is this project's.
-use Rattle.std.specs.Prelude.{ℕ, ◌+◌, List, ◌++◌, Option}
+use Rattle.std.specs.Prelude.{ℕ, ◌+◌, List, ◌++◌, Option, ◌≡◌, Result}
 use Rattle.std.specs.Option.{option_to_list}
 use Rattle.merge_words.specs.declared.files.FileWords.{FileWords}
 use Rattle.input_files.specs.ChapterFile.{chapter_file, chapter_octets}
 use Rattle.input_files.specs.TimesFile.{times_files, times_named, times_names, times_octets}
 use Rattle.input_files.specs.declared.text_files.TextFiles.{TextFiles}
+use Rattle.mkv_io.specs.Bounds.{ReadsByNames}
+use Rattle.mkv_io.specs.Writing.{IfByNames}
+use Rattle.mkv_io.specs.declared.reads.Reads.{Ghosts}
+use Rattle.mkv_io.specs.declared.files.Files as writing
 
 -- the names of the chapter file and of the files of times
 abbrev pub text_names : Option (List ℕ) → List FileWords → List (List ℕ)
@@ -17,3 +21,11 @@ text_files world chapters words = record { chapters = chapter_file world chapter
 -- how many octets are read of them
 abbrev pub text_octets : (List ℕ → Option (List ℕ)) → Option (List ℕ) → List FileWords → ℕ
 text_octets world chapters words = chapter_octets world chapters + times_octets world words
+
+-- This is what they give, where the names are told.
+abbrev pub GivesTexts : {S E : Type 0} → writing.Ghosts S → Option (List ℕ) → List FileWords → S → Result TextFiles E → Type 0
+GivesTexts f chapters words old result = IfByNames f old result (λ world texts. texts ≡ text_files world chapters words)
+
+-- No more octets were read than they have, where the names are told.
+abbrev pub ReadsTexts : {S : Type 0} → Ghosts S → writing.Ghosts S → Option (List ℕ) → List FileWords → S → S → Type 0
+ReadsTexts r f chapters words old new = ReadsByNames r f old new (λ world. text_octets world chapters words)

@@ -1,12 +1,12 @@
 //! Files that are opened one after the other, and closed.
 
-ghost use Rattle.std.specs.Prelude.{◌≡◌, map, IfOk, OnErr, []};
+ghost use Rattle.std.specs.Prelude.{◌≡◌, IfOk, OnErr, []};
 ghost use Rattle.mkv_io.specs.Faults.{HasCause};
 ghost use Rattle.mkv_io.specs.Sources.{live_files};
 ghost use Rattle.mkv_io.specs.Told.{Told};
 ghost use Rattle.mkv_io.specs.Writing.{UsesOnly};
 ghost use Rattle.mkv_outputs.specs.Sinks.{AreLive, AreRising, EndsOnly};
-ghost use Rattle.input_files.specs.Inputs.{HaveContents, LeavesContents, OpensInputs, TellsMissing, contents_of, end_of, file_names, is_inputs_fault};
+ghost use Rattle.input_files.specs.Inputs.{HaveContents, LeavesContents, OpensInputs, TellsMissing, end_of, file_names, is_inputs_fault};
 
 use crate::inputs_end::InputsEnd;
 use merge_words::FileWords;
@@ -20,8 +20,7 @@ pub fn open_all<F: Files>(
     files: &mut F,
 ) -> Result<List<FileId>, InputsEnd>
     ensures opens { IfOk result (OpensInputs F.Reads F.Files.own (file_names words.now) files.old files.new) }
-    ensures contents { IfOk result (λ ids. Told (F.names files.old) (λ world.
-        contents_of (live_files F.Reads files.new).content ids ≡ map world (file_names words.now))) }
+    ensures contents { IfOk result (HaveContents F.Reads F.Files.own words.now files.old files.new) }
     ensures missing { Told (F.names files.old) (λ world. TellsMissing world (file_names words.now) result) }
 
     // A refusal leaves which files are live, and each as it was.

@@ -1,13 +1,12 @@
 //! Edits of inputs that are pending.
 
-ghost use Rattle.std.specs.Prelude.{◌≡◌, ◌+◌, ◌*◌, ◌≤◌, length, map, IfOk};
+ghost use Rattle.std.specs.Prelude.{◌+◌, ◌*◌, ◌≤◌, length, map, IfOk};
 ghost use Rattle.mkv_io.specs.Faults.{HasCause, is_read_fault};
 ghost use Rattle.mkv_io.specs.Told.{Told};
 ghost use Rattle.sidecar_edit.specs.declared.place.TheConstants.{HEAD};
 ghost use Rattle.sidecar_edit.specs.Name.{sidecar_of};
 ghost use Rattle.sidecar_edit.specs.Pending.{LooksOnly};
-ghost use Rattle.input_files.specs.Inputs.{file_names, first_pending};
-ghost use Rattle.mkv_io.specs.Writing.{IfByNames};
+ghost use Rattle.input_files.specs.Inputs.{FindsPending, file_names};
 
 use merge_words::FileWords;
 use mkv_io::{Files, ReadEnd};
@@ -20,7 +19,7 @@ pub fn first_pending<F: Files>(
     words: &[FileWords],
     files: &mut F,
 ) -> Result<Option<usize>, ReadEnd>
-    ensures exact { IfByNames F.Files.own files.old result (λ world first. first ≡ first_pending world (file_names words.now)) }
+    ensures exact { FindsPending F.Files.own words.now files.old result }
     ensures looks { LooksOnly F.Reads F.Files.own (map sidecar_of (file_names words.now)) files.old files.new }
     ensures cause { HasCause is_read_fault (F.reading_faults files.old) (F.reading_faults files.new) result }
     ensures octets { F.octets_read files.new ≤ F.octets_read files.old + HEAD * length words.now }

@@ -1,13 +1,11 @@
 //! The text files of a merge besides its inputs.
 
-ghost use Rattle.std.specs.Prelude.{◌≡◌, ◌+◌, ◌≤◌, IfOk};
+ghost use Rattle.std.specs.Prelude.{◌+◌, ◌≤◌, IfOk};
 ghost use Rattle.mkv_io.specs.Faults.{HasCause, is_read_fault};
 ghost use Rattle.mkv_io.specs.Told.{Told};
 ghost use Rattle.sidecar_edit.specs.Pending.{LooksOnly};
 ghost use Rattle.input_files.specs.ChapterFile.{CanBeWritten};
-ghost use Rattle.input_files.specs.TextFiles.{text_files, text_names, text_octets};
-ghost use Rattle.mkv_io.specs.Bounds.{ReadsByNames};
-ghost use Rattle.mkv_io.specs.Writing.{IfByNames};
+ghost use Rattle.input_files.specs.TextFiles.{GivesTexts, ReadsTexts, text_names};
 
 use crate::chapter_file::{ChapterFile, read_chapter_file};
 use crate::times_file::{TimesFile, read_times_files};
@@ -31,13 +29,13 @@ pub fn read_text_files<F: Files>(
     words: &[FileWords],
     files: &mut F,
 ) -> Result<TextFiles, ReadEnd>
-    ensures exact { IfByNames F.Files.own files.old result (λ world texts. texts ≡ text_files world chapters.now words.now) }
+    ensures exact { GivesTexts F.Files.own chapters.now words.now files.old result }
 
     // Whatever the names tell, Chapters that were read can be written.
     ensures written { IfOk result (λ texts. CanBeWritten texts.chapters) }
     ensures looks { LooksOnly F.Reads F.Files.own (text_names chapters.now words.now) files.old files.new }
     ensures cause { HasCause is_read_fault (F.reading_faults files.old) (F.reading_faults files.new) result }
-    ensures octets { ReadsByNames F.Reads F.Files.own files.old files.new (λ world. text_octets world chapters.now words.now) }
+    ensures octets { ReadsTexts F.Reads F.Files.own chapters.now words.now files.old files.new }
 {
     let chapters = read_chapter_file(alloc, chapters, files)?;
     let times = read_times_files(alloc, words, files)?;
