@@ -99,11 +99,19 @@ goes ps id = list_any (λ (p : Part). p.id == id && not (is_some p.element)) ps
 abbrev pub seek_to : ℕ → Header → Seek
 seek_to base h = record { id = h.id; position = h.offset - base }
 
+-- the Seek of the first Element of an ID that stands there, unless it goes
+abbrev pub standing_seek : FileOutline → List Part → ℕ → Option Seek
+standing_seek o ps id = if goes ps id then None else option_map (seek_to o.segment.body) (first_of id o.others)
+
 -- the Seek of an ID: that of the Element that is appended, else of the first that stands there, unless it goes
 abbrev pub seek_for : List Seek → FileOutline → List Part → ℕ → Option Seek
 seek_for moved o ps id =
     option_or (find (λ s. s.id == id) moved)
     (if goes ps id then None else option_map (seek_to o.segment.body) (first_of id o.others))
+
+-- the Seeks of these IDs, each where there is one, beside those of the Elements that are appended
+abbrev pub seeks_beside : List Seek → FileOutline → List Part → List ℕ → List Seek
+seeks_beside moved o ps ids = filter_map (seek_for moved o ps) ids
 
 -- the Seeks of these IDs, each where there is one
 abbrev pub seeks : List ℕ → FileOutline → List Part → List Seek

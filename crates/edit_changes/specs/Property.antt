@@ -92,6 +92,10 @@ abbrev pub where_number : ℕ → ℕ → Option ℕ → Option (List ℕ)
 where_number least most None = None
 where_number least most (Some n) = if is_between least most n then Some (uint_octets n) else None
 
+-- a number that is spelled so, where it is one from the least to the most
+abbrev pub number_in : ℕ → ℕ → List ℕ → Option (List ℕ)
+number_in least most octets = where_number least most (number octets)
+
 abbrev pub is_not_zero : ℕ → Bool
 is_not_zero c = not (c == 0)
 

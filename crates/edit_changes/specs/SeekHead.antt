@@ -39,6 +39,10 @@ if_sound bytes h =
 abbrev pub before_clusters : Option Header → Header → Option Header
 before_clusters cluster h = if option_map_or (λ c. nat_lt h.offset c.offset) cluster true then Some h else None
 
+-- the first SeekHead of level 1, where it stands so
+abbrev pub seek_head_in : FileOutline → Option Header
+seek_head_in o = option_and_then (before_clusters o.cluster) (first_of SEEK_HEAD o.others)
+
 -- The first SeekHead, in front of the first Cluster. Where that one is too long or damaged, there is none.
 abbrev pub seek_head_of : List ℕ → FileOutline → Option SeekHeadAt
 seek_head_of bytes o =

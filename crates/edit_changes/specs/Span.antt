@@ -1,5 +1,5 @@
 -- The room that an Element has, and what is written into it: RFC 8794, sections 6 (Element Data Size) and 11.3.2 (Void Element). That Voids are room for the Element in front of them is this project's.
-use Rattle.std.specs.Prelude.{ℕ, ◌+◌, ◌-◌, ◌==◌, nat_lt, ◌&&◌, if◌then◌else◌, List, [], ◌∷◌, ◌++◌, length, Option, Some, None}
+use Rattle.std.specs.Prelude.{ℕ, ◌+◌, ◌-◌, ◌==◌, nat_lt, ◌&&◌, if◌then◌else◌, List, [], ◌∷◌, ◌++◌, length, Option, Some, None, unwrap_or}
 use Rattle.mkv_schema.specs.declared.ids.TheConstants.{VOID}
 use Rattle.mkv_schema.specs.declared.element.Header.{Header}
 use Rattle.mkv_schema.specs.Element.{stated_end}
@@ -30,3 +30,7 @@ fitted e room =
     if room == length (octets_of e) then Some (octets_of e) else
     if room == length (octets_of e) + 1 then Some (octets_of (wider e)) else
     Some (octets_of e ++ void_header (room - length (octets_of e)))
+
+-- What is written in the place of an Element: itself, or the header of a Void where it is longer than its room.
+abbrev pub fitted_or_void : Element → ℕ → List ℕ
+fitted_or_void e room = unwrap_or (fitted e room) (void_header room)

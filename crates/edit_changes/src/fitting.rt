@@ -1,6 +1,6 @@
 //! What is written into a span.
 
-ghost use Rattle.std.specs.Prelude.{◌≡◌, ◌≤◌, ◌<◌, ◌+◌, ◌++◌, ◌^◌, IfOk, IsTrue, ℕ, List, length, option_map, unwrap_or};
+ghost use Rattle.std.specs.Prelude.{◌≡◌, ◌≤◌, ◌<◌, ◌+◌, ◌++◌, ◌^◌, IfOk, IsTrue, ℕ, List, length, option_map};
 ghost use Rattle.ebml_numbers.specs.Number.{is_id, id_octets, size_octets, least_size_width, all_ones};
 ghost use Rattle.output_model.specs.Element.{Element, element, octets_of};
 ghost use Rattle.edit_changes.specs.Span as spec;
@@ -102,7 +102,7 @@ pub fn in_place(alloc: Global, id: u32, body: &[u8], room: u64) -> Result<Vec<u8
     requires id { IsTrue (is_id id) }
     requires short { length body.now ≤ 2 ^ 48 }
     requires most { room ≤ 2 ^ 48 }
-    ensures { IfOk result (λ octets. octets.items ≡ unwrap_or (spec.fitted (element id body.now) room) (spec.void_header room)) }
+    ensures { IfOk result (λ octets. octets.items ≡ spec.fitted_or_void (element id body.now) room) }
 {
     match fit(alloc, id, body, room)? {
         Some(octets) => Ok(octets),

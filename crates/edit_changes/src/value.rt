@@ -6,7 +6,6 @@ ghost use Rattle.ebml_numbers.specs.Number.{is_id};
 ghost use Rattle.tree_format.specs.Node.{leaf};
 ghost use Rattle.tree_format.specs.Standing.{StandsIn};
 ghost use Rattle.ebml_tree.specs.Leaves.{IsTextIn, IsUintIn};
-ghost use Rattle.word_values.specs.Numbers as words;
 ghost use Rattle.edit_changes.specs.Property as spec;
 ghost use Rattle.edit_changes.specs.Properties.{IsPropertyOf};
 
@@ -109,7 +108,7 @@ fn number_where(
     octets: &[u8],
 ) -> Result<Option<Tree>, AllocError>
     requires { IsTrue (is_id id) }
-    ensures exact { IfOk result (λ tree. tree ≡ option_map (leaf id 0) (spec.where_number least most (words.number octets.now))) }
+    ensures exact { IfOk result (λ tree. tree ≡ option_map (leaf id 0) (spec.number_in least most octets.now)) }
     ensures stands { (parent : ℕ) → IsUintIn parent id → IfOk result (λ tree. IfSome tree (StandsIn parent)) }
 {
     match number(octets) {

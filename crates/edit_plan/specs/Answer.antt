@@ -14,6 +14,12 @@ use Rattle.mkv_io.specs.declared.outside.FileId.{FileId}
 use Rattle.element_reader.specs.Outline.{FileOutline}
 use Rattle.edit_plan.specs.declared.part.Part.{Part}
 use Rattle.edit_plan.specs.declared.rewriting.Rewriting.{Rewriting}
+use Rattle.element_reader.specs.declared.outline_end.OutlineEnd.{OutlineEnd}
+use Rattle.meta_records.specs.Records.{IfOutlined, ReadsAs}
+use Rattle.edit_changes.specs.declared.trees.Trees.{Trees}
+use Rattle.edit_changes.specs.Plan.{if_editable}
+use Rattle.edit_changes.specs.Records.{trees_of}
+use Rattle.edit_plan.specs.Opening.{IfOutline}
 
 -- These are the writes, or this refuses them; a read may fail, and there may be no memory.
 abbrev pub Answers : Result (List disk.Write) Refusal → Result (Vec Write Global) PlanEnd → Type 0
@@ -38,3 +44,11 @@ Gives found (Err end.Memory) = ⊤
 -- What is answered is what is written of parts of a file, where its content is told.
 abbrev pub WritesParts : {S : Type 0} → Ghosts S → S → FileId → Rewriting → FileOutline → List Part → Result (Vec Write Global) PlanEnd → Type 0
 WritesParts r src file rewriting outline parts result = IfTold r src file (λ bytes. Answers (writes_in rewriting bytes outline parts) result)
+
+-- What can be edited in a file with this outline is read, or what refuses the file, where its content is told.
+abbrev pub ReadsTrees : {S : Type 0} → Ghosts S → S → FileId → FileOutline → Result Trees OutlineEnd → Type 0
+ReadsTrees r src file outline result = IfOutlined r src file outline (λ bytes. ReadsAs (trees_of bytes outline.segment) result)
+
+-- the same, as edits are refused
+abbrev pub GivesTrees : {S : Type 0} → Ghosts S → S → FileId → FileOutline → Result Trees PlanEnd → Type 0
+GivesTrees r src file outline result = IfOutline r src file outline (λ bytes. Gives (if_editable (trees_of bytes outline.segment)) result)

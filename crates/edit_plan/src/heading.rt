@@ -10,9 +10,9 @@ ghost use Rattle.element_reader.specs.Collected.{IsInFile};
 ghost use Rattle.edit_changes.specs.Plan as spec;
 ghost use Rattle.edit_changes.specs.Span as span;
 ghost use Rattle.edit_plan.specs.Found.{found};
-ghost use Rattle.edit_plan.specs.Shown.{shown, written};
+ghost use Rattle.edit_plan.specs.Shown.{shown};
 ghost use Rattle.edit_plan.specs.Sought.{AreSought};
-ghost use Rattle.edit_plan.specs.Made.{IsSeekHead, in_room};
+ghost use Rattle.edit_plan.specs.Made.{IsSeekHead, WritesSize, in_room};
 
 use crate::found::SeekHead;
 use crate::moving::any_moves;
@@ -124,7 +124,7 @@ pub fn size_write(alloc: Global, segment: &Header, end: u64) -> Result<Vec<Write
     requires end { end ≤ 2 ^ 50 }
     requires body { segment.now.body ≤ 2 ^ 48 }
     requires fits { spec.size_refusal segment.now end ≡ None }
-    ensures { spec.size_width segment.now ≤ 8 → IfOk result (λ writes. map written writes.items ≡ spec.size_writes segment.now end) }
+    ensures { WritesSize segment.now end result }
 {
     let mut writes = Vec::new(alloc);
     let Size::Known(_) = segment.size else {

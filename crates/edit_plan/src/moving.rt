@@ -1,10 +1,11 @@
 //! What goes to the end of the file.
 
-ghost use Rattle.std.specs.Prelude.{◌≡◌, false, true, IfOk, MatchOption, map};
+ghost use Rattle.std.specs.Prelude.{◌≡◌, false, IfOk, MatchOption, map};
 ghost use Rattle.std.specs.List.{list_any};
 ghost use Rattle.output_model.specs.SeekHead.{seeks_from};
 ghost use Rattle.edit_changes.specs.Plan as spec;
 ghost use Rattle.edit_plan.specs.Shown.{shown};
+ghost use Rattle.edit_plan.specs.Made.{MovesWith};
 
 use crate::counting::sum;
 use crate::part::Part;
@@ -15,8 +16,7 @@ use std::alloc::{AllocError, Global};
 
 /// The body of the new Element, if that one is longer than its room: so it goes to the end of the file.
 fn moving_body(part: &Part) -> Option<&[u8]>
-    ensures { MatchOption result (spec.moves (shown part.now) ≡ false)
-        (λ body. (spec.moves (shown part.now) ≡ true) × (part.now.body ≡ Some body.now)) }
+    ensures { MatchOption result (spec.moves (shown part.now) ≡ false) (λ body. MovesWith part.now body.now) }
 {
     let body = part.body.as_ref()?.as_slice();
     if shortest(part.id, body.len() as u64) <= part.room {

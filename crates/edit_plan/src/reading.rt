@@ -7,10 +7,11 @@ ghost use Rattle.mkv_io.specs.Sources.{IfTold, IsLive, file_size};
 ghost use Rattle.meta_records.specs.declared.limits.TheConstants.{MOST_OF_ATTACHMENTS};
 ghost use Rattle.element_reader.specs.Outline.{is_outline_fault, outline_in};
 ghost use Rattle.ebml_tree.specs.Building.{IsRead};
-ghost use Rattle.meta_records.specs.Records.{IfOutlined, ReadsAs};
+ghost use Rattle.meta_records.specs.Records.{ReadsAs};
 ghost use Rattle.edit_changes.specs.Records as spec;
 ghost use Rattle.edit_changes.specs.Trees.{AreSound};
 ghost use Rattle.mkv_io.specs.Bounds.{ReadsOf};
+ghost use Rattle.edit_plan.specs.Answer.{ReadsTrees};
 
 use ebml_tree::{Tree, TreeEnd};
 use edit_changes::Trees;
@@ -54,7 +55,7 @@ pub fn read_trees<R: Reads>(
 ) -> Result<Trees, OutlineEnd>
     requires live { IsLive R.Reads src.old file }
     requires whole { outline.now.total ≡ file_size R.Reads src.old file }
-    ensures exact { IfOutlined R.Reads src.old file outline.now (λ bytes. ReadsAs (spec.trees_of bytes outline.now.segment) result) }
+    ensures exact { ReadsTrees R.Reads src.old file outline.now result }
     ensures sound { IfOk result AreSound }
     ensures standing { R.standing src.new ≡ R.standing src.old }
     ensures cause { HasCause is_outline_fault (R.reading_faults src.old) (R.reading_faults src.new) result }

@@ -1,13 +1,12 @@
 //! What refuses what is rewritten.
 
-ghost use Rattle.std.specs.Prelude.{◌≡◌, ◌≤◌, ◌+◌, ◌^◌, None, true, if◌then◌else◌, map};
-ghost use Rattle.std.specs.List.{list_any};
+ghost use Rattle.std.specs.Prelude.{◌≡◌, ◌≤◌, ◌+◌, ◌^◌, None, if◌then◌else◌, map};
 ghost use Rattle.edit_changes.specs.Plan as spec;
 ghost use Rattle.edit_changes.specs.declared.refusal.TheConstants.{MOST_WRITTEN as MOST};
 ghost use Rattle.edit_changes.specs.Ends.{EndsFit};
 ghost use Rattle.edit_plan.specs.Moving.{refused};
 ghost use Rattle.edit_plan.specs.Shown.{shown};
-ghost use Rattle.edit_plan.specs.Made.{size_refused, tail_refused};
+ghost use Rattle.edit_plan.specs.Made.{SizeFits, size_refused, tail_refused};
 
 use crate::moving::{any_moves, most_nodes, twins};
 use crate::part::Part;
@@ -63,8 +62,7 @@ pub fn moving_refusal(
     ensures exact { EndsFit outline.now → result ≡ refused outline.now (map shown parts.now) length added need room }
     ensures small { result ≡ None → length ≤ MOST }
     ensures room { result ≡ None → need ≤ room }
-    ensures size { result ≡ None → list_any spec.moves (map shown parts.now) ≡ true
-        → spec.size_refusal outline.now.segment (outline.now.total + added) ≡ None }
+    ensures size { result ≡ None → SizeFits outline.now (map shown parts.now) added }
 {
     if let Some(refusal) = too_large(length, parts) {
         return Some(refusal);

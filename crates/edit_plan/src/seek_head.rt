@@ -1,14 +1,11 @@
 //! The SeekHead of a file.
 
-ghost use Rattle.std.specs.Prelude.{◌≡◌, ◌+◌, ◌≤◌, IfOk, IfSome, option_map};
-ghost use Rattle.std.specs.Option.{option_and_then};
-ghost use Rattle.mkv_schema.specs.declared.ids.TheConstants.{SEEK_HEAD as SEEK_HEAD_ID};
-ghost use Rattle.mkv_schema.specs.Value.{first_of};
+ghost use Rattle.std.specs.Prelude.{◌≡◌, ◌+◌, ◌≤◌, IfOk, IfSome};
 ghost use Rattle.mkv_io.specs.Faults.{HasCause, is_read_fault};
-ghost use Rattle.mkv_io.specs.Sources.{IfTold, IsLive, file_size};
+ghost use Rattle.mkv_io.specs.Sources.{IsLive, file_size};
 ghost use Rattle.element_reader.specs.Collected.{IsInFile};
 ghost use Rattle.edit_changes.specs.SeekHead as spec;
-ghost use Rattle.edit_plan.specs.Found.{found};
+ghost use Rattle.edit_plan.specs.Found.{FindsSeekHead};
 
 use crate::found::SeekHead;
 use ebml_tree::{MOST_NODES, Tree, TreeEnd};
@@ -19,7 +16,7 @@ use std::alloc::Global;
 
 /// The first SeekHead of level 1, where it stands in front of the first Cluster.
 fn seek_head_in(outline: &Outline) -> Option<Header>
-    ensures exact { result ≡ option_and_then (spec.before_clusters outline.now.cluster) (first_of SEEK_HEAD_ID outline.now.others) }
+    ensures exact { result ≡ spec.seek_head_in outline.now }
     ensures inside { IfSome result (IsInFile outline.now.total) }
 {
     let header = outline.first(SEEK_HEAD)?;
@@ -38,8 +35,7 @@ pub fn first_seek_head<R: Reads>(
 ) -> Result<Option<SeekHead>, ReadEnd>
     requires live { IsLive R.Reads src.old file }
     requires whole { outline.now.total ≡ file_size R.Reads src.old file }
-    ensures exact { IfTold R.Reads src.old file (λ bytes.
-        IfOk result (λ head. option_map found head ≡ spec.seek_head_of bytes outline.now)) }
+    ensures exact { FindsSeekHead R.Reads src.old file outline.now result }
     ensures inside { IfOk result (λ head. IfSome head (λ s. IsInFile outline.now.total s.header)) }
     ensures standing { R.standing src.new ≡ R.standing src.old }
     ensures cause { HasCause is_read_fault (R.reading_faults src.old) (R.reading_faults src.new) result }

@@ -1,7 +1,6 @@
 //! What the new SeekHead tells.
 
-ghost use Rattle.std.specs.Prelude.{◌≡◌, ◌==◌, false, None, IfOk, find, filter_map, if◌then◌else◌, map, option_map};
-ghost use Rattle.mkv_schema.specs.Value.{first_of};
+ghost use Rattle.std.specs.Prelude.{◌≡◌, ◌==◌, false, IfOk, find, map};
 ghost use Rattle.mkv_schema.specs.declared.ids.TheConstants.{CLUSTER};
 ghost use Rattle.edit_changes.specs.Plan as spec;
 ghost use Rattle.edit_plan.specs.Sought.{AreSought};
@@ -40,8 +39,7 @@ fn appended_seek(moved: &[Seek], id: u32) -> Option<Seek>
 /// The Seek of the first Element of an ID, unless it goes.
 fn standing_seek(outline: &Outline, parts: &[Part], id: u32) -> Option<Seek>
     requires { (id == CLUSTER) ≡ false }
-    ensures { result ≡ if spec.goes (map shown parts.now) id then None
-        else option_map (spec.seek_to outline.now.segment.body) (first_of id outline.now.others) }
+    ensures { result ≡ spec.standing_seek outline.now (map shown parts.now) id }
 {
     if goes(parts, id) {
         return None;
@@ -73,8 +71,7 @@ fn seeks_for(
     moved: &[Seek],
 ) -> Result<Vec<Seek>, AllocError>
     requires { AreSought ids.now }
-    ensures { IfOk result (λ seeks. seeks.items
-        ≡ filter_map (spec.seek_for moved.now outline.now (map shown parts.now)) ids.now) }
+    ensures { IfOk result (λ seeks. seeks.items ≡ spec.seeks_beside moved.now outline.now (map shown parts.now) ids.now) }
 {
     let mut seeks = Vec::new(alloc);
     for id in ids {
