@@ -1,9 +1,9 @@
 -- The Tags of an output: RFC 9559, section 5.1.8 (Tags Element). Which of them are written is this project's.
-use Rattle.std.specs.Prelude.{◌≡◌, ◌<◌, ◌^◌, ℕ, ◌==◌, nat_eq, if◌then◌else◌, List, [], ◌∷◌, ◌++◌, length, drop, zip, All, Option, None}
+use Rattle.std.specs.Prelude.{◌≡◌, ◌<◌, ◌^◌, ℕ, ◌==◌, nat_eq, if◌then◌else◌, List, [], ◌∷◌, ◌++◌, length, drop, zip, All, Option, None, Result, OnOk}
 use Rattle.std.specs.Map.{lookup}
 use Rattle.std.specs.Option.{option_map}
 use Rattle.mkv_schema.specs.declared.ids.TheConstants.{TAGS, TAG_TRACK_UID, TAG_EDITION_UID, TAG_CHAPTER_UID, TAG_ATTACHMENT_UID}
-use Rattle.tree_format.specs.Node.{Node, master, nodes_of}
+use Rattle.tree_format.specs.Node.{Node, children, master, nodes_of, with_children}
 use Rattle.record_changes.specs.Atoms.{edition_uids, chapter_uids}
 use Rattle.record_changes.specs.declared.uid_map.UidMap.{UidMap}
 use Rattle.record_changes.specs.Numbers.{numbers_in}
@@ -58,6 +58,11 @@ tags_in i numbers = children_in (option_map (written_tags i.keep (numbers_for i 
 abbrev pub tags_from : Uids → List InputRecords → List Node
 tags_from numbers [] = []
 tags_from numbers (i ∷ inputs) = tags_in i numbers ++ tags_from (behind (uids_of i) numbers) inputs
+
+-- The Tags of an input that are written stand behind the others, where a map has the numbers that its targets get.
+abbrev pub AddsTags : {T E : Type 0} → InputRecords → UidMap → Node → Node → Result T E → Type 0
+AddsTags i map old new result =
+    (numbers : Uids) → IsMapFor i numbers map → OnOk result (new ≡ with_children old (children old ++ tags_in i numbers))
 
 -- the numbers that all get
 abbrev pub numbers_of : List InputRecords → Uids

@@ -1,12 +1,10 @@
 //! The Tags of an output: RFC 9559, section 5.1.8 (Tags Element).
 
-ghost use Rattle.std.specs.Prelude.{◌≡◌, ◌++◌, All, drop, IfOk, OnOk};
+ghost use Rattle.std.specs.Prelude.{◌≡◌, All, drop, IfOk, OnOk};
 ghost use Rattle.mkv_schema.specs.declared.ids.TheConstants.{TAGS as TAGS_ID};
-ghost use Rattle.tree_format.specs.Node.{children, with_children};
 ghost use Rattle.output_model.specs.Sound.{IsRecord};
 ghost use Rattle.merged_records.specs.Inputs.{IsInput};
-ghost use Rattle.merged_records.specs.Tags.{IsMapFor, tags_in, joined_tags};
-ghost use Rattle.merged_records.specs.declared.uids.Uids.{Uids as UidsSeen};
+ghost use Rattle.merged_records.specs.Tags.{joined_tags, AddsTags};
 
 use crate::inputs::InputRecords;
 use crate::records::push_all;
@@ -25,8 +23,7 @@ fn push_tags(
 ) -> Result<(), AllocError>
     requires input { IsInput input.now }
     requires joined { IsRecord TAGS_ID joined.old }
-    ensures exact { (numbers : UidsSeen) → IsMapFor input.now numbers map.now
-        → OnOk result (joined.new ≡ with_children joined.old (children joined.old ++ tags_in input.now numbers)) }
+    ensures exact { AddsTags input.now map.now joined.old joined.new result }
     ensures own { OnOk result (IsRecord TAGS_ID joined.new) }
 {
     match &input.tags {
