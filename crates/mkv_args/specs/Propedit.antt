@@ -1,5 +1,5 @@
 -- The words of `propedit`: this project's grammar, after mkvpropedit(1).
-use Rattle.std.specs.Prelude.{ℕ, ◌+◌, Bool, true, false, ◌==◌, if◌then◌else◌, List, [], ◌∷◌, length, drop, codes, Option, Some, None, option_map, Result, Ok}
+use Rattle.std.specs.Prelude.{ℕ, ◌+◌, Bool, true, false, ◌==◌, if◌then◌else◌, List, [], ◌∷◌, length, drop, codes, Option, Some, None, option_map, Result, Ok, slice_get}
 use Rattle.std.specs.List.{starts_with}
 use Rattle.std.specs.Str.{bytes_eq}
 use Rattle.word_values.specs.declared.edit.Edit.{Edit}
@@ -70,6 +70,10 @@ pub record Pair : Type 0 where
   pub at : ℕ
   pub option : List ℕ
   pub value : Option (List ℕ)
+
+-- the option at a number, with the word behind it
+abbrev pub pair_at : List (List ℕ) → ℕ → List ℕ → Pair
+pair_at words at option = record { at = at; option = option; value = slice_get words (at + 1) }
 
 -- the words from a number on, in pairs: the last may lack its value
 abbrev pub pairs : ℕ → List (List ℕ) → List Pair

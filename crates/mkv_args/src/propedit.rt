@@ -1,6 +1,6 @@
 //! The words of `propedit`.
 
-ghost use Rattle.std.specs.Prelude.{◌≡◌, ◌+◌, ◌<◌, length, map, slice_get};
+ghost use Rattle.std.specs.Prelude.{◌≡◌, ◌<◌, length, map, slice_get};
 ghost use Rattle.word_values.specs.Answers.{Reads, Tells};
 ghost use Rattle.mkv_args.specs.Entry as entry;
 ghost use Rattle.mkv_args.specs.Propedit as spec;
@@ -117,7 +117,7 @@ fn said(
     edited: bool,
 ) -> Result<Saying, ArgsEnd>
     requires { at < length words.now }
-    ensures { Tells result (spec.said (length words.now) edited (record { at = at; option = word.now; value = slice_get (texts words.now) (at + 1) })) }
+    ensures { Tells result (spec.said (length words.now) edited (spec.pair_at (texts words.now) at word.now)) }
 {
     match step_of(word) {
         Some(step) if may_follow(edited, step) => saying_at(alloc, words, at + 1, step),
