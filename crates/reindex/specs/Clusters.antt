@@ -1,8 +1,8 @@
 -- A walk over the Elements of level 1 that keeps the last Cluster before a place.
-use Rattle.std.specs.Prelude.{◌≡◌, ◌≤◌, ℕ, ◌+◌, ◌*◌, ◌-◌, List, [], ◌∷◌, Option, Some, None, Result}
+use Rattle.std.specs.Prelude.{◌≡◌, ◌≤◌, ℕ, ◌+◌, ◌*◌, ◌-◌, List, [], ◌∷◌, Option, Some, None, Result, length, ◌==◌, if◌then◌else◌}
 use Rattle.std.specs.Option.{option_or}
 use Rattle.mkv_io.specs.LiveFiles.{LiveFiles}
-use Rattle.mkv_io.specs.Sources.{IfTold}
+use Rattle.mkv_io.specs.Sources.{IfTold, file_size}
 use Rattle.mkv_io.specs.declared.reads.Reads.{Ghosts}
 use Rattle.elements.specs.Looks.{Goes}
 use Rattle.mkv_schema.specs.declared.element.Header.{Header}
@@ -10,6 +10,11 @@ use Rattle.mkv_schema.specs.Order.{AscendFrom}
 use Rattle.element_reader.specs.LevelOne.{CanRead, left}
 use Rattle.reindex.specs.Points.{cluster_before}
 use Rattle.reindex.specs.declared.clusters.Clusters.{Clusters}
+use Rattle.mkv_schema.specs.Outline.{segment_run}
+use Rattle.element_reader.specs.Outline.{FileOutline}
+use Rattle.mkv_schema.specs.declared.ids.TheConstants.{CLUSTER}
+use Rattle.mkv_io.specs.declared.outside.FileId.{FileId}
+use Rattle.elements.specs.Window.{HasNotPassed}
 
 -- an Element that was looked at stands in front of those that are left
 abbrev pub in_front : Option Header → List Header → List Header
@@ -38,6 +43,10 @@ pub record HasComeTo (bytes : List ℕ) (list : List Header) (c : Clusters) : Ty
   pub ascends : AscendFrom 0 (due bytes c)
   pub before : (at : ℕ) → c.reached ≤ at → cluster_before at list ≡ option_or (cluster_before at (due bytes c)) c.last
 
+-- It stands where it begins in a file with this outline, whatever that holds.
+abbrev pub StandsAtStart : FileOutline → Clusters → Type 0
+StandsAtStart outline c = (bytes : List ℕ) → outline.total ≡ length bytes → HasComeTo bytes (segment_run bytes outline.segment).list c
+
 -- Every Cluster before the place that was reached is passed, and the last of them is kept.
 pub record HasReached (bytes : List ℕ) (list : List Header) (c : Clusters) : Type 0 where
   pub come : HasComeTo bytes list c
@@ -52,6 +61,14 @@ pub record LooksAt (bytes : List ℕ) (old new : Clusters) (found : Option Heade
   pub same : due bytes new ≡ due bytes old
   pub none : found ≡ None → due bytes new ≡ []
 
+-- The same of the file in which the Clusters are looked for, where it is told.
+abbrev pub LooksAtIn : {S : Type 0} → Ghosts S → S → Clusters → Clusters → Option Header → Type 0
+LooksAtIn r src old new found = IfTold r src old.level.file (λ bytes. LooksAt bytes old new found)
+
+-- An Element that was looked at is passed; a Cluster is kept as the last.
+abbrev pub passed : Header → Clusters → Clusters
+passed header c = record c { next = None; last = if header.id == CLUSTER then Some header else c.last }
+
 -- It is held until it is passed, and no more are left than before.
 pub record HoldsNext (old new : Clusters) (found : Option Header) : Type 0 where
   pub next : new.next ≡ found
@@ -65,6 +82,10 @@ PaysOn r src src' old new result = Goes r old.level.file old.level.at (λ _. new
 pub record IsReady (files : LiveFiles) (c : Clusters) : Type 0 where
   pub inside : c.level.at ≤ c.level.end
   pub reads : CanRead files c.level
+
+-- Its window begins at its place or before it, and ends with this file or before.
+abbrev pub IsWindowIn : {S : Type 0} → Ghosts S → S → FileId → Clusters → Type 0
+IsWindowIn r src file c = HasNotPassed c.level.ahead c.level.at (file_size r src file)
 
 -- It has gone on in the same Segment, and can go on still.
 pub record StaysReady (files : LiveFiles) (old new : Clusters) : Type 0 where

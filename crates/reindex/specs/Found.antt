@@ -13,6 +13,14 @@ use Rattle.edit_plan.specs.declared.plan_end.PlanEnd.TheVariants as end
 use Rattle.reindex.specs.Index.{points_of}
 use Rattle.reindex.specs.Reading.{cues_of}
 use Rattle.reindex.specs.declared.found.Found.{Found}
+use Rattle.std.specs.declared.alloc.Global.{Global}
+use Rattle.std.specs.declared.vec.Vec.{Vec}
+use Rattle.mkv_io.specs.declared.reads.Reads.{Ghosts}
+use Rattle.mkv_io.specs.declared.outside.FileId.{FileId}
+use Rattle.edit_plan.specs.Answer.{Answers}
+use Rattle.edit_plan.specs.Opening.{IfOutline}
+use Rattle.edit_plan.specs.declared.write.Write.{Write}
+use Rattle.reindex.specs.Plan.{index_writes}
 
 -- A file that can be indexed: its outline, and the points of its Cues to be.
 pub record Pointed : Type 0 where
@@ -35,6 +43,11 @@ IsFound bytes (Ok f) = pointed bytes ≡ Ok (shown f)
 IsFound bytes (Err (outline_end.Refused d)) = pointed bytes ≡ Err d
 IsFound bytes (Err outline_end.ReadFault) = ⊤
 IsFound bytes (Err outline_end.Memory) = ⊤
+
+-- This is written of the new index of a file that was found so, or what refuses it, where its content is told.
+abbrev pub WritesFound : {S : Type 0} → Ghosts S → S → FileId → Found → Result (Vec Write Global) PlanEnd → Type 0
+WritesFound r src file found result =
+    IfOutline r src file found.outline (λ bytes. Answers (index_writes bytes found.outline (cues_of found.points)) result)
 
 -- why there is no plan, where a file can't be read
 abbrev pub ends_as : OutlineEnd → PlanEnd

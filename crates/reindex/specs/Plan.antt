@@ -34,6 +34,10 @@ cues_parts list None None = []
 cues_parts list None (Some e) = cues_part 0 0 (Some e) ∷ []
 cues_parts list (Some old) new = cues_part old.offset (span_of old list) new ∷ []
 
+-- the Cues of these points among the Elements of a file with this outline
+abbrev pub index_parts : FileOutline → List CuePoint → List Part
+index_parts o points = cues_parts o.others (first_of CUES o.others) (new_cues points)
+
 -- ---- what is written
 
 -- all that a SeekHead then tells of

@@ -1,5 +1,5 @@
 -- The points of a file as they are read.
-use Rattle.std.specs.Prelude.{◌≡◌, ◌≤◌, ⊤, ℕ, ◌+◌, if◌then◌else◌, List, [], ◌∷◌, ◌++◌, map, take, slice_get, Option, Some, None, Result, Ok, Err}
+use Rattle.std.specs.Prelude.{◌≡◌, ◌≤◌, ⊤, ℕ, ◌+◌, if◌then◌else◌, List, [], ◌∷◌, ◌++◌, map, take, slice_get, Option, Some, None, Result, Ok, Err, OnOk}
 use Rattle.mkv_io.specs.Sources.{IfTold}
 use Rattle.mkv_io.specs.declared.damage.Damage.{Damage}
 use Rattle.mkv_io.specs.declared.outside.FileId.{FileId}
@@ -67,6 +67,10 @@ pub record AddsPoint (i : Indexing) (list : List Header) (bytes : List ℕ) (b :
 abbrev pub AddsPointIn : {S : Type 0} → Ghosts S → S → Indexing → Buffered → List Point → List Point → Clusters → Clusters → Type 0
 AddsPointIn r src i given old new before clusters = IfTold r src before.level.file (λ bytes. (list : List Header)
     → HasComeTo bytes list before → before.reached ≤ given.head.offset → AddsPoint i list bytes (block_of given) old new clusters)
+
+-- the same of the block that a cursor lends, where the call isn't refused
+abbrev pub AddsPointOf : {S T E : Type 0} → Ghosts S → S → Indexing → Reading → List Point → List Point → Clusters → Clusters → Result T E → Type 0
+AddsPointOf r src i cursor old new before clusters result = OnOk result (AddsPointIn r src i cursor.block old new before clusters)
 
 -- The points of the blocks that a cursor has left are these, where its file is told.
 abbrev pub ReadsLeft : {S : Type 0} → Ghosts S → S → Indexing → Clusters → Reading → Result (List Point) OutlineEnd → Type 0

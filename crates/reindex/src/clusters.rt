@@ -1,12 +1,10 @@
 //! The Cluster in which a block stands: RFC 9559, section 5.1.3 (Cluster Element).
 
-ghost use Rattle.std.specs.Prelude.{◌≡◌, ◌==◌, ℕ, List, Some, None, max, length, IfOk, if◌then◌else◌, OnOk};
+ghost use Rattle.std.specs.Prelude.{◌≡◌, max, IfOk, OnOk};
 ghost use Rattle.mkv_io.specs.Faults.{HasCause, is_failure};
-ghost use Rattle.mkv_io.specs.Sources.{IfRead, IfTold, OnlyReads, live_files};
-ghost use Rattle.mkv_schema.specs.declared.ids.TheConstants.{CLUSTER as CLUSTER_ID};
-ghost use Rattle.mkv_schema.specs.Outline.{segment_run};
+ghost use Rattle.mkv_io.specs.Sources.{IfRead, OnlyReads, live_files};
 ghost use Rattle.element_reader.specs.LevelOne.{first_place};
-ghost use Rattle.reindex.specs.Clusters.{HasComeTo, HoldsNext, IsReady, LooksAt, StaysReady, PaysOn, HasReachedIn};
+ghost use Rattle.reindex.specs.Clusters.{HoldsNext, IsReady, StaysReady, PaysOn, HasReachedIn, LooksAtIn, StandsAtStart, passed};
 
 use element_reader::{Header, LevelOne, Outline};
 use mkv_io::{Failed, FileId, Reads};
@@ -29,8 +27,7 @@ impl Clusters {
     pub fn start(outline: &Outline, file: FileId) -> Clusters
         ensures place { result.level ≡ first_place outline.now.segment outline.now.total file }
         ensures reached { result.reached ≡ 0 }
-        ensures come { (bytes : List ℕ) → outline.now.total ≡ length bytes
-            → HasComeTo bytes (segment_run bytes outline.now.segment).list result }
+        ensures come { StandsAtStart outline.now result }
     {
         Clusters {
             level: LevelOne::start(outline, file),
@@ -43,8 +40,7 @@ impl Clusters {
     // The next Element, which isn't passed yet. After `Failed` the same one is looked for again.
     fn look<R: Reads>(&mut self, src: &mut R) -> Result<Option<Header>, Failed>
         requires { IsReady (live_files R.Reads src.old) self.old }
-        ensures exact { IfOk result (λ found. IfTold R.Reads src.old self.old.level.file (λ bytes.
-            LooksAt bytes self.old self.new found)) }
+        ensures exact { IfOk result (LooksAtIn R.Reads src.old self.old self.new) }
         ensures next { IfOk result (HoldsNext self.old self.new) }
         ensures ready { StaysReady (live_files R.Reads src.new) self.old self.new }
         ensures kept { (self.new.last ≡ self.old.last) × (self.new.reached ≡ self.old.reached) }
@@ -60,10 +56,7 @@ impl Clusters {
 
     // Passes the Element that was looked at.
     fn pass(&mut self, header: Header)
-        ensures { self.new ≡ record self.old {
-          next = None;
-          last = if header.id == CLUSTER_ID then Some header else self.old.last;
-        } }
+        ensures { self.new ≡ passed header self.old }
     {
         self.next = None;
         if header.id == CLUSTER {

@@ -1,7 +1,6 @@
 //! The Cues among the Elements of level 1.
 
 ghost use Rattle.std.specs.Prelude.{◌≡◌, ◌≤◌, ◌^◌, length, map, option_map, IfOk, IfSome};
-ghost use Rattle.mkv_schema.specs.Value.{first_of};
 ghost use Rattle.mkv_schema.specs.declared.ids.TheConstants.{CUES as CUES_ID};
 ghost use Rattle.output_model.specs.Element.{element};
 ghost use Rattle.edit_plan.specs.Shown.{shown};
@@ -40,8 +39,7 @@ pub fn cues_parts(
     points: &[Point],
 ) -> Result<Vec<Part>, AllocError>
     requires { outline.now.total ≤ 2 ^ 48 }
-    ensures { IfOk result (λ parts. map shown parts.items
-        ≡ spec.cues_parts outline.now.others (first_of CUES_ID outline.now.others) (spec.new_cues (cues_of points.now))) }
+    ensures { IfOk result (λ parts. map shown parts.items ≡ spec.index_parts outline.now (cues_of points.now)) }
 {
     let mut parts = Vec::new(alloc);
     let body = cues_body(alloc, points)?;

@@ -8,13 +8,11 @@ ghost use Rattle.sidecar_edit.specs.declared.place.TheConstants.{KEPT as KEPT_OC
 ghost use Rattle.sidecar_edit.specs.Fields.{IsPlan};
 ghost use Rattle.element_reader.specs.Outline.{is_outline_fault, outline_in};
 ghost use Rattle.edit_changes.specs.Plan as spec;
-ghost use Rattle.edit_plan.specs.Answer.{Answers, Gives, is_plan_fault};
+ghost use Rattle.edit_plan.specs.Answer.{Gives, is_plan_fault};
 ghost use Rattle.edit_plan.specs.Shown.{written};
-ghost use Rattle.reindex.specs.Found.{IsFound, ends_as};
-ghost use Rattle.reindex.specs.Plan.{index_writes, indexed_of};
-ghost use Rattle.reindex.specs.Reading.{cues_of};
+ghost use Rattle.reindex.specs.Found.{IsFound, WritesFound, ends_as};
+ghost use Rattle.reindex.specs.Plan.{indexed_of};
 ghost use Rattle.mkv_io.specs.Bounds.{ReadsOf};
-ghost use Rattle.edit_plan.specs.Opening.{IfOutline};
 
 use crate::found::Found;
 use crate::indexed::Indexed;
@@ -68,7 +66,7 @@ fn writes_of<R: Reads>(
 ) -> Result<Vec<Write>, PlanEnd>
     requires live { IsLive R.Reads src.old file }
     requires whole { found.now.outline.total ≡ file_size R.Reads src.old file }
-    ensures exact { IfOutline R.Reads src.old file found.now.outline (λ bytes. Answers (index_writes bytes found.now.outline (cues_of found.now.points)) result) }
+    ensures exact { WritesFound R.Reads src.old file found.now result }
     ensures standing { R.standing src.new ≡ R.standing src.old }
     ensures cause { HasCause is_plan_fault (R.reading_faults src.old) (R.reading_faults src.new) result }
     ensures octets { R.octets_read src.new ≤ R.octets_read src.old + file_size R.Reads src.old file }

@@ -1,14 +1,13 @@
 //! The points of a file are read.
 
-ghost use Rattle.std.specs.Prelude.{◌≡◌, ◌≤◌, ◌+◌, ◌*◌, max, length, IfOk, OnOk};
+ghost use Rattle.std.specs.Prelude.{◌≡◌, ◌≤◌, ◌+◌, ◌*◌, max, length, IfOk};
 ghost use Rattle.mkv_io.specs.Faults.{HasCause, is_read_fault};
 ghost use Rattle.mkv_io.specs.Sources.{IsLive, OnlyReads, file_size, live_files};
-ghost use Rattle.elements.specs.Window.{HasNotPassed};
 ghost use Rattle.element_reader.specs.Outline.{is_outline_fault};
 ghost use Rattle.cluster_reader.specs.Reading.{CanRead};
 ghost use Rattle.edit_changes.specs.Trees.{AreSound};
-ghost use Rattle.reindex.specs.Clusters.{IsReady, StaysReady, PaysOn};
-ghost use Rattle.reindex.specs.Reading.{AddsPointIn, ReadsAll, ReadsLeft};
+ghost use Rattle.reindex.specs.Clusters.{IsReady, StaysReady, PaysOn, IsWindowIn};
+ghost use Rattle.reindex.specs.Reading.{AddsPointOf, ReadsAll, ReadsLeft};
 
 use crate::clusters::Clusters;
 use crate::indexing::Indexing;
@@ -33,7 +32,7 @@ fn add_point<R: Reads>(
     requires scale { 1 ≤ by.now.scale }
     requires few { length points.old ≤ MOST_CUES }
     requires ready { IsReady (live_files R.Reads src.old) clusters.old }
-    ensures adds { OnOk result (AddsPointIn R.Reads src.old by.now cursor.now.block points.old points.new clusters.old clusters.new) }
+    ensures adds { AddsPointOf R.Reads src.old by.now cursor.now points.old points.new clusters.old clusters.new result }
     ensures few { length points.new ≤ MOST_CUES }
     ensures reached { clusters.new.reached ≤ max clusters.old.reached cursor.now.block.head.offset }
     ensures ready { StaysReady (live_files R.Reads src.new) clusters.old clusters.new }
@@ -63,8 +62,7 @@ fn collect<R: Reads>(
     requires file { clusters.old.level.file ≡ cursor.old.file }
     requires stands { CanRead (live_files R.Reads src.old) cursor.old }
     requires ready { IsReady (live_files R.Reads src.old) clusters.old }
-    requires window { HasNotPassed clusters.old.level.ahead clusters.old.level.at
-        (file_size R.Reads src.old cursor.old.file) }
+    requires window { IsWindowIn R.Reads src.old cursor.old.file clusters.old }
     ensures exact { ReadsLeft R.Reads src.old by.now clusters.old cursor.old result }
     ensures few { IfOk result (λ points. length points ≤ MOST_CUES) }
     ensures standing { R.standing src.new ≡ R.standing src.old }
