@@ -1,5 +1,5 @@
 -- What the last of some inputs says of one that is appended to it: what the code knows on the way. Where inputs stand is that of Places.
-use Rattle.std.specs.Prelude.{◌≡◌, ℕ, ◌+◌, ◌-◌, List, length, Option, None, Some, slice_get}
+use Rattle.std.specs.Prelude.{◌≡◌, ℕ, ◌+◌, ◌-◌, List, length, Option, None, Some, slice_get, ◌*◌}
 use Rattle.std.specs.List.{All}
 use Rattle.std.specs.Option.{option_map, option_map_or}
 use Rattle.mkv_io.specs.LiveFiles.{LiveFiles}
@@ -11,6 +11,9 @@ use Rattle.merge_inputs.specs.declared.input.Input.{Input}
 use Rattle.merge_plan.specs.Places.{end_of}
 use Rattle.merge_plan.specs.Plan.{later_by}
 use Rattle.merge_plan.specs.Planned.{IsToldInput, source_in}
+use Rattle.mkv_io.specs.Bounds.{ReadsUpTo}
+use Rattle.mkv_io.specs.Sources.{live_files}
+use Rattle.mkv_io.specs.declared.reads.Reads.{Ghosts}
 
 -- An input ends at this time, where its file tells its content.
 abbrev pub EndsAt : LiveFiles → Input → ℕ → Type 0
@@ -44,6 +47,10 @@ size_behind f inputs = option_map_or (walked_of f) (last_in inputs) 0
 abbrev pub walked_for : Option ℕ → ℕ → ℕ
 walked_for None before = 0
 walked_for (Some time) before = before
+
+-- Where an input with this shift is appended, the file of the last of these is read twice at most; else nothing is.
+abbrev pub ReadsToPlace : {S : Type 0} → Ghosts S → S → S → List Input → Option ℕ → Type 0
+ReadsToPlace r old new before shift = ReadsUpTo r old new (2 * walked_for shift (size_behind (live_files r old) before))
 
 -- An input with this shift is later by so much, behind these, where their files tell their contents.
 abbrev pub IsBehind : LiveFiles → List Input → Option ℕ → Option ℕ → Type 0

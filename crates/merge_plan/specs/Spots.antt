@@ -1,5 +1,5 @@
 -- Where the blocks of a lane come from, and the attached files of an output. It is this project's.
-use Rattle.std.specs.Prelude.{◌≡◌, ◌≤◌, ⊤, ℕ, Bool, List, [], ◌∷◌, ◌++◌, length, map, slice_get, IfSome}
+use Rattle.std.specs.Prelude.{◌≡◌, ◌≤◌, ⊤, ℕ, Bool, List, [], ◌∷◌, ◌++◌, length, map, slice_get, IfSome, Option}
 use Rattle.std.specs.List.{All, AllZip, enumerate_from, range_with_len}
 use Rattle.std.specs.Option.{option_to_list}
 use Rattle.mkv_schema.specs.declared.ids.TheConstants.{CHAPTERS, TAGS}
@@ -31,6 +31,7 @@ use Rattle.merge_inputs.specs.Input.{read_in, total_in}
 use Rattle.merge_plan.specs.Chains.{at_place, lanes_by}
 use Rattle.merge_plan.specs.Plan.{later_by, rule_of}
 use Rattle.merge_plan.specs.Records.{is_appended}
+use Rattle.ext_times.specs.Listing.{Listing}
 
 -- a track that is taken, its input, and the input's number
 pub record Spot : Type 0 where
@@ -60,6 +61,10 @@ spots_at place each = option_to_list (slice_get (spots_in each) place)
 -- the same of the inputs that are appended to one, of which the first has this number
 abbrev pub spots_behind : ℕ → ℕ → List Input → List Spot
 spots_behind place number others = at_place place (map spots_in (enumerate_from number others))
+
+-- the times of a track's frames, where a file lists them
+abbrev pub times_listed : Input → TakenTrack → Option Listing
+times_listed i t = value_for t.id (read_in i).times
 
 -- A link is this track of an input whose file has this outline and so many nanoseconds a tick, with no more in front of each frame than a
 -- lane puts back.

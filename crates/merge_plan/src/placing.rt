@@ -10,7 +10,7 @@ ghost use Rattle.lanes.specs.declared.found.TheConstants.{MOST_END};
 ghost use Rattle.merge_inputs.specs.Input.{IsInput, read_in};
 ghost use Rattle.merge_plan.specs.Plan.{later_by};
 ghost use Rattle.merge_plan.specs.Spots.{HasPlace};
-ghost use Rattle.merge_plan.specs.Behind.{EndsAt, IsBehind, most_behind, size_behind, walked_for, walked_of};
+ghost use Rattle.merge_plan.specs.Behind.{EndsAt, IsBehind, ReadsToPlace, most_behind, walked_of};
 ghost use Rattle.merge_plan.specs.Placed.{ArePlaced, StandInPlace, walked_length};
 
 use crate::planned_lanes::links_of;
@@ -47,7 +47,7 @@ fn shift_behind<R: Reads>(
     ensures near { IfOk result (λ later. unwrap_or later 0 ≤ most_behind before.now) }
     ensures standing { R.standing src.new ≡ R.standing src.old }
     ensures cause { HasCause is_read_fault (R.reading_faults src.old) (R.reading_faults src.new) result }
-    ensures octets { R.octets_read src.new ≤ R.octets_read src.old + 2 * walked_for shift (size_behind (live_files R.Reads src.old) before.now) }
+    ensures octets { ReadsToPlace R.Reads src.old src.new before.now shift }
 {
     if shift.is_none() {
         return Ok(None);

@@ -5,9 +5,9 @@ ghost use Rattle.std.specs.List.{All, take_while};
 ghost use Rattle.file_format.specs.Encoding.{prefix_of};
 ghost use Rattle.output_model.specs.declared.TheConstants.{MOST_OF_PREFIX};
 ghost use Rattle.merge_inputs.specs.Input.{read_in};
-ghost use Rattle.merge_inputs.specs.Taken.{IsTaken, value_for};
+ghost use Rattle.merge_inputs.specs.Taken.{IsTaken};
 ghost use Rattle.merge_plan.specs.Plan.{later_by, rule_of, usual_rule};
-ghost use Rattle.merge_plan.specs.Spots.{AreDriven, AreLanesOf, AreLinksOf, GoesOn, HasTaken, IsLaneOf, IsLink, IsLinkOf, IsTextOf, goes_on, spot, spots_at, spots_behind};
+ghost use Rattle.merge_plan.specs.Spots.{AreDriven, AreLanesOf, AreLinksOf, GoesOn, HasTaken, IsLaneOf, IsLink, IsLinkOf, IsTextOf, goes_on, spot, spots_at, spots_behind, times_listed};
 
 use crate::entries::tracks_begun;
 use element_reader::Outline;
@@ -69,7 +69,7 @@ fn later_by(input: &Input) -> u64
 
 /// The times of a track's frames, where they are those of a file.
 fn times_of(input: &Input, taken: &TakenTrack) -> Result<Option<Rc<Times>>, AllocError>
-    ensures { IfOk result (λ times. option_map (λ shared. shared.value) times ≡ value_for taken.now.id (read_in input.now).times) }
+    ensures { IfOk result (λ times. option_map (λ shared. shared.value) times ≡ times_listed input.now taken.now) }
 {
     for each in input.times.as_slice() {
         if each.id == taken.id {
