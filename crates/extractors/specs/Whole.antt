@@ -32,3 +32,7 @@ pub record WritesFile {S T : Type 0} (r : Ghosts S) (f : writing.Ghosts S) (name
   pub kept : KeepsOthers r f (name ∷ []) old new
   pub cause : HasRemuxCause r f old new result
   pub reads : r.octets_read new ≤ r.octets_read old + most
+
+-- The same of so many octets of a live file, from a place on, each of which is read once.
+abbrev pub CopiesFile : {S T : Type 0} → Ghosts S → writing.Ghosts S → List ℕ → FileId → ℕ → ℕ → S → S → Result T RemuxEnd → Type 0
+CopiesFile r f name from at len old new result = WritesFile r f name (octets_in r old from at len) len old new result

@@ -2,7 +2,7 @@
 
 ghost use Rattle.std.specs.Prelude.{◌≢◌, ◌+◌, ◌≤◌, length};
 ghost use Rattle.mkv_io.specs.Sources.{IsLive, file_size};
-ghost use Rattle.extractors.specs.Whole.{WritesFile, octets_in};
+ghost use Rattle.extractors.specs.Whole.{CopiesFile, WritesFile};
 
 use cues_seekhead::{append, copy_data};
 use mkv_io::{FileId, Files, RemuxEnd as OutEnd};
@@ -30,7 +30,7 @@ pub fn copy_file<F: Files>(
     requires other { F.holder files.old from.n ≢ name.now }
     requires inside { at + len ≤ file_size F.Reads files.old from }
     requires buffer { 1 ≤ length buffer.old }
-    ensures { WritesFile F.Reads F.Files.own name.now (octets_in F.Reads files.old from at len) len files.old files.new result }
+    ensures { CopiesFile F.Reads F.Files.own name.now from at len files.old files.new result }
 {
     let file = files.create(name)?;
     let ended = copy_data(files, from, at, len, file, buffer);
