@@ -141,6 +141,10 @@ pub record HasWritten (f h : LiveFiles) (o : OutputSpec) (b b' : PlacedBlocks) (
   pub told : IsTold f b.merge → CountsPart f h o b b' w
   pub over : IsOver b b'
 
+-- Such a part was written, if the call isn't refused.
+abbrev pub FindsWritten : {S E : Type 0} → Ghosts S → S → S → OutputSpec → PlacedBlocks → PlacedBlocks → Result WrittenPart E → Type 0
+FindsWritten r old new o b b' result = IfOk result (HasWritten (live_files r old) (live_files r new) o b b')
+
 -- ---- all of them
 
 -- the parts that are left, and before them the one that was begun, if one was
@@ -180,6 +184,10 @@ next_name o written = name_of o.split o.name (length written + 1)
 -- what the output of a number, from 1 on, has besides its blocks: its own identifiers
 abbrev pub own_spec : OutputSpec → ℕ → OutputSpec
 own_spec o number = record o { front = record o.front { info = with_uuids (uuids_at o.uuids o.link number) o.front.info } }
+
+-- Where the links' files are told, the output of a number has the blocks of the part that was begun, and its own identifiers.
+abbrev pub WritesOwn : {S T : Type 0} → Ghosts S → writing.Ghosts S → S → S → OutputSpec → ℕ → List ℕ → PlacedBlocks → Result T RemuxEnd → Type 0
+WritesOwn r f old new o number name b result = WritesPart r f old new (own_spec o number) name b result
 
 -- the same of the output behind those that were written
 abbrev pub next_spec : OutputSpec → List Written → OutputSpec

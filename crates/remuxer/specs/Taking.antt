@@ -24,9 +24,10 @@ use Rattle.time_merge.specs.declared.queue.Queue.{Queue}
 use Rattle.splitter.specs.Sections.{in_part, parts}
 use Rattle.remuxer.specs.declared.placed.Ahead.{Ahead}
 use Rattle.splitter.specs.Steps.{is_kept, start_of}
-use Rattle.remuxer.specs.Places.{CanGive, IsFresh, StandsAhead, behind_part, is_within, lent_ahead, part_in, parts_left, rest_of_part, split_in, start_in, turns}
+use Rattle.remuxer.specs.Places.{CanGive, IsFresh, StandsAhead, behind_part, is_within, lent_ahead, lent_in, part_in, parts_left, rest_of_part, split_in, start_in, turns}
 use Rattle.remuxer.specs.declared.placed.PlacedBlocks.{PlacedBlocks}
 use Rattle.remuxer.specs.declared.writer.BlockWriter.{BlockWriter}
+use Rattle.lanes.specs.Lane.{LaneSeen}
 
 -- An output can take blocks: its file is open; they can be given; and no file of a link was opened under the output's name.
 pub record CanTake {S : Type 0} (r : Ghosts S) (f : writing.Ghosts S) (files : S) (w : BlockWriter) (b : PlacedBlocks) : Type 0 where
@@ -70,6 +71,10 @@ StaysDraft r f rules was old new w =
 abbrev pub TakesNext : {S T : Type 0} → Ghosts S → writing.Ghosts S → List CueRule → OutputBlock → S → S → BlockWriter → BlockWriter → Result T RemuxEnd → Type 0
 TakesNext r f rules b old new w w' (Ok _) = (left : List OutputBlock) → StaysOnTheWay r f rules (b ∷ left) left old new w w'
 TakesNext r f rules b old new w w' (Err _) = (left : List OutputBlock) → StaysDraft r f rules (b ∷ left) old new w
+
+-- The block that the k-th lane lends to a part that starts at this tick was the first of those that were left, and the others are left.
+abbrev pub TakesLent : {S T : Type 0} → Ghosts S → writing.Ghosts S → List CueRule → ℕ → ℕ → LaneSeen → S → S → BlockWriter → BlockWriter → Result T RemuxEnd → Type 0
+TakesLent r f rules start k lane old new w w' result = TakesNext r f rules (lent_in start k lane) old new w w' result
 
 -- So many blocks more were taken.
 abbrev pub TakesMore : {T : Type 0} → ℕ → BlockWriter → BlockWriter → Result T RemuxEnd → Type 0

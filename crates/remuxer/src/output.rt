@@ -1,7 +1,6 @@
 //! Whole outputs.
 
 ghost use Rattle.std.specs.Prelude.{◌≡◌, ◌*◌, ◌<◌, ◌^◌, [], ◌∷◌, IfOk, IfSome, OnOk};
-ghost use Rattle.mkv_io.specs.Sources.{live_files};
 ghost use Rattle.mkv_io.specs.Writing.{KeepsOthers};
 ghost use Rattle.mkv_io.specs.Ends.{HasRemuxCause};
 ghost use Rattle.mkv_schema.specs.declared.ids.TheConstants.{CHAPTERS};
@@ -9,7 +8,7 @@ ghost use Rattle.tree_format.specs.Node.{id_of};
 ghost use Rattle.ebml_tree.specs.Building.{IsRead};
 ghost use Rattle.remuxer.specs.Places.{IsEnd};
 ghost use Rattle.remuxer.specs.Taking.{Goes, IsOver, WritesInto};
-ghost use Rattle.remuxer.specs.Output.{CanFill, CanWrite, Fills, HasWritten, WritesPart, chapters_cut, chapters_in, data_of};
+ghost use Rattle.remuxer.specs.Output.{CanFill, CanWrite, Fills, FindsWritten, WritesPart, chapters_cut, chapters_in, data_of};
 
 use crate::counts::Counts;
 use crate::placed::PlacedBlocks;
@@ -100,7 +99,7 @@ pub(crate) fn write_output<F: Files>(
 ) -> Result<WrittenPart, OutEnd>
     requires { CanWrite F.Reads F.Files.own files.old spec.now name.now start blocks.old }
     ensures writes { WritesPart F.Reads F.Files.own files.old files.new spec.now name.now blocks.old result }
-    ensures finds { IfOk result (HasWritten (live_files F.Reads files.old) (live_files F.Reads files.new) spec.now blocks.old blocks.new) }
+    ensures finds { FindsWritten F.Reads files.old files.new spec.now blocks.old blocks.new result }
     ensures goes { Goes F.Reads (data_of spec.now) files.old files.new blocks.old blocks.new result }
     ensures kept { KeepsOthers F.Reads F.Files.own (name.now ∷ []) files.old files.new }
     ensures cause { HasRemuxCause F.Reads F.Files.own files.old files.new result }

@@ -6,7 +6,7 @@ ghost use Rattle.mkv_io.specs.Ends.{HasRemuxCause};
 ghost use Rattle.mkv_io.specs.Writing.{KeepsOthers};
 ghost use Rattle.remux_plan.specs.Parts.{name_of};
 ghost use Rattle.remuxer.specs.Taking.{Goes};
-ghost use Rattle.remuxer.specs.Output.{CanWrite, CanWriteAll, CanWriteNext, Ends, FindsNext, HasWritten, KeepsUnwritten, ReadsParts, SaysWritten, WritesNext, WritesPart, WritesParts, data_of, own_spec};
+ghost use Rattle.remuxer.specs.Output.{CanWrite, CanWriteAll, CanWriteNext, Ends, FindsNext, FindsWritten, KeepsUnwritten, ReadsParts, SaysWritten, WritesNext, WritesOwn, WritesParts, data_of, own_spec};
 
 use crate::info::info_with;
 use crate::output::{WrittenPart, write_output};
@@ -39,8 +39,8 @@ fn write_own<F: Files>(
     blocks: &mut PlacedBlocks,
 ) -> Result<WrittenPart, OutEnd>
     requires { CanWrite F.Reads F.Files.own files.old spec.old name.now start blocks.old }
-    ensures writes { WritesPart F.Reads F.Files.own files.old files.new (own_spec spec.old number) name.now blocks.old result }
-    ensures finds { IfOk result (HasWritten (live_files F.Reads files.old) (live_files F.Reads files.new) (own_spec spec.old number) blocks.old blocks.new) }
+    ensures writes { WritesOwn F.Reads F.Files.own files.old files.new spec.old number name.now blocks.old result }
+    ensures finds { FindsWritten F.Reads files.old files.new (own_spec spec.old number) blocks.old blocks.new result }
     ensures spec { OnOk result (spec.new ≡ spec.old) }
     ensures goes { Goes F.Reads (data_of spec.old) files.old files.new blocks.old blocks.new result }
     ensures kept { KeepsOthers F.Reads F.Files.own (name.now ∷ []) files.old files.new }

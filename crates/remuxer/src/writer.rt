@@ -64,8 +64,8 @@ pub(crate) struct BlockWriter {
 
 impl BlockWriter {
     ghost use Rattle.cues_seekhead.specs.OpenOutput.{IsOpen};
-    ghost use Rattle.remuxer.specs.Places.{IsBegun, lent_in};
-    ghost use Rattle.remuxer.specs.Taking.{CanTake, Goes, IsOver, StaysSmall, TakesMore, TakesNext, TakesPart, WritesInto};
+    ghost use Rattle.remuxer.specs.Places.{IsBegun};
+    ghost use Rattle.remuxer.specs.Taking.{CanTake, Goes, IsOver, StaysSmall, TakesLent, TakesMore, TakesPart, WritesInto};
 
     // Adds the block that the k-th lane lends, from 0, to a part that starts at this tick.
     fn add_lent<F: Files>(
@@ -79,7 +79,7 @@ impl BlockWriter {
         requires lent { IsLent (lent lane.now) }
         requires number { k < MOST_LANES }
         requires open { IsOpen F.Reads files.old self.old.out }
-        ensures takes { TakesNext F.Reads F.Files.own rules.now (lent_in start k lane.now) files.old files.new self.old self.new result }
+        ensures takes { TakesLent F.Reads F.Files.own rules.now start k lane.now files.old files.new self.old self.new result }
         ensures count { TakesMore 1 self.old self.new result }
         ensures writes { WritesInto F.Reads F.Files.own files.old files.new self.old self.new result }
         ensures held { StaysSmall self.old self.new result }
