@@ -5,12 +5,17 @@ use Rattle.mkv_info.specs.Identification.{identification_line}
 use Rattle.mkv_lines.specs.Line.{refusal_line}
 use Rattle.mkv_lines.specs.Verdict.{Verdict, only_said, refused}
 use Rattle.mkv_info.specs.Listed.{status_with, warnings}
-use Rattle.mkv_info.specs.Read.{Described, read_of}
+use Rattle.mkv_info.specs.Read.{Described, read_in, read_of}
+use Rattle.mkv_info.specs.declared.reading.FileRead.{FileRead}
 
 -- the identification, and then a warning of what is damaged at level 1; a file that is refused isn't identified
 abbrev pub identified : List ℕ → Result Described Damage → Verdict
 identified name (Ok file) = only_said (status_with file.damage) (identification_line name file.records ∷ warnings name file.damage)
 identified name (Err d) = refused (refusal_line name d)
+
+-- the same of a file of which this was read
+abbrev pub identified_of : List ℕ → FileRead → Verdict
+identified_of name read = identified name (Ok (read_in read))
 
 -- what is told of a content that bears a name, as JSON
 abbrev pub identified_verdict : List ℕ → List ℕ → Verdict

@@ -1,14 +1,23 @@
 -- Members that are put into an object one after the other.
-use Rattle.std.specs.Prelude.{ℕ, Bool, true, false, ◌&&◌, List, [], ◌∷◌, ◌++◌, Option, Some, None}
+use Rattle.std.specs.Prelude.{ℕ, Bool, true, false, ◌&&◌, List, [], ◌∷◌, ◌++◌, Option, Some, None, ◌≡◌}
 use Rattle.std.specs.Ordering.{nat_cmp, match_ordering}
 use Rattle.std.specs.Cmp.Lexicographic.{slice_cmp}
 use Rattle.serde_json.specs.Data.{Data, Members, put}
 use Rattle.mkv_info.specs.Json.{Member}
+use Rattle.std.specs.Option.{option_map}
+use Rattle.std.specs.declared.alloc.Global.{Global}
+use Rattle.std.specs.declared.string.String.{String}
+use Rattle.serde_json.specs.View.{members_view, view}
+use Rattle.serde_json.specs.declared.value.Value.{Value}
 
 -- a member is put, unless it has no value
 abbrev pub put_if : List ℕ → Option Data → Members → Members
 put_if key None ms = ms
 put_if key (Some value) ms = put key value ms
+
+-- A member was put into an object, unless it has no value.
+abbrev pub PutsMember : List ℕ → Option Value → List (String Global × Value) → List (String Global × Value) → Type 0
+PutsMember key value old new = members_view new ≡ put_if key (option_map view value) (members_view old)
 
 -- these are put one after the other
 abbrev pub put_each : List Member → Members → Members

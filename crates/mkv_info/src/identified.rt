@@ -1,14 +1,13 @@
 //! A file as one line of JSON.
 
-ghost use Rattle.std.specs.Prelude.{◌≡◌, ◌+◌, ◌≤◌, Ok, IfOk};
+ghost use Rattle.std.specs.Prelude.{◌≡◌, ◌+◌, ◌≤◌, IfOk};
 ghost use Rattle.mkv_io.specs.Sources.{IsLive, file_size};
 ghost use Rattle.mkv_info.specs.Sound.{CanBeTold};
 ghost use Rattle.mkv_lines.specs.Ordinary.{IsOrdinary};
 ghost use Rattle.mkv_lines.specs.Said.{HasSayCause};
 ghost use Rattle.mkv_lines.specs.Verdict.{SaysVerdict};
 ghost use Rattle.mkv_info.specs.Bound.{most_to_identify};
-ghost use Rattle.mkv_info.specs.Identified.{identified, identified_verdict};
-ghost use Rattle.mkv_info.specs.Read.{read_in};
+ghost use Rattle.mkv_info.specs.Identified.{identified_of, identified_verdict};
 ghost use Rattle.mkv_info.specs.Telling.{HasTellStop, Informs};
 
 use crate::line::identify;
@@ -52,7 +51,7 @@ fn tell<P: Report>(
     report: &mut P,
 ) -> Result<Status, Stop>
     requires { CanBeTold read.now.records }
-    ensures verdict { SaysVerdict (P.lines report.old) (P.lines report.new) result (identified name.now (Ok (read_in read.now))) }
+    ensures verdict { SaysVerdict (P.lines report.old) (P.lines report.new) result (identified_of name.now read.now) }
     ensures ordinary { IfOk result IsOrdinary }
     ensures cause { HasSayCause (P.faults report.old) (P.faults report.new) result }
 {

@@ -3,15 +3,13 @@
 ghost use Rattle.std.specs.Prelude.{◌≡◌, [], ◌∷◌, IfOk};
 ghost use Rattle.mkv_io.specs.Asked.{AsksOnly};
 ghost use Rattle.mkv_io.specs.Sources.{IsLive};
-ghost use Rattle.mkv_io.specs.Told.{Told};
 ghost use Rattle.sidecar_edit.specs.Name.{sidecar_of, with_sidecar};
 ghost use Rattle.sidecar_edit.specs.Pending.{LooksOnly};
-ghost use Rattle.mkv_lines.specs.Command.{ComesTo, HasEnded, with_sidecar_head};
+ghost use Rattle.mkv_lines.specs.Command.{HasEnded, with_sidecar_head};
 ghost use Rattle.mkv_io.specs.Bounds.{ReadsByNames, ReadsOf};
 ghost use Rattle.mkv_lines.specs.Ordinary.{IsOrdinary};
 ghost use Rattle.mkv_info.specs.Bound.{most_of_form, most_to_tell};
-ghost use Rattle.mkv_info.specs.Info.{info_verdict, settled_verdict};
-ghost use Rattle.mkv_info.specs.Telling.{HasTellStop, Informs};
+ghost use Rattle.mkv_info.specs.Telling.{HasTellStop, Presents, TellsSettled};
 
 use crate::identified::identify_file;
 use crate::list::list_file;
@@ -37,8 +35,7 @@ pub fn info_of<F: Files, P: Report>(
     files: &mut F,
     report: &mut P,
 ) -> Result<Status, Stop>
-    ensures verdict { Told (F.names files.old) (λ world.
-        ComesTo F.Reads F.Files.own P.Report files.old files.new report.old report.new result (info_verdict form world name.now)) }
+    ensures verdict { Presents F.Reads F.Files.own P.Report files.old files.new report.old report.new result form name.now }
     ensures ended { HasEnded F.Reads F.Files.own P.Report files.old files.new report.old report.new result }
     ensures names { F.names files.new ≡ F.names files.old }
     ensures asks { AsksOnly (with_sidecar name.now) [] (F.asked files.old) (F.asked files.new) }
@@ -65,8 +62,7 @@ fn tell_settled<F: Files, P: Report>(
     report: &mut P,
 ) -> Result<Status, Stop>
     requires { IsLive F.Reads files.old file }
-    ensures verdict { Told (F.names files.old) (λ world.
-        Informs F.Reads P.Report files.old file report.old report.new result (settled_verdict form world name.now)) }
+    ensures verdict { TellsSettled F.Reads F.Files.own P.Report files.old file report.old report.new result form name.now }
     ensures ordinary { IfOk result IsOrdinary }
     ensures looks { LooksOnly F.Reads F.Files.own (sidecar_of name.now ∷ []) files.old files.new }
     ensures cause { HasTellStop F.Reads P.Report files.old files.new report.old report.new result }

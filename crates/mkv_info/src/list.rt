@@ -6,8 +6,8 @@ ghost use Rattle.elements.specs.Window.{nothing_at};
 ghost use Rattle.mkv_lines.specs.Ordinary.{IsOrdinary};
 ghost use Rattle.mkv_lines.specs.Said.{HasSayCause, Says};
 ghost use Rattle.mkv_info.specs.Bound.{most_to_list};
-ghost use Rattle.mkv_info.specs.Listed.{level_1_lines, listed_verdict, shown_lines, status_with, warnings};
-ghost use Rattle.mkv_info.specs.Telling.{HasTellStop, ListsOutline, SaysOf, Informs};
+ghost use Rattle.mkv_info.specs.Listed.{level_1_lines, listed_verdict, status_with, warnings};
+ghost use Rattle.mkv_info.specs.Telling.{HasTellStop, ListsOutline, SaysOf, Informs, SaysElements};
 
 use crate::tracks::{say_tracks, tracks_of};
 use element_reader::{Outline, OutlineEnd, Window, segment_bound};
@@ -79,7 +79,7 @@ fn say_elements<R: Reads, P: Report>(
 ) -> Result<(), Stop>
     requires live { IsLive R.Reads src.old file }
     requires whole { outline.now.total ≡ file_size R.Reads src.old file }
-    ensures said { SaysOf R.Reads P.Report src.old file report.old report.new result (λ bytes. shown_lines bytes outline.now) }
+    ensures said { SaysElements R.Reads P.Report src.old file outline.now report.old report.new result }
     ensures standing { R.standing src.new ≡ R.standing src.old }
     ensures cause { HasTellStop R.Reads P.Report src.old src.new report.old report.new result }
     ensures octets { R.octets_read src.new ≤ R.octets_read src.old + file_size R.Reads src.old file }
