@@ -5,7 +5,8 @@ use Rattle.word_values.specs.declared.job.Job.{Job}
 use Rattle.word_values.specs.declared.job.Job.TheVariants as jobs
 use Rattle.meta_records.specs.declared.limits.TheConstants.{MOST_OF_ATTACHMENTS}
 use Rattle.mkv_lines.specs.Command.{with_sidecar_head}
-use Rattle.mkv_io.specs.Bounds.{ReadsUpTo}
+use Rattle.mkv_io.specs.Bounds.{ReadsByNames, ReadsUpTo}
+use Rattle.mkv_io.specs.declared.files.Files as writing
 
 -- of a file of so many octets the first Cues is read once, for a job that takes it
 abbrev pub most_of_cues : Job → ℕ → ℕ
@@ -36,6 +37,10 @@ most_with job (Some bytes) = with_sidecar_head (most_of_file job) (length bytes)
 -- what may be read of a name in a world of names
 abbrev pub most_to_extract : (List ℕ → Option (List ℕ)) → List ℕ → Job → ℕ
 most_to_extract world name job = most_with job (world name)
+
+-- No more octets were read than may be of a name, where the names are told.
+abbrev pub ReadsToExtract : {S : Type 0} → Ghosts S → writing.Ghosts S → S → S → List ℕ → Job → Type 0
+ReadsToExtract r f old new name job = ReadsByNames r f old new (λ world. most_to_extract world name job)
 
 -- Nothing has changed but the count of octets read, which has risen by at most so many.
 pub record ReadsAtMost {S : Type 0} (r : Ghosts S) (old new : S) (most : ℕ) : Type 0 where

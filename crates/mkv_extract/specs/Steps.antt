@@ -18,8 +18,9 @@ use Rattle.extractors.specs.Source.{events_in}
 use Rattle.extractors.specs.declared.source.Source.{Source}
 use Rattle.mkv_lines.specs.declared.status.Status.{Status}
 use Rattle.mkv_lines.specs.declared.status.Stop.{Stop}
-use Rattle.mkv_extract.specs.Extract.{Taken, frames_taken, or_line, taken_by, unfit_track, verdict_of}
+use Rattle.mkv_extract.specs.Extract.{Taken, attached_taken, done_verdict, frames_taken, or_line, taken_by, unfit_track, verdict_of}
 use Rattle.mkv_extract.specs.Read.{FileRead, read_in, read_of}
+use Rattle.word_values.specs.declared.job.Target.{Target}
 
 -- of a content of which this was read: unless a track can't be taken so
 abbrev pub fit_taken : List ℕ → Job → List ℕ → FileRead → List Event → Result Taken (List ℕ)
@@ -65,3 +66,13 @@ abbrev pub TakesFrames : {F P : Type 0} → ReadsGhosts F → FilesGhosts F → 
 TakesFrames r f p source files files' report report' result name job =
     ComesToTaken r f p source.file files files' report report' result name (λ bytes.
     unless (unfit_track name job (read_in source)) (frames_taken name job (read_in source) (events_in source bytes)))
+
+-- A job has taken frames of a source whose tracks can all be taken so.
+abbrev pub TakesFit : {F P : Type 0} → ReadsGhosts F → FilesGhosts F → ReportGhosts P → Source → F → F → P → P → Result Status Stop → List ℕ → Job → Type 0
+TakesFit r f p source files files' report report' result name job = IfTold r files source.file (λ bytes.
+    ComesTo r f p files files' report report' result (done_verdict name (frames_taken name job (read_in source) (events_in source bytes))))
+
+-- Attached files were taken of a source.
+abbrev pub TakesAttached : {F P : Type 0} → ReadsGhosts F → FilesGhosts F → ReportGhosts P → Source → F → F → P → P → Result Status Stop → List ℕ → List Target → Type 0
+TakesAttached r f p source files files' report report' result name targets = IfTold r files source.file (λ bytes.
+    ComesTo r f p files files' report report' result (done_verdict name (attached_taken name targets bytes (read_in source))))

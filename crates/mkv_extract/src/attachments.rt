@@ -3,14 +3,12 @@
 ghost use Rattle.std.specs.Prelude.{◌*◌, ◌≤◌, [], length, All};
 ghost use Rattle.mkv_io.specs.Asked.{AsksOnly};
 ghost use Rattle.mkv_io.specs.Names.{AreOthers};
-ghost use Rattle.mkv_io.specs.Sources.{IfTold};
 ghost use Rattle.word_values.specs.declared.job.Target.{Target as TargetSeen};
 ghost use Rattle.extractors.specs.Job.{names_of};
 ghost use Rattle.extractors.specs.Source.{IsSource};
-ghost use Rattle.mkv_lines.specs.Command.{ComesTo, HasEnded};
+ghost use Rattle.mkv_lines.specs.Command.{HasEnded};
 ghost use Rattle.mkv_io.specs.Bounds.{ReadsOf};
-ghost use Rattle.mkv_extract.specs.Extract.{attached_taken, done_verdict};
-ghost use Rattle.mkv_extract.specs.Read.{read_in};
+ghost use Rattle.mkv_extract.specs.Steps.{TakesAttached};
 
 use crate::extract::stop_of;
 use crate::telling::{Missing, say_absent, tell_held};
@@ -32,9 +30,7 @@ pub fn extract_attachments<F: Files, P: Report>(
     requires source { IsSource F.Reads files.old source.now }
     requires numbers { All (λ (t : TargetSeen). 1 ≤ t.id) targets.now }
     requires other { AreOthers (F.holder files.old source.now.file.n) (names_of targets.now) }
-    ensures verdict { IfTold F.Reads files.old source.now.file (λ bytes.
-        ComesTo F.Reads F.Files.own P.Report files.old files.new report.old report.new result
-        (done_verdict name.now (attached_taken name.now targets.now bytes (read_in source.now)))) }
+    ensures verdict { TakesAttached F.Reads F.Files.own P.Report source.now files.old files.new report.old report.new result name.now targets.now }
     ensures ended { HasEnded F.Reads F.Files.own P.Report files.old files.new report.old report.new result }
     ensures asks { AsksOnly [] (names_of targets.now) (F.asked files.old) (F.asked files.new) }
     ensures octets { ReadsOf F.Reads files.old files.new source.now.file (λ octets. length targets.now * octets) }

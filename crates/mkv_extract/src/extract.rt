@@ -2,18 +2,16 @@
 
 ghost use Rattle.std.specs.Prelude.{◌≡◌, ◌*◌, [], ◌∷◌, None, IsSome};
 ghost use Rattle.mkv_io.specs.Asked.{AsksOnly};
-ghost use Rattle.mkv_io.specs.Sources.{IfTold};
 ghost use Rattle.extractors.specs.Job.{CanBeDone, form_of, job_refusal, names_for};
-ghost use Rattle.extractors.specs.Source.{entries_in, events_in};
+ghost use Rattle.extractors.specs.Source.{entries_in};
 ghost use Rattle.sidecar_edit.specs.Name.{sidecar_of, with_sidecar};
-ghost use Rattle.mkv_lines.specs.Command.{ComesTo, HasEnded, with_sidecar_head};
-ghost use Rattle.mkv_io.specs.Bounds.{ReadsByNames, ReadsOf};
+ghost use Rattle.mkv_lines.specs.Command.{HasEnded, with_sidecar_head};
+ghost use Rattle.mkv_io.specs.Bounds.{ReadsOf};
 ghost use Rattle.mkv_lines.specs.Line.{text_of};
-ghost use Rattle.mkv_extract.specs.Bound.{most_of_content, most_of_file, most_to_extract};
+ghost use Rattle.mkv_extract.specs.Bound.{ReadsToExtract, most_of_content, most_of_file};
 ghost use Rattle.mkv_extract.specs.End.{stop_of};
-ghost use Rattle.mkv_extract.specs.Extract.{done_verdict, frames_taken, unfit_line};
-ghost use Rattle.mkv_extract.specs.Read.{read_in};
-ghost use Rattle.mkv_extract.specs.Steps.{TakesFile, TakesFrames, TakesSettled, TakesSource};
+ghost use Rattle.mkv_extract.specs.Extract.{unfit_line};
+ghost use Rattle.mkv_extract.specs.Steps.{TakesFile, TakesFit, TakesFrames, TakesSettled, TakesSource};
 ghost use Rattle.mkv_extract.specs.Takes.{CanTake, CanTakeFrom, Takes};
 
 use crate::attachments::extract_attachments;
@@ -42,7 +40,7 @@ pub fn extract_of<F: Files, P: Report>(
     ensures verdict { Takes F.Reads F.Files.own P.Report files.old files.new report.old report.new result name.now job.now }
     ensures ended { HasEnded F.Reads F.Files.own P.Report files.old files.new report.old report.new result }
     ensures asks { AsksOnly (with_sidecar name.now) (names_for job.now) (F.asked files.old) (F.asked files.new) }
-    ensures octets { ReadsByNames F.Reads F.Files.own files.old files.new (λ world. most_to_extract world name.now job.now) }
+    ensures octets { ReadsToExtract F.Reads F.Files.own files.old files.new name.now job.now }
 {
     match first_written(alloc, name, job) {
         Ok(None) => {}
@@ -188,9 +186,7 @@ fn extract_source<F: Files, P: Report>(
     requires takes { IsSome (form_of job.now) }
     requires fit { job_refusal job.now (entries_in source.now) ≡ None }
     requires can { CanTakeFrom F.Reads F.Files.own files.old source.now job.now }
-    ensures verdict { IfTold F.Reads files.old source.now.file (λ bytes.
-        ComesTo F.Reads F.Files.own P.Report files.old files.new report.old report.new result
-        (done_verdict name.now (frames_taken name.now job.now (read_in source.now) (events_in source.now bytes)))) }
+    ensures verdict { TakesFit F.Reads F.Files.own P.Report source.now files.old files.new report.old report.new result name.now job.now }
     ensures ended { HasEnded F.Reads F.Files.own P.Report files.old files.new report.old report.new result }
     ensures asks { AsksOnly [] (names_for job.now) (F.asked files.old) (F.asked files.new) }
     ensures octets { ReadsOf F.Reads files.old files.new source.now.file (λ octets. 2 * octets) }
