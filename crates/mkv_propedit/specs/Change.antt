@@ -13,11 +13,17 @@ use Rattle.edit_plan.specs.declared.plan_end.PlanEnd.TheVariants as end
 use Rattle.reindex.specs.Plan.{index_of}
 use Rattle.mkv_propedit.specs.Bound.{most_to_plan}
 use Rattle.mkv_propedit.specs.Left.{writes_of_edits}
-use Rattle.mkv_propedit.specs.Propedit.{file_verdict, refusal_text, told}
+use Rattle.mkv_propedit.specs.Propedit.{file_verdict, refusal_text, told, unless_begun}
 use Rattle.mkv_propedit.specs.Reindex.{indexed_told, most_to_index, writes_of_index}
 use Rattle.mkv_propedit.specs.declared.change.FileChange.{FileChange}
 use Rattle.mkv_propedit.specs.declared.change.FileChange.TheVariants.{Edits, Index}
 use Rattle.mkv_propedit.specs.declared.change.ChangePlan.{ChangePlan}
+use Rattle.mkv_disk.specs.declared.disk.Disk.{Ghosts}
+use Rattle.mkv_io.specs.declared.report.Report.{Ghosts as ReportGhosts}
+use Rattle.mkv_lines.specs.declared.status.Status.{Status}
+use Rattle.mkv_lines.specs.declared.status.Stop.{Stop}
+use Rattle.mkv_propedit.specs.Command.{SaysOfDisk}
+use Rattle.sidecar_edit.specs.Gate.{state}
 
 -- what it writes to a file of a content, or what refuses it
 abbrev pub writes_of_change : FileChange → List ℕ → Result (List Write) Refusal
@@ -32,6 +38,18 @@ change_told name Index M = indexed_told name (index_of M)
 -- what it comes to, where a medium and its sidecar read so
 abbrev pub change_verdict : Bool → List ℕ → FileChange → List ℕ → List ℕ → Verdict
 change_verdict is_there name change media sidecar = file_verdict is_there name sidecar (change_told name change media)
+
+-- A change of the file of a name says what it comes to, where the disk tells.
+abbrev pub SaysOfChange : {D P : Type 0} → Ghosts D → ReportGhosts P → D → P → P → Result Status Stop → List ℕ → FileChange → Type 0
+SaysOfChange d p disk report report' result name change = SaysOfDisk d p disk report report' result (change_verdict (d.is_there disk name) name change)
+
+-- the same once the file and its sidecar are open
+abbrev pub SaysOfOpened : {D P : Type 0} → Ghosts D → ReportGhosts P → D → P → P → Result Status Stop → List ℕ → FileChange → Type 0
+SaysOfOpened d p disk report report' result name change = SaysOfDisk d p disk report report' result (λ M S. unless_begun name (state S) (change_told name change M))
+
+-- and where no edit of it is pending
+abbrev pub SaysOfQuiet : {D P : Type 0} → Ghosts D → ReportGhosts P → D → P → P → Result Status Stop → List ℕ → FileChange → Type 0
+SaysOfQuiet d p disk report report' result name change = SaysOfDisk d p disk report report' result (λ M S. change_told name change M)
 
 -- ---- how much is read
 

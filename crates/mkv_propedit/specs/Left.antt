@@ -20,6 +20,8 @@ use Rattle.sidecar_edit.specs.Writes.{Write, applied}
 use Rattle.sidecar_edit.specs.Leaves.{IsRecoverable}
 use Rattle.edit_changes.specs.declared.refusal.Refusal.{Refusal}
 use Rattle.edit_changes.specs.Plan.{plan_of, recorded}
+use Rattle.mkv_io.specs.Sources.{file_size}
+use Rattle.mkv_disk.specs.declared.disk.TheConstants.{MEDIA}
 
 -- ---- what is written
 
@@ -75,6 +77,10 @@ pub record IsEditOf {D : Type 0} (r : reads.Ghosts D) (d : Ghosts D) (name : Lis
 pub record StaysOpen {D : Type 0} (r : reads.Ghosts D) (d : Ghosts D) (old new : D) (most : ℕ) : Type 0 where
   pub opened : d.opened new ≡ d.opened old
   pub octets : r.octets_read new ≤ r.octets_read old + most
+
+-- The same, where the bound is one of the length that the medium had.
+abbrev pub StaysOpenOf : {D : Type 0} → reads.Ghosts D → Ghosts D → D → D → (ℕ → ℕ) → Type 0
+StaysOpenOf r d old new most = StaysOpen r d old new (most (file_size r old MEDIA))
 
 -- ---- a plan that is carried out
 

@@ -14,6 +14,11 @@ use Rattle.edit_changes.specs.declared.refusal.Room.TheVariants.{SeekHead, Segme
 use Rattle.edit_changes.specs.declared.refusal.Why.{Why}
 use Rattle.edit_changes.specs.declared.refusal.Why.TheVariants.{AlreadyThere, BadPropertyValue, Mandatory, NoInfo, NoSuchProperty, NoSuchTrack}
 use Rattle.edit_changes.specs.Plan.{edited}
+use Rattle.mkv_disk.specs.declared.disk.Disk.{Ghosts}
+use Rattle.mkv_io.specs.declared.report.Report.{Ghosts as ReportGhosts}
+use Rattle.mkv_lines.specs.declared.status.Status.{Status}
+use Rattle.mkv_lines.specs.declared.status.Stop.{Stop}
+use Rattle.mkv_propedit.specs.Command.{SaysOfDisk}
 
 -- ---- what refuses edits, as a line says it
 
@@ -57,6 +62,10 @@ file_verdict is_there name sidecar v = if is_there then unless_begun name (state
 -- what `propedit` comes to, where a medium and its sidecar read so
 abbrev pub propedit_verdict : Bool → List ℕ → List Edit → List ℕ → List ℕ → Verdict
 propedit_verdict is_there name edits media sidecar = file_verdict is_there name sidecar (told name (edited media edits))
+
+-- Edits of the file of a name say what they come to, where the disk tells.
+abbrev pub SaysOfEdits : {D P : Type 0} → Ghosts D → ReportGhosts P → D → P → P → Result Status Stop → List ℕ → List Edit → Type 0
+SaysOfEdits d p disk report report' result name edits = SaysOfDisk d p disk report report' result (propedit_verdict (d.is_there disk name) name edits)
 
 -- what it comes to over a disk that tells all
 abbrev pub propedit_on : DiskWorld → List ℕ → List Edit → Verdict

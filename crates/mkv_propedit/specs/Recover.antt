@@ -8,6 +8,10 @@ use Rattle.sidecar_edit.specs.declared.outcome.Recovered.TheVariants.{Applied, N
 use Rattle.sidecar_edit.specs.declared.outcome.RecoverEnd.{RecoverEnd}
 use Rattle.sidecar_edit.specs.declared.outcome.RecoverEnd.TheVariants.{BadSidecar, DiskFault, Foreign}
 use Rattle.sidecar_edit.specs.Recovery.{recovery}
+use Rattle.mkv_io.specs.declared.report.Report.{Ghosts as ReportGhosts}
+use Rattle.mkv_lines.specs.declared.status.Status.{Status}
+use Rattle.mkv_lines.specs.declared.status.Stop.{Stop}
+use Rattle.mkv_propedit.specs.Command.{SaysOfDisk}
 
 -- what is told of a file, by what recovering it came to; nothing is told of it where the disk failed
 abbrev pub told : List ℕ → Result Recovered RecoverEnd → Verdict
@@ -20,6 +24,14 @@ told name (Err DiskFault) = done []
 -- what `recover` comes to: by whether there is a medium of the name, and by what it and its sidecar read
 abbrev pub recover_verdict : Bool → List ℕ → List ℕ → List ℕ → Verdict
 recover_verdict is_there name media sidecar = if is_there then told name (recovery media sidecar) else refused (missing_line name)
+
+-- Recovering the file of a name says what it comes to, where the disk tells.
+abbrev pub SaysOfRecover : {D P : Type 0} → Ghosts D → ReportGhosts P → D → P → P → Result Status Stop → List ℕ → Type 0
+SaysOfRecover d p disk report report' result name = SaysOfDisk d p disk report report' result (recover_verdict (d.is_there disk name) name)
+
+-- the same once the file and its sidecar are open
+abbrev pub SaysOfRecovery : {D P : Type 0} → Ghosts D → ReportGhosts P → D → P → P → Result Status Stop → List ℕ → Type 0
+SaysOfRecovery d p disk report report' result name = SaysOfDisk d p disk report report' result (λ M S. told name (recovery M S))
 
 -- What a disk tells: of which names there is a medium, and what the two files read.
 pub record DiskWorld : Type 0 where

@@ -1,13 +1,14 @@
 //! What is to be changed of a file in place, and how it is planned.
 
-ghost use Rattle.std.specs.Prelude.{◌≡◌, ◌≤◌, ◌+◌, length, IfOk};
+ghost use Rattle.std.specs.Prelude.{◌≡◌, ◌≤◌, length, IfOk};
 ghost use Rattle.mkv_io.specs.Faults.{HasCause};
-ghost use Rattle.mkv_io.specs.Sources.{IsLive, file_size};
+ghost use Rattle.mkv_io.specs.Sources.{IsLive};
 ghost use Rattle.mkv_disk.specs.Calls.{OfReads};
 ghost use Rattle.mkv_disk.specs.declared.disk.TheConstants.{MEDIA};
 ghost use Rattle.sidecar_edit.specs.Fields.{IsPlan};
 ghost use Rattle.edit_plan.specs.Answer.{is_plan_fault};
 ghost use Rattle.mkv_propedit.specs.Change.{GivesChange, most_to_plan_change};
+ghost use Rattle.mkv_io.specs.Bounds.{ReadsOf};
 
 use edit_plan::{PlanEnd, plan};
 use mkv_disk::Disk;
@@ -45,8 +46,7 @@ pub fn plan_change<'a, D: Disk>(
     ensures some { IfOk result (λ made. 1 ≤ length made.plan.head.places) }
     ensures standing { D.standing disk.new ≡ D.standing disk.old }
     ensures cause { HasCause is_plan_fault (D.reading_faults disk.old) (D.reading_faults disk.new) result }
-    ensures octets { D.octets_read disk.new
-        ≤ D.octets_read disk.old + most_to_plan_change change.now (file_size D.Reads disk.old MEDIA) }
+    ensures octets { ReadsOf D.Reads disk.old disk.new MEDIA (most_to_plan_change change.now) }
 {
     match change {
         FileChange::Edits(edits) => Ok(ChangePlan {

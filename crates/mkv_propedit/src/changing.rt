@@ -1,18 +1,15 @@
 //! A file and its sidecar are opened, and the file changed.
 
 ghost use Rattle.std.specs.Prelude.{◌≡◌, IfOk};
-ghost use Rattle.mkv_io.specs.Sources.{file_size};
 ghost use Rattle.mkv_disk.specs.Calls.{AtRest, IsReady, OfReads};
-ghost use Rattle.mkv_disk.specs.declared.disk.TheConstants.{MEDIA};
 ghost use Rattle.mkv_lines.specs.Code.{status_of};
 ghost use Rattle.mkv_lines.specs.Ordinary.{IsOrdinary};
 ghost use Rattle.mkv_lines.specs.Said.{SaysLast};
 ghost use Rattle.mkv_propedit.specs.Recovery.{HasDiskStop};
 ghost use Rattle.sidecar_edit.specs.Gate.{state};
-ghost use Rattle.mkv_propedit.specs.Change.{change_told, change_verdict, most_to_change, most_to_plan_change, writes_of_change};
-ghost use Rattle.mkv_propedit.specs.Left.{IsEdit, IsEditOf, StaysOpen};
-ghost use Rattle.mkv_propedit.specs.Propedit.{unless_begun};
-ghost use Rattle.mkv_propedit.specs.Command.{ReadsOfDisk, SaysOfDisk};
+ghost use Rattle.mkv_propedit.specs.Change.{SaysOfChange, SaysOfOpened, SaysOfQuiet, most_to_change, most_to_plan_change, writes_of_change};
+ghost use Rattle.mkv_propedit.specs.Left.{IsEdit, IsEditOf, StaysOpenOf};
+ghost use Rattle.mkv_propedit.specs.Command.{ReadsOfDisk};
 
 use crate::carrying::edit_planned;
 use crate::change::{FileChange, plan_change};
@@ -34,8 +31,7 @@ pub fn change_file<D: Disk, R: Report>(
     report: &mut R,
 ) -> Result<Status, Stop>
     requires { AtRest D.Disk.own disk.old }
-    ensures verdict { SaysOfDisk D.Disk.own R.Report disk.old report.old report.new result
-        (change_verdict (D.is_there disk.old name.now) name.now change.now) }
+    ensures verdict { SaysOfChange D.Disk.own R.Report disk.old report.old report.new result name.now change.now }
     ensures ordinary { IfOk result IsOrdinary }
     ensures edit { IsEditOf D.Reads D.Disk.own name.now (writes_of_change change.now) disk.old disk.new (status_of result) }
     ensures octets { ReadsOfDisk D.Reads D.Disk.own disk.old disk.new (most_to_change change.now) }
@@ -59,11 +55,10 @@ fn change_open<D: Disk, R: Report>(
     report: &mut R,
 ) -> Result<Status, Stop>
     requires { IsReady D.Reads D.Disk.own disk.old }
-    ensures verdict { SaysOfDisk D.Disk.own R.Report disk.old report.old report.new result
-        (λ M S. unless_begun name.now (state S) (change_told name.now change.now M)) }
+    ensures verdict { SaysOfOpened D.Disk.own R.Report disk.old report.old report.new result name.now change.now }
     ensures ordinary { IfOk result IsOrdinary }
     ensures edit { IsEdit D.Disk.own (writes_of_change change.now) disk.old disk.new (status_of result) }
-    ensures stays { StaysOpen D.Reads D.Disk.own disk.old disk.new (most_to_change change.now (file_size D.Reads disk.old MEDIA)) }
+    ensures stays { StaysOpenOf D.Reads D.Disk.own disk.old disk.new (most_to_change change.now) }
     ensures cause { HasDiskStop D.Reads D.Disk.own disk.old disk.new (R.faults report.old) (R.faults report.new) result }
     ensures last { SaysLast (R.lines report.old) (R.lines report.new) result }
 {
@@ -85,11 +80,10 @@ fn change_quiet<D: Disk, R: Report>(
 ) -> Result<Status, Stop>
     requires ready { IsReady D.Reads D.Disk.own disk.old }
     requires quiet { OfReads D.Disk.own disk.old (λ M S. state S ≡ Gate.Quiet) }
-    ensures verdict { SaysOfDisk D.Disk.own R.Report disk.old report.old report.new result
-        (λ M S. change_told name.now change.now M) }
+    ensures verdict { SaysOfQuiet D.Disk.own R.Report disk.old report.old report.new result name.now change.now }
     ensures ordinary { IfOk result IsOrdinary }
     ensures edit { IsEdit D.Disk.own (writes_of_change change.now) disk.old disk.new (status_of result) }
-    ensures stays { StaysOpen D.Reads D.Disk.own disk.old disk.new (most_to_plan_change change.now (file_size D.Reads disk.old MEDIA)) }
+    ensures stays { StaysOpenOf D.Reads D.Disk.own disk.old disk.new (most_to_plan_change change.now) }
     ensures cause { HasDiskStop D.Reads D.Disk.own disk.old disk.new (R.faults report.old) (R.faults report.new) result }
     ensures last { SaysLast (R.lines report.old) (R.lines report.new) result }
 {

@@ -7,9 +7,9 @@ ghost use Rattle.mkv_lines.specs.Ordinary.{IsOrdinary};
 ghost use Rattle.mkv_lines.specs.Said.{SaysLast};
 ghost use Rattle.mkv_propedit.specs.Bound.{most_to_edit};
 ghost use Rattle.mkv_propedit.specs.Left.{IsEditOf, writes_of_edits};
-ghost use Rattle.mkv_propedit.specs.Propedit.{propedit_verdict};
 ghost use Rattle.mkv_propedit.specs.Recovery.{HasDiskStop};
-ghost use Rattle.mkv_propedit.specs.Command.{ReadsOfDisk, SaysOfDisk};
+ghost use Rattle.mkv_propedit.specs.Command.{ReadsOfDisk};
+ghost use Rattle.mkv_propedit.specs.Propedit.{SaysOfEdits};
 
 use crate::change::FileChange;
 use crate::changing::change_file;
@@ -29,8 +29,7 @@ pub fn propedit_of<D: Disk, R: Report>(
     report: &mut R,
 ) -> Result<Status, Stop>
     requires { AtRest D.Disk.own disk.old }
-    ensures verdict { SaysOfDisk D.Disk.own R.Report disk.old report.old report.new result
-        (propedit_verdict (D.is_there disk.old name.now) name.now edits.now) }
+    ensures verdict { SaysOfEdits D.Disk.own R.Report disk.old report.old report.new result name.now edits.now }
     ensures ordinary { IfOk result IsOrdinary }
     ensures edit { IsEditOf D.Reads D.Disk.own name.now (writes_of_edits edits.now) disk.old disk.new (status_of result) }
     ensures octets { ReadsOfDisk D.Reads D.Disk.own disk.old disk.new most_to_edit }

@@ -5,12 +5,10 @@ ghost use Rattle.mkv_disk.specs.Calls.{AtRest, IsReady};
 ghost use Rattle.mkv_lines.specs.Code.{status_of};
 ghost use Rattle.mkv_lines.specs.Ordinary.{IsOrdinary};
 ghost use Rattle.mkv_lines.specs.Said.{SaysLast};
-ghost use Rattle.sidecar_edit.specs.Recovery.{recovery};
 ghost use Rattle.mkv_propedit.specs.Bound.{most_to_recover};
 ghost use Rattle.mkv_propedit.specs.Left.{StaysOpen};
-ghost use Rattle.mkv_propedit.specs.Recover.{recover_verdict, told};
 ghost use Rattle.mkv_propedit.specs.Recovery.{HasDiskStop, IsRecovery, IsRecoveryOf};
-ghost use Rattle.mkv_propedit.specs.Command.{SaysOfDisk};
+ghost use Rattle.mkv_propedit.specs.Recover.{SaysOfRecover, SaysOfRecovery};
 
 use crate::recover_telling::{recovered_text, tell};
 use mkv_disk::Disk;
@@ -27,8 +25,7 @@ pub fn recover_of<D: Disk, R: Report>(
     report: &mut R,
 ) -> Result<Status, Stop>
     requires { AtRest D.Disk.own disk.old }
-    ensures verdict { SaysOfDisk D.Disk.own R.Report disk.old report.old report.new result
-        (recover_verdict (D.is_there disk.old name.now) name.now) }
+    ensures verdict { SaysOfRecover D.Disk.own R.Report disk.old report.old report.new result name.now }
     ensures ordinary { IfOk result IsOrdinary }
     ensures recovery { IsRecoveryOf D.Reads D.Disk.own name.now disk.old disk.new (status_of result) }
     ensures octets { D.octets_read disk.new ≤ D.octets_read disk.old + most_to_recover }
@@ -51,8 +48,7 @@ fn recover_open<D: Disk, R: Report>(
     report: &mut R,
 ) -> Result<Status, Stop>
     requires { IsReady D.Reads D.Disk.own disk.old }
-    ensures verdict { SaysOfDisk D.Disk.own R.Report disk.old report.old report.new result
-        (λ M S. told name.now (recovery M S)) }
+    ensures verdict { SaysOfRecovery D.Disk.own R.Report disk.old report.old report.new result name.now }
     ensures ordinary { IfOk result IsOrdinary }
     ensures recovery { IsRecovery D.Disk.own disk.old disk.new (status_of result) }
     ensures stays { StaysOpen D.Reads D.Disk.own disk.old disk.new most_to_recover }

@@ -7,8 +7,8 @@ ghost use Rattle.mkv_lines.specs.Ordinary.{IsOrdinary};
 ghost use Rattle.mkv_lines.specs.Said.{SaysLast};
 ghost use Rattle.mkv_propedit.specs.Left.{IsEditOf};
 ghost use Rattle.mkv_propedit.specs.Recovery.{HasDiskStop};
-ghost use Rattle.mkv_propedit.specs.Reindex.{most_to_reindex, reindex_verdict, writes_of_index};
-ghost use Rattle.mkv_propedit.specs.Command.{ReadsOfDisk, SaysOfDisk};
+ghost use Rattle.mkv_propedit.specs.Reindex.{SaysOfReindex, most_to_reindex, writes_of_index};
+ghost use Rattle.mkv_propedit.specs.Command.{ReadsOfDisk};
 
 use crate::change::FileChange;
 use crate::changing::change_file;
@@ -26,8 +26,7 @@ pub fn reindex_of<D: Disk, R: Report>(
     report: &mut R,
 ) -> Result<Status, Stop>
     requires { AtRest D.Disk.own disk.old }
-    ensures verdict { SaysOfDisk D.Disk.own R.Report disk.old report.old report.new result
-        (reindex_verdict (D.is_there disk.old name.now) name.now) }
+    ensures verdict { SaysOfReindex D.Disk.own R.Report disk.old report.old report.new result name.now }
     ensures ordinary { IfOk result IsOrdinary }
     ensures edit { IsEditOf D.Reads D.Disk.own name.now writes_of_index disk.old disk.new (status_of result) }
     ensures octets { ReadsOfDisk D.Reads D.Disk.own disk.old disk.new most_to_reindex }
