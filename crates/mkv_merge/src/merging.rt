@@ -4,14 +4,14 @@ ghost use Rattle.mkv_io.specs.Told.{Told};
 ghost use Rattle.input_files.specs.ChapterFile.{CanBeWritten};
 ghost use Rattle.merge_words.specs.Sound.{IsSoundMerge};
 ghost use Rattle.input_files.specs.Inputs.{AreInputs, file_names};
-ghost use Rattle.mkv_lines.specs.Command.{ComesTo, HasEnded};
+ghost use Rattle.mkv_lines.specs.Command.{HasEnded};
 ghost use Rattle.mkv_io.specs.Bounds.{ReadsUpTo};
 ghost use Rattle.mkv_merge.specs.Asked.{AsksToMerge, opened_by, sidecars_of};
 ghost use Rattle.mkv_merge.specs.Bound.{most_read};
-ghost use Rattle.mkv_merge.specs.Merge.{merge_verdict, sources_of};
+ghost use Rattle.mkv_merge.specs.Merge.{sources_of};
 ghost use Rattle.mkv_merge.specs.Read.{IsApartMerge};
 ghost use Rattle.mkv_merge.specs.Records.{EndsReadable};
-ghost use Rattle.mkv_merge.specs.Stages.{MergesThere, MergesTo, as_command};
+ghost use Rattle.mkv_merge.specs.Stages.{ComesToMerge, MergesNamed, MergesThere, as_command};
 
 use crate::names::first_written;
 use crate::pending::begun_refusal;
@@ -57,8 +57,7 @@ fn merge_named<F: Files, P: Report>(
     report: &mut P,
 ) -> Result<Status, MergeEnd>
     requires { IsSoundMerge words.now }
-    ensures merges { Told (F.names files.old) (λ world. MergesTo F.Reads F.Files.own P.Report files.old files.new report.old report.new words.now
-        (sources_of world words.now) (most_read world words.now) result) }
+    ensures merges { MergesNamed F.Reads F.Files.own P.Report files.old files.new report.old report.new words.now result }
     ensures ended { HasEnded F.Reads F.Files.own P.Report files.old files.new report.old report.new (as_command result) }
     ensures asks { AsksToMerge (opened_by words.now) words.now (F.asked files.old) (F.asked files.new) }
 {
@@ -81,8 +80,7 @@ pub fn merge_of<F: Files, P: Report>(
     report: &mut P,
 ) -> Result<Status, Stop>
     requires { IsSoundMerge words.now }
-    ensures verdict { Told (F.names files.old) (λ world.
-        ComesTo F.Reads F.Files.own P.Report files.old files.new report.old report.new result (merge_verdict world words.now)) }
+    ensures verdict { ComesToMerge F.Reads F.Files.own P.Report files.old files.new report.old report.new result words.now }
     ensures ended { HasEnded F.Reads F.Files.own P.Report files.old files.new report.old report.new result }
 
     // What a merge that ended has written can be read again: what its inputs give besides tracks and blocks, and outputs of
