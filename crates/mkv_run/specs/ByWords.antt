@@ -1,5 +1,5 @@
 -- What a run does with its files, its disk and its report, by what the words of its command line ask for.
-use Rattle.std.specs.Prelude.{◌≡◌, ℕ, ◌+◌, List, Option}
+use Rattle.std.specs.Prelude.{◌≡◌, ℕ, ◌+◌, List, Option, IfOk, Result}
 use Rattle.std.specs.declared.alloc.Global.{Global}
 use Rattle.std.specs.declared.string.String.{String}
 use Rattle.mkv_io.specs.Told.{Told}
@@ -19,6 +19,7 @@ use Rattle.mkv_run.specs.Exit.{HasExited}
 use Rattle.mkv_run.specs.Run.{ReadsWithin, ReadsWithinIn, verdict_in}
 use Rattle.mkv_run.specs.RunSeen.{HasStatusCause, run_seen}
 use Rattle.mkv_run.specs.Touched.{LeftOnTheWay, Reach, Touches, reach_in}
+use Rattle.std.specs.declared.vec.Vec.{Vec}
 
 -- what is reached
 abbrev pub reach_for : List (String Global) → Reach
@@ -54,6 +55,10 @@ pub record IsIdle {F D R : Type 0} (r : ReadsGhosts F) (f : FilesGhosts F) (s : 
 abbrev pub ReadsFor : {F D : Type 0} → ReadsGhosts F → FilesGhosts F → ReadsGhosts D → DiskGhosts D → F → F → D → D → List (String Global) → Type 0
 ReadsFor r f s d files files' disk disk' words =
     ReadsWithinIn (f.names files) (disk_world d disk) (texts words) (r.octets_read files + s.octets_read disk) (r.octets_read files' + s.octets_read disk')
+
+-- the same where there are words, and not a status in their place
+abbrev pub ReadsIfGiven : {F D : Type 0} → ReadsGhosts F → FilesGhosts F → ReadsGhosts D → DiskGhosts D → F → F → D → D → Result (Vec (String Global) Global) Status → Type 0
+ReadsIfGiven r f s d files files' disk disk' words = IfOk words (λ given. ReadsFor r f s d files files' disk disk' given.items)
 
 -- the same of a command
 abbrev pub ReadsToObey : {F D : Type 0} → ReadsGhosts F → FilesGhosts F → ReadsGhosts D → DiskGhosts D → F → F → D → D → Command → Type 0

@@ -12,6 +12,8 @@ use Rattle.mkv_propedit.specs.Recovery.{IsRecoveryOf}
 use Rattle.mkv_propedit.specs.Left.{IsBeingEdited, IsEditOf, writes_of_edits}
 use Rattle.mkv_propedit.specs.Reindex.{writes_of_index}
 use Rattle.mkv_run.specs.Kept.{EditKeepsRest, IndexKeepsRest}
+use Rattle.mkv_lines.specs.Code.{status_of}
+use Rattle.mkv_lines.specs.declared.status.Stop.{Stop}
 
 -- What a run reaches: nothing, as for help or words that are refused; files; or a file in place, that is recovered, edited, or indexed anew.
 pub data Reach : Type 0 where
@@ -55,6 +57,10 @@ Touches r d files old new disk disk_now s = disk_now ≡ disk
 Touches r d (recovered file) old new disk disk_now s = (new ≡ old) × IsRecoveryOf r d file disk disk_now s
 Touches r d (edited file edits) old new disk disk_now s = (new ≡ old) × IsEditOf r d file (writes_of_edits edits) disk disk_now s × EditKeepsRest d edits disk disk_now s
 Touches r d (indexed file) old new disk disk_now s = (new ≡ old) × IsEditOf r d file writes_of_index disk disk_now s × IndexKeepsRest d disk disk_now s
+
+-- the same of what ended so, by the status with which the run then ends
+abbrev pub Affects : {F D : Type 0} → reads.Ghosts D → disks.Ghosts D → Reach → F → F → D → D → Result Status Stop → Type 0
+Affects r d reach old new disk disk_now result = Touches r d reach old new disk disk_now (status_of result)
 
 -- What a crash at any moment of it may leave of a file M beside a sidecar S.
 abbrev pub LeftOnTheWay : Reach → List ℕ → List ℕ → List ℕ → List ℕ → Type 0

@@ -1,14 +1,13 @@
 //! The program: its words, and the exit status with which it ends.
 
-ghost use Rattle.std.specs.Prelude.{◌≡◌, ◌<◌, ◌⊎◌, IfOk, IfErr, IsOkAnd, OnErr};
+ghost use Rattle.std.specs.Prelude.{◌≡◌, ◌⊎◌, IfOk, IfErr, IsOkAnd, OnErr};
 ghost use Rattle.std.specs.Process.{exit_status};
 ghost use Rattle.mkv_disk.specs.Calls.{AtRest};
 ghost use Rattle.mkv_lines.specs.Code.{code_of};
-ghost use Rattle.word_values.specs.Place.{texts};
-ghost use Rattle.merged_outputs.specs.Merge.{HasMerged};
 ghost use Rattle.mkv_run.specs.Asked.{LeavesFiles};
-ghost use Rattle.mkv_run.specs.ByWords.{CrashLeaves, ExitsFor, ReadsFor, IsIdle, reach_for};
+ghost use Rattle.mkv_run.specs.ByWords.{CrashLeaves, ExitsFor, IsIdle, reach_for, ReadsIfGiven};
 ghost use Rattle.mkv_run.specs.Touched.{IsInPlace};
+ghost use Rattle.mkv_run.specs.Exit.{ExitsMerged};
 
 use crate::running::run;
 use mkv_disk::Disk;
@@ -48,15 +47,13 @@ pub fn program<F: Files, D: Disk, R: Report>(
         report.old report.new words.items (exit_status result)) }
 
     // Where it ends with 0 or 1, the merge that the words ask for was written.
-    ensures merged { IfOk words.now (λ words. exit_status result < 2
-        → HasMerged (F.names files.old) (texts words.items) (F.names files.new)) }
+    ensures merged { IfOk words.now (ExitsMerged (F.names files.old) (F.names files.new) (exit_status result)) }
     ensures unread { IfErr words.now (λ status. exit_status result ≡ code_of status) }
     ensures idle { OnErr words.now (IsIdle F.Reads F.Files.own D.Reads D.Disk.own R.Report files.old files.new disk.old disk.new
         report.old report.new) }
     ensures any_moment { IfOk words.now (λ words. CrashLeaves D.Disk.own disk.old disk.new (reach_for words.items)) }
     ensures files { IfOk words.now (λ words. LeavesFiles F.Reads F.Files.own files.old files.new words.items) }
-    ensures octets { IfOk words.now (λ words.
-        ReadsFor F.Reads F.Files.own D.Reads D.Disk.own files.old files.new disk.old disk.new words.items) }
+    ensures octets { ReadsIfGiven F.Reads F.Files.own D.Reads D.Disk.own files.old files.new disk.old disk.new words.now }
 {
     match words {
         Ok(words) => ExitCode::from(run(alloc, words, files, disk, report).code()),
