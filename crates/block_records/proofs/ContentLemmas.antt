@@ -18,7 +18,7 @@ use Rattle.lacing.specs.Reading.{data_of}
 use Rattle.lacing.proofs.LaceLemmas.{data_of-size}
 use Rattle.block_format.specs.Content.{has_no_header, header_len, lace_of, frames_in, frames_cut, content_with, content_in}
 use Rattle.block_records.specs.declared.content.BlockHeader.{BlockHeader}
-use Rattle.block_records.specs.Spelled.{header_of, header_in, AreFrames, Cuts, IsFront, Spells}
+use Rattle.block_records.specs.Spelled.{header_of, header_in, AreFrames, Cuts, IsFront, SpellsContent}
 
 -- ---- the header
 
@@ -117,8 +117,8 @@ content_in-frames o h has =
     ∙ ap (λ (x : BlockHeader). content_with o (frames_in (lace_of x.flags) (drop x.len o))) has.is
 
 -- what is wrong with the frames is wrong with the block
-pub Spells-err : (o : List ℕ) (h : BlockHeader) (kind : Lace) (rest : List ℕ) (wrong : Kind) → Some h ≡ header_in o → kind ≡ lace_of h.flags → rest ≡ drop h.len o → frames_in kind rest ≡ Err wrong → content_in o ≡ Err wrong
-Spells-err o h kind rest wrong found lace behind is =
+pub SpellsContent-err : (o : List ℕ) (h : BlockHeader) (kind : Lace) (rest : List ℕ) (wrong : Kind) → Some h ≡ header_in o → kind ≡ lace_of h.flags → rest ≡ drop h.len o → frames_in kind rest ≡ Err wrong → content_in o ≡ Err wrong
+SpellsContent-err o h kind rest wrong found lace behind is =
     content_in-frames o h (HasHeader-from o h found)
     ∙ ap (content_with o) (sym (ap (λ (l : Lace). frames_in l rest) lace ∙ ap (frames_in (lace_of h.flags)) behind) ∙ is)
 
@@ -131,8 +131,8 @@ AreFrames-behind kind o sizes n start within frames =
     record { inside = omega arith; whole = omega arith; some = frames.some; most = frames.most; fits = frames.fits }
 
 -- a header and its frames are a block
-pub Spells-ok : (o sizes : List ℕ) (h : BlockHeader) (kind : Lace) (rest : List ℕ) (start : ℕ) (z : ℤ) → Some h ≡ header_in o → kind ≡ lace_of h.flags → rest ≡ drop h.len o → z ≡ h.relative → Cuts kind rest sizes (frames_in kind rest) (Ok start) → Spells o sizes (Ok (record { track = h.track; relative = z; flags = h.flags; start = h.len + start }))
-Spells-ok o sizes h kind rest start z found lace behind relative cuts =
+pub SpellsContent-ok : (o sizes : List ℕ) (h : BlockHeader) (kind : Lace) (rest : List ℕ) (start : ℕ) (z : ℤ) → Some h ≡ header_in o → kind ≡ lace_of h.flags → rest ≡ drop h.len o → z ≡ h.relative → Cuts kind rest sizes (frames_in kind rest) (Ok start) → SpellsContent o sizes (Ok (record { track = h.track; relative = z; flags = h.flags; start = h.len + start }))
+SpellsContent-ok o sizes h kind rest start z found lace behind relative cuts =
     let has = HasHeader-from o h found in
     let all : frames_in (lace_of h.flags) (drop h.len o) ≡ Ok (frames_cut sizes (drop (h.len + start) o)) =
     sym (ap (λ (l : Lace). frames_in l rest) lace ∙ ap (frames_in (lace_of h.flags)) behind) ∙ cuts.0

@@ -34,6 +34,6 @@ block_of b = record {
 }
 
 -- the block that is held was found, or the damage that is answered
-abbrev pub Makes : {T : Type 0} → Result T Damage → Buffered → Result Block Damage → Type 0
-Makes (Ok done) b found = found ≡ Ok (block_of b)
-Makes (Err d) b found = found ≡ Err d
+abbrev pub HoldsFound : {T : Type 0} → Result T Damage → Buffered → Result Block Damage → Type 0
+HoldsFound (Ok done) b found = found ≡ Ok (block_of b)
+HoldsFound (Err d) b found = found ≡ Err d

@@ -15,7 +15,7 @@ use Rattle.block_records.specs.declared.content.Spelled.{Spelled}
 use Rattle.block_records.specs.declared.front.FrontHead.{FrontHead}
 use Rattle.block_records.specs.declared.gathered.Gathered.{Gathered}
 use Rattle.block_records.specs.declared.head.BlockHead.{BlockHead}
-use Rattle.block_records.specs.Buffered.{Buffered, Makes}
+use Rattle.block_records.specs.Buffered.{Buffered, HoldsFound}
 use Rattle.block_records.specs.Front.{HasHead}
 use Rattle.block_records.specs.Group.{Gathers}
 use Rattle.block_records.specs.Lendable.{IsLendable, LendsNothing}
@@ -53,12 +53,12 @@ Settles scale timestamp h front found = (bytes : List ℕ) → IsFront front (bo
 
 -- These octets, where they are the body of a SimpleBlock with this header, are the block that is lent; or this is wrong with it.
 abbrev pub SpellsSimple : {T : Type 0} → ℕ → ℕ → Header → List ℕ → Buffered → Result T Damage → Type 0
-SpellsSimple scale timestamp h octets b found = (bytes : List ℕ) → octets ≡ body_of bytes h → Makes found b (simple_block (with_limits scale) bytes (Some timestamp) h)
+SpellsSimple scale timestamp h octets b found = (bytes : List ℕ) → octets ≡ body_of bytes h → HoldsFound found b (simple_block (with_limits scale) bytes (Some timestamp) h)
 
 -- the same of a BlockGroup in a file of so many octets
 abbrev pub SpellsGroup : {T : Type 0} → ℕ → ℕ → ℕ → Header → List ℕ → Buffered → Result T Damage → Type 0
 SpellsGroup total scale timestamp h octets b found = (bytes : List ℕ) → length bytes ≡ total → octets ≡ body_of bytes h
-    → Makes found b (block_group (with_limits scale) bytes (Some timestamp) h)
+    → HoldsFound found b (block_group (with_limits scale) bytes (Some timestamp) h)
 
 -- A block is lent where one was found, and else nothing.
 abbrev pub LendsFound : {T E : Type 0} → Buffered → Result (Result T Damage) E → Type 0

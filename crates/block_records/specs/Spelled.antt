@@ -38,9 +38,9 @@ abbrev pub content_of : Spelled → List (List ℕ) → Content
 content_of s frames = record { track = s.track; relative = s.relative; flags = s.flags; frames = frames }
 
 -- what octets spell, or why they are no block
-abbrev pub Spells : List ℕ → List ℕ → Result Spelled Kind → Type 0
-Spells octets sizes (Ok s) = (content_in octets ≡ Ok (content_of s (frames_cut sizes (drop s.start octets)))) × AreFrames (lace_of s.flags) octets sizes s.start
-Spells octets sizes (Err kind) = content_in octets ≡ Err kind
+abbrev pub SpellsContent : List ℕ → List ℕ → Result Spelled Kind → Type 0
+SpellsContent octets sizes (Ok s) = (content_in octets ≡ Ok (content_of s (frames_cut sizes (drop s.start octets)))) × AreFrames (lace_of s.flags) octets sizes s.start
+SpellsContent octets sizes (Err kind) = content_in octets ≡ Err kind
 
 -- octets stand at the front of others
 abbrev pub IsFront : List ℕ → List ℕ → Type 0

@@ -4,7 +4,7 @@
 ghost use Rattle.std.specs.Prelude.{◌≡◌, ◌≤◌, [], length, IfOk, MatchResult, OnErr};
 ghost use Rattle.block_format.specs.Content.{frames_in, has_flag, lace_of, laced_frames};
 ghost use Rattle.lacing.specs.Reading.{data_of};
-ghost use Rattle.block_records.specs.Spelled.{header_in, Cuts, Spells, CutsWhole};
+ghost use Rattle.block_records.specs.Spelled.{header_in, Cuts, SpellsContent, CutsWhole};
 
 use block_format::MOST_OF_BLOCK;
 use ebml_numbers::{Size, read_int, read_size};
@@ -143,7 +143,7 @@ pub fn spell(
     sizes: &mut SmallVec<u32, 8, Global>,
 ) -> Result<Result<Spelled, Kind>, AllocError>
     requires { length octets.now ≤ MOST_OF_BLOCK }
-    ensures exact { IfOk result (Spells octets.now sizes.new.items) }
+    ensures exact { IfOk result (SpellsContent octets.now sizes.new.items) }
     ensures empty { MatchResult result (λ found. OnErr found (sizes.new.items ≡ [])) (λ _. sizes.new.items ≡ []) }
 {
     sizes.clear();

@@ -8,7 +8,7 @@ use Rattle.mkv_schema.specs.declared.element.Header.{Header}
 use Rattle.mkv_schema.specs.Element.{known}
 use Rattle.mkv_schema.specs.Value.{body_of}
 use Rattle.block_format.specs.Block.{Block as AnyBlock}
-use Rattle.block_records.specs.Buffered.{Buffered, Makes, block_of}
+use Rattle.block_records.specs.Buffered.{Buffered, HoldsFound, block_of}
 use Rattle.block_records.specs.Front.{HasHead, head_of}
 use Rattle.block_records.specs.Lendable.{IsLendable, LendsNothing}
 use Rattle.block_records.specs.Spelled.{IsFront}
@@ -29,7 +29,7 @@ known-whole All lent lends = refl
 known-whole (Track track) lent lends = record { track = refl; whole = λ same. refl }
 known-whole Heads lent lends = record { head = refl; frames = length-frames_cut lent.sizes lent.body ∙ sym lends.count }
 
-pub makes-wanted : {T : Type 0} (takes : Takes) (answer : Result T Damage) (lent : Buffered) (found : Result AnyBlock Damage) → MatchResult answer (λ _. IsLendable lent) (λ _. LendsNothing lent) → Makes answer lent found → MakesWanted takes answer lent found
+pub makes-wanted : {T : Type 0} (takes : Takes) (answer : Result T Damage) (lent : Buffered) (found : Result AnyBlock Damage) → MatchResult answer (λ _. IsLendable lent) (λ _. LendsNothing lent) → HoldsFound answer lent found → MakesWanted takes answer lent found
 makes-wanted takes (Ok done) lent found lends is = record { given = block_of lent; is = is; known = known-whole takes lent lends }
 makes-wanted takes (Err d) lent found lends is = is
 

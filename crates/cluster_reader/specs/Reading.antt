@@ -174,13 +174,13 @@ Pays size old new before now (Ok answer) = now + read_to old ≤ before + read_t
 Pays size old new before now (Err end) = now + read_to old ≤ before + read_to new + size
 
 -- What is read is paid by the way, and no way is longer than the file.
-pub record Spends {T : Type 0} (size : ℕ) (old new : Reading) (before now : ℕ) (result : Result T ReadEnd) : Type 0 where
+pub record PaysWithinFile {T : Type 0} (size : ℕ) (old new : Reading) (before now : ℕ) (result : Result T ReadEnd) : Type 0 where
   pub pays : Pays size old new before now result
   pub most : read_to new ≤ size
 
 -- the same of the file of a cursor
 abbrev pub SpendsIn : {S T : Type 0} → Ghosts S → S → S → Reading → Reading → Result T ReadEnd → Type 0
-SpendsIn r src src' old new result = Spends (file_size r src old.file) old new (r.octets_read src) (r.octets_read src') result
+SpendsIn r src src' old new result = PaysWithinFile (file_size r src old.file) old new (r.octets_read src) (r.octets_read src') result
 
 -- All blocks and damages of a file of `total` octets are left, where its Segment is this.
 abbrev pub HasAllLeft : {E : Type 0} → ℕ → Header → ℕ → Result Reading E → Type 0

@@ -160,8 +160,8 @@ abbrev pub StandsInCluster : {S : Type 0} → Ghosts S → S → Walk → ℕ �
 StandsInCluster r src w end h = IfTold r src w.file (λ bytes. Ok h ≡ element_at in_master bytes w.place.at end)
 
 -- The Element at the place of a walk is what is answered, or what is wrong there.
-abbrev pub FindsNext : {S E : Type 0} → Ghosts S → S → Walk → Setting → ℕ → Result (Result Header Damage) E → Type 0
-FindsNext r src w s end result = FindsAt r src w.file s w.place.at end result
+abbrev pub FindsHere : {S E : Type 0} → Ghosts S → S → Walk → Setting → ℕ → Result (Result Header Damage) E → Type 0
+FindsHere r src w s end result = FindsAt r src w.file s w.place.at end result
 
 -- What a child gives is found, whatever is wanted.
 abbrev pub FindsForAll : {S : Type 0} → Ghosts S → S → Walk → Walk → Option ℕ → Header → Child → Type 0

@@ -7,7 +7,7 @@ ghost use Rattle.mkv_schema.specs.Element.{element_at};
 ghost use Rattle.mkv_schema.specs.Placed.{StandsAt, IsWhole};
 ghost use Rattle.elements.specs.Parent.{setting_of};
 ghost use Rattle.cluster_reader.specs.Places.{behind_damage};
-ghost use Rattle.cluster_reader.specs.Walks.{FindsNext, IsReady, PaysFor, broken_off, ended};
+ghost use Rattle.cluster_reader.specs.Walks.{FindsHere, IsReady, PaysFor, broken_off, ended};
 
 use crate::place::{Inside, Place};
 use block_records::BlockBuffer;
@@ -43,7 +43,7 @@ impl Walk {
         requires ready { IsReady (live_files R.Reads src.old) self.old }
         requires before { self.old.place.at < end }
         requires within { end ≤ self.old.place.end }
-        ensures ok { FindsNext R.Reads src.old self.old (setting_of parent) end result }
+        ensures ok { FindsHere R.Reads src.old self.old (setting_of parent) end result }
         ensures placed { IfOk result (λ found. IfOk found (StandsAt self.old.place.at end)) }
         ensures whole { IfOk result (λ found. IfOk found (IsWhole (setting_of parent) end)) }
         ensures only { self.new ≡ record self.old { window = self.new.window } }

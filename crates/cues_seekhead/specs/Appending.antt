@@ -50,5 +50,5 @@ abbrev pub AppendsCopy : {S T : Type 0} → Ghosts S → writing.Ghosts S → Fi
 AppendsCopy r f to from at len old new result = AppendsOnly r f to (octets_told (content_of r old from) at len) len old new result
 
 -- Octets are appended to the name of a live file.
-abbrev pub AppendsTo : {S T E : Type 0} → writing.Ghosts S → FileId → List ℕ → S → S → Result T E → Type 0
-AppendsTo f file octets old new result = IsAppended (f.names old) (f.names new) (f.holder old file.n) octets result
+abbrev pub AppendsToLive : {S T E : Type 0} → writing.Ghosts S → FileId → List ℕ → S → S → Result T E → Type 0
+AppendsToLive f file octets old new result = IsAppended (f.names old) (f.names new) (f.holder old file.n) octets result

@@ -26,9 +26,9 @@ pub record MakesFile {S : Type 0} (r : Ghosts S) (f : writing.Ghosts S) (name : 
 
 -- A file is made for an output. After a refusal none is open: the same files are live as before, and those of other
 -- names are the same.
-abbrev pub Makes : {S : Type 0} → Ghosts S → writing.Ghosts S → List ℕ → S → S → Result OpenOutput RemuxEnd → Type 0
-Makes r f name old new (Ok o) = MakesFile r f name o.file old new
-Makes r f name old new (Err _) = KeepsOthers r f (name ∷ []) old new
+abbrev pub MakesForOutput : {S : Type 0} → Ghosts S → writing.Ghosts S → List ℕ → S → S → Result OpenOutput RemuxEnd → Type 0
+MakesForOutput r f name old new (Ok o) = MakesFile r f name o.file old new
+MakesForOutput r f name old new (Err _) = KeepsOthers r f (name ∷ []) old new
 
 -- Of all files only this one's name is written, and then it ends.
 pub record WritesAndEnds {S : Type 0} (r : Ghosts S) (f : writing.Ghosts S) (file : FileId) (old new : S) : Type 0 where

@@ -72,8 +72,8 @@ pub record CanAttach {S : Type 0} (r : Ghosts S) (f : writing.Ghosts S) (files :
   pub apart : f.holder files a.file.n ≢ name
 
 -- An output of this name was begun: under it stands what is in front of the Clusters; or a first part of that.
-abbrev pub BeginsWith : {S : Type 0} → Ghosts S → writing.Ghosts S → List ℕ → GivenFront → S → S → OpenOutput → Type 0
-BeginsWith r f name front old new out = StandsOpen r f (f.names old) name (front_with (live_files r old) front) [] new out
+abbrev pub BeginsOutput : {S : Type 0} → Ghosts S → writing.Ghosts S → List ℕ → GivenFront → S → S → OpenOutput → Type 0
+BeginsOutput r f name front old new out = StandsOpen r f (f.names old) name (front_with (live_files r old) front) [] new out
 
 abbrev pub BeginsInPart : {S : Type 0} → Ghosts S → writing.Ghosts S → List ℕ → GivenFront → S → S → Type 0
 BeginsInPart r f name front old new =

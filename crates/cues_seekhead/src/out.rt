@@ -14,10 +14,10 @@ ghost use Rattle.output_model.specs.Element.{joined};
 ghost use Rattle.output_model.specs.declared.TheConstants.{MOST_CUES as MOST};
 ghost use Rattle.output_model.specs.Document.{opened_with, tree_element};
 ghost use Rattle.output_model.specs.Front.{front_with};
-ghost use Rattle.cues_seekhead.specs.Appending.{AppendsAttached, AppendsOnly, AppendsTo, IsAppended, data_octets};
+ghost use Rattle.cues_seekhead.specs.Appending.{AppendsAttached, AppendsOnly, AppendsToLive, IsAppended, data_octets};
 ghost use Rattle.cues_seekhead.specs.Finished.{Finishes};
-ghost use Rattle.cues_seekhead.specs.Made.{Makes, WritesAndEnds};
-ghost use Rattle.cues_seekhead.specs.OpenOutput.{BeginsInPart, BeginsWith, CanAttach, IsOpen, KeepsPoint, StandsOpen, grown, with_cue};
+ghost use Rattle.cues_seekhead.specs.Made.{MakesForOutput, WritesAndEnds};
+ghost use Rattle.cues_seekhead.specs.OpenOutput.{BeginsInPart, BeginsOutput, CanAttach, IsOpen, KeepsPoint, StandsOpen, grown, with_cue};
 ghost use Rattle.mkv_io.specs.Bounds.{ReadsUpTo};
 
 use crate::attaching::add_attachments;
@@ -66,10 +66,10 @@ impl OutFile {
         requires info { id_of front.now.info ≡ INFO }
         requires tracks { id_of front.now.tracks ≡ TRACKS }
         requires attached { All (CanAttach F.Reads F.Files.own files.old name.now) front.now.attachments }
-        ensures ok { IfOk result (BeginsWith F.Reads F.Files.own name.now front.now files.old files.new) }
+        ensures ok { IfOk result (BeginsOutput F.Reads F.Files.own name.now front.now files.old files.new) }
         ensures cues { IfOk result (λ out. out.cues ≡ []) }
         ensures err { OnErr result (BeginsInPart F.Reads F.Files.own name.now front.now files.old files.new) }
-        ensures made { Makes F.Reads F.Files.own name.now files.old files.new result }
+        ensures made { MakesForOutput F.Reads F.Files.own name.now files.old files.new result }
         ensures cause { HasRemuxCause F.Reads F.Files.own files.old files.new result }
         ensures reads { ReadsUpTo F.Reads files.old files.new (data_octets front.now.attachments) }
     {
@@ -114,7 +114,7 @@ impl OutFile {
     /// Adds the octets of a Cluster.
     pub fn cluster<F: Files>(&mut self, files: &mut F, bytes: &[u8]) -> Result<(), OutEnd>
         requires { IsOpen F.Reads files.old self.old }
-        ensures appended { AppendsTo F.Files.own self.old.file bytes.now files.old files.new result }
+        ensures appended { AppendsToLive F.Files.own self.old.file bytes.now files.old files.new result }
         ensures ok { OnOk result (self.new ≡ grown self.old (length bytes.now)) }
         ensures open { OnOk result (IsOpen F.Reads files.new self.new) }
         ensures err { OnErr result (self.new ≡ self.old) }

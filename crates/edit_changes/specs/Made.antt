@@ -7,10 +7,10 @@ use Rattle.edit_changes.specs.declared.change.EditEnd.{EditEnd}
 use Rattle.edit_changes.specs.declared.change.EditEnd.TheVariants.{Refused, Memory}
 
 -- What is changed becomes what it is to be; where that is refused, or there is no memory, it stays as it was.
-abbrev pub Makes : {A X : Type 0} → Result A EditEnd → X → X → Result X Why → Type 0
-Makes (Ok done) old new made = made ≡ Ok new
-Makes (Err (Refused why)) old new made = (made ≡ Err why) × (new ≡ old)
-Makes (Err Memory) old new made = new ≡ old
+abbrev pub BecomesOrStays : {A X : Type 0} → Result A EditEnd → X → X → Result X Why → Type 0
+BecomesOrStays (Ok done) old new made = made ≡ Ok new
+BecomesOrStays (Err (Refused why)) old new made = (made ≡ Err why) × (new ≡ old)
+BecomesOrStays (Err Memory) old new made = new ≡ old
 
 -- It stays a master of its ID, whose children stand in it.
 pub record Sounds (old new : Node) : Type 0 where

@@ -17,7 +17,7 @@ use Rattle.edit_changes.specs.declared.change.EditEnd.{EditEnd}
 use Rattle.edit_changes.specs.declared.change.EditEnd.TheVariants as end
 use Rattle.edit_changes.specs.declared.editing.EditsEnd.{EditsEnd}
 use Rattle.edit_changes.specs.declared.editing.EditsEnd.TheVariants.{Refused, Memory}
-use Rattle.edit_changes.specs.Made.{Makes, Sounds}
+use Rattle.edit_changes.specs.Made.{BecomesOrStays, Sounds}
 
 -- An Info is one, and what stands in Tracks may stand there.
 pub record AreSound (t : Trees) : Type 0 where
@@ -54,7 +54,7 @@ pub record MakesEntry {A : Type 0} (result : Result A EditEnd) (old new : List N
   pub after : Node
   pub was : slice_get old k ≡ Some before
   pub becomes : new ≡ slice_set old k after
-  pub makes : Makes result before after (edited_node e before)
+  pub makes : BecomesOrStays result before after (edited_node e before)
   pub sounds : Sounds before after
 
 -- an edit that isn't made, behind so many others

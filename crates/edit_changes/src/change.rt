@@ -5,7 +5,7 @@ ghost use Rattle.tree_format.specs.Node.{IsMaster, id_of};
 ghost use Rattle.tree_format.specs.Standing.{IsSound};
 ghost use Rattle.edit_changes.specs.Change as spec;
 ghost use Rattle.edit_changes.specs.Property.{is_info, value_of};
-ghost use Rattle.edit_changes.specs.Made.{Makes, Sounds};
+ghost use Rattle.edit_changes.specs.Made.{BecomesOrStays, Sounds};
 ghost use Rattle.edit_changes.specs.Properties.{IsPropertyOf, section_of};
 ghost use Rattle.edit_changes.specs.declared.change.EditEnd.TheVariants as end;
 
@@ -40,7 +40,7 @@ impl From<AllocError> for EditEnd {
 fn set(alloc: Global, tree: &mut Tree, property: Property, value: &Text) -> Result<(), EditEnd>
     requires master { IsMaster tree.old }
     requires property { IsPropertyOf (id_of tree.old) property }
-    ensures exact { Makes result tree.old tree.new (spec.set property.id tree.old (value_of property.kind value.now)) }
+    ensures exact { BecomesOrStays result tree.old tree.new (spec.set property.id tree.old (value_of property.kind value.now)) }
     ensures sound { Sounds tree.old tree.new }
 {
     let Some(leaf) = leaf_of(alloc, property, value)? else {
@@ -55,7 +55,7 @@ fn set(alloc: Global, tree: &mut Tree, property: Property, value: &Text) -> Resu
 fn add(alloc: Global, tree: &mut Tree, property: Property, value: &Text) -> Result<(), EditEnd>
     requires master { IsMaster tree.old }
     requires property { IsPropertyOf (id_of tree.old) property }
-    ensures exact { Makes result tree.old tree.new (spec.added property.id tree.old (value_of property.kind value.now)) }
+    ensures exact { BecomesOrStays result tree.old tree.new (spec.added property.id tree.old (value_of property.kind value.now)) }
     ensures sound { Sounds tree.old tree.new }
 {
     let Some(leaf) = leaf_of(alloc, property, value)? else {
@@ -72,7 +72,7 @@ fn add(alloc: Global, tree: &mut Tree, property: Property, value: &Text) -> Resu
 #[tactic(auto, using(crate::proofs::ChangeLemmas::changes))]
 fn delete(tree: &mut Tree, property: Property) -> Result<(), EditEnd>
     requires { IsMaster tree.old }
-    ensures exact { Makes result tree.old tree.new (spec.deleted property tree.old) }
+    ensures exact { BecomesOrStays result tree.old tree.new (spec.deleted property tree.old) }
     ensures sound { Sounds tree.old tree.new }
 {
     if !property.deletable {
@@ -93,7 +93,7 @@ pub fn is_info(place: Selector) -> bool
 pub fn apply(alloc: Global, tree: &mut Tree, edit: &Edit) -> Result<(), EditEnd>
     requires master { IsMaster tree.old }
     requires section { id_of tree.old ≡ section_of (is_info edit.now.place) }
-    ensures exact { Makes result tree.old tree.new (spec.edited_node edit.now tree.old) }
+    ensures exact { BecomesOrStays result tree.old tree.new (spec.edited_node edit.now tree.old) }
     ensures sound { Sounds tree.old tree.new }
 {
     match property_of(is_info(edit.place), edit.name.as_str()) {

@@ -8,7 +8,7 @@ ghost use Rattle.tree_format.specs.Standing.{StandsIn};
 ghost use Rattle.ebml_tree.specs.Building.{IsRead};
 ghost use Rattle.edit_changes.specs.Change as spec;
 ghost use Rattle.edit_changes.specs.Property.{is_info};
-ghost use Rattle.edit_changes.specs.Made.{Makes};
+ghost use Rattle.edit_changes.specs.Made.{BecomesOrStays};
 ghost use Rattle.edit_changes.specs.Trees.{AreSound, MakesAll, MakesEntry, info_edited, numbered, tracks_edited};
 
 use crate::change::{EditEnd, apply, is_info};
@@ -33,7 +33,7 @@ pub enum EditsEnd {
 fn edit_info(alloc: Global, info: &mut Option<Tree>, edit: &Edit) -> Result<(), EditEnd>
     requires section { is_info edit.now.place ≡ true }
     requires info { IfSome info.old (IsRead INFO) }
-    ensures exact { Makes result info.old info.new (info_edited edit.now info.old) }
+    ensures exact { BecomesOrStays result info.old info.new (info_edited edit.now info.old) }
     ensures info { IfSome info.new (IsRead INFO) }
 {
     match info {
@@ -57,7 +57,7 @@ fn edit_entry(alloc: Global, tracks: &mut Vec<Tree>, k: usize, edit: &Edit) -> R
 fn edit_track(alloc: Global, tracks: &mut Vec<Tree>, edit: &Edit) -> Result<(), EditEnd>
     requires section { is_info edit.now.place ≡ false }
     requires tracks { All (StandsIn TRACKS) tracks.old.items }
-    ensures exact { Makes result tracks.old.items tracks.new.items (tracks_edited edit.now tracks.old.items) }
+    ensures exact { BecomesOrStays result tracks.old.items tracks.new.items (tracks_edited edit.now tracks.old.items) }
     ensures tracks { All (StandsIn TRACKS) tracks.new.items }
 {
     let Some(k) = place_of(edit.place, tracks.as_slice()) else {

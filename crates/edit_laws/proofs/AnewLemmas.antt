@@ -46,7 +46,7 @@ use Rattle.edit_laws.specs.Laws.{IsOutside}
 use Rattle.reindex.specs.Index.{file_damage, indexable}
 use Rattle.reindex.specs.Plan.{Index, cues_parts, index_ids, index_with, index_writes, new_cues}
 use Rattle.reindex.specs.Points.{cluster_before, index_points, indexed_tracks, is_indexed, point_in}
-use Rattle.edit_laws.specs.IndexLaws.{HoldsIndex, NewIndexIsWhole, TellsOf, first_seeks}
+use Rattle.edit_laws.specs.IndexLaws.{HoldsIndex, NewIndexIsWhole, HasSeeksOf, first_seeks}
 use Rattle.edit_laws.proofs.CuesLemmas.{HoldsCues, cues-are, cues-hold, level-info, level-tracks, new-own}
 use Rattle.edit_laws.proofs.PointLemmas.{IsAtTick, each-has, hidden-none, indexable-whole, indexed-time}
 
@@ -193,7 +193,7 @@ module _ (bytes : List ℕ) (f : EditableFile) (is : indexable bytes ≡ Ok f) w
       }
 
   -- the SeekHead tells where the first Elements are
-  tells-of : (new : List ℕ) (h : HoldsCues bytes new f.outline (index_points bytes segment f.trees.tracks)) → TellsOf index_ids bytes new segment h.rest.segment
+  tells-of : (new : List ℕ) (h : HoldsCues bytes new f.outline (index_points bytes segment f.trees.tracks)) → HasSeeksOf index_ids bytes new segment h.rest.segment
   tells-of new h =
       let w = h.seeks in
       let list : (segment_run new h.rest.segment).list ≡ h.rest.list = ap (λ (r : Run). r.list) h.rest.run in

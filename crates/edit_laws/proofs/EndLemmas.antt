@@ -15,10 +15,10 @@ use Rattle.mkv_schema.specs.Element.{in_segment, element_at, end_in, is_unknown,
 use Rattle.mkv_schema.specs.Elements.{ends_segment, ends_at, id_of}
 use Rattle.mkv_schema.specs.Outline.{segment_bound, segment_end, segment_run}
 use Rattle.mkv_schema.proofs.ElementLemmas.{element_at-placed}
-use Rattle.element_reader.specs.Collected.{last_of, others_of}
+use Rattle.element_reader.specs.Collected.{last_element, others_of}
 use Rattle.element_reader.specs.Outline.{FileOutline}
 use Rattle.output_model.specs.Element.{Element, octets_of, header_in_place, headers_in_place}
-use Rattle.sidecar_edit.specs.Writes.{Write, end_of, extent, Touches}
+use Rattle.sidecar_edit.specs.Writes.{Write, end_of, extent, WritesOctet}
 use Rattle.edit_changes.specs.declared.refusal.Refusal.TheVariants as refusal
 use Rattle.edit_changes.specs.declared.refusal.Room.TheVariants as room
 use Rattle.edit_changes.specs.Plan.{Part, cluster_end, elements_moving, moves, moving, number_of, other_end, size_width, size_writes, tail_refusal, twin_of, twin_refusal, wrong_end, write}
@@ -127,7 +127,7 @@ module _ (bytes : List ℕ) (o : FileOutline) (op : IsOpened bytes o) (undamaged
           elim (cases_lt (length bytes) (stated_end h)) [
             | inr inside ↦ inside
             | inl past ↦ (
-                let last : last_of (segment_run bytes o.segment).list ≡ Some h = last-there bytes o.segment.size (segment_bound bytes o.segment) o.segment.body (segment_run bytes o.segment).end (segment_run bytes o.segment).list h m None tiles ahead stands (omega arith) in
+                let last : last_element (segment_run bytes o.segment).list ≡ Some h = last-there bytes o.segment.size (segment_bound bytes o.segment) o.segment.body (segment_run bytes o.segment).end (segment_run bytes o.segment).list h m None tiles ahead stands (omega arith) in
                 let none : other_end o.total h ≡ None = sym (ap (λ (b : Bool). if b then other_end o.total h else None) cluster) ∙ sym (ap (cluster_end o.total) (op.last ∙ last)) ∙ grow.cluster in
                 let same = other-none o.total h none known_size in
                 let total = op.total in
@@ -137,10 +137,10 @@ module _ (bytes : List ℕ) (o : FileOutline) (op : IsOpened bytes o) (undamaged
 -- ---- the size of the Segment, and the end of the file
 
 -- the size that is written stands in front of the body
-pub touches-size : (segment : Header) (end k : ℕ) → Touches (size_writes segment end) k → (segment.offset + length (id_octets SEGMENT) ≤ k) × (k < segment.body)
+pub touches-size : (segment : Header) (end k : ℕ) → WritesOctet (size_writes segment end) k → (segment.offset + length (id_octets SEGMENT) ≤ k) × (k < segment.body)
 touches-size segment end k touched = of (is_unknown segment.size) touched
   where
-    of : (unknown : Bool) → Touches (if unknown then [] else write (segment.offset + length (id_octets SEGMENT)) (size_octets (end - segment.body) (size_width segment)) ∷ []) k → (segment.offset + length (id_octets SEGMENT) ≤ k) × (k < segment.body)
+    of : (unknown : Bool) → WritesOctet (if unknown then [] else write (segment.offset + length (id_octets SEGMENT)) (size_octets (end - segment.body) (size_width segment)) ∷ []) k → (segment.offset + length (id_octets SEGMENT) ≤ k) × (k < segment.body)
     of true touched = absurd touched
     of false (inr none) = absurd none
     of false (inl (begins, ends)) = let len = length-size_octets (end - segment.body) (size_width segment) in (begins, omega arith)
@@ -150,7 +150,7 @@ order-front old from [] ys order = tt
 order-front old from (x ∷ xs) ys order = (order.0, order.1, order.2, order-front old (end_of x) xs ys order.3)
 
 -- where all but the last write stay inside the file, it ends where the last does
-pub extent-last : (old : ℕ) (xs : List Write) (w : Write) → InOrder old 0 (xs ++ w ∷ []) → ((k : ℕ) → Touches xs k → k < old) → old ≤ end_of w → extent old (xs ++ w ∷ []) ≡ end_of w
+pub extent-last : (old : ℕ) (xs : List Write) (w : Write) → InOrder old 0 (xs ++ w ∷ []) → ((k : ℕ) → WritesOctet xs k → k < old) → old ≤ end_of w → extent old (xs ++ w ∷ []) ≡ end_of w
 extent-last old xs w order inside past =
     append old xs ∙ ap (λ n. max n (end_of w)) (extent-within old 0 old xs (order-front old 0 xs (w ∷ []) order) inside) ∙ (let is : max old (end_of w) ≡ end_of w = omega arith in is)
   where

@@ -19,7 +19,7 @@ use Rattle.element_reader.specs.Collected.{others_of}
 use Rattle.element_reader.proofs.OutlineLemmas.{first_in-others}
 use Rattle.output_model.specs.Element.{Element, octets_of}
 use Rattle.block_format.specs.Events.{is_closed}
-use Rattle.sidecar_edit.specs.Writes.{Write, applied, extent, Touches}
+use Rattle.sidecar_edit.specs.Writes.{Write, applied, extent, WritesOctet}
 use Rattle.sidecar_edit.proofs.RedoLemmas.{length-applied, extent_grows}
 use Rattle.edit_changes.specs.Span.{behind_voids, fitted, span_of, void_header}
 use Rattle.edit_changes.specs.Plan.{write}
@@ -96,7 +96,7 @@ module _ (bytes : List ℕ) (size now_size : Size) (start e now_end last : ℕ) 
     (short : length bytes ≤ LONGEST_FILE) (within : e ≤ length bytes) (longer : e ≤ now_end) (reaches : last ≤ e)
     (run : run_of (level bytes size e) start ≡ whole list last)
     (order : InOrder (length bytes) 0 ws) (are : All (IsItem (others_of list)) items) (one : All (λ (i : Item). IsOneOf ws (write_of (others_of list) i)) items)
-    (touch : (k : ℕ) → Touches ws k → (k < start) ⊎ ((length bytes ≤ k) ⊎ IsInside (others_of list) items k))
+    (touch : (k : ℕ) → WritesOctet ws k → (k < start) ⊎ ((length bytes ≤ k) ⊎ IsInside (others_of list) items k))
     (moves : All (λ (i : Item). span_of i.header (others_of list) < length (octets_of i.element) → Moves) items) where
   abbrev pub new : List ℕ
   new = applied bytes ws

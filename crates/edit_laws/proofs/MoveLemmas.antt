@@ -13,7 +13,7 @@ use Rattle.element_reader.specs.Collected.{others_of}
 use Rattle.output_model.specs.Element.{Element, IsElement, HoldsAt, octets_of, joined, header_in_place, headers_in_place, all_in_front}
 use Rattle.output_model.proofs.ReadLemmas.{element_at-read, elements-read, octets_of-some}
 use Rattle.output_model.proofs.HeldLemmas.{held-left}
-use Rattle.sidecar_edit.specs.Writes.{Write, applied, Touches}
+use Rattle.sidecar_edit.specs.Writes.{Write, applied, WritesOctet}
 use Rattle.edit_changes.specs.Span.{span_of}
 use Rattle.edit_laws.proofs.SameLemmas.{InOrder, IsOneOf}
 use Rattle.edit_laws.proofs.HeaderLemmas.{found-sound}
@@ -28,7 +28,7 @@ module _ (bytes : List ℕ) (size now_size : Size) (start : ℕ) (list : List He
     (short : length bytes ≤ LONGEST_FILE)
     (run : run_of (level bytes size (length bytes)) start ≡ whole list (length bytes))
     (order : InOrder (length bytes) 0 ws) (are : All (IsItem (others_of list)) items) (one : All (λ (i : Item). IsOneOf ws (write_of (others_of list) i)) items)
-    (touch : (k : ℕ) → Touches ws k → (k < start) ⊎ ((length bytes ≤ k) ⊎ IsInside (others_of list) items k))
+    (touch : (k : ℕ) → WritesOctet ws k → (k < start) ⊎ ((length bytes ≤ k) ⊎ IsInside (others_of list) items k))
     (stops : (id : ℕ) → ends_segment now_size id ≡ ends_segment size id)
     (ends : (h : Header) (m : ℕ) → Stands (level bytes size (length bytes)) h.offset h m → IsAhead list h → stated_end h ≤ length bytes)
     (blocks : (h : Header) → IsAhead list h → ends_cluster h.id ≡ false → HasNoBlock h)

@@ -2,7 +2,7 @@
 use Rattle.std.proofs.Common.{◌≡◌, ℕ, List, [], length, Ok, refl, sym, subst}
 use Rattle.mkv_schema.specs.Outline.{Outlined, ebml_header, limits_from, outline_of, outlined, segment_end, segment_of, segment_run}
 use Rattle.mkv_schema.proofs.OutlineLemmas.{and_then-ok, unless-ok}
-use Rattle.element_reader.specs.Collected.{last_of, others_of}
+use Rattle.element_reader.specs.Collected.{last_element, others_of}
 use Rattle.element_reader.specs.Outline.{FileOutline, outline_in, shown}
 use Rattle.element_reader.proofs.OutlineLemmas.{Outlines-shown}
 
@@ -11,7 +11,7 @@ pub record IsOpened (bytes : List ℕ) (o : FileOutline) : Type 0 where
   pub segment : segment_of bytes o.ebml ≡ Ok o.segment
   pub total : o.total ≡ length bytes
   pub others : o.others ≡ others_of (segment_run bytes o.segment).list
-  pub last : o.last ≡ last_of (segment_run bytes o.segment).list
+  pub last : o.last ≡ last_element (segment_run bytes o.segment).list
   pub damage : o.damage ≡ (segment_run bytes o.segment).damage
   pub end : o.end ≡ segment_end bytes o.segment (segment_run bytes o.segment)
 

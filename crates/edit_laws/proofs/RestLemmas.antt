@@ -27,7 +27,7 @@ use Rattle.block_format.specs.Elements.{Rules}
 use Rattle.block_format.specs.Events.{blocks_of, damages_of, events_among, events_of, found_in}
 use Rattle.meta_records.specs.Attached.{AttachedFile, first_attached}
 use Rattle.meta_records.specs.Records.{first_tree}
-use Rattle.sidecar_edit.specs.Writes.{Write, applied, extent, Touches}
+use Rattle.sidecar_edit.specs.Writes.{Write, applied, extent, WritesOctet}
 use Rattle.sidecar_edit.proofs.RedoLemmas.{length-applied}
 use Rattle.edit_changes.specs.Plan.{ascending, number_of, size_refusal, size_width, size_writes, write}
 use Rattle.edit_changes.specs.Span.{span_of}
@@ -308,10 +308,10 @@ module _ (bytes : List ℕ) (are_octets : AreOctets bytes) (short : length bytes
     one = subst (λ (vs : List Write). All (λ (i : Item). IsOneOf vs (write_of others i)) items) is_ws
         (All-weaker (λ (i : Item). IsOneOf (writes_of others items) (write_of others i)) (λ (i : Item). IsOneOf (ascending (writes_of others items)) (write_of others i)) (λ i is. one-ascending (writes_of others items) (write_of others i) is) items (one-items others items))
 
-    touch : (k : ℕ) → Touches ws k → IsInside others items k
+    touch : (k : ℕ) → WritesOctet ws k → IsInside others items k
     touch k touched =
         touches-items segment.body last others stand items k are
-        (touches-ascending (writes_of others items) k (subst (λ (vs : List Write). Touches vs k) (sym is_ws) touched))
+        (touches-ascending (writes_of others items) k (subst (λ (vs : List Write). WritesOctet vs k) (sym is_ws) touched))
 
     len : length new ≡ length bytes
     len = same-length bytes segment.size segment.body end last list items ws short within begins run order are one touch blocks
@@ -380,8 +380,8 @@ module _ (bytes : List ℕ) (are_octets : AreOctets bytes) (short : length bytes
         (λ i is. one-left (front ++ middle) (tail_write ∷ []) (write_of others i) (one-right front middle (write_of others i) (one-ascending (writes_of others items) (write_of others i) is))) items (one-items others items))
 
     -- where an octet is written
-    where-written : (k : ℕ) → Touches ws k → ((segment.offset + length (id_octets SEGMENT) ≤ k) × (k < segment.body)) ⊎ ((total ≤ k) ⊎ IsInside others items k)
-    where-written k touched = elim (touches-append (front ++ middle) (tail_write ∷ []) k (subst (λ (vs : List Write). Touches vs k) (sym is_ws) touched)) [
+    where-written : (k : ℕ) → WritesOctet ws k → ((segment.offset + length (id_octets SEGMENT) ≤ k) × (k < segment.body)) ⊎ ((total ≤ k) ⊎ IsInside others items k)
+    where-written k touched = elim (touches-append (front ++ middle) (tail_write ∷ []) k (subst (λ (vs : List Write). WritesOctet vs k) (sym is_ws) touched)) [
       | inl before ↦ elim (touches-append front middle k before) [
         | inl size ↦ inl (touches-size segment now_end k size)
         | inr mid ↦ inr (inr (touches-items segment.body last others stand items k are (touches-ascending (writes_of others items) k mid)))
@@ -392,7 +392,7 @@ module _ (bytes : List ℕ) (are_octets : AreOctets bytes) (short : length bytes
       ]
     ]
 
-    touch-moving : (k : ℕ) → Touches ws k → (k < segment.body) ⊎ ((total ≤ k) ⊎ IsInside others items k)
+    touch-moving : (k : ℕ) → WritesOctet ws k → (k < segment.body) ⊎ ((total ≤ k) ⊎ IsInside others items k)
     touch-moving k touched = elim (where-written k touched) [
       | inl size ↦ inl size.1
       | inr rest ↦ inr rest
@@ -400,7 +400,7 @@ module _ (bytes : List ℕ) (are_octets : AreOctets bytes) (short : length bytes
 
     -- ---- how long the file is
 
-    inside-front : (k : ℕ) → Touches (front ++ middle) k → k < total
+    inside-front : (k : ℕ) → WritesOctet (front ++ middle) k → k < total
     inside-front k touched = elim (touches-append front middle k touched) [
       | inl size ↦ (let is = touches-size segment now_end k size in let before = is.1 in let most = body-inside in omega arith)
       | inr mid ↦ (let is = inside-room items k are (touches-items segment.body last others stand items k are (touches-ascending (writes_of others items) k mid)) in let right = is.1 in let ends = last-total bytes o op undamaged grow body-inside run in omega arith)
@@ -472,7 +472,7 @@ module _ (bytes : List ℕ) (are_octets : AreOctets bytes) (short : length bytes
     clear-all unknown p q before =
         let inside = body-inside in
         same-clear ws bytes p q (order-fits total 0 total ws (omega arith) (omega arith) order) (omega arith)
-        (λ k from to touched. elim (touches-append (front ++ middle) (tail_write ∷ []) k (subst (λ (vs : List Write). Touches vs k) (sym is_ws) touched)) [
+        (λ k from to touched. elim (touches-append (front ++ middle) (tail_write ∷ []) k (subst (λ (vs : List Write). WritesOctet vs k) (sym is_ws) touched)) [
           | inl head_or ↦ elim (touches-append front middle k head_or) [
             | inl size ↦ no-size k size
             | inr mid ↦ (let is = (inside-room items k are (touches-items segment.body last others stand items k are (touches-ascending (writes_of others items) k mid))).0 in let wrong : ⊥ = omega arith in wrong)
@@ -483,8 +483,8 @@ module _ (bytes : List ℕ) (are_octets : AreOctets bytes) (short : length bytes
           ]
         ])
       where
-        no-size : (k : ℕ) → Touches (size_writes segment now_end) k → ⊥
-        no-size k touched = subst (λ (u : Bool). Touches (if u then [] else write (segment.offset + length (id_octets SEGMENT)) (size_octets (now_end - segment.body) (size_width segment)) ∷ []) k) unknown touched
+        no-size : (k : ℕ) → WritesOctet (size_writes segment now_end) k → ⊥
+        no-size k touched = subst (λ (u : Bool). WritesOctet (if u then [] else write (segment.offset + length (id_octets SEGMENT)) (size_octets (now_end - segment.body) (size_width segment)) ∷ []) k) unknown touched
 
     now-unknown : is_unknown segment.size ≡ true → IsNow segment
     now-unknown unknown =

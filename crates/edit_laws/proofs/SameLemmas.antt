@@ -7,7 +7,7 @@ use Rattle.mkv_schema.specs.Element.{octets_between}
 use Rattle.mkv_schema.proofs.ElementLemmas.{length-octets_between}
 use Rattle.output_model.specs.Element.{HoldsAt}
 use Rattle.output_model.proofs.HeldLemmas.{between-take, between-drop}
-use Rattle.sidecar_edit.specs.Writes.{Write, end_of, applied, extent, Fits, Touches}
+use Rattle.sidecar_edit.specs.Writes.{Write, end_of, applied, extent, Fits, WritesOctet}
 use Rattle.sidecar_edit.proofs.RedoLemmas.{applied_elsewhere, length-applied, extent_grows, length-overwritten, overwritten_inside}
 
 -- two contents have the same octets from a place up to another
@@ -45,7 +45,7 @@ same-each a b p q left right each =
 
 -- no write reaches in between two places
 abbrev pub IsClear : List Write → ℕ → ℕ → Type 0
-IsClear ws p q = (k : ℕ) → p ≤ k → k < q → Touches ws k → ⊥
+IsClear ws p q = (k : ℕ) → p ≤ k → k < q → WritesOctet ws k → ⊥
 
 -- where no write reaches, all is as it was
 pub same-clear : (ws : List Write) (file : List ℕ) (p q : ℕ) → Fits (length file) ws → q ≤ length file → IsClear ws p q → AreSame file (applied file ws) p q
@@ -63,7 +63,7 @@ InOrder old from [] = ⊤
 InOrder old from (w ∷ ws) = (1 ≤ length w.bytes) × (from ≤ w.at) × (w.at ≤ max old from) × InOrder old (end_of w) ws
 
 -- none of them reaches in front of the first
-pub order-before : (old from k : ℕ) (ws : List Write) → InOrder old from ws → k < from → Touches ws k → ⊥
+pub order-before : (old from k : ℕ) (ws : List Write) → InOrder old from ws → k < from → WritesOctet ws k → ⊥
 order-before old from k [] order before touched = touched
 order-before old from k (w ∷ ws) order before (inl here) = let begins = order.1 in let at = here.0 in omega arith
 order-before old from k (w ∷ ws) order before (inr later) = let begins = order.1 in order-before old (end_of w) k ws order.3 (omega arith) later

@@ -14,7 +14,7 @@ use Rattle.mkv_schema.proofs.ElementsLemmas.{elements-end}
 use Rattle.element_reader.specs.Collected.{others_of}
 use Rattle.output_model.specs.Element.{octets_of}
 use Rattle.block_format.specs.Events.{is_closed}
-use Rattle.sidecar_edit.specs.Writes.{Write, applied, Touches}
+use Rattle.sidecar_edit.specs.Writes.{Write, applied, WritesOctet}
 use Rattle.sidecar_edit.proofs.RedoLemmas.{length-applied}
 use Rattle.edit_changes.specs.Span.{span_of}
 use Rattle.edit_plan.proofs.LevelLemmas.{Stand}
@@ -33,7 +33,7 @@ module _ (bytes : List ℕ) (size : Size) (start e last : ℕ) (list : List Head
     (short : length bytes ≤ LONGEST_FILE) (within : e ≤ length bytes) (begins : start ≤ e)
     (run : run_of (level bytes size e) start ≡ whole list last)
     (order : InOrder (length bytes) 0 ws) (are : All (IsItem (others_of list)) items) (one : All (λ (i : Item). IsOneOf ws (write_of (others_of list) i)) items)
-    (touch : (k : ℕ) → Touches ws k → IsInside (others_of list) items k)
+    (touch : (k : ℕ) → WritesOctet ws k → IsInside (others_of list) items k)
     (blocks : (h : Header) → IsAhead list h → ends_cluster h.id ≡ false → HasNoBlock h) where
   abbrev new : List ℕ
   new = applied bytes ws
@@ -57,7 +57,7 @@ module _ (bytes : List ℕ) (size : Size) (start e last : ℕ) (list : List Head
       let from = room.from in let inside = room.inside in let left = here.0 in let right = here.1 in
       (omega arith, omega arith)
 
-  touched-inside : (k : ℕ) → Touches ws k → (start ≤ k) × (k < last)
+  touched-inside : (k : ℕ) → WritesOctet ws k → (start ≤ k) × (k < last)
   touched-inside k touched = inside-last items k are (touch k touched)
 
   pub same-length : length new ≡ length bytes
@@ -112,7 +112,7 @@ module _ (bytes : List ℕ) (size : Size) (start e last : ℕ) (list : List Head
         | inr past ↦ elements-end in_master ends_cluster (λ h. Ok (end_in e h)) new last e past
       ]
 
-  pub touch-all : (k : ℕ) → Touches ws k → (k < start) ⊎ ((length bytes ≤ k) ⊎ IsInside (others_of list) items k)
+  pub touch-all : (k : ℕ) → WritesOctet ws k → (k < start) ⊎ ((length bytes ≤ k) ⊎ IsInside (others_of list) items k)
   touch-all k touched = inr (inr (touch k touched))
 
   pub no-longer : e ≤ e

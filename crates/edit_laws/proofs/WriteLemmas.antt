@@ -16,7 +16,7 @@ use Rattle.tree_format.specs.Node.{Node}
 use Rattle.tree_format.specs.NormalForm.{octets}
 use Rattle.output_model.specs.Element.{Element, octets_of, element}
 use Rattle.output_model.proofs.ReadLemmas.{length-octets_of, length-header_of}
-use Rattle.sidecar_edit.specs.Writes.{Write, end_of, extent, Touches}
+use Rattle.sidecar_edit.specs.Writes.{Write, end_of, extent, WritesOctet}
 use Rattle.edit_changes.specs.Span.{fitted, span_of, void_header, wider}
 use Rattle.edit_changes.specs.Plan.{Part, appended, ascending, elements_moving, in_place, inserted, length_in_place, moves, moving, part, part_of, part_writes, stands, write}
 use Rattle.edit_plan.proofs.LevelLemmas.{Stand}
@@ -29,11 +29,11 @@ use Rattle.edit_laws.proofs.ItemLemmas.{Item, IsName, IsItem, IsInside, write_of
 
 -- ---- by their places
 
-touches-inserted : (w : Write) (vs : List Write) (k : ℕ) → Touches (inserted w vs) k → Touches (w ∷ vs) k
+touches-inserted : (w : Write) (vs : List Write) (k : ℕ) → WritesOctet (inserted w vs) k → WritesOctet (w ∷ vs) k
 touches-inserted w [] k touched = touched
 touches-inserted w (v ∷ vs) k touched = of (touches-inserted w vs k) (nat_le w.at v.at) touched
   where
-    of : (Touches (inserted w vs) k → Touches (w ∷ vs) k) → (first : Bool) → Touches (if first then w ∷ v ∷ vs else v ∷ inserted w vs) k → Touches (w ∷ v ∷ vs) k
+    of : (WritesOctet (inserted w vs) k → WritesOctet (w ∷ vs) k) → (first : Bool) → WritesOctet (if first then w ∷ v ∷ vs else v ∷ inserted w vs) k → WritesOctet (w ∷ v ∷ vs) k
     of further true touched = touched
     of further false (inl here) = inr (inl here)
     of further false (inr later) = elim (further later) [
@@ -41,14 +41,14 @@ touches-inserted w (v ∷ vs) k touched = of (touches-inserted w vs k) (nat_le w
       | inr rest ↦ inr (inr rest)
     ]
 
-pub touches-ascending : (ws : List Write) (k : ℕ) → Touches (ascending ws) k → Touches ws k
+pub touches-ascending : (ws : List Write) (k : ℕ) → WritesOctet (ascending ws) k → WritesOctet ws k
 touches-ascending [] k touched = touched
 touches-ascending (w ∷ ws) k touched = elim (touches-inserted w (ascending ws) k touched) [
   | inl here ↦ inl here
   | inr later ↦ inr (touches-ascending ws k later)
 ]
 
-pub touches-append : (xs ys : List Write) (k : ℕ) → Touches (xs ++ ys) k → Touches xs k ⊎ Touches ys k
+pub touches-append : (xs ys : List Write) (k : ℕ) → WritesOctet (xs ++ ys) k → WritesOctet xs k ⊎ WritesOctet ys k
 touches-append [] ys k touched = inr touched
 touches-append (x ∷ xs) ys k (inl here) = inl (inl here)
 touches-append (x ∷ xs) ys k (inr later) = elim (touches-append xs ys k later) [
@@ -81,7 +81,7 @@ one-right [] ys w one = one
 one-right (x ∷ xs) ys w one = inr (one-right xs ys w one)
 
 -- where writes stay in front of an end, the file grows no longer
-pub extent-within : (old from n : ℕ) (ws : List Write) → InOrder old from ws → ((k : ℕ) → Touches ws k → k < n) → extent n ws ≡ n
+pub extent-within : (old from n : ℕ) (ws : List Write) → InOrder old from ws → ((k : ℕ) → WritesOctet ws k → k < n) → extent n ws ≡ n
 extent-within old from n [] order inside = refl
 extent-within old from n (w ∷ ws) order inside =
     let some = order.0 in
@@ -107,7 +107,7 @@ module _ (q e : ℕ) (list : List Header) (stand : Stand q e list) where
       let room = first-room i.element.id q e list i.header stand is.first in
       (fills-place i.element (span_of i.header list) room.least (item-some i is)).most
 
-  pub touches-items : (is : List Item) (k : ℕ) → All (IsItem list) is → Touches (writes_of list is) k → IsInside list is k
+  pub touches-items : (is : List Item) (k : ℕ) → All (IsItem list) is → WritesOctet (writes_of list is) k → IsInside list is k
   touches-items [] k are touched = touched
   touches-items (i ∷ is) k are (inl (begins, ends)) = let most = item-most i (All-head (IsItem list) i is are) in inl (begins, omega arith)
   touches-items (i ∷ is) k are (inr later) = inr (touches-items is k (All-tail (IsItem list) i is are) later)

@@ -90,7 +90,7 @@ first_seeks ids base list = filter_map (λ id. option_map (seek_to base) (first_
 
 -- The first SeekHead of the new content has the Seek of the first Element of each of these IDs, and then what stood in that of
 -- the old one and is no Seek of one of these.
-pub record TellsOf (ids : List ℕ) (old new : List ℕ) (was now : Header) : Type 0 where
+pub record HasSeeksOf (ids : List ℕ) (old new : List ℕ) (was now : Header) : Type 0 where
   pub header : Header
   pub first : first_of SEEK_HEAD (segment_run new now).list ≡ Some header
   pub old_head : Node
@@ -116,7 +116,7 @@ pub record HoldsIndex (old new : List ℕ) (f : EditableFile) (points : List Cue
   pub blocks : (r : Rules) → blocks_of (events_of r new segment) ≡ blocks_of (events_of r old f.outline.segment)
   pub cues : CuesAre new (segment_run new segment).list points
   pub points_at : All (PointsAtBlock (file_scale new segment) new segment) points
-  pub seeks : TellsOf index_ids old new f.outline.segment segment
+  pub seeks : HasSeeksOf index_ids old new f.outline.segment segment
 
 -- A file whose Cues are written anew holds what it held, and its index.
 abbrev pub NewIndexIsWhole : Type 0

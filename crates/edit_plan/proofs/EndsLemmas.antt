@@ -19,7 +19,7 @@ use Rattle.mkv_io.specs.Results.{unless}
 use Rattle.mkv_schema.proofs.ElementLemmas.{element_at-placed}
 use Rattle.mkv_schema.proofs.ElementsLemmas.{Advances, Advances-segment, elements-end, elements-more}
 use Rattle.mkv_schema.proofs.OutlineLemmas.{and_then-ok, unless-ok}
-use Rattle.element_reader.specs.Collected.{last_of}
+use Rattle.element_reader.specs.Collected.{last_element}
 use Rattle.element_reader.specs.Outline.{FileOutline, outline_in}
 use Rattle.element_reader.proofs.OutlineLemmas.{Outlines-shown}
 use Rattle.edit_changes.specs.Plan.{size_width}
@@ -123,7 +123,7 @@ CanMove-shown held bytes o is short =
     let most = bound-most bytes x.segment in
     let P : FileOutline → Type 0 = CanMove in
     subst P (sym of.shows) (record {
-      ends = record { segment = ends.0; last = small (last_of x.list) (segment_bound bytes x.segment) (omega arith) last };
+      ends = record { segment = ends.0; last = small (last_element x.list) (segment_bound bytes x.segment) (omega arith) last };
       size = ends.1;
     })
   where

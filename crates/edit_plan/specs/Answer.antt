@@ -42,8 +42,8 @@ Gives found (Err end.ReadFault) = ⊤
 Gives found (Err end.Memory) = ⊤
 
 -- What is answered is what is written of parts of a file, where its content is told.
-abbrev pub WritesParts : {S : Type 0} → Ghosts S → S → FileId → Rewriting → FileOutline → List Part → Result (Vec Write Global) PlanEnd → Type 0
-WritesParts r src file rewriting outline parts result = IfTold r src file (λ bytes. Answers (writes_in rewriting bytes outline parts) result)
+abbrev pub AnswersWrites : {S : Type 0} → Ghosts S → S → FileId → Rewriting → FileOutline → List Part → Result (Vec Write Global) PlanEnd → Type 0
+AnswersWrites r src file rewriting outline parts result = IfTold r src file (λ bytes. Answers (writes_in rewriting bytes outline parts) result)
 
 -- What can be edited in a file with this outline is read, or what refuses the file, where its content is told.
 abbrev pub ReadsTrees : {S : Type 0} → Ghosts S → S → FileId → FileOutline → Result Trees OutlineEnd → Type 0

@@ -3,7 +3,7 @@
 ghost use Rattle.std.specs.Prelude.{◌≡◌, ◌≤◌, ◌+◌, ◌^◌};
 ghost use Rattle.mkv_io.specs.Faults.{HasCause};
 ghost use Rattle.mkv_io.specs.Sources.{IfTold, IsLive, file_size};
-ghost use Rattle.edit_plan.specs.Answer.{Answers, WritesParts, is_plan_fault};
+ghost use Rattle.edit_plan.specs.Answer.{Answers, AnswersWrites, is_plan_fault};
 ghost use Rattle.edit_plan.specs.Moving.{CanMove};
 ghost use Rattle.edit_plan.specs.Shown.{writes_in};
 ghost use Rattle.edit_plan.specs.Sought.{AreSought};
@@ -33,7 +33,7 @@ pub fn parts_writes<R: Reads>(
     requires live { IsLive R.Reads src.old file }
     requires whole { outline.now.total ≡ file_size R.Reads src.old file }
     requires short { outline.now.total ≤ 2 ^ 48 }
-    ensures exact { CanMove outline.now → WritesParts R.Reads src.old file rewriting.now outline.now parts.now result }
+    ensures exact { CanMove outline.now → AnswersWrites R.Reads src.old file rewriting.now outline.now parts.now result }
     ensures standing { R.standing src.new ≡ R.standing src.old }
     ensures cause { HasCause is_plan_fault (R.reading_faults src.old) (R.reading_faults src.new) result }
     ensures octets { R.octets_read src.new ≤ R.octets_read src.old + file_size R.Reads src.old file }

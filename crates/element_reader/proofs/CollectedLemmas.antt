@@ -13,7 +13,7 @@ use Rattle.mkv_schema.specs.Placed.{IsWhole}
 use Rattle.mkv_schema.specs.Value.{first_of}
 use Rattle.mkv_schema.specs.declared.limits.TheConstants.{MOST_ELEMENTS}
 use Rattle.mkv_schema.specs.Outline.{first_damage, where_it, is_described, described, others, passes_count}
-use Rattle.element_reader.specs.Collected.{IsInFile, Keeps, kept_of, others_of, described_octets}
+use Rattle.element_reader.specs.Collected.{IsInFile, Keeps, unless_cluster, others_of, described_octets}
 use Rattle.element_reader.specs.declared.collected.Collected.{Collected}
 
 -- one more Cluster
@@ -30,7 +30,7 @@ described-more list h =
     alone true = grind arith
     alone false = refl
 
-pub others-more : (list : List Header) (h : Header) → others_of (list ++ h ∷ []) ≡ others_of list ++ kept_of h
+pub others-more : (list : List Header) (h : Header) → others_of (list ++ h ∷ []) ≡ others_of list ++ unless_cluster h
 others-more list h = filter-append (λ k. not (k.id == CLUSTER)) list (h ∷ [])
 
 pub cluster-more : (list : List Header) (h : Header) → first_of CLUSTER (list ++ h ∷ []) ≡ option_or (first_of CLUSTER list) (cluster_of h)
@@ -42,11 +42,11 @@ last-more first [] h = refl
 last-more first (k ∷ ks) h = last-more (Some k) ks h
 
 -- one more Element is kept
-pub Keeps-more : (held : ℕ) (list : List Header) (before after : Collected) (h : Header) → Keeps held list before → after.others.items ≡ before.others.items ++ kept_of h → after.cluster ≡ option_or before.cluster (cluster_of h) → after.last ≡ Some h → after.held ≡ before.held + described_octets h → Keeps held (list ++ h ∷ []) after
+pub Keeps-more : (held : ℕ) (list : List Header) (before after : Collected) (h : Header) → Keeps held list before → after.others.items ≡ before.others.items ++ unless_cluster h → after.cluster ≡ option_or before.cluster (cluster_of h) → after.last ≡ Some h → after.held ≡ before.held + described_octets h → Keeps held (list ++ h ∷ []) after
 Keeps-more held list before after h keeps items first last octets =
     let more = described-more list h in
     record {
-      others = items ∙ ap (λ l. l ++ kept_of h) keeps.others ∙ sym (others-more list h);
+      others = items ∙ ap (λ l. l ++ unless_cluster h) keeps.others ∙ sym (others-more list h);
       first = first ∙ ap (λ o. option_or o (cluster_of h)) keeps.first ∙ sym (cluster-more list h);
       last = last ∙ sym (last-more None list h);
       octets = omega (arith, more, octets, keeps.octets);
@@ -103,8 +103,8 @@ All-find P test (h ∷ hs) all = here (All-find P test hs (λ k d below. all (su
     here later false = later
 
 -- the Elements that are kept can be read, with one more of a Segment that ends within the file
-pub IsInFile-more : (total bound : ℕ) (list : List Header) (h : Header) → bound ≤ total → All (IsInFile total) list → IsWhole in_segment bound h → All (IsInFile total) (list ++ kept_of h)
-IsInFile-more total bound list h within before whole = All-append (IsInFile total) list (kept_of h) before (alone (h.id == CLUSTER) refl)
+pub IsInFile-more : (total bound : ℕ) (list : List Header) (h : Header) → bound ≤ total → All (IsInFile total) list → IsWhole in_segment bound h → All (IsInFile total) (list ++ unless_cluster h)
+IsInFile-more total bound list h within before whole = All-append (IsInFile total) list (unless_cluster h) before (alone (h.id == CLUSTER) refl)
   where
     alone : (cluster : Bool) → (h.id == CLUSTER) ≡ cluster → All (IsInFile total) (if not cluster then h ∷ [] else [])
     alone true is = λ k d below. absurd (omega arith)

@@ -16,7 +16,7 @@ use Rattle.mkv_schema.specs.Elements.{Run}
 use Rattle.mkv_schema.specs.Value.{body_of, is_known_value, first_of, uint_value, uint_in}
 use Rattle.mkv_schema.specs.declared.limits.TheConstants.{MOST_OF_HEADER}
 use Rattle.mkv_schema.specs.Outline.{first_damage, bad_value, over, where_it}
-use Rattle.element_reader.specs.EbmlChildren.{IsShort, child_refusal}
+use Rattle.element_reader.specs.EbmlChildren.{IsShortValue, child_refusal}
 
 -- where nothing refuses the children, none has a bad value
 no_bad : (bytes : List ℕ) (run : Run) → child_refusal bytes run ≡ None → bad_value bytes EBML run.list ≡ None
@@ -40,7 +40,7 @@ known_of bytes id (k ∷ ks) h none first = split (λ bad is. known_of bytes id 
         subst (λ (x : Header). is_known_value EBML id (body_of bytes x) ≡ true) this (subst (λ (n : ℕ). is_known_value EBML n (body_of bytes k) ≡ true) its known_is)
 
 -- so it is short, where its values are
-pub short_of : (bytes : List ℕ) (run : Run) (id : ℕ) (h : Header) → IsShort id → child_refusal bytes run ≡ None → first_of id run.list ≡ Some h → length (body_of bytes h) ≤ 8
+pub short_of : (bytes : List ℕ) (run : Run) (id : ℕ) (h : Header) → IsShortValue id → child_refusal bytes run ≡ None → first_of id run.list ≡ Some h → length (body_of bytes h) ≤ 8
 short_of bytes run id h short none first = short (body_of bytes h) (known_of bytes id run.list h (no_bad bytes run none) first)
 
 -- an integer that isn't empty is the number of its octets
@@ -86,18 +86,18 @@ over-none h few = split (nat_lt MOST_OF_HEADER (known h.size)) (grind (arith, na
 
 -- ---- the integers of the EBML header
 
-pub IsShort-read_version : IsShort EBML_READ_VERSION
+pub IsShortValue-read_version : IsShortValue EBML_READ_VERSION
 unfolding entry_of table
-IsShort-read_version body is = let most : nat_le (length body) 8 ≡ true = is in grind (arith, nat_tests)
+IsShortValue-read_version body is = let most : nat_le (length body) 8 ≡ true = is in grind (arith, nat_tests)
 
-pub IsShort-doc_type_read_version : IsShort DOC_TYPE_READ_VERSION
+pub IsShortValue-doc_type_read_version : IsShortValue DOC_TYPE_READ_VERSION
 unfolding entry_of table
-IsShort-doc_type_read_version body is = let most : nat_le (length body) 8 ≡ true = is in grind (arith, nat_tests)
+IsShortValue-doc_type_read_version body is = let most : nat_le (length body) 8 ≡ true = is in grind (arith, nat_tests)
 
-pub IsShort-max_id_length : IsShort EBML_MAX_ID_LENGTH
+pub IsShortValue-max_id_length : IsShortValue EBML_MAX_ID_LENGTH
 unfolding entry_of table
-IsShort-max_id_length body is = let most : nat_le (length body) 8 ≡ true = is in grind (arith, nat_tests)
+IsShortValue-max_id_length body is = let most : nat_le (length body) 8 ≡ true = is in grind (arith, nat_tests)
 
-pub IsShort-max_size_length : IsShort EBML_MAX_SIZE_LENGTH
+pub IsShortValue-max_size_length : IsShortValue EBML_MAX_SIZE_LENGTH
 unfolding entry_of table
-IsShort-max_size_length body is = let most : nat_le (length body) 8 ≡ true = is in grind (arith, nat_tests)
+IsShortValue-max_size_length body is = let most : nat_le (length body) 8 ≡ true = is in grind (arith, nat_tests)

@@ -8,7 +8,7 @@ use Rattle.mkv_schema.specs.Element.{stated_end}
 use Rattle.mkv_schema.specs.Outline.{Outlined, described, ebml_header, limits_from, outline_of, outlined, segment_of, segment_run, within_limits}
 use Rattle.mkv_io.specs.Results.{and_then, unless}
 use Rattle.mkv_schema.specs.Value.{first_of}
-use Rattle.element_reader.specs.Collected.{last_of, others_of}
+use Rattle.element_reader.specs.Collected.{last_element, others_of}
 use Rattle.element_reader.specs.Level.{HasLevel}
 use Rattle.element_reader.specs.Outline.{FileOutline, outline_in, shown}
 use Rattle.element_reader.specs.Segment.{segment_from}
@@ -52,7 +52,7 @@ outline_in-found held bytes ebml segment level total own first second level_is w
 
     same : shown bytes (outlined bytes ebml segment (segment_run bytes segment)) ≡ record { total = total; ebml = ebml; segment = segment; others = level.kept.others.items; cluster = level.kept.cluster; last = level.kept.last; held = own; damage = level.damage; end = level.end }
     same =
-        ap (λ n. record { total = n; ebml = ebml; segment = segment; others = others_of (segment_run bytes segment).list; cluster = first_of CLUSTER (segment_run bytes segment).list; last = last_of (segment_run bytes segment).list; held = described (segment_run bytes segment).list; damage = (segment_run bytes segment).damage; end = (outlined bytes ebml segment (segment_run bytes segment)).end }) (sym whole)
+        ap (λ n. record { total = n; ebml = ebml; segment = segment; others = others_of (segment_run bytes segment).list; cluster = first_of CLUSTER (segment_run bytes segment).list; last = last_element (segment_run bytes segment).list; held = described (segment_run bytes segment).list; damage = (segment_run bytes segment).damage; end = (outlined bytes ebml segment (segment_run bytes segment)).end }) (sym whole)
         ∙ cc (level_is.kept.others, level_is.kept.first, level_is.kept.last, level_is.damage, level_is.end, octets)
 
 -- an Element that isn't a Cluster is among the others

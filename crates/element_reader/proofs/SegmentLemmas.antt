@@ -9,12 +9,12 @@ use Rattle.mkv_schema.specs.Element.{at_level_0, element_at, damage, end_in}
 use Rattle.mkv_schema.specs.Elements.{Run, ends_at, step, id_of}
 use Rattle.mkv_schema.specs.Outline.{before_segment}
 use Rattle.mkv_schema.proofs.ElementsLemmas.{elements-end, elements-more, Advances-known}
-use Rattle.element_reader.specs.Segment.{found_behind, segment_from}
+use Rattle.element_reader.specs.Segment.{segment_or_damage, segment_from}
 
 -- at the end of the file there is none
 pub segment_from-end : (bytes : List ℕ) (p : ℕ) → length bytes ≤ p → segment_from bytes p ≡ Err (damage NoSegment 0 (length bytes))
 segment_from-end bytes p past =
-    ap (found_behind bytes) (elements-end at_level_0 (λ id. id == SEGMENT) (λ h. Ok (end_in (length bytes) h)) bytes p (length bytes) past)
+    ap (segment_or_damage bytes) (elements-end at_level_0 (λ id. id == SEGMENT) (λ h. Ok (end_in (length bytes) h)) bytes p (length bytes) past)
     ∙ nothing (nat_lt p (length bytes)) (grind arith)
   where
     nothing : (test : Bool) → test ≡ false → (if test then element_at at_level_0 bytes p (length bytes) else Err (damage NoSegment 0 (length bytes))) ≡ Err (damage NoSegment 0 (length bytes))
@@ -25,10 +25,10 @@ segment_from-end bytes p past =
 at_place : List ℕ → ℕ → Result Header Damage → Run
 at_place bytes p found = if id_of found == SEGMENT then ends_at p else step p (λ h. Ok (end_in (length bytes) h)) found (λ q. before_segment bytes q)
 
-segment_from-step : (bytes : List ℕ) (p : ℕ) (found : Result Header Damage) → p < length bytes → found ≡ element_at at_level_0 bytes p (length bytes) → segment_from bytes p ≡ found_behind bytes (at_place bytes p found)
+segment_from-step : (bytes : List ℕ) (p : ℕ) (found : Result Header Damage) → p < length bytes → found ≡ element_at at_level_0 bytes p (length bytes) → segment_from bytes p ≡ segment_or_damage bytes (at_place bytes p found)
 unfolding at_place
 segment_from-step bytes p found inside is =
-    ap (found_behind bytes)
+    ap (segment_or_damage bytes)
     (elements-more at_level_0 (λ id. id == SEGMENT) (λ h. Ok (end_in (length bytes) h)) bytes p (length bytes) (Advances-known at_level_0 bytes (length bytes)) inside
     ∙ ap (at_place bytes p) (sym is))
 
@@ -57,10 +57,10 @@ segment_from-goes_on bytes p h inside is other =
     let test : (h.id == SEGMENT) ≡ false = grind (arith, nat_tests) in
     segment_from-step bytes p (Ok h) inside is ∙ rw test (skipped (before_segment bytes (end_in (length bytes) h)))
   where
-    skipped : (run : Run) → found_behind bytes (record { list = h ∷ run.list; damage = run.damage; end = run.end }) ≡ found_behind bytes run
+    skipped : (run : Run) → segment_or_damage bytes (record { list = h ∷ run.list; damage = run.damage; end = run.end }) ≡ segment_or_damage bytes run
     skipped run = by_damage run.damage
       where
-        by_damage : (d : Option Damage) → found_behind bytes (record { list = h ∷ run.list; damage = d; end = run.end }) ≡ found_behind bytes (record { list = run.list; damage = d; end = run.end })
+        by_damage : (d : Option Damage) → segment_or_damage bytes (record { list = h ∷ run.list; damage = d; end = run.end }) ≡ segment_or_damage bytes (record { list = run.list; damage = d; end = run.end })
         by_damage None = refl
         by_damage (Some d) = refl
 

@@ -14,12 +14,12 @@ abbrev pub others_of : List Header → List Header
 others_of list = filter (λ h. not (h.id == CLUSTER)) list
 
 -- an Element, where it isn't a Cluster
-abbrev pub kept_of : Header → List Header
-kept_of h = if not (h.id == CLUSTER) then h ∷ [] else []
+abbrev pub unless_cluster : Header → List Header
+unless_cluster h = if not (h.id == CLUSTER) then h ∷ [] else []
 
 -- the last Element of a list
-abbrev pub last_of : List Header → Option Header
-last_of list = last_or None list
+abbrev pub last_element : List Header → Option Header
+last_element list = last_or None list
 
 -- An Element whose body can be read of a file of `total` octets: its size is known, and it ends within.
 pub record IsInFile (total : ℕ) (h : Header) : Type 0 where
@@ -34,7 +34,7 @@ described_octets h = if is_described h.id then known h.size else 0
 pub record Keeps (held : ℕ) (list : List Header) (kept : Collected) : Type 0 where
   pub others : kept.others.items ≡ others_of list
   pub first : kept.cluster ≡ first_of CLUSTER list
-  pub last : kept.last ≡ last_of list
+  pub last : kept.last ≡ last_element list
   pub octets : kept.held ≡ held + described list
 
 -- What is said of each list of which this is kept.
@@ -46,7 +46,7 @@ abbrev pub KeepsAlso : Header → Collected → Collected → Option Damage → 
 KeepsAlso h old new refusal = refusal ≡ None → OfKept old (λ held list. Keeps held (list ++ h ∷ []) new)
 
 abbrev pub AddsOther : Header → Collected → Collected → Option Damage → Type 0
-AddsOther h old new refusal = refusal ≡ None → new.others.items ≡ old.others.items ++ kept_of h
+AddsOther h old new refusal = refusal ≡ None → new.others.items ≡ old.others.items ++ unless_cluster h
 
 -- the limit that an Element behind those of a list passes, if it does
 abbrev pub RefusesAs : Header → Collected → Option Damage → Type 0

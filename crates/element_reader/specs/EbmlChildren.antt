@@ -19,8 +19,8 @@ abbrev pub child_refusal : List ℕ → Run → Option Damage
 child_refusal bytes run = first_damage (bad_value bytes EBML run.list ∷ run.damage ∷ [])
 
 -- a value of this ID in an EBML header has at most 8 octets
-abbrev pub IsShort : ℕ → Type 0
-IsShort id = (body : List ℕ) → is_known_value EBML id body ≡ true → length body ≤ 8
+abbrev pub IsShortValue : ℕ → Type 0
+IsShortValue id = (body : List ℕ) → is_known_value EBML id body ≡ true → length body ≤ 8
 
 -- what refuses the values of an EBML header's children, in the order in which it is told
 abbrev pub value_causes : List ℕ → List Header → List (Option Damage)

@@ -73,5 +73,5 @@ abbrev pub GoesAlong : {S T E : Type 0} → Ghosts S → Listing → Listing →
 GoesAlong r old new before now result = GoesTo r old.file old.at new.at old.ahead new.ahead before now result
 
 -- All Elements of level 1 are left of a file that has this outline.
-abbrev pub HasAllLeft : Outline → Listing → Type 0
-HasAllLeft outline p = (bytes : List ℕ) → outline.total ≡ length bytes → left bytes p ≡ (segment_run bytes outline.segment).list
+abbrev pub HasAllElementsLeft : Outline → Listing → Type 0
+HasAllElementsLeft outline p = (bytes : List ℕ) → outline.total ≡ length bytes → left bytes p ≡ (segment_run bytes outline.segment).list

@@ -6,7 +6,7 @@ use Rattle.mkv_schema.specs.declared.element.Header.{Header}
 use Rattle.mkv_schema.specs.Outline.{Outlined, described, outline_of}
 use Rattle.mkv_io.specs.Results.{and_then}
 use Rattle.mkv_schema.specs.Value.{first_of}
-use Rattle.element_reader.specs.Collected.{last_of, others_of}
+use Rattle.element_reader.specs.Collected.{last_element, others_of}
 use Rattle.element_reader.specs.declared.outline_end.OutlineEnd.{OutlineEnd}
 use Rattle.element_reader.specs.declared.outline_end.OutlineEnd.TheVariants as outline_end
 
@@ -32,7 +32,7 @@ shown bytes o = record {
   segment = o.segment;
   others = others_of o.list;
   cluster = first_of CLUSTER o.list;
-  last = last_of o.list;
+  last = last_element o.list;
   held = described o.list;
   damage = o.damage;
   end = o.end;

@@ -7,11 +7,11 @@ use Rattle.mkv_schema.specs.Outline.{before_segment, segment_behind}
 use Rattle.mkv_io.specs.Results.{and_then, unless}
 
 -- the Segment behind the Elements that stand before it, or what refuses the file on the way
-abbrev pub found_behind : List ℕ → Run → Result Header Damage
-found_behind bytes run = and_then (unless run.damage run) (segment_behind bytes)
+abbrev pub segment_or_damage : List ℕ → Run → Result Header Damage
+segment_or_damage bytes run = and_then (unless run.damage run) (segment_behind bytes)
 
 abbrev pub segment_from : List ℕ → ℕ → Result Header Damage
-segment_from bytes from = found_behind bytes (before_segment bytes from)
+segment_from bytes from = segment_or_damage bytes (before_segment bytes from)
 
 -- where the body of a Segment begins, or the end of the file where there is none
 abbrev pub body_or : ℕ → Result Header Damage → ℕ

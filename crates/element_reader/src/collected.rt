@@ -53,7 +53,7 @@ fn described_octets(header: &Header) -> u64
 }
 
 impl Collected {
-    ghost use Rattle.element_reader.specs.Collected.{AddsOther, Keeps, KeepsAlso, OfKept, RefusesAs, kept_of};
+    ghost use Rattle.element_reader.specs.Collected.{AddsOther, Keeps, KeepsAlso, OfKept, RefusesAs, unless_cluster};
 
     /// Nothing is kept yet, and earlier inputs have held so many octets.
     pub fn new(alloc: Global, held: u64) -> Collected

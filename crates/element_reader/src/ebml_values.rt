@@ -6,7 +6,7 @@ ghost use Rattle.mkv_schema.specs.Outline.{above, is_doc_type, place_of, wrong_d
 ghost use Rattle.mkv_schema.specs.Value.{text_in, uint_in};
 ghost use Rattle.mkv_schema.specs.declared.ids.TheConstants.{DOC_TYPE as DOC_TYPE_ID};
 ghost use Rattle.elements.specs.Body.{IfBody, IsBody};
-ghost use Rattle.element_reader.specs.EbmlChildren.{IfSound, IsShort, child_refusal, children, doc_type_in, in_body};
+ghost use Rattle.element_reader.specs.EbmlChildren.{IfSound, IsShortValue, child_refusal, children, doc_type_in, in_body};
 ghost use Rattle.mkv_io.specs.declared.outside.TheConstants.{LONGEST_FILE};
 
 use crate::ebml_children::first_child;
@@ -19,7 +19,7 @@ use mkv_schema::{text_default, uint_default};
 /// The unsigned integer of an ID in an EBML header whose body this is, or its default, or 0.
 pub fn uint_in(body: &[u8], base: u64, total: u64, id: u32) -> u64
     requires few { base + length body.now ≤ LONGEST_FILE }
-    requires short { IsShort id }
+    requires short { IsShortValue id }
     ensures { IfSound base total body.now (λ bytes. result ≡ uint_in bytes id (in_body bytes base body.now).list) }
 {
     let default = uint_default(id).unwrap_or(0);
@@ -83,7 +83,7 @@ pub fn wrong_doc_type(body: &[u8], base: u64, total: u64) -> Option<Damage>
 /// What refuses an integer that is above what is read.
 pub fn above(body: &[u8], base: u64, total: u64, id: u32, limit: u64, kind: Kind) -> Option<Damage>
     requires few { base + length body.now ≤ LONGEST_FILE }
-    requires short { IsShort id }
+    requires short { IsShortValue id }
     ensures { IfSound base total body.now (λ bytes. result ≡ above bytes id limit kind (in_body bytes base body.now).list) }
 {
     if uint_in(body, base, total, id) <= limit {

@@ -5,7 +5,7 @@ ghost use Rattle.mkv_io.specs.Faults.{HasCause, is_failure};
 ghost use Rattle.mkv_io.specs.Sources.{IfRead, IfTold, OnlyReads, live_files};
 ghost use Rattle.mkv_schema.specs.Outline.{segment_run};
 ghost use Rattle.elements.specs.Window.{nothing_at};
-ghost use Rattle.element_reader.specs.LevelOne.{CanRead, GivesNext, GoesAlong, GoesOn, HasAllLeft, StandsOn, first_place, left};
+ghost use Rattle.element_reader.specs.LevelOne.{CanRead, GivesNext, GoesAlong, GoesOn, HasAllElementsLeft, StandsOn, first_place, left};
 
 use crate::level::segment_bound;
 use crate::outline::Outline;
@@ -40,7 +40,7 @@ impl LevelOne {
     /// The Elements of level 1 of a file whose outline this is.
     pub fn start(outline: &Outline, file: FileId) -> LevelOne
         ensures place { result ≡ first_place outline.now.segment outline.now.total file }
-        ensures left { HasAllLeft outline.now result }
+        ensures left { HasAllElementsLeft outline.now result }
     {
         LevelOne::over(&outline.segment(), outline.total(), file)
     }

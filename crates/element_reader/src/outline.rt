@@ -53,7 +53,7 @@ impl Model for Outline {
 
 impl Outline {
     ghost use Rattle.mkv_schema.specs.declared.ids.TheConstants.{CLUSTER as CLUSTER_ID};
-    ghost use Rattle.element_reader.specs.Collected.{IsInFile, last_of};
+    ghost use Rattle.element_reader.specs.Collected.{IsInFile, last_element};
     ghost use Rattle.element_reader.specs.Outline.{IsOutline, first_in, is_outline_fault, outline_in, shown};
 
     /// Reads the outline of a file. It is refused where it isn't a Matroska or WebM file that is read,
@@ -169,7 +169,7 @@ impl Outline {
     /// The last Element of level 1, Clusters too.
     pub fn last(&self) -> Option<Header>
         ensures kept { result ≡ self.now.last }
-        ensures exact { (bytes : List ℕ) (o : Outlined) → self.now ≡ shown bytes o → result ≡ last_of o.list }
+        ensures exact { (bytes : List ℕ) (o : Outlined) → self.now ≡ shown bytes o → result ≡ last_element o.list }
     {
         self.level.kept.last
     }

@@ -12,16 +12,16 @@ use Rattle.mkv_outputs.specs.Starts.{AreBegun, StandsInPart}
 use Rattle.mkv_outputs.specs.declared.sink.Sink.{Sink}
 use Rattle.mkv_outputs.proofs.StartsLemmas.{IsBegun-whole}
 use Rattle.extractors.specs.Content.{counted, entries_from, output_of, outputs_of}
-use Rattle.extractors.specs.Frames.{Frame, frames_for, frames_in, frames_of}
+use Rattle.extractors.specs.Frames.{Frame, frames_for, frames_of_block, frames_of}
 use Rattle.extractors.specs.declared.track_output.TrackOutput.{TrackOutput}
 use Rattle.extractors.proofs.ContentLemmas.{output_of-more, outputs_of-begun}
-use Rattle.extractors.specs.Walks.{GivesBlock, GivesBlocks, HaveBlocks, count_in, number_after, numbers_after, piece}
+use Rattle.extractors.specs.Walks.{WritesBlock, GivesBlocks, HaveBlocks, count_in, number_after, numbers_after, piece}
 
 -- a block of another track adds nothing
 pub frames_for-none : (o : TrackOutput) (b : Block) → b.track ≢ o.track → frames_for o.step o.track b ≡ []
 frames_for-none o b other = step (b.track == o.track) (λ same. other (eqb-true b.track o.track same))
   where
-    step : (same : Bool) → (same ≡ true → ⊥) → (if same then frames_in o.step b else []) ≡ []
+    step : (same : Bool) → (same ≡ true → ⊥) → (if same then frames_of_block o.step b else []) ≡ []
     step true differs = absurd (differs refl)
     step false differs = refl
 
@@ -36,10 +36,10 @@ count-none o n b other below = step (count_in o b) (ap length (frames_for-none o
     step k none = omega (arith, none, below)
 
 -- a block of its track has its frames for it
-pub frames_for-all : (o : TrackOutput) (b : Block) → b.track ≡ o.track → frames_for o.step o.track b ≡ frames_in o.step b
+pub frames_for-all : (o : TrackOutput) (b : Block) → b.track ≡ o.track → frames_for o.step o.track b ≡ frames_of_block o.step b
 frames_for-all o b same = step (b.track == o.track) (eq-eqb b.track o.track same)
   where
-    step : (test : Bool) → test ≡ true → (if test then frames_in o.step b else []) ≡ frames_in o.step b
+    step : (test : Bool) → test ≡ true → (if test then frames_of_block o.step b else []) ≡ frames_of_block o.step b
     step true is = refl
     step false is = absurd (cc)
 
@@ -139,9 +139,9 @@ given_upto-begun zero (o ∷ os) blocks b = outputs_of-begun (o ∷ os) blocks (
 given_upto-begun (suc k) (o ∷ os) blocks b = (IsBegun-whole (output_of o (blocks ++ b ∷ [])), given_upto-begun k os blocks b)
 
 -- a refusal leaves a part
-pub GivesBlock-err : {S T E : Type 0} (f : Ghosts S) (list : List TrackOutput) (old new : S) (sinks later : List Sink) (before after : List ℕ) (b : Block) (result : Result T E) → IsErr result → ((since : Names) (blocks : List Block) → HaveBlocks f since list old sinks before blocks → StandsInPart since (f.names new) (outputs_of list (blocks ++ b ∷ []))) → GivesBlock f list old new sinks later before after b result
-GivesBlock-err f list old new sinks later before after b (Ok done) is part = absurd (cc)
-GivesBlock-err f list old new sinks later before after b (Err fault) is part = part
+pub WritesBlock-err : {S T E : Type 0} (f : Ghosts S) (list : List TrackOutput) (old new : S) (sinks later : List Sink) (before after : List ℕ) (b : Block) (result : Result T E) → IsErr result → ((since : Names) (blocks : List Block) → HaveBlocks f since list old sinks before blocks → StandsInPart since (f.names new) (outputs_of list (blocks ++ b ∷ []))) → WritesBlock f list old new sinks later before after b result
+WritesBlock-err f list old new sinks later before after b (Ok done) is part = absurd (cc)
+WritesBlock-err f list old new sinks later before after b (Err fault) is part = part
 
 pub GivesBlocks-err : {S T E : Type 0} (f : Ghosts S) (list : List TrackOutput) (old new : S) (sinks later : List Sink) (all : List Block) (result : Result T E) → IsErr result → ((since : Names) → HaveBeenGiven since (f.names old) (f.holder old) sinks (outputs_of list []) → StandsInPart since (f.names new) (outputs_of list all)) → GivesBlocks f list old new sinks later all result
 GivesBlocks-err f list old new sinks later all (Ok done) is part = absurd (cc)

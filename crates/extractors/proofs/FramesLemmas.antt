@@ -20,7 +20,7 @@ use Rattle.extractors.specs.Content.{counted, entries_from, entry_of, whole, wri
 use Rattle.block_records.specs.Buffered.{Buffered, block_of}
 use Rattle.block_records.specs.declared.head.BlockHead.{BlockHead}
 use Rattle.block_records.proofs.FrontLemmas.{length-frames_cut}
-use Rattle.extractors.specs.Frames.{Frame, frames_from, frames_in}
+use Rattle.extractors.specs.Frames.{Frame, frames_from, frames_of_block}
 use Rattle.extractors.specs.Times.{time_line}
 use Rattle.extractors.specs.declared.frame_form.FrameForm.{FrameForm}
 use Rattle.extractors.specs.declared.frame_form.FrameForm.TheVariants as form
@@ -137,14 +137,14 @@ entries_left-found o number time duration sizes body i at n found below named fi
     less a b = omega arith
 
 -- at first those of the whole block are left
-pub entries_left-block : (o : TrackOutput) (number step : ℕ) (sizes body : List ℕ) (head : BlockHead) (duration : ℕ) (b : Buffered) → head ≡ b.head → sizes ≡ b.sizes → body ≡ b.body → duration ≡ unwrap_or head.duration 0 → entries_left o number step head.time duration sizes body 0 0 ≡ entries_from o number (frames_in step (block_of b))
+pub entries_left-block : (o : TrackOutput) (number step : ℕ) (sizes body : List ℕ) (head : BlockHead) (duration : ℕ) (b : Buffered) → head ≡ b.head → sizes ≡ b.sizes → body ≡ b.body → duration ≡ unwrap_or head.duration 0 → entries_left o number step head.time duration sizes body 0 0 ≡ entries_from o number (frames_of_block step (block_of b))
 unfolding entries_left
 entries_left-block o number step sizes body head duration b heads cut octets lasts =
     ap (λ (d : ℕ). entries_from o (number + 0) (frames_from step head.time d 0 (frames_cut sizes body))) lasts
     ∙ ap (λ (h : BlockHead). entries_from o (number + 0) (frames_from step h.time (unwrap_or h.duration 0) 0 (frames_cut sizes body))) heads
     ∙ ap (λ (ss : List ℕ). entries_from o (number + 0) (frames_from step b.head.time (unwrap_or b.head.duration 0) 0 (frames_cut ss body))) cut
     ∙ ap (λ (os : List ℕ). entries_from o (number + 0) (frames_from step b.head.time (unwrap_or b.head.duration 0) 0 (frames_cut b.sizes os))) octets
-    ∙ ap (λ (n : ℕ). entries_from o n (frames_in step (block_of b))) (plus_none number)
+    ∙ ap (λ (n : ℕ). entries_from o n (frames_of_block step (block_of b))) (plus_none number)
   where
     plus_none : (k : ℕ) → k + 0 ≡ k
     plus_none k = omega arith
@@ -159,7 +159,7 @@ length-frames_from : (step : ℕ) (time : ℤ) (duration i : ℕ) (frames : List
 length-frames_from step time duration i [] = refl
 length-frames_from step time duration i (octets ∷ rest) = ap suc (length-frames_from step time duration (i + 1) rest)
 
-pub length-frames_in : (step : ℕ) (b : Buffered) (sizes : List ℕ) → sizes ≡ b.sizes → length (frames_in step (block_of b)) ≡ length sizes
+pub length-frames_in : (step : ℕ) (b : Buffered) (sizes : List ℕ) → sizes ≡ b.sizes → length (frames_of_block step (block_of b)) ≡ length sizes
 length-frames_in step b sizes same =
     length-frames_from step b.head.time (unwrap_or b.head.duration 0) 0 (frames_cut b.sizes b.body) ∙ length-frames_cut b.sizes b.body ∙ ap length (sym same)
 
@@ -214,7 +214,7 @@ times-from o number step time duration i (octets ∷ rest) is =
     ∙ ap (λ (line : List ℕ). line ++ entries_from o (number + 1) (frames_from step time duration (i + 1) rest)) (sym (entry-time o number (framed octets (time +ℤ pos (i * step)) duration) is))
 
 -- of a block of which this is known
-pub times-block : (o : TrackOutput) (number : ℕ) (head : BlockHead) (n : ℕ) (b : Block) (lent : Buffered) → o.form ≡ form.Time → head ≡ lent.head → n ≡ lent.frames → IsKnownByHead b lent → times_left o.step head.time 0 (n - 0) ≡ entries_from o number (frames_in o.step b)
+pub times-block : (o : TrackOutput) (number : ℕ) (head : BlockHead) (n : ℕ) (b : Block) (lent : Buffered) → o.form ≡ form.Time → head ≡ lent.head → n ≡ lent.frames → IsKnownByHead b lent → times_left o.step head.time 0 (n - 0) ≡ entries_from o number (frames_of_block o.step b)
 times-block o number head n b lent is heads count known =
     ap (λ (h : BlockHead). times_left o.step h.time 0 (n - 0)) (heads ∙ sym known.head)
     ∙ ap (times_left o.step b.time 0) (less_none n ∙ count ∙ sym known.frames)
@@ -224,5 +224,5 @@ times-block o number head n b lent is heads count known =
     less_none n = omega arith
 
 -- as many as it has
-pub length-times : (step n : ℕ) (b : Block) (lent : Buffered) → n ≡ lent.frames → IsKnownByHead b lent → length (frames_in step b) ≡ n
+pub length-times : (step n : ℕ) (b : Block) (lent : Buffered) → n ≡ lent.frames → IsKnownByHead b lent → length (frames_of_block step b) ≡ n
 length-times step n b lent count known = length-frames_from step b.time (unwrap_or b.duration 0) 0 b.frames ∙ known.frames ∙ sym count

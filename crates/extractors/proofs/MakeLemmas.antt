@@ -16,13 +16,13 @@ use Rattle.mkv_outputs.proofs.StartsLemmas.{AreBegun-then, IsBegun-whole}
 use Rattle.extractors.specs.Content.{names_in, output_of, outputs_of}
 use Rattle.extractors.specs.declared.track_output.TrackOutput.{TrackOutput}
 use Rattle.extractors.proofs.ContentLemmas.{names_of-outputs, output_of-none}
-use Rattle.extractors.specs.Walks.{Makes, WritesAndReads}
+use Rattle.extractors.specs.Walks.{MakesOutputs, WritesAndReads}
 use Rattle.extractors.specs.Whole.{AreWritten}
 
 -- a refusal leaves a part
-pub Makes-err : {S T E : Type 0} (f : Ghosts S) (old new : S) (later : List Sink) (given : List Output) (result : Result T E) → IsErr result → StandsInPart (f.names old) (f.names new) given → Makes f old new later given result
-Makes-err f old new later given (Ok done) is part = absurd (cc)
-Makes-err f old new later given (Err fault) is part = part
+pub MakesOutputs-err : {S T E : Type 0} (f : Ghosts S) (old new : S) (later : List Sink) (given : List Output) (result : Result T E) → IsErr result → StandsInPart (f.names old) (f.names new) given → MakesOutputs f old new later given result
+MakesOutputs-err f old new later given (Ok done) is part = absurd (cc)
+MakesOutputs-err f old new later given (Err fault) is part = part
 
 -- ---- the first of the outputs
 

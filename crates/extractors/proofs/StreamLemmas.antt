@@ -4,7 +4,7 @@ use Rattle.std.specs.List.{All, filter}
 use Rattle.elementary.specs.declared.audio.Aac.{Aac}
 use Rattle.elementary.specs.Avc.{annex_b, byte_stream}
 use Rattle.elementary.specs.Aac.{IsAac, adts}
-use Rattle.elementary.specs.Streams.{written, IsPlain, IsByteStream, with_three, good_units, avc_stream, IsAdts, headed, is_good}
+use Rattle.elementary.specs.Streams.{written, HasNoStartCode, IsByteStream, with_three, good_units, avc_stream, IsAdts, headed, is_good}
 use Rattle.elementary.proofs.AdtsLemmas.{adts-holds}
 use Rattle.elementary.proofs.StreamsLemmas.{stream-holds}
 use Rattle.block_format.specs.Block.{Block}
@@ -37,7 +37,7 @@ adts-output o aac blocks head form_is can =
     let P : List ℕ → Type 0 = λ x. IsAdts x (headed aac (filter is_good (octets_of_frames o blocks))) in
     subst P (sym content) (adts-holds aac (octets_of_frames o blocks) can)
 
-pub annex_b-output : (o : TrackOutput) (sets : List (List ℕ)) (w : ℕ) (blocks : List Block) → o.head ≡ byte_stream sets → o.form ≡ form.AnnexB w → All IsPlain (sets ++ good_units w (octets_of_frames o blocks)) → IsByteStream (content_of o blocks) (with_three (sets ++ good_units w (octets_of_frames o blocks)))
+pub annex_b-output : (o : TrackOutput) (sets : List (List ℕ)) (w : ℕ) (blocks : List Block) → o.head ≡ byte_stream sets → o.form ≡ form.AnnexB w → All HasNoStartCode (sets ++ good_units w (octets_of_frames o blocks)) → IsByteStream (content_of o blocks) (with_three (sets ++ good_units w (octets_of_frames o blocks)))
 annex_b-output o sets w blocks head form_is plain =
     let frames = frames_of o.step o.track blocks in
     let entries = entries-written o (annex_b w) 1 frames (λ k f octets. annex_b-form o.form w k f octets form_is) in

@@ -3,7 +3,7 @@ use Rattle.std.specs.Prelude.{◌≡◌, ℕ, List, [], ◌++◌, map, filter, A
 use Rattle.elementary.specs.declared.audio.Aac.{Aac}
 use Rattle.elementary.specs.Avc.{byte_stream}
 use Rattle.elementary.specs.Aac.{IsAac}
-use Rattle.elementary.specs.Streams.{IsPlain, IsByteStream, with_three, good_units, IsAdts, headed, is_good}
+use Rattle.elementary.specs.Streams.{HasNoStartCode, IsByteStream, with_three, good_units, IsAdts, headed, is_good}
 use Rattle.block_format.specs.Block.{Block}
 use Rattle.extractors.specs.Content.{content_of, whole}
 use Rattle.extractors.specs.Frames.{Frame, frames_of}
@@ -20,5 +20,5 @@ pub record OutputsHoldTheGoodFrames : Type 0 where
   pub adts : (o : TrackOutput) (aac : Aac) (blocks : List Block) → o.head ≡ [] → o.form ≡ form.Adts aac → IsAac aac
       → IsAdts (content_of o blocks) (headed aac (filter is_good (octets_of_frames o blocks)))
   pub annex_b : (o : TrackOutput) (sets : List (List ℕ)) (w : ℕ) (blocks : List Block) → o.head ≡ byte_stream sets → o.form ≡ form.AnnexB w
-      → All IsPlain (sets ++ good_units w (octets_of_frames o blocks))
+      → All HasNoStartCode (sets ++ good_units w (octets_of_frames o blocks))
       → IsByteStream (content_of o blocks) (with_three (sets ++ good_units w (octets_of_frames o blocks)))

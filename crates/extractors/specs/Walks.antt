@@ -24,7 +24,7 @@ use Rattle.mkv_outputs.specs.declared.sink.Sink.{Sink}
 use Rattle.extractors.specs.BadFrames.{TellsMore, bad_in, told_of}
 use Rattle.extractors.specs.Content.{counted, entries_from, entry_of, outputs_of}
 use Rattle.extractors.specs.Codec.{CanWrite}
-use Rattle.extractors.specs.Frames.{Frame, frames_for, frames_in, frames_of}
+use Rattle.extractors.specs.Frames.{Frame, frames_for, frames_of_block, frames_of}
 use Rattle.extractors.specs.Source.{events_in, outputs_in}
 use Rattle.extractors.specs.Takes.{IsEnoughFor, IsEnoughForAll}
 use Rattle.extractors.specs.Whole.{AreWritten}
@@ -74,19 +74,19 @@ AddsFrame f o frame old new sinks later k result = Adds f old new sinks later k 
 
 -- The k-th output has been given what is written of the frames of the block that a cursor lends, of which the first has this number.
 abbrev pub AddsLent : {S T E : Type 0} → writing.Ghosts S → TrackOutput → ℕ → Reading → S → S → List Sink → List Sink → ℕ → Result T E → Type 0
-AddsLent f o n c old new sinks later k result = Adds f old new sinks later k (entries_from o n (frames_in o.step (block_of c.block))) result
+AddsLent f o n c old new sinks later k result = Adds f old new sinks later k (entries_from o n (frames_of_block o.step (block_of c.block))) result
 
 -- This is the number of the frame behind them.
 abbrev pub CountsFrames : {E : Type 0} → TrackOutput → ℕ → Reading → Result ℕ E → Type 0
-CountsFrames o n c result = IfOk result (λ next. next ≡ counted (n + length (frames_in o.step (block_of c.block))))
+CountsFrames o n c result = IfOk result (λ next. next ≡ counted (n + length (frames_of_block o.step (block_of c.block))))
 
 -- The k-th output has been given the times of the frames of a block of which a cursor lends the head.
 abbrev pub AddsTime : {S T E : Type 0} → writing.Ghosts S → TrackOutput → ℕ → Reading → S → S → List Sink → List Sink → ℕ → Result T E → Type 0
-AddsTime f o n c old new sinks later k result = (b : Block) → IsKnownByHead b c.block → Adds f old new sinks later k (entries_from o n (frames_in o.step b)) result
+AddsTime f o n c old new sinks later k result = (b : Block) → IsKnownByHead b c.block → Adds f old new sinks later k (entries_from o n (frames_of_block o.step b)) result
 
 -- This is the number of the frame behind them.
 abbrev pub CountsTimes : {E : Type 0} → TrackOutput → ℕ → Reading → Result ℕ E → Type 0
-CountsTimes o n c result = (b : Block) → IsKnownByHead b c.block → IfOk result (λ next. next ≡ counted (n + length (frames_in o.step b)))
+CountsTimes o n c result = (b : Block) → IsKnownByHead b c.block → IfOk result (λ next. next ≡ counted (n + length (frames_of_block o.step b)))
 
 -- The k-th output has been given what it takes of a block of which a cursor lends enough.
 abbrev pub AddsPart : {S T E : Type 0} → writing.Ghosts S → TrackOutput → ℕ → Reading → S → S → List Sink → List Sink → ℕ → Result T E → Type 0
@@ -116,13 +116,13 @@ pub record HaveBlocks {S : Type 0} (f : writing.Ghosts S) (since : Names) (list 
 
 -- Whatever blocks the outputs were given before, they have then been given this one too. After a refusal that stands
 -- in part.
-abbrev pub GivesBlock : {S T E : Type 0} → writing.Ghosts S → List TrackOutput → S → S → List Sink → List Sink → List ℕ → List ℕ → Block → Result T E → Type 0
-GivesBlock f list old new sinks later before after b (Ok _) = (since : Names) (blocks : List Block) → HaveBlocks f since list old sinks before blocks → HaveBlocks f since list new later after (blocks ++ b ∷ [])
-GivesBlock f list old new sinks later before after b (Err _) = (since : Names) (blocks : List Block) → HaveBlocks f since list old sinks before blocks → StandsInPart since (f.names new) (outputs_of list (blocks ++ b ∷ []))
+abbrev pub WritesBlock : {S T E : Type 0} → writing.Ghosts S → List TrackOutput → S → S → List Sink → List Sink → List ℕ → List ℕ → Block → Result T E → Type 0
+WritesBlock f list old new sinks later before after b (Ok _) = (since : Names) (blocks : List Block) → HaveBlocks f since list old sinks before blocks → HaveBlocks f since list new later after (blocks ++ b ∷ [])
+WritesBlock f list old new sinks later before after b (Err _) = (since : Names) (blocks : List Block) → HaveBlocks f since list old sinks before blocks → StandsInPart since (f.names new) (outputs_of list (blocks ++ b ∷ []))
 
 -- All outputs have been given a block of which a cursor lends enough.
 abbrev pub GivesLent : {S T E : Type 0} → writing.Ghosts S → List TrackOutput → Reading → S → S → List Sink → List Sink → List ℕ → List ℕ → Result T E → Type 0
-GivesLent f list c old new sinks later before after result = (b : Block) → IsEnoughForAll list b c.block → GivesBlock f list old new sinks later before after b result
+GivesLent f list c old new sinks later before after result = (b : Block) → IsEnoughForAll list b c.block → WritesBlock f list old new sinks later before after b result
 
 -- Outputs that were given no block yet have then been given all these. After a refusal that stands in part.
 abbrev pub GivesBlocks : {S T E : Type 0} → writing.Ghosts S → List TrackOutput → S → S → List Sink → List Sink → List Block → Result T E → Type 0
@@ -130,9 +130,9 @@ GivesBlocks f list old new sinks later all (Ok _) = (since : Names) → HaveBeen
 GivesBlocks f list old new sinks later all (Err _) = (since : Names) → HaveBeenGiven since (f.names old) (f.holder old) sinks (outputs_of list []) → StandsInPart since (f.names new) (outputs_of list all)
 
 -- Outputs were made and given these octets, or after a refusal stand in part.
-abbrev pub Makes : {S T E : Type 0} → writing.Ghosts S → S → S → List Sink → List Output → Result T E → Type 0
-Makes f old new later given (Ok _) = HaveBeenGiven (f.names old) (f.names new) (f.holder new) later given
-Makes f old new later given (Err _) = StandsInPart (f.names old) (f.names new) given
+abbrev pub MakesOutputs : {S T E : Type 0} → writing.Ghosts S → S → S → List Sink → List Output → Result T E → Type 0
+MakesOutputs f old new later given (Ok _) = HaveBeenGiven (f.names old) (f.names new) (f.holder new) later given
+MakesOutputs f old new later given (Err _) = StandsInPart (f.names old) (f.names new) given
 
 -- Outputs are written while another file is read: their files are the same and stay open, and the live files of all
 -- other names stay.

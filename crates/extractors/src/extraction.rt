@@ -12,7 +12,7 @@ ghost use Rattle.mkv_outputs.specs.Sinks.{AreOpen, HaveBeenGiven, MadeSince};
 ghost use Rattle.extractors.specs.Content.{names_in, outputs_of};
 ghost use Rattle.extractors.specs.Job.{form_of, names_of, targets_of};
 ghost use Rattle.extractors.specs.Source.{AreUsable, IsSource, outputs_in};
-ghost use Rattle.extractors.specs.Walks.{IsReady, Makes, ReadsFewOf, TellsLeft, TellsTaken, WritesLeft, WritesTaken};
+ghost use Rattle.extractors.specs.Walks.{IsReady, MakesOutputs, ReadsFewOf, TellsLeft, TellsTaken, WritesLeft, WritesTaken};
 
 use crate::blocks::write_blocks;
 use crate::extracted::Extracted;
@@ -119,7 +119,7 @@ fn make_all<F: Files>(
 ) -> Result<(), MakeFault>
     requires none { outputs.old ≡ [] }
     requires apart { AreApart (names_in list.now) }
-    ensures makes { Makes F.Files.own files.old files.new outputs.new (outputs_of list.now []) result }
+    ensures makes { MakesOutputs F.Files.own files.old files.new outputs.new (outputs_of list.now []) result }
     ensures open { AreOpen F.Reads files.new outputs.new }
     ensures made { MadeSince F.Reads F.Files.own (names_in list.now) files.old files.new outputs.new }
     ensures cause { HasCause is_make_failure (F.writing_faults files.old) (F.writing_faults files.new) result }

@@ -20,7 +20,7 @@ use Rattle.mkv_merge.specs.declared.refusal.Refusal.{Refusal}
 use Rattle.generator.specs.declared.blocks.Medium.TheVariants.{Pictures, Sounds}
 use Rattle.generator.specs.declared.names.Names as own
 use Rattle.generator.specs.Files.{file_of}
-use Rattle.generator.specs.Bound.{ReadsBoth, ReadsParts, layouts, most_behind, most_merged}
+use Rattle.generator.specs.Bound.{ReadsBoth, ReadsMerged, layouts, most_behind, most_merged}
 use Rattle.generator.specs.Generate.{both_words, made_file, made_of, merge_of, parts_words, two_files}
 use Rattle.merge_words.specs.Plain.{plain_file}
 use Rattle.generator.proofs.MakingLemmas.{both-found, both-one, both-there, parts-found, told-then}
@@ -66,7 +66,7 @@ module _ (mid : Names) (names : own.Names) (words : MergeWords) (same : words �
       omega (arith, most)
 
   -- it was done, and then the parts are made
-  pub both-more : (mid' : Names) (s : Summary) (new : ℕ) → ((world : List ℕ → Option (List ℕ)) → mid ≡ Some world → Merges mid mid' words (sources_alone world words) (Ok (merged.Written s))) → ReadsParts mid' names now new → ReadsBoth mid names old new
+  pub both-more : (mid' : Names) (s : Summary) (new : ℕ) → ((world : List ℕ → Option (List ℕ)) → mid ≡ Some world → Merges mid mid' words (sources_alone world words) (Ok (merged.Written s))) → ReadsMerged mid' names now new → ReadsBoth mid names old new
   both-more mid' s new merges parts = λ n before world told apart writes.
       let files = two_files n names in
       let world' = world_with world (map laid_out files) in
@@ -83,7 +83,7 @@ module _ (mid : Names) (names : own.Names) (words : MergeWords) (same : words �
 -- ---- the merge of the one
 
 pub parts-alone : (mid : Names) (names : own.Names) (words : MergeWords) (old now : ℕ) → words ≡ parts_words names
-    → ((world : List ℕ → Option (List ℕ)) → mid ≡ Some world → now ≤ old + most_of (sources_alone world words) (contents_length world words.files)) → ReadsParts mid names old now
+    → ((world : List ℕ → Option (List ℕ)) → mid ≡ Some world → now ≤ old + most_of (sources_alone world words) (contents_length world words.files)) → ReadsMerged mid names old now
 parts-alone mid names words old now same reads = λ n before world made told is one writes.
     let files = two_files n names in
     let world' = world_with world (map laid_out (files ++ made.outputs)) in

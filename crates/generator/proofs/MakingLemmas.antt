@@ -16,13 +16,13 @@ use Rattle.remux_plan.specs.Summary.{written_of}
 use Rattle.remux_plan.specs.declared.summary.Summary.{Summary}
 use Rattle.remux_plan.specs.declared.summary.Written.{Written}
 use Rattle.remuxer.specs.Output.{WritesAll, drafts_of, laid_out}
-use Rattle.mkv_lines.specs.Verdict.{Leaves, Outputs, Verdict, in_turn}
+use Rattle.mkv_lines.specs.Verdict.{Leaves, WrittenOutputs, Verdict, in_turn}
 use Rattle.mkv_lines.specs.declared.status.Stop.{Stop}
 use Rattle.mkv_merge.specs.declared.joining.Merged.TheVariants as merged
 use Rattle.splitter.specs.Sections.{Part}
 use Rattle.splitter.proofs.SectionLemmas.{whole-part}
 use Rattle.mkv_merge.specs.Joined.{Merges, no_texts, outputs_found, sources_alone, sources_apart}
-use Rattle.mkv_merge.specs.Merge.{blocks_of, output_at, refusals_read, sources_in, split_of, status_of}
+use Rattle.mkv_merge.specs.Merge.{blocks_of, output_at, refusals_read, sources_in, split_of, warned_if}
 use Rattle.mkv_merge.specs.Merge.{outputs_of as merge_outputs}
 use Rattle.mkv_merge.specs.Read.{contents_held, first_written as name_written}
 use Rattle.mkv_merge.specs.Refused.{first_cause}
@@ -127,7 +127,7 @@ both-outputs n names files (Ok both) = parts-outputs n names files both (merge_o
 both-outputs n names files (Err why) = ap (λ (os : List PlannedOutput). in_turn (drafts_of os)) (sym (append-nil (files ++ []) ∙ append-nil files))
 
 -- some first outputs of the verdict
-leaves-first : (before new : Names) (v : Outputs) (os more : List PlannedOutput) → v ≡ in_turn (drafts_of (os ++ more)) → StandsInTurn before new (drafts_of os) → Leaves before new v
+leaves-first : (before new : Names) (v : WrittenOutputs) (os more : List PlannedOutput) → v ≡ in_turn (drafts_of (os ++ more)) → StandsInTurn before new (drafts_of os) → Leaves before new v
 leaves-first before new v os more is stands =
     subst (Leaves before new) (sym is) (subst (StandsInTurn before new) (sym (drafts-append os more)) (in_turn-more before new (drafts_of os) (drafts_of more) stands))
 
@@ -259,6 +259,6 @@ module _ (mid new : Names) (names : own.Names) (words : MergeWords) (same : word
         whole = all.names ∙ sym (ap (with_outputs before) all.become);
         lines = ap₂ (λ (w : Written) (k : ℕ). line_for n w k ∷ made.warned ++ (made_of (parts_words names) m.sources).warned) (sym first) (sym many)
             ∙ ap₂ (λ (xs ys : List (List ℕ)). line_for n (first_written both.summary.outputs) (length s.outputs) ∷ xs ++ ys) (sym done.warned) (sym m.summary.warned);
-        status = ap₂ (λ (one two : Bool). status_of (one || two)) (sym done.damaged) (sym m.summary.damaged);
+        status = ap₂ (λ (one two : Bool). warned_if (one || two)) (sym done.damaged) (sym m.summary.damaged);
       }) in
       subst P (sym same) base (merges world' now)

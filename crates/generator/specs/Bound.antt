@@ -36,8 +36,8 @@ most_to_generate n prefix = most_made n (names_of prefix)
 -- ---- on the way
 
 -- Where the two files and the merged one stand, no more is read than may be of that one.
-abbrev pub ReadsParts : Names → own.Names → ℕ → ℕ → Type 0
-ReadsParts old names before now =
+abbrev pub ReadsMerged : Names → own.Names → ℕ → ℕ → Type 0
+ReadsMerged old names before now =
     (n : ℕ) (first : Names) (world : List ℕ → Option (List ℕ)) (made : MergeMade) → first ≡ Some world → merge_of (both_words names) (two_files n names) ≡ Ok made → IsOneFile names.both made
     → WritesAll first old (two_files n names ++ made.outputs) → now ≤ before + most_merged (parts_words names) (layouts made.outputs)
 

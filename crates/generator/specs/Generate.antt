@@ -10,7 +10,7 @@ use Rattle.remux_plan.specs.declared.summary.Written.{Written}
 use Rattle.remuxer.specs.Output.{drafts_of}
 use Rattle.merge_plan.specs.Plan.{Source}
 use Rattle.mkv_merge.specs.Joined.{sources_apart}
-use Rattle.mkv_merge.specs.Merge.{has_damage, outputs_of, status_of, warnings}
+use Rattle.mkv_merge.specs.Merge.{has_damage, outputs_of, warned_if, warnings}
 use Rattle.merge_words.specs.Plain.{plain_file, plain_words}
 use Rattle.mkv_merge.specs.Refused.{line_of}
 use Rattle.mkv_io.specs.Results.{and_then}
@@ -98,7 +98,7 @@ comes_to status files lines = record { status = status; lines = lines; before = 
 -- with the parts, or without where they are refused; what is warned of stands behind the line
 abbrev pub with_parts : ℕ → Names → List PlannedOutput → MergeMade → Result MergeMade Refusal → Verdict
 with_parts n names files both (Ok parts) =
-    comes_to (status_of (both.damaged || parts.damaged)) (files ++ both.outputs ++ parts.outputs)
+    comes_to (warned_if (both.damaged || parts.damaged)) (files ++ both.outputs ++ parts.outputs)
     (line_for n (first_written (map written_of both.outputs)) (length parts.outputs) ∷ both.warned ++ parts.warned)
 with_parts n names files both (Err why) = comes_to Refused (files ++ both.outputs) (line_of (parts_words names) why ∷ [])
 

@@ -10,7 +10,7 @@ use Rattle.mkv_lines.specs.declared.status.Status.{Status}
 use Rattle.mkv_lines.specs.declared.status.Status.TheVariants as status
 use Rattle.mkv_lines.specs.declared.status.Stop.{Stop}
 use Rattle.mkv_io.specs.Lists.{is_some_of}
-use Rattle.mkv_merge.specs.Merge.{status_of}
+use Rattle.mkv_merge.specs.Merge.{warned_if}
 use Rattle.mkv_merge.specs.Refused.{line_of}
 use Rattle.mkv_merge.specs.Told.{warnings_from}
 use Rattle.generator.specs.declared.making.Done.{Done}
@@ -31,7 +31,7 @@ lines_of n (Made both parts) = line_for n (first_written both.summary.outputs) (
 
 abbrev pub status_for : Outcome → Status
 status_for (Refused words why) = status.Refused
-status_for (Made both parts) = status_of (is_some_of both.summary.damages || is_some_of parts.summary.damages)
+status_for (Made both parts) = warned_if (is_some_of both.summary.damages || is_some_of parts.summary.damages)
 
 -- ---- what was made
 

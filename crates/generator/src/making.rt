@@ -6,7 +6,7 @@ ghost use Rattle.mkv_io.specs.Sources.{live_files};
 ghost use Rattle.mkv_io.specs.Told.{Told};
 ghost use Rattle.remuxer.specs.Output.{WritesOutputs};
 ghost use Rattle.generator.specs.Asked.{AsksToGenerate};
-ghost use Rattle.generator.specs.Bound.{ReadsBoth, ReadsParts, most_made};
+ghost use Rattle.generator.specs.Bound.{ReadsBoth, ReadsMerged, most_made};
 ghost use Rattle.generator.specs.Generate.{both_words, parts_words, two_files};
 ghost use Rattle.generator.specs.Outcome.{Makes, MakesBoth, MakesParts};
 ghost use Rattle.mkv_lines.specs.Command.{HasFilesCause};
@@ -67,7 +67,7 @@ fn merge_parts<F: Files>(
 ) -> Result<Outcome, Stop>
     requires { words ≡ parts_words names.now }
     ensures makes { MakesParts (F.names files.old) (F.names files.new) names.now both result }
-    ensures octets { ReadsParts (F.names files.old) names.now (F.octets_read files.old) (F.octets_read files.new) }
+    ensures octets { ReadsMerged (F.names files.old) names.now (F.octets_read files.old) (F.octets_read files.new) }
     ensures live { (file : ℕ) → (live_files F.Reads files.new).live file ≡ (live_files F.Reads files.old).live file }
     ensures asks { AsksToGenerate names.now (F.asked files.old) (F.asked files.new) }
     ensures cause { HasFilesCause F.Reads F.Files.own files.old files.new result }
@@ -91,7 +91,7 @@ fn make_parts<F: Files>(
     files: &mut F,
 ) -> Result<Outcome, Stop>
     ensures makes { MakesParts (F.names files.old) (F.names files.new) names.now both result }
-    ensures octets { ReadsParts (F.names files.old) names.now (F.octets_read files.old) (F.octets_read files.new) }
+    ensures octets { ReadsMerged (F.names files.old) names.now (F.octets_read files.old) (F.octets_read files.new) }
     ensures live { (file : ℕ) → (live_files F.Reads files.new).live file ≡ (live_files F.Reads files.old).live file }
     ensures asks { AsksToGenerate names.now (F.asked files.old) (F.asked files.new) }
     ensures cause { HasFilesCause F.Reads F.Files.own files.old files.new result }

@@ -18,8 +18,8 @@ use Rattle.ebml_numbers.specs.Number.{AreOctets, announced, vint_data, all_ones,
 use Rattle.ebml_numbers.proofs.NumberLemmas.{size_at-reads, size_at-read, size_at-front, size_at-alone}
 use Rattle.lacing.specs.declared.kind.Lace.{Lace}
 use Rattle.lacing.specs.declared.kind.Lace.TheVariants as lace
-use Rattle.lacing.specs.Lace.{xiph_octets, IsFirstSize, bias, IsDifference, IsSpelling, Spells, but_last, AreEqual, IsHead, IsLace, FindsLace, HasNoLace}
-use Rattle.lacing.specs.Reading.{xiph_size, known_size, first_size, data_of, next_size, any_size, fitting, size_in, with_size, size_then, sizes_in, with_last, frames_in, is_frame_count, lace_in}
+use Rattle.lacing.specs.Lace.{xiph_octets, IsFirstSize, bias, IsDifference, IsSpelling, Spells, but_last, AreEqual, IsLaceHead, IsLace, FindsLace, HasNoLace}
+use Rattle.lacing.specs.Reading.{xiph_size, known_size, first_size, data_of, next_size, any_size, fitting, size_in, with_size, size_then, sizes_in, with_last, frame_sizes_in, is_frame_count, lace_in}
 use Rattle.ebml_numbers.proofs.SpelledLemmas.{AreOctets-drop}
 
 -- a pair that is there under a test
@@ -385,16 +385,16 @@ equal_sizes (size ∷ sizes) total some equal whole =
     let even : total % n ≡ 0 = ap (λ (x : ℕ). x % n) (sym product) ∙ mul-mod_right n size in
     (even, rw quotient repeated)
 
-frames_in-again : (kind : Lace) (head sizes rest : List ℕ) → 1 ≤ length sizes → IsHead kind head sizes → sum sizes ≡ length rest → frames_in kind (length sizes) (head ++ rest) ≡ Some (sizes, length head)
-frames_in-again lace.None head sizes rest some is fits =
+frame_sizes_in-again : (kind : Lace) (head sizes rest : List ℕ) → 1 ≤ length sizes → IsLaceHead kind head sizes → sum sizes ≡ length rest → frame_sizes_in kind (length sizes) (head ++ rest) ≡ Some (sizes, length head)
+frame_sizes_in-again lace.None head sizes rest some is fits =
     let none = is.1 in
     rw none (cond-true (length sizes == 1) _ _ (eq-eqb _ _ is.0) ∙ ap (λ (ss : List ℕ). Some (ss, 0)) (sym (one_size sizes (length rest) is.0 fits)))
-frames_in-again lace.Xiph head sizes rest some is fits = spelled-again lace.Xiph head sizes rest some is fits
-frames_in-again lace.Fixed head sizes rest some is fits =
+frame_sizes_in-again lace.Xiph head sizes rest some is fits = spelled-again lace.Xiph head sizes rest some is fits
+frame_sizes_in-again lace.Fixed head sizes rest some is fits =
     let none = is.1 in
     let equal = equal_sizes sizes (length rest) some is.0 fits in
     rw none (cond-true (length rest % length sizes == 0) _ _ (eq-eqb _ _ equal.0) ∙ ap (λ (ss : List ℕ). Some (ss, 0)) (sym equal.1))
-frames_in-again lace.Ebml head sizes rest some is fits = spelled-again lace.Ebml head sizes rest some is fits
+frame_sizes_in-again lace.Ebml head sizes rest some is fits = spelled-again lace.Ebml head sizes rest some is fits
 
 -- What is a lace is read as it.
 pub lace_in-again : (kind : Lace) (head sizes rest : List ℕ) → IsLace kind head sizes (length (head ++ rest)) → lace_in kind (length sizes) (head ++ rest) ≡ Some (sizes, length head)
@@ -402,40 +402,40 @@ unfolding lace_in
 lace_in-again kind head sizes rest is =
     let whole = length-append head rest in
     cond-true (is_frame_count (length sizes)) _ _ (is_frame_count-true (length sizes) is.some is.most)
-    ∙ frames_in-again kind head sizes rest is.some is.spelled (omega (arith, is.whole))
+    ∙ frame_sizes_in-again kind head sizes rest is.some is.spelled (omega (arith, is.whole))
 
-frames_in-found : (kind : Lace) (n : ℕ) (o sizes : List ℕ) (head : ℕ) → AreOctets o → 1 ≤ n → frames_in kind n o ≡ Some (sizes, head)
-    → (length sizes ≡ n) × (head ≤ length o) × IsHead kind (take head o) sizes × (head + sum sizes ≡ length o)
-frames_in-found lace.None n o sizes head octets some is =
+frame_sizes_in-found : (kind : Lace) (n : ℕ) (o sizes : List ℕ) (head : ℕ) → AreOctets o → 1 ≤ n → frame_sizes_in kind n o ≡ Some (sizes, head)
+    → (length sizes ≡ n) × (head ≤ length o) × IsLaceHead kind (take head o) sizes × (head + sum sizes ≡ length o)
+frame_sizes_in-found lace.None n o sizes head octets some is =
     let found = if_some (n == 1) (length o ∷ []) sizes 0 head is in
     let one = eqb-true n 1 found.0 in
-    let P : List ℕ → ℕ → Type 0 = λ ss h. (length ss ≡ n) × (h ≤ length o) × IsHead lace.None (take h o) ss × (h + sum ss ≡ length o) in
+    let P : List ℕ → ℕ → Type 0 = λ ss h. (length ss ≡ n) × (h ≤ length o) × IsLaceHead lace.None (take h o) ss × (h + sum ss ≡ length o) in
     let total = sum_by-cons (λ (x : ℕ). x) (length o) [] in
     let whole : P (length o ∷ []) 0 = (omega arith, omega arith, (omega arith, refl), omega arith) in
     subst (λ (h : ℕ). P sizes h) found.2 (subst (λ (ss : List ℕ). P ss 0) found.1 whole)
-frames_in-found lace.Xiph n o sizes head octets some is = spelled-found lace.Xiph n o sizes head octets some is
-frames_in-found lace.Fixed n o sizes head octets some is =
+frame_sizes_in-found lace.Xiph n o sizes head octets some is = spelled-found lace.Xiph n o sizes head octets some is
+frame_sizes_in-found lace.Fixed n o sizes head octets some is =
     let size = length o / n in
     let found = if_some (length o % n == 0) (replicate n size) sizes 0 head is in
     let even = eqb-true (length o % n) 0 found.0 in
-    let P : List ℕ → ℕ → Type 0 = λ ss h. (length ss ≡ n) × (h ≤ length o) × IsHead lace.Fixed (take h o) ss × (h + sum ss ≡ length o) in
+    let P : List ℕ → ℕ → Type 0 = λ ss h. (length ss ≡ n) × (h ≤ length o) × IsLaceHead lace.Fixed (take h o) ss × (h + sum ss ≡ length o) in
     let count = length-replicate {A = ℕ} n size in
     let total = sum-replicate n size in
     let split = div-add-mod (length o) n in
     let whole : P (replicate n size) 0 = (count, omega arith, (replicate-AreEqual n size, refl), omega arith) in
     subst (λ (h : ℕ). P sizes h) found.2 (subst (λ (ss : List ℕ). P ss 0) found.1 whole)
-frames_in-found lace.Ebml n o sizes head octets some is = spelled-found lace.Ebml n o sizes head octets some is
+frame_sizes_in-found lace.Ebml n o sizes head octets some is = spelled-found lace.Ebml n o sizes head octets some is
 
 -- What is read is a lace.
 pub lace_in-found : (kind : Lace) (n : ℕ) (o sizes : List ℕ) (head : ℕ) → AreOctets o → lace_in kind n o ≡ Some (sizes, head) → FindsLace kind n o sizes head
 unfolding lace_in
 lace_in-found kind n o sizes head octets is = go (is_frame_count n) refl is
   where
-    go : (b : Bool) → is_frame_count n ≡ b → cond {A = Option (List ℕ × ℕ)} b (frames_in kind n o) None ≡ Some (sizes, head) → FindsLace kind n o sizes head
+    go : (b : Bool) → is_frame_count n ≡ b → cond {A = Option (List ℕ × ℕ)} b (frame_sizes_in kind n o) None ≡ Some (sizes, head) → FindsLace kind n o sizes head
     go false test e = absurd (cc)
     go true test e =
         let range = is_frame_count-range n test in
-        let found = frames_in-found kind n o sizes head octets range.0 e in
+        let found = frame_sizes_in-found kind n o sizes head octets range.0 e in
         let own = length-take-le head o found.1 in
         record {
           count = found.0;
@@ -483,7 +483,7 @@ abbrev pub with_front : List ℕ → ℕ → Option (List ℕ × ℕ) → Option
 with_front front octets None = None
 with_front front octets (Some (sizes, head)) = Some (front ++ sizes, octets + head)
 
-pub lace_in-frames : (kind : Lace) (n : ℕ) (o : List ℕ) → is_frame_count n ≡ true → lace_in kind n o ≡ frames_in kind n o
+pub lace_in-frames : (kind : Lace) (n : ℕ) (o : List ℕ) → is_frame_count n ≡ true → lace_in kind n o ≡ frame_sizes_in kind n o
 unfolding lace_in
 lace_in-frames kind n o inside = cond-true (is_frame_count n) _ _ inside
 

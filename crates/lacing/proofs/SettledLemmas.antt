@@ -8,7 +8,7 @@ use Rattle.ebml_numbers.proofs.SpelledLemmas.{AreOctets-drop}
 use Rattle.lacing.specs.declared.kind.Lace.{Lace}
 use Rattle.lacing.specs.declared.kind.Lace.TheVariants as lace
 use Rattle.lacing.specs.Lace.{IsLace, FindsLace}
-use Rattle.lacing.specs.Reading.{any_size, fitting, size_in, with_size, sizes_in, with_last, frames_in, is_frame_count, lace_in}
+use Rattle.lacing.specs.Reading.{any_size, fitting, size_in, with_size, sizes_in, with_last, frame_sizes_in, is_frame_count, lace_in}
 use Rattle.lacing.specs.Settled.{with_zeros, has_head_within, is_settled, HasLace}
 use Rattle.lacing.proofs.LaceLemmas.{any_size-again, any_size-found, fitting-found, lace_in-found, lace_in-finds, lace_in-frames, lace_in-uncounted}
 
@@ -216,7 +216,7 @@ settles_rest-end kind front len head total n before rest none inside =
 pub is_settled-uncounted : (kind : Lace) (count : ℕ) (front : List ℕ) (len : ℕ) → is_frame_count count ≡ false → is_settled kind count front len ≡ false
 is_settled-uncounted kind count front len outside = ap (has_head_within front) (lace_in-uncounted kind count (with_zeros front len) outside)
 
-pub is_settled-counted : (kind : Lace) (count : ℕ) (front : List ℕ) (len : ℕ) → is_frame_count count ≡ true → is_settled kind count front len ≡ has_head_within front (frames_in kind count (with_zeros front len))
+pub is_settled-counted : (kind : Lace) (count : ℕ) (front : List ℕ) (len : ℕ) → is_frame_count count ≡ true → is_settled kind count front len ≡ has_head_within front (frame_sizes_in kind count (with_zeros front len))
 is_settled-counted kind count front len inside = ap (has_head_within front) (lace_in-frames kind count (with_zeros front len) inside)
 
 -- a lace that has no head, where there is one
@@ -240,6 +240,6 @@ is_settled-spelled kind count front len is inside within =
     is_settled-counted kind count front len inside ∙ ap (has_head_within front) (spelled is)
     ∙ ap (λ (n : ℕ). has_head_within front (with_last n (sizes_in kind (count - 1) None (with_zeros front len)))) (length-with_zeros front len within)
   where
-    spelled : (kind ≡ lace.Xiph) ⊎ (kind ≡ lace.Ebml) → frames_in kind count (with_zeros front len) ≡ with_last (length (with_zeros front len)) (sizes_in kind (count - 1) None (with_zeros front len))
+    spelled : (kind ≡ lace.Xiph) ⊎ (kind ≡ lace.Ebml) → frame_sizes_in kind count (with_zeros front len) ≡ with_last (length (with_zeros front len)) (sizes_in kind (count - 1) None (with_zeros front len))
     spelled (inl xiph) = rw xiph refl
     spelled (inr ebml) = rw ebml refl

@@ -14,7 +14,7 @@ use Rattle.ebml_numbers.proofs.WidthLemmas.{least_width-IsLeast, least_size_widt
 use Rattle.ebml_numbers.proofs.NumberLemmas.{size_at-reads, size_at-octets, length-size_octets}
 use Rattle.lacing.specs.declared.kind.Lace.{Lace}
 use Rattle.lacing.specs.declared.kind.Lace.TheVariants as lace
-use Rattle.lacing.specs.Lace.{IsFirstSize, bias, IsDifference, IsSpelling, Spells, but_last, IsHead, IsLace}
+use Rattle.lacing.specs.Lace.{IsFirstSize, bias, IsDifference, IsSpelling, Spells, but_last, IsLaceHead, IsLace}
 use Rattle.lacing.specs.Reading.{data_of, lace_in}
 use Rattle.lacing.specs.Writing.{distance, difference_width, difference_octets, ebml_octets, octets_of_size, octets_of_sizes, lace_head, CanLace}
 use Rattle.lacing.proofs.LaceLemmas.{data_of-size, lace_in-again, last_of, but_last-split}
@@ -109,17 +109,17 @@ All-sum (size ∷ sizes) n small =
     let total = sum_by-cons (λ (x : ℕ). x) size sizes in
     All-cons (λ s. s ≤ n) size sizes (omega arith) (All-sum sizes n (omega arith))
 
-pub IsHead-octets : (kind : Lace) (sizes : List ℕ) → CanLace kind sizes → IsHead kind (lace_head kind sizes) sizes
-IsHead-octets lace.None sizes can = (can.fits, octets_of_sizes-none lace.None None (but_last sizes) (λ b size. refl))
-IsHead-octets lace.Xiph sizes can =
+pub IsLaceHead-octets : (kind : Lace) (sizes : List ℕ) → CanLace kind sizes → IsLaceHead kind (lace_head kind sizes) sizes
+IsLaceHead-octets lace.None sizes can = (can.fits, octets_of_sizes-none lace.None None (but_last sizes) (λ b size. refl))
+IsLaceHead-octets lace.Xiph sizes can =
     Spells-octets lace.Xiph None (but_last sizes) tt tt (All-but_last (λ s. s < 2 ^ 32) sizes (All-weaker (λ s. s ≤ 2 ^ 26) (λ s. s < 2 ^ 32) (λ s h. omega arith) sizes (All-sum sizes (2 ^ 26) can.total)))
-IsHead-octets lace.Fixed sizes can = (can.fits, octets_of_sizes-none lace.Fixed None (but_last sizes) (λ b size. refl))
-IsHead-octets lace.Ebml sizes can =
+IsLaceHead-octets lace.Fixed sizes can = (can.fits, octets_of_sizes-none lace.Fixed None (but_last sizes) (λ b size. refl))
+IsLaceHead-octets lace.Ebml sizes can =
     Spells-octets lace.Ebml None (but_last sizes) tt tt (All-but_last (λ s. s < 2 ^ 32) sizes (All-weaker (λ s. s ≤ 2 ^ 26) (λ s. s < 2 ^ 32) (λ s h. omega arith) sizes (All-sum sizes (2 ^ 26) can.total)))
 
 -- What is written is a lace.
 pub IsLace-octets : (kind : Lace) (sizes : List ℕ) → CanLace kind sizes → IsLace kind (lace_head kind sizes) sizes (length (lace_head kind sizes) + sum sizes)
-IsLace-octets kind sizes can = record { some = can.some; most = can.most; spelled = IsHead-octets kind sizes can; whole = refl }
+IsLace-octets kind sizes can = record { some = can.some; most = can.most; spelled = IsLaceHead-octets kind sizes can; whole = refl }
 
 -- And with its frames behind it, it is split into the same sizes.
 pub lace_in-octets : (kind : Lace) (sizes frames : List ℕ) → CanLace kind sizes → length frames ≡ sum sizes → lace_in kind (length sizes) (lace_head kind sizes ++ frames) ≡ Some (sizes, length (lace_head kind sizes))

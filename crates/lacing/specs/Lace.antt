@@ -53,17 +53,17 @@ AreEqual [] = ⊤
 AreEqual (size ∷ sizes) = All (λ other. other ≡ size) sizes
 
 -- the head of a lace of these sizes
-abbrev pub IsHead : Lace → List ℕ → List ℕ → Type 0
-IsHead lace.None head sizes = (length sizes ≡ 1) × (head ≡ [])
-IsHead lace.Xiph head sizes = Spells lace.Xiph None (but_last sizes) head
-IsHead lace.Fixed head sizes = AreEqual sizes × (head ≡ [])
-IsHead lace.Ebml head sizes = Spells lace.Ebml None (but_last sizes) head
+abbrev pub IsLaceHead : Lace → List ℕ → List ℕ → Type 0
+IsLaceHead lace.None head sizes = (length sizes ≡ 1) × (head ≡ [])
+IsLaceHead lace.Xiph head sizes = Spells lace.Xiph None (but_last sizes) head
+IsLaceHead lace.Fixed head sizes = AreEqual sizes × (head ≡ [])
+IsLaceHead lace.Ebml head sizes = Spells lace.Ebml None (but_last sizes) head
 
 -- 1 to 256 sizes, whose head and frames make so many octets
 pub record IsLace (kind : Lace) (head sizes : List ℕ) (total : ℕ) : Type 0 where
   pub some : 1 ≤ length sizes
   pub most : length sizes ≤ 256
-  pub spelled : IsHead kind head sizes
+  pub spelled : IsLaceHead kind head sizes
   pub whole : length head + sum sizes ≡ total
 
 -- the octets are a lace of so many frames, these sizes behind a head of so many octets

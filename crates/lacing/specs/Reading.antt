@@ -85,12 +85,12 @@ with_last total (Some (sizes, head)) =
     if nat_le (head + sum sizes) total then Some (sizes ++ (total - head - sum sizes) ∷ [], head) else None
 
 -- the sizes of one frame or more
-abbrev pub frames_in : Lace → ℕ → List ℕ → Option (List ℕ × ℕ)
-frames_in lace.None count octets = if count == 1 then Some (length octets ∷ [], 0) else None
-frames_in lace.Xiph count octets = with_last (length octets) (sizes_in lace.Xiph (count - 1) None octets)
-frames_in lace.Fixed count octets =
+abbrev pub frame_sizes_in : Lace → ℕ → List ℕ → Option (List ℕ × ℕ)
+frame_sizes_in lace.None count octets = if count == 1 then Some (length octets ∷ [], 0) else None
+frame_sizes_in lace.Xiph count octets = with_last (length octets) (sizes_in lace.Xiph (count - 1) None octets)
+frame_sizes_in lace.Fixed count octets =
     if length octets % count == 0 then Some (replicate count (length octets / count), 0) else None
-frames_in lace.Ebml count octets = with_last (length octets) (sizes_in lace.Ebml (count - 1) None octets)
+frame_sizes_in lace.Ebml count octets = with_last (length octets) (sizes_in lace.Ebml (count - 1) None octets)
 
 -- a block has 1 to 256 frames
 abbrev pub is_frame_count : ℕ → Bool
@@ -98,7 +98,7 @@ is_frame_count count = nat_le 1 count && nat_le count 256
 
 -- the sizes of so many frames and the octets of their head, where the octets behind the frame count are a lace
 unfoldable pub lace_in : Lace → ℕ → List ℕ → Option (List ℕ × ℕ)
-lace_in kind count octets = if is_frame_count count then frames_in kind count octets else None
+lace_in kind count octets = if is_frame_count count then frame_sizes_in kind count octets else None
 
 -- A head is read back as these sizes, whatever frames of theirs stand behind it.
 abbrev pub IsReadBack : Lace → List ℕ → List ℕ → Type 0

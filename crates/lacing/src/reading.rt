@@ -2,7 +2,7 @@
 ghost use Rattle.std.specs.Prelude.{◌≡◌, ◌+◌, ◌-◌, ◌*◌, ◌^◌, ◌≤◌, ◌<◌, [], Err, None, length, drop, sum, position, not, ◌==◌, ◌≢◌, IfOk, IfSome, OnOk, OnErr};
 ghost use Rattle.smallvec.specs.SmallVec.{HasRoomFor};
 ghost use Rattle.lacing.specs.Lace.{FindsLace, HasNoLace};
-ghost use Rattle.lacing.specs.Reading.{xiph_size, data_of, ebml_size, any_size, fitting, size_in, sizes_in, with_last, frames_in, is_frame_count, lace_in, Gives, Splits};
+ghost use Rattle.lacing.specs.Reading.{xiph_size, data_of, ebml_size, any_size, fitting, size_in, sizes_in, with_last, frame_sizes_in, is_frame_count, lace_in, Gives, Splits};
 
 use crate::difference::bias;
 use crate::kind::{Lace, LaceEnd};
@@ -82,7 +82,7 @@ fn frames(
     requires most { count ≤ 256 }
     requires empty { sizes.old.items ≡ [] }
     requires room { count ≤ sizes.old.capacity }
-    ensures read { Gives (frames_in kind count bytes.now) sizes.new.items result }
+    ensures read { Gives (frame_sizes_in kind count bytes.now) sizes.new.items result }
     ensures capacity { sizes.new.capacity ≡ sizes.old.capacity }
 {
     match kind {
@@ -97,7 +97,7 @@ fn one_frame(count: usize, bytes: &[u8], sizes: &mut SmallVec<u32, 8, Global>) -
     requires some { 1 ≤ count }
     requires empty { sizes.old.items ≡ [] }
     requires room { count ≤ sizes.old.capacity }
-    ensures read { Gives (frames_in Lace.None count bytes.now) sizes.new.items result }
+    ensures read { Gives (frame_sizes_in Lace.None count bytes.now) sizes.new.items result }
     ensures capacity { sizes.new.capacity ≡ sizes.old.capacity }
 {
     if count != 1 {
@@ -112,7 +112,7 @@ fn equal_frames(count: usize, bytes: &[u8], sizes: &mut SmallVec<u32, 8, Global>
     requires some { 1 ≤ count }
     requires empty { sizes.old.items ≡ [] }
     requires room { count ≤ sizes.old.capacity }
-    ensures read { Gives (frames_in Lace.Fixed count bytes.now) sizes.new.items result }
+    ensures read { Gives (frame_sizes_in Lace.Fixed count bytes.now) sizes.new.items result }
     ensures capacity { sizes.new.capacity ≡ sizes.old.capacity }
 {
     if bytes.len() % count != 0 {

@@ -12,7 +12,7 @@ use Rattle.meta_records.specs.Attached.{AttachedFile, in_file}
 use Rattle.meta_records.specs.Records.{FileRecords, file_records, scale_of_info}
 use Rattle.ext_times.specs.Listing.{Listing}
 use Rattle.merge_words.specs.declared.files.FileWords.{FileWords}
-use Rattle.merge_inputs.specs.Input.{InputRead, Clusters, CanBeGiven, file_read, found_then, input_with, refusal_of, unless_refused}
+use Rattle.merge_inputs.specs.Input.{InputRead, Clusters, CanBeGiven, file_read, found_then, input_with, refusal_of, input_or_refusal}
 use Rattle.merge_inputs.specs.declared.input.Blocks.{Blocks}
 use Rattle.merge_inputs.specs.declared.input.Blocks.TheVariants as held_by
 use Rattle.merge_inputs.specs.Select.{keep_of, keeps_attachments, keeps_chapters, keeps_tags, kept_list, kept_one, unmoved}
@@ -53,28 +53,28 @@ refusal_as words r = refusal_of (taken_from words 0 r.tracks)
 abbrev behind : FileWords → Bool → List ℕ → Outlined → Result InputRead InputRefusal
 behind words webm bytes o =
     found_then (file_records bytes o.segment) (λ (r : FileRecords).
-    unless_refused (refusal_as words r) (input_with words webm o r))
+    input_or_refusal (refusal_as words r) (input_with words webm o r))
 
 -- what is taken of it, unless something refuses that
-file_read-unless : (words : FileWords) (webm : Bool) (held : ℕ) (bytes : List ℕ) (v : FileOutline) (r : FileRecords) → outline_in held bytes ≡ Ok v → file_records bytes v.segment ≡ Ok r → file_read words webm held bytes ≡ unless_refused (refusal_as words r) (read_as words webm v r)
+file_read-unless : (words : FileWords) (webm : Bool) (held : ℕ) (bytes : List ℕ) (v : FileOutline) (r : FileRecords) → outline_in held bytes ≡ Ok v → file_records bytes v.segment ≡ Ok r → file_read words webm held bytes ≡ input_or_refusal (refusal_as words r) (read_as words webm v r)
 file_read-unless words webm held bytes v r outline records =
     let of = Outlines-shown held bytes v outline in
     ap (λ (found : Result Outlined Damage). found_then found (behind words webm bytes)) of.is
-    ∙ ap (λ (found : Result FileRecords Damage). found_then found (λ (each : FileRecords). unless_refused (refusal_as words each) (input_with words webm of.outlined each)))
+    ∙ ap (λ (found : Result FileRecords Damage). found_then found (λ (each : FileRecords). input_or_refusal (refusal_as words each) (input_with words webm of.outlined each)))
     (ap (λ (w : FileOutline). file_records bytes w.segment) (sym of.shows) ∙ records)
-    ∙ ap (λ (w : FileOutline). unless_refused (refusal_as words r) (read_as words webm w r)) (sym of.shows)
+    ∙ ap (λ (w : FileOutline). input_or_refusal (refusal_as words r) (read_as words webm w r)) (sym of.shows)
 
 -- where something does
 pub file_read-refused : (words : FileWords) (webm : Bool) (held : ℕ) (bytes : List ℕ) (v : FileOutline) (r : FileRecords) (why : InputRefusal) → outline_in held bytes ≡ Ok v → file_records bytes v.segment ≡ Ok r → refusal_as words r ≡ Some why → file_read words webm held bytes ≡ Err why
 file_read-refused words webm held bytes v r why outline records bad =
     file_read-unless words webm held bytes v r outline records
-    ∙ ap (λ (refusal : Option InputRefusal). unless_refused refusal (read_as words webm v r)) bad
+    ∙ ap (λ (refusal : Option InputRefusal). input_or_refusal refusal (read_as words webm v r)) bad
 
 -- where nothing does
 pub file_read-all : (words : FileWords) (webm : Bool) (held : ℕ) (bytes : List ℕ) (v : FileOutline) (r : FileRecords) (input : InputRead) → outline_in held bytes ≡ Ok v → file_records bytes v.segment ≡ Ok r → refusal_as words r ≡ None → input ≡ read_as words webm v r → file_read words webm held bytes ≡ Ok input
 file_read-all words webm held bytes v r input outline records good is =
     file_read-unless words webm held bytes v r outline records
-    ∙ ap (λ (refusal : Option InputRefusal). unless_refused refusal (read_as words webm v r)) good
+    ∙ ap (λ (refusal : Option InputRefusal). input_or_refusal refusal (read_as words webm v r)) good
     ∙ ap Ok (sym is)
 
 -- two that agree in each part

@@ -69,9 +69,9 @@ found_then (Ok x) more = more x
 found_then (Err d) more = Err (Damaged d)
 
 -- an input, unless something refuses it
-abbrev pub unless_refused : Option InputRefusal → InputRead → Result InputRead InputRefusal
-unless_refused None input = Ok input
-unless_refused (Some why) input = Err why
+abbrev pub input_or_refusal : Option InputRefusal → InputRead → Result InputRead InputRefusal
+input_or_refusal None input = Ok input
+input_or_refusal (Some why) input = Err why
 
 -- what refuses an input whose records are good: of the tracks that are taken the first that can't be used
 abbrev pub refusal_of : List TakenTrack → Option InputRefusal
@@ -99,7 +99,7 @@ abbrev pub file_read : FileWords → Bool → ℕ → List ℕ → Result InputR
 file_read words webm held bytes =
     found_then (outline_of held bytes) (λ (o : Outlined).
     found_then (file_records bytes o.segment) (λ (r : FileRecords).
-    unless_refused (refusal_of (taken_from words 0 r.tracks)) (input_with words webm o r)))
+    input_or_refusal (refusal_of (taken_from words 0 r.tracks)) (input_with words webm o r)))
 
 -- what is read of a text with these entries: one track, and nothing besides
 abbrev pub text_with : FileWords → List Entry → InputRead

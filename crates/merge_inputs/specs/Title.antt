@@ -7,9 +7,9 @@ use Rattle.tree_format.specs.Node.{Node, body_of}
 use Rattle.tree_format.specs.Values.{first_child}
 
 -- the text of the first Title of an Info, up to its first zero octet; empty where there is none
-abbrev pub title_in : Node → List ℕ
-title_in info = option_map_or (λ n. text_of (body_of n)) (first_child TITLE info) []
+abbrev pub title_text : Node → List ℕ
+title_text info = option_map_or (λ n. text_of (body_of n)) (first_child TITLE info) []
 
 -- the title of a file whose first Info this is
 abbrev pub title_of_info : Option Node → List ℕ
-title_of_info info = option_map_or title_in info []
+title_of_info info = option_map_or title_text info []

@@ -27,7 +27,7 @@ use Rattle.merge_model.specs.FileLinks.{octets_in}
 use Rattle.merge_inputs.specs.Input.{InputRead, read_in, total_in}
 use Rattle.merge_inputs.specs.declared.input.Input.{Input}
 use Rattle.merge_plan.specs.Front.{attached_from, attachments_of, attached_length, files_in, reads_of}
-use Rattle.merge_plan.specs.Planned.{IsFileOf, IsToldInput, source_in}
+use Rattle.merge_plan.specs.Planned.{StandsInInput, IsToldInput, source_in}
 use Rattle.merge_plan.specs.Records.{anywhere, kept_anywhere, kept_in, records_from, records_in, uids_at, uids_behind}
 use Rattle.merge_plan.specs.Spots.{HasRecords}
 
@@ -161,18 +161,18 @@ each-uid P so (uid ∷ uids) [] each = λ k d inside. absurd (omega arith)
 each-uid P so (uid ∷ uids) (a ∷ files) each =
     all-first P (with_uid uid a) (with_uids uids files) (so uid a (each 0 a (omega arith))) (each-uid P so uids files (λ k d inside. each (suc k) d (omega arith)))
 
-files-each : (inputs : List Input) → All HasRecords inputs → All (IsFileOf inputs) (files_in_all inputs)
-files-each inputs has = flat-each (λ (i : Input). i.attachments) (IsFileOf inputs) inputs (λ k i inside is. of k i inside is (subst HasRecords (sym is) (has k i inside)))
+files-each : (inputs : List Input) → All HasRecords inputs → All (StandsInInput inputs) (files_in_all inputs)
+files-each inputs has = flat-each (λ (i : Input). i.attachments) (StandsInInput inputs) inputs (λ k i inside is. of k i inside is (subst HasRecords (sym is) (has k i inside)))
   where
-    of : (k : ℕ) (i : Input) → k < length inputs → i ≡ get_or inputs k i → HasRecords i → All (IsFileOf inputs) i.attachments
+    of : (k : ℕ) (i : Input) → k < length inputs → i ≡ get_or inputs k i → HasRecords i → All (StandsInInput inputs) i.attachments
     of k i inside is holds = λ j d below. record { number = k; input = i; inside = inside; is = is; same = (holds.attachments j d below).same; within = (holds.attachments j d below).inside }
 
 -- each stands in the file of one of them
-pub files-are : (before left : List ℕ) (inputs : List Input) → All HasRecords inputs → All (IsFileOf inputs) (merged_attachments (records_at before left inputs))
+pub files-are : (before left : List ℕ) (inputs : List Input) → All HasRecords inputs → All (StandsInInput inputs) (merged_attachments (records_at before left inputs))
 files-are before left inputs has =
     let files : List Attachment = files_in_all inputs in
-    subst (λ (l : List Attachment). All (IsFileOf inputs) (with_uids (renumbered (merged.file_uids l)) l)) (sym (files-at before left inputs))
-    (each-uid (IsFileOf inputs) (λ uid a is. record { number = is.number; input = is.input; inside = is.inside; is = is.is; same = is.same; within = is.within }) (renumbered (merged.file_uids files)) files (files-each inputs has))
+    subst (λ (l : List Attachment). All (StandsInInput inputs) (with_uids (renumbered (merged.file_uids l)) l)) (sym (files-at before left inputs))
+    (each-uid (StandsInInput inputs) (λ uid a is. record { number = is.number; input = is.input; inside = is.inside; is = is.is; same = is.same; within = is.within }) (renumbered (merged.file_uids files)) files (files-each inputs has))
 
 -- ---- Chapters
 

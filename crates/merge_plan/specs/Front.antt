@@ -11,7 +11,7 @@ use Rattle.output_model.specs.Document.{Front}
 use Rattle.merge_words.specs.declared.output.MergeWords.{MergeWords}
 use Rattle.merge_inputs.specs.Input.{InputRead}
 use Rattle.merge_plan.specs.Plan.{Source}
-use Rattle.merge_plan.specs.Records.{info_of, tracks_of}
+use Rattle.merge_plan.specs.Records.{info_of, tracks_of_output}
 
 -- what was read of the inputs
 abbrev pub reads_of : List Source → List InputRead
@@ -50,6 +50,6 @@ abbrev pub front_of : MergeWords → List Source → Front
 front_of words sources = record {
   webm = words.webm;
   info = info_of words (reads_of sources);
-  tracks = tracks_of (reads_of sources);
+  tracks = tracks_of_output (reads_of sources);
   attachments = attachments_of sources;
 }

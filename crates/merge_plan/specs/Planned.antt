@@ -24,7 +24,7 @@ use Rattle.merge_inputs.specs.declared.input.Input.{Input}
 use Rattle.merge_plan.specs.declared.refusal.PlanEnd.{PlanEnd}
 use Rattle.merge_plan.specs.declared.refusal.PlanEnd.TheVariants.{Refused, Memory}
 use Rattle.merge_plan.specs.declared.outputs.OutputRecords.{OutputRecords}
-use Rattle.merge_plan.specs.Records.{chapters_of, tags_of, tracks_of}
+use Rattle.merge_plan.specs.Records.{chapters_of, tags_of, tracks_of_output}
 use Rattle.merge_plan.specs.Identifiers.{Have64Bits, identifiers_of}
 use Rattle.merge_plan.specs.Front.{attachments_of, attached_length, front_of}
 use Rattle.merge_plan.specs.Plan.{Source, drives_given, inputs_given, lanes_given, limits_of, rules_given, split_given}
@@ -42,14 +42,14 @@ IsToldInput f i = f.content i.file.n ≡ Some (octets_in f i.file.n)
 
 -- The records are those that the inputs come to: the attached files with their data, by the contents of the files, and how many octets these are.
 pub record AreRecordsOf (inputs : List Input) (r : OutputRecords) : Type 0 where
-  pub tracks : r.tracks ≡ tracks_of (map read_in inputs)
+  pub tracks : r.tracks ≡ tracks_of_output (map read_in inputs)
   pub attachments : (f : LiveFiles) → All (IsToldInput f) inputs → map (attached_file f) r.attachments ≡ attachments_of (map (source_in f) inputs)
   pub octets : sum_by (λ (a : Attachment). a.len) r.attachments ≡ attached_length (map read_in inputs)
   pub chapters : r.chapters ≡ chapters_of (map read_in inputs)
   pub tags : r.tags ≡ tags_of (map read_in inputs)
 
 -- An attached file's data stand in the file of one of the inputs.
-pub record IsFileOf (inputs : List Input) (a : Attachment) : Type 0 where
+pub record StandsInInput (inputs : List Input) (a : Attachment) : Type 0 where
   pub number : ℕ
   pub input : Input
   pub inside : number < length inputs
@@ -61,7 +61,7 @@ pub record IsFileOf (inputs : List Input) (a : Attachment) : Type 0 where
 pub record AreSound (inputs : List Input) (r : OutputRecords) : Type 0 where
   pub tracks : IsRecord TRACKS r.tracks
   pub attachments : All IsAttached r.attachments
-  pub files : All (IsFileOf inputs) r.attachments
+  pub files : All (StandsInInput inputs) r.attachments
   pub chapters : IfSome r.chapters (IsRecord CHAPTERS)
   pub tags : IfSome r.tags (IsRecord TAGS)
   pub numbers : Have64Bits (identifiers_of (map read_in inputs))
@@ -130,7 +130,7 @@ pub record CanBeWritten (inputs : List Input) (p : MergePlan) : Type 0 where
   pub info : IsRecord INFO p.front.info
   pub tracks : IsRecord TRACKS p.front.tracks
   pub attachments : All IsAttached p.front.attachments
-  pub files : All (IsFileOf inputs) p.front.attachments
+  pub files : All (StandsInInput inputs) p.front.attachments
   pub chapters : IfSome p.chapters (IsRecord CHAPTERS)
   pub tags : IfSome p.tags (IsRecord TAGS)
   pub numbers : Have64Bits (identifiers_of (map read_in inputs))

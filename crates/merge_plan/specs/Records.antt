@@ -57,8 +57,8 @@ entries_from number (uid ∷ uids) (t ∷ taken) = entry_of number uid t ∷ ent
 abbrev pub entries_of : List TakenTrack → List Node
 entries_of taken = entries_from 1 (uids_of taken) taken
 
-abbrev pub tracks_of : List InputRead → Node
-tracks_of reads = output_tracks (entries_of (tracks_taken reads))
+abbrev pub tracks_of_output : List InputRead → Node
+tracks_of_output reads = output_tracks (entries_of (tracks_taken reads))
 
 -- ---- Info
 

@@ -8,7 +8,7 @@ use Rattle.merge_inputs.specs.Input.{InputRead}
 use Rattle.merge_inputs.specs.declared.taken.TakenTrack.{TakenTrack}
 use Rattle.merge_plan.specs.declared.refusal.PlanRefusal.{PlanRefusal}
 use Rattle.merge_plan.specs.declared.refusal.PlanRefusal.TheVariants.{NoLane, TooManyLanes, NotWebm, HeaderTooLarge}
-use Rattle.merge_plan.specs.Records.{chapters_of, tags_of, tracks_of, tracks_taken}
+use Rattle.merge_plan.specs.Records.{chapters_of, tags_of, tracks_of_output, tracks_taken}
 use Rattle.merge_plan.specs.Webm.{is_webm_codec}
 
 -- something that stands only if a test passes
@@ -37,7 +37,7 @@ lanes_refusal webm taken = option_or (no_lane taken) (option_or (too_many_lanes 
 
 -- Tracks, Chapters or Tags, of which the first counts, would be refused when they are read
 abbrev pub records_refusal : List InputRead → Option PlanRefusal
-records_refusal reads = option_map HeaderTooLarge (first_too_large (tracks_of reads) (chapters_of reads) (tags_of reads))
+records_refusal reads = option_map HeaderTooLarge (first_too_large (tracks_of_output reads) (chapters_of reads) (tags_of reads))
 
 -- what refuses it, in the order in which it is told
 abbrev pub plan_refusal : MergeWords → List InputRead → Option PlanRefusal

@@ -46,14 +46,14 @@ use Rattle.merge_words.specs.Sound.{IsSoundMerge}
 use Rattle.merge_inputs.specs.declared.taken.TakenTrack.{TakenTrack}
 use Rattle.merge_plan.specs.Front.{front_of, reads_of}
 use Rattle.merge_plan.specs.Plan.{Source, limits_of, rules_given}
-use Rattle.merge_plan.specs.Records.{chapters_of, first_title, info_of, is_appended, tags_of, title_of, title_or, tracks_begun, tracks_of, tracks_taken}
+use Rattle.merge_plan.specs.Records.{chapters_of, first_title, info_of, is_appended, tags_of, title_of, title_or, tracks_begun, tracks_of_output, tracks_taken}
 use Rattle.merge_plan.proofs.PlanLemmas.{plan-few}
 use Rattle.mkv_merge.specs.Merge.{chapters_in}
 use Rattle.mkv_merge.specs.Read.{is_split}
 use Rattle.mkv_merge.specs.Records.{HaveRecords, IsFilled}
 use Rattle.merge_words.specs.Texts.{AreTexts}
 use Rattle.file_format.specs.Entry as tracks
-use Rattle.merged_outputs.specs.Merge.{IsPlain, lanes_selected}
+use Rattle.merged_outputs.specs.Merge.{HasNoEncodings, lanes_selected}
 use Rattle.merged_outputs.specs.Sources.{AreSources, IsReadSource, IsReadTrack}
 use Rattle.merged_outputs.proofs.ChapterLemmas.{IsRecordIfShort, chapters-stand, record-short}
 use Rattle.merged_outputs.proofs.LaneLemmas.{lanes-length}
@@ -302,11 +302,11 @@ module _ (words : MergeWords) (sources : List Source) (sound : IsSoundMerge word
   tracks-few : length (tracks_taken (reads_of sources)) ≤ MOST_LANES
   tracks-few = plan-few words (reads_of sources) are.unrefused
 
-  lanes-as_many : length (tracks.entries_of (tracks_of (reads_of sources))) ≡ length (lanes_selected words sources)
+  lanes-as_many : length (tracks.entries_of (tracks_of_output (reads_of sources))) ≡ length (lanes_selected words sources)
   lanes-as_many = taken-lanes (tracks_taken (reads_of sources)) (all-tracks sources are.each) tracks-few ∙ sym (lanes-length words.scale sources)
 
   -- Its tracks have frames as they stand.
-  pub document-plain : All IsPlain (tracks.entries_of (tracks_of (reads_of sources)))
+  pub document-plain : All HasNoEncodings (tracks.entries_of (tracks_of_output (reads_of sources)))
   document-plain = taken-plain (tracks_taken (reads_of sources)) (all-tracks sources are.each) tracks-few
 
   -- The scale of its Info is that of the words.

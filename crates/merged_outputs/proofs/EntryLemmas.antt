@@ -27,7 +27,7 @@ use Rattle.track_records.proofs.StandLemmas as row
 use Rattle.track_records.proofs.StandLemmas.{whole-set, whole-removed}
 use Rattle.merge_inputs.specs.Taken.{IsTaken}
 use Rattle.merge_inputs.specs.declared.taken.TakenTrack.{TakenTrack}
-use Rattle.merged_outputs.specs.Merge.{IsPlain}
+use Rattle.merged_outputs.specs.Merge.{HasNoEncodings}
 
 -- ---- what can be written of a change
 
@@ -153,7 +153,7 @@ written-number c (leaf id at body) can whole = let never = whole.master in absur
 written-number c (master id at kids) can whole = number-set c id at kids can
 
 -- Nothing says that its frames were changed.
-pub written-plain : (c : TrackChange) (entry : Node) → IsWholeEntry entry → IsPlain (written_entry c entry)
+pub written-plain : (c : TrackChange) (entry : Node) → IsWholeEntry entry → HasNoEncodings (written_entry c entry)
 written-plain c (leaf id at body) whole = let never = whole.master in absurd (cc)
 written-plain c (master id at kids) whole =
     let all : List Node = entry_list c (list_of kids) in

@@ -60,7 +60,7 @@ use Rattle.merge_words.specs.declared.files.FileWords.{FileWords}
 use Rattle.merge_words.specs.declared.output.MergeWords.{MergeWords}
 use Rattle.merge_words.specs.Sound.{IsSoundFile, IsSoundMerge}
 use Rattle.input_files.specs.Inputs.{file_names}
-use Rattle.merge_inputs.specs.Input.{InputRead, file_read, found_then, input_of, input_with, refusal_of, text_read, text_then, text_with, unless_refused}
+use Rattle.merge_inputs.specs.Input.{InputRead, file_read, found_then, input_of, input_with, refusal_of, text_read, text_then, text_with, input_or_refusal}
 use Rattle.merge_inputs.specs.Select.{is_taken, kept_one, takes, unmoved}
 use Rattle.merge_inputs.specs.Taken.{first_unusable, taken_from, taken_one, taken_track, value_for}
 use Rattle.merge_inputs.specs.Title.{title_of_info}
@@ -265,7 +265,7 @@ found-ok : {A B : Type 0} (found : Result A Damage) (more : A → Result B Input
 found-ok (Ok x) more y is = (x, (refl, is))
 found-ok (Err d) more y is = absurd (cc)
 
-unrefused-ok : (why : Option InputRefusal) (input read : InputRead) → unless_refused why input ≡ Ok read → (why ≡ None) × (input ≡ read)
+unrefused-ok : (why : Option InputRefusal) (input read : InputRead) → input_or_refusal why input ≡ Ok read → (why ≡ None) × (input ≡ read)
 unrefused-ok None input read is = (refl, cc)
 unrefused-ok (Some why) input read is = absurd (cc)
 

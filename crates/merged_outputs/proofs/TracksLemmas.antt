@@ -24,7 +24,7 @@ use Rattle.merged_records.proofs.OutputLemmas.{entry-stands}
 use Rattle.merge_inputs.specs.declared.taken.TakenTrack.{TakenTrack}
 use Rattle.merge_plan.specs.Records.{change_of, entry_of, entries_from, entries_of, uids_of}
 use Rattle.merge_plan.proofs.RecordLemmas.{length-uids}
-use Rattle.merged_outputs.specs.Merge.{IsPlain}
+use Rattle.merged_outputs.specs.Merge.{HasNoEncodings}
 use Rattle.merged_outputs.specs.Sources.{IsReadTrack}
 use Rattle.merged_outputs.proofs.EntryLemmas.{CanBeSet, taken-whole, written-whole, written-number, written-plain, written-track}
 
@@ -34,7 +34,7 @@ use Rattle.merged_outputs.proofs.EntryLemmas.{CanBeSet, taken-whole, written-who
 record IsWritten (entry : Node) : Type 0 where
   whole : IsWholeEntry entry
   track : IsTrack entry
-  plain : IsPlain entry
+  plain : HasNoEncodings entry
 
 can-be : (number uid : ℕ) (t : TakenTrack) → 0 < number → number < 2 ^ 64 → uid < 2 ^ 64 → IsReadTrack t → CanBeSet (change_of number uid t)
 can-be number uid t some small own read = record { some = some; number = small; uid = own; name = read.name; language = read.language }
@@ -154,10 +154,10 @@ module _ (taken : List TakenTrack) (read : All IsReadTrack taken) (few : length 
       tracks-of (entries_of taken) all count (omega (arith, entries-count taken)) short
 
   -- Nothing says that their frames were changed.
-  pub taken-plain : All IsPlain (track.entries_of (output_tracks (entries_of taken)))
+  pub taken-plain : All HasNoEncodings (track.entries_of (output_tracks (entries_of taken)))
   taken-plain =
       let all = entries-written 1 (uids_of taken) taken (omega arith) (omega arith) uids-small read in
-      subst (All IsPlain) (sym (written-all (entries_of taken) all)) (All-weaker IsWritten IsPlain (λ e w. w.plain) (entries_of taken) all)
+      subst (All HasNoEncodings) (sym (written-all (entries_of taken) all)) (All-weaker IsWritten HasNoEncodings (λ e w. w.plain) (entries_of taken) all)
 
   -- Each is a lane.
   pub taken-lanes : length (track.entries_of (output_tracks (entries_of taken))) ≡ length taken

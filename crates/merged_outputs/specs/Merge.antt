@@ -52,8 +52,8 @@ abbrev pub blocks_held : PlannedOutput → List ℕ → List Block
 blocks_held o bytes = map without_place (blocks_found (events_read o bytes))
 
 -- no ContentEncodings stand in an entry, so the frames of its track are as they stand
-abbrev pub IsPlain : Node → Type 0
-IsPlain entry = first_child CONTENT_ENCODINGS entry ≡ None
+abbrev pub HasNoEncodings : Node → Type 0
+HasNoEncodings entry = first_child CONTENT_ENCODINGS entry ≡ None
 
 -- ---- the merge
 
@@ -63,7 +63,7 @@ IsPlain entry = first_child CONTENT_ENCODINGS entry ≡ None
 -- references of so many nanoseconds as their ticks have.
 pub record HoldsOutput (words : MergeWords) (o : PlannedOutput) (bytes : List ℕ) : Type 0 where
   pub document : IsReadAs o.document bytes
-  pub plain : All IsPlain (entries_of o.document.front.tracks)
+  pub plain : All HasNoEncodings (entries_of o.document.front.tracks)
   pub blocks : blocks_held o bytes ≡ map (block_in_place words.scale 0) o.blocks
 
 -- Of a merge that isn't split a content has, lane by lane, the blocks that were selected.

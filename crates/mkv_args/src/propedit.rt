@@ -1,7 +1,7 @@
 //! The words of `propedit`.
 
 ghost use Rattle.std.specs.Prelude.{◌≡◌, ◌<◌, length, map, slice_get};
-ghost use Rattle.word_values.specs.Answers.{Reads, Tells};
+ghost use Rattle.word_values.specs.Answers.{ReadsValue, Tells};
 ghost use Rattle.mkv_args.specs.Entry as entry;
 ghost use Rattle.mkv_args.specs.Propedit as spec;
 ghost use Rattle.word_values.specs.Place.{texts};
@@ -172,7 +172,7 @@ fn saying_at(alloc: Global, words: &[String], at: usize, step: Step) -> Result<S
 
 /// What an option says with its value.
 fn meaning(alloc: Global, step: Step, word: &str) -> Result<Saying, ValueEnd>
-    ensures { Reads result (spec.meaning step word.now) }
+    ensures { ReadsValue result (spec.meaning step word.now) }
 {
     match step {
         Step::Section => match selector(word.as_bytes()) {
@@ -190,7 +190,7 @@ fn meaning(alloc: Global, step: Step, word: &str) -> Result<Saying, ValueEnd>
 
 /// `NAME=VALUE`, where the name ends at the first `=`.
 fn changed(alloc: Global, change: Change, word: &str) -> Result<Saying, ValueEnd>
-    ensures { Reads result (spec.changed change word.now) }
+    ensures { ReadsValue result (spec.changed change word.now) }
 {
     let Some((property, value)) = cut_text(word, '=') else {
         return Err(ValueEnd::Bad);

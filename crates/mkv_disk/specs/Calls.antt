@@ -23,8 +23,8 @@ pub record IsReady {S : Type 0} (r : reads.Ghosts S) (d : Ghosts S) (disk : S) :
   pub at_rest : AtRest d disk
 
 -- After Ok the pair is this function of what was read before.
-abbrev pub Makes : {S T E : Type 0} → Ghosts S → S → S → Result T E → (List ℕ → List ℕ → Pair) → Type 0
-Makes d old new result to = IsTrue d.told → OnOk result (d.pair new ≡ to (d.pair old).media.reads (d.pair old).sidecar.reads)
+abbrev pub MakesPair : {S T E : Type 0} → Ghosts S → S → S → Result T E → (List ℕ → List ℕ → Pair) → Type 0
+MakesPair d old new result to = IsTrue d.told → OnOk result (d.pair new ≡ to (d.pair old).media.reads (d.pair old).sidecar.reads)
 
 -- A crash at any moment of the call leaves what has P, where P speaks of what was read before and of what is left.
 abbrev pub AnyMoment : {S : Type 0} → Ghosts S → S → S → (List ℕ → List ℕ → List ℕ → List ℕ → Type 0) → Type 0

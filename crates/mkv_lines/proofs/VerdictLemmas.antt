@@ -5,18 +5,18 @@ use Rattle.mkv_io.specs.Names.{Names}
 use Rattle.mkv_outputs.specs.Outputs.{with_outputs}
 use Rattle.mkv_lines.specs.Said.{ReportLines, Says, SaysPart}
 use Rattle.mkv_lines.specs.Seen.{Seen}
-use Rattle.mkv_lines.specs.Verdict.{IsStopped, Leaves, Outputs, Reaches, SaysVerdict, Verdict, at_once, in_turn, list_of, nothing}
+use Rattle.mkv_lines.specs.Verdict.{IsStopped, Leaves, WrittenOutputs, Reaches, SaysVerdict, Verdict, at_once, in_turn, list_of, nothing}
 use Rattle.mkv_lines.specs.declared.status.Status.{Status}
 use Rattle.mkv_lines.specs.declared.status.Stop.{Stop}
 use Rattle.mkv_lines.proofs.SaidLemmas.{SaysPart-behind, SaysPart-none, Says-then}
 
 -- nothing was written yet
-pub Leaves-before : (names : Names) (outputs : Outputs) → Leaves names names outputs
+pub Leaves-before : (names : Names) (outputs : WrittenOutputs) → Leaves names names outputs
 Leaves-before names (at_once all) = record { stand = []; begun = tt; names = refl }
 Leaves-before names (in_turn all) = record { stand = []; drafted = tt; names = refl }
 
 -- the same of names that are equal
-pub Leaves-same : (old new : Names) (outputs : Outputs) → new ≡ old → Leaves old new outputs
+pub Leaves-same : (old new : Names) (outputs : WrittenOutputs) → new ≡ old → Leaves old new outputs
 Leaves-same old new outputs same = subst (λ (names : Names). Leaves old names outputs) (sym same) (Leaves-before old outputs)
 
 -- a command that was stopped before its first line
@@ -38,6 +38,6 @@ Reaches-behind old new mid (Err why) v behind whole said says status names =
 -- a command that has said its verdict and writes nothing has reached it
 pub Reaches-lines : (old new : Seen) (r : Result Status Stop) (v : Verdict) → SaysVerdict old.lines new.lines r v → v.outputs ≡ nothing → new.names ≡ old.names → Reaches old new r v
 Reaches-lines old new (Ok s) v says none same =
-    (says.0, record { lines = says.1; names = same ∙ sym (ap (λ (outputs : Outputs). with_outputs old.names (list_of outputs)) none) })
+    (says.0, record { lines = says.1; names = same ∙ sym (ap (λ (outputs : WrittenOutputs). with_outputs old.names (list_of outputs)) none) })
 Reaches-lines old new (Err e) v says none same =
-    inr (says, same ∙ sym (ap (λ (outputs : Outputs). with_outputs old.names (list_of outputs)) none))
+    inr (says, same ∙ sym (ap (λ (outputs : WrittenOutputs). with_outputs old.names (list_of outputs)) none))

@@ -13,15 +13,15 @@ use Rattle.mkv_lines.specs.declared.status.Status.TheVariants as status
 use Rattle.mkv_lines.specs.declared.status.Stop.{Stop}
 
 -- Outputs are written side by side, as an extraction's, or one after the other, as a merge's parts.
-pub data Outputs : Type 0 where
-  at_once : List Output → Outputs
-  in_turn : List Draft → Outputs
+pub data WrittenOutputs : Type 0 where
+  at_once : List Output → WrittenOutputs
+  in_turn : List Draft → WrittenOutputs
 
-abbrev pub list_of : Outputs → List Output
+abbrev pub list_of : WrittenOutputs → List Output
 list_of (at_once all) = all
 list_of (in_turn all) = outputs_of all
 
-abbrev pub nothing : Outputs
+abbrev pub nothing : WrittenOutputs
 nothing = at_once []
 
 -- Its lines begin with those that are said before an output is begun; the others are said when all outputs stand whole.
@@ -29,7 +29,7 @@ pub record Verdict : Type 0 where
   pub status : Status
   pub lines : List (List ℕ)
   pub before : List (List ℕ)
-  pub outputs : Outputs
+  pub outputs : WrittenOutputs
 
 -- nothing is written, and these lines are said
 abbrev pub only_said : Status → List (List ℕ) → Verdict
@@ -62,7 +62,7 @@ pub record IsDone (old new : Seen) (v : Verdict) : Type 0 where
   pub names : new.names ≡ with_outputs old.names (list_of v.outputs)
 
 -- What stands of outputs that aren't whole.
-abbrev pub Leaves : Names → Names → Outputs → Type 0
+abbrev pub Leaves : Names → Names → WrittenOutputs → Type 0
 Leaves old new (at_once all) = StandsInPart old new all
 Leaves old new (in_turn all) = StandsInTurn old new all
 

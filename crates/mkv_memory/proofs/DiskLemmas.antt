@@ -8,7 +8,7 @@ use Rattle.mkv_disk.specs.Image.{DiskFile}
 use Rattle.mkv_disk.specs.Moments.{ChangesOne, LeavesOnly}
 use Rattle.mkv_disk.specs.Pair.{Pair, IsPairImage, file_of, on}
 use Rattle.mkv_memory.specs.Changes.{Change, History, LeftSince, Made, changed_by, first_pair, pair_of, reads_by, replay, synced, with_change}
-use Rattle.mkv_memory.specs.SeenDisk.{Makes, SeenDisk, content_in, is_live, live_in, pair_in}
+use Rattle.mkv_memory.specs.SeenDisk.{MakesChange, SeenDisk, content_in, is_live, live_in, pair_in}
 use Rattle.mkv_memory.specs.Sound.{IsSound}
 use Rattle.mkv_memory.proofs.LogLemmas.{reads-changed_by, replay-append}
 use Rattle.mkv_memory.proofs.SoundLemmas.{grown-pair, shrunk-pair}
@@ -100,11 +100,11 @@ file_of-on (suc n) change p = refl
 -- ---- a change, or a failure of it
 
 module _ {T : Type 0} (old new : SeenDisk) (file : ℕ) (c : Change) where
-  pub makes-ok : (r : Result T Failed) → Makes old file c r new → OnOk r (pair_in new ≡ on file (changed_by c) (pair_in old))
+  pub makes-ok : (r : Result T Failed) → MakesChange old file c r new → OnOk r (pair_in new ≡ on file (changed_by c) (pair_in old))
   makes-ok (Ok x) is = ap (λ (d : SeenDisk). pair_in d) is.1 ∙ pair-changed old.logged.history file c
   makes-ok (Err e) is = tt
 
-  pub makes-moment : (r : Result T Failed) → Makes old file c r new → (P : List ℕ → List ℕ → Type 0) → ((m s : List ℕ) → IsPairImage (pair_in old) m s → P m s)
+  pub makes-moment : (r : Result T Failed) → MakesChange old file c r new → (P : List ℕ → List ℕ → Type 0) → ((m s : List ℕ) → IsPairImage (pair_in old) m s → P m s)
       → ((m s : List ℕ) → IsPairImage (on file (changed_by c) (pair_in old)) m s → P m s) → LeavesOnly (λ (x : History). length x.made) LeftSince old.logged.history new.logged.history P
   makes-moment (Ok x) is P before after =
       subst (λ (h : History). LeavesOnly (λ (x : History). length x.made) LeftSince old.logged.history h P) (sym (ap (λ (d : SeenDisk). d.logged.history) is.1))
@@ -114,33 +114,33 @@ module _ {T : Type 0} (old new : SeenDisk) (file : ℕ) (c : Change) where
       (leaves-same old.logged.history P before)
 
   -- a write or a cut
-  pub makes-grown : (r : Result T Failed) → (c ≡ synced → ⊥) → Makes old file c r new → LeavesOnly (λ (x : History). length x.made) LeftSince old.logged.history new.logged.history (IsPairImage (on file (changed_by c) (pair_in old)))
+  pub makes-grown : (r : Result T Failed) → (c ≡ synced → ⊥) → MakesChange old file c r new → LeavesOnly (λ (x : History). length x.made) LeftSince old.logged.history new.logged.history (IsPairImage (on file (changed_by c) (pair_in old)))
   makes-grown r isnt is = makes-moment r is (IsPairImage (on file (changed_by c) (pair_in old))) (λ m s image. grown-pair file c (pair_in old) m s isnt image) (λ m s image. image)
 
   -- the same files are open under the same name, and no other is changed
-  pub makes-opened : (r : Result T Failed) → Makes old file c r new → new.opened ≡ old.opened
+  pub makes-opened : (r : Result T Failed) → MakesChange old file c r new → new.opened ≡ old.opened
   makes-opened (Ok x) is = ap (λ (d : SeenDisk). d.opened) is.1
   makes-opened (Err e) is = ap (λ (d : SeenDisk). d.opened) is.1
 
-  pub makes-reading : (r : Result T Failed) → Makes old file c r new → new.reading_faults ≡ old.reading_faults
+  pub makes-reading : (r : Result T Failed) → MakesChange old file c r new → new.reading_faults ≡ old.reading_faults
   makes-reading (Ok x) is = ap (λ (d : SeenDisk). d.reading_faults) is.1
   makes-reading (Err e) is = ap (λ (d : SeenDisk). d.reading_faults) is.1
 
-  pub makes-octets : (r : Result T Failed) → Makes old file c r new → new.octets_read ≡ old.octets_read
+  pub makes-octets : (r : Result T Failed) → MakesChange old file c r new → new.octets_read ≡ old.octets_read
   makes-octets (Ok x) is = ap (λ (d : SeenDisk). d.octets_read) is.1
   makes-octets (Err e) is = ap (λ (d : SeenDisk). d.octets_read) is.1
 
-  pub makes-others : (r : Result T Failed) → is_live old.opened file ≡ true → Makes old file c r new → ChangesOne (live_in old.opened (pair_in old)) (live_in new.opened (pair_in new)) file
+  pub makes-others : (r : Result T Failed) → is_live old.opened file ≡ true → MakesChange old file c r new → ChangesOne (live_in old.opened (pair_in old)) (live_in new.opened (pair_in new)) file
   makes-others r live is = record {
     live = λ n. ap (λ (o : Option (List ℕ)). is_live o n) (makes-opened r is);
     size = λ n isnt. ap (λ (content : Option (List ℕ)). length (unwrap_or content [])) (content r is n isnt);
   }
     where
-      content : (r : Result T Failed) → Makes old file c r new → (n : ℕ) → n ≢ file → content_in (pair_in new) n ≡ content_in (pair_in old) n
+      content : (r : Result T Failed) → MakesChange old file c r new → (n : ℕ) → n ≢ file → content_in (pair_in new) n ≡ content_in (pair_in old) n
       content (Ok x) is n isnt = ap (λ (p : Pair). content_in p n) (makes-ok (Ok x) is) ∙ other-content old.opened c n file (pair_in old) isnt live
       content (Err e) is n isnt = ap (λ (d : SeenDisk). content_in (pair_in d) n) is.1
 
-  pub makes-size : (r : Result T Failed) → is_live old.opened file ≡ true → Makes old file c r new → OnOk r ((live_in new.opened (pair_in new)).size file ≡ length (reads_by c (file_of file (pair_in old)).reads))
+  pub makes-size : (r : Result T Failed) → is_live old.opened file ≡ true → MakesChange old file c r new → OnOk r ((live_in new.opened (pair_in new)).size file ≡ length (reads_by c (file_of file (pair_in old)).reads))
   makes-size (Ok x) live is =
       ap (λ (p : Pair). length (unwrap_or (content_in p file) [])) (makes-ok (Ok x) is)
       ∙ live-size old.opened file (on file (changed_by c) (pair_in old)) live
@@ -151,7 +151,7 @@ module _ {T : Type 0} (old new : SeenDisk) (file : ℕ) (c : Change) where
 -- ---- a sync, and lengths
 
 module _ {T : Type 0} (old new : SeenDisk) (file : ℕ) where
-  pub makes-synced : (r : Result T Failed) → IsSound (pair_in old).media → IsSound (pair_in old).sidecar → Makes old file synced r new
+  pub makes-synced : (r : Result T Failed) → IsSound (pair_in old).media → IsSound (pair_in old).sidecar → MakesChange old file synced r new
       → LeavesOnly (λ (x : History). length x.made) LeftSince old.logged.history new.logged.history (IsPairImage (pair_in old))
   makes-synced r media sidecar is = makes-moment old new file synced r is (IsPairImage (pair_in old)) (λ m s image. image) (λ m s image. shrunk-pair file (pair_in old) m s media sidecar image)
 

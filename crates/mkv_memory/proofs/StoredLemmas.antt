@@ -8,7 +8,7 @@ use Rattle.std.proofs.lemmas.List.{get_or_append_left, take-append-drop, drop-dr
 use Rattle.std.proofs.Math.Seq.{get_or-append_seam}
 use Rattle.mkv_io.specs.Names.{changed_at}
 use Rattle.mkv_io.specs.LiveFiles.{IsSameFile, ChangesFile, KeepsFiles, OverwritesWithin}
-use Rattle.mkv_memory.specs.Stored.{Stored, World, AreShort, AreThere, is_there, files_of, holder_of, content_of_file, name_of_file, content-live, with_changed_file}
+use Rattle.mkv_memory.specs.Stored.{Stored, World, HasShortContents, AreThere, is_there, files_of, holder_of, content_of_file, name_of_file, content-live, with_changed_file}
 use Rattle.mkv_io.proofs.NamesLemmas.{changed_at-nothing, changed_at-other, changed_at-same}
 use Rattle.mkv_io.specs.declared.outside.TheConstants.{LONGEST_FILE}
 
@@ -29,8 +29,8 @@ Stored-changed stored file change holder changed =
 -- ---- what always holds
 
 -- contents stay short where the changed one is
-pub AreShort-changed : (world : World) (name : List ℕ) (change : Option (List ℕ) → Option (List ℕ)) → AreShort world → length (unwrap_or (change (world name)) []) ≤ LONGEST_FILE → AreShort (changed_at name change world)
-AreShort-changed world name change short fits other = step (bytes_eq name other) (bytes_eq-Decides name other).0
+pub HasShortContents-changed : (world : World) (name : List ℕ) (change : Option (List ℕ) → Option (List ℕ)) → HasShortContents world → length (unwrap_or (change (world name)) []) ≤ LONGEST_FILE → HasShortContents (changed_at name change world)
+HasShortContents-changed world name change short fits other = step (bytes_eq name other) (bytes_eq-Decides name other).0
   where
     step : (same : Bool) → (same ≡ true → name ≡ other) → length (unwrap_or (if same then change (world other) else world other) []) ≤ LONGEST_FILE
     step true is = let P : List ℕ → Type 0 = λ each. length (unwrap_or (change (world each)) []) ≤ LONGEST_FILE in subst P (is refl) fits
@@ -114,7 +114,7 @@ ChangesStored-changed old new name change file size holder same changed fits = r
 
 -- contents are short, and live files have one
 pub record IsSound (world : World) (opened : List (Option (List ℕ))) : Type 0 where
-  pub short : AreShort world
+  pub short : HasShortContents world
   pub there : AreThere world opened
 
 -- a change keeps both where the changed content is short, and is there if it was
@@ -122,7 +122,7 @@ pub IsSound-changed : (world now : World) (name : List ℕ) (change : Option (Li
 IsSound-changed world now name change opened changed sound fits stays =
     let P : World → Type 0 = λ each. IsSound each opened in
     subst P (sym changed) (record {
-      short = AreShort-changed world name change sound.short fits;
+      short = HasShortContents-changed world name change sound.short fits;
       there = AreThere-changed world name change opened stays sound.there;
     })
 

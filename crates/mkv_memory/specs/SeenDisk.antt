@@ -133,9 +133,9 @@ ReadsAt old file at was into (Ok _) new =
 ReadsAt old file at was into (Err _) new = (fails old ≡ true) × (into ≡ was) × (new ≡ failed_to_read old)
 
 -- A change fails exactly where it can't be made, and then uses no room. Else it is made.
-abbrev pub Makes : {T : Type 0} → SeenDisk → ℕ → Change → Result T Failed → SeenDisk → Type 0
-Makes old file change (Ok _) new = (cannot_make old change ≡ false) × (new ≡ record (called old) { logged = and_then old.logged file change })
-Makes old file change (Err _) new = (cannot_make old change ≡ true) × (new ≡ failed_to_write old)
+abbrev pub MakesChange : {T : Type 0} → SeenDisk → ℕ → Change → Result T Failed → SeenDisk → Type 0
+MakesChange old file change (Ok _) new = (cannot_make old change ≡ false) × (new ≡ record (called old) { logged = and_then old.logged file change })
+MakesChange old file change (Err _) new = (cannot_make old change ≡ true) × (new ≡ failed_to_write old)
 
 -- ---- what follows at once
 

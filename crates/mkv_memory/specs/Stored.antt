@@ -72,8 +72,8 @@ closed stored file = record stored { opened = slice_set stored.opened file None 
 -- ---- what holds of all such files
 
 -- no name has a content of more than 2^48 octets
-abbrev pub AreShort : World → Type 0
-AreShort world = (name : List ℕ) → length (unwrap_or (world name) []) ≤ LONGEST_FILE
+abbrev pub HasShortContents : World → Type 0
+HasShortContents world = (name : List ℕ) → length (unwrap_or (world name) []) ≤ LONGEST_FILE
 
 -- a live file's name has a content
 abbrev pub is_there : World → Option (List ℕ) → Bool
@@ -91,7 +91,7 @@ pub size-of_told : (stored : Stored) (file : ℕ) (bytes : List ℕ) → content
 size-of_told stored file bytes told = sym (ap (λ content. length (unwrap_or content [])) told)
 
 -- where each name's content is short, each live file is
-pub short-of_names : (world : World) (name : Option (List ℕ)) → AreShort world → length (unwrap_or (option_and_then world name) []) ≤ LONGEST_FILE
+pub short-of_names : (world : World) (name : Option (List ℕ)) → HasShortContents world → length (unwrap_or (option_and_then world name) []) ≤ LONGEST_FILE
 short-of_names world None short = omega arith
 short-of_names world (Some name) short = short name
 

@@ -60,7 +60,7 @@ fn is_too_long(done: Done) -> bool
 
 impl MemDisk {
     ghost use Rattle.mkv_disk.specs.Pair.{IsSynced};
-    ghost use Rattle.mkv_memory.specs.SeenDisk.{IsOnImage, Makes, crashed_by, failing_at, fresh, pair_in, reads_in, room_for, stopping_at};
+    ghost use Rattle.mkv_memory.specs.SeenDisk.{IsOnImage, MakesChange, crashed_by, failing_at, fresh, pair_in, reads_in, room_for, stopping_at};
     ghost use Rattle.mkv_memory.specs.DiskIn.{seen};
 
     /// A disk with these two files, of which nothing is pending. There is room for so many calls of `write_at`, `cut`
@@ -124,7 +124,7 @@ impl MemDisk {
     fn make(&mut self, file: FileId, done: Done, bytes: &[u8]) -> Result<(), Failed>
         requires count { length bytes.now ≡ octets_done done }
         requires inside { BeginsWithin (change_of done bytes.now) (reads_in (seen self.old) file.n) }
-        ensures exact { Makes (seen self.old) file.n (change_of done bytes.now) result (seen self.new) }
+        ensures exact { MakesChange (seen self.old) file.n (change_of done bytes.now) result (seen self.new) }
         ensures cause { HasCause is_failure (seen self.old).writing_faults (seen self.new).writing_faults result }
     {
         let fails = self.failing.next();
@@ -185,7 +185,7 @@ impl Disk for MemDisk {
     ghost use Rattle.std.proofs.Common.{ap, refl, subst};
     ghost use Rattle.mkv_memory.specs.Changes.{LeftSince, left-now, now-left};
     ghost use Rattle.mkv_memory.specs.Logged.{Logged};
-    ghost use Rattle.mkv_memory.specs.SeenDisk.{Makes, OpensPair, is_live, reads_in};
+    ghost use Rattle.mkv_memory.specs.SeenDisk.{MakesChange, OpensPair, is_live, reads_in};
     ghost use Rattle.mkv_memory.specs.DiskIn.{seen};
 
     ghost told = { true };
@@ -235,7 +235,7 @@ impl Disk for MemDisk {
     fn write_at(&mut self, file: FileId, at: u64, bytes: &[u8]) -> Result<(), Failed>
         requires live { IsTrue (is_live (seen self.old).opened file.n) }
         requires inside { at ≤ length (reads_in (seen self.old) file.n) }
-        ensures exact { Makes (seen self.old) file.n (written at bytes.now) result (seen self.new) }
+        ensures exact { MakesChange (seen self.old) file.n (written at bytes.now) result (seen self.new) }
         ensures cause { HasCause is_failure (seen self.old).writing_faults (seen self.new).writing_faults result }
     {
         let len = bytes.len();
@@ -245,7 +245,7 @@ impl Disk for MemDisk {
     fn cut(&mut self, file: FileId, len: u64) -> Result<(), Failed>
         requires live { IsTrue (is_live (seen self.old).opened file.n) }
         requires inside { len ≤ length (reads_in (seen self.old) file.n) }
-        ensures exact { Makes (seen self.old) file.n (cut len) result (seen self.new) }
+        ensures exact { MakesChange (seen self.old) file.n (cut len) result (seen self.new) }
         ensures cause { HasCause is_failure (seen self.old).writing_faults (seen self.new).writing_faults result }
     {
         self.make(file, Done::Cut { len }, &[])
@@ -253,7 +253,7 @@ impl Disk for MemDisk {
 
     fn sync(&mut self, file: FileId) -> Result<(), Failed>
         requires { IsTrue (is_live (seen self.old).opened file.n) }
-        ensures exact { Makes (seen self.old) file.n synced result (seen self.new) }
+        ensures exact { MakesChange (seen self.old) file.n synced result (seen self.new) }
         ensures cause { HasCause is_failure (seen self.old).writing_faults (seen self.new).writing_faults result }
     {
         self.make(file, Done::Synced, &[])

@@ -4,7 +4,7 @@ ghost use denote.Ref.{Bor};
 ghost use Rattle.std.specs.Prelude.{slice_set, ◌≡◌, ◌≢◌, ℕ, ◌+◌, ◌-◌, ◌<◌, ◌≤◌, ◌^◌, ◌↔◌, List, [], ◌∷◌, ◌++◌, length, Option, Some, None, is_some, option_map, unwrap_or, OnOk, OnErr, IfOk, IsTrue, IsSome};
 ghost use Rattle.mkv_io.specs.Contents.{with_appended, with_overwritten};
 ghost use Rattle.mkv_io.specs.Names.{changed_at};
-ghost use Rattle.mkv_memory.specs.Stored.{AreShort, AreThere, Changes, closed, content_of_file, content_of_name, files_of, made_under, name_of_file, opened_under, with_changed_file, with_content_at};
+ghost use Rattle.mkv_memory.specs.Stored.{HasShortContents, AreThere, Changes, closed, content_of_file, content_of_name, files_of, made_under, name_of_file, opened_under, with_changed_file, with_content_at};
 ghost use Rattle.mkv_io.specs.declared.outside.TheConstants.{LONGEST_FILE};
 
 use mkv_io::{Bytes, FileId, Text};
@@ -19,7 +19,7 @@ pub struct Store {
     alloc: Global,
     pub contents: Contents,
     pub opened: Vec<Option<Text>>,
-    ghost short: { AreShort (content_of_name contents.entries) },
+    ghost short: { HasShortContents (content_of_name contents.entries) },
     ghost few: { length opened.items ≤ 2 ^ 64 - 1 },
     ghost there: { AreThere (content_of_name contents.entries) opened.items },
 }

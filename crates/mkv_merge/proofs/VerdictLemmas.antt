@@ -29,7 +29,7 @@ use Rattle.mkv_lines.specs.declared.status.Status.{Status}
 use Rattle.mkv_lines.specs.declared.status.Stop.{Stop}
 use Rattle.mkv_lines.proofs.SaidLemmas.{SaysPart-all}
 use Rattle.mkv_lines.proofs.VerdictLemmas.{Leaves-same, Reaches-behind}
-use Rattle.mkv_merge.specs.Merge.{has_absent, has_damage, has_other_count, lines_before, lines_behind, merged_verdict, output_line, outputs_of, status_of, uuid_lines, warnings}
+use Rattle.mkv_merge.specs.Merge.{has_absent, has_damage, has_other_count, lines_before, lines_behind, merged_verdict, output_line, outputs_of, warned_if, uuid_lines, warnings}
 use Rattle.mkv_merge.specs.Prepared.{reads_in}
 use Rattle.mkv_merge.specs.Records.{AreShort}
 use Rattle.mkv_merge.specs.Told.{is_warned, warnings_from}
@@ -96,12 +96,12 @@ outputs-short old new world r f words inputs p sources is told writes = by_end r
 -- and the rest is told
 pub merge-told : (old new : Seen) (mid : ReportLines) (r : Result Status Stop) (f : LiveFiles) (words : MergeWords) (inputs : List Input) (p : MergePlan) (sources : List Source) (s : Summary) (absent : Bool) → IsMergeOf f words inputs p sources → IsSummary f p s
     → absent ≡ has_absent words (reads_in inputs) → mid ≡ with_lines old.lines (lines_before words (reads_in inputs))
-    → Says mid new.lines (map (λ (w : Written). wrote_blocks_line w.name w.blocks) s.outputs ++ warnings_from s 0 words.files ++ uuid_lines words (length s.outputs)) r → IfOk r (λ (status : Status). status ≡ status_of (is_warned absent s || has_other_count words (length s.outputs)))
+    → Says mid new.lines (map (λ (w : Written). wrote_blocks_line w.name w.blocks) s.outputs ++ warnings_from s 0 words.files ++ uuid_lines words (length s.outputs)) r → IfOk r (λ (status : Status). status ≡ warned_if (is_warned absent s || has_other_count words (length s.outputs)))
     → WritesAll old.names new.names (outputs_in f p) → Reaches old new r (merged_verdict words sources)
 merge-told old new mid r f words inputs p sources s absent is sums missing before says status writes =
     Reaches-behind old new mid r (merged_verdict words sources) (lines_behind words sources) refl first
     (subst (λ (lines : List (List ℕ)). Says mid new.lines lines r) (behind-told f words inputs p sources s is sums) says)
-    (subst (λ (some : Bool). IfOk r (λ (status : Status). status ≡ status_of some)) warned status)
+    (subst (λ (some : Bool). IfOk r (λ (status : Status). status ≡ warned_if some)) warned status)
     whole
   where
     reads : reads_in inputs ≡ reads_of sources

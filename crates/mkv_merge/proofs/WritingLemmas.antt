@@ -42,7 +42,7 @@ use Rattle.merge_inputs.specs.declared.input.Blocks.TheVariants as held_by
 use Rattle.merge_inputs.specs.declared.input.Input.{Input}
 use Rattle.merge_inputs.specs.declared.taken.TakenTrack.{TakenTrack}
 use Rattle.merge_plan.specs.Plan.{Source, inputs_given, lanes_given, numbers_of}
-use Rattle.merge_plan.specs.Planned.{CanBeWritten, IsFileOf, IsSparedLink, IsPlanOf, IsToldInput, source_in}
+use Rattle.merge_plan.specs.Planned.{CanBeWritten, StandsInInput, IsSparedLink, IsPlanOf, IsToldInput, source_in}
 use Rattle.merge_plan.specs.Front.{attached_length, attachments_of, reads_of}
 use Rattle.merge_plan.specs.Identifiers.{Have64Bits, identifiers_of}
 use Rattle.merge_plan.specs.Records.{chapters_of, is_appended, tags_of}
@@ -106,7 +106,7 @@ inside-file size end (held_by.Entries entries) can within = omega arith
 
 -- an attached file stands in the live file of an input, which wasn't opened under the name of the first output
 file-good : {S : Type 0} (r : Ghosts S) (f : writing.Ghosts S) (files : S) (split : Bool) (output : List ℕ) (inputs : List Input) (a : Attachment) → All (IsInput (live_files r files)) inputs → All (λ (i : Input). may_be_written split output (f.holder files i.file.n) ≡ false) inputs
-    → IsAttached a → IsFileOf inputs a → CanAttach r f files (name_of split output 1) a
+    → IsAttached a → StandsInInput inputs a → CanAttach r f files (name_of split output 1) a
 file-good r f files split output inputs a good others entry is =
     let now = live_files r files in
     let input : IsInput now is.input = subst (IsInput now) (sym is.is) (good is.number is.input is.inside) in

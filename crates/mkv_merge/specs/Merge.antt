@@ -167,9 +167,9 @@ uuid_lines words count = if has_other_count words count then uuid_count_line (le
 
 -- ---- the verdict
 
-abbrev pub status_of : Bool → Status
-status_of true = Warned
-status_of false = Done
+abbrev pub warned_if : Bool → Status
+warned_if true = Warned
+warned_if false = Done
 
 -- the lines before the outputs, that of each output, and the lines behind them
 abbrev pub lines_before : MergeWords → List InputRead → List (List ℕ)
@@ -185,7 +185,7 @@ lines_behind words sources =
 -- the tracks that aren't there, the outputs, what is wrong with the inputs, and the number of identifiers
 abbrev pub merged_verdict : MergeWords → List Source → Verdict
 merged_verdict words sources = record {
-  status = status_of (has_absent words (reads_of sources) || has_damage sources || has_other_count words (length (outputs_of words sources)));
+  status = warned_if (has_absent words (reads_of sources) || has_damage sources || has_other_count words (length (outputs_of words sources)));
   lines = lines_before words (reads_of sources) ++ lines_behind words sources;
   before = lines_before words (reads_of sources);
   outputs = in_turn (drafts_of (outputs_of words sources));

@@ -5,7 +5,7 @@ use Rattle.merge_words.specs.declared.output.MergeWords.{MergeWords}
 use Rattle.mkv_lines.specs.Line.{more_damages_line, warning_line, wrote_blocks_line}
 use Rattle.mkv_lines.specs.declared.status.Status.{Status}
 use Rattle.mkv_io.specs.Lists.{is_some_of}
-use Rattle.mkv_merge.specs.Merge.{has_other_count, status_of, uuid_lines}
+use Rattle.mkv_merge.specs.Merge.{has_other_count, warned_if, uuid_lines}
 use Rattle.remux_plan.specs.declared.summary.InputDamage.{InputDamage}
 use Rattle.remux_plan.specs.declared.summary.MoreDamage.{MoreDamage}
 use Rattle.remux_plan.specs.declared.summary.Summary.{Summary}
@@ -50,4 +50,4 @@ told_summary words s = told_outputs words s ++ uuid_lines words (length s.output
 
 -- the status of a merge of which all is told
 abbrev pub told_status : MergeWords → Bool → Summary → Status
-told_status words absent s = status_of (is_warned absent s || has_other_count words (length s.outputs))
+told_status words absent s = warned_if (is_warned absent s || has_other_count words (length s.outputs))

@@ -3,7 +3,7 @@
 ghost use Rattle.std.specs.Prelude.{◌≤◌, true, [], ◌∷◌, length, IfOk};
 ghost use Rattle.mkv_io.specs.Faults.{HasCause};
 ghost use Rattle.mkv_disk.specs.Pair.{both};
-ghost use Rattle.mkv_disk.specs.Calls.{AnyMoment, IsReady, Makes, OfReads};
+ghost use Rattle.mkv_disk.specs.Calls.{AnyMoment, IsReady, MakesPair, OfReads};
 ghost use Rattle.mkv_disk.specs.Writing.{OnlyWrites};
 ghost use Rattle.mkv_lines.specs.Code.{status_of};
 ghost use Rattle.mkv_lines.specs.Line.{text_of};
@@ -54,7 +54,7 @@ fn carry_out<D: Disk>(plan: &Plan, disk: &mut D) -> Result<(), DiskFault>
     requires ready { IsReady D.Reads D.Disk.own disk.old }
     requires some { 1 ≤ length plan.now.head.places }
     requires planned { OfReads D.Disk.own disk.old (IsPlannedFor plan.now) }
-    ensures ok { Makes D.Disk.own disk.old disk.new result (λ M S. both (applied M (writes_of plan.now)) (0 ∷ [])) }
+    ensures ok { MakesPair D.Disk.own disk.old disk.new result (λ M S. both (applied M (writes_of plan.now)) (0 ∷ [])) }
     ensures any_moment { AnyMoment D.Disk.own disk.old disk.new (λ M S m s. IsEditing plan.now M m s) }
     ensures only { OnlyWrites D.Reads D.Disk.own disk.old disk.new }
     ensures cause { HasCause (λ _. true) (D.writing_faults disk.old) (D.writing_faults disk.new) result }

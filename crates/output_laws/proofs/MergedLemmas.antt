@@ -5,7 +5,7 @@ use Rattle.std.proofs.lemmas.Bool.{cond-false, le-ltb, ltb-true, eq-eqb, ne_eqb}
 use Rattle.std.proofs.lemmas.Bool.Decides.{nat_tests}
 use Rattle.std.proofs.lemmas.List.Elements.{All-nil, All-cons, All-head, All-tail, All-append, All-weaker, filter-append}
 use Rattle.output_model.specs.OutputBlock.{OutputBlock}
-use Rattle.merge_model.specs.Merged.{Ordered, ordered_from, ordered, in_lane, ordered_in, numbered, joined, order_of, sorted, blocks_in, merged}
+use Rattle.merge_model.specs.Merged.{Ordered, ordered_from, ordered, in_lane, ordered_in, numbered, lanes_joined, order_of, sorted, blocks_in, merged}
 use Rattle.mkv_io.specs.Sorted.{insert_by}
 use Rattle.output_laws.specs.Lanes.{lane_of, lanes_from, in_lanes}
 
@@ -147,7 +147,7 @@ in_order-lane n (x ∷ xs) = All-cons (λ (y : Ordered). y.block.lane ≡ n) (or
 
 -- all lanes, one behind the other, from this number on
 abbrev pub all_in_order : ℕ → List (List OutputBlock) → List Ordered
-all_in_order n lanes = joined (numbered n (map ordered lanes))
+all_in_order n lanes = lanes_joined (numbered n (map ordered lanes))
 
 pub all-above : (n : ℕ) (lanes : List (List OutputBlock)) → All (λ (x : Ordered). n ≤ x.block.lane) (all_in_order n lanes)
 all-above n [] = All-nil (λ (x : Ordered). n ≤ x.block.lane)

@@ -7,7 +7,7 @@ use Rattle.mkv_io.specs.declared.damage.Kind.{Kind}
 use Rattle.mkv_io.specs.declared.damage.Kind.TheVariants.{ShortBlock}
 use Rattle.lacing.specs.declared.kind.Lace.{Lace}
 use Rattle.lacing.specs.declared.kind.Lace.TheVariants as lace
-use Rattle.lacing.specs.Lace.{IsHead}
+use Rattle.lacing.specs.Lace.{IsLaceHead}
 use Rattle.lacing.specs.Reading.{lace_in}
 use Rattle.lacing.specs.Writing.{FitsKind}
 use Rattle.lacing.proofs.LaceLemmas.{lace_in-found}
@@ -27,7 +27,7 @@ sizes-cut (size ∷ sizes) octets fits =
     let total = sum_by-cons (λ (x : ℕ). x) size sizes in
     ap₂ (λ n ns. n ∷ ns) (length-take size octets ∙ omega arith) (sizes-cut sizes (drop size octets) (omega (arith, length-drop size octets)))
 
-fits-head : (kind : Lace) (head sizes : List ℕ) → IsHead kind head sizes → FitsKind kind sizes
+fits-head : (kind : Lace) (head sizes : List ℕ) → IsLaceHead kind head sizes → FitsKind kind sizes
 fits-head lace.None head sizes is = is.0
 fits-head lace.Xiph head sizes is = tt
 fits-head lace.Fixed head sizes is = is.0

@@ -19,7 +19,7 @@ use Rattle.tree_format.specs.Children.{set_in, uint_leaf}
 use Rattle.record_laws.specs.Again.{read_of}
 use Rattle.record_laws.proofs.SameLemmas.{HasOnly, octets-read, part-read, same-only}
 use Rattle.record_changes.specs.Atoms.{value_in}
-use Rattle.record_laws.specs.Files.{AreFiles, FilesStay, IsFile, file_numbers, settled, with_numbers}
+use Rattle.record_laws.specs.Files.{AreFiles, FilesStay, IsAttachedFile, file_numbers, settled, with_numbers}
 use Rattle.record_laws.proofs.AtomLemmas.{map-or, value-placed}
 use Rattle.record_laws.proofs.NumberLemmas.{value-set}
 
@@ -60,24 +60,24 @@ set-id uid (master id at kids) = refl
 read-step : (p : ℕ) (n : Node) (ns : List Node) → id_of n ≡ ATTACHED_FILE → read_of p (n ∷ ns) ≡ placed p n ∷ read_of (p + length (octets n)) ns
 read-step p n ns is = ap (λ (b : Bool). list_of (if b then placed_all p (nodes_of ns) else node (placed p n) (placed_all (p + length (octets n)) (nodes_of ns)))) (ap is_filler is)
 
-uids-again : (uids : List ℕ) (files : List Node) (p : ℕ) → length uids ≡ length files → All IsFile files → All (λ n. n < 2 ^ 64) uids → map (uint_in FILE_UID) (read_of p (with_numbers uids files)) ≡ uids
+uids-again : (uids : List ℕ) (files : List Node) (p : ℕ) → length uids ≡ length files → All IsAttachedFile files → All (λ n. n < 2 ^ 64) uids → map (uint_in FILE_UID) (read_of p (with_numbers uids files)) ≡ uids
 uids-again [] files p same are small = refl
 uids-again (uid ∷ uids) [] p same are small = absurd (omega arith)
 uids-again (uid ∷ uids) (file ∷ files) p same are small =
-    let is = All-head IsFile file files are in
+    let is = All-head IsAttachedFile file files are in
     let one : Node = set_in (uint_leaf FILE_UID uid) file in
     ap (map (uint_in FILE_UID)) (read-step p one (with_numbers uids files) (set-id uid file ∙ is.id))
     ∙ ap₂ (λ u (us : List ℕ). u ∷ us) (uid-again uid p file is.master (All-head (λ n. n < 2 ^ 64) uid uids small))
-    (uids-again uids files (p + length (octets one)) (omega arith) (All-tail IsFile file files are) (All-tail (λ n. n < 2 ^ 64) uid uids small))
+    (uids-again uids files (p + length (octets one)) (omega arith) (All-tail IsAttachedFile file files are) (All-tail (λ n. n < 2 ^ 64) uid uids small))
 
-files-again : (uids : List ℕ) (files : List Node) (p : ℕ) → length uids ≡ length files → All IsFile files → map octets (with_numbers uids (read_of p (with_numbers uids files))) ≡ map octets (with_numbers uids files)
+files-again : (uids : List ℕ) (files : List Node) (p : ℕ) → length uids ≡ length files → All IsAttachedFile files → map octets (with_numbers uids (read_of p (with_numbers uids files))) ≡ map octets (with_numbers uids files)
 files-again [] files p same are = refl
 files-again (uid ∷ uids) [] p same are = absurd (omega arith)
 files-again (uid ∷ uids) (file ∷ files) p same are =
-    let is = All-head IsFile file files are in
+    let is = All-head IsAttachedFile file files are in
     let one : Node = set_in (uint_leaf FILE_UID uid) file in
     ap (λ (l : List Node). map octets (with_numbers (uid ∷ uids) l)) (read-step p one (with_numbers uids files) (set-id uid file ∙ is.id))
-    ∙ ap₂ (λ (o : List ℕ) (os : List (List ℕ)). o ∷ os) (set-again FILE_UID uid p file is.master refl) (files-again uids files (p + length (octets one)) (omega arith) (All-tail IsFile file files are))
+    ∙ ap₂ (λ (o : List ℕ) (os : List (List ℕ)). o ∷ os) (set-again FILE_UID uid p file is.master refl) (files-again uids files (p + length (octets one)) (omega arith) (All-tail IsAttachedFile file files are))
 
 -- Files with identifiers keep them, and stay.
 pub files-stay : FilesStay

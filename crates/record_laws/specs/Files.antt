@@ -9,7 +9,7 @@ use Rattle.tree_format.specs.Children.{set_in, uint_leaf}
 use Rattle.record_laws.specs.Again.{read_of}
 
 -- An AttachedFile.
-pub record IsFile (n : Node) : Type 0 where
+pub record IsAttachedFile (n : Node) : Type 0 where
   pub id : id_of n ≡ ATTACHED_FILE
   pub master : IsMaster n
 
@@ -28,7 +28,7 @@ settled files = with_numbers (file_numbers files) files
 
 -- Attached files, whose identifiers have 64 bits.
 pub record AreFiles (files : List Node) : Type 0 where
-  pub each : All IsFile files
+  pub each : All IsAttachedFile files
   pub numbers : All (λ n. n < 2 ^ 64) (file_numbers files)
 
 -- What is read of files with identifiers, where they are written from a place on, has these identifiers; and what a merge makes of it is

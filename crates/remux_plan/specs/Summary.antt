@@ -32,8 +32,8 @@ count_to [] = 0
 count_to (n ∷ ns) = max (suc n) (count_to ns)
 
 -- the numbers of the inputs, as far as a lane has a link of one
-abbrev pub inputs_of : List PlannedLane → List ℕ
-inputs_of lanes = range_with_len 0 (count_to (flat_map (λ (l : PlannedLane). l.inputs) lanes))
+abbrev pub linked_inputs : List PlannedLane → List ℕ
+linked_inputs lanes = range_with_len 0 (count_to (flat_map (λ (l : PlannedLane). l.inputs) lanes))
 
 -- the first hundred of an input, and the number of the others, if there are any
 abbrev pub first_damages : ℕ → ToldDamages → List InputDamage
@@ -56,5 +56,5 @@ written_of o = record {
 -- The outputs are those of the plan, and these are the damages of the inputs.
 pub record IsSummary (f : LiveFiles) (p : MergePlan) (s : Summary) : Type 0 where
   pub outputs : s.outputs ≡ map written_of (outputs_in f p)
-  pub damages : s.damages ≡ flat_map (λ input. first_damages input (told_damages (damages_of f p.lanes input))) (inputs_of p.lanes)
-  pub more : s.more ≡ flat_map (λ input. more_damages input (told_damages (damages_of f p.lanes input))) (inputs_of p.lanes)
+  pub damages : s.damages ≡ flat_map (λ input. first_damages input (told_damages (damages_of f p.lanes input))) (linked_inputs p.lanes)
+  pub more : s.more ≡ flat_map (λ input. more_damages input (told_damages (damages_of f p.lanes input))) (linked_inputs p.lanes)

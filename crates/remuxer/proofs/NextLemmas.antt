@@ -17,7 +17,7 @@ use Rattle.splitter.specs.Steps.{CutsSeen, is_kept, place_at, start_of}
 use Rattle.cluster_writer.specs.Lengths.{octets_taken}
 use Rattle.remuxer.proofs.PlacedLemmas.{PlacesOne}
 use Rattle.remuxer.specs.declared.placed.Ahead.{Ahead}
-use Rattle.remuxer.specs.Places.{CanGive, IsAhead, IsBegun, IsFresh, StandsAt, ahead_of, block_lent, is_same, is_within, lent_ahead, part_in, parts_from, parts_left, split_in, start_in, turns_with}
+use Rattle.remuxer.specs.Places.{CanGive, IsAhead, IsPartBegun, IsFresh, StandsAt, ahead_of, block_lent, is_same, is_within, lent_ahead, part_in, parts_from, parts_left, split_in, start_in, turns_with}
 use Rattle.remuxer.specs.Taking.{Advances, BeginsNone, GoesOn, Leaves, LeavesAll}
 use Rattle.remuxer.specs.Output.{FindsBehind, FindsFirst, FindsPart}
 use Rattle.remuxer.specs.declared.placed.PlacedBlocks.{PlacedBlocks}
@@ -176,7 +176,7 @@ module _ (f : LiveFiles) (b : PlacedBlocks) (a : Ahead) (start : ℕ) (can : Can
       either true false kept q place = let e : Some start ≡ None = sym found ∙ ap start_in place in absurd (cc)
       either false any kept q place = let e : Some start ≡ None = sym found ∙ ap start_in place in absurd (cc)
 
-  pub is-begun : IsBegun begun_at start
+  pub is-begun : IsPartBegun begun_at start
   is-begun = record {
     starts = begins.starts;
     stands = record {

@@ -11,7 +11,7 @@ use Rattle.output_model.specs.Cluster.{OutputCluster, block_elements, cluster_el
 use Rattle.output_model.specs.Cues.{cluster_points, point_of, points_from, points_in, points_where}
 use Rattle.output_model.specs.Document.{clusters_elements}
 use Rattle.cluster_writer.specs.Gathered.{gathered_with, place_in, with_next}
-use Rattle.remuxer.specs.Stands.{held}
+use Rattle.remuxer.specs.Stands.{clusters_held}
 
 module _ (cued : OutputBlock → Bool) where
   -- a block more behind these
@@ -28,7 +28,7 @@ module _ (cued : OutputBlock → Bool) where
 
   -- a Cluster that is begun, or has a block more
   cluster_points-push : (limits : ClusterLimits) (spare c : ℕ) (cl : Option OutputCluster) (b : OutputBlock)
-      → cluster_points cued c (with_next cl b) ≡ points_from cued c (held cl) ++ points_where (cued b) (point_of c (place_in (gathered_with limits spare cl) b.tick) b)
+      → cluster_points cued c (with_next cl b) ≡ points_from cued c (clusters_held cl) ++ points_where (cued b) (point_of c (place_in (gathered_with limits spare cl) b.tick) b)
   cluster_points-push limits spare c None b =
       append-nil (points_where (cued b) (point_of c (length (octets_of (timestamp_element b.tick))) b))
       ∙ ap (λ n. points_where (cued b) (point_of c n b)) (let n = length (octets_of (timestamp_element b.tick)) in let same : n ≡ n + 0 = omega arith in same)
@@ -47,14 +47,14 @@ module _ (cued : OutputBlock → Bool) where
 
   -- a block more in the Cluster behind these
   pub points_from-push : (limits : ClusterLimits) (spare c : ℕ) (xs : List OutputCluster) (cl : Option OutputCluster) (b : OutputBlock)
-      → points_from cued c (xs ++ with_next cl b ∷ []) ≡ points_from cued c (xs ++ held cl) ++ points_where (cued b) (point_of (c + length (joined (clusters_elements xs))) (place_in (gathered_with limits spare cl) b.tick) b)
+      → points_from cued c (xs ++ with_next cl b ∷ []) ≡ points_from cued c (xs ++ clusters_held cl) ++ points_where (cued b) (point_of (c + length (joined (clusters_elements xs))) (place_in (gathered_with limits spare cl) b.tick) b)
   points_from-push limits spare c xs cl b =
       let at = c + length (joined (clusters_elements xs)) in
       let point = points_where (cued b) (point_of at (place_in (gathered_with limits spare cl) b.tick) b) in
       points_from-append c xs (with_next cl b ∷ [])
       ∙ ap (λ ps. points_from cued c xs ++ ps) (append-nil (cluster_points cued at (with_next cl b)) ∙ cluster_points-push limits spare at cl b)
-      ∙ sym (append_assoc (points_from cued c xs) (points_from cued at (held cl)) point)
-      ∙ ap (λ ps. ps ++ point) (sym (points_from-append c xs (held cl)))
+      ∙ sym (append_assoc (points_from cued c xs) (points_from cued at (clusters_held cl)) point)
+      ∙ ap (λ ps. ps ++ point) (sym (points_from-append c xs (clusters_held cl)))
 
 -- a point more, up to the limit
 pub kept-more : (most : ℕ) (ps old new : List CuePoint) (p : CuePoint) → old ≡ take most ps → (length old < most → new ≡ old ++ p ∷ []) → (most ≤ length old → new ≡ old) → new ≡ take most (ps ++ p ∷ [])

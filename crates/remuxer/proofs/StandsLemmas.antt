@@ -27,7 +27,7 @@ use Rattle.cues_seekhead.proofs.DraftLemmas.{StandsDrafted-begun}
 use Rattle.cues_seekhead.proofs.LayoutLemmas.{opened-more}
 use Rattle.cues_seekhead.proofs.OpenLemmas.{StandsOpen-cued, StandsOpen-grown}
 use Rattle.output_model.specs.Cued.{is_cue}
-use Rattle.remuxer.specs.Stands.{AreCounts, HasAll, Stands, counted_with, cut_on, held, with_point}
+use Rattle.remuxer.specs.Stands.{AreCounts, HasAll, Stands, counted_with, cut_on, clusters_held, with_point}
 use Rattle.remuxer.specs.declared.counts.Counts.{Counts}
 use Rattle.output_model.specs.declared.rule.CueRule.{CueRule}
 use Rattle.remuxer.proofs.PointLemmas.{kept-more, points_from-push}
@@ -54,10 +54,10 @@ none-held g (Some c) holds = ap (λ (x : Gathered). is_empty x) holds
 
 -- a block begins a Cluster where none is held
 count-begun : (n : ℕ) (g : Gathered) (done : List OutputCluster) (cl : Option OutputCluster) (b : OutputBlock) (begins : Bool) → Holds cl g → begins ≡ is_empty g
-    → n ≡ counted 0 (length (done ++ held cl)) → (if begins then counted n 1 else n) ≡ counted 0 (length (done ++ held (Some (with_next cl b))))
+    → n ≡ counted 0 (length (done ++ clusters_held cl)) → (if begins then counted n 1 else n) ≡ counted 0 (length (done ++ clusters_held (Some (with_next cl b))))
 count-begun n g done cl b begins holds empties count = ap (λ (t : Bool). if t then counted n 1 else n) (empties ∙ none-held g cl holds) ∙ by-cluster cl count
   where
-    by-cluster : (it : Option OutputCluster) → n ≡ counted 0 (length (done ++ held it)) → (if is_none it then counted n 1 else n) ≡ counted 0 (length (done ++ held (Some (with_next it b))))
+    by-cluster : (it : Option OutputCluster) → n ≡ counted 0 (length (done ++ clusters_held it)) → (if is_none it then counted n 1 else n) ≡ counted 0 (length (done ++ clusters_held (Some (with_next it b))))
     by-cluster None count = let one = length-append done [] in let other = length-append done (begun b ∷ []) in grind (arith, one, other, count)
     by-cluster (Some c) count = count ∙ ap (counted 0) (length-append done (c ∷ []) ∙ sym (length-append done (with_block c b ∷ [])))
 
@@ -121,7 +121,7 @@ module _ {S : Type 0} (r : Ghosts S) (f : writing.Ghosts S) (before : Names) (na
         → Stands r f before name rules d new (grown o (length bytes)) g' n (b ∷ left)
     stands-broken stands never is added holder is_open empty limits = by-cluster stands.cluster stands.cut stands.cues stands.holds stands.counts
       where
-        by-cluster : (cl : Option OutputCluster) → stands.done ++ cut_on g.limits cl (b ∷ left) ≡ d.clusters → o.cues ≡ cues_for (is_cue rules) d.front (stands.done ++ held cl) → Holds cl g → AreCounts (stands.done ++ held cl) (length o.cues) n
+        by-cluster : (cl : Option OutputCluster) → stands.done ++ cut_on g.limits cl (b ∷ left) ≡ d.clusters → o.cues ≡ cues_for (is_cue rules) d.front (stands.done ++ clusters_held cl) → Holds cl g → AreCounts (stands.done ++ clusters_held cl) (length o.cues) n
             → Stands r f before name rules d new (grown o (length bytes)) g' n (b ∷ left)
         by-cluster None cut cues holds counts = absurd (let no : joins_next g.limits None b ≡ false = never None holds in cc)
         by-cluster (Some c) cut cues holds counts =
@@ -166,7 +166,7 @@ module _ {S : Type 0} (r : Ghosts S) (f : writing.Ghosts S) (before : Names) (na
     stands-kept begins stands empties fits puts limits plain =
         let cued = is_cue rules in
         let c = clusters_at d.front in
-        let ps = points_from cued c (stands.done ++ held stands.cluster) in
+        let ps = points_from cued c (stands.done ++ clusters_held stands.cluster) in
         record {
           done = stands.done;
           cluster = Some (with_next stands.cluster b);
@@ -186,7 +186,7 @@ module _ {S : Type 0} (r : Ghosts S) (f : writing.Ghosts S) (before : Names) (na
         let cued = is_cue rules in
         let c = clusters_at d.front in
         let at = c + length (joined (clusters_elements stands.done)) in
-        let ps = points_from cued c (stands.done ++ held stands.cluster) in
+        let ps = points_from cued c (stands.done ++ clusters_held stands.cluster) in
         let place = place_in (gathered_with old.limits old.spare stands.cluster) b.tick in
         let there : o.len ≡ at = stands.stands.known.len in
         let inside : relative ≡ place = is ∙ ap (λ (g : Gathered). place_in g b.tick) stands.holds in
@@ -216,22 +216,22 @@ module _ {S : Type 0} (r : Ghosts S) (f : writing.Ghosts S) (before : Names) (na
 
   -- ---- the last Cluster
 
-  held-octets : (cl : Option OutputCluster) (g : Gathered) → Holds cl g → cluster_with g.timestamp g.elements ≡ joined (clusters_elements (held cl))
-  held-octets None g holds = ap (λ (x : Gathered). cluster_with x.timestamp x.elements) holds
-  held-octets (Some c) g holds = ap (λ (x : Gathered). cluster_with x.timestamp x.elements) holds ∙ sym (append-nil (octets_of (cluster_element c)))
+  clusters_held-octets : (cl : Option OutputCluster) (g : Gathered) → Holds cl g → cluster_with g.timestamp g.elements ≡ joined (clusters_elements (clusters_held cl))
+  clusters_held-octets None g holds = ap (λ (x : Gathered). cluster_with x.timestamp x.elements) holds
+  clusters_held-octets (Some c) g holds = ap (λ (x : Gathered). cluster_with x.timestamp x.elements) holds ∙ sym (append-nil (octets_of (cluster_element c)))
 
-  held-cut : (limits : ClusterLimits) (cl : Option OutputCluster) → cut_on limits cl [] ≡ held cl
-  held-cut limits None = refl
-  held-cut limits (Some c) = refl
+  clusters_held-cut : (limits : ClusterLimits) (cl : Option OutputCluster) → cut_on limits cl [] ≡ clusters_held cl
+  clusters_held-cut limits None = refl
+  clusters_held-cut limits (Some c) = refl
 
   module _ (old : S) (o : OpenOutput) (g : Gathered) (bytes : List ℕ) (n : Counts) (stands : Stands r f before name rules d old o g n []) (is : bytes ≡ cluster_with g.timestamp g.elements) where
-    all : stands.done ++ held stands.cluster ≡ d.clusters
-    all = ap (λ cs. stands.done ++ cs) (sym (held-cut g.limits stands.cluster)) ∙ stands.cut
+    all : stands.done ++ clusters_held stands.cluster ≡ d.clusters
+    all = ap (λ cs. stands.done ++ cs) (sym (clusters_held-cut g.limits stands.cluster)) ∙ stands.cut
 
     octets : joined (clusters_elements stands.done) ++ bytes ≡ joined (clusters_elements d.clusters)
     octets =
-        ap (λ w. joined (clusters_elements stands.done) ++ w) (is ∙ held-octets stands.cluster g stands.holds)
-        ∙ sym (clusters-append stands.done (held stands.cluster)) ∙ ap (λ cs. joined (clusters_elements cs)) all
+        ap (λ w. joined (clusters_elements stands.done) ++ w) (is ∙ clusters_held-octets stands.cluster g stands.holds)
+        ∙ sym (clusters-append stands.done (clusters_held stands.cluster)) ∙ ap (λ cs. joined (clusters_elements cs)) all
 
     cues : d.cues ≡ cues_for (is_cue rules) d.front d.clusters → d.cues ≡ o.cues
     cues points = points ∙ sym (ap (cues_for (is_cue rules) d.front) all) ∙ sym stands.cues
@@ -260,5 +260,5 @@ module _ {S : Type 0} (r : Ghosts S) (f : writing.Ghosts S) (before : Names) (na
     -- or a first part of it is
     pub rest-drafted : (new : S) → PassesSome (f.names old) (f.names new) (f.holder old o.file.n) bytes → StandsDrafted before (f.names new) (draft_of name d)
     rest-drafted new some =
-        drafted (f.names old) (f.names new) stands.done (held stands.cluster) bytes (joined (back_elements d)) all (ap (λ w. w ++ joined (back_elements d)) (is ∙ held-octets stands.cluster g stands.holds))
+        drafted (f.names old) (f.names new) stands.done (clusters_held stands.cluster) bytes (joined (back_elements d)) all (ap (λ w. w ++ joined (back_elements d)) (is ∙ clusters_held-octets stands.cluster g stands.holds))
         stands.stands.names (subst (λ (h : List ℕ). PassesSome (f.names old) (f.names new) h bytes) stands.stands.holder some)

@@ -21,7 +21,7 @@ use Rattle.cluster_reader.specs.Reading.{Reading}
 use Rattle.lanes.specs.Lane.{LaneSeen, lent}
 use Rattle.lanes.specs.Walks.{lent_by, lent_by_track}
 use Rattle.lanes.specs.declared.walk.Walk.{Walk}
-use Rattle.time_merge.specs.Merge.{GivesBlock, IsReady, MergeSeen, StepsTo, left}
+use Rattle.time_merge.specs.Merge.{GivesOfLane, IsReady, MergeSeen, StepsTo, left}
 use Rattle.time_merge.specs.Queues.{KeepsQueues, LaneKept, lane_kept}
 use Rattle.time_merge.specs.declared.queue.Queue.{Queue}
 use Rattle.time_merge.proofs.QueueLemmas.{count-kept}
@@ -264,7 +264,7 @@ module _ (f : LiveFiles) (b : PlacedBlocks) (m' : MergeSeen) (c' : CutsSeen) (a 
       either false = can.early
 
   -- it was the first that was left
-  pub step-left : GivesBlock f b.merge m' a.lane → left f b.merge ≡ x ∷ left f m'
+  pub step-left : GivesOfLane f b.merge m' a.lane → left f b.merge ≡ x ∷ left f m'
   step-left gives = gives.gives ∙ ap (λ (q : Queue). block_lent a.lane q.lane ∷ left f m') (same-queue m' a.lane gives.queue steps.queue gives.here steps.here)
 
   -- where it stands, by whether a cut stands before it

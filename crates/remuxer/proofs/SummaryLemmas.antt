@@ -15,7 +15,7 @@ use Rattle.cluster_reader.specs.ToldDamages.{ToldDamages, told_damages}
 use Rattle.merge_model.specs.Lanes.{lane_damages}
 use Rattle.merge_model.specs.FileLinks.{given_in}
 use Rattle.lanes.proofs.StartLemmas.{length-damages}
-use Rattle.remux_plan.specs.Summary.{count_to, damages_of, inputs_of, link_damages}
+use Rattle.remux_plan.specs.Summary.{count_to, damages_of, linked_inputs, link_damages}
 use Rattle.remux_plan.specs.declared.TheConstants.{MOST_INPUTS}
 use Rattle.remux_plan.specs.declared.plan.PlannedLane.{PlannedLane}
 use Rattle.remuxer.specs.Started.{numbers_of}
@@ -151,7 +151,7 @@ module _ {A : Type 0} (f : LiveFiles) (lanes : List PlannedLane) (of : ℕ → T
     (numbered : All (λ (l : PlannedLane). length l.inputs ≡ length l.spec.links) lanes) (inputs : All (λ (l : PlannedLane). All (λ n. n < MOST_INPUTS) l.inputs) lanes) where
   pub plan-damages :
       flat_map (λ input. of input (damages_told (numbers_of lanes) (map (λ (l : PlannedLane). map told_damages (lane_damages (map (given_in f) l.spec.links))) lanes) input)) (range_with_len 0 MOST_INPUTS)
-      ≡ flat_map (λ input. of input (told_damages (damages_of f lanes input))) (inputs_of lanes)
+      ≡ flat_map (λ input. of input (told_damages (damages_of f lanes input))) (linked_inputs lanes)
   plan-damages =
       let count = count_to (flat_map (λ (l : PlannedLane). l.inputs) lanes) in
       let few : count ≤ MOST_INPUTS = count-all MOST_INPUTS lanes inputs in

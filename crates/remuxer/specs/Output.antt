@@ -36,7 +36,7 @@ use Rattle.remux_plan.specs.Summary.{written_of}
 use Rattle.remux_plan.specs.Uuids.{uuids_at, with_uuids}
 use Rattle.remux_plan.specs.declared.output.OutputSpec.{OutputSpec}
 use Rattle.remux_plan.specs.declared.summary.Written.{Written}
-use Rattle.remuxer.specs.Places.{CanGive, IsBegun, IsFresh, part_in, parts_left, split_in, turns}
+use Rattle.remuxer.specs.Places.{CanGive, IsPartBegun, IsFresh, part_in, parts_left, split_in, turns}
 use Rattle.remuxer.specs.Stands.{AreCounts}
 use Rattle.remuxer.specs.Taking.{CanTake, GetsAll, IsOver, StaysDraft, told_by}
 use Rattle.remuxer.specs.declared.output.WrittenPart.{WrittenPart}
@@ -66,7 +66,7 @@ IsUnwritten holder split output m = All (λ (q : Queue). All (IsUnwrittenLink ho
 -- link was opened under the name, and what stands around the Clusters can be written.
 pub record CanWrite {S : Type 0} (r : Ghosts S) (f : writing.Ghosts S) (files : S) (o : OutputSpec) (name : List ℕ) (start : ℕ) (b : PlacedBlocks) : Type 0 where
   pub gives : CanGive (live_files r files) b
-  pub begun : IsBegun b start
+  pub begun : IsPartBegun b start
   pub scale : b.cuts.scale ≡ o.limits.scale
   pub apart : IsApart (f.holder files) (name ∷ []) b.merge
   pub records : HasRecords r f files name o.front o.chapters o.tags
@@ -109,7 +109,7 @@ chapters_in o part = if o.split then part else o.chapters
 -- An output that takes blocks can be filled with the part that was begun.
 pub record CanFill {S : Type 0} (r : Ghosts S) (f : writing.Ghosts S) (files : S) (o : OutputSpec) (start : ℕ) (w : BlockWriter) (b : PlacedBlocks) : Type 0 where
   pub can : CanTake r f files w b
-  pub begun : IsBegun b start
+  pub begun : IsPartBegun b start
   pub scale : b.cuts.scale ≡ o.limits.scale
   pub chapters : IfSome o.chapters (IsRead CHAPTERS)
 
@@ -122,13 +122,13 @@ pub record FillsPart {S : Type 0} (r : Ghosts S) (f : writing.Ghosts S) (o : Out
   pub behind : parts_left (live_files r new) b' ≡ parts_left (live_files r old) b
 
 -- After a refusal it stands as a draft.
-abbrev pub FillsTold : {S : Type 0} → Ghosts S → writing.Ghosts S → OutputSpec → S → S → BlockWriter → BlockWriter → PlacedBlocks → PlacedBlocks → Result (Option Node) RemuxEnd → Type 0
-FillsTold r f o old new w w' b b' (Ok chapters) = FillsPart r f o old new w w' b b' chapters
-FillsTold r f o old new w w' b b' (Err _) = StaysDraft r f o.rules (part_in (live_files r old) b).blocks old new w
+abbrev pub FillsOrStaysDraft : {S : Type 0} → Ghosts S → writing.Ghosts S → OutputSpec → S → S → BlockWriter → BlockWriter → PlacedBlocks → PlacedBlocks → Result (Option Node) RemuxEnd → Type 0
+FillsOrStaysDraft r f o old new w w' b b' (Ok chapters) = FillsPart r f o old new w w' b b' chapters
+FillsOrStaysDraft r f o old new w w' b b' (Err _) = StaysDraft r f o.rules (part_in (live_files r old) b).blocks old new w
 
 -- So it is where the links' files are told.
 abbrev pub Fills : {S : Type 0} → Ghosts S → writing.Ghosts S → OutputSpec → S → S → BlockWriter → BlockWriter → PlacedBlocks → PlacedBlocks → Result (Option Node) RemuxEnd → Type 0
-Fills r f o old new w w' b b' result = IsTold (live_files r old) b.merge → FillsTold r f o old new w w' b b' result
+Fills r f o old new w w' b b' result = IsTold (live_files r old) b.merge → FillsOrStaysDraft r f o old new w w' b b' result
 
 -- It has so many blocks, Clusters and cue points, and the parts behind it are left.
 pub record CountsPart (f h : LiveFiles) (o : OutputSpec) (b b' : PlacedBlocks) (w : WrittenPart) : Type 0 where
@@ -160,7 +160,7 @@ turns_left b (Some start) = way b.merge + 1
 -- A part was begun, or all lanes have ended.
 abbrev pub CanBeNext : PlacedBlocks → Option ℕ → Type 0
 CanBeNext b None = IsEnded b.merge
-CanBeNext b (Some start) = IsBegun b start
+CanBeNext b (Some start) = IsPartBegun b start
 
 -- The next part was begun; no more turns are left than these; and where the links' files were told, these are the parts.
 pub record FindsPart (f h : LiveFiles) (turns : ℕ) (parts : List Part) (b b' : PlacedBlocks) (next : Option ℕ) : Type 0 where
@@ -200,7 +200,7 @@ next_output f o written part = record { name = next_name o written; blocks = par
 -- The output of the part that was begun can be written behind these; no file of a link was opened under a name that may be written.
 pub record CanWriteNext {S : Type 0} (r : Ghosts S) (f : writing.Ghosts S) (files : S) (o : OutputSpec) (written : List Written) (start : ℕ) (b : PlacedBlocks) : Type 0 where
   pub gives : CanGive (live_files r files) b
-  pub begun : IsBegun b start
+  pub begun : IsPartBegun b start
   pub scale : b.cuts.scale ≡ o.limits.scale
   pub apart : IsUnwritten (f.holder files) o.split o.name b.merge
   pub records : HasRecords r f files (next_name o written) o.front o.chapters o.tags

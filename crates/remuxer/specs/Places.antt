@@ -166,7 +166,7 @@ abbrev pub StandsAhead : PlacedBlocks → Type 0
 StandsAhead b = StandsAt b.merge b.cuts b.ahead
 
 -- A part was begun that starts at this tick: the block ahead is of it, or none is left.
-pub record IsBegun (b : PlacedBlocks) (start : ℕ) : Type 0 where
+pub record IsPartBegun (b : PlacedBlocks) (start : ℕ) : Type 0 where
   pub starts : start ≡ start_of b.cuts
   pub stands : StandsAhead b
   pub within : is_within b.ahead ≡ is_some b.ahead

@@ -22,9 +22,9 @@ abbrev pub cut_on : ClusterLimits → Option OutputCluster → List OutputBlock 
 cut_on limits None left = clusters limits left
 cut_on limits (Some c) left = cut_from limits c left
 
-abbrev pub held : Option OutputCluster → List OutputCluster
-held None = []
-held (Some c) = c ∷ []
+abbrev pub clusters_held : Option OutputCluster → List OutputCluster
+clusters_held None = []
+clusters_held (Some c) = c ∷ []
 
 -- ---- what is counted
 
@@ -52,9 +52,9 @@ pub record Stands {S : Type 0} (r : Ghosts S) (f : writing.Ghosts S) (before : N
   pub done : List OutputCluster
   pub cluster : Option OutputCluster
   pub cut : done ++ cut_on g.limits cluster left ≡ d.clusters
-  pub cues : o.cues ≡ cues_for (is_cue rules) d.front (done ++ held cluster)
+  pub cues : o.cues ≡ cues_for (is_cue rules) d.front (done ++ clusters_held cluster)
   pub holds : Holds cluster g
-  pub counts : AreCounts (done ++ held cluster) (length o.cues) n
+  pub counts : AreCounts (done ++ clusters_held cluster) (length o.cues) n
   pub stands : StandsOpen r f before name d.front (joined (clusters_elements done)) files o
 
 -- All Clusters of the document stand in the file, and its cue points and the counts are known.

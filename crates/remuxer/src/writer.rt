@@ -64,7 +64,7 @@ pub(crate) struct BlockWriter {
 
 impl BlockWriter {
     ghost use Rattle.cues_seekhead.specs.OpenOutput.{IsOpen};
-    ghost use Rattle.remuxer.specs.Places.{IsBegun};
+    ghost use Rattle.remuxer.specs.Places.{IsPartBegun};
     ghost use Rattle.remuxer.specs.Taking.{CanTake, Goes, IsOver, StaysSmall, TakesLent, TakesMore, TakesPart, WritesInto};
 
     // Adds the block that the k-th lane lends, from 0, to a part that starts at this tick.
@@ -103,7 +103,7 @@ impl BlockWriter {
         start: u64,
     ) -> Result<(), OutEnd>
         requires can { CanTake F.Reads F.Files.own files.old self.old blocks.old }
-        requires begun { IsBegun blocks.old start }
+        requires begun { IsPartBegun blocks.old start }
         ensures takes { TakesPart F.Reads F.Files.own rules.now files.old files.new self.old self.new blocks.old blocks.new result }
         ensures writes { WritesInto F.Reads F.Files.own files.old files.new self.old self.new result }
         ensures held { StaysSmall self.old self.new result }

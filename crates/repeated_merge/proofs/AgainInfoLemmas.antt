@@ -9,7 +9,7 @@ use Rattle.tree_format.specs.Text.{HasNoZero}
 use Rattle.tree_format.specs.Values.{first_child}
 use Rattle.tree_format.proofs.ValueLemmas.{text_of-whole}
 use Rattle.merged_records.specs.Info.{output_info}
-use Rattle.merge_inputs.specs.Title.{title_in, title_of_info}
+use Rattle.merge_inputs.specs.Title.{title_text, title_of_info}
 use Rattle.merge_plan.specs.Records.{title_of, title_or}
 use Rattle.repeated_merge.specs.AgainInfo.{InfoIsWrittenAgain}
 use Rattle.repeated_merge.specs.Placed.{MayStandAs}
@@ -19,11 +19,11 @@ use Rattle.repeated_merge.proofs.PlacedLemmas.{body-placed, first-placed, map_or
 abbrev text_there : Node → List ℕ
 text_there n = text_of (body_of n)
 
-title-written : (scale : ℕ) (title : List ℕ) → HasNoZero title → title_in (output_info scale title) ≡ title
+title-written : (scale : ℕ) (title : List ℕ) → HasNoZero title → title_text (output_info scale title) ≡ title
 title-written scale [] whole = refl
 title-written scale (octet ∷ octets) whole = text_of-whole (octet ∷ octets) whole
 
-title-placed : (n : Node) (p : ℕ) → title_in (placed p n) ≡ title_in n
+title-placed : (n : Node) (p : ℕ) → title_text (placed p n) ≡ title_text n
 title-placed n p =
     map_or-is text_there (first_child TITLE (placed p n)) []
     ∙ ap (λ (o : Option (List ℕ)). unwrap_or o []) (first-placed text_there (λ m q. ap text_of (body-placed m q)) TITLE refl n p)
@@ -31,7 +31,7 @@ title-placed n p =
 
 title-read : (scale : ℕ) (title : List ℕ) → HasNoZero title → (o : Option Node) → MayStandAs (Some (output_info scale title)) o → title_of_info o ≡ title
 title-read scale title whole None stands = absurd stands
-title-read scale title whole (Some n) stands = ap title_in stands.1 ∙ title-placed (output_info scale title) stands.0 ∙ title-written scale title whole
+title-read scale title whole (Some n) stands = ap title_text stands.1 ∙ title-placed (output_info scale title) stands.0 ∙ title-written scale title whole
 
 or-nothing : (title : List ℕ) → title_or title [] ≡ title
 or-nothing [] = refl

@@ -50,7 +50,7 @@ use Rattle.merge_inputs.specs.Input.{InputRead}
 use Rattle.merge_inputs.specs.Taken.{IsTaken, first_unusable, taken_from}
 use Rattle.merge_inputs.specs.declared.taken.TakenTrack.{TakenTrack}
 use Rattle.merge_inputs.proofs.TakenLemmas.{taken-tracks}
-use Rattle.merge_plan.specs.Records.{change_of, chapters_of, entries_from, entry_of, tags_of, tracks_of, tracks_taken, uids_of}
+use Rattle.merge_plan.specs.Records.{change_of, chapters_of, entries_from, entry_of, tags_of, tracks_of_output, tracks_taken, uids_of}
 use Rattle.merge_plan.specs.Records.{entries_of as entries_given}
 use Rattle.merge_plan.specs.Refusal.{lanes_refusal, no_lane, not_webm, plan_refusal, records_refusal, too_many_lanes, where_so}
 use Rattle.merge_plan.specs.declared.refusal.PlanRefusal.{PlanRefusal}
@@ -216,13 +216,13 @@ lanes-again webm taken again many good =
 
 -- What is known of the records of a merge, and of those that an input gives alone.
 pub record AreAgain (reads : List InputRead) (again : InputRead) : Type 0 where
-  pub tracks : IsRecord TRACKS (tracks_of reads)
+  pub tracks : IsRecord TRACKS (tracks_of_output reads)
   pub chapters : IfSome (chapters_of reads) (IsRecord CHAPTERS)
   pub tags : IfSome (tags_of reads) (IsRecord TAGS)
-  pub tree : IsTree TRACKS (tracks_of (again ∷ []))
+  pub tree : IsTree TRACKS (tracks_of_output (again ∷ []))
   pub chapters_stand : MayStandAs (chapters_of reads) again.chapters
   pub tags_stand : MayStandAs (tags_of reads) again.tags
-  pub tracks_alike : AreAlike (tracks_of reads) (tracks_of (again ∷ []))
+  pub tracks_alike : AreAlike (tracks_of_output reads) (tracks_of_output (again ∷ []))
   pub chapters_alike : MayBeAlike (chapters_of reads) (chapters_of (again ∷ []))
   pub tags_alike : MayBeAlike (tags_of reads) (tags_of (again ∷ []))
 
@@ -293,8 +293,8 @@ module _ (reads : List InputRead) (again : InputRead) (short : Have64Bits (ident
       let tags : too_large TAGS (tags_of (again ∷ [])) ≡ too_large TAGS (tags_of reads) =
       may-large TAGS (tags_of reads) (tags_of (again ∷ [])) are.tags
       (tags-tree (tree-read TAGS (tags_of reads) again.tags are.tags are.tags_stand)) are.tags_alike in
-      let tracks : too_large TRACKS (Some (tracks_of (again ∷ []))) ≡ too_large TRACKS (Some (tracks_of reads)) =
-      may-large TRACKS (Some (tracks_of reads)) (Some (tracks_of (again ∷ []))) are.tracks are.tree are.tracks_alike in
+      let tracks : too_large TRACKS (Some (tracks_of_output (again ∷ []))) ≡ too_large TRACKS (Some (tracks_of_output reads)) =
+      may-large TRACKS (Some (tracks_of_output reads)) (Some (tracks_of_output (again ∷ []))) are.tracks are.tree are.tracks_alike in
       let records : records_refusal (again ∷ []) ≡ None =
       ap (λ (o : Option ℕ). option_map HeaderTooLarge o) (ap₂ (λ (a b : Option ℕ). option_or a b) tracks (ap₂ (λ (a b : Option ℕ). option_or a b) chapters tags))
       ∙ second-none first (records_refusal reads) unrefused in

@@ -14,7 +14,7 @@ use Rattle.input_files.specs.TextFiles.{text_files}
 use Rattle.input_files.specs.declared.text_files.TextFiles.{TextFiles}
 use Rattle.merge_words.specs.declared.output.MergeWords.{MergeWords}
 use Rattle.merge_inputs.specs.Input.{InputRead, file_read, found_then, input_of, input_with, refusal_of, text_read}
-use Rattle.merge_inputs.specs.Input.{unless_refused as unless_unusable}
+use Rattle.merge_inputs.specs.Input.{input_or_refusal as unless_unusable}
 use Rattle.merge_inputs.specs.Taken.{first_unusable, taken_from}
 use Rattle.merge_inputs.specs.declared.input.InputRefusal.{InputRefusal}
 use Rattle.merge_inputs.specs.declared.input.InputRefusal.TheVariants.{Damaged}
@@ -25,7 +25,7 @@ use Rattle.merge_plan.specs.Plan.{Source}
 use Rattle.merge_plan.specs.Refusal.{plan_refusal}
 use Rattle.merge_plan.specs.declared.refusal.PlanRefusal.{PlanRefusal}
 use Rattle.mkv_merge.specs.Chapters.{chaptered, chapters_refusal, with_chapters}
-use Rattle.mkv_merge.specs.Merge.{refusals_read, sources_in, sources_of, status_of, verdict_of}
+use Rattle.mkv_merge.specs.Merge.{refusals_read, sources_in, sources_of, warned_if, verdict_of}
 use Rattle.merge_words.specs.Plain.{plain_file}
 use Rattle.mkv_merge.specs.Read.{first_written, found_in, inputs_of, numbered, pending_of}
 use Rattle.mkv_merge.specs.Refused.{first_cause}
@@ -113,4 +113,4 @@ outputs-sources world out name d r begun outlined records usable planned = one-s
 
 pub merge-done : MergeIsDone
 merge-done world out name s are whole =
-    ap (λ (found : Result (List Source) Refusal). (verdict_of (plain_merge out name) found).status) are ∙ ap (λ (damaged : Bool). status_of (damaged || false)) whole
+    ap (λ (found : Result (List Source) Refusal). (verdict_of (plain_merge out name) found).status) are ∙ ap (λ (damaged : Bool). warned_if (damaged || false)) whole

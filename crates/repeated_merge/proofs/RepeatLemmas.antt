@@ -46,7 +46,7 @@ use Rattle.merge_inputs.specs.declared.taken.TakenTrack.{TakenTrack}
 use Rattle.merge_plan.specs.Front.{attachments_of, file_uids, reads_of}
 use Rattle.merge_plan.specs.Identifiers.{Have64Bits, identifiers_of}
 use Rattle.merge_plan.specs.Plan.{Source, lanes_given, limits_of, rule_of, rules_given, usual_rule}
-use Rattle.merge_plan.specs.Records.{anywhere, chapters_of, info_of, kept_anywhere, records_from, records_of, tags_of, title_of, tracks_of, tracks_taken, uids_at, uids_behind, uids_of}
+use Rattle.merge_plan.specs.Records.{anywhere, chapters_of, info_of, kept_anywhere, records_from, records_of, tags_of, title_of, tracks_of_output, tracks_taken, uids_at, uids_behind, uids_of}
 use Rattle.merge_plan.specs.Records.{entries_of as entries_given}
 use Rattle.merge_plan.specs.Refusal.{plan_refusal}
 use Rattle.mkv_merge.specs.Merge.{blocks_of}
@@ -220,7 +220,7 @@ module _ (tracks_stay : TracksStay) (chapters_stay : ChaptersStay) (tags_stay : 
         ap (λ (ts : List TakenTrack). map octets (entries_given ts)) (append-nil s.1.taken)
         ∙ entries-again tracks_stay name taken r.tracks are.taken are.short.tracks plain-tracks of_d.tracks
 
-    tracks-alike : AreAlike d.front.tracks (tracks_of (s.1 ∷ []))
+    tracks-alike : AreAlike d.front.tracks (tracks_of_output (s.1 ∷ []))
     tracks-alike = record { id = refl; some = refl; same = ap (kept_octets TRACKS) (sym (same-joined (entries_given (s.1.taken ++ [])) (entries_given taken) entries-alike)) }
 
     chapters-alike : MayBeAlike d.chapters (chapters_of (s.1 ∷ []))
@@ -265,7 +265,7 @@ module _ (tracks_stay : TracksStay) (chapters_stay : ChaptersStay) (tags_stay : 
         usable-again name taken r.tracks are.taken (subst (All IsBare) same-entries has.plain)
         (subst (λ (es : List Node). AllZip IsTrackOf es r.tracks) same-entries of_d.tracks.say)
 
-    tracks-stand : IsTree TRACKS (tracks_of (s.1 ∷ []))
+    tracks-stand : IsTree TRACKS (tracks_of_output (s.1 ∷ []))
     tracks-stand =
         let few = has.sound.tracks.few in
         let many = taken-of.many in

@@ -25,7 +25,7 @@ use Rattle.merged_records.specs.Info.{application, output_info, title_elements}
 use Rattle.merged_records.specs.Limits.{first_too_large, too_large}
 use Rattle.merge_plan.specs.Front.{attachments_of, front_of, reads_of}
 use Rattle.merge_plan.specs.Plan.{Source, limits_of, rules_given, starts_in}
-use Rattle.merge_plan.specs.Records.{chapters_of, tags_of, title_of, tracks_of, tracks_taken}
+use Rattle.merge_plan.specs.Records.{chapters_of, tags_of, title_of, tracks_of_output, tracks_taken}
 use Rattle.merge_plan.specs.Refusal.{lanes_refusal, plan_refusal, records_refusal}
 use Rattle.merge_plan.specs.declared.refusal.PlanRefusal.TheVariants.{HeaderTooLarge}
 use Rattle.mkv_merge.specs.Merge.{blocks_of, output_at, parts_of, split_of}
@@ -102,20 +102,20 @@ few-info scale [] = omega arith
 few-info scale (octet ∷ octets) = omega arith
 
 module _ (words : MergeWords) (reads : List InputRead) (unrefused : plan_refusal words reads ≡ None) where
-  none-too-large : first_too_large (tracks_of reads) (chapters_of reads) (tags_of reads) ≡ None
+  none-too-large : first_too_large (tracks_of_output reads) (chapters_of reads) (tags_of reads) ≡ None
   none-too-large =
-      none-made HeaderTooLarge (first_too_large (tracks_of reads) (chapters_of reads) (tags_of reads))
+      none-made HeaderTooLarge (first_too_large (tracks_of_output reads) (chapters_of reads) (tags_of reads))
       (second-none (lanes_refusal words.webm (tracks_taken reads)) (records_refusal reads) unrefused)
 
   large-behind : option_or (too_large CHAPTERS (chapters_of reads)) (too_large TAGS (tags_of reads)) ≡ None
-  large-behind = second-none (too_large TRACKS (Some (tracks_of reads))) (option_or (too_large CHAPTERS (chapters_of reads)) (too_large TAGS (tags_of reads))) none-too-large
+  large-behind = second-none (too_large TRACKS (Some (tracks_of_output reads))) (option_or (too_large CHAPTERS (chapters_of reads)) (too_large TAGS (tags_of reads))) none-too-large
 
 pub whole-planned : WholeMergesHaveSmallRecords
 whole-planned words sources unrefused =
     let reads : List InputRead = reads_of sources in
     record {
       info = few-info words.scale (title_of words reads);
-      tracks = not-large TRACKS (tracks_of reads) (first-none (too_large TRACKS (Some (tracks_of reads))) (option_or (too_large CHAPTERS (chapters_of reads)) (too_large TAGS (tags_of reads))) (none-too-large words reads unrefused));
+      tracks = not-large TRACKS (tracks_of_output reads) (first-none (too_large TRACKS (Some (tracks_of_output reads))) (option_or (too_large CHAPTERS (chapters_of reads)) (too_large TAGS (tags_of reads))) (none-too-large words reads unrefused));
       chapters = none-large CHAPTERS (chapters_of reads) (first-none (too_large CHAPTERS (chapters_of reads)) (too_large TAGS (tags_of reads)) (large-behind words reads unrefused));
       tags = none-large TAGS (tags_of reads) (second-none (too_large CHAPTERS (chapters_of reads)) (too_large TAGS (tags_of reads)) (large-behind words reads unrefused));
     }

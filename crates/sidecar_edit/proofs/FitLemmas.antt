@@ -8,7 +8,7 @@ use Rattle.sidecar_edit.specs.declared.held.Gate.{Gate}
 use Rattle.sidecar_edit.specs.declared.held.Gate.TheVariants.{Live, Quiet, Bad}
 use Rattle.sidecar_edit.specs.declared.outcome.Recovered.TheVariants.{Applied}
 use Rattle.sidecar_edit.specs.declared.outcome.RecoverEnd.{RecoverEnd}
-use Rattle.sidecar_edit.specs.Writes.{Fits, Torn, Touches, extent}
+use Rattle.sidecar_edit.specs.Writes.{Fits, Torn, WritesOctet, extent}
 use Rattle.sidecar_edit.specs.Fields.{AreInOrder, cut_up, head_len, head_of, last_end, count_in, new_len_in, old_len_in, places_in, sum_of, total_in, used_in, version_in, writes_in}
 use Rattle.sidecar_edit.specs.Gate.{Rule, first_breach, gate_of, is_count, is_new_len, is_quiet, is_total, is_version, old_len_of, place_rules, rules_of, state, unless_broken}
 use Rattle.sidecar_edit.specs.Recovery.{differs, first_place, foreign_of, gap_of, if_live, is_disk_fault, is_touched, octet_mark, recovery, unfit, applied_unless}
@@ -44,7 +44,7 @@ extent-in_order old from n (p ∷ ps) bytes order le room =
     end_grows old from (p ∷ ps) order = let more = end_grows old (p.at + p.len) ps order.3 in let low = order.1 in omega arith
 
 -- an octet that no place holds is written by none
-pub touched-is : (ps : List Place) (bytes : List ℕ) (k : ℕ) → Touches (cut_up ps bytes) k → is_touched ps k ≡ true
+pub touched-is : (ps : List Place) (bytes : List ℕ) (k : ℕ) → WritesOctet (cut_up ps bytes) k → is_touched ps k ≡ true
 touched-is [] bytes k touched = absurd touched
 touched-is (p ∷ ps) bytes k (inl here) =
     let size = length-take p.len bytes in let low = here.0 in let high = here.1 in
@@ -271,7 +271,7 @@ module _ (m s : List ℕ) (own : IsOwn m s) where
   pub own-torn : (t : List ℕ) → Torn (writes_in s) m t → IsOwn t s
   own-torn t torn = record { live = own.live; fit = by_version (version_in (head_of s) == 1) refl }
     where
-      same_octet : (k : ℕ) → k < KEPT → k < length m → (Touches (writes_in s) k → ⊥) → slice_index (take KEPT t) k ≡ slice_index (take KEPT m) k
+      same_octet : (k : ℕ) → k < KEPT → k < length m → (WritesOctet (writes_in s) k → ⊥) → slice_index (take KEPT t) k ≡ slice_index (take KEPT m) k
       same_octet k low inside untouched = get_or-take KEPT t k 0 low ∙ torn.elsewhere k inside untouched ∙ sym (get_or-take KEPT m k 0 low)
 
       by_octet : (k : ℕ) → k < KEPT → old_len_in (head_of s) ≤ length m → differs (head_of s) (take KEPT m) k ≡ false → (a b : Bool) → nat_lt k (old_len_in (head_of s)) ≡ a → is_touched (used_in (head_of s)) k ≡ b → differs (head_of s) (take KEPT t) k ≡ false
@@ -279,7 +279,7 @@ module _ (m s : List ℕ) (own : IsOwn m s) where
       by_octet k low old same true true before touched = and_left (nat_lt k (old_len_in (head_of s)) && not (is_touched (used_in (head_of s)) k)) _ (and_right (nat_lt k (old_len_in (head_of s))) (not (is_touched (used_in (head_of s)) k)) (not_from_true (is_touched (used_in (head_of s)) k) touched))
       by_octet k low old same true false before touched =
           let lt = ltb-true k (old_len_in (head_of s)) before in
-          let none = λ (touches : Touches (writes_in s) k). let no : true ≡ false = sym (touched-is (used_in (head_of s)) (drop (head_len (version_in (head_of s))) s) k touches) ∙ touched in true≢false no in
+          let none = λ (touches : WritesOctet (writes_in s) k). let no : true ≡ false = sym (touched-is (used_in (head_of s)) (drop (head_len (version_in (head_of s))) s) k touches) ∙ touched in true≢false no in
           ap (λ octet. nat_lt k (old_len_in (head_of s)) && not (is_touched (used_in (head_of s)) k) && not (octet == slice_index (head_of s) (168 + k))) (same_octet k low (omega arith) none) ∙ same
 
       by_version : (b : Bool) → (version_in (head_of s) == 1) ≡ b → unfit (head_of s) (length t) (take KEPT t) ≡ None

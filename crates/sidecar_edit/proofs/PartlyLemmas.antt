@@ -7,7 +7,7 @@ use Rattle.mkv_io.specs.Contents.{overwritten}
 use Rattle.mkv_disk.specs.Image.{DiskFile, InRanges, IsImage, all_synced, clean, written_at}
 use Rattle.mkv_disk.specs.Pair.{Pair, IsPairImage, IsSynced, both, on}
 use Rattle.mkv_disk.proofs.ImageLemmas.{clean_image}
-use Rattle.sidecar_edit.specs.Writes.{Write, Fits, Touches, Torn, applied, end_of, extent}
+use Rattle.sidecar_edit.specs.Writes.{Write, Fits, WritesOctet, Torn, applied, end_of, extent}
 use Rattle.sidecar_edit.proofs.RedoLemmas.{extent_grows, length-applied}
 use Rattle.sidecar_edit.specs.Partly.{IsPartly, IsWritten}
 
@@ -21,16 +21,16 @@ extent-append : (n : ℕ) (ws : List Write) (w : Write) → extent n (ws ++ w �
 extent-append n [] w = refl
 extent-append n (v ∷ ws) w = extent-append (max n (end_of v)) ws w
 
-touches-last : (ws : List Write) (w : Write) (k : ℕ) → (w.at ≤ k) × (k < end_of w) → Touches (ws ++ w ∷ []) k
+touches-last : (ws : List Write) (w : Write) (k : ℕ) → (w.at ≤ k) × (k < end_of w) → WritesOctet (ws ++ w ∷ []) k
 touches-last [] w k here = inl here
 touches-last (v ∷ ws) w k here = inr (touches-last ws w k here)
 
-touches-first : (ws : List Write) (w : Write) (k : ℕ) → Touches ws k → Touches (ws ++ w ∷ []) k
+touches-first : (ws : List Write) (w : Write) (k : ℕ) → WritesOctet ws k → WritesOctet (ws ++ w ∷ []) k
 touches-first [] w k none = absurd none
 touches-first (v ∷ ws) w k (inl here) = inl here
 touches-first (v ∷ ws) w k (inr there) = inr (touches-first ws w k there)
 
-touches_take : (i : ℕ) (ws : List Write) (k : ℕ) → Touches (take i ws) k → Touches ws k
+touches_take : (i : ℕ) (ws : List Write) (k : ℕ) → WritesOctet (take i ws) k → WritesOctet ws k
 touches_take zero ws k none = absurd none
 touches_take (suc i) [] k none = absurd none
 touches_take (suc i) (w ∷ ws) k (inl here) = inl here
@@ -109,7 +109,7 @@ module _ (ws : List Write) (i : ℕ) (file beside : List ℕ) (p : Pair) (was : 
         synced = now.synced ∙ was.synced;
         least = now.least ∙ was.least;
         greatest = omega arith;
-        within = λ k written. subst (λ vs. Touches vs k) (sym next)
+        within = λ k written. subst (λ vs. WritesOctet vs k) (sym next)
             (⊎_elim (λ (here : (w.at ≤ k) × (k < w.at + length w.bytes)). touches-last (take i ws) w k here) (λ (before : InRanges p.media.written k). touches-first (take i ws) w k (was.within k before)) (now.within k written));
       }
 

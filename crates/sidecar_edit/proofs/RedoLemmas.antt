@@ -3,7 +3,7 @@ use Rattle.std.proofs.Common.{◌≡◌, ◌⊎◌, inl, inr, ⊎_elim, ℕ, ◌
 use Rattle.std.proofs.lemmas.Bool.{cases_lt}
 use Rattle.std.proofs.lemmas.List.{places, ext_get_or}
 use Rattle.mkv_io.specs.Contents.{overwritten}
-use Rattle.sidecar_edit.specs.Writes.{Write, end_of, applied, extent, Fits, Touches, Torn}
+use Rattle.sidecar_edit.specs.Writes.{Write, end_of, applied, extent, Fits, WritesOctet, Torn}
 
 pub length-overwritten : (old : List ℕ) (at : ℕ) (bytes : List ℕ) → at ≤ length old → length (overwritten old at bytes) ≡ max (length old) (at + length bytes)
 length-overwritten old at bytes le = grind (arith, length-append, length-take, length-drop)
@@ -42,13 +42,13 @@ torn_rest w ws file torn le was =
     same_inside : (k : ℕ) → w.at ≤ k → k < end_of w → get_or (overwritten torn w.at w.bytes) k 0 ≡ get_or (overwritten file w.at w.bytes) k 0
     same_inside k low high = overwritten_inside torn w.at w.bytes k (omega (arith, was.no_shorter)) low high ∙ sym (overwritten_inside file w.at w.bytes k le low high)
 
-    same_outside : (k : ℕ) → k < length file → (k < w.at) ⊎ (end_of w ≤ k) → (Touches ws k → ⊥) → get_or (overwritten torn w.at w.bytes) k 0 ≡ get_or (overwritten file w.at w.bytes) k 0
+    same_outside : (k : ℕ) → k < length file → (k < w.at) ⊎ (end_of w ≤ k) → (WritesOctet ws k → ⊥) → get_or (overwritten torn w.at w.bytes) k 0 ≡ get_or (overwritten file w.at w.bytes) k 0
     same_outside k inside out untouched =
         overwritten_outside torn w.at w.bytes k (omega (arith, was.no_shorter)) out
         ∙ was.elsewhere k inside (⊎_elim (λ (here : (w.at ≤ k) × (k < end_of w)). ⊎_elim (λ (lt : k < w.at). let no : ⊥ = omega (arith, here.0) in no) (λ (le : end_of w ≤ k). let no : ⊥ = omega (arith, here.1) in no) out) untouched)
         ∙ sym (overwritten_outside file w.at w.bytes k le out)
 
-    at_place : (k : ℕ) → k < max (length file) (end_of w) → (Touches ws k → ⊥) → (k < w.at) ⊎ (w.at ≤ k) → (k < end_of w) ⊎ (end_of w ≤ k) → get_or (overwritten torn w.at w.bytes) k 0 ≡ get_or (overwritten file w.at w.bytes) k 0
+    at_place : (k : ℕ) → k < max (length file) (end_of w) → (WritesOctet ws k → ⊥) → (k < w.at) ⊎ (w.at ≤ k) → (k < end_of w) ⊎ (end_of w ≤ k) → get_or (overwritten torn w.at w.bytes) k 0 ≡ get_or (overwritten file w.at w.bytes) k 0
     at_place k inside untouched (inl below) end = same_outside k (omega arith) (inl below) untouched
     at_place k inside untouched (inr above) (inl before) = same_inside k above before
     at_place k inside untouched (inr above) (inr behind) = same_outside k (omega arith) (inr behind) untouched
@@ -62,7 +62,7 @@ redone (w ∷ ws) file torn fits was =
     redone ws (overwritten file w.at w.bytes) (overwritten torn w.at w.bytes) (subst (λ n. Fits n ws) (sym size) fits.1) (torn_rest w ws file torn fits.0 was)
 
 -- bytes that no write touches stay
-pub applied_elsewhere : (ws : List Write) (file : List ℕ) (k : ℕ) → Fits (length file) ws → k < length file → (Touches ws k → ⊥) → get_or (applied file ws) k 0 ≡ get_or file k 0
+pub applied_elsewhere : (ws : List Write) (file : List ℕ) (k : ℕ) → Fits (length file) ws → k < length file → (WritesOctet ws k → ⊥) → get_or (applied file ws) k 0 ≡ get_or file k 0
 applied_elsewhere [] file k fits inside untouched = refl
 applied_elsewhere (w ∷ ws) file k fits inside untouched =
     let size = length-overwritten file w.at w.bytes fits.0 in

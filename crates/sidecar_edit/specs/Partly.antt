@@ -3,7 +3,7 @@ use Rattle.std.specs.Prelude.{◌≡◌, ◌⊎◌, ℕ, ◌+◌, ◌<◌, ◌�
 use Rattle.mkv_io.specs.Contents.{overwritten}
 use Rattle.mkv_disk.specs.Image.{InRanges, clean}
 use Rattle.mkv_disk.specs.Pair.{Pair}
-use Rattle.sidecar_edit.specs.Writes.{Write, Touches, applied, extent}
+use Rattle.sidecar_edit.specs.Writes.{Write, WritesOctet, applied, extent}
 
 -- These octets are written from this place of the medium on, in any pieces: it reads as after one write, and a crash leaves no
 -- more than after one.
@@ -22,4 +22,4 @@ pub record IsPartly (ws : List Write) (i : ℕ) (file beside : List ℕ) (p : Pa
   pub synced : p.media.synced ≡ file
   pub least : p.media.least ≡ length file
   pub greatest : p.media.greatest ≤ extent (length file) (take i ws)
-  pub within : (k : ℕ) → InRanges p.media.written k → Touches (take i ws) k
+  pub within : (k : ℕ) → InRanges p.media.written k → WritesOctet (take i ws) k

@@ -27,12 +27,12 @@ Fits n [] = Unit {0}
 Fits n (w ∷ ws) = (w.at ≤ n) × Fits (max n (end_of w)) ws
 
 -- One of them writes the octet at a place.
-abbrev pub Touches : List Write → ℕ → Type 0
-Touches [] k = ⊥
-Touches (w ∷ ws) k = ((w.at ≤ k) × (k < end_of w)) ⊎ Touches ws k
+abbrev pub WritesOctet : List Write → ℕ → Type 0
+WritesOctet [] k = ⊥
+WritesOctet (w ∷ ws) k = ((w.at ≤ k) × (k < end_of w)) ⊎ WritesOctet ws k
 
 -- A file with any part of the writes made: any octets where they write, all else as before.
 pub record Torn (ws : List Write) (file torn : List ℕ) : Type 0 where
   pub no_shorter : length file ≤ length torn
   pub no_longer : length torn ≤ extent (length file) ws
-  pub elsewhere : (k : ℕ) → k < length file → (Touches ws k → ⊥) → slice_index torn k ≡ slice_index file k
+  pub elsewhere : (k : ℕ) → k < length file → (WritesOctet ws k → ⊥) → slice_index torn k ≡ slice_index file k

@@ -4,7 +4,7 @@ ghost use Rattle.std.specs.Prelude.{◌≡◌, ◌≤◌, ℕ, true, [], ◌∷�
 ghost use Rattle.mkv_io.specs.Faults.{HasCause, is_failure};
 ghost use Rattle.mkv_io.specs.Sources.{IsLive};
 ghost use Rattle.mkv_disk.specs.Pair.{both};
-ghost use Rattle.mkv_disk.specs.Calls.{AnyMoment, AtRest, Makes, OfReads};
+ghost use Rattle.mkv_disk.specs.Calls.{AnyMoment, AtRest, MakesPair, OfReads};
 ghost use Rattle.mkv_disk.specs.Writing.{OnlyWrites};
 ghost use Rattle.sidecar_edit.specs.Fields.{IsMadeFor, IsPlan, body_of, writes_of};
 ghost use Rattle.sidecar_edit.specs.Recovery.{IsClosed};
@@ -21,7 +21,7 @@ use mkv_io::Failed;
 fn write_record<D: Disk>(plan: &Plan, disk: &mut D) -> Result<(), Failed>
     requires live { IsLive D.Reads disk.old SIDECAR }
     requires settled { IsTrue D.told → D.pair disk.old ≡ both (D.pair disk.old).media.reads (0 ∷ []) }
-    ensures ok { Makes D.Disk.own disk.old disk.new result (λ M S. both M (0 ∷ body_of plan.now)) }
+    ensures ok { MakesPair D.Disk.own disk.old disk.new result (λ M S. both M (0 ∷ body_of plan.now)) }
     ensures any_moment { AnyMoment D.Disk.own disk.old disk.new (λ M S m s. (m ≡ M) × IsClosed s) }
     ensures sound { IsPlan plan.now }
     ensures only { OnlyWrites D.Reads D.Disk.own disk.old disk.new }
@@ -36,7 +36,7 @@ fn write_media<D: Disk>(plan: &Plan, disk: &mut D) -> Result<(), Failed>
     requires live { IsLive D.Reads disk.old MEDIA }
     requires at_rest { AtRest D.Disk.own disk.old }
     requires fits { OfReads D.Disk.own disk.old (λ M S. Fits (length M) (writes_of plan.now)) }
-    ensures ok { Makes D.Disk.own disk.old disk.new result (λ M S. both (applied M (writes_of plan.now)) S) }
+    ensures ok { MakesPair D.Disk.own disk.old disk.new result (λ M S. both (applied M (writes_of plan.now)) S) }
     ensures any_moment { AnyMoment D.Disk.own disk.old disk.new (λ M S m s. Torn (writes_of plan.now) M m × (s ≡ S)) }
     ensures only { OnlyWrites D.Reads D.Disk.own disk.old disk.new }
     ensures cause { HasCause is_failure (D.writing_faults disk.old) (D.writing_faults disk.new) result }
@@ -57,7 +57,7 @@ pub fn commit<D: Disk>(plan: &Plan, disk: &mut D) -> Result<(), DiskFault>
     requires settled { IsTrue D.told → D.pair disk.old ≡ both (D.pair disk.old).media.reads (0 ∷ []) }
     requires some { 1 ≤ length plan.now.head.places }
     requires made { OfReads D.Disk.own disk.old (λ M S. IsMadeFor plan.now.head M) }
-    ensures ok { Makes D.Disk.own disk.old disk.new result (λ M S. both (applied M (writes_of plan.now)) (0 ∷ [])) }
+    ensures ok { MakesPair D.Disk.own disk.old disk.new result (λ M S. both (applied M (writes_of plan.now)) (0 ∷ [])) }
     ensures any_moment { AnyMoment D.Disk.own disk.old disk.new (λ M S m s. IsEditing plan.now M m s) }
     ensures only { OnlyWrites D.Reads D.Disk.own disk.old disk.new }
     ensures cause { HasCause (λ _. true) (D.writing_faults disk.old) (D.writing_faults disk.new) result }

@@ -4,7 +4,7 @@ ghost use Rattle.std.specs.Prelude.{◌≡◌, ◌≤◌, ℕ, [], ◌∷◌, le
 ghost use Rattle.mkv_io.specs.Faults.{HasCause, is_failure};
 ghost use Rattle.mkv_io.specs.Sources.{IsLive};
 ghost use Rattle.mkv_disk.specs.Pair.{both};
-ghost use Rattle.mkv_disk.specs.Calls.{AnyMoment, AtRest, Makes, OfReads};
+ghost use Rattle.mkv_disk.specs.Calls.{AnyMoment, AtRest, MakesPair, OfReads};
 ghost use Rattle.mkv_disk.specs.Writing.{OnlyWrites};
 ghost use Rattle.sidecar_edit.specs.Recovery.{IsClosed, IsQuiet};
 ghost use Rattle.sidecar_edit.specs.Leaves.{IsGated};
@@ -16,7 +16,7 @@ use mkv_io::Failed;
 pub fn set_gate<D: Disk>(disk: &mut D, gate: u8) -> Result<(), Failed>
     requires live { IsLive D.Reads disk.old SIDECAR }
     requires at_rest { AtRest D.Disk.own disk.old }
-    ensures ok { Makes D.Disk.own disk.old disk.new result (λ M S. both M (gate ∷ drop 1 S)) }
+    ensures ok { MakesPair D.Disk.own disk.old disk.new result (λ M S. both M (gate ∷ drop 1 S)) }
     ensures any_moment { AnyMoment D.Disk.own disk.old disk.new (λ M S m s. (m ≡ M) × IsGated S s) }
     ensures only { OnlyWrites D.Reads D.Disk.own disk.old disk.new }
     ensures cause { HasCause is_failure (D.writing_faults disk.old) (D.writing_faults disk.new) result }
@@ -30,7 +30,7 @@ pub fn cut_down<D: Disk>(disk: &mut D) -> Result<(), Failed>
     requires live { IsLive D.Reads disk.old SIDECAR }
     requires at_rest { AtRest D.Disk.own disk.old }
     requires closed { OfReads D.Disk.own disk.old (λ M S. (1 ≤ length S) × IsClosed S) }
-    ensures ok { Makes D.Disk.own disk.old disk.new result (λ M S. both M (take 1 S)) }
+    ensures ok { MakesPair D.Disk.own disk.old disk.new result (λ M S. both M (take 1 S)) }
     ensures any_moment { AnyMoment D.Disk.own disk.old disk.new (λ M S m s. (m ≡ M) × IsClosed s) }
     ensures only { OnlyWrites D.Reads D.Disk.own disk.old disk.new }
     ensures cause { HasCause is_failure (D.writing_faults disk.old) (D.writing_faults disk.new) result }
@@ -43,7 +43,7 @@ pub fn cut_down<D: Disk>(disk: &mut D) -> Result<(), Failed>
 pub fn close<D: Disk>(disk: &mut D) -> Result<(), Failed>
     requires live { IsLive D.Reads disk.old SIDECAR }
     requires at_rest { AtRest D.Disk.own disk.old }
-    ensures ok { Makes D.Disk.own disk.old disk.new result (λ M S. both M (0 ∷ [])) }
+    ensures ok { MakesPair D.Disk.own disk.old disk.new result (λ M S. both M (0 ∷ [])) }
     ensures any_moment { AnyMoment D.Disk.own disk.old disk.new (λ M S m s. (m ≡ M) × IsGated S s) }
     ensures only { OnlyWrites D.Reads D.Disk.own disk.old disk.new }
     ensures cause { HasCause is_failure (D.writing_faults disk.old) (D.writing_faults disk.new) result }
@@ -58,7 +58,7 @@ pub fn settle<D: Disk>(disk: &mut D) -> Result<(), Failed>
     requires live { IsLive D.Reads disk.old SIDECAR }
     requires at_rest { AtRest D.Disk.own disk.old }
     requires quiet { OfReads D.Disk.own disk.old (λ M S. IsQuiet S) }
-    ensures ok { Makes D.Disk.own disk.old disk.new result (λ M S. both M (0 ∷ [])) }
+    ensures ok { MakesPair D.Disk.own disk.old disk.new result (λ M S. both M (0 ∷ [])) }
     ensures any_moment { AnyMoment D.Disk.own disk.old disk.new (λ M S m s. (m ≡ M) × IsQuiet s) }
     ensures only { OnlyWrites D.Reads D.Disk.own disk.old disk.new }
     ensures cause { HasCause is_failure (D.writing_faults disk.old) (D.writing_faults disk.new) result }

@@ -3,7 +3,7 @@
 ghost use Rattle.std.specs.Prelude.{◌≡◌, ◌+◌, [], ◌∷◌, length, Ok, IsTrue};
 ghost use Rattle.mkv_io.specs.Faults.{is_failure};
 ghost use Rattle.mkv_disk.specs.Pair.{both};
-ghost use Rattle.mkv_disk.specs.Calls.{AnyMoment, IsReady, Makes, OfReads};
+ghost use Rattle.mkv_disk.specs.Calls.{AnyMoment, IsReady, MakesPair, OfReads};
 ghost use Rattle.mkv_disk.specs.Writing.{HasDiskCause, KeepsOpen};
 ghost use Rattle.sidecar_edit.specs.Fields.{writes_in};
 ghost use Rattle.sidecar_edit.specs.Recovery.{is_disk_fault, recovered, recovery};
@@ -27,7 +27,7 @@ fn redo_writes<D: Disk>(head: &[u8], disk: &mut D) -> Result<(), Failed>
     requires ready { IsReady D.Reads D.Disk.own disk.old }
     requires head { IsHeadOf D.Reads D.Disk.own disk.old head.now }
     requires fits { OfReads D.Disk.own disk.old (λ M S. Fits (length M) (writes_in S)) }
-    ensures ok { Makes D.Disk.own disk.old disk.new result (λ M S. both (applied M (writes_in S)) S) }
+    ensures ok { MakesPair D.Disk.own disk.old disk.new result (λ M S. both (applied M (writes_in S)) S) }
     ensures any_moment { AnyMoment D.Disk.own disk.old disk.new (λ M S m s. Torn (writes_in S) M m × (s ≡ S)) }
     ensures only { KeepsOpen D.Reads D.Disk.own disk.old disk.new MOST_OCTETS }
     ensures cause { HasDiskCause D.Reads D.Disk.own is_failure disk.old disk.new result }
@@ -46,7 +46,7 @@ fn redo<D: Disk>(head: &[u8], disk: &mut D) -> Result<(), Failed>
     requires ready { IsReady D.Reads D.Disk.own disk.old }
     requires head { IsHeadOf D.Reads D.Disk.own disk.old head.now }
     requires own { OfReads D.Disk.own disk.old (λ M S. recovery M S ≡ Ok Recovered.Applied) }
-    ensures ok { Makes D.Disk.own disk.old disk.new result (λ M S. both (recovered M S) (0 ∷ [])) }
+    ensures ok { MakesPair D.Disk.own disk.old disk.new result (λ M S. both (recovered M S) (0 ∷ [])) }
     ensures any_moment { AnyMoment D.Disk.own disk.old disk.new IsRedoing }
     ensures only { KeepsOpen D.Reads D.Disk.own disk.old disk.new MOST_OCTETS }
     ensures cause { HasDiskCause D.Reads D.Disk.own is_failure disk.old disk.new result }

@@ -9,7 +9,7 @@ use Rattle.srt_texts.specs.declared.chapter_reading.Chapter.{Chapter}
 use Rattle.srt_texts.specs.Lines.{lines_of, Line, numbered}
 use Rattle.srt_texts.specs.Pairs.{Timed, two_by_two, chapter, chapters_of, simple, first_line, second_line}
 use Rattle.mkv_io.specs.Results.{and_then}
-use Rattle.srt_texts.specs.Turn.{joined, pairs, onto_chapters, after_first, after_second}
+use Rattle.srt_texts.specs.Turn.{in_front_of, pairs, onto_chapters, after_first, after_second}
 
 pub pairs_empty : (l : List ℕ) (ls : List (List ℕ)) (n : ℕ) (due : Option Timed) → length l ≡ 0 → pairs (l ∷ ls) n due ≡ pairs ls (n + 1) due
 unfolding pairs
@@ -42,18 +42,18 @@ pub second_good : (l : List ℕ) (ls : List (List ℕ)) (n : ℕ) (due : Timed) 
 second_good l ls n due name some is = let e = second_is l ls n due some in rw is at e
 
 -- a chapter more in front is one more behind those that were read
-pub joined_more : (xs : List Chapter) (c : Chapter) (rest : Result (List Chapter) ℕ) → joined xs (onto_chapters c rest) ≡ joined (xs ++ c ∷ []) rest
-joined_more xs c (Ok ys) = let e = append_assoc xs (c ∷ []) ys in cc
-joined_more xs c (Err n) = refl
+pub in_front_of_more : (xs : List Chapter) (c : Chapter) (rest : Result (List Chapter) ℕ) → in_front_of xs (onto_chapters c rest) ≡ in_front_of (xs ++ c ∷ []) rest
+in_front_of_more xs c (Ok ys) = let e = append_assoc xs (c ∷ []) ys in cc
+in_front_of_more xs c (Err n) = refl
 
 pub second_joined : (xs : List Chapter) (l : List ℕ) (ls : List (List ℕ)) (n : ℕ) (due : Timed) (name : List ℕ) → 0 < length l → second_line due.number l ≡ Some name
-    → joined xs (pairs (l ∷ ls) n (Some due)) ≡ joined (xs ++ chapter due.start name ∷ []) (pairs ls (n + 1) None)
+    → in_front_of xs (pairs (l ∷ ls) n (Some due)) ≡ in_front_of (xs ++ chapter due.start name ∷ []) (pairs ls (n + 1) None)
 second_joined xs l ls n due name some is =
-    rw (second_good l ls n due name some is) (joined_more xs (chapter due.start name) (pairs ls (n + 1) None))
+    rw (second_good l ls n due name some is) (in_front_of_more xs (chapter due.start name) (pairs ls (n + 1) None))
 
-pub joined_none : (rest : Result (List Chapter) ℕ) → joined [] rest ≡ rest
-joined_none (Ok ys) = refl
-joined_none (Err n) = refl
+pub in_front_of_none : (rest : Result (List Chapter) ℕ) → in_front_of [] rest ≡ rest
+in_front_of_none (Ok ys) = refl
+in_front_of_none (Err n) = refl
 
 pub pairs_end : (n : ℕ) → pairs [] n None ≡ Ok []
 unfolding pairs
@@ -63,13 +63,13 @@ pub pairs_missing : (n : ℕ) (due : Timed) → pairs [] n (Some due) ≡ Err n
 unfolding pairs
 pairs_missing n due = refl
 
-joined_bad : (xs : List Chapter) (rest whole : Result (List Chapter) ℕ) (n : ℕ) → joined xs rest ≡ whole → rest ≡ Err n → whole ≡ Err n
-joined_bad xs rest whole n is bad = let e = rw bad at is in sym e
+in_front_of_bad : (xs : List Chapter) (rest whole : Result (List Chapter) ℕ) (n : ℕ) → in_front_of xs rest ≡ whole → rest ≡ Err n → whole ≡ Err n
+in_front_of_bad xs rest whole n is bad = let e = rw bad at is in sym e
 
 -- a line that is bad behind the chapters that were read is bad
-pub bad_whole : (end : TextEnd) (xs : List Chapter) (rest whole : Result (List Chapter) ℕ) → joined xs rest ≡ whole
+pub bad_whole : (end : TextEnd) (xs : List Chapter) (rest whole : Result (List Chapter) ℕ) → in_front_of xs rest ≡ whole
     → Reads {A = List Chapter} (Err end) rest → Reads {A = List Chapter} (Err end) whole
-bad_whole (text_end.Bad n) xs rest whole is bad = joined_bad xs rest whole n is bad
+bad_whole (text_end.Bad n) xs rest whole is bad = in_front_of_bad xs rest whole n is bad
 bad_whole text_end.Memory xs rest whole is bad = tt
 
 -- ---- two by two

@@ -41,13 +41,13 @@ timed_in None = None
 timed_in (Some f) = Some (timed_of f)
 
 -- chapters, and those behind them
-abbrev pub joined : List Chapter → Result (List Chapter) ℕ → Result (List Chapter) ℕ
-joined xs (Ok ys) = Ok (xs ++ ys)
-joined xs (Err n) = Err n
+abbrev pub in_front_of : List Chapter → Result (List Chapter) ℕ → Result (List Chapter) ℕ
+in_front_of xs (Ok ys) = Ok (xs ++ ys)
+in_front_of xs (Err n) = Err n
 
 -- A line that isn't empty was taken: whatever stands behind it, the chapters before it and those from it on are
 -- the chapters now and those behind the line; or the line is bad.
 abbrev pub Turns : List Chapter → List Chapter → List ℕ → ℕ → Option Timed → Result (Option FirstLine) TextEnd → Type 0
 Turns old new line n due (Ok next) =
-    (ls : List (List ℕ)) → joined old (pairs (line ∷ ls) n due) ≡ joined new (pairs ls (n + 1) (timed_in next))
+    (ls : List (List ℕ)) → in_front_of old (pairs (line ∷ ls) n due) ≡ in_front_of new (pairs ls (n + 1) (timed_in next))
 Turns old new line n due (Err end) = (ls : List (List ℕ)) → Reads {A = List Chapter} (Err end) (pairs (line ∷ ls) n due)

@@ -13,7 +13,7 @@ use Rattle.input_files.specs.TextFile.{srt_text}
 use Rattle.input_files.specs.Track.{text_entry}
 use Rattle.input_files.specs.declared.refusal.TextRefusal.{TextRefusal}
 use Rattle.track_records.specs.Track.{track_of}
-use Rattle.merge_inputs.specs.Input.{InputRead, found_then, input_of, input_with, refusal_of, text_then, text_with, unless_refused}
+use Rattle.merge_inputs.specs.Input.{InputRead, found_then, input_of, input_with, refusal_of, text_then, text_with, input_or_refusal}
 use Rattle.merge_inputs.specs.Taken.{taken_from, taken_one}
 use Rattle.merge_inputs.specs.declared.input.InputRefusal.{InputRefusal}
 use Rattle.merge_inputs.specs.declared.taken.TakenTrack.{TakenTrack}
@@ -43,14 +43,14 @@ module _ (file : FileWords) where
       text (Err why) = refl
 
       records : (o : Outlined) (found : Result FileRecords Damage)
-          → found_then found (λ (r : FileRecords). unless_refused (refusal_of (taken_from (untold file) 0 r.tracks)) (input_with (untold file) webm o r))
-          ≡ found_then found (λ (r : FileRecords). unless_refused (refusal_of (taken_from file 0 r.tracks)) (input_with file webm o r))
-      records o (Ok r) = ap (λ (taken : List TakenTrack). unless_refused (refusal_of taken) (record (input_with file webm o r) { taken = taken })) (taken-untold 0 r.tracks)
+          → found_then found (λ (r : FileRecords). input_or_refusal (refusal_of (taken_from (untold file) 0 r.tracks)) (input_with (untold file) webm o r))
+          ≡ found_then found (λ (r : FileRecords). input_or_refusal (refusal_of (taken_from file 0 r.tracks)) (input_with file webm o r))
+      records o (Ok r) = ap (λ (taken : List TakenTrack). input_or_refusal (refusal_of taken) (record (input_with file webm o r) { taken = taken })) (taken-untold 0 r.tracks)
       records o (Err d) = refl
 
       described : (found : Result Outlined Damage)
-          → found_then found (λ (o : Outlined). found_then (file_records bytes o.segment) (λ (r : FileRecords). unless_refused (refusal_of (taken_from (untold file) 0 r.tracks)) (input_with (untold file) webm o r)))
-          ≡ found_then found (λ (o : Outlined). found_then (file_records bytes o.segment) (λ (r : FileRecords). unless_refused (refusal_of (taken_from file 0 r.tracks)) (input_with file webm o r)))
+          → found_then found (λ (o : Outlined). found_then (file_records bytes o.segment) (λ (r : FileRecords). input_or_refusal (refusal_of (taken_from (untold file) 0 r.tracks)) (input_with (untold file) webm o r)))
+          ≡ found_then found (λ (o : Outlined). found_then (file_records bytes o.segment) (λ (r : FileRecords). input_or_refusal (refusal_of (taken_from file 0 r.tracks)) (input_with file webm o r)))
       described (Ok o) = records o (file_records bytes o.segment)
       described (Err d) = refl
 

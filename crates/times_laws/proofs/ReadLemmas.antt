@@ -22,7 +22,7 @@ use Rattle.meta_records.specs.Attached.{first_attached}
 use Rattle.mkv_schema.specs.declared.ids.TheConstants.{CHAPTERS, TAGS}
 use Rattle.input_files.specs.Names.{begins_ebml, is_srt, is_srt_name}
 use Rattle.merge_words.specs.declared.files.FileWords.{FileWords}
-use Rattle.merge_inputs.specs.Input.{Clusters, InputRead, file_read, found_then, input_of, input_with, refusal_of, text_read, unless_refused}
+use Rattle.merge_inputs.specs.Input.{Clusters, InputRead, file_read, found_then, input_of, input_with, refusal_of, text_read, input_or_refusal}
 use Rattle.merge_inputs.specs.Select.{is_taken}
 use Rattle.merge_inputs.specs.Taken.{taken_from, taken_one, taken_track}
 use Rattle.merge_inputs.specs.declared.taken.TakenTrack.{TakenTrack}
@@ -133,7 +133,7 @@ found-ok : {A B : Type 0} (found : Result A Damage) (more : A → Result B Input
 found-ok (Ok x) more y is = (x, (refl, is))
 found-ok (Err d) more y is = absurd (cc)
 
-unrefused : (why : Option InputRefusal) (input read : InputRead) → unless_refused why input ≡ Ok read → input ≡ read
+unrefused : (why : Option InputRefusal) (input read : InputRead) → input_or_refusal why input ≡ Ok read → input ≡ read
 unrefused None input read is = cc
 unrefused (Some why) input read is = absurd (cc)
 

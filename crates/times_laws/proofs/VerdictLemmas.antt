@@ -30,7 +30,7 @@ use Rattle.merge_plan.specs.Records.{entries_of, first_title, records_of, tracks
 use Rattle.mkv_lines.specs.Line.{append_differs_line, missing_line, no_track_line, pending_edit_line}
 use Rattle.mkv_lines.specs.Verdict.{Verdict, in_turn, refused}
 use Rattle.mkv_io.specs.Lists.{is_some_of}
-use Rattle.mkv_merge.specs.Merge.{absent, absent_lines, absent_of, front_for, has_absent, has_damage, has_other_count, lines_before, links_met, merged_verdict, output_line, outputs_of, status_of, told_lines, uuid_lines, verdict_of, warnings}
+use Rattle.mkv_merge.specs.Merge.{absent, absent_lines, absent_of, front_for, has_absent, has_damage, has_other_count, lines_before, links_met, merged_verdict, output_line, outputs_of, warned_if, told_lines, uuid_lines, verdict_of, warnings}
 use Rattle.mkv_merge.specs.Read.{is_split}
 use Rattle.mkv_merge.specs.Refused.{input_line, line_of}
 use Rattle.mkv_merge.specs.declared.refusal.Refusal.{Refusal}
@@ -138,7 +138,7 @@ module _ (words : MergeWords) (n : TimesName) (timed own : FileWords) (named : o
   -- a verdict, by what it is made of
   abbrev verdict_by : Bool → Bool → List (List ℕ) → List (List ℕ) → List PlannedOutput → Verdict
   verdict_by missing damaged before warned outputs = record {
-    status = status_of (missing || damaged || has_other_count words (length outputs));
+    status = warned_if (missing || damaged || has_other_count words (length outputs));
     lines = before ++ (map output_line outputs ++ warned ++ uuid_lines words (length outputs));
     before = before;
     outputs = in_turn (drafts_of outputs);

@@ -14,7 +14,7 @@ use Rattle.merge_plan.specs.declared.refusal.PlanRefusal.TheVariants.{NoLane, No
 use Rattle.merge_plan.specs.Appending.{append_refusal, differs_at}
 use Rattle.merge_plan.specs.Places.{end_of, in_place}
 use Rattle.merge_plan.specs.Plan.{Source, drives_given, inputs_given, rule_of, rules_given}
-use Rattle.merge_plan.specs.Records.{info_of, title_of, tracks_of, tracks_taken, uids_of}
+use Rattle.merge_plan.specs.Records.{info_of, title_of, tracks_of_output, tracks_taken, uids_of}
 use Rattle.merge_plan.specs.Refusal.{lanes_refusal}
 
 -- ---- words, tracks and inputs
@@ -172,7 +172,7 @@ pub record AreRecords : Type 0 where
   pub taken_away : content (info_of (words (Some [])) (titled (codes "b") ∷ []))
       ≡ (0x2A ∷ 0xD7 ∷ 0xB1 ∷ 0x83 ∷ 0x0F ∷ 0x42 ∷ 0x40 ∷ []) ++ applications
   -- entries get the number of their lane and their identifier in place, and lose ContentEncodings
-  pub tracks : content (tracks_of (first (audio 5 ∷ []) ∷ first (audio 5 ∷ []) ∷ [])) ≡ written 1 5 ++ written 2 1
+  pub tracks : content (tracks_of_output (first (audio 5 ∷ []) ∷ first (audio 5 ∷ []) ∷ [])) ≡ written 1 5 ++ written 2 1
   -- an appended input has to have as many tracks, of one kind
   pub other_type : append_refusal (first (audio 5 ∷ []) ∷ behind (video 7 ∷ []) ∷ []) ≡ Some (differs_at 1 0x83)
   pub more_tracks : append_refusal (first (audio 5 ∷ []) ∷ behind (audio 5 ∷ audio 6 ∷ []) ∷ [])

@@ -19,7 +19,7 @@ use Rattle.mkv_args.specs.Sound.{AreTargets, IsSoundJob, names_of}
 use Rattle.mkv_args.specs.Words.{command, command_named}
 use Rattle.word_laws.specs.Values.{HasFewDigits, with_number}
 use Rattle.word_laws.specs.Spelled.{target_word, job_words}
-use Rattle.word_laws.specs.Names.{IsFile}
+use Rattle.word_laws.specs.Names.{IsFileName}
 use Rattle.word_laws.specs.Spellable.{HaveFewDigits, IsJob}
 use Rattle.mkv_io.proofs.OctetsLemmas.{decimal_all, first_other}
 use Rattle.word_laws.proofs.NumberLemmas.{short_fits, numbered_read}
@@ -88,13 +88,13 @@ unfolding tracks
 full_read a b c list are short = rw (targets_four 0 a b c (codes "--fullraw") list are short) refl
 
 -- the words behind the mode say what is taken out
-job_read : (file : List ℕ) (j : Job) (name : List ℕ) (rest : List (List ℕ)) → IsFile file → job name (codes "extract" ∷ file ∷ name ∷ rest) ≡ Ok j
+job_read : (file : List ℕ) (j : Job) (name : List ℕ) (rest : List (List ℕ)) → IsFileName file → job name (codes "extract" ∷ file ∷ name ∷ rest) ≡ Ok j
     → command (codes "extract" ∷ file ∷ name ∷ rest) ≡ Ok (commands.Extract file j)
 unfolding command_named extract
 job_read file j name rest plain said =
     by_verb verb.Extract (file ∷ name ∷ rest) (more_help_none (codes "extract") file name rest) ∙ rw plain (rw said refl)
 
-pub extract_read : (file : List ℕ) (j : Job) → IsFile file → IsSoundJob j → IsJob j → command (codes "extract" ∷ file ∷ job_words j) ≡ Ok (commands.Extract file j)
+pub extract_read : (file : List ℕ) (j : Job) → IsFileName file → IsSoundJob j → IsJob j → command (codes "extract" ∷ file ∷ job_words j) ≡ Ok (commands.Extract file j)
 unfolding job modes job_of chapters
 extract_read file (jobs.Tracks form.ByCodec list) plain sound is = job_read file _ (codes "tracks") (map target_word list) plain (tracks_read (codes "extract") file (codes "tracks") list sound is)
 extract_read file (jobs.Tracks form.Raw list) plain sound is = job_read file _ (codes "tracks") (codes "--raw" ∷ map target_word list) plain (raw_read (codes "extract") file (codes "tracks") list sound is)

@@ -15,9 +15,9 @@ use Rattle.merge_words.specs.Options.{meaning_of, table}
 use Rattle.merge_words.specs.Items.{item_at, append_at, file_at, files_in, stands, is_file, since_file}
 use Rattle.merge_words.specs.Merge.{starts, read_all}
 use Rattle.merge_words.specs.Sound.{IsSoundFile}
-use Rattle.word_laws.specs.Names.{IsInput}
+use Rattle.word_laws.specs.Names.{IsInputName}
 use Rattle.word_laws.specs.Values.{delay_word, flag_word, cues_word}
-use Rattle.word_laws.specs.SpelledMerge.{flag, joined, file_options, file_words}
+use Rattle.word_laws.specs.SpelledMerge.{flag, parts_joined, file_options, file_words}
 use Rattle.word_laws.specs.SpellableMerge.{AreOfTracks, IsDelay, IsText, IsLanguage, IsMergeFile}
 use Rattle.word_laws.proofs.SimpleLemmas.{other_word}
 use Rattle.word_laws.proofs.ValueLemmas.{track_delay_read, track_text_read, track_language_read, track_flag_read, track_cues_read, track_file_read}
@@ -74,13 +74,13 @@ group f = record { subject = subject.Append; scope = scope.File; said = join_sai
 abbrev pub AreSpelled : List Piece → List (List (List ℕ)) → Type 0
 AreSpelled ps parts = AllZip (λ (p : Piece) words. said_words p.said ≡ words) ps parts
 
-pub pieces_spelled : (ps : List Piece) (ws : List (List (List ℕ))) → AreSpelled ps ws → piece_words ps ≡ joined ws
+pub pieces_spelled : (ps : List Piece) (ws : List (List (List ℕ))) → AreSpelled ps ws → piece_words ps ≡ parts_joined ws
 pieces_spelled [] [] are = refl
 pieces_spelled [] (w ∷ ws) are = absurd are
 pieces_spelled (p ∷ ps) [] are = absurd are
 pieces_spelled (p ∷ ps) (w ∷ ws) are = rw are.0 (rw (pieces_spelled ps ws are.1) refl)
 
-file_spelled : (f : FileWords) → piece_words (file_pieces f) ≡ joined (file_options f)
+file_spelled : (f : FileWords) → piece_words (file_pieces f) ≡ parts_joined (file_options f)
 file_spelled f = pieces_spelled (file_pieces f) (file_options f) (
     select_spelled (codes "--video-tracks") (codes "--no-video") f.video &
     select_spelled (codes "--audio-tracks") (codes "--no-audio") f.audio &
@@ -142,7 +142,7 @@ unfolding item_at append_at meaning_of
 join_read count before at false rest some free = rw (append-nil before) refl
 join_read count before at true rest some free = read_one count before at (codes "+") None (item at subject.Append scope.File Flag) rest refl (rw (some refl) (rw free refl))
 
-name_read : (count : ℕ) (before : List Item) (at : ℕ) (name : List ℕ) (rest : List (List ℕ)) → IsInput name → nat_le 64 (files_in before) ≡ false
+name_read : (count : ℕ) (before : List Item) (at : ℕ) (name : List ℕ) (rest : List (List ℕ)) → IsInputName name → nat_le 64 (files_in before) ≡ false
     → read_all count before (starts at (name ∷ rest)) ≡ read_all count (before ++ item at subject.File scope.Output (File name) ∷ []) (starts (at + 1) rest)
 unfolding item_at file_at meaning_of
 name_read count before at name rest is few =
@@ -176,8 +176,8 @@ file_read count before at f rest sound is some few free =
     let behind = after_said at (join_said f) in
     let options = piece_items behind (file_pieces f) in
     let all = piece_items at (group f) in
-    let opts : (joined (file_options f) ++ f.name ∷ []) ++ rest ≡ joined (file_options f) ++ (f.name ∷ rest) = append_assoc (joined (file_options f)) (f.name ∷ []) rest in
-    let first = join_read count before at f.appended (joined (file_options f) ++ (f.name ∷ rest)) some free.0 in
+    let opts : (parts_joined (file_options f) ++ f.name ∷ []) ++ rest ≡ parts_joined (file_options f) ++ (f.name ∷ rest) = append_assoc (parts_joined (file_options f)) (f.name ∷ []) rest in
+    let first = join_read count before at f.appended (parts_joined (file_options f) ++ (f.name ∷ rest)) some free.0 in
     let next = pieces_read (file_pieces f) count (before ++ joins) behind (f.name ∷ rest) refl refl (file_readable f sound is) (still_free before at subject.Append scope.File (join_said f) (file_pieces f) refl refl free.1) in
     let ends = item (after_pieces at (group f)) subject.File scope.Output (File f.name) in
     let read = subst (λ ws. read_all count (before ++ joins) (starts behind (ws ++ (f.name ∷ rest))) ≡ read_all count ((before ++ joins) ++ options) (starts (after_pieces at (group f)) (f.name ∷ rest))) (file_spelled f) next in
@@ -187,4 +187,4 @@ file_read count before at f rest sound is some few free =
     let room : nat_le 64 (files_in (before ++ all)) ≡ false = grind (arith, nat_tests) in
     let last = name_read count (before ++ all) (after_pieces at (group f)) f.name rest is.name room in
     let behind_name = rw (append_assoc before all (ends ∷ [])) at last in
-    rw (append_assoc (flag (codes "+") f.appended) (joined (file_options f) ++ f.name ∷ []) rest) (rw opts (first ∙ (behind_options ∙ behind_name)))
+    rw (append_assoc (flag (codes "+") f.appended) (parts_joined (file_options f) ++ f.name ∷ []) rest) (rw opts (first ∙ (behind_options ∙ behind_name)))

@@ -30,7 +30,7 @@ use Rattle.mkv_args.specs.Words.{command, command_named}
 use Rattle.word_laws.specs.Values.{split_word}
 use Rattle.word_values.specs.declared.lists.SplitWords.{SplitWords}
 use Rattle.word_laws.specs.SpelledMerge.{unusual, file_words, merge_words}
-use Rattle.word_laws.specs.SpellableMerge.{IsLinked, IsLength, IsMergeFile, IsSpellableMerge}
+use Rattle.word_laws.specs.SpellableMerge.{IsLinkable, IsLength, IsMergeFile, IsSpellableMerge}
 use Rattle.word_laws.proofs.SimpleLemmas.{by_verb}
 use Rattle.word_laws.proofs.SayingLemmas.{◌&◌, Item, item, piece_items, after_pieces, none_about, other_stands, stands_both}
 use Rattle.word_laws.proofs.GroupLemmas.{since_grows, AreFree}
@@ -240,7 +240,7 @@ none_linking : (xs : List Item) → stands subject.Link xs ≡ false → linking
 none_linking [] none = refl
 none_linking (x ∷ xs) none = let parts = or_parts (same x.subject subject.Link) (stands subject.Link xs) none in rw parts.0 (none_linking xs parts.1)
 
-unlinked_none : (xs : List Item) (link : Bool) (us : List ℕ) → IsLinked link us → stands subject.Link xs ≡ link → stands subject.Uuids xs ≡ is_said (said_uuids us ++ []) → unlinked xs ≡ None
+unlinked_none : (xs : List Item) (link : Bool) (us : List ℕ) → IsLinkable link us → stands subject.Link xs ≡ link → stands subject.Uuids xs ≡ is_said (said_uuids us ++ []) → unlinked xs ≡ None
 unlinked_none xs true [] linked links some = absurd (omega arith)
 unlinked_none xs true (u ∷ us) linked links some = rw some refl
 unlinked_none xs false us linked links some = rw (none_linking xs links) (split (stands subject.Uuids xs))

@@ -20,7 +20,7 @@ use Rattle.merge_words.specs.Files.{ids_of}
 use Rattle.merge_words.specs.Merge.{starts, read_all}
 use Rattle.merge_words.specs.Sound.{IsSoundMerge}
 use Rattle.word_laws.specs.Values.{with_commas, last_digits, split_word, uuids_word}
-use Rattle.word_laws.specs.SpelledMerge.{joined, unusual, with_value, output_options}
+use Rattle.word_laws.specs.SpelledMerge.{parts_joined, unusual, with_value, output_options}
 use Rattle.word_laws.specs.SpellableMerge.{IsText, IsSpellableMerge, IsSplit}
 use Rattle.word_laws.proofs.ValueLemmas.{text_read, scale_read, blocks_read, span_read}
 use Rattle.word_laws.proofs.SplitLemmas.{split_value_read, uuids_read}
@@ -104,7 +104,7 @@ output_pieces w =
     record { subject = subject.Uuids; scope = scope.Output; said = said_uuids w.uuids } ∷
     record { subject = subject.Link; scope = scope.Output; said = said_flag (codes "--link") Flag w.link } ∷ []
 
-output_spelled : (w : MergeWords) → piece_words (output_pieces w) ≡ joined (output_options w)
+output_spelled : (w : MergeWords) → piece_words (output_pieces w) ≡ parts_joined (output_options w)
 output_spelled w = pieces_spelled (output_pieces w) (output_options w) (
     refl &
     flag_words (codes "--webm") Flag w.webm &
@@ -152,7 +152,7 @@ output_readable w sound is = (
     tt)
 
 pub output_read : (w : MergeWords) (count : ℕ) (rest : List (List ℕ)) → IsSoundMerge w → IsSpellableMerge w
-    → read_all count [] (starts 1 (joined (output_options w) ++ rest)) ≡ read_all count (piece_items 1 (output_pieces w)) (starts (after_pieces 1 (output_pieces w)) rest)
+    → read_all count [] (starts 1 (parts_joined (output_options w) ++ rest)) ≡ read_all count (piece_items 1 (output_pieces w)) (starts (after_pieces 1 (output_pieces w)) rest)
 output_read w count rest sound is =
     let read = pieces_read (output_pieces w) count [] 1 rest refl refl (output_readable w sound is) (refl, (refl, (refl, (refl, (refl, (refl, (refl, (refl, (refl, tt))))))))) in
     subst (λ ws. read_all count [] (starts 1 (ws ++ rest)) ≡ read_all count (piece_items 1 (output_pieces w)) (starts (after_pieces 1 (output_pieces w)) rest)) (output_spelled w) read

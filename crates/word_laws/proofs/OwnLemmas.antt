@@ -12,7 +12,7 @@ use Rattle.merge_words.specs.Items.{stands}
 use Rattle.merge_words.specs.Said.{tracks_of, delay_of, track_text_of, track_language_of, track_flag_of, track_cues_of, track_file_of}
 use Rattle.merge_words.specs.Files.{ids_of, ids_of_select, tracks_in, delays_in, names_in, languages_in, flags_in, cues_in, times_in, named_in, file}
 use Rattle.word_laws.specs.Values.{delay_word, flag_word, cues_word}
-use Rattle.word_laws.specs.SpellableMerge.{tracks_of as ids_in, named_tracks}
+use Rattle.word_laws.specs.SpellableMerge.{tracks_spoken_of as ids_in, named_tracks}
 use Rattle.word_laws.proofs.SayingLemmas.{◌&◌, Item, Piece, piece_items}
 use Rattle.word_laws.proofs.AboutLemmas.{about, first_said, stands_about, value_of_about, all_about, AreIdsOf, ids_part}
 use Rattle.word_laws.proofs.PieceLemmas.{said_flag, flag_stands, flag_kept, flag_ids, said_select, select_ids, tracks_said, tracks_ids}

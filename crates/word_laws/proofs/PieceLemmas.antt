@@ -20,7 +20,7 @@ use Rattle.merge_words.specs.Items.{track_in}
 use Rattle.merge_words.specs.Files.{ids_of, ids_of_select}
 use Rattle.word_laws.specs.Values.{HasFewDigits, with_number, numbers_word}
 use Rattle.word_laws.specs.SpelledMerge.{flag, with_value, select_words, for_tracks}
-use Rattle.word_laws.specs.SpellableMerge.{IsSelect, AreOfTracks, tracks_of as ids_in}
+use Rattle.word_laws.specs.SpellableMerge.{IsSelect, AreOfTracks, tracks_spoken_of as ids_in}
 use Rattle.word_laws.proofs.ValueLemmas.{these_read, others_read}
 use Rattle.word_laws.proofs.SayingLemmas.{Said, said_words, IsOption}
 use Rattle.word_laws.proofs.GroupLemmas.{IsSaid, value_said, flag_said, IsReadable, once_read, tracks_read}

@@ -23,7 +23,7 @@ use Rattle.mkv_args.specs.Sound.{IsSoundPlace, AreEdits}
 use Rattle.mkv_args.specs.Words.{command, command_named}
 use Rattle.word_laws.specs.Values.{HasFewDigits}
 use Rattle.word_laws.specs.Spelled.{section_word, change_word, property_word, edit_words}
-use Rattle.word_laws.specs.Names.{IsFile}
+use Rattle.word_laws.specs.Names.{IsFileName}
 use Rattle.word_laws.specs.Spellable.{IsNamedType, IsSection, IsProperty, IsSpellableEdit}
 use Rattle.mkv_io.proofs.OctetsLemmas.{decimal_all, first_other, cut_behind}
 use Rattle.word_laws.proofs.NumberLemmas.{short_fits, number_read}
@@ -123,7 +123,7 @@ edits_read file (e ∷ es) sound are =
     let all = change_read count false 4 e (flat_map edit_words es) (sayings es) is rest in
     rw (section_step, section_read e.place (All-head (λ (x : Edit). IsSoundPlace x.place) e es each) is.place, all) (ap (λ l. Ok (e ∷ l)) (sayings_back e.place es))
 
-pub propedit_read : (file : List ℕ) (es : List Edit) → IsFile file → AreEdits es → All IsSpellableEdit es → command (codes "propedit" ∷ file ∷ flat_map edit_words es) ≡ Ok (commands.Propedit file es)
+pub propedit_read : (file : List ℕ) (es : List Edit) → IsFileName file → AreEdits es → All IsSpellableEdit es → command (codes "propedit" ∷ file ∷ flat_map edit_words es) ≡ Ok (commands.Propedit file es)
 unfolding command_named propedit
 propedit_read file [] plain sound are = let some = sound.some in absurd (omega arith)
 propedit_read file (e ∷ es) plain sound are =

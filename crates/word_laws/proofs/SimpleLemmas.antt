@@ -15,7 +15,7 @@ use Rattle.mkv_args.specs.Commands.{commands as verbs}
 use Rattle.mkv_args.specs.Merge.{identify, merge}
 use Rattle.mkv_args.specs.Words.{alone, blocks_at, command, command_named, first_command, generate, helped, info, is_short_help, only_file, recover, reindex}
 use Rattle.word_laws.specs.Spelled.{verb_word}
-use Rattle.word_laws.specs.Names.{IsFile, IsInput}
+use Rattle.word_laws.specs.Names.{IsFileName, IsInputName}
 use Rattle.word_laws.specs.Spellable.{HasHelp}
 use Rattle.word_laws.proofs.NumberLemmas.{number_read}
 
@@ -28,7 +28,7 @@ other_word a b other = split (bytes_eq a b) refl
     split false is = is
 
 -- a file's name is no option
-pub no_option : (name option : List ℕ) → IsFile name → is_option option ≡ true → bytes_eq name option ≡ false
+pub no_option : (name option : List ℕ) → IsFileName name → is_option option ≡ true → bytes_eq name option ≡ false
 no_option name option file is = other_word name option (λ same. let e : is_option name ≡ true = ap is_option same ∙ is in cc)
 
 -- ---- the command that the first word names
@@ -49,31 +49,31 @@ unfolding command first_command
 by_verb v rest none = let first = first_word v rest in rw first.1 (rw none (rw first.0 refl))
 
 -- no help is asked for where a file stands, or more than two words
-file_helps_none : (first file : List ℕ) → IsFile file → helped (first ∷ file ∷ []) ≡ None
+file_helps_none : (first file : List ℕ) → IsFileName file → helped (first ∷ file ∷ []) ≡ None
 file_helps_none first file plain = rw (no_option file (codes "--help") plain refl) refl
 
 pub more_help_none : (first second third : List ℕ) (rest : List (List ℕ)) → helped (first ∷ second ∷ third ∷ rest) ≡ None
 more_help_none first second third rest = rw (and_right (bytes_eq second (codes "--help")) false refl) refl
 
 -- ---- commands of one file
-only_file_read : (first file : List ℕ) → IsFile file → only_file (first ∷ file ∷ []) ≡ Ok file
+only_file_read : (first file : List ℕ) → IsFileName file → only_file (first ∷ file ∷ []) ≡ Ok file
 unfolding only_file
 only_file_read first file plain = rw plain refl
 
-pub info_read : (file : List ℕ) → IsFile file → command (codes "info" ∷ file ∷ []) ≡ Ok (commands.Info file)
+pub info_read : (file : List ℕ) → IsFileName file → command (codes "info" ∷ file ∷ []) ≡ Ok (commands.Info file)
 unfolding command_named info
 info_read file plain = by_verb verb.Info (file ∷ []) (file_helps_none (codes "info") file plain) ∙ rw (only_file_read (codes "info") file plain) refl
 
-pub recover_read : (file : List ℕ) → IsFile file → command (codes "recover" ∷ file ∷ []) ≡ Ok (commands.Recover file)
+pub recover_read : (file : List ℕ) → IsFileName file → command (codes "recover" ∷ file ∷ []) ≡ Ok (commands.Recover file)
 unfolding command_named recover
 recover_read file plain = by_verb verb.Recover (file ∷ []) (file_helps_none (codes "recover") file plain) ∙ rw (only_file_read (codes "recover") file plain) refl
 
-pub reindex_read : (file : List ℕ) → IsFile file → command (codes "reindex" ∷ file ∷ []) ≡ Ok (commands.Reindex file)
+pub reindex_read : (file : List ℕ) → IsFileName file → command (codes "reindex" ∷ file ∷ []) ≡ Ok (commands.Reindex file)
 unfolding command_named reindex
 reindex_read file plain = by_verb verb.Reindex (file ∷ []) (file_helps_none (codes "reindex") file plain) ∙ rw (only_file_read (codes "reindex") file plain) refl
 
 -- ---- merge -J, generate and help
-pub identify_read : (file : List ℕ) → IsInput file → command (codes "merge" ∷ codes "-J" ∷ file ∷ []) ≡ Ok (commands.Identify file)
+pub identify_read : (file : List ℕ) → IsInputName file → command (codes "merge" ∷ codes "-J" ∷ file ∷ []) ≡ Ok (commands.Identify file)
 unfolding command_named merge identify
 identify_read file input = by_verb verb.Merge (codes "-J" ∷ file ∷ []) (more_help_none (codes "merge") (codes "-J") file []) ∙ rw (other_word file (codes "+") input.joins) (rw input.file refl)
 

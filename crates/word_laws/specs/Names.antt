@@ -3,10 +3,10 @@ use Rattle.std.specs.Prelude.{◌≡◌, ◌≢◌, ℕ, false, List, codes}
 use Rattle.word_values.specs.Place.{is_option}
 
 -- the name of a file that is read: it doesn't look like an option
-abbrev pub IsFile : List ℕ → Type 0
-IsFile name = is_option name ≡ false
+abbrev pub IsFileName : List ℕ → Type 0
+IsFileName name = is_option name ≡ false
 
 -- the file of `merge -J`, or one that is merged, which isn't a `+` either
-pub record IsInput (name : List ℕ) : Type 0 where
-  pub file : IsFile name
+pub record IsInputName (name : List ℕ) : Type 0 where
+  pub file : IsFileName name
   pub joins : name ≢ codes "+"

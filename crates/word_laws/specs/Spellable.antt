@@ -16,7 +16,7 @@ use Rattle.mkv_args.specs.declared.propedit.TheConstants.{VIDEO_TRACK, AUDIO_TRA
 use Rattle.mkv_io.specs.Characters.{EQUALS}
 use Rattle.mkv_io.specs.Octets.{lacks}
 use Rattle.word_laws.specs.Values.{HasFewDigits}
-use Rattle.word_laws.specs.Names.{IsFile, IsInput}
+use Rattle.word_laws.specs.Names.{IsFileName, IsInputName}
 use Rattle.word_laws.specs.SpellableMerge.{IsSpellableMerge}
 
 -- a command that has help of its own
@@ -70,11 +70,11 @@ abbrev pub IsSpellable : Command → Type 0
 IsSpellable (command.Help None) = ⊤
 IsSpellable (command.Help (Some verb)) = HasHelp verb
 IsSpellable command.Version = ⊤
-IsSpellable (command.Info file) = IsFile file
-IsSpellable (command.Identify file) = IsInput file
-IsSpellable (command.Recover file) = IsFile file
-IsSpellable (command.Reindex file) = IsFile file
+IsSpellable (command.Info file) = IsFileName file
+IsSpellable (command.Identify file) = IsInputName file
+IsSpellable (command.Recover file) = IsFileName file
+IsSpellable (command.Reindex file) = IsFileName file
 IsSpellable (command.Generate n prefix) = ⊤
-IsSpellable (command.Extract file job) = IsFile file × IsJob job
-IsSpellable (command.Propedit file edits) = IsFile file × All IsSpellableEdit edits
+IsSpellable (command.Extract file job) = IsFileName file × IsJob job
+IsSpellable (command.Propedit file edits) = IsFileName file × All IsSpellableEdit edits
 IsSpellable (command.Merge words) = IsSpellableMerge words

@@ -10,19 +10,19 @@ use Rattle.word_values.specs.Values.{is_language}
 use Rattle.merge_words.specs.declared.files.FileWords.{FileWords}
 use Rattle.merge_words.specs.declared.output.MergeWords.{MergeWords}
 use Rattle.merge_words.specs.Files.{ids_of_select, once}
-use Rattle.word_laws.specs.Names.{IsInput}
+use Rattle.word_laws.specs.Names.{IsInputName}
 use Rattle.mkv_io.specs.Octets.{lacks}
 use Rattle.word_laws.specs.Values.{HasFewDigits, is_in}
 
 -- the tracks of which something is said
-abbrev pub tracks_of : {X : Type 0} → List (ℕ × X) → List ℕ
-tracks_of {X} list = map (λ (p : ℕ × X). p.0) list
+abbrev pub tracks_spoken_of : {X : Type 0} → List (ℕ × X) → List ℕ
+tracks_spoken_of {X} list = map (λ (p : ℕ × X). p.0) list
 
 -- the tracks that the options for a file name, in the order of the spelling, each once
 abbrev pub named_tracks : FileWords → List ℕ
 named_tracks f = once (flat_map (λ ids. ids) (
-    ids_of_select f.video ∷ ids_of_select f.audio ∷ ids_of_select f.subtitles ∷ tracks_of f.syncs ∷ tracks_of f.names ∷ tracks_of f.languages ∷
-    tracks_of f.defaults ∷ tracks_of f.forced ∷ tracks_of f.cues ∷ tracks_of f.times ∷ []))
+    ids_of_select f.video ∷ ids_of_select f.audio ∷ ids_of_select f.subtitles ∷ tracks_spoken_of f.syncs ∷ tracks_spoken_of f.names ∷ tracks_spoken_of f.languages ∷
+    tracks_spoken_of f.defaults ∷ tracks_spoken_of f.forced ∷ tracks_spoken_of f.cues ∷ tracks_spoken_of f.times ∷ []))
 
 -- some tracks, of numbers of at most 18 digits
 pub record AreIds (ids : List ℕ) : Type 0 where
@@ -38,7 +38,7 @@ IsSelect select.Off = ⊤
 
 -- what is said of tracks is said once of each
 pub record AreOfTracks {X : Type 0} (Is : X → Type 0) (list : List (ℕ × X)) : Type 0 where
-  pub apart : differ (tracks_of list) ≡ true
+  pub apart : differ (tracks_spoken_of list) ≡ true
   pub short : All (λ (p : ℕ × X). HasFewDigits p.0) list
   pub each : All (λ (p : ℕ × X). Is p.1) list
 
@@ -56,7 +56,7 @@ IsLanguage word = is_language word ≡ true
 
 -- what the options for a file can say of it; the tracks that they name stand in the order of the spelling
 pub record IsMergeFile (f : FileWords) : Type 0 where
-  pub name : IsInput f.name
+  pub name : IsInputName f.name
   pub video : IsSelect f.video
   pub audio : IsSelect f.audio
   pub subtitles : IsSelect f.subtitles
@@ -83,9 +83,9 @@ IsSplit (split.Chapters numbers) = AreIds numbers
 IsSplit (split.Size limit) = is_size limit ≡ true
 
 -- parts are linked by their identifiers
-abbrev pub IsLinked : Bool → List ℕ → Type 0
-IsLinked true uuids = 0 < length uuids
-IsLinked false uuids = ⊤
+abbrev pub IsLinkable : Bool → List ℕ → Type 0
+IsLinkable true uuids = 0 < length uuids
+IsLinkable false uuids = ⊤
 
 -- one of both is as usual, since the option for them stands once
 abbrev pub IsLength : ℕ → ℕ → Type 0
@@ -98,5 +98,5 @@ pub record IsSpellableMerge (words : MergeWords) : Type 0 where
   pub milliseconds : words.span % 1000000 ≡ 0
   pub split : IfSome words.split IsSplit
   pub uuids : All (λ u. u < 2 ^ 128) words.uuids
-  pub link : IsLinked words.link words.uuids
+  pub link : IsLinkable words.link words.uuids
   pub files : All IsMergeFile words.files

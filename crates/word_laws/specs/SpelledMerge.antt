@@ -40,8 +40,8 @@ abbrev pub for_tracks : {X : Type 0} → List ℕ → (X → List ℕ) → List 
 for_tracks {X} option word list = flat_map (λ (p : ℕ × X). option ∷ with_number p.0 (word p.1) ∷ []) list
 
 -- one behind the other
-abbrev pub joined : List (List (List ℕ)) → List (List ℕ)
-joined parts = flat_map (λ part. part) parts
+abbrev pub parts_joined : List (List (List ℕ)) → List (List ℕ)
+parts_joined parts = flat_map (λ part. part) parts
 
 -- the options for the whole output
 abbrev pub output_options : MergeWords → List (List (List ℕ))
@@ -76,8 +76,8 @@ file_options file =
 
 -- a file, behind a `+` where it is appended, and behind the options for it
 abbrev pub file_words : FileWords → List (List ℕ)
-file_words file = flag (codes "+") file.appended ++ (joined (file_options file) ++ file.name ∷ [])
+file_words file = flag (codes "+") file.appended ++ (parts_joined (file_options file) ++ file.name ∷ [])
 
 -- the words behind `merge`
 abbrev pub merge_words : MergeWords → List (List ℕ)
-merge_words words = joined (output_options words) ++ flat_map file_words words.files
+merge_words words = parts_joined (output_options words) ++ flat_map file_words words.files

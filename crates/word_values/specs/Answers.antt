@@ -8,10 +8,10 @@ use Rattle.word_values.specs.declared.usage.ValueEnd.{ValueEnd}
 use Rattle.word_values.specs.declared.usage.ValueEnd.TheVariants as value_end
 
 -- the value is read exactly where the word is of its form
-abbrev pub Reads : {X : Type 0} → Result X ValueEnd → Option X → Type 0
-Reads (Ok x) meant = meant ≡ Some x
-Reads (Err value_end.Bad) meant = meant ≡ None
-Reads (Err value_end.Memory) meant = Unit {0}
+abbrev pub ReadsValue : {X : Type 0} → Result X ValueEnd → Option X → Type 0
+ReadsValue (Ok x) meant = meant ≡ Some x
+ReadsValue (Err value_end.Bad) meant = meant ≡ None
+ReadsValue (Err value_end.Memory) meant = Unit {0}
 
 -- the answer, seen by view, is what the words mean, or the word that is wrong and why
 abbrev pub TellsOf : {X Y : Type 0} → (X → Y) → Result X ArgsEnd → Result Y Usage → Type 0

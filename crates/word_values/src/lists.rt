@@ -1,7 +1,7 @@
 //! Values with commas between them.
 
 ghost use Rattle.std.specs.Prelude.{◌≡◌, ℕ, List, Option};
-ghost use Rattle.word_values.specs.Answers.{Reads};
+ghost use Rattle.word_values.specs.Answers.{ReadsValue};
 ghost use Rattle.word_values.specs.Lists as spec;
 ghost use Rattle.word_values.specs.Lists.{pieces, each};
 ghost use Rattle.word_values.specs.Numbers as numbers;
@@ -109,7 +109,7 @@ impl Piece for SpanPiece {
 
 /// What the pieces say, at least one.
 fn list_of<P: Piece>(alloc: Global, word: &[u8]) -> Result<List<P::Value>, ValueEnd>
-    ensures { Reads result (each P.spelled (pieces word.now)) }
+    ensures { ReadsValue result (each P.spelled (pieces word.now)) }
 {
     let mut list = List::new(alloc);
     let mut rest = word;
@@ -130,7 +130,7 @@ fn list_of<P: Piece>(alloc: Global, word: &[u8]) -> Result<List<P::Value>, Value
 /// Numbers, at least one.
 #[tactic(auto, unfolding(crate::specs::Lists::numbers))]
 pub(crate) fn numbers(alloc: Global, word: &[u8]) -> Result<List<u64>, ValueEnd>
-    ensures { Reads result (spec.numbers word.now) }
+    ensures { ReadsValue result (spec.numbers word.now) }
 {
     list_of::<NumberPiece>(alloc, word)
 }
@@ -138,7 +138,7 @@ pub(crate) fn numbers(alloc: Global, word: &[u8]) -> Result<List<u64>, ValueEnd>
 /// Track IDs, or `!` and the IDs that aren't meant.
 #[tactic(auto, unfolding(crate::specs::Lists::ids))]
 pub(crate) fn ids(alloc: Global, word: &[u8]) -> Result<Select, ValueEnd>
-    ensures { Reads result (spec.ids word.now) }
+    ensures { ReadsValue result (spec.ids word.now) }
 {
     match word {
         [b'!', rest @ ..] => Ok(Select::AllBut {
@@ -153,7 +153,7 @@ pub(crate) fn ids(alloc: Global, word: &[u8]) -> Result<Select, ValueEnd>
 /// Times, at least one, each above the one before.
 #[tactic(auto, unfolding(crate::specs::Lists::times))]
 fn times(alloc: Global, word: &[u8]) -> Result<List<u64>, ValueEnd>
-    ensures { Reads result (spec.times word.now) }
+    ensures { ReadsValue result (spec.times word.now) }
 {
     let list = list_of::<TimePiece>(alloc, word)?;
     if ascend(list.as_slice()) {
@@ -178,7 +178,7 @@ fn ascend(times: &[u64]) -> bool
 /// Stretches of time, at least one, none of which begins before the end of the one before.
 #[tactic(auto, unfolding(crate::specs::Lists::spans))]
 fn spans(alloc: Global, word: &[u8]) -> Result<List<SpanWords>, ValueEnd>
-    ensures { Reads result (spec.spans word.now) }
+    ensures { ReadsValue result (spec.spans word.now) }
 {
     let list = list_of::<SpanPiece>(alloc, word)?;
     if follow(list.as_slice()) {
@@ -231,7 +231,7 @@ fn follow(spans: &[SpanWords]) -> bool
 /// Identifiers, 1 to 1024, all different.
 #[tactic(auto, unfolding(crate::specs::Lists::uuids))]
 pub(crate) fn uuids(alloc: Global, word: &[u8]) -> Result<List<u128>, ValueEnd>
-    ensures { Reads result (spec.uuids word.now) }
+    ensures { ReadsValue result (spec.uuids word.now) }
 {
     let list = list_of::<UuidPiece>(alloc, word)?;
     if list.len() <= MOST_UUIDS && differ(list.as_slice()) {
@@ -256,7 +256,7 @@ fn differ(numbers: &[u128]) -> bool
 /// Where an output is split: `duration:`, `timestamps:`, `chapters:`, `parts:` or `size:`.
 #[tactic(auto, unfolding(crate::specs::Lists::split, crate::specs::Lists::split_of))]
 pub(crate) fn split(alloc: Global, word: &str) -> Result<SplitWords, ValueEnd>
-    ensures { Reads result (spec.split word.now) }
+    ensures { ReadsValue result (spec.split word.now) }
 {
     let Some((kind, rest)) = cut_text(word, ':') else {
         return Err(ValueEnd::Bad);
@@ -297,7 +297,7 @@ fn duration(word: &[u8]) -> Option<SplitWords>
 /// `all`, or the numbers of chapters.
 #[tactic(auto, unfolding(crate::specs::Lists::chapters))]
 fn chapters(alloc: Global, word: &[u8]) -> Result<SplitWords, ValueEnd>
-    ensures { Reads result (spec.chapters word.now) }
+    ensures { ReadsValue result (spec.chapters word.now) }
 {
     if word == b"all".as_slice() {
         return Ok(SplitWords::AllChapters);

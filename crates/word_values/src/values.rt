@@ -3,7 +3,7 @@
 ghost use Rattle.std.specs.Prelude.{◌≡◌, option_map, OnOk, IfOk};
 ghost use Rattle.std.specs.Char.{is_ascii_lowercase};
 ghost use Rattle.std.specs.List.{list_all};
-ghost use Rattle.word_values.specs.Answers.{Reads};
+ghost use Rattle.word_values.specs.Answers.{ReadsValue};
 ghost use Rattle.word_values.specs.Values as spec;
 
 use crate::lists::{Select, SpanWords, SplitWords, ids, split, uuids};
@@ -95,7 +95,7 @@ pub fn flag_of(form: ValueForm) -> Option<Value>
 /// What an option says with this value.
 #[tactic(auto, unfolding(crate::specs::Values::value_of))]
 pub fn value_of(alloc: Global, form: ValueForm, word: &str) -> Result<Value, ValueEnd>
-    ensures { Reads result (spec.value_of form word.now) }
+    ensures { ReadsValue result (spec.value_of form word.now) }
 {
     match form {
         ValueForm::Flag | ValueForm::Exclusion => Err(ValueEnd::Bad),
@@ -121,7 +121,7 @@ pub fn value_of(alloc: Global, form: ValueForm, word: &str) -> Result<Value, Val
 /// What an option says of a track.
 #[tactic(auto, unfolding(crate::specs::Values::track_value))]
 fn track_value(alloc: Global, form: ValueForm, id: u64, rest: &str) -> Result<Value, ValueEnd>
-    ensures { Reads result (spec.track_value form id rest.now) }
+    ensures { ReadsValue result (spec.track_value form id rest.now) }
 {
     match form {
         ValueForm::TrackDelay => {
@@ -161,7 +161,7 @@ pub fn name(alloc: Global, word: &str) -> Result<Text, AllocError>
 /// A word without a zero octet.
 #[tactic(auto, unfolding(crate::specs::Values::text))]
 fn text(alloc: Global, word: &str) -> Result<Text, ValueEnd>
-    ensures { Reads result (spec.text word.now) }
+    ensures { ReadsValue result (spec.text word.now) }
 {
     if word.as_bytes().contains(&0) {
         return Err(ValueEnd::Bad);
@@ -172,7 +172,7 @@ fn text(alloc: Global, word: &str) -> Result<Text, ValueEnd>
 /// Three lower-case letters.
 #[tactic(auto, unfolding(crate::specs::Values::language))]
 fn language(alloc: Global, word: &str) -> Result<Text, ValueEnd>
-    ensures { Reads result (spec.language word.now) }
+    ensures { ReadsValue result (spec.language word.now) }
 {
     if !is_language(word.as_bytes()) {
         return Err(ValueEnd::Bad);

@@ -6,7 +6,7 @@ use Rattle.mkv_outputs.specs.Starts.{StandsInPart}
 use Rattle.mkv_outputs.proofs.FilesLemmas.{WritesOutputs-none, WritesOutputs-then}
 use Rattle.mkv_outputs.proofs.GivenLemmas.{length-same}
 use Rattle.mkv_outputs.proofs.StartsLemmas.{StandsInPart-then}
-use Rattle.extractors.proofs.BlocksLemmas.{GivesBlock-err, given_upto, given_upto-all, given_upto-begun, given_upto-more, given_upto-none, numbers_upto-all, numbers_upto-more, numbers_upto-none, numbers-at}
+use Rattle.extractors.proofs.BlocksLemmas.{WritesBlock-err, given_upto, given_upto-all, given_upto-begun, given_upto-more, given_upto-none, numbers_upto-all, numbers_upto-more, numbers_upto-none, numbers-at}
 use Rattle.extractors.proofs.TakesLemmas.{enough-at}
 use Rattle.extractors.proofs.blocks.give_block.Goals as goal
 
@@ -54,7 +54,7 @@ returns-in_err-numbers-clause-gives g c =
     let o = c.index-list-k.result in
     let n : ℕ = c.index.result.now in
     let below : k < length list = omega (arith, c.loop-k-test.true) in
-    λ b enough. GivesBlock-err g.F.Files list _ _ _ _ _ _ b c.from_residual.result c.from_residual.ensures.0
+    λ b enough. WritesBlock-err g.F.Files list _ _ _ _ _ _ b c.from_residual.result c.from_residual.ensures.0
     (λ since blocks had.
     let named = numbers-at c.loop-k.numbers.items k n list o blocks b (c.loop-k.invariant.numbers b enough blocks had.next) below c.index-list-k.is c.index.ensures in
     StandsInPart-then since _ _ _

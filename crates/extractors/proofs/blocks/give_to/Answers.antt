@@ -2,7 +2,7 @@ use Rattle.std.proofs.Common.{◌≡◌, ℕ, ◌+◌, List, length, IfOk, ap, s
 use Rattle.block_records.specs.declared.head.BlockHead.{BlockHead}
 use Rattle.cluster_reader.specs.Takes.{IsKnownByHead}
 use Rattle.extractors.specs.Content.{counted, entries_from}
-use Rattle.extractors.specs.Frames.{Frame, frames_in}
+use Rattle.extractors.specs.Frames.{Frame, frames_of_block}
 use Rattle.extractors.specs.Takes.{IsEnough}
 use Rattle.extractors.specs.declared.frame_form.FrameForm.{FrameForm}
 use Rattle.mkv_outputs.specs.Outputs.{with_more}
@@ -31,14 +31,14 @@ returns-in_default-clause-gives g c = λ b enough.
     let track = sym (ap (λ (h : BlockHead). h.track) c.head.ensures.exact) ∙ c.if-head-output.false in
     let is = enough-octets c.args.output.now.form b c.args.cursor.now.block c.in_default.not-Time (enough.own track) in
     let P : List Frame → Type 0 = λ frames. Gives g.F.Files c.args.files.now c.give_frames.new.files c.args.outputs.now c.give_frames.new.outputs (with_more c.args.k (entries_from c.args.output.now c.args.number frames)) c.give_frames.result in
-    subst P (ap (frames_in c.args.output.now.step) (sym is) ∙ sym (frames_for-all c.args.output.now b (enough.track ∙ track))) c.give_frames.ensures.gives
+    subst P (ap (frames_of_block c.args.output.now.step) (sym is) ∙ sym (frames_for-all c.args.output.now b (enough.track ∙ track))) c.give_frames.ensures.gives
 
 pub returns-in_default-clause-number : goal.returns-in_default-clause-number
 returns-in_default-clause-number g c = λ b enough.
     let track = sym (ap (λ (h : BlockHead). h.track) c.head.ensures.exact) ∙ c.if-head-output.false in
     let is = enough-octets c.args.output.now.form b c.args.cursor.now.block c.in_default.not-Time (enough.own track) in
     let P : List Frame → Type 0 = λ frames. IfOk c.give_frames.result (λ (next : ℕ). next ≡ counted (c.args.number + length frames)) in
-    subst P (ap (frames_in c.args.output.now.step) (sym is) ∙ sym (frames_for-all c.args.output.now b (enough.track ∙ track))) c.give_frames.ensures.number
+    subst P (ap (frames_of_block c.args.output.now.step) (sym is) ∙ sym (frames_for-all c.args.output.now b (enough.track ∙ track))) c.give_frames.ensures.number
 
 -- or their times
 pub returns-in-Time-clause-gives : goal.returns-in-Time-clause-gives

@@ -7,7 +7,7 @@ use Rattle.mkv_outputs.proofs.FilesLemmas.{MadeSince-added, MadeSince-written}
 use Rattle.mkv_outputs.proofs.GivenLemmas.{HaveBeenGiven-count}
 use Rattle.mkv_outputs.proofs.StartsLemmas.{StandsInPart-then}
 use Rattle.extractors.specs.Content.{names_in, outputs_of}
-use Rattle.extractors.proofs.MakeLemmas.{Makes-err, count-next, made-among, made-apart, made-begun, made-next-as, made-other, outputs_of-first}
+use Rattle.extractors.proofs.MakeLemmas.{MakesOutputs-err, count-next, made-among, made-apart, made-begun, made-next-as, made-other, outputs_of-first}
 use Rattle.extractors.proofs.extraction.make_all.Goals as goal
 
 -- the next name is another one
@@ -24,7 +24,7 @@ returns-in_err-add-clause-makes g c =
     let below : c.loop-k.k < length c.args.list.now = omega (arith, c.loop-k-test.true) in
     let since = g.F.Files.names c.args.files.now in
     let first = outputs_of (take c.loop-k.k c.args.list.now) [] in
-    Makes-err g.F.Files c.args.files.now c.add.new.files c.add.new.self (outputs_of c.args.list.now []) c.from_residual.result c.from_residual.ensures.0
+    MakesOutputs-err g.F.Files c.args.files.now c.add.new.files c.add.new.self (outputs_of c.args.list.now []) c.from_residual.result c.from_residual.ensures.0
     (StandsInPart-then since (g.F.Files.names c.add.new.files) (with_empty c.as_str.result.now first) (outputs_of c.args.list.now []) (c.in_err-add.ensures.gives since first c.loop-k.invariant.has)
     (subst (λ (name : List ℕ). AreBegun (with_empty name first) (outputs_of c.args.list.now [])) (sym c.as_str.ensures.same) (made-begun c.args.list.now c.loop-k.k c.index-list-k.result below c.index-list-k.is)))
 
@@ -53,7 +53,7 @@ returns-in_err-write-clause-makes g c =
     let since = g.F.Files.names c.args.files.now in
     let first = outputs_of (take c.loop-k.k c.args.list.now) [] in
     let has = c.in_ok-add.ensures.gives since first c.loop-k.invariant.has in
-    Makes-err g.F.Files c.args.files.now c.write.new.files c.write.new.self (outputs_of c.args.list.now []) c.from_residual-in_err-write.result c.from_residual-in_err-write.ensures.0
+    MakesOutputs-err g.F.Files c.args.files.now c.write.new.files c.write.new.self (outputs_of c.args.list.now []) c.from_residual-in_err-write.result c.from_residual-in_err-write.ensures.0
     (StandsInPart-then since (g.F.Files.names c.write.new.files) (outputs_of (take (c.loop-k.k + 1) c.args.list.now) []) (outputs_of c.args.list.now [])
     (subst (StandsInPart since (g.F.Files.names c.write.new.files))
     (made-next-as c.args.list.now c.loop-k.k c.index-list-k.result c.as_str.result.now c.as_slice.result.now below c.index-list-k.is c.as_str.ensures.same c.as_slice.ensures)

@@ -1,7 +1,7 @@
 -- What was read is a lace, and where nothing is read there is none.
 use Rattle.std.proofs.Common.{◌≡◌, true, ◌∙◌, ap, sym, arith}
 use Rattle.ebml_numbers.specs.Number.{AreOctets}
-use Rattle.lacing.specs.Reading.{frames_in, is_frame_count}
+use Rattle.lacing.specs.Reading.{frame_sizes_in, is_frame_count}
 use Rattle.lacing.proofs.LaceLemmas.{lace_in-frames, lace_in-uncounted, lace_in-found, lace_in-none}
 use Rattle.lacing.proofs.reading.split.Goals as goal
 
@@ -13,7 +13,7 @@ pub returns-in-Some-clause-read : goal.returns-in-Some-clause-read
 returns-in-Some-clause-read c =
     let counted : is_frame_count c.args.count ≡ true = sym c.if-not-is_frame_count.ensures in
     lace_in-frames c.args.kind c.args.count c.args.bytes.now counted
-    ∙ ap (λ n. frames_in c.args.kind n c.args.bytes.now) (sym c.from-count.ensures) ∙ c.in-Some.ensures.read
+    ∙ ap (λ n. frame_sizes_in c.args.kind n c.args.bytes.now) (sym c.from-count.ensures) ∙ c.in-Some.ensures.read
 
 pub returns-in-Some-clause-found : goal.returns-in-Some-clause-found
 returns-in-Some-clause-found c =
@@ -24,7 +24,7 @@ pub returns-in-None-clause-read : goal.returns-in-None-clause-read
 returns-in-None-clause-read c =
     let counted : is_frame_count c.args.count ≡ true = sym c.if-not-is_frame_count.ensures in (
       lace_in-frames c.args.kind c.args.count c.args.bytes.now counted
-          ∙ ap (λ n. frames_in c.args.kind n c.args.bytes.now) (sym c.from-count.ensures) ∙ c.in-None.ensures.read,
+          ∙ ap (λ n. frame_sizes_in c.args.kind n c.args.bytes.now) (sym c.from-count.ensures) ∙ c.in-None.ensures.read,
       c.clear-in-None.ensures.items,
     )
 

@@ -11,7 +11,7 @@ use Rattle.merged_records.specs.Tags.{HaveShortNumbers, merged_tags, numbers_of}
 use Rattle.merged_records.specs.Tracks.{output_tracks}
 use Rattle.merge_inputs.specs.Input.{read_in}
 use Rattle.merge_inputs.specs.Taken.{IsTaken}
-use Rattle.merge_plan.specs.Planned.{IsFileOf}
+use Rattle.merge_plan.specs.Planned.{StandsInInput}
 use Rattle.merge_plan.specs.Records.{entries_of, records_of, tracks_taken, uids_of}
 use Rattle.merge_plan.proofs.FileLemmas.{attached-all, chapters-anywhere, files-are, numbers-same, octets-all, records_at, tags-anywhere}
 use Rattle.merge_plan.proofs.RecordLemmas.{each-taken, taken-read}
@@ -53,7 +53,7 @@ returns-clause-sound c =
     record {
       tracks = c.in_ok-tracks.ensures.sound;
       attachments = made.attached;
-      files = subst (λ (l : List Attachment). All (IsFileOf inputs) l) (sym (made.attachments ∙ ap merged_attachments kept)) (files-are [] numbers inputs c.requires.records);
+      files = subst (λ (l : List Attachment). All (StandsInInput inputs) l) (sym (made.attachments ∙ ap merged_attachments kept)) (files-are [] numbers inputs c.requires.records);
       chapters = made.chaptered;
       tags = made.tagged;
       numbers = record { tracks = subst (All (λ n. n < 2 ^ 64)) uids tracks; editions = short.editions; chapters = short.chapters; files = short.attachments };

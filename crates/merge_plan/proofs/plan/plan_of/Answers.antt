@@ -9,7 +9,7 @@ use Rattle.merge_inputs.specs.declared.taken.TakenTrack.{TakenTrack}
 use denote.Ref.{Bor}
 use Rattle.merge_plan.specs.Lent.{lent}
 use Rattle.merge_plan.specs.Plan.{is_video, starts_in}
-use Rattle.merge_plan.specs.Records.{info_of, tracks_of, tracks_taken}
+use Rattle.merge_plan.specs.Records.{info_of, tracks_of_output, tracks_taken}
 use Rattle.merge_plan.proofs.FileLemmas.{reads-in}
 use Rattle.merge_plan.proofs.RecordLemmas.{read-record}
 use Rattle.merge_plan.proofs.PlanLemmas.{lanes-length, lanes-drives, lanes-given, lanes-numbers, lanes-rules, lanes-linked, lanes-once, links-small, links-open, links-told, links-spared, plan-few}
@@ -39,7 +39,7 @@ returns-clause-exact c =
         limits = refl;
         front = λ f told.
             let reads = sym (reads-in f inputs) in
-            λ i. record { webm = words.webm; info = (info ∙ ap (info_of words) reads) i; tracks = (records.tracks ∙ ap tracks_of reads) i; attachments = records.attachments f told i };
+            λ i. record { webm = words.webm; info = (info ∙ ap (info_of words) reads) i; tracks = (records.tracks ∙ ap tracks_of_output reads) i; attachments = records.attachments f told i };
         octets = records.octets;
         chapters = records.chapters;
         tags = records.tags;

@@ -1,6 +1,6 @@
 use Rattle.std.proofs.Common.{◌≡◌, Some, sym, ap}
 use Rattle.srt_texts.specs.Pairs.{first_line, second_line}
-use Rattle.srt_texts.specs.Turn.{joined, timed_of}
+use Rattle.srt_texts.specs.Turn.{in_front_of, timed_of}
 use Rattle.srt_texts.proofs.PairsLemmas.{first_good, first_bad, second_bad, second_joined}
 use Rattle.srt_texts.proofs.chapter_reading.take_line.Goals as goal
 
@@ -9,7 +9,7 @@ returns-in-Some-first_line c = λ ls.
     let first = timed_of c.in-Some-first_line.first in
     let read : first_line c.args.line.now ≡ Some first = sym c.in-Some-first_line.ensures in
     let whole = first_good c.args.line.now ls c.args.number first c.requires read in
-    rw c.in_default.is (ap (joined c.args.list.now) whole)
+    rw c.in_default.is (ap (in_front_of c.args.list.now) whole)
 
 pub returns-in-None : goal.returns-in-None
 returns-in-None c = λ ls. rw c.in_default.is (first_bad c.args.line.now ls c.args.number c.requires (sym c.in-None.ensures))
