@@ -1,4 +1,4 @@
--- Times of blocks in nanoseconds.
+-- Times of blocks in nanoseconds: RFC 9559, section 11 (Timestamps). Which of them are too large is this project's.
 use Rattle.std.specs.Prelude.{ℕ, ◌*◌, ◌<◌, nat_abs, Bool, if◌then◌else◌, ℤ, pos, Option, Some, None}
 use Rattle.block_format.specs.declared.limits.TheConstants.{TOO_LARGE_TIME}
 use Rattle.block_format.specs.Block.{nanoseconds, is_too_large}

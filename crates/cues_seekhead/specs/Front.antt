@@ -1,4 +1,4 @@
--- What stands in front of the Clusters.
+-- What stands in front of the Clusters: an EBML header (RFC 8794, section 8.1, EBML Header), and the first of a Segment (RFC 9559, section 4.5, Data Layout).
 use Rattle.std.specs.Prelude.{◌≡◌, ℕ, ◌+◌, if◌then◌else◌, Bool, List, [], ◌∷◌, ◌++◌, length, sum_by}
 use Rattle.output_model.specs.Element.{Element, joined}
 use Rattle.output_model.specs.declared.TheConstants.{AREA}

@@ -1,4 +1,4 @@
--- What the table has as leaves under a parent.
+-- What the table has as leaves under a parent: RFC 9559, section 5 (Matroska Schema).
 use Rattle.std.specs.Prelude.{◌≡◌, ◌⊎◌, ℕ, true, Some}
 use Rattle.ebml_numbers.specs.Number.{is_id}
 use Rattle.mkv_schema.specs.Schema.{may_stand, kind_of}

@@ -1,4 +1,4 @@
--- The table of properties, as the code has it, and where its Elements stand.
+-- The table of properties, as the code has it, and where its Elements stand. Which there are is this project's, after mkvpropedit(1).
 use Rattle.std.specs.Prelude.{◌≡◌, ℕ, Bool, true, if◌then◌else◌}
 use Rattle.ebml_numbers.specs.Number.{is_id}
 use Rattle.mkv_schema.specs.declared.ids.TheConstants.{INFO, TRACK_ENTRY}

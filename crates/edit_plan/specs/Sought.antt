@@ -1,4 +1,4 @@
--- What a SeekHead tells of.
+-- What a SeekHead tells of: RFC 9559, section 5.1.1 (SeekHead Element).
 use Rattle.std.specs.Prelude.{◌≡◌, ◌==◌, ℕ, false, List}
 use Rattle.std.specs.List.{All, AllPass}
 use Rattle.ebml_numbers.specs.Number.{is_id}

@@ -1,4 +1,4 @@
--- The Segment that follows a place of level 0.
+-- The Segment that follows a place of level 0: RFC 9559, section 5.1 (Segment Element).
 use Rattle.std.specs.Prelude.{ℕ, List, Result, Ok, Err}
 use Rattle.mkv_io.specs.declared.damage.Damage.{Damage}
 use Rattle.mkv_schema.specs.declared.element.Header.{Header}

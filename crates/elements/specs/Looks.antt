@@ -59,14 +59,15 @@ FindsAt g src file s at end result = IfOk result (λ found. IfTold g src file (�
 abbrev pub GoesTo : {S T E : Type 0} → Ghosts S → FileId → ℕ → ℕ → ReadAhead → ReadAhead → S → S → Result T E → Type 0
 GoesTo g file at to old new before now result = Goes g file at (λ _. to) old new before now result
 
--- The same through what a walk looks through, by what it holds.
+-- The window through which a walk looks has gone on from a place to where the answer says, and that pays for what was read.
 abbrev pub GoesThrough : {S T E W : Type 0} → Ghosts S → (W → ReadAhead) → FileId → ℕ → (T → ℕ) → W → W → S → S → Result T E → Type 0
 GoesThrough g ahead file at to old new before now result = Goes g file at to (ahead old) (ahead new) before now result
 
+-- So many octets of a file, from a place on, are looked at through the window of a walk; or they couldn't be read.
 abbrev pub LooksThrough : {S T E W : Type 0} → Ghosts S → (W → ReadAhead) → FileId → ℕ → ℕ → ℕ → W → W → S → S → Result T E → Type 0
 LooksThrough g ahead file room at len old new before now result = Looks g file room at len (ahead old) (ahead new) before now result
 
--- So does the way from the body of an Element on.
+-- The window of a walk has gone on from the body of an Element to where the answer says, and that pays for what was read.
 abbrev pub GoesBody : {S T E W : Type 0} → Ghosts S → (W → ReadAhead) → FileId → Header → (T → ℕ) → W → W → S → S → Result T E → Type 0
 GoesBody g ahead file h to old new before now result = GoesThrough g ahead file h.body to old new before now result
 

@@ -76,7 +76,7 @@ AddsFrame f o frame old new sinks later k result = Adds f old new sinks later k 
 abbrev pub AddsLent : {S T E : Type 0} → writing.Ghosts S → TrackOutput → ℕ → Reading → S → S → List Sink → List Sink → ℕ → Result T E → Type 0
 AddsLent f o n c old new sinks later k result = Adds f old new sinks later k (entries_from o n (frames_of_block o.step (block_of c.block))) result
 
--- This is the number of the frame behind them.
+-- The answer is the number of the frame behind those of the block that a cursor lends.
 abbrev pub CountsFrames : {E : Type 0} → TrackOutput → ℕ → Reading → Result ℕ E → Type 0
 CountsFrames o n c result = IfOk result (λ next. next ≡ counted (n + length (frames_of_block o.step (block_of c.block))))
 
@@ -84,7 +84,7 @@ CountsFrames o n c result = IfOk result (λ next. next ≡ counted (n + length (
 abbrev pub AddsTime : {S T E : Type 0} → writing.Ghosts S → TrackOutput → ℕ → Reading → S → S → List Sink → List Sink → ℕ → Result T E → Type 0
 AddsTime f o n c old new sinks later k result = (b : Block) → IsKnownByHead b c.block → Adds f old new sinks later k (entries_from o n (frames_of_block o.step b)) result
 
--- This is the number of the frame behind them.
+-- The answer is the number of the frame behind those of the block of which a cursor lends the head.
 abbrev pub CountsTimes : {E : Type 0} → TrackOutput → ℕ → Reading → Result ℕ E → Type 0
 CountsTimes o n c result = (b : Block) → IsKnownByHead b c.block → IfOk result (λ next. next ≡ counted (n + length (frames_of_block o.step b)))
 

@@ -1,4 +1,4 @@
--- The chapter file of a merge. It is this project's.
+-- The chapter file of a merge, and what is taken of it. The rule is this project's.
 use Rattle.std.specs.Prelude.{⊤, ℕ, List, length, Option, Some, None, Result, Ok, Err}
 use Rattle.mkv_schema.specs.declared.ids.TheConstants.{CHAPTERS}
 use Rattle.tree_format.specs.Node.{Node}

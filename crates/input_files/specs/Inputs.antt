@@ -1,4 +1,4 @@
--- The input files of a merge, as they are opened. It is this project's.
+-- The input files of a merge, and how they are opened. The rule is this project's.
 use Rattle.std.specs.Prelude.{◌≡◌, ◌≤◌, ⊤, ℕ, Bool, true, false, List, [], map, Option, Some, None, is_none, Result, Ok, Err}
 use Rattle.std.specs.List.{All, position_from}
 use Rattle.mkv_io.specs.declared.outside.FileId.{FileId}

@@ -1,4 +1,4 @@
--- Times of the blocks of a lane, in nanoseconds of the output and in ticks.
+-- Times of the blocks of a lane, in nanoseconds of the output and in ticks: RFC 9559, section 11 (Timestamps). By how much they are moved is this project's.
 use Rattle.std.specs.Prelude.{ℕ, ◌+◌, ◌-◌, ◌/◌, ◌*◌, ◌^◌, nat_le, if◌then◌else◌, ℤ, ◌+ℤ◌, Option, option_map}
 use Rattle.merge_model.specs.Ticks.{since_start}
 

@@ -1,4 +1,4 @@
--- The end of a file: where the one behind it begins, where both give to one lane.
+-- The end of a file: where the one behind it begins, where both give to one lane. The rule is this project's.
 use Rattle.std.specs.Prelude.{ℕ, ◌+◌, ◌*◌, max, List, [], ◌∷◌, length, Option, Some, None}
 use Rattle.std.specs.Option.{unwrap_or}
 use Rattle.block_format.specs.Block.{Block}

@@ -1,4 +1,4 @@
--- The times of a track's blocks, where they are those of a file.
+-- The times of a track's blocks, where they are those of a file. The rule is this project's, after mkvmerge(1).
 use Rattle.std.specs.Prelude.{ℕ, ◌+◌, ℤ, List, [], ◌∷◌, length, Option, Some, None}
 use Rattle.block_format.specs.Block.{Block}
 use Rattle.ext_times.specs.Listing.{Listing}

@@ -1,4 +1,4 @@
--- Where the blocks of a lane come from, and the attached files of an output. It is this project's.
+-- Where the blocks of a lane come from, and the attached files of an output. The rule is this project's.
 use Rattle.std.specs.Prelude.{◌≡◌, ◌≤◌, ⊤, ℕ, Bool, List, [], ◌∷◌, ◌++◌, length, map, slice_get, IfSome, Option}
 use Rattle.std.specs.List.{All, AllZip, enumerate_from, range_with_len}
 use Rattle.std.specs.Option.{option_to_list}

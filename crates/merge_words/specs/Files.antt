@@ -37,22 +37,27 @@ ids_of value = one (track_in value)
 abbrev pub tracks_in : Subject → List Item → Select
 tracks_in subject items = unwrap_or (option_and_then tracks_of (value_in subject items)) All
 
--- what they say of tracks: by how much each is delayed, what it is called, and so on
+-- by how much they delay tracks
 abbrev pub delays_in : List Item → List (ℕ × ℤ)
 delays_in items = said_about delay_of subject.Sync items
 
+-- how they call tracks
 abbrev pub names_in : List Item → List (ℕ × List ℕ)
 names_in items = said_about track_text_of subject.TrackName items
 
+-- which languages they give to tracks
 abbrev pub languages_in : List Item → List (ℕ × List ℕ)
 languages_in items = said_about track_language_of subject.Language items
 
+-- how they set this flag of tracks
 abbrev pub flags_in : Subject → List Item → List (ℕ × Bool)
 flags_in subject items = said_about track_flag_of subject items
 
+-- which blocks of tracks get a cue point
 abbrev pub cues_in : List Item → List (ℕ × CueWord)
 cues_in items = said_about track_cues_of subject.Cues items
 
+-- the files with the times of tracks
 abbrev pub times_in : List Item → List (ℕ × List ℕ)
 times_in items = said_about track_file_of subject.Times items
 

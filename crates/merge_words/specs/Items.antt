@@ -1,5 +1,5 @@
 -- The items of a merge's words: an option with its value, `+`, or the name of a file. Each is read
--- behind the items before it.
+-- behind the items before it. The grammar is this project's, after mkvmerge(1).
 use Rattle.std.specs.Prelude.{ℕ, ◌+◌, Bool, false, ◌&&◌, ◌==◌, nat_le, if◌then◌else◌, List, codes, count_by, Option, Some, None, option_map, unwrap_or, Result, Ok, slice_get}
 use Rattle.std.specs.List.{after_last, list_any}
 use Rattle.std.specs.Str.{bytes_eq}

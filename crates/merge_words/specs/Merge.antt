@@ -1,5 +1,5 @@
 -- The words of `merge`: they are cut into items, each item is read behind those before it, and what
--- the items lack is told in a fixed order.
+-- the items lack is told in a fixed order. The grammar is this project's, after mkvmerge(1).
 use Rattle.std.specs.Prelude.{ℕ, ◌+◌, Bool, true, false, not, ◌==◌, if◌then◌else◌, List, [], ◌∷◌, ◌++◌, length, drop, Option, Some, None, is_none, option_map, Result, Ok}
 use Rattle.std.specs.List.{find}
 use denote.Enum.Bare.{sameb}

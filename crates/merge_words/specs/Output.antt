@@ -9,24 +9,31 @@ use Rattle.merge_words.specs.Items.{stands}
 use Rattle.merge_words.specs.Said.{value_in, file_in, text_of, scale_of, blocks_of, span_of, split_of, uuids_of}
 use Rattle.merge_words.specs.Files.{files}
 
+-- the name of the output; empty where none is said
 abbrev pub output_in : List Item → List ℕ
 output_in items = unwrap_or (file_in subject.Output items) []
 
+-- the title, where one is said
 abbrev pub title_in : List Item → Option (List ℕ)
 title_in items = option_and_then text_of (value_in subject.Title items)
 
+-- how many nanoseconds a tick has: what is said, else what is usual
 abbrev pub scale_in : List Item → ℕ
 scale_in items = unwrap_or (option_and_then scale_of (value_in subject.Scale items)) DEFAULT_SCALE
 
+-- how many blocks a Cluster has at most: what is said, else what is usual
 abbrev pub blocks_in : List Item → ℕ
 blocks_in items = unwrap_or (option_and_then blocks_of (value_in subject.ClusterLength items)) DEFAULT_BLOCKS
 
+-- how many nanoseconds the last block of a Cluster stands behind its time at most: what is said, else what is usual
 abbrev pub span_in : List Item → ℕ
 span_in items = unwrap_or (option_and_then span_of (value_in subject.ClusterLength items)) DEFAULT_SPAN
 
+-- where the output is split, if it is
 abbrev pub split_in : List Item → Option SplitWords
 split_in items = option_and_then split_of (value_in subject.Split items)
 
+-- the SegmentUUIDs of the parts; none where none are said
 abbrev pub uuids_in : List Item → List ℕ
 uuids_in items = unwrap_or (option_and_then uuids_of (value_in subject.Uuids items)) []
 

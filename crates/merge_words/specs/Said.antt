@@ -19,55 +19,67 @@ abbrev pub file_of : Value → Option (List ℕ)
 file_of (File name) = Some name
 file_of _ = None
 
+-- a text
 abbrev pub text_of : Value → Option (List ℕ)
 text_of (Text text) = Some text
 text_of _ = None
 
+-- how many nanoseconds a tick has
 abbrev pub scale_of : Value → Option ℕ
 scale_of (Scale scale) = Some scale
 scale_of _ = None
 
+-- how many blocks a Cluster has at most
 abbrev pub blocks_of : Value → Option ℕ
 blocks_of (Blocks blocks) = Some blocks
 blocks_of _ = None
 
+-- how many nanoseconds the last block of a Cluster stands behind its time at most
 abbrev pub span_of : Value → Option ℕ
 span_of (Span span) = Some span
 span_of _ = None
 
+-- where the output is split
 abbrev pub split_of : Value → Option SplitWords
 split_of (Split split) = Some split
 split_of _ = None
 
+-- the SegmentUUIDs of the parts
 abbrev pub uuids_of : Value → Option (List ℕ)
 uuids_of (Uuids uuids) = Some uuids
 uuids_of _ = None
 
+-- which tracks are taken
 abbrev pub tracks_of : Value → Option Select
 tracks_of (Tracks select) = Some select
 tracks_of _ = None
 
--- what it says of a track, with the track
+-- what a value says of a track, with the track: by how much it is delayed, and so on
 abbrev pub delay_of : Value → Option (ℕ × ℤ)
 delay_of (TrackDelay id delay) = Some (id, delay)
 delay_of _ = None
 
+-- a name
 abbrev pub track_text_of : Value → Option (ℕ × List ℕ)
 track_text_of (TrackText id text) = Some (id, text)
 track_text_of _ = None
 
+-- a language
 abbrev pub track_language_of : Value → Option (ℕ × List ℕ)
 track_language_of (TrackLanguage id language) = Some (id, language)
 track_language_of _ = None
 
+-- whether a flag is set
 abbrev pub track_flag_of : Value → Option (ℕ × Bool)
 track_flag_of (TrackFlag id flag) = Some (id, flag)
 track_flag_of _ = None
 
+-- which of its blocks get a cue point
 abbrev pub track_cues_of : Value → Option (ℕ × CueWord)
 track_cues_of (TrackCues id cues) = Some (id, cues)
 track_cues_of _ = None
 
+-- the name of the file with its times
 abbrev pub track_file_of : Value → Option (ℕ × List ℕ)
 track_file_of (TrackFile id name) = Some (id, name)
 track_file_of _ = None

@@ -1,4 +1,4 @@
--- An Info as values.
+-- An Info as values: RFC 9559, section 5.1.2 (Info Element).
 use Rattle.std.specs.Prelude.{◌≡◌, ℕ, List, Some, Result, Ok}
 use Rattle.mkv_io.specs.declared.damage.Damage.{Damage}
 use Rattle.mkv_io.specs.Results.{unless}

@@ -30,6 +30,7 @@ target_of least before at (Some p) =
     else if is_taken p.1 before then wrong at RepeatedOutput
     else Ok (record { id = p.0; name = p.1 })
 
+-- the target that a word says, behind those before it
 unfoldable pub target : ℕ → List Target → ℕ → List ℕ → Result Target Usage
 target least before at word = target_of least before at (track_and_rest word)
 
@@ -46,6 +47,7 @@ targets least words start = do
   _ ← due_at words start
   targets_from least [] start (drop start words)
 
+-- tracks that are written in this form, each to the output that its target names
 abbrev pub tracks_by : Form → List (List ℕ) → ℕ → Result Job Usage
 tracks_by form words start = do
   list ← targets 0 words start
@@ -60,6 +62,7 @@ tracks words = do
       else if is_option word then wrong 3 UnknownOption
       else tracks_by form.ByCodec words 3
 
+-- the output for simple chapters, and no word behind it
 abbrev pub simple : List (List ℕ) → Result Job Usage
 simple words = do
   out ← due_at words 4
@@ -74,6 +77,7 @@ chapters words = do
       else if is_option word then wrong 3 UnknownOption
       else wrong 3 BadValue
 
+-- the job that is made of targets
 abbrev pub listed : (List Target → Job) → Result (List Target) Usage → Result Job Usage
 listed make said = do
   list ← said
@@ -97,6 +101,7 @@ job_of (Some mode.Cues) words = listed jobs.Cues (targets 0 words 3)
 job_of (Some mode.Attachments) words = listed jobs.Attachments (targets 1 words 3)
 job_of (Some mode.Chapters) words = chapters words
 
+-- the job that the word of a mode and the words behind it say
 unfoldable pub job : List ℕ → List (List ℕ) → Result Job Usage
 job word words = job_of (meant modes word) words
 

@@ -1,4 +1,4 @@
--- The lines of `--help`, made of the tables of commands, modes and options.
+-- The lines of `--help`, made of the tables of commands, modes and options. They are this project's.
 use Rattle.std.specs.Prelude.{ℕ, ◌-◌, Bool, ◌||◌, ◌==◌, if◌then◌else◌, List, [], ◌∷◌, ◌++◌, length, map, replicate, codes, Option, Some, None}
 use Rattle.std.specs.List.{flat_map}
 use denote.Enum.Bare.{sameb}
@@ -100,9 +100,11 @@ merge_values =
     entry (codes "") (codes "") (tt {0}) (codes "") (codes "usual: 65535 blocks and 5000ms") ∷
     entry (codes "") (codes "UUIDS") (tt {0}) (codes "") (codes "32 hexadecimal digits each, commas between them") ∷ []
 
+-- the options of `merge`: those for the output, for a file, and for a track
 abbrev pub all_options : List (List ℕ)
 all_options = scope_lines scope.Output ++ scope_lines scope.File ++ scope_lines scope.Track
 
+-- the lines of the words of `merge`
 abbrev pub merge_lines : List (List ℕ)
 merge_lines = map (entry_line (codes "  ")) joins ++ all_options ++ headed (codes "  where:") merge_values
 
@@ -114,6 +116,7 @@ forms =
     entry (codes "") (codes "--raw") (tt {0}) (codes "") (codes "the frames of any codec, one behind the other") ∷
     entry (codes "") (codes "--fullraw") (tt {0}) (codes "") (codes "the CodecPrivate, and then the frames") ∷ []
 
+-- the lines of the words of `extract`
 abbrev pub extract_lines : List (List ℕ)
 extract_lines = map (entry_line (codes "  ")) modes ++ headed (codes "  where:") forms
 
@@ -146,6 +149,7 @@ properties =
     entry (codes "") (codes "flag-original") (tt {0}) (codes "0 or 1") (codes "of a track; in the original language") ∷
     entry (codes "") (codes "flag-commentary") (tt {0}) (codes "0 or 1") (codes "of a track; comments") ∷ []
 
+-- the lines of the words of `propedit`
 abbrev pub propedit_lines : List (List ℕ)
 propedit_lines = map (entry_line (codes "  ")) steps ++ headed (codes "  where:") sections ++ headed (codes "  NAME and VALUE:") properties
 
@@ -250,6 +254,7 @@ head e = (called e ∷ []) ++ text_of e.means
 unfoldable pub page : Entry Verb → List (List ℕ)
 page e = head e ++ details e.means ++ examples_of e.means
 
+-- the entry is that of this command
 abbrev pub is_about : Verb → Entry Verb → Bool
 is_about verb e = sameb verb_type e.means verb
 
@@ -277,6 +282,7 @@ first_examples =
     codes "    mkvsuite extract film.mkv tracks 2:lines.srt" ∷
     codes "    mkvsuite propedit film.mkv -e info -s title=Film" ∷ []
 
+-- what stands before the commands
 unfoldable pub first_lines : List (List ℕ)
 first_lines = codes "usage: mkvsuite COMMAND" ∷ codes "" ∷ []
 
@@ -284,6 +290,7 @@ first_lines = codes "usage: mkvsuite COMMAND" ∷ codes "" ∷ []
 abbrev pub command_lines : List (List ℕ)
 command_lines = first_lines ++ map (entry_line (codes "")) commands
 
+-- the exit statuses, behind an empty line
 abbrev pub status_lines : List (List ℕ)
 status_lines = codes "" ∷ headed (codes "exit status:") statuses
 

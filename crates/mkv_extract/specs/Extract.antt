@@ -50,7 +50,7 @@ abbrev pub missing_attachments : List ℕ → FileRead → List Target → List 
 missing_attachments name file targets = map (no_attachment_line name) (absent (length file.attachments + 1) targets)
 
 -- What is taken of a file: a line for each thing that is named and that it hasn't; the outputs, in the order of the words; the damages of the
--- file; and those of the frames that aren't written.
+-- file that are told; and those of the frames that aren't written.
 pub record Taken : Type 0 where
   pub missing : List (List ℕ)
   pub outputs : List Output

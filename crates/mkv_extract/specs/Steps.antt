@@ -1,4 +1,5 @@
--- What is left to be taken, as the calls come to it one inside the other. No verdict stands on this module: each word is an end of `taken_of`.
+-- What is left to be taken, as the calls come to it one inside the other; and what each of these calls comes to.
+-- No verdict stands on this module: each word is an end of `taken_of`.
 use Rattle.std.specs.Prelude.{ℕ, Bool, true, if◌then◌else◌, List, Some, None, Result}
 use Rattle.mkv_io.specs.Results.{and_then, unless}
 use Rattle.mkv_io.specs.Sources.{IfTold}

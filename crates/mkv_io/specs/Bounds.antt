@@ -10,10 +10,10 @@ use Rattle.mkv_io.specs.declared.files.Files as writing
 abbrev pub ReadsUpTo : {S : Type 0} → Ghosts S → S → S → ℕ → Type 0
 ReadsUpTo r old new most = r.octets_read new ≤ r.octets_read old + most
 
--- The same, where the bound is one of the length that a live file had.
+-- At most as many octets more were read as a bound allows that is reckoned from the length that a live file had.
 abbrev pub ReadsOf : {S : Type 0} → Ghosts S → S → S → FileId → (ℕ → ℕ) → Type 0
 ReadsOf r old new file most = ReadsUpTo r old new (most (file_size r old file))
 
--- The same, where the bound is one of the world of names, if it is told.
+-- At most as many octets more were read as a bound allows that is reckoned from the world of names, where that is told.
 abbrev pub ReadsByNames : {S : Type 0} → Ghosts S → writing.Ghosts S → S → S → ((List ℕ → Option (List ℕ)) → ℕ) → Type 0
 ReadsByNames r f old new most = Told (f.names old) (λ world. ReadsUpTo r old new (most world))

@@ -1,4 +1,4 @@
--- Why a merge ends before its output is begun.
+-- Why a merge ends before all its outputs stand, and which faults have then been counted.
 use Rattle.std.specs.Prelude.{◌≡◌, ⊤, ℕ, Result, Ok, Err}
 use Rattle.input_files.specs.declared.inputs_end.InputsEnd.{InputsEnd}
 use Rattle.input_files.specs.declared.inputs_end.InputsEnd.TheVariants as inputs_end

@@ -1,4 +1,4 @@
--- Where the parts of an Element stand that was found at a place.
+-- Where the parts of an Element stand that was found at a place: RFC 8794, section 6 (Element Data Size).
 use Rattle.std.specs.Prelude.{◌≡◌, ℕ, false, ◌<◌, ◌≤◌}
 use Rattle.mkv_schema.specs.declared.element.Header.{Header}
 use Rattle.mkv_schema.specs.Element.{Setting, is_unknown, stated_end}

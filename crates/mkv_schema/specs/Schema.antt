@@ -1,4 +1,4 @@
--- What the table says of an ID.
+-- What the table says of an ID: RFC 9559, section 5 (Matroska Schema).
 use Rattle.std.specs.Prelude.{ℕ, ◌==◌, Bool, true, false, ◌||◌, Option, Some, None, if◌then◌else◌, List, map, find}
 use Rattle.std.specs.Option.{option_map, option_map_or, option_and_then}
 use Rattle.mkv_schema.specs.declared.kind.ElementKind.{ElementKind}

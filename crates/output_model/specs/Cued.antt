@@ -1,4 +1,4 @@
--- The cue points of an output, and the document that is made of blocks.
+-- The cue points of an output, and the document that is made of blocks: RFC 9559, section 5.1.5 (Cues Element). Which blocks get a point is this project's.
 use Rattle.std.specs.Prelude.{◌-◌, Bool, true, false, List, Option}
 use Rattle.std.specs.List.{slice_get}
 use Rattle.std.specs.Option.{unwrap_or}

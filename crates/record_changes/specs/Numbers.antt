@@ -1,4 +1,4 @@
--- The identifiers that targets have in the output.
+-- The identifiers that targets have in the output: RFC 9559, section 5.1.8 (Tags Element). Which they are is this project's.
 use Rattle.std.specs.Prelude.{ℕ, ◌==◌, nat_eq, if◌then◌else◌, Option, None}
 use Rattle.indexmap.specs.IndexMap.{get}
 use Rattle.mkv_schema.specs.declared.ids.TheConstants.{TAG_TRACK_UID, TAG_EDITION_UID, TAG_CHAPTER_UID, TAG_ATTACHMENT_UID}

@@ -1,4 +1,4 @@
--- The record of an edit as it stands in a sidecar, octet for octet. Numbers are big-endian.
+-- The record of an edit as it stands in a sidecar, octet for octet. Numbers are big-endian. The layout is this project's.
 --
 --   0            gate: A5 is open, all else is closed
 --   1 to 7       MKVEDIT

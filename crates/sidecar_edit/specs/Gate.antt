@@ -1,4 +1,4 @@
--- Whether a sidecar holds an edit that was begun: by the layout of `Fields`.
+-- Whether a sidecar holds an edit that was begun: by the layout of `Fields`, which is this project's.
 use Rattle.std.specs.Prelude.{◌≡◌, ◌≢◌, ◌<◌, ◌≤◌, ◌^◌, ℕ, zero, suc, ◌+◌, ◌==◌, nat_le, nat_lt, max, Bool, true, not, ◌&&◌, ◌||◌, if◌then◌else◌, List, [], ◌∷◌, ◌++◌, length, drop, slice_index, Option, Some, None, ◌*◌}
 use Rattle.std.specs.List.{list_all}
 use Rattle.std.specs.Str.{bytes_eq}

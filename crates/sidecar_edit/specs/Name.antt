@@ -1,4 +1,4 @@
--- The name of a sidecar.
+-- The name of a sidecar. The rule is this project's.
 use Rattle.std.specs.Prelude.{ℕ, List, [], ◌∷◌, ◌++◌, codes}
 
 -- the name of the file beside a file of this name in which an edit of it is kept until it is done

@@ -1,4 +1,4 @@
--- Whether an edit of a file is pending, and what a call leaves that only looks.
+-- Whether an edit of a file is pending, and what a call leaves that only looks. The rule is this project's.
 use Rattle.std.specs.Prelude.{◌≡◌, ℕ, Bool, true, false, List, [], Option, Some, None}
 use Rattle.mkv_io.specs.Writing.{UsesOnly}
 use Rattle.mkv_io.specs.declared.reads.Reads.{Ghosts}

@@ -1,4 +1,4 @@
--- What a file and its sidecar stand for.
+-- What a file and its sidecar stand for. The rule is this project's.
 use Rattle.std.specs.Prelude.{◌≢◌, ◌⊎◌, ℕ, zero, suc, ◌+◌, ◌≤◌, ◌==◌, nat_le, nat_lt, max, Bool, true, false, not, ◌&&◌, ◌||◌, if◌then◌else◌, List, [], ◌∷◌, length, take, slice_index, Option, Some, None, Result, Ok, Err}
 use Rattle.std.specs.List.{list_any}
 use Rattle.sidecar_edit.specs.declared.place.Place.{Place}

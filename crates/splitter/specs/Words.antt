@@ -1,4 +1,4 @@
--- Where an output is split, by its words.
+-- Where an output is split, by its words. The rule is this project's, after mkvmerge(1).
 use Rattle.std.specs.Prelude.{ℕ, zero, suc, List, filter_map, Option, Some, None}
 use Rattle.std.specs.List.{slice_get}
 use Rattle.word_values.specs.declared.lists.SplitWords.{SplitWords}

@@ -1,4 +1,4 @@
--- A Chapters Element as simple chapters: the top atoms of its first edition.
+-- A Chapters Element as simple chapters: the top atoms of its first edition (RFC 9559, section 5.1.7, Chapters Element). The rule is this project's.
 use Rattle.std.specs.Prelude.{ℕ, ◌+◌, ◌==◌, List, [], ◌∷◌, ◌++◌, filter}
 use Rattle.std.specs.Option.{option_map_or}
 use Rattle.mkv_schema.specs.declared.ids.TheConstants.{EDITION_ENTRY, CHAPTER_ATOM, CHAPTER_TIME_START, CHAPTER_DISPLAY, CHAP_STRING}

@@ -1,4 +1,4 @@
--- Octets, numbers and times as they are written.
+-- Octets, numbers and times as they are written, in this project's grammar.
 use Rattle.std.specs.Prelude.{ℕ, ◌+◌, ◌/◌, ◌%◌, nat_lt, if◌then◌else◌, List, [], ◌∷◌, ◌++◌}
 use Rattle.std.specs.Fmt.{decimal}
 use Rattle.mkv_io.specs.Characters.{COLON, DIGIT_0}

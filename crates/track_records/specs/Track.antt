@@ -1,4 +1,4 @@
--- A Tracks Element's entries as tracks.
+-- A Tracks Element's entries as tracks: RFC 9559, section 5.1.4 (Tracks Element).
 use Rattle.std.specs.Prelude.{List, map, Result}
 use Rattle.mkv_io.specs.declared.damage.Damage.{Damage}
 use Rattle.mkv_io.specs.Results.{unless}

@@ -1,4 +1,4 @@
--- Where an Element of a master stands that is read whole.
+-- Where an Element of a master stands that is read whole: RFC 8794, section 6 (Element Data Size).
 use Rattle.std.specs.Prelude.{◌≡◌, ◌<◌, ◌≤◌, ℕ, false}
 use Rattle.mkv_schema.specs.declared.element.Header.{Header}
 use Rattle.mkv_schema.specs.Element.{is_unknown, stated_end}

@@ -1,4 +1,4 @@
--- Trees that can be written and read again.
+-- Trees that can be written and read again: each Element stands where RFC 9559, section 5 (Matroska Schema), has it.
 use Rattle.std.specs.Prelude.{◌≡◌, ◌≤◌, ⊤, ℕ, ◌+◌, true, false, if◌then◌else◌, List, length, Ok}
 use Rattle.ebml_numbers.specs.Number.{is_id}
 use Rattle.mkv_schema.specs.Value.{is_known_value}

@@ -1,4 +1,4 @@
--- The words by their numbers, counted from 0, and what is wrong where one is due or too many.
+-- The words by their numbers, counted from 0, and what is wrong where one is due or too many. The rule is this project's.
 use Rattle.std.specs.Prelude.{ℕ, Bool, ◌&&◌, ◌==◌, nat_lt, nat_le, if◌then◌else◌, List, length, map, slice_get, slice_index, Option, Some, None, Result, Ok, ◌≡◌, ◌+◌, ◌∷◌, drop}
 use Rattle.std.specs.String.{string_bytes}
 use Rattle.std.specs.declared.string.String.{String}

@@ -1,4 +1,4 @@
--- What the value of an option says, by its form.
+-- What the value of an option says, by its form, in this project's grammar.
 use Rattle.std.specs.Prelude.{ℕ, ◌*◌, Bool, true, false, ◌&&◌, ◌==◌, if◌then◌else◌, List, length, codes, Option, Some, None, option_map}
 use Rattle.std.specs.List.{list_any, list_all}
 use Rattle.std.specs.Char.{is_ascii_lowercase}
