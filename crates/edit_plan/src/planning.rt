@@ -1,6 +1,7 @@
 //! What edits write to a file.
 
-ghost use Rattle.std.specs.Prelude.{◌≡◌, ◌≤◌, ◌+◌, ◌*◌, ◌^◌, Ok, false, IfErr, IfOk};
+ghost use Rattle.std.specs.Prelude.{◌≡◌, ◌*◌, ◌^◌, Ok, false, IfErr, IfOk};
+ghost use Rattle.mkv_io.specs.Bounds.{ReadsUpTo};
 ghost use Rattle.mkv_io.specs.Faults.{HasCause};
 ghost use Rattle.mkv_io.specs.Sources.{IfTold, IsLive, file_size};
 ghost use Rattle.element_reader.specs.Outline.{outline_in};
@@ -34,7 +35,7 @@ fn open_outline<R: Reads>(alloc: Global, src: &mut R, file: FileId) -> Result<Ou
     ensures total { IfOk result (λ outline. outline.total ≡ file_size R.Reads src.old file) }
     ensures standing { R.standing src.new ≡ R.standing src.old }
     ensures cause { HasCause is_plan_fault (R.reading_faults src.old) (R.reading_faults src.new) result }
-    ensures octets { R.octets_read src.new ≤ R.octets_read src.old + 4 * file_size R.Reads src.old file }
+    ensures octets { ReadsUpTo R.Reads src.old src.new (4 * file_size R.Reads src.old file) }
 {
     let outline = match Outline::read(alloc, src, file) {
         Ok(outline) => outline,
@@ -64,7 +65,7 @@ fn open_trees<R: Reads>(
     ensures sound { IfOk result AreSound }
     ensures standing { R.standing src.new ≡ R.standing src.old }
     ensures cause { HasCause is_plan_fault (R.reading_faults src.old) (R.reading_faults src.new) result }
-    ensures octets { R.octets_read src.new ≤ R.octets_read src.old + 20 * file_size R.Reads src.old file }
+    ensures octets { ReadsUpTo R.Reads src.old src.new (20 * file_size R.Reads src.old file) }
 {
     match read_trees(alloc, outline, src, file) {
         Ok(trees) => Ok(trees),
@@ -99,7 +100,7 @@ pub fn edit_writes<R: Reads>(
     ensures exact { IfTold R.Reads src.old file (λ bytes. Answers (plan_of bytes edits.now) result) }
     ensures standing { R.standing src.new ≡ R.standing src.old }
     ensures cause { HasCause is_plan_fault (R.reading_faults src.old) (R.reading_faults src.new) result }
-    ensures octets { R.octets_read src.new ≤ R.octets_read src.old + 25 * file_size R.Reads src.old file }
+    ensures octets { ReadsUpTo R.Reads src.old src.new (25 * file_size R.Reads src.old file) }
 {
     let outline = open_outline(alloc, src, file)?;
     let trees = open_trees(alloc, &outline, src, file)?;

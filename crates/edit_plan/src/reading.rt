@@ -1,6 +1,6 @@
 //! What can be edited in a file.
 
-ghost use Rattle.std.specs.Prelude.{◌≡◌, ◌+◌, ◌*◌, ◌≤◌, false, List, ℕ, Ok, IfErr, IfOk, IfSome};
+ghost use Rattle.std.specs.Prelude.{◌≡◌, ◌+◌, ◌*◌, false, List, Ok, IfErr, IfOk, IfSome};
 ghost use Rattle.mkv_schema.specs.declared.ids.TheConstants.{TRACKS as TRACKS_ID};
 ghost use Rattle.mkv_io.specs.Faults.{HasCause};
 ghost use Rattle.mkv_io.specs.Sources.{IfTold, IsLive, file_size};
@@ -10,7 +10,7 @@ ghost use Rattle.ebml_tree.specs.Building.{IsRead};
 ghost use Rattle.meta_records.specs.Records.{ReadsAs};
 ghost use Rattle.edit_changes.specs.Records as spec;
 ghost use Rattle.edit_changes.specs.Trees.{AreSound};
-ghost use Rattle.mkv_io.specs.Bounds.{ReadsOf};
+ghost use Rattle.mkv_io.specs.Bounds.{ReadsOf, ReadsUpTo};
 ghost use Rattle.edit_plan.specs.Answer.{ReadsTrees};
 
 use ebml_tree::{Tree, TreeEnd};
@@ -61,7 +61,7 @@ pub fn read_trees<R: Reads>(
     ensures cause { HasCause is_outline_fault (R.reading_faults src.old) (R.reading_faults src.new) result }
 
     // Info, Tracks, Chapters and Tags are each read once, and of Attachments no data.
-    ensures octets { R.octets_read src.new ≤ R.octets_read src.old + 20 * file_size R.Reads src.old file }
+    ensures octets { ReadsUpTo R.Reads src.old src.new (20 * file_size R.Reads src.old file) }
     ensures few { ReadsOf R.Reads src.old src.new file (λ size. 4 * size + 2 * MOST_OF_ATTACHMENTS) }
 {
     let info = first_tree(alloc, outline, src, file, INFO)?;

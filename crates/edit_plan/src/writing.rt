@@ -1,6 +1,7 @@
 //! What is written of parts.
 
-ghost use Rattle.std.specs.Prelude.{◌≡◌, ◌≤◌, ◌+◌, ◌^◌};
+ghost use Rattle.std.specs.Prelude.{◌≡◌, ◌≤◌, ◌^◌};
+ghost use Rattle.mkv_io.specs.Bounds.{ReadsUpTo};
 ghost use Rattle.mkv_io.specs.Faults.{HasCause};
 ghost use Rattle.mkv_io.specs.Sources.{IfTold, IsLive, file_size};
 ghost use Rattle.edit_plan.specs.Answer.{Answers, AnswersWrites, is_plan_fault};
@@ -36,7 +37,7 @@ pub fn parts_writes<R: Reads>(
     ensures exact { CanMove outline.now → AnswersWrites R.Reads src.old file rewriting.now outline.now parts.now result }
     ensures standing { R.standing src.new ≡ R.standing src.old }
     ensures cause { HasCause is_plan_fault (R.reading_faults src.old) (R.reading_faults src.new) result }
-    ensures octets { R.octets_read src.new ≤ R.octets_read src.old + file_size R.Reads src.old file }
+    ensures octets { ReadsUpTo R.Reads src.old src.new (file_size R.Reads src.old file) }
 {
     if !rewriting.always && !any_moves(parts) {
         return place_writes(alloc, parts);

@@ -1,6 +1,7 @@
 //! The header of the Element at a place.
 
-ghost use Rattle.std.specs.Prelude.{◌+◌, ◌≤◌, IfOk};
+ghost use Rattle.std.specs.Prelude.{◌≤◌, IfOk};
+ghost use Rattle.mkv_io.specs.Bounds.{ReadsUpTo};
 ghost use Rattle.mkv_io.specs.Faults.{HasCause};
 ghost use Rattle.mkv_io.specs.Sources.{IfTold, IsLive, OnlyReads, file_size};
 ghost use Rattle.mkv_schema.specs.Element.{anywhere, element_at};
@@ -24,7 +25,7 @@ pub fn header_at<R: Reads>(src: &mut R, file: FileId, at: u64, end: u64) -> Resu
     ensures found { IfOk result (IsFound anywhere at end) }
     ensures same { OnlyReads R.Reads src.old src.new }
     ensures cause { HasCause is_head_fault (R.reading_faults src.old) (R.reading_faults src.new) result }
-    ensures octets { R.octets_read src.new ≤ R.octets_read src.old + LONGEST_HEADER }
+    ensures octets { ReadsUpTo R.Reads src.old src.new LONGEST_HEADER }
 {
     let mut buffer = [0; LONGEST_HEADER as usize];
     let len = (end - at).min(LONGEST_HEADER);

@@ -1,6 +1,7 @@
 //! The body of an Element, read whole.
 
-ghost use Rattle.std.specs.Prelude.{length, ◌≡◌, ◌+◌, ◌≤◌, ◌↔◌, false, Some, IfOk, IsErrOf};
+ghost use Rattle.std.specs.Prelude.{length, ◌≡◌, ◌≤◌, ◌↔◌, false, Some, IfOk, IsErrOf};
+ghost use Rattle.mkv_io.specs.Bounds.{ReadsUpTo};
 ghost use Rattle.mkv_io.specs.Faults.{HasCause};
 ghost use Rattle.mkv_io.specs.Sources.{IfTold, IsLive, OnlyReads, file_size};
 ghost use Rattle.mkv_schema.specs.Element.{is_unknown, known, stated_end};
@@ -67,7 +68,7 @@ pub fn load<R: Reads>(
     ensures large { (d : Damage) → IsErrOf result (LoadEnd.TooLarge d) ↔ (too_large header.now ≡ Some d) }
     ensures same { OnlyReads R.Reads src.old src.new }
     ensures cause { HasCause is_load_fault (R.reading_faults src.old) (R.reading_faults src.new) result }
-    ensures octets { R.octets_read src.new ≤ R.octets_read src.old + known header.now.size }
+    ensures octets { ReadsUpTo R.Reads src.old src.new (known header.now.size) }
 {
     if let Some(damage) = too_large(header) {
         return Err(LoadEnd::TooLarge(damage));

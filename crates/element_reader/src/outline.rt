@@ -1,6 +1,7 @@
 //! The outline of a file: RFC 9559, section 4.5 (Data Layout).
 
 ghost use Rattle.std.specs.Prelude.{◌≡◌, ℕ, ◌+◌, ◌*◌, ◌≤◌, ◌<◌, ◌≢◌, List, length, slice_get, IfOk, IfSome, IsTrue, option_map};
+ghost use Rattle.mkv_io.specs.Bounds.{ReadsUpTo};
 ghost use Rattle.mkv_io.specs.Faults.{HasCause};
 ghost use Rattle.mkv_io.specs.Sources.{IfTold, IsLive, OnlyReads, file_size};
 ghost use Rattle.mkv_schema.specs.Outline.{Outlined};
@@ -66,7 +67,7 @@ impl Outline {
         ensures total { IfOk result (λ outline. outline.total ≡ file_size R.Reads src.old file) }
         ensures same { OnlyReads R.Reads src.old src.new }
         ensures cause { HasCause is_outline_fault (R.reading_faults src.old) (R.reading_faults src.new) result }
-        ensures octets { R.octets_read src.new ≤ R.octets_read src.old + 2 * file_size R.Reads src.old file }
+        ensures octets { ReadsUpTo R.Reads src.old src.new (2 * file_size R.Reads src.old file) }
     {
         Outline::read_after(alloc, src, file, 0)
     }
@@ -84,7 +85,7 @@ impl Outline {
         ensures total { IfOk result (λ outline. outline.total ≡ file_size R.Reads src.old file) }
         ensures same { OnlyReads R.Reads src.old src.new }
         ensures cause { HasCause is_outline_fault (R.reading_faults src.old) (R.reading_faults src.new) result }
-        ensures octets { R.octets_read src.new ≤ R.octets_read src.old + 2 * file_size R.Reads src.old file }
+        ensures octets { ReadsUpTo R.Reads src.old src.new (2 * file_size R.Reads src.old file) }
     {
         let total = src.size(file);
         let mut window = Window::new(alloc)?;

@@ -1,6 +1,7 @@
 //! The window.
 
 ghost use Rattle.std.specs.Prelude.{◌≡◌, ℕ, List, ◌+◌, ◌-◌, ◌≤◌, ◌⊎◌, length, take, OnOk, IsTrue, IsOk, IfOk, ◌↔◌};
+ghost use Rattle.mkv_io.specs.Bounds.{ReadsUpTo};
 ghost use Rattle.mkv_io.specs.Contents.{octets_from};
 ghost use Rattle.mkv_io.specs.Faults.{HasCause, is_failure};
 ghost use Rattle.mkv_io.specs.Sources.{IfTold, IsLive, OnlyReads, file_size};
@@ -107,7 +108,7 @@ impl Window {
         ensures ok { OnOk result (IfTold R.Reads src.old file (λ bytes. into.new ≡ octets_from bytes at (length into.old))) }
         ensures same { OnlyReads R.Reads src.old src.new }
         ensures cause { HasCause is_failure (R.reading_faults src.old) (R.reading_faults src.new) result }
-        ensures octets { R.octets_read src.new ≤ R.octets_read src.old + length into.old }
+        ensures octets { ReadsUpTo R.Reads src.old src.new (length into.old) }
         ensures kept { HasRange self.now at (length into.old) → IsOk result × (R.octets_read src.new ≡ R.octets_read src.old) }
     {
         if self.has(at, into.len()) {

@@ -1,6 +1,7 @@
 //! Attached files are written, each into a file of its own.
 
-ghost use Rattle.std.specs.Prelude.{◌≡◌, ◌+◌, ◌≤◌, ◌∷◌, [], length, option_map};
+ghost use Rattle.std.specs.Prelude.{◌≡◌, ◌≤◌, ◌∷◌, [], length, option_map};
+ghost use Rattle.mkv_io.specs.Bounds.{ReadsUpTo};
 ghost use Rattle.mkv_io.specs.Names.{AreOthers};
 ghost use Rattle.mkv_io.specs.Sources.{IsLive, file_size};
 ghost use Rattle.mkv_io.specs.Writing.{KeepsOthers};
@@ -42,7 +43,7 @@ fn write_attachment<F: Files>(
     ensures writes { WritesAttachment F.Reads F.Files.own source.now target.now files.old files.new result }
     ensures kept { KeepsOthers F.Reads F.Files.own (target.now.name ∷ []) files.old files.new }
     ensures cause { HasRemuxCause F.Reads F.Files.own files.old files.new result }
-    ensures reads { F.octets_read files.new ≤ F.octets_read files.old + file_size F.Reads files.old source.now.file }
+    ensures reads { ReadsUpTo F.Reads files.old files.new (file_size F.Reads files.old source.now.file) }
 {
     let Some(attachment) = attached_at(&source.attachments, target.id) else {
         return Ok(());

@@ -1,8 +1,8 @@
 //! The files are made.
 
-ghost use Rattle.std.specs.Prelude.{◌≡◌, ◌≢◌, ◌<◌, ◌≤◌, ◌^◌, ℕ};
+ghost use Rattle.std.specs.Prelude.{◌≡◌, ◌≢◌, ◌<◌, ◌≤◌, ◌^◌};
 ghost use Rattle.mkv_io.specs.Ends.{HasRemuxCause};
-ghost use Rattle.mkv_io.specs.Sources.{live_files};
+ghost use Rattle.mkv_io.specs.Seen.{SameLive};
 ghost use Rattle.mkv_io.specs.Told.{Told};
 ghost use Rattle.remuxer.specs.Output.{WritesOutputs};
 ghost use Rattle.generator.specs.Asked.{AsksToGenerate};
@@ -48,7 +48,7 @@ fn write_files<F: Files>(
 ) -> Result<(), RemuxEnd>
     requires { n < 2 ^ 18 }
     ensures writes { WritesOutputs (F.names files.old) (F.names files.new) (two_files n names.now) result }
-    ensures live { (file : ℕ) → (live_files F.Reads files.new).live file ≡ (live_files F.Reads files.old).live file }
+    ensures live { SameLive F.Reads files.old files.new }
     ensures asks { AsksToGenerate names.now (F.asked files.old) (F.asked files.new) }
     ensures cause { HasRemuxCause F.Reads F.Files.own files.old files.new result }
     ensures octets { F.octets_read files.new ≤ F.octets_read files.old }
@@ -68,7 +68,7 @@ fn merge_parts<F: Files>(
     requires { words ≡ parts_words names.now }
     ensures makes { MakesParts (F.names files.old) (F.names files.new) names.now both result }
     ensures octets { ReadsMerged (F.names files.old) names.now (F.octets_read files.old) (F.octets_read files.new) }
-    ensures live { (file : ℕ) → (live_files F.Reads files.new).live file ≡ (live_files F.Reads files.old).live file }
+    ensures live { SameLive F.Reads files.old files.new }
     ensures asks { AsksToGenerate names.now (F.asked files.old) (F.asked files.new) }
     ensures cause { HasFilesCause F.Reads F.Files.own files.old files.new result }
 {
@@ -92,7 +92,7 @@ fn make_parts<F: Files>(
 ) -> Result<Outcome, Stop>
     ensures makes { MakesParts (F.names files.old) (F.names files.new) names.now both result }
     ensures octets { ReadsMerged (F.names files.old) names.now (F.octets_read files.old) (F.octets_read files.new) }
-    ensures live { (file : ℕ) → (live_files F.Reads files.new).live file ≡ (live_files F.Reads files.old).live file }
+    ensures live { SameLive F.Reads files.old files.new }
     ensures asks { AsksToGenerate names.now (F.asked files.old) (F.asked files.new) }
     ensures cause { HasFilesCause F.Reads F.Files.own files.old files.new result }
 {
@@ -112,7 +112,7 @@ fn merge_both<F: Files>(
     requires { words ≡ both_words names.now }
     ensures makes { MakesBoth (F.names files.old) (F.names files.new) names.now result }
     ensures octets { ReadsBoth (F.names files.old) names.now (F.octets_read files.old) (F.octets_read files.new) }
-    ensures live { (file : ℕ) → (live_files F.Reads files.new).live file ≡ (live_files F.Reads files.old).live file }
+    ensures live { SameLive F.Reads files.old files.new }
     ensures asks { AsksToGenerate names.now (F.asked files.old) (F.asked files.new) }
     ensures cause { HasFilesCause F.Reads F.Files.own files.old files.new result }
 {
@@ -127,7 +127,7 @@ fn merge_both<F: Files>(
 fn make_both<F: Files>(alloc: Global, names: &Names, files: &mut F) -> Result<Outcome, Stop>
     ensures makes { MakesBoth (F.names files.old) (F.names files.new) names.now result }
     ensures octets { ReadsBoth (F.names files.old) names.now (F.octets_read files.old) (F.octets_read files.new) }
-    ensures live { (file : ℕ) → (live_files F.Reads files.new).live file ≡ (live_files F.Reads files.old).live file }
+    ensures live { SameLive F.Reads files.old files.new }
     ensures asks { AsksToGenerate names.now (F.asked files.old) (F.asked files.new) }
     ensures cause { HasFilesCause F.Reads F.Files.own files.old files.new result }
 {
@@ -148,7 +148,7 @@ pub(crate) fn make<F: Files>(
     requires apart { names.now.pictures ≢ names.now.sounds }
     ensures makes { Told (F.names files.old) (λ world. Makes (F.names files.old) (F.names files.new) n names.now result) }
     ensures octets { ReadsByNames F.Reads F.Files.own files.old files.new (λ _. most_made n names.now) }
-    ensures live { (file : ℕ) → (live_files F.Reads files.new).live file ≡ (live_files F.Reads files.old).live file }
+    ensures live { SameLive F.Reads files.old files.new }
     ensures asks { AsksToGenerate names.now (F.asked files.old) (F.asked files.new) }
     ensures cause { HasFilesCause F.Reads F.Files.own files.old files.new result }
 {

@@ -1,6 +1,7 @@
 //! Edits of inputs that are pending.
 
-ghost use Rattle.std.specs.Prelude.{◌+◌, ◌*◌, ◌≤◌, length, map, IfOk};
+ghost use Rattle.std.specs.Prelude.{◌*◌, length, map, IfOk};
+ghost use Rattle.mkv_io.specs.Bounds.{ReadsUpTo};
 ghost use Rattle.mkv_io.specs.Faults.{HasCause, is_read_fault};
 ghost use Rattle.mkv_io.specs.Told.{Told};
 ghost use Rattle.sidecar_edit.specs.declared.place.TheConstants.{HEAD};
@@ -22,7 +23,7 @@ pub fn first_pending<F: Files>(
     ensures exact { FindsPending F.Files.own words.now files.old result }
     ensures looks { LooksOnly F.Reads F.Files.own (map sidecar_of (file_names words.now)) files.old files.new }
     ensures cause { HasCause is_read_fault (F.reading_faults files.old) (F.reading_faults files.new) result }
-    ensures octets { F.octets_read files.new ≤ F.octets_read files.old + HEAD * length words.now }
+    ensures octets { ReadsUpTo F.Reads files.old files.new (HEAD * length words.now) }
 {
     for (k, input) in words.iter().enumerate() {
         if is_pending(alloc, input.name.as_str(), files)? {

@@ -1,6 +1,6 @@
 //! A walk over a file.
 
-ghost use Rattle.std.specs.Prelude.{◌≡◌, ◌+◌, ◌*◌, ◌≤◌, IfOk, length, replicate};
+ghost use Rattle.std.specs.Prelude.{◌≡◌, ◌*◌, ◌≤◌, IfOk, length, replicate};
 ghost use Rattle.std.specs.List.{All};
 ghost use Rattle.std.specs.Option.{option_copied};
 ghost use Rattle.mkv_io.specs.Bounds.{ReadsUpTo};
@@ -34,7 +34,7 @@ fn walk<R: Reads>(
     ensures small { IfOk result (λ survey. survey.end ≤ MOST_END) }
     ensures standing { R.standing src.new ≡ R.standing src.old }
     ensures cause { HasCause is_read_fault (R.reading_faults src.old) (R.reading_faults src.new) result }
-    ensures octets { R.octets_read src.new ≤ R.octets_read src.old + 2 * file_size R.Reads src.old cursor.old.file }
+    ensures octets { ReadsUpTo R.Reads src.old src.new (2 * file_size R.Reads src.old cursor.old.file) }
 {
     let mut survey = Survey {
         end: texts_end(links),

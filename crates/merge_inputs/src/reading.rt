@@ -1,6 +1,7 @@
 //! What is read of an input before its blocks.
 
-ghost use Rattle.std.specs.Prelude.{◌≡◌, ◌+◌, ◌*◌, ◌≤◌, IfOk};
+ghost use Rattle.std.specs.Prelude.{◌≡◌, ◌*◌, IfOk};
+ghost use Rattle.mkv_io.specs.Bounds.{ReadsUpTo};
 ghost use Rattle.mkv_io.specs.Faults.{HasCause, is_failure};
 ghost use Rattle.mkv_io.specs.Sources.{IfTold, IsLive, file_size, live_files};
 ghost use Rattle.merge_words.specs.Sound.{IsSoundFile};
@@ -40,7 +41,7 @@ fn read_file<R: Reads>(
     ensures events { IfOk result (λ input. IfTold R.Reads src.old file (AreOwnEvents input.blocks)) }
     ensures standing { R.standing src.new ≡ R.standing src.old }
     ensures cause { HasCause is_input_fault (R.reading_faults src.old) (R.reading_faults src.new) result }
-    ensures octets { R.octets_read src.new ≤ R.octets_read src.old + 24 * file_size R.Reads src.old file }
+    ensures octets { ReadsUpTo R.Reads src.old src.new (24 * file_size R.Reads src.old file) }
 {
     let outline = Outline::read_after(alloc, src, file, held)?;
     let Records {
@@ -88,7 +89,7 @@ fn read_text<R: Reads>(
     ensures events { IfOk result (λ input. IfTold R.Reads src.old file (AreOwnEvents input.blocks)) }
     ensures standing { R.standing src.new ≡ R.standing src.old }
     ensures cause { HasCause is_input_fault (R.reading_faults src.old) (R.reading_faults src.new) result }
-    ensures octets { R.octets_read src.new ≤ R.octets_read src.old + file_size R.Reads src.old file }
+    ensures octets { ReadsUpTo R.Reads src.old src.new (file_size R.Reads src.old file) }
 {
     let entries = read_entries(alloc, src, file)?;
     let tracks = text_tracks(alloc)?;
@@ -113,7 +114,7 @@ fn is_text<R: Reads>(words: &FileWords, src: &mut R, file: FileId) -> Result<boo
     ensures exact { IfTold R.Reads src.old file (λ bytes. IfOk result (λ is. is ≡ is_srt words.now.name bytes)) }
     ensures standing { R.standing src.new ≡ R.standing src.old }
     ensures cause { HasCause is_failure (R.reading_faults src.old) (R.reading_faults src.new) result }
-    ensures octets { R.octets_read src.new ≤ R.octets_read src.old + file_size R.Reads src.old file }
+    ensures octets { ReadsUpTo R.Reads src.old src.new (file_size R.Reads src.old file) }
 {
     if !is_srt_name(words.name.as_str()) {
         return Ok(false);
@@ -143,7 +144,7 @@ pub fn read_input<R: Reads>(
     ensures events { IfOk result (λ input. IfTold R.Reads src.old file (AreOwnEvents input.blocks)) }
     ensures standing { R.standing src.new ≡ R.standing src.old }
     ensures cause { HasCause is_input_fault (R.reading_faults src.old) (R.reading_faults src.new) result }
-    ensures octets { R.octets_read src.new ≤ R.octets_read src.old + 25 * file_size R.Reads src.old file }
+    ensures octets { ReadsUpTo R.Reads src.old src.new (25 * file_size R.Reads src.old file) }
 {
     if is_text(words, src, file)? {
         read_text(alloc, words, src, file)

@@ -3,6 +3,7 @@
 ghost use Rattle.std.specs.Prelude.{◌≡◌, ◌+◌, ◌*◌, ◌≤◌, length, IfOk};
 ghost use Rattle.std.specs.List.{All};
 ghost use Rattle.std.specs.Option.{unwrap_or};
+ghost use Rattle.mkv_io.specs.Bounds.{ReadsUpTo};
 ghost use Rattle.mkv_io.specs.Faults.{HasCause, is_read_fault};
 ghost use Rattle.mkv_io.specs.Sources.{live_files};
 ghost use Rattle.merge_model.specs.declared.limits.TheConstants.{MOST_LINKS};
@@ -27,7 +28,7 @@ fn end_of<R: Reads>(alloc: Global, input: &Input, src: &mut R) -> Result<u64, Re
     ensures near { IfOk result (λ end. end ≤ later_by (read_in input.now) + MOST_END) }
     ensures standing { R.standing src.new ≡ R.standing src.old }
     ensures cause { HasCause is_read_fault (R.reading_faults src.old) (R.reading_faults src.new) result }
-    ensures octets { R.octets_read src.new ≤ R.octets_read src.old + 2 * walked_of (live_files R.Reads src.old) input.now }
+    ensures octets { ReadsUpTo R.Reads src.old src.new (2 * walked_of (live_files R.Reads src.old) input.now) }
 {
     let links = links_of(alloc, input)?;
     let found = survey(alloc, src, &links)?;
@@ -71,7 +72,7 @@ pub fn set_in_place<R: Reads>(
     ensures placed { IfOk result (ArePlaced (live_files R.Reads src.new) inputs) }
     ensures standing { R.standing src.new ≡ R.standing src.old }
     ensures cause { HasCause is_read_fault (R.reading_faults src.old) (R.reading_faults src.new) result }
-    ensures octets { R.octets_read src.new ≤ R.octets_read src.old + 2 * walked_length (live_files R.Reads src.old) inputs }
+    ensures octets { ReadsUpTo R.Reads src.old src.new (2 * walked_length (live_files R.Reads src.old) inputs) }
 {
     let mut placed = List::new(alloc);
     for input in inputs.into_vec() {

@@ -1,6 +1,7 @@
 //! All attached files of a file: RFC 9559, section 5.1.6 (Attachments Element).
 
 ghost use Rattle.std.specs.Prelude.{◌≡◌, ◌+◌, ◌*◌, ◌<◌, ◌≤◌, false, All, IfOk, OnOk};
+ghost use Rattle.mkv_io.specs.Bounds.{ReadsUpTo};
 ghost use Rattle.mkv_io.specs.Faults.{HasCause};
 ghost use Rattle.mkv_io.specs.Sources.{IfTold, IsLive, file_size};
 ghost use Rattle.mkv_schema.specs.Element.{is_unknown, known, stated_end};
@@ -90,8 +91,8 @@ fn read_children<R: Reads>(
     ensures sound { IfOk result (AreAttachedIn file (stated_end header.now)) }
     ensures standing { R.standing src.new ≡ R.standing src.old }
     ensures cause { HasCause is_attachments_fault (R.reading_faults src.old) (R.reading_faults src.new) result }
-    ensures octets { R.octets_read src.new ≤ R.octets_read src.old + 16 * known header.now.size }
-    ensures few { R.octets_read src.new ≤ R.octets_read src.old + 2 * MOST_OF_ATTACHMENTS }
+    ensures octets { ReadsUpTo R.Reads src.old src.new (16 * known header.now.size) }
+    ensures few { ReadsUpTo R.Reads src.old src.new (2 * MOST_OF_ATTACHMENTS) }
 {
     let end = header.body + known(header.size);
     let mut counts = Counts::new();
@@ -145,8 +146,8 @@ pub fn read_attachments<R: Reads>(
     ensures cause { HasCause is_attachments_fault (R.reading_faults src.old) (R.reading_faults src.new) result }
 
     // Of a long Element no more is read than of one whose data are empty.
-    ensures octets { R.octets_read src.new ≤ R.octets_read src.old + 16 * known header.now.size }
-    ensures few { R.octets_read src.new ≤ R.octets_read src.old + 2 * MOST_OF_ATTACHMENTS }
+    ensures octets { ReadsUpTo R.Reads src.old src.new (16 * known header.now.size) }
+    ensures few { ReadsUpTo R.Reads src.old src.new (2 * MOST_OF_ATTACHMENTS) }
 {
     let found = read_children(alloc, src, file, header)?;
     let attachments = good_files(found)?;

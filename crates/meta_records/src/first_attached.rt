@@ -1,7 +1,8 @@
 //! The attached files of the first Attachments: RFC 9559, section 5.1.6 (Attachments Element).
 
-ghost use Rattle.std.specs.Prelude.{◌≡◌, ◌+◌, ◌*◌, ◌≤◌, List, ℕ, Ok, IfOk};
+ghost use Rattle.std.specs.Prelude.{◌≡◌, ◌*◌, List, Ok, IfOk};
 ghost use Rattle.std.specs.List.{All};
+ghost use Rattle.mkv_io.specs.Bounds.{ReadsUpTo};
 ghost use Rattle.mkv_io.specs.Faults.{HasCause};
 ghost use Rattle.mkv_io.specs.Sources.{IfTold, IsLive, file_size};
 ghost use Rattle.element_reader.specs.Outline.{is_outline_fault, outline_in};
@@ -32,8 +33,8 @@ pub fn first_attachments<R: Reads>(
     ensures sound { IfOk result (All (IsAttachedIn file outline.now.total)) }
     ensures standing { R.standing src.new ≡ R.standing src.old }
     ensures cause { HasCause is_outline_fault (R.reading_faults src.old) (R.reading_faults src.new) result }
-    ensures octets { R.octets_read src.new ≤ R.octets_read src.old + 16 * file_size R.Reads src.old file }
-    ensures few { R.octets_read src.new ≤ R.octets_read src.old + 2 * MOST_OF_ATTACHMENTS }
+    ensures octets { ReadsUpTo R.Reads src.old src.new (16 * file_size R.Reads src.old file) }
+    ensures few { ReadsUpTo R.Reads src.old src.new (2 * MOST_OF_ATTACHMENTS) }
 {
     let Some(header) = outline.first(ATTACHMENTS) else {
         return Ok(List::new(alloc));

@@ -1,6 +1,7 @@
 //! The header of a child, read from the file.
 
 ghost use Rattle.std.specs.Prelude.{◌≡◌, ◌+◌, ◌-◌, ◌≤◌, length, min, Ok, Err, IfOk, IfErr};
+ghost use Rattle.mkv_io.specs.Bounds.{ReadsUpTo};
 ghost use Rattle.mkv_io.specs.declared.outside.TheConstants.{LONGEST_FILE};
 ghost use Rattle.mkv_io.specs.Faults.{HasCause};
 ghost use Rattle.mkv_io.specs.Sources.{IfTold, IsLive, file_size};
@@ -28,7 +29,7 @@ pub(crate) fn child_header<R: Reads>(
     ensures child { IfOk result (IsChild at end) }
     ensures standing { R.standing src.new ≡ R.standing src.old }
     ensures cause { HasCause is_attachments_fault (R.reading_faults src.old) (R.reading_faults src.new) result }
-    ensures octets { R.octets_read src.new ≤ R.octets_read src.old + min (end - at) LONGEST_HEADER }
+    ensures octets { ReadsUpTo R.Reads src.old src.new (min (end - at) LONGEST_HEADER) }
 {
     let mut buffer = [0; LONGEST_HEADER as usize];
     let len = (end - at).min(LONGEST_HEADER);

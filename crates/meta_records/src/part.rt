@@ -1,6 +1,7 @@
 //! A child of an AttachedFile: RFC 9559, section 5.1.6 (Attachments Element).
 
 ghost use Rattle.std.specs.Prelude.{◌≡◌, ◌+◌, ◌^◌, ◌<◌, ◌≤◌, IfOk};
+ghost use Rattle.mkv_io.specs.Bounds.{ReadsUpTo};
 ghost use Rattle.mkv_io.specs.Faults.{HasCause, is_read_fault};
 ghost use Rattle.mkv_io.specs.Sources.{IfTold, IsLive, file_size};
 ghost use Rattle.mkv_schema.specs.Element.{known, stated_end};
@@ -51,7 +52,7 @@ fn body_of<R: Reads>(
     ensures ok { IfOk result (λ body. IfTold R.Reads src.old file (λ bytes. body ≡ body_of bytes header.now)) }
     ensures standing { R.standing src.new ≡ R.standing src.old }
     ensures cause { HasCause is_read_fault (R.reading_faults src.old) (R.reading_faults src.new) result }
-    ensures octets { R.octets_read src.new ≤ R.octets_read src.old + known header.now.size }
+    ensures octets { ReadsUpTo R.Reads src.old src.new (known header.now.size) }
 {
     let mut body = vec![in alloc; 0; known(header.size) as usize]?;
     src.read_at(file, header.body, &mut body)?;
@@ -72,7 +73,7 @@ fn leaf_of<R: Reads>(
     ensures leaf { IfOk result IsPartLeaf }
     ensures standing { R.standing src.new ≡ R.standing src.old }
     ensures cause { HasCause is_attachments_fault (R.reading_faults src.old) (R.reading_faults src.new) result }
-    ensures octets { R.octets_read src.new ≤ R.octets_read src.old + octets_of part.now }
+    ensures octets { ReadsUpTo R.Reads src.old src.new (octets_of part.now) }
 {
     if part.id == FILE_DATA {
         return Ok(Tree::leaf(alloc, FILE_DATA, &[])?);

@@ -1,6 +1,6 @@
 //! The records of a file.
 
-ghost use Rattle.std.specs.Prelude.{◌≡◌, ◌+◌, ◌*◌, ◌≤◌, false, List, ℕ, Ok, IfOk, IfErr, IfSome};
+ghost use Rattle.std.specs.Prelude.{◌≡◌, ◌+◌, ◌*◌, ◌≤◌, false, List, Ok, IfOk, IfErr, IfSome};
 ghost use Rattle.mkv_schema.specs.declared.ids.TheConstants.{INFO as INFO_ID, TRACKS as TRACKS_ID};
 ghost use Rattle.mkv_io.specs.Faults.{HasCause};
 ghost use Rattle.mkv_io.specs.Sources.{IfTold, IsLive, file_size};
@@ -8,7 +8,7 @@ ghost use Rattle.tree_format.specs.Standing.{IsSoundOf};
 ghost use Rattle.meta_records.specs.declared.limits.TheConstants.{MOST_OF_ATTACHMENTS};
 ghost use Rattle.element_reader.specs.Outline.{is_outline_fault, outline_in};
 ghost use Rattle.meta_records.specs.Records.{AreGood, AreRead, IfOutlinedAs, IsGoodInfo, ReadsAs, ReadsRecords, file_records, good_info, good_tracks, scale_of_info};
-ghost use Rattle.mkv_io.specs.Bounds.{ReadsOf};
+ghost use Rattle.mkv_io.specs.Bounds.{ReadsOf, ReadsUpTo};
 
 use crate::first::first_tree;
 use crate::first_attached::first_attachments;
@@ -55,7 +55,7 @@ pub fn read_records<R: Reads>(
     ensures cause { HasCause is_outline_fault (R.reading_faults src.old) (R.reading_faults src.new) result }
 
     // Info, Tracks, Chapters and Tags are each read once, and of Attachments no data.
-    ensures octets { R.octets_read src.new ≤ R.octets_read src.old + 20 * file_size R.Reads src.old file }
+    ensures octets { ReadsUpTo R.Reads src.old src.new (20 * file_size R.Reads src.old file) }
     ensures few { ReadsOf R.Reads src.old src.new file (λ size. 4 * size + 2 * MOST_OF_ATTACHMENTS) }
 {
     let info = first_tree(alloc, outline, src, file, INFO)?;

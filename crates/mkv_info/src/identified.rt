@@ -1,6 +1,7 @@
 //! A file as one line of JSON.
 
-ghost use Rattle.std.specs.Prelude.{◌≡◌, ◌+◌, ◌≤◌, IfOk};
+ghost use Rattle.std.specs.Prelude.{◌≡◌, IfOk};
+ghost use Rattle.mkv_io.specs.Bounds.{ReadsUpTo};
 ghost use Rattle.mkv_io.specs.Sources.{IsLive, file_size};
 ghost use Rattle.mkv_info.specs.Sound.{CanBeTold};
 ghost use Rattle.mkv_lines.specs.Ordinary.{IsOrdinary};
@@ -31,7 +32,7 @@ pub fn identify_file<R: Reads, P: Report>(
     ensures ordinary { IfOk result IsOrdinary }
     ensures standing { R.standing src.new ≡ R.standing src.old }
     ensures cause { HasTellStop R.Reads P.Report src.old src.new report.old report.new result }
-    ensures octets { R.octets_read src.new ≤ R.octets_read src.old + most_to_identify (file_size R.Reads src.old file) }
+    ensures octets { ReadsUpTo R.Reads src.old src.new (most_to_identify (file_size R.Reads src.old file)) }
 {
     match read_file(alloc, src, file) {
         Ok(read) => tell(alloc, name, &read, report),

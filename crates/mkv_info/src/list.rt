@@ -1,6 +1,7 @@
 //! A file's Elements, a line for each.
 
-ghost use Rattle.std.specs.Prelude.{◌≡◌, ◌+◌, ◌*◌, ◌≤◌, IfOk};
+ghost use Rattle.std.specs.Prelude.{◌≡◌, ◌*◌, IfOk};
+ghost use Rattle.mkv_io.specs.Bounds.{ReadsUpTo};
 ghost use Rattle.mkv_io.specs.Sources.{IsLive, file_size};
 ghost use Rattle.elements.specs.Window.{nothing_at};
 ghost use Rattle.mkv_lines.specs.Ordinary.{IsOrdinary};
@@ -30,7 +31,7 @@ pub fn list_file<R: Reads, P: Report>(
     ensures ordinary { IfOk result IsOrdinary }
     ensures standing { R.standing src.new ≡ R.standing src.old }
     ensures cause { HasTellStop R.Reads P.Report src.old src.new report.old report.new result }
-    ensures octets { R.octets_read src.new ≤ R.octets_read src.old + most_to_list (file_size R.Reads src.old file) }
+    ensures octets { ReadsUpTo R.Reads src.old src.new (most_to_list (file_size R.Reads src.old file)) }
 {
     match Outline::read(alloc, src, file) {
         Ok(outline) => list_outline(alloc, name, &outline, src, file, report),
@@ -57,7 +58,7 @@ fn list_outline<R: Reads, P: Report>(
     ensures ordinary { IfOk result IsOrdinary }
     ensures standing { R.standing src.new ≡ R.standing src.old }
     ensures cause { HasTellStop R.Reads P.Report src.old src.new report.old report.new result }
-    ensures octets { R.octets_read src.new ≤ R.octets_read src.old + 2 * file_size R.Reads src.old file }
+    ensures octets { ReadsUpTo R.Reads src.old src.new (2 * file_size R.Reads src.old file) }
 {
     match tracks_of(alloc, outline, src, file)? {
         Ok(tracks) => {
@@ -82,7 +83,7 @@ fn say_elements<R: Reads, P: Report>(
     ensures said { SaysElements R.Reads P.Report src.old file outline.now report.old report.new result }
     ensures standing { R.standing src.new ≡ R.standing src.old }
     ensures cause { HasTellStop R.Reads P.Report src.old src.new report.old report.new result }
-    ensures octets { R.octets_read src.new ≤ R.octets_read src.old + file_size R.Reads src.old file }
+    ensures octets { ReadsUpTo R.Reads src.old src.new (file_size R.Reads src.old file) }
 {
     let Ok(mut window) = Window::new(alloc) else {
         return Err(Stop::Memory);
@@ -107,7 +108,7 @@ fn say_level_1<R: Reads, P: Report>(
     ensures said { SaysOf R.Reads P.Report src.old file report.old report.new result (level_1_lines outline.now.segment) }
     ensures standing { R.standing src.new ≡ R.standing src.old }
     ensures cause { HasTellStop R.Reads P.Report src.old src.new report.old report.new result }
-    ensures octets { R.octets_read src.new ≤ R.octets_read src.old + file_size R.Reads src.old file }
+    ensures octets { ReadsUpTo R.Reads src.old src.new (file_size R.Reads src.old file) }
 {
     let segment = outline.segment();
     let end = segment_bound(&segment, outline.total());

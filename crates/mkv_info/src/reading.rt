@@ -1,6 +1,7 @@
 //! What is read of a file to identify it.
 
-ghost use Rattle.std.specs.Prelude.{◌≡◌, ◌+◌, ◌≤◌, IfOk};
+ghost use Rattle.std.specs.Prelude.{◌≡◌, IfOk};
+ghost use Rattle.mkv_io.specs.Bounds.{ReadsUpTo};
 ghost use Rattle.mkv_io.specs.Faults.{HasCause};
 ghost use Rattle.mkv_io.specs.Sources.{IfTold, IsLive, file_size};
 ghost use Rattle.element_reader.specs.Outline.{is_outline_fault};
@@ -29,7 +30,7 @@ pub fn read_file<R: Reads>(alloc: Global, src: &mut R, file: FileId) -> Result<F
     ensures sound { IfOk result (λ read. CanBeTold read.records) }
     ensures standing { R.standing src.new ≡ R.standing src.old }
     ensures cause { HasCause is_outline_fault (R.reading_faults src.old) (R.reading_faults src.new) result }
-    ensures octets { R.octets_read src.new ≤ R.octets_read src.old + most_to_identify (file_size R.Reads src.old file) }
+    ensures octets { ReadsUpTo R.Reads src.old src.new (most_to_identify (file_size R.Reads src.old file)) }
 {
     let outline = Outline::read(alloc, src, file)?;
     let records = read_records(alloc, &outline, src, file)?;

@@ -1,7 +1,8 @@
 //! The tracks of a file, a line for each.
 
-ghost use Rattle.std.specs.Prelude.{◌≡◌, ◌+◌, ◌≤◌, IfErr, IfOk, IfSome};
+ghost use Rattle.std.specs.Prelude.{◌≡◌, IfErr, IfOk, IfSome};
 ghost use Rattle.mkv_schema.specs.declared.ids.TheConstants.{TRACKS as TRACKS_ID};
+ghost use Rattle.mkv_io.specs.Bounds.{ReadsUpTo};
 ghost use Rattle.mkv_io.specs.Faults.{HasCause, is_read_fault};
 ghost use Rattle.mkv_io.specs.Sources.{IfTold, IsLive, file_size};
 ghost use Rattle.tree_format.specs.Standing.{IsSoundOf};
@@ -31,7 +32,7 @@ pub fn tracks_of<R: Reads>(
     ensures ok { IfOk result (λ found. IfTold R.Reads src.old file (AreTracksOf outline.now found)) }
     ensures standing { R.standing src.new ≡ R.standing src.old }
     ensures cause { HasCause is_read_fault (R.reading_faults src.old) (R.reading_faults src.new) result }
-    ensures octets { R.octets_read src.new ≤ R.octets_read src.old + file_size R.Reads src.old file }
+    ensures octets { ReadsUpTo R.Reads src.old src.new (file_size R.Reads src.old file) }
 {
     match first_tree(alloc, outline, src, file, TRACKS) {
         Ok(tracks) => tracks_in(alloc, &tracks),

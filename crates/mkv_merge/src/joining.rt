@@ -1,7 +1,7 @@
 //! Files are merged, and no line is said.
 
-ghost use Rattle.std.specs.Prelude.{◌≡◌, ℕ, []};
-ghost use Rattle.mkv_io.specs.Sources.{live_files};
+ghost use Rattle.std.specs.Prelude.{◌≡◌, []};
+ghost use Rattle.mkv_io.specs.Seen.{SameLive};
 ghost use Rattle.mkv_io.specs.Told.{Told};
 ghost use Rattle.input_files.specs.Inputs.{AreInputs, file_names};
 ghost use Rattle.merge_words.specs.Sound.{IsSoundMerge};
@@ -39,7 +39,7 @@ fn join_opened<F: Files>(
     requires words { IsApartMerge words.now }
     requires inputs { AreInputs F.Reads F.Files.own (file_names words.now.files) files.old ids.now }
     ensures merges { MergesLive F.Reads F.Files.own files.old files.new words.now ids.now (as_merged result) }
-    ensures live { (file : ℕ) → (live_files F.Reads files.new).live file ≡ (live_files F.Reads files.old).live file }
+    ensures live { SameLive F.Reads files.old files.new }
     ensures cause { HasFilesCause F.Reads F.Files.own files.old files.new (as_merged result) }
     ensures asks { AsksToMerge [] words.now (F.asked files.old) (F.asked files.new) }
     ensures octets { ReadsLive F.Reads files.old files.new words.now ids.now }
@@ -60,7 +60,7 @@ fn join_named<F: Files>(
 ) -> Result<Summary, MergeEnd>
     requires { IsSoundMerge words.now }
     ensures merges { MergesAlone F.Files.own files.old files.new words.now (as_merged result) }
-    ensures live { (file : ℕ) → (live_files F.Reads files.new).live file ≡ (live_files F.Reads files.old).live file }
+    ensures live { SameLive F.Reads files.old files.new }
     ensures cause { HasFilesCause F.Reads F.Files.own files.old files.new (as_merged result) }
     ensures asks { AsksToMerge (file_names words.now.files) words.now (F.asked files.old) (F.asked files.new) }
     ensures octets { Told (F.names files.old) (λ world. ReadsUpTo F.Reads files.old files.new (most_lone world words.now)) }
@@ -82,7 +82,7 @@ pub fn merge_files<F: Files>(
 ) -> Result<Merged, Stop>
     requires { IsSoundMerge words.now }
     ensures merges { MergesAlone F.Files.own files.old files.new words.now result }
-    ensures live { (file : ℕ) → (live_files F.Reads files.new).live file ≡ (live_files F.Reads files.old).live file }
+    ensures live { SameLive F.Reads files.old files.new }
     ensures cause { HasFilesCause F.Reads F.Files.own files.old files.new result }
     ensures asks { AsksToMerge (file_names words.now.files) words.now (F.asked files.old) (F.asked files.new) }
     ensures octets { Told (F.names files.old) (λ world. ReadsUpTo F.Reads files.old files.new (most_lone world words.now)) }

@@ -1,6 +1,7 @@
 //! What keeps the files of a merge from being read.
 
-ghost use Rattle.std.specs.Prelude.{◌≡◌, ◌+◌, ◌≤◌, IfOk};
+ghost use Rattle.std.specs.Prelude.{◌≡◌, IfOk};
+ghost use Rattle.mkv_io.specs.Bounds.{ReadsUpTo};
 ghost use Rattle.mkv_io.specs.Faults.{HasCause, is_read_fault};
 ghost use Rattle.mkv_io.specs.Told.{Told};
 ghost use Rattle.sidecar_edit.specs.Pending.{LooksOnly};
@@ -27,7 +28,7 @@ fn pending_of<F: Files>(
     ensures exact { Told (F.names files.old) (λ world. IfOk result (λ why. why ≡ pending_of world words.now)) }
     ensures looks { LooksOnly F.Reads F.Files.own (sidecars_of words.now) files.old files.new }
     ensures cause { HasCause is_read_fault (F.reading_faults files.old) (F.reading_faults files.new) result }
-    ensures octets { F.octets_read files.new ≤ F.octets_read files.old + most_looked words.now }
+    ensures octets { ReadsUpTo F.Reads files.old files.new (most_looked words.now) }
 {
     if let Some(input) = first_pending(alloc, words.files.as_slice(), files)? {
         return Ok(Some(Refusal::PendingInput { input }));
@@ -49,7 +50,7 @@ pub fn begun_refusal<F: Files>(
     ensures exact { Told (F.names files.old) (λ world. IfOk result (λ why. why ≡ begun_refusal world words.now texts.now)) }
     ensures looks { LooksOnly F.Reads F.Files.own (sidecars_of words.now) files.old files.new }
     ensures cause { HasCause is_read_fault (F.reading_faults files.old) (F.reading_faults files.new) result }
-    ensures octets { F.octets_read files.new ≤ F.octets_read files.old + most_looked words.now }
+    ensures octets { ReadsUpTo F.Reads files.old files.new (most_looked words.now) }
 {
     match missing_text(texts)? {
         Some(why) => Ok(Some(why)),

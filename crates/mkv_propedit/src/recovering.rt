@@ -1,6 +1,7 @@
 //! A file and its sidecar are opened, and recovered.
 
-ghost use Rattle.std.specs.Prelude.{◌+◌, ◌≤◌, IfOk};
+ghost use Rattle.std.specs.Prelude.{IfOk};
+ghost use Rattle.mkv_io.specs.Bounds.{ReadsUpTo};
 ghost use Rattle.mkv_disk.specs.Calls.{AtRest, IsReady};
 ghost use Rattle.mkv_lines.specs.Code.{status_of};
 ghost use Rattle.mkv_lines.specs.Ordinary.{IsOrdinary};
@@ -28,7 +29,7 @@ pub fn recover_of<D: Disk, R: Report>(
     ensures verdict { SaysOfRecover D.Disk.own R.Report disk.old report.old report.new result name.now }
     ensures ordinary { IfOk result IsOrdinary }
     ensures recovery { IsRecoveryOf D.Reads D.Disk.own name.now disk.old disk.new (status_of result) }
-    ensures octets { D.octets_read disk.new ≤ D.octets_read disk.old + most_to_recover }
+    ensures octets { ReadsUpTo D.Reads disk.old disk.new most_to_recover }
     ensures cause { HasDiskStop D.Reads D.Disk.own disk.old disk.new (R.faults report.old) (R.faults report.new) result }
     ensures last { SaysLast (R.lines report.old) (R.lines report.new) result }
 {

@@ -12,7 +12,7 @@ ghost use Rattle.edit_plan.specs.Answer.{Gives, is_plan_fault};
 ghost use Rattle.edit_plan.specs.Shown.{written};
 ghost use Rattle.reindex.specs.Found.{IsFound, WritesFound, ends_as};
 ghost use Rattle.reindex.specs.Plan.{indexed_of};
-ghost use Rattle.mkv_io.specs.Bounds.{ReadsOf};
+ghost use Rattle.mkv_io.specs.Bounds.{ReadsOf, ReadsUpTo};
 
 use crate::found::Found;
 use crate::indexed::Indexed;
@@ -49,7 +49,7 @@ fn find<R: Reads>(alloc: Global, src: &mut R, file: FileId) -> Result<Found, Out
     ensures total { IfOk result (λ found. found.outline.total ≡ file_size R.Reads src.old file) }
     ensures standing { R.standing src.new ≡ R.standing src.old }
     ensures cause { HasCause is_outline_fault (R.reading_faults src.old) (R.reading_faults src.new) result }
-    ensures octets { R.octets_read src.new ≤ R.octets_read src.old + 25 * file_size R.Reads src.old file }
+    ensures octets { ReadsUpTo R.Reads src.old src.new (25 * file_size R.Reads src.old file) }
 {
     let outline = Outline::read(alloc, src, file)?;
     let trees = read_trees(alloc, &outline, src, file)?;
@@ -69,7 +69,7 @@ fn writes_of<R: Reads>(
     ensures exact { WritesFound R.Reads src.old file found.now result }
     ensures standing { R.standing src.new ≡ R.standing src.old }
     ensures cause { HasCause is_plan_fault (R.reading_faults src.old) (R.reading_faults src.new) result }
-    ensures octets { R.octets_read src.new ≤ R.octets_read src.old + file_size R.Reads src.old file }
+    ensures octets { ReadsUpTo R.Reads src.old src.new (file_size R.Reads src.old file) }
 {
     let outline = &found.outline;
     if let Some(refusal) = twin_refusal(outline, CUES) {
@@ -91,7 +91,7 @@ fn plan_of<D: Disk>(alloc: Global, disk: &mut D, writes: &[Write]) -> Result<Pla
     ensures some { IfOk result (λ plan. 1 ≤ length plan.head.places) }
     ensures standing { D.standing disk.new ≡ D.standing disk.old }
     ensures cause { HasCause is_plan_fault (D.reading_faults disk.old) (D.reading_faults disk.new) result }
-    ensures octets { D.octets_read disk.new ≤ D.octets_read disk.old + KEPT_OCTETS }
+    ensures octets { ReadsUpTo D.Reads disk.old disk.new KEPT_OCTETS }
 {
     let mut first = [0; KEPT as usize];
     let count = read_first(disk, MEDIA, &mut first)?;

@@ -1,6 +1,7 @@
 //! The points of a file are read.
 
-ghost use Rattle.std.specs.Prelude.{◌≡◌, ◌≤◌, ◌+◌, ◌*◌, max, length, IfOk};
+ghost use Rattle.std.specs.Prelude.{◌≡◌, ◌≤◌, ◌*◌, max, length, IfOk};
+ghost use Rattle.mkv_io.specs.Bounds.{ReadsUpTo};
 ghost use Rattle.mkv_io.specs.Faults.{HasCause, is_read_fault};
 ghost use Rattle.mkv_io.specs.Sources.{IsLive, OnlyReads, file_size, live_files};
 ghost use Rattle.element_reader.specs.Outline.{is_outline_fault};
@@ -67,7 +68,7 @@ fn collect<R: Reads>(
     ensures few { IfOk result (λ points. length points ≤ MOST_CUES) }
     ensures standing { R.standing src.new ≡ R.standing src.old }
     ensures cause { HasCause is_outline_fault (R.reading_faults src.old) (R.reading_faults src.new) result }
-    ensures octets { R.octets_read src.new ≤ R.octets_read src.old + 3 * file_size R.Reads src.old cursor.old.file }
+    ensures octets { ReadsUpTo R.Reads src.old src.new (3 * file_size R.Reads src.old cursor.old.file) }
 {
     let mut points = List::new(alloc);
     'steps: loop {
@@ -95,7 +96,7 @@ pub fn read_points<R: Reads>(
     ensures few { IfOk result (λ points. length points ≤ MOST_CUES) }
     ensures standing { R.standing src.new ≡ R.standing src.old }
     ensures cause { HasCause is_outline_fault (R.reading_faults src.old) (R.reading_faults src.new) result }
-    ensures octets { R.octets_read src.new ≤ R.octets_read src.old + 3 * file_size R.Reads src.old file }
+    ensures octets { ReadsUpTo R.Reads src.old src.new (3 * file_size R.Reads src.old file) }
 {
     let by = Indexing {
         tracks: indexed_tracks(alloc, trees.tracks.as_slice())?,

@@ -1,6 +1,7 @@
 //! The sidecar of a file is looked into.
 
-ghost use Rattle.std.specs.Prelude.{◌≡◌, ◌+◌, ◌≤◌, [], ◌∷◌, IfOk};
+ghost use Rattle.std.specs.Prelude.{◌≡◌, [], ◌∷◌, IfOk};
+ghost use Rattle.mkv_io.specs.Bounds.{ReadsUpTo};
 ghost use Rattle.mkv_io.specs.Faults.{HasCause, is_read_fault};
 ghost use Rattle.mkv_io.specs.Told.{Told};
 ghost use Rattle.sidecar_edit.specs.declared.place.TheConstants.{HEAD};
@@ -19,7 +20,7 @@ pub fn is_pending<F: Files>(alloc: Global, name: &str, files: &mut F) -> Result<
     ensures exact { Told (F.names files.old) (λ world. IfOk result (λ pending. pending ≡ is_pending world name.now)) }
     ensures looks { LooksOnly F.Reads F.Files.own (sidecar_of name.now ∷ []) files.old files.new }
     ensures cause { HasCause is_read_fault (F.reading_faults files.old) (F.reading_faults files.new) result }
-    ensures octets { F.octets_read files.new ≤ F.octets_read files.old + HEAD }
+    ensures octets { ReadsUpTo F.Reads files.old files.new HEAD }
 {
     let sidecar = sidecar_name(alloc, name)?;
     let file = match files.open_file(sidecar.as_str()) {

@@ -1,6 +1,7 @@
 //! What a sidecar holds, read from a file.
 
-ghost use Rattle.std.specs.Prelude.{◌≡◌, ◌+◌, ◌≤◌, ℕ, min, false, IfOk, IfSome, length, take};
+ghost use Rattle.std.specs.Prelude.{◌≡◌, min, false, IfOk, IfSome, length, take};
+ghost use Rattle.mkv_io.specs.Bounds.{ReadsUpTo};
 ghost use Rattle.mkv_io.specs.Faults.{HasCause, is_failure};
 ghost use Rattle.mkv_io.specs.Sources.{IfRead, IfTold, IsLive, OnlyReads, file_size};
 ghost use Rattle.sidecar_edit.specs.Gate.{IsLiveHead, state};
@@ -23,7 +24,7 @@ pub fn read_first<R: Reads>(src: &mut R, file: FileId, first: &mut [u8]) -> Resu
     ensures ok { IfRead R.Reads src.old file result (λ count bytes. take count first.new ≡ take (length first.old) bytes) }
     ensures only { OnlyReads R.Reads src.old src.new }
     ensures cause { HasCause is_failure (R.reading_faults src.old) (R.reading_faults src.new) result }
-    ensures octets { R.octets_read src.new ≤ R.octets_read src.old + length first.old }
+    ensures octets { ReadsUpTo R.Reads src.old src.new (length first.old) }
 {
     let count = src.size(file).min(first.len() as u64) as usize;
     src.read_at(file, 0, &mut first[..count])?;
@@ -36,7 +37,7 @@ pub fn state<R: Reads>(src: &mut R, file: FileId) -> Result<Gate, Failed>
     ensures ok { IfOk result (λ gate. IfTold R.Reads src.old file (λ bytes. gate ≡ state bytes)) }
     ensures only { OnlyReads R.Reads src.old src.new }
     ensures cause { HasCause is_failure (R.reading_faults src.old) (R.reading_faults src.new) result }
-    ensures octets { R.octets_read src.new ≤ R.octets_read src.old + HEAD }
+    ensures octets { ReadsUpTo R.Reads src.old src.new HEAD }
 {
     let mut head = [0; HEAD as usize];
     let count = read_first(src, file, &mut head)?;
@@ -51,7 +52,7 @@ pub fn unfit_medium<R: Reads>(head: &[u8], src: &mut R) -> Result<Option<Recover
     ensures refused { IfOk result (λ end. IfSome end (λ why. is_disk_fault why ≡ false)) }
     ensures only { OnlyReads R.Reads src.old src.new }
     ensures cause { HasCause is_failure (R.reading_faults src.old) (R.reading_faults src.new) result }
-    ensures octets { R.octets_read src.new ≤ R.octets_read src.old + KEPT }
+    ensures octets { ReadsUpTo R.Reads src.old src.new KEPT }
 {
     let mut first = [0; KEPT as usize];
     let count = read_first(src, MEDIA, &mut first)?;
