@@ -99,7 +99,7 @@ Turns takes bytes old new (Ok (Some step)) = GivesWanted takes bytes (shown old)
 Turns takes bytes old new (Err end) = left_of bytes (shown new) ≡ left_of bytes (shown old)
 
 -- The same whatever blocks are wanted.
-abbrev pub TurnsForAll : List ℕ → Walk → Walk → Result Turn ReadEnd → Type 0
+abbrev pub TurnsForAll : List ℕ → Walk → Walk → Result (Option Step) ReadEnd → Type 0
 TurnsForAll bytes old new result = (takes : Takes) → Turns takes bytes old new result
 
 -- The place goes on; where an Element is passed, fewer turns are left.

@@ -4,7 +4,7 @@ ghost use Rattle.std.specs.Prelude.{◌≡◌, ◌≤◌, ◌<◌, true, not, No
 ghost use Rattle.mkv_io.specs.Faults.{HasCause, is_read_fault};
 ghost use Rattle.mkv_io.specs.Sources.{IfRead, IfTold, live_files};
 ghost use Rattle.mkv_schema.specs.Element.{element_at};
-ghost use Rattle.mkv_schema.specs.Placed.{StandsAt, IsWhole};
+ghost use Rattle.elements.specs.Looks.{IsFound};
 ghost use Rattle.elements.specs.Parent.{setting_of};
 ghost use Rattle.cluster_reader.specs.Places.{behind_damage};
 ghost use Rattle.cluster_reader.specs.Walks.{FindsHere, IsReady, PaysFor, broken_off, ended};
@@ -44,8 +44,7 @@ impl Walk {
         requires before { self.old.place.at < end }
         requires within { end ≤ self.old.place.end }
         ensures ok { FindsHere R.Reads src.old self.old (setting_of parent) end result }
-        ensures placed { IfOk result (λ found. IfOk found (StandsAt self.old.place.at end)) }
-        ensures whole { IfOk result (λ found. IfOk found (IsWhole (setting_of parent) end)) }
+        ensures found { IfOk result (λ found. IfOk found (IsFound (setting_of parent) self.old.place.at end)) }
         ensures only { self.new ≡ record self.old { window = self.new.window } }
         ensures ready { IsReady (live_files R.Reads src.new) self.new }
         ensures standing { R.standing src.new ≡ R.standing src.old }

@@ -2,7 +2,7 @@ use Rattle.std.proofs.Common.{◌≡◌, ◌≤◌, true, false, Some, Ok, Err, 
 use Rattle.std.proofs.lemmas.Bool.Decides.{nat_tests}
 use Rattle.mkv_schema.specs.declared.ids.TheConstants.{CLUSTER}
 use Rattle.mkv_schema.specs.Element.{in_segment, end_in}
-use Rattle.mkv_schema.specs.Placed.{IsWhole}
+use Rattle.elements.specs.Looks.{IsFound}
 use Rattle.mkv_schema.specs.Elements.{id_of, ends_segment}
 use Rattle.block_format.specs.Elements.{with_limits}
 use Rattle.cluster_reader.specs.Left.{left}
@@ -55,10 +55,10 @@ returns-else-header-eq-CLUSTER-clause-gives g c = λ bytes told takes.
     let found = sym c.in-Ok.is ∙ c.in_ok-found.ensures.ok bytes told in
     let goes : ends_segment p.size (id_of (Ok h)) ≡ false = cc (c.ends_segment.ensures, c.id_of.ensures, c.if-ends_segment.false, c.in-Ok.is, kept) in
     let other : h.id ≡ CLUSTER → ⊥ = c.if-header-eq-CLUSTER.false in
-    let whole : IsWhole in_segment p.end h = rw c.in-Ok.is at c.in_ok-found.ensures.whole in
+    let there : IsFound in_segment p.at p.end h = rw c.in-Ok.is at c.in_ok-found.ensures.found in
     let moved = c.behind-walk.ensures ∙ ap (λ (q : Place). record q { at = end_in q.end h }) kept in
     ap (λ (w : Walk). left (with_limits w.scale) bytes c.behind-walk.result) c.element.ensures.only
-    ∙ sym (left-skips (with_limits c.args.walk.now.scale) bytes p c.behind-walk.result h c.requires.outside c.if-walk.false found goes other (whole.known (grind (arith, nat_tests, other))) moved)
+    ∙ sym (left-skips (with_limits c.args.walk.now.scale) bytes p c.behind-walk.result h c.requires.outside c.if-walk.false found goes other (there.whole.known (grind (arith, nat_tests, other))) moved)
 
 -- a damage ends what is read
 pub returns-in-Err-clause-gives : goal.returns-in-Err-clause-gives
