@@ -18,8 +18,8 @@ use crate::names::Names;
 use crate::words::{both_words, parts_words};
 use merge_words::MergeWords;
 use mkv_io::{Files, Reads, RemuxEnd};
-use mkv_lines::Stop;
-use mkv_merge::{Merged, Refusal, merge_files, stop_of};
+use mkv_lines::{Stop, stop_of};
+use mkv_merge::{Merged, Refusal, merge_files};
 use remux_plan::Summary;
 use std::alloc::{AllocError, Global};
 

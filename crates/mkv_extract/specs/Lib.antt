@@ -1,5 +1,4 @@
 pub mod Bound
-pub mod End
 pub mod Extract
 pub mod Names
 pub mod Read

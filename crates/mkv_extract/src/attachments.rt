@@ -10,11 +10,10 @@ ghost use Rattle.mkv_lines.specs.Command.{HasEnded};
 ghost use Rattle.mkv_io.specs.Bounds.{ReadsOf};
 ghost use Rattle.mkv_extract.specs.Steps.{TakesAttached};
 
-use crate::extract::stop_of;
 use crate::telling::{Missing, say_absent, tell_held};
 use extractors::{Source, write_attachments};
 use mkv_io::{Files, Report};
-use mkv_lines::{Status, Stop};
+use mkv_lines::{Status, Stop, stop_of};
 use std::alloc::Global;
 use word_values::Target;
 

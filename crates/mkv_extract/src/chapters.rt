@@ -12,11 +12,10 @@ ghost use Rattle.mkv_extract.specs.Extract.{chapters_taken, done_verdict, status
 ghost use Rattle.mkv_extract.specs.Read.{read_in};
 ghost use Rattle.mkv_extract.specs.Told.{outline_lines};
 
-use crate::extract::stop_of;
 use crate::telling::warn_outline;
 use extractors::{Source, write_chapters};
 use mkv_io::{Damage, Files, Report};
-use mkv_lines::{Line, Status, Stop, say};
+use mkv_lines::{Line, Status, Stop, say, stop_of};
 use std::alloc::Global;
 
 /// Takes the chapters of a source out as text, into a file of their own, and tells of it.

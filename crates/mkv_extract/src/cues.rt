@@ -8,11 +8,10 @@ ghost use Rattle.mkv_lines.specs.Command.{ComesTo, HasEnded};
 ghost use Rattle.mkv_extract.specs.Extract.{cues_taken, done_verdict};
 ghost use Rattle.mkv_extract.specs.Read.{read_in};
 
-use crate::extract::stop_of;
 use crate::telling::{Missing, say_absent, tell_held};
 use extractors::{Source, write_cues};
 use mkv_io::{Files, Report};
-use mkv_lines::{Status, Stop};
+use mkv_lines::{Status, Stop, stop_of};
 use std::alloc::Global;
 use word_values::Target;
 

@@ -9,7 +9,6 @@ ghost use Rattle.mkv_lines.specs.Command.{HasEnded, with_sidecar_head};
 ghost use Rattle.mkv_io.specs.Bounds.{ReadsOf};
 ghost use Rattle.mkv_lines.specs.Line.{text_of};
 ghost use Rattle.mkv_extract.specs.Bound.{ReadsToExtract, most_of_content, most_of_file};
-ghost use Rattle.mkv_extract.specs.End.{stop_of};
 ghost use Rattle.mkv_extract.specs.Extract.{unfit_line};
 ghost use Rattle.mkv_extract.specs.Steps.{TakesFile, TakesFit, TakesFrames, TakesSettled, TakesSource};
 ghost use Rattle.mkv_extract.specs.Takes.{CanTake, CanTakeFrom, Takes};
@@ -22,8 +21,8 @@ use crate::reading::read_source;
 use crate::telling::{Missing, say_absent, tell};
 use element_reader::OutlineEnd;
 use extractors::{Refusal, Source, Unfit, extract, job_refusal, targets_of};
-use mkv_io::{FileId, Files, OpenFault, RemuxEnd, Report};
-use mkv_lines::{Line, Status, Stop, refuse};
+use mkv_io::{FileId, Files, OpenFault, Report};
+use mkv_lines::{Line, Status, Stop, refuse, stop_of};
 use sidecar_edit::is_pending;
 use std::alloc::{AllocError, Global};
 use word_values::Job;
@@ -199,14 +198,4 @@ fn extract_source<F: Files, P: Report>(
         Err(end) => return Err(stop_of(end)),
     };
     tell(alloc, name, targets, count, &extracted, report)
-}
-
-/// Why a command stops whose extraction ended early.
-pub(crate) fn stop_of(end: RemuxEnd) -> Stop
-    ensures { result ≡ stop_of end }
-{
-    match end {
-        RemuxEnd::ReadFault | RemuxEnd::WriteFault => Stop::Files,
-        RemuxEnd::Memory => Stop::Memory,
-    }
 }

@@ -4,6 +4,8 @@ use Rattle.mkv_lines.specs.declared.status.Status.{Status}
 use Rattle.mkv_lines.specs.declared.status.Status.TheVariants.{Done, Warned, Refused, NoMemory, Outside}
 use Rattle.mkv_io.specs.declared.outside.ReadEnd.{ReadEnd}
 use Rattle.mkv_io.specs.declared.outside.ReadEnd.TheVariants as read_end
+use Rattle.mkv_io.specs.declared.remux_end.RemuxEnd.{RemuxEnd}
+use Rattle.mkv_io.specs.declared.remux_end.RemuxEnd.TheVariants as remux_end
 use Rattle.mkv_lines.specs.declared.status.Stop.{Stop}
 use Rattle.mkv_lines.specs.declared.status.Stop.TheVariants as stop
 
@@ -15,10 +17,15 @@ code_of Refused = 2
 code_of NoMemory = 3
 code_of Outside = 4
 
--- a call that read a file ended early
-abbrev pub stop_of : ReadEnd → Stop
-stop_of read_end.ReadFault = stop.Files
-stop_of read_end.Memory = stop.Memory
+-- why a command stops where a call that read a file ended early, and where one did that wrote files, too
+abbrev pub read_stop : ReadEnd → Stop
+read_stop read_end.ReadFault = stop.Files
+read_stop read_end.Memory = stop.Memory
+
+abbrev pub stop_of : RemuxEnd → Stop
+stop_of remux_end.ReadFault = stop.Files
+stop_of remux_end.WriteFault = stop.Files
+stop_of remux_end.Memory = stop.Memory
 
 -- the status with which a run ends whose command ended so
 abbrev pub status_of : Result Status Stop → Status

@@ -1,9 +1,9 @@
 //! How a run ends.
 
 ghost use Rattle.std.specs.Prelude.{◌≡◌};
-ghost use Rattle.mkv_lines.specs.Code.{code_of};
+ghost use Rattle.mkv_lines.specs.Code.{code_of, stop_of};
 
-use mkv_io::ReadEnd;
+use mkv_io::{ReadEnd, RemuxEnd};
 
 /// How a run ends.
 #[derive(Clone, Copy, Debug, PartialEq, Eq)]
@@ -49,14 +49,24 @@ pub enum Stop {
 }
 
 impl From<ReadEnd> for Stop {
-    ghost use Rattle.mkv_lines.specs.Code.{stop_of};
+    ghost use Rattle.mkv_lines.specs.Code.{read_stop};
 
-    ghost from_gives = { λ why stop. stop ≡ stop_of why };
+    ghost from_gives = { λ why stop. stop ≡ read_stop why };
 
     fn from(why: ReadEnd) -> Stop {
         match why {
             ReadEnd::ReadFault => Stop::Files,
             ReadEnd::Memory => Stop::Memory,
         }
+    }
+}
+
+/// Why a command stops where a call that reads and writes files ended early.
+pub fn stop_of(end: RemuxEnd) -> Stop
+    ensures { result ≡ stop_of end }
+{
+    match end {
+        RemuxEnd::ReadFault | RemuxEnd::WriteFault => Stop::Files,
+        RemuxEnd::Memory => Stop::Memory,
     }
 }

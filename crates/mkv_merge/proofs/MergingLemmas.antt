@@ -32,7 +32,7 @@ use Rattle.merge_words.specs.declared.output.MergeWords.{MergeWords}
 use Rattle.merge_plan.specs.Front.{attached_length, reads_of}
 use Rattle.merge_plan.specs.Plan.{Source, lanes_given}
 use Rattle.remux_plan.specs.declared.summary.Summary.{Summary}
-use Rattle.mkv_lines.specs.Code.{stop_of as read_stop}
+use Rattle.mkv_lines.specs.Code.{read_stop, stop_of}
 use Rattle.mkv_lines.specs.Command.{ComesTo, HasEnded, HasFilesCause, files_counts, seen_in}
 use Rattle.mkv_io.specs.Bounds.{ReadsUpTo}
 use Rattle.mkv_lines.specs.Faults.{Counts, HasStopCause}
@@ -46,7 +46,7 @@ use Rattle.mkv_lines.specs.declared.status.Stop.{Stop}
 use Rattle.mkv_lines.specs.declared.status.Stop.TheVariants as stop
 use Rattle.mkv_lines.proofs.VerdictLemmas.{IsStopped-before, Reaches-lines}
 use Rattle.mkv_merge.specs.Bound.{contents_length, files_size, most_of}
-use Rattle.mkv_merge.specs.Ends.{HasReadCause, end_as, stop_of, unopened}
+use Rattle.mkv_merge.specs.Ends.{HasReadCause, end_as, unopened}
 use Rattle.mkv_merge.specs.Joined.{as_merged}
 use Rattle.mkv_merge.specs.Merge.{merged_verdict, refusals_read, sources_in, verdict_of}
 use Rattle.mkv_merge.specs.Prepared.{AreTold, ReadsAs, sources_with}

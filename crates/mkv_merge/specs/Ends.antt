@@ -5,8 +5,6 @@ use Rattle.input_files.specs.declared.inputs_end.InputsEnd.TheVariants as inputs
 use Rattle.mkv_lines.specs.declared.status.Stop.{Stop}
 use Rattle.mkv_lines.specs.declared.status.Stop.TheVariants as stop
 use Rattle.mkv_io.specs.Faults.{HasRisen}
-use Rattle.mkv_io.specs.declared.remux_end.RemuxEnd.{RemuxEnd}
-use Rattle.mkv_io.specs.declared.remux_end.RemuxEnd.TheVariants as remux_end
 use Rattle.merge_plan.specs.declared.refusal.PlanEnd.{PlanEnd}
 use Rattle.merge_plan.specs.declared.refusal.PlanEnd.TheVariants as plan_end
 use Rattle.mkv_merge.specs.declared.refusal.MergeEnd.{MergeEnd}
@@ -40,12 +38,6 @@ unopened inputs_end.Memory = Stopped stop.Memory
 abbrev pub unplanned : PlanEnd → MergeEnd
 unplanned (plan_end.Refused why) = Refused (Plan why)
 unplanned plan_end.Memory = Stopped stop.Memory
-
--- why a command stops whose merge ended early
-abbrev pub stop_of : RemuxEnd → Stop
-stop_of remux_end.ReadFault = stop.Files
-stop_of remux_end.WriteFault = stop.Files
-stop_of remux_end.Memory = stop.Memory
 
 -- how what merges files ends, where this is what it has done, and what it makes of a refusal
 abbrev pub end_as : {A T : Type 0} → (A → T) → (Refusal → T) → Result A MergeEnd → Result T Stop

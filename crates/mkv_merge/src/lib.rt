@@ -15,5 +15,5 @@ mod writing;
 
 pub use joining::{Merged, merge_files};
 pub use merging::merge_of;
-pub use refusal::{Refusal, stop_of};
+pub use refusal::Refusal;
 pub use telling::{refuse, warn};

@@ -1,16 +1,16 @@
 //! Why nothing is merged.
 
 ghost use Rattle.std.specs.Prelude.{◌≡◌};
-ghost use Rattle.mkv_lines.specs.Code.{stop_of as read_stop};
+ghost use Rattle.mkv_lines.specs.Code.{read_stop, stop_of};
 ghost use Rattle.mkv_lines.specs.declared.status.Stop.TheVariants as stop;
-ghost use Rattle.mkv_merge.specs.Ends.{stop_of, unopened, unplanned};
+ghost use Rattle.mkv_merge.specs.Ends.{unopened, unplanned};
 ghost use Rattle.mkv_merge.specs.declared.refusal.MergeEnd.TheVariants as merge_end;
 
 use input_files::{InputsEnd, TextRefusal};
 use merge_inputs::InputRefusal;
 use merge_plan::{AppendDiffers, PlanEnd, PlanRefusal};
 use mkv_io::{ReadEnd, RemuxEnd, Text};
-use mkv_lines::Stop;
+use mkv_lines::{Stop, stop_of};
 use std::alloc::AllocError;
 
 /// Why nothing is merged. Inputs count from 0, in the order of the words.
@@ -100,15 +100,5 @@ impl From<PlanEnd> for MergeEnd {
             PlanEnd::Refused(why) => MergeEnd::Refused(Refusal::Plan(why)),
             PlanEnd::Memory => MergeEnd::Stopped(Stop::Memory),
         }
-    }
-}
-
-/// Why a command stops whose merge ended early.
-pub fn stop_of(end: RemuxEnd) -> Stop
-    ensures { result ≡ stop_of end }
-{
-    match end {
-        RemuxEnd::ReadFault | RemuxEnd::WriteFault => Stop::Files,
-        RemuxEnd::Memory => Stop::Memory,
     }
 }

@@ -13,11 +13,10 @@ ghost use Rattle.mkv_merge.specs.Stages.{EndsShort, ReachesPlanned, ReadsPlanned
 ghost use Rattle.mkv_merge.specs.Told.{told_outputs, told_status, told_summary, wrote_lines};
 
 use crate::preparing::Prepared;
-use crate::refusal::stop_of;
 use crate::telling::{has_absent, has_other_count, say_absent, say_uuids, warn};
 use merge_words::MergeWords;
 use mkv_io::{FileId, Files, Report};
-use mkv_lines::{Line, Status, Stop, say};
+use mkv_lines::{Line, Status, Stop, say, stop_of};
 use remux_plan::{Summary, Written};
 use remuxer::remux;
 use std::alloc::Global;

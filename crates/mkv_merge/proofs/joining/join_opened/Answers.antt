@@ -12,7 +12,7 @@ use Rattle.merge_plan.specs.Plan.{Source}
 use Rattle.remuxer.specs.Plan.{data_length}
 use Rattle.mkv_merge.specs.Asked.{AsksToMerge}
 use Rattle.mkv_merge.specs.Bound.{files_size, most_of}
-use Rattle.mkv_merge.specs.Ends.{stop_of}
+use Rattle.mkv_lines.specs.Code.{stop_of}
 use Rattle.mkv_merge.specs.Joined.{Merges, no_texts}
 use Rattle.mkv_merge.specs.Prepared.{AreTold, ReadsAs, sources_from, sources_with}
 use Rattle.mkv_merge.specs.declared.refusal.Refusal.{Refusal}

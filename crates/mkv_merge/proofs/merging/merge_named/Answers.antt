@@ -7,7 +7,7 @@ use Rattle.input_files.specs.TextFiles.{text_files, text_octets}
 use Rattle.input_files.specs.declared.text_files.TextFiles.{TextFiles}
 use Rattle.merge_words.specs.declared.files.FileWords.{FileWords}
 use Rattle.merge_plan.specs.Plan.{Source}
-use Rattle.mkv_lines.specs.Code.{stop_of as read_stop}
+use Rattle.mkv_lines.specs.Code.{read_stop}
 use Rattle.mkv_lines.specs.declared.status.Status.{Status}
 use Rattle.mkv_lines.specs.declared.status.Stop.TheVariants as stop
 use Rattle.mkv_merge.specs.Asked.{opened_by}

@@ -7,7 +7,7 @@ use Rattle.mkv_io.specs.declared.asked.Asked.{Asked}
 use Rattle.input_files.specs.Inputs.{file_names}
 use Rattle.merge_plan.specs.Plan.{Source}
 use Rattle.remuxer.specs.Plan.{data_length}
-use Rattle.mkv_lines.specs.Code.{stop_of as read_stop}
+use Rattle.mkv_lines.specs.Code.{read_stop}
 use Rattle.mkv_lines.specs.declared.status.Status.{Status}
 use Rattle.mkv_merge.specs.Asked.{AsksToMerge, sidecars_of}
 use Rattle.mkv_merge.specs.Bound.{files_size, most_looked, most_of}
