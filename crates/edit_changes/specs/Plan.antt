@@ -105,9 +105,7 @@ standing_seek o ps id = if goes ps id then None else option_map (seek_to o.segme
 
 -- the Seek of an ID: that of the Element that is appended, else of the first that stands there, unless it goes
 abbrev pub seek_for : List Seek → FileOutline → List Part → ℕ → Option Seek
-seek_for moved o ps id =
-    option_or (find (λ s. s.id == id) moved)
-    (if goes ps id then None else option_map (seek_to o.segment.body) (first_of id o.others))
+seek_for moved o ps id = option_or (find (λ s. s.id == id) moved) (standing_seek o ps id)
 
 -- the Seeks of these IDs, each where there is one, beside those of the Elements that are appended
 abbrev pub seeks_beside : List Seek → FileOutline → List Part → List ℕ → List Seek
@@ -115,7 +113,7 @@ seeks_beside moved o ps ids = filter_map (seek_for moved o ps) ids
 
 -- the Seeks of these IDs, each where there is one
 abbrev pub seeks : List ℕ → FileOutline → List Part → List Seek
-seeks ids o ps = filter_map (seek_for (seeks_from (o.total - o.segment.body) (elements_moving ps)) o ps) ids
+seeks ids o ps = seeks_beside (seeks_from (o.total - o.segment.body) (elements_moving ps)) o ps ids
 
 -- the octets of a SeekHead and the Voids behind it, none where there is no SeekHead
 abbrev pub room_of : Option SeekHeadAt → List Header → ℕ

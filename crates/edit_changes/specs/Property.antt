@@ -113,5 +113,5 @@ value_of Words value = where_text (is_words value) value
 value_of Language value = where_text (is_language value) value
 value_of LanguageTag value = where_text (is_short is_in_tag value) value
 value_of Codec value = where_text (is_short is_printable value) value
-value_of Duration value = where_number 1 (2 ^ 48 - 1) (number value)
-value_of Flag value = where_number 0 1 (number value)
+value_of Duration value = number_in 1 (2 ^ 48 - 1) value
+value_of Flag value = number_in 0 1 value

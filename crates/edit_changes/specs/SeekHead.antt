@@ -45,8 +45,7 @@ seek_head_in o = option_and_then (before_clusters o.cluster) (first_of SEEK_HEAD
 
 -- The first SeekHead, in front of the first Cluster. Where that one is too long or damaged, there is none.
 abbrev pub seek_head_of : List ℕ → FileOutline → Option SeekHeadAt
-seek_head_of bytes o =
-    option_and_then (if_sound bytes) (option_and_then (before_clusters o.cluster) (first_of SEEK_HEAD o.others))
+seek_head_of bytes o = option_and_then (if_sound bytes) (seek_head_in o)
 
 -- a Seek whose first SeekID is exactly the octets of an ID
 abbrev pub is_seek_of : ℕ → Node → Bool

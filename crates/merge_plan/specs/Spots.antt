@@ -77,7 +77,7 @@ pub record IsLinkOf (i : Input) (read : FileOutline) (nanoseconds : ℕ) (t : Ta
   pub delay : link.delay ≡ t.delay
   pub shift : link.shift ≡ later_by (read_in i)
   pub prefix : link.prefix ≡ prefix_of t.track.entry
-  pub times : listing_of link ≡ value_for t.id (read_in i).times
+  pub times : listing_of link ≡ times_listed i t
   pub short : length link.prefix ≤ MOST_OF_PREFIX
 
 -- A link is this track of an input that is a text with these entries.

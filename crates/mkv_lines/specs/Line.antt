@@ -38,11 +38,11 @@ refused_element_line name why id = codes "error: " ++ (shown_text name ++ (codes
 
 -- a file that isn't taken
 abbrev pub refusal_line : List ℕ → Damage → List ℕ
-refusal_line name d = codes "error: " ++ (shown_text name ++ (codes ": " ++ damage_text d))
+refusal_line name d = damaged_line (codes "error: ") name d
 
 -- a file that is damaged from a place on
 abbrev pub warning_line : List ℕ → Damage → List ℕ
-warning_line name d = codes "warning: " ++ (shown_text name ++ (codes ": " ++ damage_text d))
+warning_line name d = damaged_line (codes "warning: ") name d
 
 -- more of a file's damages than are told one by one
 abbrev pub more_damages_line : List ℕ → ℕ → List ℕ

@@ -47,7 +47,7 @@ index_ids = INFO ∷ TRACKS ∷ ATTACHMENTS ∷ CUES ∷ CHAPTERS ∷ TAGS ∷ [
 -- The Cues of these points and the SeekHead, by ascending places, or what refuses them: a second Cues, or what has no room.
 abbrev pub index_writes : List ℕ → FileOutline → List CuePoint → Result (List Write) Refusal
 index_writes bytes o points =
-    and_then (unless (twin_of o.others CUES) (cues_parts o.others (first_of CUES o.others) (new_cues points)))
+    and_then (unless (twin_of o.others CUES) (index_parts o points))
     (writes_of_parts index_ids true bytes o)
 
 -- What is written of a new index, and the points that it then has.
