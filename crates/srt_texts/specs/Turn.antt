@@ -40,8 +40,8 @@ abbrev pub timed_in : Option FirstLine → Option Timed
 timed_in None = None
 timed_in (Some f) = Some (timed_of f)
 
--- chapters, and those behind them
-abbrev pub in_front_of : List Chapter → Result (List Chapter) ℕ → Result (List Chapter) ℕ
+-- what was read, and what stands behind it
+abbrev pub in_front_of : {X : Type 0} → List X → Result (List X) ℕ → Result (List X) ℕ
 in_front_of xs (Ok ys) = Ok (xs ++ ys)
 in_front_of xs (Err n) = Err n
 

@@ -30,8 +30,8 @@ abbrev pub is_bad_at : Place → Bool → List ℕ → Bool
 is_bad_at place begins l = not (is_utf8 l) || is_misplaced place begins l
 
 -- The line may stand behind a head, and this is it as text.
-abbrev pub IsPlain : List ℕ → List ℕ → Type 0
-IsPlain line text = (is_bad_at Behind false line ≡ false) × (text ≡ line)
+abbrev pub IsTextLine : List ℕ → List ℕ → Type 0
+IsTextLine line text = (is_bad_at Behind false line ≡ false) × (text ≡ line)
 
 -- the number of the first bad line, where the first of these lines has this number
 unfoldable pub bad_from : Place → ℕ → List (List ℕ) → Option ℕ

@@ -6,7 +6,7 @@ ghost use Rattle.srt_texts.specs.Lines.{lines_of};
 ghost use Rattle.srt_texts.specs.Ends.{Blames, Reads};
 ghost use Rattle.srt_texts.specs.Srt as spec;
 ghost use Rattle.srt_texts.specs.Srt.{first_bad, entries, text_of, before_head};
-ghost use Rattle.srt_texts.specs.Walk.{Behind, IsPlain, bad_from, is_bad_at};
+ghost use Rattle.srt_texts.specs.Walk.{Behind, IsTextLine, bad_from, is_bad_at};
 ghost use Rattle.srt_texts.specs.Reading.{AreWithin, GoesOn, HeadRead, IsWithin, breaks};
 
 use crate::end::TextEnd;
@@ -37,7 +37,7 @@ fn has_arrow(line: &[u8]) -> bool
 
 // The line as text, where it may stand behind a head.
 fn plain(line: &[u8]) -> Option<&str>
-    ensures { MatchOption result (is_bad_at Behind false line.now ≡ true) (λ text. IsPlain line.now text.now) }
+    ensures { MatchOption result (is_bad_at Behind false line.now ≡ true) (λ text. IsTextLine line.now text.now) }
 {
     if has_arrow(line) {
         return None;
