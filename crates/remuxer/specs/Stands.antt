@@ -1,5 +1,5 @@
 -- An output on the way: what of its document stands in the file, what is held in the buffer, and what is left.
-use Rattle.std.specs.Prelude.{◌≡◌, ℕ, Bool, List, [], ◌∷◌, ◌++◌, Option, Some, None, Result, Ok, Err, length, nat_le, if◌then◌else◌, ◌+◌}
+use Rattle.std.specs.Prelude.{◌≡◌, ◌≤◌, ℕ, Bool, true, List, [], ◌∷◌, ◌++◌, Option, Some, None, Result, Ok, Err, length, nat_le, if◌then◌else◌, ◌+◌}
 use Rattle.mkv_io.specs.Faults.{counted}
 use Rattle.mkv_io.specs.Names.{Names}
 use Rattle.mkv_io.specs.declared.reads.Reads.{Ghosts}
@@ -9,7 +9,7 @@ use Rattle.output_model.specs.declared.heads.ClusterLimits.{ClusterLimits}
 use Rattle.output_model.specs.OutputBlock.{OutputBlock}
 use Rattle.output_model.specs.Cluster.{OutputCluster, clusters, cut_from}
 use Rattle.output_model.specs.Document.{Document, clusters_elements, cues_for}
-use Rattle.cluster_writer.specs.Gathered.{Gathered, Holds}
+use Rattle.cluster_writer.specs.Gathered.{Gathered, Holds, has_place}
 use Rattle.cues_seekhead.specs.OpenOutput.{OpenOutput, StandsOpen}
 use Rattle.cues_seekhead.specs.Draft.{StandsDrafted, draft_of}
 use Rattle.output_model.specs.Cued.{is_cue}
@@ -62,6 +62,11 @@ pub record HasAll {S : Type 0} (r : Ghosts S) (f : writing.Ghosts S) (before : N
   pub cues : d.cues ≡ o.cues
   pub counts : AreCounts d.clusters (length d.cues) n
   pub stands : StandsOpen r f before name d.front (joined (clusters_elements d.clusters)) files o
+
+-- A block at this tick, whose Element has so many octets, joins the Cluster that is held, and no memory was given back.
+pub record HasRoom (tick len : ℕ) (old new : Gathered) : Type 0 where
+  pub joins : has_place new tick len ≡ true
+  pub spare : old.spare ≤ new.spare
 
 -- ---- what a call makes of it; after a refusal the output stands as a draft
 

@@ -1,13 +1,13 @@
 //! Blocks, one after the other, into a buffer and an output.
 
-ghost use Rattle.std.specs.Prelude.{◌≡◌, ◌≤◌, [], ◌∷◌, true, OnOk};
+ghost use Rattle.std.specs.Prelude.{◌≡◌, [], ◌∷◌, OnOk};
 ghost use Rattle.mkv_io.specs.Writing.{WritesOnly};
 ghost use Rattle.mkv_io.specs.Ends.{HasRemuxCause};
-ghost use Rattle.cluster_writer.specs.Gathered.{HoldsSmall, has_place};
+ghost use Rattle.cluster_writer.specs.Gathered.{HoldsSmall};
 ghost use Rattle.cluster_writer.specs.Lengths.{octets_taken};
 ghost use Rattle.cluster_writer.specs.Lent.{CanBePut, block_of};
 ghost use Rattle.cues_seekhead.specs.OpenOutput.{IsOpen};
-ghost use Rattle.remuxer.specs.Stands.{Adds, Ends, MakesRoom};
+ghost use Rattle.remuxer.specs.Stands.{Adds, Ends, HasRoom, MakesRoom};
 
 use cluster_writer::{ClusterBuf, LentBlock};
 use cues_seekhead::OutFile;
@@ -25,8 +25,7 @@ fn make_room<F: Files>(
     requires open { IsOpen F.Reads files.old out.old }
     requires len { len ≡ octets_taken (block_of block.now) }
     ensures makes { MakesRoom F.Reads F.Files.own (block_of block.now) files.old files.new out.old out.new buffer.old buffer.new result }
-    ensures joins { OnOk result (has_place buffer.new block.now.tick len ≡ true) }
-    ensures spare { OnOk result (buffer.old.spare ≤ buffer.new.spare) }
+    ensures room { OnOk result (HasRoom block.now.tick len buffer.old buffer.new) }
     ensures limits { buffer.new.limits ≡ buffer.old.limits }
     ensures file { out.new.file ≡ out.old.file }
     ensures open { OnOk result (IsOpen F.Reads files.new out.new) }

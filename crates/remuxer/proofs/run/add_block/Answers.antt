@@ -37,7 +37,7 @@ returns-in_ok-cue-clause-adds g c = λ before name rules d n left cued stands.
     let buffer = c.make_room.new.buffer in
     let roomy = c.in_ok-make_room.ensures.makes before name rules d n left
     (stands-room g.F.Reads g.F.Files before name rules d c.args.files.now c.args.out.now c.args.buffer.now c.reserve.new.self n (b ∷ left) c.reserve.ensures.holds (ap (λ (x : Gathered). x.limits) c.reserve.ensures.same) stands) in
-    let fits = sym (joins-held buffer roomy.cluster b c.args.block.now.tick c.lengths-lengths.result.whole roomy.holds refl (sym c.lengths-lengths.ensures.whole)) ∙ c.in_ok-make_room.ensures.joins in
+    let fits = sym (joins-held buffer roomy.cluster b c.args.block.now.tick c.lengths-lengths.result.whole roomy.holds refl (sym c.lengths-lengths.ensures.whole)) ∙ c.in_ok-make_room.ensures.room.joins in
     let empties = c.is_empty-begins.ensures in
     let P : Bool → Type 0 = λ t. Stands g.F.Reads g.F.Files before name rules d c.make_room.new.files c.cue.new.self c.put_measured-relative.new.self (counted_with c.is_empty-begins.result t n) left in
     subst P (sym c.if-cued.true)
@@ -52,7 +52,7 @@ returns-else-cued-clause-adds g c = λ before name rules d n left cued stands.
     let buffer = c.make_room.new.buffer in
     let roomy = c.in_ok-make_room.ensures.makes before name rules d n left
     (stands-room g.F.Reads g.F.Files before name rules d c.args.files.now c.args.out.now c.args.buffer.now c.reserve.new.self n (b ∷ left) c.reserve.ensures.holds (ap (λ (x : Gathered). x.limits) c.reserve.ensures.same) stands) in
-    let fits = sym (joins-held buffer roomy.cluster b c.args.block.now.tick c.lengths-lengths.result.whole roomy.holds refl (sym c.lengths-lengths.ensures.whole)) ∙ c.in_ok-make_room.ensures.joins in
+    let fits = sym (joins-held buffer roomy.cluster b c.args.block.now.tick c.lengths-lengths.result.whole roomy.holds refl (sym c.lengths-lengths.ensures.whole)) ∙ c.in_ok-make_room.ensures.room.joins in
     let empties = c.is_empty-begins.ensures in
     let P : Bool → Type 0 = λ t. Stands g.F.Reads g.F.Files before name rules d c.make_room.new.files c.make_room.new.out c.put_measured-relative.new.self (counted_with c.is_empty-begins.result t n) left in
     subst P (sym c.if-cued.false)
