@@ -6,7 +6,7 @@ use Rattle.std.specs.Option.{IfSome, option_map, option_map_or}
 use Rattle.std.proofs.lemmas.List.Elements.{All-cons, All-head, All-map, All-nil, All-tail}
 use Rattle.std.proofs.lemmas.Option.{get_or_from_slice_get, slice_get_within}
 use Rattle.mkv_io.specs.LiveFiles.{LiveFiles}
-use Rattle.output_model.specs.OutputBlock.{Lent, OutputBlock, lent_block}
+use Rattle.output_model.specs.OutputBlock.{OutputBlock, lent_block}
 use Rattle.output_model.specs.Block.{frame_octets}
 use Rattle.merge_model.specs.Merged.{in_lane}
 use Rattle.cluster_writer.specs.Lengths.{octets_taken}

@@ -1,4 +1,4 @@
-use Rattle.std.proofs.Common.{◌<◌, Bool, List, Some, length, refl, ap, subst, arith}
+use Rattle.std.proofs.Common.{◌<◌, Bool, List, length, refl, ap, subst, arith}
 use Rattle.std.proofs.lemmas.Option.{slice_get_within}
 use Rattle.time_merge.specs.Merge.{StepsTo}
 use Rattle.time_merge.proofs.QueueLemmas.{count-kept}
