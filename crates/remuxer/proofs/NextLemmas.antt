@@ -43,12 +43,12 @@ read-goes r a b p p' result same moves gives split can paid =
       };
     }
 
--- what stands ahead says nothing of whether blocks can be given
-pub goes-idle : {S : Type 0} (r : Ghosts S) (a : S) (p : PlacedBlocks) (next : Option Ahead) → CanGive (live_files r a) p → GoesOn r 0 a a p (on_to p p.merge p.cuts next)
-goes-idle r a p next gives = record {
+-- what stands ahead, and where a part was begun, says nothing of whether blocks can be given
+pub goes-idle : {S : Type 0} (r : Ghosts S) (a : S) (p : PlacedBlocks) (next : Option Ahead) (start : ℕ) → CanGive (live_files r a) p → GoesOn r 0 a a p (record p { ahead = next; start = start })
+goes-idle r a p next start gives = record {
   lanes = refl;
   split = refl;
-  gives = gives-same (live_files r a) (live_files r a) p (on_to p p.merge p.cuts next) gives refl gives.ready refl refl;
+  gives = gives-same (live_files r a) (live_files r a) p (record p { ahead = next; start = start }) gives refl gives.ready refl refl;
   length = refl;
   paid = omega arith;
   told = λ told. record { told = told; damages = refl };
@@ -78,7 +78,7 @@ parts-past f p was can is ahead none = either (is_within (Some was)) refl
 parts-none : (f h : LiveFiles) (p : PlacedBlocks) (m' : MergeSeen) (c' : CutsSeen) → IsFresh p → left f p.merge ≡ [] → c' ≡ p.cuts → LeavesAll f h p (on_to p m' c' None)
 parts-none f h p m' c' fresh none same =
     ap (λ (c : CutsSeen). if keeps c.spec (start_of c * c.scale) then (let x : Part = record { start = start_of c; end = None; blocks = [] } in x) ∷ [] else []) same
-    ∙ ap (λ (o : Option ℕ). if keeps p.cuts.spec (unwrap_or o 0 * p.cuts.scale) then (let x : Part = record { start = unwrap_or o 0; end = None; blocks = [] } in x) ∷ [] else []) fresh
+    ∙ ap (λ (o : Option ℕ). if keeps p.cuts.spec (unwrap_or o 0 * p.cuts.scale) then (let x : Part = record { start = unwrap_or o 0; end = None; blocks = [] } in x) ∷ [] else []) fresh.placed
     ∙ sym (ap (parts (split_in p)) none)
 
 module _ {S : Type 0} (r : Ghosts S) (a b : S) (p : PlacedBlocks) (m' : MergeSeen) (c' : CutsSeen) (same : r.standing b ≡ r.standing a) (can : CanGive (live_files r a) p) (ready : IsReady (live_files r b) m') where
@@ -108,6 +108,7 @@ module _ {S : Type 0} (r : Ghosts S) (a b : S) (p : PlacedBlocks) (m' : MergeSee
     pub advances-ended : Advances (live_files r a) (live_files r b) p (on_to p m' c' None)
     advances-ended = record {
       stands = moves.steps.ended;
+      start = refl;
       on = moves.steps.on;
       same = λ none. same_cuts;
       left = λ stands told. leaves-ended p.ahead refl stands (gives told).blocks.0;
@@ -142,6 +143,7 @@ module _ {S : Type 0} (r : Ghosts S) (a b : S) (p : PlacedBlocks) (m' : MergeSee
     pub advances-next : Advances (live_files r a) (live_files r b) p (on_to p m' c' (Some next))
     advances-next = record {
       stands = step-ahead (live_files r a) p m' c' next can moves.keeps moves.steps places;
+      start = refl;
       on = let less = moves.steps.on in omega (arith, less);
       same = λ none. absurd (cc);
       left = λ stands told. leaves-next p.ahead refl stands told;
@@ -160,7 +162,7 @@ module _ {S : Type 0} (r : Ghosts S) (a b : S) (p : PlacedBlocks) (m' : MergeSee
 -- the block ahead begins a part, and is of it then
 module _ (f : LiveFiles) (b : PlacedBlocks) (a : Ahead) (start : ℕ) (can : CanGive f b) (is : b.ahead ≡ Some a) (ahead : IsAhead b.merge b.cuts a) (found : start_in a.place ≡ Some start) where
   abbrev begun_at : PlacedBlocks
-  begun_at = on_to b b.merge b.cuts (Some (record { lane = a.lane; place = Same }))
+  begun_at = record b { ahead = Some (record { lane = a.lane; place = Same }); start = start }
 
   -- What is said of a block that begins a part.
   record Begins : Type 0 where
@@ -176,7 +178,7 @@ module _ (f : LiveFiles) (b : PlacedBlocks) (a : Ahead) (start : ℕ) (can : Can
       either true false kept q place = let e : Some start ≡ None = sym found ∙ ap start_in place in absurd (cc)
       either false any kept q place = let e : Some start ≡ None = sym found ∙ ap start_in place in absurd (cc)
 
-  pub is-begun : IsPartBegun begun_at start
+  pub is-begun : IsPartBegun begun_at
   is-begun = record {
     starts = begins.starts;
     stands = record {
@@ -213,15 +215,15 @@ module _ {S : Type 0} (r : Ghosts S) (a b : S) (p p' : PlacedBlocks) (fresh : Is
   all_parts = parts (split_in p) (left (live_files r a) p.merge)
 
   -- no block has come
-  pub first-none : is_some p'.ahead ≡ false → is_kept p'.cuts ≡ true → FindsPart (live_files r a) (live_files r b) (way p.merge + 1) all_parts p p' (Some 0)
+  pub first-none : is_some p'.ahead ≡ false → is_kept p'.cuts ≡ true → FindsPart (live_files r a) (live_files r b) (way p.merge + 1) all_parts p p' true
   first-none none kept = either p'.ahead refl
     where
-      either : (o : Option Ahead) → p'.ahead ≡ o → FindsPart (live_files r a) (live_files r b) (way p.merge + 1) all_parts p p' (Some 0)
+      either : (o : Option Ahead) → p'.ahead ≡ o → FindsPart (live_files r a) (live_files r b) (way p.merge + 1) all_parts p p' true
       either None is =
           let isnt = ap is_within is in
           record {
             begins = record {
-              starts = sym (ap start_of (advanced.same none) ∙ ap (λ (o : Option ℕ). unwrap_or o 0) fresh);
+              starts = advanced.start ∙ fresh.start ∙ sym (ap start_of (advanced.same none) ∙ ap (λ (o : Option ℕ). unwrap_or o 0) fresh.placed);
               stands = advanced.stands;
               within = isnt ∙ sym (ap is_some is);
             };
@@ -234,9 +236,9 @@ module _ {S : Type 0} (r : Ghosts S) (a b : S) (p p' : PlacedBlocks) (fresh : Is
       either (Some ahead) is = absurd (let some = ap is_some is in cc)
 
   -- one has, or the section at the beginning isn't written
-  pub first-result : (c : S) (p'' : PlacedBlocks) (result : Result (Option ℕ) ReadEnd) → (is_none p'.ahead && is_kept p'.cuts) ≡ false → FindsBehind r b c p' p'' result → FindsFirst r a c p p'' result
+  pub first-result : (c : S) (p'' : PlacedBlocks) (result : Result Bool ReadEnd) → (is_none p'.ahead && is_kept p'.cuts) ≡ false → FindsBehind r b c p' p'' result → FindsFirst r a c p p'' result
   first-result c p'' (Err end) isnt finds = tt
-  first-result c p'' (Ok next) isnt finds = record {
+  first-result c p'' (Ok begun) isnt finds = record {
     begins = finds.begins;
     on = let less = advanced.on in let more = finds.on in omega (arith, less, more);
     found = λ told.

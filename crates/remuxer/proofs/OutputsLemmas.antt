@@ -1,5 +1,5 @@
 -- Outputs that are written one after the other.
-use Rattle.std.proofs.Common.{◌≡◌, ◌≤◌, ◌<◌, ℕ, suc, ◌+◌, ◌^◌, Bool, true, false, List, [], ◌∷◌, ◌++◌, All, length, map, Option, Some, None, ◌⊎◌, inl, inr, refl, sym, ◌∙◌, ap, ap₂, subst, append_assoc, append-nil, arith}
+use Rattle.std.proofs.Common.{◌≡◌, ◌≤◌, ◌<◌, ℕ, suc, ◌+◌, ◌^◌, Bool, true, false, List, [], ◌∷◌, ◌++◌, All, length, map, Option, Some, ◌⊎◌, inl, inr, refl, sym, ◌∙◌, ap, ap₂, subst, append_assoc, append-nil, arith}
 use Rattle.std.specs.Prelude.{◌==◌, if◌then◌else◌, slice_index_or}
 use Rattle.std.proofs.lemmas.List.{length-map, map-append}
 use Rattle.std.proofs.lemmas.List.Elements.{All-append, All-cons, All-head, All-nil, All-tail}
@@ -168,9 +168,9 @@ left_at o number = record o { front = record o.front { attachments = if number =
 
 module _ {S : Type 0} (r : Ghosts S) (f : writing.Ghosts S) (o : OutputSpec) (a : S) (p : PlacedBlocks) where
   -- The outputs of some first parts stand, and the others are left.
-  pub record Standing (b : S) (o' : OutputSpec) (p' : PlacedBlocks) (written : List Written) (next : Option ℕ) : Type 0 where
+  pub record Standing (b : S) (o' : OutputSpec) (p' : PlacedBlocks) (written : List Written) (begun : Bool) : Type 0 where
     pub done : List Part
-    pub whole : parts (split_in p) (left (live_files r a) p.merge) ≡ done ++ parts_begun (live_files r b) p' next
+    pub whole : parts (split_in p) (left (live_files r a) p.merge) ≡ done ++ parts_begun (live_files r b) p' begun
     pub written_are : written ≡ map written_of (outputs_from (live_files r a) o 1 done)
     pub names : f.names b ≡ with_outputs (f.names a) (outputs_of (drafts_of (outputs_from (live_files r a) o 1 done)))
     pub become : outputs_of (drafts_of (outputs_from (live_files r a) o 1 done)) ≡ map laid_out (outputs_from (live_files r a) o 1 done)
@@ -178,21 +178,21 @@ module _ {S : Type 0} (r : Ghosts S) (f : writing.Ghosts S) (o : OutputSpec) (a 
     pub front : front_with (live_files r b) o'.front ≡ front_with (live_files r a) o'.front
 
   -- So it is where the links' files are told; the next part can be begun, and so many octets were read.
-  pub record OnTheWay (b : S) (o' : OutputSpec) (p' : PlacedBlocks) (written : List Written) (next : Option ℕ) : Type 0 where
+  pub record OnTheWay (b : S) (o' : OutputSpec) (p' : PlacedBlocks) (written : List Written) (begun : Bool) : Type 0 where
     pub read : ℕ
     pub data_left : read + data_of o' ≤ data_of o
     pub goes : GoesOn r read a b p p'
-    pub begins : CanBeNext p' next
+    pub begins : CanBeNext p' begun
     pub spec : o' ≡ left_at o (length written + 1)
     pub attached : All (CanAttach r f b (next_name o' written)) o'.front.attachments
     pub kept : KeepsUnwritten r f o.split o.name a b
-    pub standing : IsTold (live_files r a) p.merge → Standing b o' p' written next
+    pub standing : IsTold (live_files r a) p.merge → Standing b o' p' written begun
 
   -- ---- the first part was found
 
-  pub way-begins : (b : S) (p' : PlacedBlocks) (next : Option ℕ) (turns : ℕ) → OnlyRead r f a b → GoesOn r 0 a b p p' → FindsPart (live_files r a) (live_files r b) turns (parts (split_in p) (left (live_files r a) p.merge)) p p' next
-      → All (CanAttach r f a (name_of o.split o.name 1)) o.front.attachments → OnTheWay b o p' [] next
-  way-begins b p' next turns read goes finds attached = record {
+  pub way-begins : (b : S) (p' : PlacedBlocks) (begun : Bool) (turns : ℕ) → OnlyRead r f a b → GoesOn r 0 a b p p' → FindsPart (live_files r a) (live_files r b) turns (parts (split_in p) (left (live_files r a) p.merge)) p p' begun
+      → All (CanAttach r f a (name_of o.split o.name 1)) o.front.attachments → OnTheWay b o p' [] begun
+  way-begins b p' begun turns read goes finds attached = record {
     read = 0;
     data_left = omega arith;
     goes = goes;
@@ -222,7 +222,7 @@ module _ {S : Type 0} (r : Ghosts S) (f : writing.Ghosts S) (o : OutputSpec) (a 
 
   -- ---- one output more
 
-  module _ (b : S) (o' : OutputSpec) (p' : PlacedBlocks) (written : List Written) (start : ℕ) (way : OnTheWay b o' p' written (Some start)) where
+  module _ (b : S) (o' : OutputSpec) (p' : PlacedBlocks) (written : List Written) (way : OnTheWay b o' p' written true) where
     pub way-scale : p.cuts.scale ≡ o.limits.scale → p'.cuts.scale ≡ o'.limits.scale
     way-scale same = ap (λ (s : Split). s.scale) way.goes.split ∙ same ∙ sym (ap (λ (each : OutputSpec). each.limits.scale) way.spec)
 
@@ -257,7 +257,7 @@ module _ {S : Type 0} (r : Ghosts S) (f : writing.Ghosts S) (o : OutputSpec) (a 
         omega (arith, paid, long, kept, reads)
 
     module _ (told : IsTold (live_files r a) p.merge) where
-      so_far : Standing b o' p' written (Some start)
+      so_far : Standing b o' p' written true
       so_far = way.standing told
 
       abbrev here : Part
@@ -308,11 +308,11 @@ module _ {S : Type 0} (r : Ghosts S) (f : writing.Ghosts S) (o : OutputSpec) (a 
           outputs-split (live_files r a) o 1 so_far.done (here ∷ [])
           ∙ ap (λ (each : PlannedOutput). outputs_from (live_files r a) o 1 so_far.done ++ each ∷ []) (sym is-next)
 
-      pub stands-next : (e : S) (o'' : OutputSpec) (p'' : PlacedBlocks) (written' : List Written) (next : Option ℕ) → WritesOne r f b e o' p' p'' written written' next
-          → o'' ≡ record o' { front = record o'.front { attachments = [] } } → Standing e o'' p'' written' next
-      stands-next e o'' p'' written' next writes spec = record {
+      pub stands-next : (e : S) (o'' : OutputSpec) (p'' : PlacedBlocks) (written' : List Written) (begun : Bool) → WritesOne r f b e o' p' p'' written written' begun
+          → o'' ≡ record o' { front = record o'.front { attachments = [] } } → Standing e o'' p'' written' begun
+      stands-next e o'' p'' written' begun writes spec = record {
         done = so_far.done ++ here ∷ [];
-        whole = so_far.whole ∙ ap (λ (more : List Part). so_far.done ++ here ∷ more) (sym writes.behind) ∙ sym (append_assoc so_far.done (here ∷ []) (parts_begun (live_files r e) p'' next));
+        whole = so_far.whole ∙ ap (λ (more : List Part). so_far.done ++ here ∷ more) (sym writes.behind) ∙ sym (append_assoc so_far.done (here ∷ []) (parts_begun (live_files r e) p'' begun));
         written_are =
             writes.added ∙ ap (λ (ws : List Written). ws ++ written_of its ∷ []) so_far.written_are
             ∙ sym (map-append written_of (outputs_from (live_files r a) o 1 so_far.done) (its ∷ [])) ∙ ap (map written_of) (sym one-more);
@@ -339,9 +339,9 @@ module _ {S : Type 0} (r : Ghosts S) (f : writing.Ghosts S) (o : OutputSpec) (a 
           drafts-more = sym (map-append (λ (each : PlannedOutput). draft_of each.name each.document) (outputs_from (live_files r a) o 1 so_far.done) (its ∷ []))
 
     -- and so on
-    pub way-next : (e : S) (o'' : OutputSpec) (p'' : PlacedBlocks) (written' : List Written) (next : Option ℕ) → FindsNext o' o'' p' p'' written written' next → GoesOn r (data_of o') b e p' p'' → KeepsUnwritten r f o'.split o'.name b e
-        → (IsTold (live_files r b) p'.merge → WritesOne r f b e o' p' p'' written written' next) → OnTheWay e o'' p'' written' next
-    way-next e o'' p'' written' next finds goes kept writes = record {
+    pub way-next : (e : S) (o'' : OutputSpec) (p'' : PlacedBlocks) (written' : List Written) (begun : Bool) → FindsNext o' o'' p' p'' written written' begun → GoesOn r (data_of o') b e p' p'' → KeepsUnwritten r f o'.split o'.name b e
+        → (IsTold (live_files r b) p'.merge → WritesOne r f b e o' p' p'' written written' begun) → OnTheWay e o'' p'' written' begun
+    way-next e o'' p'' written' begun finds goes kept writes = record {
       read = way.read + data_of o';
       data_left = let none : data_of o'' ≡ 0 = ap data_of finds.spec in let before = way.data_left in omega (arith, none, before);
       goes = goes-then r way.read (data_of o') a b e p p' p'' way.goes goes;
@@ -349,7 +349,7 @@ module _ {S : Type 0} (r : Ghosts S) (f : writing.Ghosts S) (o : OutputSpec) (a 
       spec = finds.spec ∙ ap (λ (each : OutputSpec). let x : OutputSpec = record each { front = record each.front { attachments = [] } } in x) way.spec ∙ later ∙ ap (λ (n : ℕ). left_at o (n + 1)) (sym finds.count);
       attached = subst (λ (each : OutputSpec). All (CanAttach r f e (next_name o'' written')) each.front.attachments) (sym finds.spec) (All-nil (CanAttach r f e (next_name o'' written')));
       kept = way-keeps e kept;
-      standing = λ told. stands-next told e o'' p'' written' next (writes (way.goes.told told).told) finds.spec;
+      standing = λ told. stands-next told e o'' p'' written' begun (writes (way.goes.told told).told) finds.spec;
     }
       where
         later : (let x : OutputSpec = record o { front = record o.front { attachments = [] } } in x) ≡ left_at o (length written + 1 + 1)
@@ -358,16 +358,21 @@ module _ {S : Type 0} (r : Ghosts S) (f : writing.Ghosts S) (o : OutputSpec) (a 
             more : (n : ℕ) → (n + 1 + 1 == 1) ≡ false
             more n = grind (arith, nat_tests)
 
+-- whether a part was begun is known
+module _ {S : Type 0} {r : Ghosts S} {f : writing.Ghosts S} {o o' : OutputSpec} {a b : S} {p p' : PlacedBlocks} {written : List Written} {begun is : Bool} (same : begun ≡ is) (way : OnTheWay r f o a p b o' p' written begun) where
+  pub way-at : OnTheWay r f o a p b o' p' written is
+  way-at = subst (OnTheWay r f o a p b o' p' written) same way
+
 -- ---- no part is left
 
-pub all-written : {S : Type 0} (r : Ghosts S) (f : writing.Ghosts S) (o : OutputSpec) (a b : S) (p p' : PlacedBlocks) (o' : OutputSpec) (written : List Written) → Standing r f o a p b o' p' written None
+pub all-written : {S : Type 0} (r : Ghosts S) (f : writing.Ghosts S) (o : OutputSpec) (a b : S) (p p' : PlacedBlocks) (o' : OutputSpec) (written : List Written) → Standing r f o a p b o' p' written false
     → WritesAll (f.names a) (f.names b) (outputs_from (live_files r a) o 1 (parts (split_in p) (left (live_files r a) p.merge)))
 all-written r f o a b p p' o' written standing =
     let whole : parts (split_in p) (left (live_files r a) p.merge) ≡ standing.done = standing.whole ∙ append-nil standing.done in
     subst (λ (all : List Part). WritesAll (f.names a) (f.names b) (outputs_from (live_files r a) o 1 all)) (sym whole)
     (record { names = standing.names ∙ ap (with_outputs (f.names a)) standing.become; become = standing.become; short = standing.short })
 
-pub all-summed : {S : Type 0} (r : Ghosts S) (f : writing.Ghosts S) (o : OutputSpec) (a b : S) (p p' : PlacedBlocks) (o' : OutputSpec) (written : List Written) → Standing r f o a p b o' p' written None
+pub all-summed : {S : Type 0} (r : Ghosts S) (f : writing.Ghosts S) (o : OutputSpec) (a b : S) (p p' : PlacedBlocks) (o' : OutputSpec) (written : List Written) → Standing r f o a p b o' p' written false
     → written ≡ map written_of (outputs_from (live_files r a) o 1 (parts (split_in p) (left (live_files r a) p.merge)))
 all-summed r f o a b p p' o' written standing =
     let whole : parts (split_in p) (left (live_files r a) p.merge) ≡ standing.done = standing.whole ∙ append-nil standing.done in

@@ -94,7 +94,7 @@ module _ {S : Type 0} {r : Ghosts S} {f : writing.Ghosts S} {a : S} {p : MergePl
         (all-links (IsUnwrittenLink (f.holder a) (is_split p) p.output) p.limits.scale p.lanes s.lanes it.started.lanes (λ k d inside. (plan.lanes k d inside).apart))
 
     -- its blocks, none of which was placed
-    pub plan-gives : CanGive (live_files r a) (record { merge = m; cuts = new_cuts p.split p.size p.limits.scale; drives = s.drives; ahead = None })
+    pub plan-gives : CanGive (live_files r a) (record { merge = m; cuts = new_cuts p.split p.size p.limits.scale; drives = s.drives; ahead = None; start = 0 })
     plan-gives = record {
       ready = plan-ready;
       few = plan-few;
@@ -120,12 +120,12 @@ module _ {S : Type 0} {r : Ghosts S} {f : writing.Ghosts S} {a : S} {p : MergePl
     pub plan-length : files_length (live_files r a) m ≡ inputs_length (live_files r a) p
     plan-length = it.starts.length ∙ all-lengths (live_files r a) p.limits.scale p.lanes s.lanes it.started.lanes
 
-    plan-split : split_in (record { merge = m; cuts = new_cuts p.split p.size p.limits.scale; drives = s.drives; ahead = None }) ≡ split_of p
+    plan-split : split_in (record { merge = m; cuts = new_cuts p.split p.size p.limits.scale; drives = s.drives; ahead = None; start = 0 }) ≡ split_of p
     plan-split = ap (λ (drivers : List Bool). let x : Split = record { spec = p.split; size = p.size; scale = p.limits.scale; drives = drives_by drivers } in x) it.started.drives
 
     -- its blocks and what its outputs have in common, as they were made of it
     abbrev pub started_blocks : PlacedBlocks
-    started_blocks = record { merge = m; cuts = cuts; drives = s.drives; ahead = None }
+    started_blocks = record { merge = m; cuts = cuts; drives = s.drives; ahead = None; start = 0 }
 
     abbrev pub started_spec : OutputSpec
     started_spec = record { name = p.output; split = split; limits = p.limits; rules = s.rules; front = p.front; chapters = p.chapters; tags = p.tags; uuids = p.uuids; link = p.link }
@@ -133,8 +133,8 @@ module _ {S : Type 0} {r : Ghosts S} {f : writing.Ghosts S} {a : S} {p : MergePl
     -- the outputs can be written
     pub plan-can : CanWriteAll r f b started_spec started_blocks
     plan-can = subst (λ (x : S). CanWriteAll r f x started_spec started_blocks) (sym it.idle) (record {
-      gives = subst (λ (c : CutsSeen). CanGive (live_files r a) (record { merge = m; cuts = c; drives = s.drives; ahead = None })) (sym it.cut) plan-gives;
-      fresh = ap (λ (c : CutsSeen). c.start) it.cut;
+      gives = subst (λ (c : CutsSeen). CanGive (live_files r a) (record { merge = m; cuts = c; drives = s.drives; ahead = None; start = 0 })) (sym it.cut) plan-gives;
+      fresh = record { placed = ap (λ (c : CutsSeen). c.start) it.cut; start = refl };
       scale = ap (λ (c : CutsSeen). c.scale) it.cut;
       apart = subst (λ (q : Bool). IsUnwritten (f.holder a) q p.output m) (sym it.same) plan-apart;
       records = subst (λ (q : Bool). HasRecords r f a (name_of q p.output 1) p.front p.chapters p.tags) (sym it.same) plan.records;
@@ -143,9 +143,9 @@ module _ {S : Type 0} {r : Ghosts S} {f : writing.Ghosts S} {a : S} {p : MergePl
     -- they are those of the plan
     plan-outputs : outputs_left (live_files r a) started_spec started_blocks ≡ outputs_in (live_files r a) p
     plan-outputs =
-        ap (λ (c : CutsSeen). outputs_left (live_files r a) started_spec (record { merge = m; cuts = c; drives = s.drives; ahead = None })) it.cut
+        ap (λ (c : CutsSeen). outputs_left (live_files r a) started_spec (record { merge = m; cuts = c; drives = s.drives; ahead = None; start = 0 })) it.cut
         ∙ ap₂ (λ (each : Bool) (rules : List CueRule). outputs_left (live_files r a) (record { name = p.output; split = each; limits = p.limits; rules = rules; front = p.front; chapters = p.chapters; tags = p.tags; uuids = p.uuids; link = p.link })
-        (record { merge = m; cuts = new_cuts p.split p.size p.limits.scale; drives = s.drives; ahead = None })) it.same it.started.rules
+        (record { merge = m; cuts = new_cuts p.split p.size p.limits.scale; drives = s.drives; ahead = None; start = 0 })) it.same it.started.rules
         ∙ ap₂ (λ (each : Split) (blocks : List OutputBlock). outputs_from (live_files r a) (spec_of p) 1 (parts each blocks)) plan-split plan-left
 
     -- they are written

@@ -186,7 +186,7 @@ lends-ahead p k stands found = either p.ahead refl stands
 
 -- the blocks, where the merge and the cuts are these, and this is ahead
 abbrev pub on_to : PlacedBlocks → MergeSeen → CutsSeen → Option Ahead → PlacedBlocks
-on_to b m' c' next = record { merge = m'; cuts = c'; drives = b.drives; ahead = next }
+on_to b m' c' next = record { merge = m'; cuts = c'; drives = b.drives; ahead = next; start = b.start }
 
 -- they can be given
 gives-on : (f h : LiveFiles) (b b' : PlacedBlocks) → CanGive f b → KeepsQueues b.merge.queues b'.merge.queues → IsReady h b'.merge → b'.drives ≡ b.drives → b'.cuts.scale ≡ b.cuts.scale → start_of b'.cuts * b'.cuts.scale < 2 ^ 64 → (is_none b'.cuts.start ≡ true → b'.cuts.load ≡ 0) → IfSome b'.cuts.size (IsLimit b'.cuts.spec) → CanGive h b'
@@ -354,7 +354,7 @@ module _ (f : LiveFiles) (b : PlacedBlocks) (m' : MergeSeen) (c' : CutsSeen) (a 
     -- all parts, where it is the first
     pub step-all : IsFresh b → parts_left h b' ≡ parts (split_in b) (x ∷ bs)
     step-all fresh =
-        let empty = can.empty (ap (λ (o : Option ℕ). is_none o) fresh) in
+        let empty = can.empty (ap (λ (o : Option ℕ). is_none o) fresh.placed) in
         let none : b.cuts ≡ (record { spec = b.cuts.spec; size = b.cuts.size; scale = b.cuts.scale; start = None; load = 0 }) =
-        ap₂ (λ (o : Option ℕ) (n : ℕ). let c : CutsSeen = record { spec = b.cuts.spec; size = b.cuts.size; scale = b.cuts.scale; start = o; load = n } in c) fresh empty in
-        step-parts (step-first fresh) ∙ ap (λ (n : ℕ). parts_from (split_in b) n (x ∷ bs)) (ap start_of step-cuts ∙ ap (λ (c : CutsSeen). start_of (stepped c may x.tick (octets_taken x))) none)
+        ap₂ (λ (o : Option ℕ) (n : ℕ). let c : CutsSeen = record { spec = b.cuts.spec; size = b.cuts.size; scale = b.cuts.scale; start = o; load = n } in c) fresh.placed empty in
+        step-parts (step-first fresh.placed) ∙ ap (λ (n : ℕ). parts_from (split_in b) n (x ∷ bs)) (ap start_of step-cuts ∙ ap (λ (c : CutsSeen). start_of (stepped c may x.tick (octets_taken x))) none)

@@ -1,5 +1,5 @@
 -- The outputs of a merge, one after the other: what they are to be, and what stands of them.
-use Rattle.std.specs.Prelude.{◌≡◌, ◌≤◌, ⊤, ℕ, ◌+◌, Bool, true, false, if◌then◌else◌, List, [], ◌∷◌, ◌++◌, All, IfOk, IfSome, length, map, sum_by, Option, Some, None, Result, Ok, Err}
+use Rattle.std.specs.Prelude.{◌≡◌, ◌≤◌, ⊤, ℕ, ◌+◌, Bool, true, false, if◌then◌else◌, List, [], ◌∷◌, ◌++◌, All, IfOk, IfSome, length, map, sum_by, Option, None, Result, Ok, Err}
 use Rattle.std.specs.Option.{option_and_then}
 use Rattle.mkv_io.specs.Faults.{counted, last_count}
 use Rattle.mkv_io.specs.LiveFiles.{LiveFiles}
@@ -64,9 +64,9 @@ IsUnwritten holder split output m = All (λ (q : Queue). All (IsUnwrittenLink ho
 
 -- An output of this name can be written of the part that was begun: its blocks can be given, their ticks are those of the output, no file of a
 -- link was opened under the name, and what stands around the Clusters can be written.
-pub record CanWrite {S : Type 0} (r : Ghosts S) (f : writing.Ghosts S) (files : S) (o : OutputSpec) (name : List ℕ) (start : ℕ) (b : PlacedBlocks) : Type 0 where
+pub record CanWrite {S : Type 0} (r : Ghosts S) (f : writing.Ghosts S) (files : S) (o : OutputSpec) (name : List ℕ) (b : PlacedBlocks) : Type 0 where
   pub gives : CanGive (live_files r files) b
-  pub begun : IsPartBegun b start
+  pub begun : IsPartBegun b
   pub scale : b.cuts.scale ≡ o.limits.scale
   pub apart : IsApart (f.holder files) (name ∷ []) b.merge
   pub records : HasRecords r f files name o.front o.chapters o.tags
@@ -107,9 +107,9 @@ abbrev pub chapters_in : OutputSpec → Option Node → Option Node
 chapters_in o part = if o.split then part else o.chapters
 
 -- An output that takes blocks can be filled with the part that was begun.
-pub record CanFill {S : Type 0} (r : Ghosts S) (f : writing.Ghosts S) (files : S) (o : OutputSpec) (start : ℕ) (w : BlockWriter) (b : PlacedBlocks) : Type 0 where
+pub record CanFill {S : Type 0} (r : Ghosts S) (f : writing.Ghosts S) (files : S) (o : OutputSpec) (w : BlockWriter) (b : PlacedBlocks) : Type 0 where
   pub can : CanTake r f files w b
-  pub begun : IsPartBegun b start
+  pub begun : IsPartBegun b
   pub scale : b.cuts.scale ≡ o.limits.scale
   pub chapters : IfSome o.chapters (IsRead CHAPTERS)
 
@@ -148,32 +148,32 @@ FindsWritten r old new o b b' result = IfOk result (HasWritten (live_files r old
 -- ---- all of them
 
 -- the parts that are left, and before them the one that was begun, if one was
-abbrev pub parts_begun : LiveFiles → PlacedBlocks → Option ℕ → List Part
-parts_begun f b None = []
-parts_begun f b (Some start) = part_in f b ∷ parts_left f b
+abbrev pub parts_begun : LiveFiles → PlacedBlocks → Bool → List Part
+parts_begun f b true = part_in f b ∷ parts_left f b
+parts_begun f b false = []
 
 -- at most so many turns are left, and one where a part was begun
-abbrev pub turns_left : PlacedBlocks → Option ℕ → ℕ
-turns_left b None = way b.merge
-turns_left b (Some start) = way b.merge + 1
+abbrev pub turns_left : PlacedBlocks → Bool → ℕ
+turns_left b true = way b.merge + 1
+turns_left b false = way b.merge
 
 -- A part was begun, or all lanes have ended.
-abbrev pub CanBeNext : PlacedBlocks → Option ℕ → Type 0
-CanBeNext b None = IsEnded b.merge
-CanBeNext b (Some start) = IsPartBegun b start
+abbrev pub CanBeNext : PlacedBlocks → Bool → Type 0
+CanBeNext b true = IsPartBegun b
+CanBeNext b false = IsEnded b.merge
 
--- The next part was begun; no more turns are left than these; and where the links' files were told, these are the parts.
-pub record FindsPart (f h : LiveFiles) (turns : ℕ) (parts : List Part) (b b' : PlacedBlocks) (next : Option ℕ) : Type 0 where
-  pub begins : CanBeNext b' next
-  pub on : turns_left b' next ≤ turns
-  pub found : IsTold f b.merge → parts_begun h b' next ≡ parts
+-- The next part was begun, or none is left; no more turns are left than these; and where the links' files were told, these are the parts.
+pub record FindsPart (f h : LiveFiles) (turns : ℕ) (parts : List Part) (b b' : PlacedBlocks) (begun : Bool) : Type 0 where
+  pub begins : CanBeNext b' begun
+  pub on : turns_left b' begun ≤ turns
+  pub found : IsTold f b.merge → parts_begun h b' begun ≡ parts
 
 -- The next part was begun of those that were left.
-abbrev pub FindsBehind : {S : Type 0} → Ghosts S → S → S → PlacedBlocks → PlacedBlocks → Result (Option ℕ) ReadEnd → Type 0
+abbrev pub FindsBehind : {S : Type 0} → Ghosts S → S → S → PlacedBlocks → PlacedBlocks → Result Bool ReadEnd → Type 0
 FindsBehind r old new b b' result = IfOk result (FindsPart (live_files r old) (live_files r new) (turns b) (parts_left (live_files r old) b) b b')
 
 -- The first part was begun, of all.
-abbrev pub FindsFirst : {S : Type 0} → Ghosts S → S → S → PlacedBlocks → PlacedBlocks → Result (Option ℕ) ReadEnd → Type 0
+abbrev pub FindsFirst : {S : Type 0} → Ghosts S → S → S → PlacedBlocks → PlacedBlocks → Result Bool ReadEnd → Type 0
 FindsFirst r old new b b' result =
     IfOk result (FindsPart (live_files r old) (live_files r new) (way b.merge + 1) (parts (split_in b) (left (live_files r old) b.merge)) b b')
 
@@ -198,35 +198,35 @@ abbrev pub next_output : LiveFiles → OutputSpec → List Written → Part → 
 next_output f o written part = record { name = next_name o written; blocks = part.blocks; document = document_with f (next_spec o written) part }
 
 -- The output of the part that was begun can be written behind these; no file of a link was opened under a name that may be written.
-pub record CanWriteNext {S : Type 0} (r : Ghosts S) (f : writing.Ghosts S) (files : S) (o : OutputSpec) (written : List Written) (start : ℕ) (b : PlacedBlocks) : Type 0 where
+pub record CanWriteNext {S : Type 0} (r : Ghosts S) (f : writing.Ghosts S) (files : S) (o : OutputSpec) (written : List Written) (b : PlacedBlocks) : Type 0 where
   pub gives : CanGive (live_files r files) b
-  pub begun : IsPartBegun b start
+  pub begun : IsPartBegun b
   pub scale : b.cuts.scale ≡ o.limits.scale
   pub apart : IsUnwritten (f.holder files) o.split o.name b.merge
   pub records : HasRecords r f files (next_name o written) o.front o.chapters o.tags
 
 -- One output more stands, and is among those that were written; the parts from the next one on are those that were left.
-pub record WritesOne {S : Type 0} (r : Ghosts S) (f : writing.Ghosts S) (old new : S) (o : OutputSpec) (b b' : PlacedBlocks) (written written' : List Written) (next : Option ℕ) : Type 0 where
+pub record WritesOne {S : Type 0} (r : Ghosts S) (f : writing.Ghosts S) (old new : S) (o : OutputSpec) (b b' : PlacedBlocks) (written written' : List Written) (begun : Bool) : Type 0 where
   pub writes : WritesLayout (f.names old) (f.names new) (next_name o written) (document_with (live_files r old) (next_spec o written) (part_in (live_files r old) b))
   pub added : written' ≡ written ++ written_of (next_output (live_files r old) o written (part_in (live_files r old) b)) ∷ []
-  pub behind : parts_begun (live_files r new) b' next ≡ parts_left (live_files r old) b
+  pub behind : parts_begun (live_files r new) b' begun ≡ parts_left (live_files r old) b
 
 -- After a refusal it stands as a draft, or whole, or its name is as before.
-abbrev pub WritesTold : {S : Type 0} → Ghosts S → writing.Ghosts S → S → S → OutputSpec → PlacedBlocks → PlacedBlocks → List Written → List Written → Result (Option ℕ) RemuxEnd → Type 0
-WritesTold r f old new o b b' written written' (Ok next) = WritesOne r f old new o b b' written written' next
+abbrev pub WritesTold : {S : Type 0} → Ghosts S → writing.Ghosts S → S → S → OutputSpec → PlacedBlocks → PlacedBlocks → List Written → List Written → Result Bool RemuxEnd → Type 0
+WritesTold r f old new o b b' written written' (Ok begun) = WritesOne r f old new o b b' written written' begun
 WritesTold r f old new o b b' written written' (Err _) =
     StandsInTurn (f.names old) (f.names new) (draft_of (next_name o written) (document_with (live_files r old) (next_spec o written) (part_in (live_files r old) b)) ∷ [])
 
 -- So it is where the links' files are told.
-abbrev pub WritesNext : {S : Type 0} → Ghosts S → writing.Ghosts S → S → S → OutputSpec → PlacedBlocks → PlacedBlocks → List Written → List Written → Result (Option ℕ) RemuxEnd → Type 0
+abbrev pub WritesNext : {S : Type 0} → Ghosts S → writing.Ghosts S → S → S → OutputSpec → PlacedBlocks → PlacedBlocks → List Written → List Written → Result Bool RemuxEnd → Type 0
 WritesNext r f old new o b b' written written' result = IsTold (live_files r old) b.merge → WritesTold r f old new o b b' written written' result
 
--- The next part was begun; no attachments are left; and no more turns are.
-pub record FindsNext (o o' : OutputSpec) (b b' : PlacedBlocks) (written written' : List Written) (next : Option ℕ) : Type 0 where
-  pub begins : CanBeNext b' next
+-- The next part was begun, or none is left; no attachments are left; and no more turns are.
+pub record FindsNext (o o' : OutputSpec) (b b' : PlacedBlocks) (written written' : List Written) (begun : Bool) : Type 0 where
+  pub begins : CanBeNext b' begun
   pub spec : o' ≡ record o { front = record o.front { attachments = [] } }
   pub count : length written' ≡ length written + 1
-  pub on : turns_left b' next ≤ way b.merge
+  pub on : turns_left b' begun ≤ way b.merge
 
 -- what outputs are on the way, and when they stand
 abbrev pub drafts_of : List PlannedOutput → List Draft

@@ -120,9 +120,10 @@ turns b = turns_with (way b.merge) b.ahead
 
 -- ---- what holds on the way
 
--- No block has been placed.
-abbrev pub IsFresh : PlacedBlocks → Type 0
-IsFresh b = b.cuts.start ≡ None
+-- No block has been placed, and no part was begun.
+pub record IsFresh (b : PlacedBlocks) : Type 0 where
+  pub placed : b.cuts.start ≡ None
+  pub start : b.start ≡ 0
 
 -- A load at which parts end has 64 bits, and then they end at no times.
 pub record IsLimit (spec : SplitSpec) (limit : ℕ) : Type 0 where
@@ -165,9 +166,9 @@ StandsAt m c (Some a) = IsAhead m c a
 abbrev pub StandsAhead : PlacedBlocks → Type 0
 StandsAhead b = StandsAt b.merge b.cuts b.ahead
 
--- A part was begun that starts at this tick: the block ahead is of it, or none is left.
-pub record IsPartBegun (b : PlacedBlocks) (start : ℕ) : Type 0 where
-  pub starts : start ≡ start_of b.cuts
+-- A part was begun, and it is known where it starts: the block ahead is of it, or none is left.
+pub record IsPartBegun (b : PlacedBlocks) : Type 0 where
+  pub starts : b.start ≡ start_of b.cuts
   pub stands : StandsAhead b
   pub within : is_within b.ahead ≡ is_some b.ahead
 

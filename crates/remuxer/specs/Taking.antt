@@ -141,9 +141,10 @@ pub record Leaves (f h : LiveFiles) (b b' : PlacedBlocks) : Type 0 where
 abbrev pub LeavesAll : LiveFiles → LiveFiles → PlacedBlocks → PlacedBlocks → Type 0
 LeavesAll f h b b' = (if is_none b'.ahead && is_kept b'.cuts then part_in h b' ∷ [] else parts_left h b') ≡ parts (split_in b) (left f b.merge)
 
--- The next block of the merge is ahead, or all lanes have ended, and nothing was placed; fewer turns are left.
+-- The next block of the merge is ahead, or all lanes have ended, and nothing was placed; no other part was begun; fewer turns are left.
 pub record Advances (f h : LiveFiles) (b b' : PlacedBlocks) : Type 0 where
   pub stands : StandsAhead b'
+  pub start : b'.start ≡ b.start
   pub on : turns b' ≤ way b.merge
   pub same : is_some b'.ahead ≡ false → b'.cuts ≡ b.cuts
   pub left : StandsAhead b → IsTold f b.merge → Leaves f h b b'
@@ -151,9 +152,10 @@ pub record Advances (f h : LiveFiles) (b b' : PlacedBlocks) : Type 0 where
 
 -- ---- behind the part
 
--- What is ahead is behind the part, and fewer turns are left; none more where all lanes have ended.
+-- What is ahead is behind the part, of which it is known where it started; fewer turns are left, and none more where all lanes have ended.
 pub record IsOver (b b' : PlacedBlocks) : Type 0 where
   pub stands : StandsAhead b'
+  pub start : b'.start ≡ b.start
   pub behind : is_within b'.ahead ≡ false
   pub on : turns b' ≤ way b.merge
 

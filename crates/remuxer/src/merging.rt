@@ -78,6 +78,7 @@ pub fn remux<F: Files>(alloc: Global, plan: MergePlan, files: &mut F) -> Result<
         cuts,
         drives,
         ahead: None,
+        start: 0,
     };
     let written = write_parts(alloc, files, spec, &mut blocks)?;
     let summary = summary_of(alloc, written, inputs.as_slice(), &blocks.merge)?;

@@ -63,17 +63,16 @@ fn chapters_in<'a>(spec: &'a OutputSpec, part: &'a Option<Tree>) -> &'a Option<T
     if spec.split { part } else { &spec.chapters }
 }
 
-// Adds all blocks of the part that was begun, which starts at this tick, and writes the last Cluster. Answers what was cut out
-// of the chapters, where the output is split.
+// Adds all blocks of the part that was begun, and writes the last Cluster. Answers what was cut out of the chapters, where the
+// output is split.
 fn fill<F: Files>(
     alloc: Global,
     files: &mut F,
     spec: &OutputSpec,
-    start: u64,
     blocks: &mut PlacedBlocks,
     writer: &mut BlockWriter,
 ) -> Result<Option<Tree>, OutEnd>
-    requires { CanFill F.Reads F.Files.own files.old spec.now start writer.old blocks.old }
+    requires { CanFill F.Reads F.Files.own files.old spec.now writer.old blocks.old }
     ensures fills { Fills F.Reads F.Files.own spec.now files.old files.new writer.old writer.new blocks.old blocks.new result }
     ensures id { IfOk result (λ part. IfSome part (λ n. id_of n ≡ CHAPTERS)) }
     ensures writes { WritesInto F.Reads F.Files.own files.old files.new writer.old writer.new result }
@@ -81,23 +80,21 @@ fn fill<F: Files>(
     ensures over { OnOk result (IsOver blocks.old blocks.new) }
     ensures cause { HasRemuxCause F.Reads F.Files.own files.old files.new result }
 {
-    writer.add_part(files, blocks, spec.rules.as_slice(), start)?;
-    let chapters = cut_chapters(alloc, spec, start, blocks.end_of(start))?;
+    writer.add_part(files, blocks, spec.rules.as_slice())?;
+    let chapters = cut_chapters(alloc, spec, blocks.start, blocks.end_of_part())?;
     add_rest(files, &mut writer.out, &mut writer.buffer)?;
     Ok(chapters)
 }
 
-/// Writes an output of this name that has the part which was begun, and starts at this tick. Whatever is answered, no file of
-/// it is open.
+/// Writes an output of this name that has the part which was begun. Whatever is answered, no file of it is open.
 pub(crate) fn write_output<F: Files>(
     alloc: Global,
     files: &mut F,
     spec: &OutputSpec,
     name: &str,
-    start: u64,
     blocks: &mut PlacedBlocks,
 ) -> Result<WrittenPart, OutEnd>
-    requires { CanWrite F.Reads F.Files.own files.old spec.now name.now start blocks.old }
+    requires { CanWrite F.Reads F.Files.own files.old spec.now name.now blocks.old }
     ensures writes { WritesPart F.Reads F.Files.own files.old files.new spec.now name.now blocks.old result }
     ensures finds { FindsWritten F.Reads files.old files.new spec.now blocks.old blocks.new result }
     ensures goes { Goes F.Reads (data_of spec.now) files.old files.new blocks.old blocks.new result }
@@ -115,7 +112,7 @@ pub(crate) fn write_output<F: Files>(
             cues: 0,
         },
     };
-    match fill(alloc, files, spec, start, blocks, &mut writer) {
+    match fill(alloc, files, spec, blocks, &mut writer) {
         Ok(part) => {
             let written = WrittenPart {
                 blocks: writer.blocks,

@@ -35,10 +35,9 @@ fn write_own<F: Files>(
     spec: &mut OutputSpec,
     number: usize,
     name: &str,
-    start: u64,
     blocks: &mut PlacedBlocks,
 ) -> Result<WrittenPart, OutEnd>
-    requires { CanWrite F.Reads F.Files.own files.old spec.old name.now start blocks.old }
+    requires { CanWrite F.Reads F.Files.own files.old spec.old name.now blocks.old }
     ensures writes { WritesOwn F.Reads F.Files.own files.old files.new spec.old number name.now blocks.old result }
     ensures finds { FindsWritten F.Reads files.old files.new (own_spec spec.old number) blocks.old blocks.new result }
     ensures spec { OnOk result (spec.new ≡ spec.old) }
@@ -49,22 +48,21 @@ fn write_own<F: Files>(
     let uuids = uuids_at(spec.uuids.as_slice(), spec.link, number);
     let info = info_with(alloc, &spec.front.info, uuids)?;
     let plain = mem::replace(&mut spec.front.info, info);
-    let done = write_output(alloc, files, spec, name, start, blocks)?;
+    let done = write_output(alloc, files, spec, name, blocks)?;
     spec.front.info = plain;
     Ok(done)
 }
 
-// Writes the output of the part that was begun, which starts at this tick, and adds it to those that were written. Begins the
-// next one, to which no attachments go, and answers where it starts.
+// Writes the output of the part that was begun, and adds it to those that were written. Begins the next one, to which no
+// attachments go, and answers whether there is one.
 fn write_next<F: Files>(
     alloc: Global,
     files: &mut F,
     spec: &mut OutputSpec,
     blocks: &mut PlacedBlocks,
     written: &mut List<Written>,
-    start: u64,
-) -> Result<Option<u64>, OutEnd>
-    requires { CanWriteNext F.Reads F.Files.own files.old spec.old written.old start blocks.old }
+) -> Result<bool, OutEnd>
+    requires { CanWriteNext F.Reads F.Files.own files.old spec.old written.old blocks.old }
     ensures writes { WritesNext F.Reads F.Files.own files.old files.new spec.old blocks.old blocks.new written.old written.new result }
     ensures finds { IfOk result (FindsNext spec.old spec.new blocks.old blocks.new written.old written.new) }
     ensures goes { Goes F.Reads (data_of spec.old) files.old files.new blocks.old blocks.new result }
@@ -73,7 +71,7 @@ fn write_next<F: Files>(
 {
     let number = written.as_slice().len() + 1;
     let name = name_of(alloc, spec, number as u64)?;
-    let done = write_own(alloc, files, spec, number, name.as_str(), start, blocks)?;
+    let done = write_own(alloc, files, spec, number, name.as_str(), blocks)?;
     written.push(Written {
         name,
         blocks: done.blocks,
@@ -81,8 +79,8 @@ fn write_next<F: Files>(
         cues: done.counts.cues,
     })?;
     spec.front.attachments = List::new(alloc);
-    let next = blocks.next_part(files)?;
-    Ok(next)
+    let begun = blocks.next_part(files)?;
+    Ok(begun)
 }
 
 /// Writes an output for each part of a merge, one after the other, and says which were written. Attachments go to the first.
@@ -103,9 +101,9 @@ pub(crate) fn write_parts<F: Files>(
 {
     let mut spec = spec;
     let mut written = List::new(alloc);
-    let mut next = blocks.first_part(files)?;
-    'parts: while let Some(start) = next {
-        next = write_next(alloc, files, &mut spec, blocks, &mut written, start)?;
+    let mut begun = blocks.first_part(files)?;
+    'parts: while begun {
+        begun = write_next(alloc, files, &mut spec, blocks, &mut written)?;
     }
     Ok(written)
 }

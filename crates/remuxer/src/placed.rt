@@ -21,14 +21,15 @@ pub(crate) struct Ahead {
     pub(crate) place: Place,
 }
 
-/// A merge, where it is cut, and of each of its lanes whether it drives; and the block ahead: the last one that the merge has
-/// given, which isn't written.
+/// A merge, where it is cut, and of each of its lanes whether it drives; the block ahead: the last one that the merge has
+/// given, which isn't written; and the tick at which the part starts that was begun last.
 #[derive(Drop)]
 pub(crate) struct PlacedBlocks {
     pub(crate) merge: Merge,
     pub(crate) cuts: PartCuts,
     pub(crate) drives: List<bool>,
     pub(crate) ahead: Option<Ahead>,
+    pub(crate) start: u64,
 }
 
 // The tick at which the part starts that a block begins, if it begins one.
@@ -79,13 +80,13 @@ impl PlacedBlocks {
         }
     }
 
-    /// The tick at which a part ends that starts at this one: that of the block ahead, or its own start where that is later.
-    pub(crate) fn end_of(&self, start: u64) -> Option<u64>
+    /// The tick at which the part ends that was begun last: that of the block ahead, or its own start where that is later.
+    pub(crate) fn end_of_part(&self) -> Option<u64>
         requires { StandsAhead self.now }
-        ensures { result ≡ option_map (max start) (first_tick (lent_ahead self.now)) }
+        ensures { result ≡ option_map (max self.now.start) (first_tick (lent_ahead self.now)) }
     {
         match self.ahead {
-            Some(ahead) => Some(start.max(self.merge.lane(ahead.lane).head().tick)),
+            Some(ahead) => Some(self.start.max(self.merge.lane(ahead.lane).head().tick)),
             None => None,
         }
     }
@@ -110,8 +111,8 @@ impl PlacedBlocks {
         Ok(())
     }
 
-    /// Begins the next part, and answers the tick at which it starts: blocks in no part are passed over.
-    pub(crate) fn next_part<R: Reads>(&mut self, src: &mut R) -> Result<Option<u64>, ReadEnd>
+    /// Begins the next part, and answers whether there is one: blocks in no part are passed over.
+    pub(crate) fn next_part<R: Reads>(&mut self, src: &mut R) -> Result<bool, ReadEnd>
         requires gives { CanGive (live_files R.Reads src.old) self.old }
         requires stands { StandsAhead self.old }
         ensures finds { FindsBehind R.Reads src.old src.new self.old self.new result }
@@ -121,19 +122,21 @@ impl PlacedBlocks {
     {
         'passed: while let Some(ahead) = self.ahead {
             if let Some(start) = start_in(ahead.place) {
+                self.start = start;
                 self.ahead = Some(Ahead {
                     lane: ahead.lane,
                     place: Place::Same,
                 });
-                return Ok(Some(start));
+                return Ok(true);
             }
             self.advance(src)?;
         }
-        Ok(None)
+        Ok(false)
     }
 
-    /// Begins the first part. Where no block comes, the one at the beginning has none, if it is written.
-    pub(crate) fn first_part<R: Reads>(&mut self, src: &mut R) -> Result<Option<u64>, ReadEnd>
+    /// Begins the first part, and answers whether there is one. Where no block comes, the one at the beginning has none, if it
+    /// is written.
+    pub(crate) fn first_part<R: Reads>(&mut self, src: &mut R) -> Result<bool, ReadEnd>
         requires gives { CanGive (live_files R.Reads src.old) self.old }
         requires fresh { IsFresh self.old }
         ensures finds { FindsFirst R.Reads src.old src.new self.old self.new result }
@@ -143,7 +146,7 @@ impl PlacedBlocks {
     {
         self.advance(src)?;
         if self.ahead.is_none() && self.cuts.is_kept() {
-            return Ok(Some(0));
+            return Ok(true);
         }
         self.next_part(src)
     }

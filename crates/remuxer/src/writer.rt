@@ -94,16 +94,15 @@ impl BlockWriter {
         Ok(())
     }
 
-    /// Adds all blocks that are left of the part that was begun, which starts at this tick.
+    /// Adds all blocks that are left of the part that was begun.
     pub(crate) fn add_part<F: Files>(
         &mut self,
         files: &mut F,
         blocks: &mut PlacedBlocks,
         rules: &[CueRule],
-        start: u64,
     ) -> Result<(), OutEnd>
         requires can { CanTake F.Reads F.Files.own files.old self.old blocks.old }
-        requires begun { IsPartBegun blocks.old start }
+        requires begun { IsPartBegun blocks.old }
         ensures takes { TakesPart F.Reads F.Files.own rules.now files.old files.new self.old self.new blocks.old blocks.new result }
         ensures writes { WritesInto F.Reads F.Files.own files.old files.new self.old self.new result }
         ensures held { StaysSmall self.old self.new result }
@@ -112,7 +111,7 @@ impl BlockWriter {
         ensures cause { HasRemuxCause F.Reads F.Files.own files.old files.new result }
     {
         'steps: while let Some(lane) = blocks.lane_within() {
-            self.add_lent(files, blocks.merge.lane(lane), lane, rules, start)?;
+            self.add_lent(files, blocks.merge.lane(lane), lane, rules, blocks.start)?;
             blocks.advance(files)?;
         }
         Ok(())

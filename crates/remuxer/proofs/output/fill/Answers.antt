@@ -7,6 +7,7 @@ use Rattle.output_model.specs.Document.{Document}
 use Rattle.output_model.specs.declared.rule.CueRule.{CueRule}
 use Rattle.cues_seekhead.specs.Draft.{StandsDrafted, draft_of}
 use Rattle.splitter.specs.Sections.{Split}
+use Rattle.splitter.specs.Steps.{start_of}
 use Rattle.time_merge.specs.Merge.{IsTold}
 use Rattle.remuxer.proofs.StandsLemmas.{stands-drafted}
 use Rattle.remuxer.specs.Places.{IsEnd, first_tick, lent_ahead, part_in}
@@ -31,23 +32,27 @@ can g c =
     let wrote = c.in_ok-add_part.ensures.writes in
     can-again g.F.Reads g.F.Files c.args.files.now c.add_part.new.files c.args.writer.now c.add_part.new.self c.args.blocks.now c.add_part.new.blocks c.requires.can wrote.file wrote.is_open wrote.kept c.in_ok-add_part.ensures.goes
 
-start-early : (g : Over) (c : In_ok-add_part g) → c.args.start * c.args.spec.now.limits.scale < 2 ^ 64
-start-early g c = subst (λ (n : ℕ). c.args.start * n < 2 ^ 64) c.requires.scale (subst (λ (n : ℕ). n * c.args.blocks.now.cuts.scale < 2 ^ 64) (sym c.requires.begun.starts) c.requires.can.gives.early)
+starts : (g : Over) (c : In_ok-add_part g) → c.add_part.new.blocks.start ≡ start_of c.args.blocks.now.cuts
+starts g c = c.in_ok-add_part.ensures.over.start ∙ c.requires.begun.starts
+
+start-early : (g : Over) (c : In_ok-add_part g) → c.add_part.new.blocks.start * c.args.spec.now.limits.scale < 2 ^ 64
+start-early g c =
+    subst (λ (n : ℕ). c.add_part.new.blocks.start * n < 2 ^ 64) c.requires.scale (subst (λ (n : ℕ). n * c.args.blocks.now.cuts.scale < 2 ^ 64) (sym (starts g c)) c.requires.can.gives.early)
 
 pub cut_chapters-requires-clause-start : goal.cut_chapters-requires-clause-start
 cut_chapters-requires-clause-start g c = start-early g (goal.at.cut_chapters-requires-clause-start g c).In_ok-add_part
 
-pub end_of-requires : goal.end_of-requires
-end_of-requires g c = c.in_ok-add_part.ensures.over.stands
+pub end_of_part-requires : goal.end_of_part-requires
+end_of_part-requires g c = c.in_ok-add_part.ensures.over.stands
 
 pub cut_chapters-requires-clause-end : goal.cut_chapters-requires-clause-end
 cut_chapters-requires-clause-end g c =
     let after = (goal.at.cut_chapters-requires-clause-end g c).In_ok-add_part in
     let q = c.add_part.new.blocks in
     let scale : q.cuts.scale ≡ c.args.spec.now.limits.scale = ap (λ (s : Split). s.scale) c.in_ok-add_part.ensures.goes.split ∙ c.requires.scale in
-    let early = subst (λ (n : ℕ). c.args.start * n < 2 ^ 64) (sym scale) (start-early g after) in
-    subst (λ (o : Option ℕ). IfSome o (IsEnd c.args.spec.now.limits.scale c.args.start)) (sym c.end_of.ensures)
-    (subst (λ (n : ℕ). IfSome (option_map (max c.args.start) (first_tick (lent_ahead q))) (IsEnd n c.args.start)) scale (ahead-end q c.args.start early c.in_ok-add_part.ensures.over.stands))
+    let early = subst (λ (n : ℕ). q.start * n < 2 ^ 64) (sym scale) (start-early g after) in
+    subst (λ (o : Option ℕ). IfSome o (IsEnd c.args.spec.now.limits.scale q.start)) (sym c.end_of_part.ensures)
+    (subst (λ (n : ℕ). IfSome (option_map (max q.start) (first_tick (lent_ahead q))) (IsEnd n q.start)) scale (ahead-end q q.start early c.in_ok-add_part.ensures.over.stands))
 
 -- the output stays a draft where something is refused then
 drafted : (g : Over) (c : In_ok-add_part g) (now : g.row.F.Denot) → ((before : Names) (name : List ℕ) (d : Document) → Stands g.F.Reads g.F.Files before name c.args.spec.now.rules d c.add_part.new.files c.add_part.new.self.out c.add_part.new.self.buffer c.add_part.new.self.counts [] → StandsDrafted before (g.F.Files.names now) (draft_of name d))
@@ -84,7 +89,7 @@ returns-clause-fills g c = λ told.
     let q = c.add_part.new.blocks in
     let only = c.in_ok-add_rest.ensures.only in
     fills-part g.F.Reads g.F.Files c.args.spec.now c.as_slice.result.now c.args.files.now x c.args.writer.now v c.args.blocks.now q c.as_slice.ensures (c.in_ok-add_part.ensures.takes told) c.in_ok-add_part.ensures.over
-    c.add_rest.new.files (record v { out = c.add_rest.new.out; buffer = c.add_rest.new.buffer }) c.args.start c.in_ok-chapters.chapters c.end_of.result c.requires.begun.starts c.end_of.ensures c.in_ok-chapters.ensures.exact
+    c.add_rest.new.files (record v { out = c.add_rest.new.out; buffer = c.add_rest.new.buffer }) q.start c.in_ok-chapters.chapters c.end_of_part.result (starts g (goal.at.returns-clause-fills g c).In_ok-add_part) c.end_of_part.ensures c.in_ok-chapters.ensures.exact
     (rest-left g.F.Reads g.F.Files x c.add_rest.new.files v q (can g (goal.at.returns-clause-fills g c).In_ok-add_part) only.kept only.octets) c.in_ok-add_rest.ensures.ends refl refl
 
 pub returns-clause-writes : goal.returns-clause-writes

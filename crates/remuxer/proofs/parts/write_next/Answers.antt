@@ -134,33 +134,33 @@ kept-then g c h standing kept =
     (read-keeps g.F.Reads g.F.Files c.write_own.new.files h (read g c.write_own.new.files h standing) (next_name c.args.spec.now c.args.written.now ∷ [])))
 
 -- it couldn't be looked for
-pub returns-in_err-next-clause-writes : goal.returns-in_err-next-clause-writes
-returns-in_err-next-clause-writes g c = λ told.
-    let end = err_from_is_err_and c.from_residual-in_err-next.result c.from_residual-in_err-next.ensures.1 in
-    let after = (goal.at.returns-in_err-next-clause-writes g c).After-write_own in
-    let d = its g (goal.at.returns-in_err-next-clause-writes g c).After-as_str (length c.args.written.now + 1) in
-    rw end.1 (subst (λ (names : Names). StandsInTurn (g.F.Files.names c.args.files.now) names (draft_of (next_name c.args.spec.now c.args.written.now) d ∷ [])) (sym (read g c.write_own.new.files c.next_part.new.src c.in_err-next.ensures.standing).names)
+pub returns-in_err-begun-clause-writes : goal.returns-in_err-begun-clause-writes
+returns-in_err-begun-clause-writes g c = λ told.
+    let end = err_from_is_err_and c.from_residual-in_err-begun.result c.from_residual-in_err-begun.ensures.1 in
+    let after = (goal.at.returns-in_err-begun-clause-writes g c).After-write_own in
+    let d = its g (goal.at.returns-in_err-begun-clause-writes g c).After-as_str (length c.args.written.now + 1) in
+    rw end.1 (subst (λ (names : Names). StandsInTurn (g.F.Files.names c.args.files.now) names (draft_of (next_name c.args.spec.now c.args.written.now) d ∷ [])) (sym (read g c.write_own.new.files c.next_part.new.src c.in_err-begun.ensures.standing).names)
     (whole g after (c.in_ok-done.ensures.writes told)))
 
-pub returns-in_err-next-clause-kept : goal.returns-in_err-next-clause-kept
-returns-in_err-next-clause-kept g c = kept-then g (goal.at.returns-in_err-next-clause-kept g c).After-write_own c.next_part.new.src c.in_err-next.ensures.standing c.in_ok-done.ensures.kept
+pub returns-in_err-begun-clause-kept : goal.returns-in_err-begun-clause-kept
+returns-in_err-begun-clause-kept g c = kept-then g (goal.at.returns-in_err-begun-clause-kept g c).After-write_own c.next_part.new.src c.in_err-begun.ensures.standing c.in_ok-done.ensures.kept
 
-pub returns-in_err-next-clause-goes : goal.returns-in_err-next-clause-goes
-returns-in_err-next-clause-goes g c =
-    let end = err_from_is_err_and c.from_residual-in_err-next.result c.from_residual-in_err-next.ensures.1 in
+pub returns-in_err-begun-clause-goes : goal.returns-in_err-begun-clause-goes
+returns-in_err-begun-clause-goes g c =
+    let end = err_from_is_err_and c.from_residual-in_err-begun.result c.from_residual-in_err-begun.ensures.1 in
     let paid = c.in_ok-done.ensures.goes.paid in
     let long = c.in_ok-done.ensures.goes.length in
-    let more = c.in_err-next.ensures.goes in
+    let more = c.in_err-begun.ensures.goes in
     rw end.1 (omega (arith, paid, long, more))
 
-pub returns-in_err-next-clause-cause : goal.returns-in_err-next-clause-cause
-returns-in_err-next-clause-cause g c =
-    let end = err_from_is_err_and c.from_residual-in_err-next.result c.from_residual-in_err-next.ensures.1 in
+pub returns-in_err-begun-clause-cause : goal.returns-in_err-begun-clause-cause
+returns-in_err-begun-clause-cause g c =
+    let end = err_from_is_err_and c.from_residual-in_err-begun.result c.from_residual-in_err-begun.ensures.1 in
     let e = c.write_own.new.files in
     let h = c.next_part.new.src in
     rw (end.1, end.2)
     (HasRemuxCause-then g.F.Reads g.F.Files c.args.files.now e h _ c.in_ok-done.ensures.cause.reading c.in_ok-done.ensures.cause.writing
-    (HasRemuxCause-read g.F.Reads g.F.Files e h c.in_err-next.field-0.0 (g.met.F.Files.writing_stands h e c.in_err-next.ensures.standing) c.in_err-next.ensures.cause))
+    (HasRemuxCause-read g.F.Reads g.F.Files e h c.in_err-begun.field-0.0 (g.met.F.Files.writing_stands h e c.in_err-begun.ensures.standing) c.in_err-begun.ensures.cause))
 
 -- it was found
 pub returns-clause-writes : goal.returns-clause-writes
@@ -174,18 +174,18 @@ returns-clause-writes g c = λ told.
     let stood = stands g (goal.at.returns-clause-writes g c).After-write_own (c.in_ok-done.ensures.writes told) in
     let wrote = subst (λ (n : ℕ). CountsPart f (live_files g.F.Reads e) (own_spec spec n) c.args.blocks.now c.write_own.new.blocks done) (num g named) (c.in_ok-done.ensures.finds.told told) in
     record {
-      writes = record { names = (read g e c.next_part.new.src c.in_ok-next.ensures.standing).names ∙ stood.names; becomes = stood.becomes; short = stood.short };
+      writes = record { names = (read g e c.next_part.new.src c.in_ok-begun.ensures.standing).names ∙ stood.names; becomes = stood.becomes; short = stood.short };
       added = c.in_ok-push.ensures.ok
           ∙ ap (λ (n : List ℕ). let w : Written = record { name = n; blocks = done.blocks; clusters = done.counts.clusters; cues = done.counts.cues } in written ++ w ∷ []) (sym c.as_str.ensures.same ∙ same g named)
           ∙ ap (λ (blocks : ℕ). let w : Written = record { name = next_name spec written; blocks = blocks; clusters = done.counts.clusters; cues = done.counts.cues } in written ++ w ∷ []) wrote.count
           ∙ ap₂ (λ (clusters cues : ℕ). let w : Written = record { name = next_name spec written; blocks = counted 0 (length (part_in f c.args.blocks.now).blocks); clusters = clusters; cues = cues } in written ++ w ∷ []) wrote.counts.clusters wrote.counts.cues;
-      behind = c.in_ok-next.ensures.finds.found (c.in_ok-done.ensures.goes.told told).told ∙ wrote.behind;
+      behind = c.in_ok-begun.ensures.finds.found (c.in_ok-done.ensures.goes.told told).told ∙ wrote.behind;
     }
 
 pub returns-clause-finds : goal.returns-clause-finds
 returns-clause-finds g c =
     let done = c.in_ok-done.ensures.finds in
-    let next = c.in_ok-next.ensures.finds in
+    let next = c.in_ok-begun.ensures.finds in
     record {
       begins = next.begins;
       spec =
@@ -197,18 +197,18 @@ returns-clause-finds g c =
 
 pub returns-clause-goes : goal.returns-clause-goes
 returns-clause-goes g c =
-    goes-more g.F.Reads (data_of c.args.spec.now) c.args.files.now c.write_own.new.files c.next_part.new.src c.args.blocks.now c.write_own.new.blocks c.next_part.new.self c.in_ok-done.ensures.goes c.in_ok-next.ensures.goes
+    goes-more g.F.Reads (data_of c.args.spec.now) c.args.files.now c.write_own.new.files c.next_part.new.src c.args.blocks.now c.write_own.new.blocks c.next_part.new.self c.in_ok-done.ensures.goes c.in_ok-begun.ensures.goes
 
 pub returns-clause-cause : goal.returns-clause-cause
 returns-clause-cause g c =
     let a = c.args.files.now in
     let e = c.write_own.new.files in
     let h = c.next_part.new.src in
-    let read = only-read g.F.Reads g.F.Files e h c.in_ok-next.ensures.standing g.met.F.Files.names_stand g.met.F.Files.holders_stand g.met.F.Files.given_stands g.met.F.Files.asked_stands in
+    let read = only-read g.F.Reads g.F.Files e h c.in_ok-begun.ensures.standing g.met.F.Files.names_stand g.met.F.Files.holders_stand g.met.F.Files.given_stands g.met.F.Files.asked_stands in
     record {
-      reading = c.in_ok-next.ensures.cause ∙ c.in_ok-done.ensures.cause.reading;
-      writing = g.met.F.Files.writing_stands h e c.in_ok-next.ensures.standing ∙ c.in_ok-done.ensures.cause.writing;
+      reading = c.in_ok-begun.ensures.cause ∙ c.in_ok-done.ensures.cause.reading;
+      writing = g.met.F.Files.writing_stands h e c.in_ok-begun.ensures.standing ∙ c.in_ok-done.ensures.cause.writing;
     }
 
 pub returns-clause-kept : goal.returns-clause-kept
-returns-clause-kept g c = kept-then g (goal.at.returns-clause-kept g c).After-write_own c.next_part.new.src c.in_ok-next.ensures.standing c.in_ok-done.ensures.kept
+returns-clause-kept g c = kept-then g (goal.at.returns-clause-kept g c).After-write_own c.next_part.new.src c.in_ok-begun.ensures.standing c.in_ok-done.ensures.kept

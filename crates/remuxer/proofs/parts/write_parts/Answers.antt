@@ -1,4 +1,4 @@
-use Rattle.std.proofs.Common.{◌≡◌, ℕ, List, Option, Some, None, sym, ◌∙◌, subst, arith}
+use Rattle.std.proofs.Common.{◌≡◌, List, sym, ◌∙◌, subst, arith}
 use Rattle.std.proofs.lemmas.Result.{err_from_is_err_and}
 use Rattle.mkv_io.specs.Names.{Names}
 use Rattle.mkv_io.specs.Sources.{live_files}
@@ -7,37 +7,36 @@ use Rattle.mkv_outputs.specs.Drafts.{StandsInTurn}
 use Rattle.mkv_outputs.proofs.DraftsLemmas.{StandsInTurn-none}
 use Rattle.remux_plan.specs.declared.summary.Written.{Written}
 use Rattle.remuxer.specs.Output.{drafts_of, outputs_left}
-use Rattle.remuxer.proofs.OutputsLemmas.{OnTheWay, all-summed, all-written, keeps-read, refused-next, way-apart, way-begins, way-keeps, way-next, way-records, way-refused, way-scale}
+use Rattle.remuxer.proofs.OutputsLemmas.{OnTheWay, all-summed, all-written, keeps-read, refused-next, way-apart, way-at, way-begins, way-keeps, way-next, way-records, way-refused, way-scale}
 use Rattle.remuxer.proofs.TakingLemmas.{OnlyRead, merge-ends, only-read}
 use Rattle.remuxer.proofs.parts.write_parts.Given.{Over}
 use Rattle.remuxer.proofs.parts.write_parts.Goals as goal
-use Rattle.remuxer.proofs.parts.write_parts.Goals.{After-write_next, In_default}
 
 -- files that were only read
 read : (g : Over) (a b : g.row.F.Denot) → g.F.Reads.standing b ≡ g.F.Reads.standing a → OnlyRead g.F.Reads g.F.Files a b
 read g a b standing = only-read g.F.Reads g.F.Files a b standing g.met.F.Files.names_stand g.met.F.Files.holders_stand g.met.F.Files.given_stands g.met.F.Files.asked_stands
 
 -- the first part couldn't be looked for
-pub returns-in_err-next-clause-writes : goal.returns-in_err-next-clause-writes
-returns-in_err-next-clause-writes g c = λ told.
+pub returns-in_err-begun-clause-writes : goal.returns-in_err-begun-clause-writes
+returns-in_err-begun-clause-writes g c = λ told.
     let end = err_from_is_err_and c.from_residual.result c.from_residual.ensures.1 in
     let a = c.args.files.now in
     let b = c.first_part.new.src in
     let all = drafts_of (outputs_left (live_files g.F.Reads a) c.args.spec c.args.blocks.now) in
-    rw end.1 (subst (λ (names : Names). StandsInTurn (g.F.Files.names a) names all) (sym (read g a b c.in_err-next.ensures.standing).names) (StandsInTurn-none (g.F.Files.names a) all))
+    rw end.1 (subst (λ (names : Names). StandsInTurn (g.F.Files.names a) names all) (sym (read g a b c.in_err-begun.ensures.standing).names) (StandsInTurn-none (g.F.Files.names a) all))
 
-pub returns-in_err-next-clause-kept : goal.returns-in_err-next-clause-kept
-returns-in_err-next-clause-kept g c =
+pub returns-in_err-begun-clause-kept : goal.returns-in_err-begun-clause-kept
+returns-in_err-begun-clause-kept g c =
     let a = c.args.files.now in
     let b = c.first_part.new.src in
-    keeps-read g.F.Reads g.F.Files c.args.spec.split c.args.spec.name a b (read g a b c.in_err-next.ensures.standing)
+    keeps-read g.F.Reads g.F.Files c.args.spec.split c.args.spec.name a b (read g a b c.in_err-begun.ensures.standing)
 
-pub returns-in_err-next-clause-cause : goal.returns-in_err-next-clause-cause
-returns-in_err-next-clause-cause g c =
+pub returns-in_err-begun-clause-cause : goal.returns-in_err-begun-clause-cause
+returns-in_err-begun-clause-cause g c =
     let end = err_from_is_err_and c.from_residual.result c.from_residual.ensures.1 in
     let a = c.args.files.now in
     let b = c.first_part.new.src in
-    rw (end.1, end.2) (HasRemuxCause-read g.F.Reads g.F.Files a b c.in_err-next.field-0.0 (g.met.F.Files.writing_stands b a c.in_err-next.ensures.standing) c.in_err-next.ensures.cause)
+    rw (end.1, end.2) (HasRemuxCause-read g.F.Reads g.F.Files a b c.in_err-begun.field-0.0 (g.met.F.Files.writing_stands b a c.in_err-begun.ensures.standing) c.in_err-begun.ensures.cause)
 
 -- ---- the parts
 
@@ -46,10 +45,10 @@ parts-init g c =
     let a = c.args.files.now in
     let b = c.first_part.new.src in
     record {
-      way = subst (λ (written : List Written). OnTheWay g.F.Reads g.F.Files c.args.spec a c.args.blocks.now b c.args.spec c.first_part.new.self written c.in_ok-next.next) (sym c.new-written.ensures)
-          (way-begins g.F.Reads g.F.Files c.args.spec a c.args.blocks.now b c.first_part.new.self c.in_ok-next.next _ (read g a b c.in_ok-next.ensures.standing) c.in_ok-next.ensures.goes c.in_ok-next.ensures.finds c.requires.records.attached);
-      reading = c.in_ok-next.ensures.cause;
-      writing = g.met.F.Files.writing_stands b a c.in_ok-next.ensures.standing;
+      way = subst (λ (written : List Written). OnTheWay g.F.Reads g.F.Files c.args.spec a c.args.blocks.now b c.args.spec c.first_part.new.self written c.in_ok-begun.begun) (sym c.new-written.ensures)
+          (way-begins g.F.Reads g.F.Files c.args.spec a c.args.blocks.now b c.first_part.new.self c.in_ok-begun.begun _ (read g a b c.in_ok-begun.ensures.standing) c.in_ok-begun.ensures.goes c.in_ok-begun.ensures.finds c.requires.records.attached);
+      reading = c.in_ok-begun.ensures.cause;
+      writing = g.met.F.Files.writing_stands b a c.in_ok-begun.ensures.standing;
     }
 
 pub write_next-requires : goal.write_next-requires
@@ -63,70 +62,64 @@ write_next-requires g c =
     let o' = c.parts.spec in
     let p' = c.parts.blocks in
     let written = c.parts.written in
-    let way = subst (λ (next : Option ℕ). OnTheWay r f o a p b o' p' written next) c.in-Some.is c.parts.invariant.way in
+    let way = way-at c.parts-test.true c.parts.invariant.way in
     record {
       gives = way.goes.gives;
       begun = way.begins;
-      scale = way-scale r f o a p b o' p' written c.in-Some.start way c.requires.scale;
-      apart = way-apart r f o a p b o' p' written c.in-Some.start way c.requires.apart c.requires.gives.ready;
-      records = way-records r f o a p b o' p' written c.in-Some.start way c.requires.records;
+      scale = way-scale r f o a p b o' p' written way c.requires.scale;
+      apart = way-apart r f o a p b o' p' written way c.requires.apart c.requires.gives.ready;
+      records = way-records r f o a p b o' p' written way c.requires.records;
     }
 
 -- a part is next
-way : (g : Over) (c : After-write_next g) → OnTheWay g.F.Reads g.F.Files c.args.spec c.args.files.now c.args.blocks.now c.parts.files c.parts.spec c.parts.blocks c.parts.written (Some c.in-Some.start)
-way g c = subst (λ (next : Option ℕ). OnTheWay g.F.Reads g.F.Files c.args.spec c.args.files.now c.args.blocks.now c.parts.files c.parts.spec c.parts.blocks c.parts.written next) c.in-Some.is c.parts.invariant.way
-
 pub parts-preserved : goal.parts-preserved
 parts-preserved g c =
-    let next = c.in_ok-next-2.ensures in
+    let next = c.in_ok-begun-2.ensures in
     record {
-      way = way-next g.F.Reads g.F.Files c.args.spec c.args.files.now c.args.blocks.now c.parts.files c.parts.spec c.parts.blocks c.parts.written c.in-Some.start (way g (goal.at.parts-preserved g c).After-write_next)
-          c.write_next.new.files c.write_next.new.spec c.write_next.new.blocks c.write_next.new.written c.in_ok-next-2.next next.finds next.goes next.kept next.writes;
+      way = way-next g.F.Reads g.F.Files c.args.spec c.args.files.now c.args.blocks.now c.parts.files c.parts.spec c.parts.blocks c.parts.written (way-at c.parts-test.true c.parts.invariant.way)
+          c.write_next.new.files c.write_next.new.spec c.write_next.new.blocks c.write_next.new.written c.in_ok-begun-2.begun next.finds next.goes next.kept next.writes;
       reading = next.cause.reading ∙ c.parts.invariant.reading;
       writing = next.cause.writing ∙ c.parts.invariant.writing;
     }
 
 pub parts-smaller : goal.parts-smaller
 parts-smaller g c =
-    let on = c.in_ok-next-2.ensures.finds.on in
-    rw c.in-Some.is (omega (arith, on))
+    let on = c.in_ok-begun-2.ensures.finds.on in
+    rw c.parts-test.true (omega (arith, on))
 
 -- one was refused
-pub returns-in_err-next-2-clause-writes : goal.returns-in_err-next-2-clause-writes
-returns-in_err-next-2-clause-writes g c = λ told.
-    let end = err_from_is_err_and c.from_residual-in_err-next-2.result c.from_residual-in_err-next-2.ensures.1 in
-    let now = way g (goal.at.returns-in_err-next-2-clause-writes g c).After-write_next in
-    rw end.1 (refused-next g.F.Reads g.F.Files c.args.spec c.args.files.now c.args.blocks.now c.parts.files c.parts.spec c.parts.blocks c.parts.written c.in-Some.start now told (g.F.Files.names c.write_next.new.files) (c.in_err-next-2.ensures.writes (now.goes.told told).told))
+pub returns-in_err-begun-2-clause-writes : goal.returns-in_err-begun-2-clause-writes
+returns-in_err-begun-2-clause-writes g c = λ told.
+    let end = err_from_is_err_and c.from_residual-in_err-begun-2.result c.from_residual-in_err-begun-2.ensures.1 in
+    let now = way-at c.parts-test.true c.parts.invariant.way in
+    rw end.1 (refused-next g.F.Reads g.F.Files c.args.spec c.args.files.now c.args.blocks.now c.parts.files c.parts.spec c.parts.blocks c.parts.written now told (g.F.Files.names c.write_next.new.files) (c.in_err-begun-2.ensures.writes (now.goes.told told).told))
 
-pub returns-in_err-next-2-clause-kept : goal.returns-in_err-next-2-clause-kept
-returns-in_err-next-2-clause-kept g c =
-    way-keeps g.F.Reads g.F.Files c.args.spec c.args.files.now c.args.blocks.now c.parts.files c.parts.spec c.parts.blocks c.parts.written c.in-Some.start (way g (goal.at.returns-in_err-next-2-clause-kept g c).After-write_next) c.write_next.new.files c.in_err-next-2.ensures.kept
+pub returns-in_err-begun-2-clause-kept : goal.returns-in_err-begun-2-clause-kept
+returns-in_err-begun-2-clause-kept g c =
+    way-keeps g.F.Reads g.F.Files c.args.spec c.args.files.now c.args.blocks.now c.parts.files c.parts.spec c.parts.blocks c.parts.written (way-at c.parts-test.true c.parts.invariant.way) c.write_next.new.files c.in_err-begun-2.ensures.kept
 
-pub returns-in_err-next-2-clause-octets : goal.returns-in_err-next-2-clause-octets
-returns-in_err-next-2-clause-octets g c =
-    way-refused g.F.Reads g.F.Files c.args.spec c.args.files.now c.args.blocks.now c.parts.files c.parts.spec c.parts.blocks c.parts.written c.in-Some.start (way g (goal.at.returns-in_err-next-2-clause-octets g c).After-write_next) c.write_next.new.files c.in_err-next-2.ensures.goes
+pub returns-in_err-begun-2-clause-octets : goal.returns-in_err-begun-2-clause-octets
+returns-in_err-begun-2-clause-octets g c =
+    way-refused g.F.Reads g.F.Files c.args.spec c.args.files.now c.args.blocks.now c.parts.files c.parts.spec c.parts.blocks c.parts.written (way-at c.parts-test.true c.parts.invariant.way) c.write_next.new.files c.in_err-begun-2.ensures.goes
 
 -- none is left
-last : (g : Over) (c : In_default g) → OnTheWay g.F.Reads g.F.Files c.args.spec c.args.files.now c.args.blocks.now c.parts.files c.parts.spec c.parts.blocks c.parts.written None
-last g c = subst (λ (next : Option ℕ). OnTheWay g.F.Reads g.F.Files c.args.spec c.args.files.now c.args.blocks.now c.parts.files c.parts.spec c.parts.blocks c.parts.written next) c.in_default.is c.parts.invariant.way
-
 pub returns-clause-writes : goal.returns-clause-writes
-returns-clause-writes g c = λ told. all-written g.F.Reads g.F.Files c.args.spec c.args.files.now c.parts.files c.args.blocks.now c.parts.blocks c.parts.spec c.parts.written ((last g (goal.at.returns-clause-writes g c).In_default).standing told)
+returns-clause-writes g c = λ told. all-written g.F.Reads g.F.Files c.args.spec c.args.files.now c.parts.files c.args.blocks.now c.parts.blocks c.parts.spec c.parts.written ((way-at c.parts-test.false c.parts.invariant.way).standing told)
 
 pub returns-clause-written : goal.returns-clause-written
-returns-clause-written g c = λ told. all-summed g.F.Reads g.F.Files c.args.spec c.args.files.now c.parts.files c.args.blocks.now c.parts.blocks c.parts.spec c.parts.written ((last g (goal.at.returns-clause-written g c).In_default).standing told)
+returns-clause-written g c = λ told. all-summed g.F.Reads g.F.Files c.args.spec c.args.files.now c.parts.files c.args.blocks.now c.parts.blocks c.parts.spec c.parts.written ((way-at c.parts-test.false c.parts.invariant.way).standing told)
 
 pub returns-clause-ends : goal.returns-clause-ends
 returns-clause-ends g c =
-    let now = last g (goal.at.returns-clause-ends g c).In_default in
+    let now = way-at c.parts-test.false c.parts.invariant.way in
     merge-ends g.F.Reads now.read c.args.files.now c.parts.files c.args.blocks.now c.parts.blocks now.goes now.begins
 
 pub returns-clause-kept : goal.returns-clause-kept
-returns-clause-kept g c = (last g (goal.at.returns-clause-kept g c).In_default).kept
+returns-clause-kept g c = (way-at c.parts-test.false c.parts.invariant.way).kept
 
 pub returns-clause-octets : goal.returns-clause-octets
 returns-clause-octets g c =
-    let now = last g (goal.at.returns-clause-octets g c).In_default in
+    let now = way-at c.parts-test.false c.parts.invariant.way in
     let paid = now.goes.paid in
     let rest = now.data_left in
     omega (arith, paid, rest)

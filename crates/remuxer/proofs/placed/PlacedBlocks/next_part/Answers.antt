@@ -53,7 +53,7 @@ returns-in-Some-start_in-clause-finds g c =
 pub returns-in-Some-start_in-clause-goes : goal.returns-in-Some-start_in-clause-goes
 returns-in-Some-start_in-clause-goes g c =
     let inv = c.passed.invariant in
-    goes-then g.R.Reads 0 0 c.args.src.now c.passed.src c.passed.src c.args.self.now c.passed.self _ inv.goes (goes-idle g.R.Reads c.passed.src c.passed.self _ inv.goes.gives)
+    goes-then g.R.Reads 0 0 c.args.src.now c.passed.src c.passed.src c.args.self.now c.passed.self _ inv.goes (goes-idle g.R.Reads c.passed.src c.passed.self _ _ inv.goes.gives)
 
 -- none is left
 pub returns-clause-finds : goal.returns-clause-finds

@@ -40,8 +40,9 @@ steps-init g c =
     record {
       writes = record { file = refl; is_open = c.requires.can.is_open; kept = KeepsOthers-none g.F.Reads g.F.Files _ c.args.files.now };
       held = λ small. small;
-      goes = goes-idle g.F.Reads c.args.files.now p p.ahead c.requires.can.gives;
+      goes = goes-idle g.F.Reads c.args.files.now p p.ahead p.start c.requires.can.gives;
       stands = begun.stands;
+      start = refl;
       on = λ isnt. let none = none-turns (way p.merge) p.ahead begun.within isnt in omega (arith, none);
       less = omega arith;
       reading = refl;
@@ -73,7 +74,7 @@ returns-in_err-add_lent-clause-takes g c =
     let inv = c.steps.invariant in
     let p = c.args.blocks.now in
     rw end.1 (λ told before name d stands.
-    lent-drafted g.F.Reads g.F.Files c.args.rules.now c.args.start (start_of p.cuts) c.requires.begun.starts c.steps.files c.add_lent.new.files c.steps.self c.steps.self c.steps.blocks (block_lent c.in-Some.lane c.lane.result.now) (lends g after).in_it (one g after)
+    lent-drafted g.F.Reads g.F.Files c.args.rules.now c.steps.blocks.start (start_of p.cuts) (c.steps.invariant.start ∙ c.requires.begun.starts) c.steps.files c.add_lent.new.files c.steps.self c.steps.self c.steps.blocks (block_lent c.in-Some.lane c.lane.result.now) (lends g after).in_it (one g after)
     c.in_err-add_lent.ensures.takes before name d ((inv.takes told).stands before name d stands))
 
 pub returns-in_err-add_lent-clause-writes : goal.returns-in_err-add_lent-clause-writes
@@ -116,7 +117,7 @@ returns-in_err-advance-clause-takes g c =
     let after = (goal.at.returns-in_err-advance-clause-takes g c).After-lane in
     let p = c.args.blocks.now in
     rw end.1 (λ told before name d stands.
-    next-drafted g.F.Reads g.F.Files c.args.rules.now c.args.start (start_of p.cuts) c.requires.begun.starts c.steps.files c.add_lent.new.files c.steps.self c.add_lent.new.self c.steps.blocks (block_lent c.in-Some.lane c.lane.result.now) (lends g after).in_it (one g after)
+    next-drafted g.F.Reads g.F.Files c.args.rules.now c.steps.blocks.start (start_of p.cuts) (c.steps.invariant.start ∙ c.requires.begun.starts) c.steps.files c.add_lent.new.files c.steps.self c.add_lent.new.self c.steps.blocks (block_lent c.in-Some.lane c.lane.result.now) (lends g after).in_it (one g after)
     c.in_ok-add_lent.ensures.takes c.advance.new.src (read g c.add_lent.new.files c.advance.new.src c.in_err-advance.ensures.standing) before name d ((c.steps.invariant.takes told).stands before name d stands))
 
 pub returns-in_err-advance-clause-writes : goal.returns-in_err-advance-clause-writes
@@ -162,13 +163,14 @@ steps-preserved g c =
       held = λ small. c.in_ok-add_lent.ensures.held (inv.held small);
       goes = goes-then g.F.Reads 0 0 c.args.files.now b e p q q' (went g after) next.goes;
       stands = next.advances.stands;
+      start = next.advances.start ∙ inv.start;
       on = λ isnt. let on = next.advances.on in let less = inv.less in omega (arith, on, less);
       less = let on = next.advances.on in let less = inv.less in let least = least-turns (way q'.merge) q'.ahead in omega (arith, on, less, least);
       reading = next.cause ∙ c.in_ok-add_lent.ensures.cause.reading ∙ inv.reading;
       writing = g.met.F.Files.writing_stands e b next.standing ∙ c.in_ok-add_lent.ensures.cause.writing ∙ inv.writing;
       takes = λ told.
           let here = (inv.goes.told told).told in
-          let some = some-next g.F.Reads g.F.Files c.args.rules.now c.args.start (start_of p.cuts) c.requires.begun.starts a b c.steps.self c.add_lent.new.self q (block_lent c.in-Some.lane c.lane.result.now) (lends g lane).in_it (one g lane)
+          let some = some-next g.F.Reads g.F.Files c.args.rules.now c.steps.blocks.start (start_of p.cuts) (c.steps.invariant.start ∙ c.requires.begun.starts) a b c.steps.self c.add_lent.new.self q (block_lent c.in-Some.lane c.lane.result.now) (lends g lane).in_it (one g lane)
           c.in_ok-add_lent.ensures.takes e (read g b e next.standing) q' (rest-left g.F.Reads g.F.Files a b c.steps.self q (can g lane) c.in_ok-add_lent.ensures.writes.kept c.in_ok-add_lent.ensures.octets) c.in_ok-add_lent.ensures.count
           (next.advances.left inv.stands (goes.told here).told) in
           some-then g.F.Reads g.F.Files c.args.rules.now (start_of p.cuts) c.args.files.now a e c.args.self.now c.steps.self c.add_lent.new.self p q q' (inv.takes told) some;
@@ -184,4 +186,4 @@ steps-smaller g c =
 pub returns-clause-over : goal.returns-clause-over
 returns-clause-over g c =
     let isnt = ap (λ (o : Option ℕ). is_some o) (sym c.in_default.ensures) in
-    record { stands = c.steps.invariant.stands; behind = isnt; on = c.steps.invariant.on isnt }
+    record { stands = c.steps.invariant.stands; start = c.steps.invariant.start; behind = isnt; on = c.steps.invariant.on isnt }

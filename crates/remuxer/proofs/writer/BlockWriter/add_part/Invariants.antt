@@ -13,6 +13,7 @@ invariant-steps g l = record {
   held : HoldsSmall l.initial.self.buffer → HoldsSmall l.self.buffer;
   goes : GoesOn g.F.Reads 0 l.initial.files l.files l.initial.blocks l.blocks;
   stands : StandsAhead l.blocks;
+  start : l.blocks.start ≡ l.initial.blocks.start;
   on : is_within l.blocks.ahead ≡ false → turns l.blocks ≤ way l.initial.blocks.merge;
   less : way l.blocks.merge ≤ way l.initial.blocks.merge;
   reading : g.F.Reads.reading_faults l.files ≡ g.F.Reads.reading_faults l.initial.files;
