@@ -177,25 +177,44 @@ abbrev pub FindsFirst : {S : Type 0} → Ghosts S → S → S → PlacedBlocks �
 FindsFirst r old new b b' result =
     IfOk result (FindsPart (live_files r old) (live_files r new) (way b.merge + 1) (parts (split_in b) (left (live_files r old) b.merge)) b b')
 
--- the name of the output behind those that were written
-abbrev pub next_name : OutputSpec → List Written → List ℕ
-next_name o written = name_of o.split o.name (length written + 1)
+-- the name of the output of a number, from 1 on, and what it has besides its blocks: its own identifiers
+abbrev pub own_name : OutputSpec → ℕ → List ℕ
+own_name o number = name_of o.split o.name number
 
--- what the output of a number, from 1 on, has besides its blocks: its own identifiers
 abbrev pub own_spec : OutputSpec → ℕ → OutputSpec
 own_spec o number = record o { front = record o.front { info = with_uuids (uuids_at o.uuids o.link number) o.front.info } }
 
--- Where the links' files are told, the output of a number has the blocks of the part that was begun, and its own identifiers.
-abbrev pub WritesOwn : {S T : Type 0} → Ghosts S → writing.Ghosts S → S → S → OutputSpec → ℕ → List ℕ → PlacedBlocks → Result T RemuxEnd → Type 0
-WritesOwn r f old new o number name b result = WritesPart r f old new (own_spec o number) name b result
+-- the output of a number that this part becomes
+abbrev pub own_output : LiveFiles → OutputSpec → ℕ → Part → PlannedOutput
+own_output f o number part = record { name = own_name o number; blocks = part.blocks; document = document_with f (own_spec o number) part }
 
 -- the same of the output behind those that were written
+abbrev pub next_name : OutputSpec → List Written → List ℕ
+next_name o written = own_name o (length written + 1)
+
 abbrev pub next_spec : OutputSpec → List Written → OutputSpec
 next_spec o written = own_spec o (length written + 1)
 
--- the output that this part becomes behind those that were written
 abbrev pub next_output : LiveFiles → OutputSpec → List Written → Part → PlannedOutput
-next_output f o written part = record { name = next_name o written; blocks = part.blocks; document = document_with f (next_spec o written) part }
+next_output f o written part = own_output f o (length written + 1) part
+
+-- Where the links' files are told, the output of a number has the blocks of the part that was begun, and its own identifiers.
+abbrev pub WritesOwn : {S T : Type 0} → Ghosts S → writing.Ghosts S → S → S → OutputSpec → ℕ → PlacedBlocks → Result T RemuxEnd → Type 0
+WritesOwn r f old new o number b result = WritesPart r f old new (own_spec o number) (own_name o number) b result
+
+-- This is said of it, and the parts behind it are left.
+pub record TellsOwn (f h : LiveFiles) (o : OutputSpec) (number : ℕ) (b b' : PlacedBlocks) (w : Written) : Type 0 where
+  pub says : w ≡ written_of (own_output f o number (part_in f b))
+  pub behind : parts_left h b' ≡ parts_left f b
+
+-- So it is where the links' files are told, and what is ahead is behind the part.
+pub record HasOwn (f h : LiveFiles) (o : OutputSpec) (number : ℕ) (b b' : PlacedBlocks) (w : Written) : Type 0 where
+  pub told : IsTold f b.merge → TellsOwn f h o number b b' w
+  pub over : IsOver b b'
+
+-- Such an output was written, if the call isn't refused.
+abbrev pub FindsOwn : {S E : Type 0} → Ghosts S → S → S → OutputSpec → ℕ → PlacedBlocks → PlacedBlocks → Result Written E → Type 0
+FindsOwn r old new o number b b' result = IfOk result (HasOwn (live_files r old) (live_files r new) o number b b')
 
 -- The output of the part that was begun can be written behind these; no file of a link was opened under a name that may be written.
 pub record CanWriteNext {S : Type 0} (r : Ghosts S) (f : writing.Ghosts S) (files : S) (o : OutputSpec) (written : List Written) (b : PlacedBlocks) : Type 0 where

@@ -6,10 +6,10 @@ ghost use Rattle.mkv_io.specs.Ends.{HasRemuxCause};
 ghost use Rattle.mkv_io.specs.Writing.{KeepsOthers};
 ghost use Rattle.remux_plan.specs.Parts.{name_of};
 ghost use Rattle.remuxer.specs.Taking.{Goes};
-ghost use Rattle.remuxer.specs.Output.{CanWrite, CanWriteAll, CanWriteNext, Ends, FindsNext, FindsWritten, KeepsUnwritten, ReadsParts, SaysWritten, WritesNext, WritesOwn, WritesParts, data_of, own_spec};
+ghost use Rattle.remuxer.specs.Output.{CanWrite, CanWriteAll, CanWriteNext, Ends, FindsNext, FindsOwn, KeepsUnwritten, ReadsParts, SaysWritten, WritesNext, WritesOwn, WritesParts, data_of, own_name};
 
 use crate::info::info_with;
-use crate::output::{WrittenPart, write_output};
+use crate::output::write_output;
 use crate::placed::PlacedBlocks;
 use mkv_io::{Files, List, Reads, RemuxEnd as OutEnd, Text};
 use remux_plan::{OutputSpec, Written, uuids_at};
@@ -28,29 +28,34 @@ fn name_of(alloc: Global, spec: &OutputSpec, number: u64) -> Result<Text, AllocE
     }
 }
 
-// Writes the part that was begun as the output of this name and of this number, from 1 on, with its own identifiers.
+// Writes the part that was begun as the output of this number, from 1 on, with its own identifiers, and says what was written.
 fn write_own<F: Files>(
     alloc: Global,
     files: &mut F,
     spec: &mut OutputSpec,
     number: usize,
-    name: &str,
     blocks: &mut PlacedBlocks,
-) -> Result<WrittenPart, OutEnd>
-    requires { CanWrite F.Reads F.Files.own files.old spec.old name.now blocks.old }
-    ensures writes { WritesOwn F.Reads F.Files.own files.old files.new spec.old number name.now blocks.old result }
-    ensures finds { FindsWritten F.Reads files.old files.new (own_spec spec.old number) blocks.old blocks.new result }
+) -> Result<Written, OutEnd>
+    requires { CanWrite F.Reads F.Files.own files.old spec.old (own_name spec.old number) blocks.old }
+    ensures writes { WritesOwn F.Reads F.Files.own files.old files.new spec.old number blocks.old result }
+    ensures finds { FindsOwn F.Reads files.old files.new spec.old number blocks.old blocks.new result }
     ensures spec { OnOk result (spec.new ≡ spec.old) }
     ensures goes { Goes F.Reads (data_of spec.old) files.old files.new blocks.old blocks.new result }
-    ensures kept { KeepsOthers F.Reads F.Files.own (name.now ∷ []) files.old files.new }
+    ensures kept { KeepsOthers F.Reads F.Files.own (own_name spec.old number ∷ []) files.old files.new }
     ensures cause { HasRemuxCause F.Reads F.Files.own files.old files.new result }
 {
+    let name = name_of(alloc, spec, number as u64)?;
     let uuids = uuids_at(spec.uuids.as_slice(), spec.link, number);
     let info = info_with(alloc, &spec.front.info, uuids)?;
     let plain = mem::replace(&mut spec.front.info, info);
-    let done = write_output(alloc, files, spec, name, blocks)?;
+    let done = write_output(alloc, files, spec, name.as_str(), blocks)?;
     spec.front.info = plain;
-    Ok(done)
+    Ok(Written {
+        name,
+        blocks: done.blocks,
+        clusters: done.counts.clusters,
+        cues: done.counts.cues,
+    })
 }
 
 // Writes the output of the part that was begun, and adds it to those that were written. Begins the next one, to which no
@@ -70,14 +75,8 @@ fn write_next<F: Files>(
     ensures cause { HasRemuxCause F.Reads F.Files.own files.old files.new result }
 {
     let number = written.as_slice().len() + 1;
-    let name = name_of(alloc, spec, number as u64)?;
-    let done = write_own(alloc, files, spec, number, name.as_str(), blocks)?;
-    written.push(Written {
-        name,
-        blocks: done.blocks,
-        clusters: done.counts.clusters,
-        cues: done.counts.cues,
-    })?;
+    let done = write_own(alloc, files, spec, number, blocks)?;
+    written.push(done)?;
     spec.front.attachments = List::new(alloc);
     let begun = blocks.next_part(files)?;
     Ok(begun)
