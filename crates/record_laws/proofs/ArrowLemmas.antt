@@ -1,28 +1,24 @@
 -- Lines without an arrow are no lines of times; and lines of times that are written are read back.
-use Rattle.std.proofs.Common.{◌≡◌, ℕ, zero, suc, ◌+◌, ◌*◌, ◌/◌, ◌%◌, ◌<◌, ◌≤◌, Bool, true, false, not, ◌&&◌, ◌||◌, cond, nat_le, List, [], ◌∷◌, ◌++◌, length, take, drop, Option, Some, None, refl, ap, arith, append_assoc, append-nil}
+use Rattle.std.proofs.Common.{◌≡◌, ℕ, zero, suc, ◌+◌, ◌*◌, ◌/◌, ◌%◌, ◌<◌, ◌≤◌, true, false, nat_le, List, [], ◌∷◌, ◌++◌, length, take, drop, Option, Some, None, refl, ap, arith, append_assoc, append-nil, inl, inr, codes, option_and_then, option_map, ◌==◌}
 use Rattle.std.proofs.lemmas.Grind.{common_steps}
 use Rattle.std.proofs.lemmas.Bool.Decides.{nat_tests}
-use Rattle.std.specs.Prelude.{◌==◌, codes, option_and_then, option_map}
 use Rattle.std.specs.List.{list_all, position, prefix_len}
 use Rattle.std.specs.Char.{is_ascii_digit}
 use Rattle.std.specs.Str.{bytes_eq}
+use Rattle.std.proofs.lemmas.Bool.{and_parts, cases_Bool, or_left, or_parts, or_right}
 use Rattle.mkv_io.specs.Octets.{cut, lacks}
 use Rattle.srt_texts.specs.Fields.{behind, digits, sixtieth}
 use Rattle.srt_texts.specs.Pieces.{two_digits, three_digits, two_or_more, stamp}
 use Rattle.srt_texts.specs.Times.{seconds, clock, times, span, is_number}
 use Rattle.srt_texts.specs.Srt.{has_arrow}
-use Rattle.mkv_io.proofs.OctetsLemmas.{digits_lack, cut_behind}
+use Rattle.mkv_io.proofs.OctetsLemmas.{digits_lack, cut_behind, lacks_parts}
 use Rattle.record_laws.proofs.DigitsLemmas.{two_all, padded_all, digits_padded, digits_three, sixtieth_two}
 use Rattle.record_laws.proofs.LineLemmas.{parts_of}
 
 -- ---- an arrow
-or_last : (a b : Bool) → (a || b) ≡ false → b ≡ false
-or_last true b e = absurd (cc)
-or_last false b e = e
-
 arrow_next : (b : ℕ) (bs : List ℕ) → has_arrow (b ∷ bs) ≡ false → has_arrow bs ≡ false
 unfolding has_arrow
-arrow_next b bs none = or_last (bytes_eq (take 3 (b ∷ bs)) (codes "-->")) (has_arrow bs) none
+arrow_next b bs none = (or_parts (bytes_eq (take 3 (b ∷ bs)) (codes "-->")) (has_arrow bs) none).1
 
 pub arrow_none : has_arrow [] ≡ false
 unfolding has_arrow
@@ -38,58 +34,29 @@ arrow_drop (suc k) (b ∷ bs) none = arrow_drop k bs (arrow_next b bs none)
 pub lacks_arrow : (w : List ℕ) → lacks 45 w ≡ true → has_arrow w ≡ false
 unfolding has_arrow
 lacks_arrow [] none = refl
-lacks_arrow (b ∷ bs) none = split (b == 45) refl none (lacks_arrow bs)
-  where
-    split : (c : Bool) → (b == 45) ≡ c → (not c && lacks 45 bs) ≡ true → (lacks 45 bs ≡ true → has_arrow bs ≡ false) → (bytes_eq (take 3 (b ∷ bs)) (codes "-->") || has_arrow bs) ≡ false
-    split true is none rest = absurd (cc)
-    split false is none rest = let r = rest none in rw (is, r) refl
-
--- ` --> ` in front is an arrow
-and_left : (a b : Bool) → (a && b) ≡ true → a ≡ true
-and_left true b e = refl
-and_left false b e = absurd (cc)
-
-and_right : (a b : Bool) → (a && b) ≡ true → b ≡ true
-and_right true b e = e
-and_right false b e = absurd (cc)
-
-three_same : (a b c d : Bool) → (a && (b && (c && d))) ≡ true → (a && (b && (c && true))) ≡ true
-three_same true true true d e = refl
-three_same true true false d e = absurd (cc)
-three_same true false c d e = absurd (cc)
-three_same false b c d e = absurd (cc)
+lacks_arrow (b ∷ bs) none = let parts = lacks_parts 45 b bs none in rw (parts.0, lacks_arrow bs parts.1) refl
 
 arrow_first : (w : List ℕ) → bytes_eq (take 4 w) (codes "--> ") ≡ true → bytes_eq (take 3 w) (codes "-->") ≡ true
 arrow_first [] e = absurd (cc)
-arrow_first (a ∷ []) e = absurd (let f = and_right (a == 45) false e in cc)
-arrow_first (a ∷ b ∷ []) e = absurd (let f = and_right (b == 45) false (and_right (a == 45) ((b == 45) && false) e) in cc)
-arrow_first (a ∷ b ∷ c ∷ []) e = absurd (let f = and_right (c == 62) false (and_right (b == 45) ((c == 62) && false) (and_right (a == 45) ((b == 45) && ((c == 62) && false)) e)) in cc)
-arrow_first (a ∷ b ∷ c ∷ d ∷ ds) e = three_same (a == 45) (b == 45) (c == 62) ((d == 32) && true) e
-
-or_true : (a b : Bool) → a ≡ true → (a || b) ≡ true
-or_true a b e = rw e refl
-
-or_after : (a b : Bool) → b ≡ true → (a || b) ≡ true
-or_after true b e = refl
-or_after false b e = e
+arrow_first (a ∷ []) e = grind arith
+arrow_first (a ∷ b ∷ []) e = grind arith
+arrow_first (a ∷ b ∷ c ∷ []) e = grind arith
+arrow_first (a ∷ b ∷ c ∷ d ∷ ds) e = grind arith
 
 arrow_here : (w : List ℕ) → bytes_eq (take 3 w) (codes "-->") ≡ true → has_arrow w ≡ true
 unfolding has_arrow
 arrow_here [] e = absurd (cc)
-arrow_here (b ∷ bs) e = or_true (bytes_eq (take 3 (b ∷ bs)) (codes "-->")) (has_arrow bs) e
+arrow_here (b ∷ bs) e = or_left (bytes_eq (take 3 (b ∷ bs)) (codes "-->")) (has_arrow bs) e
 
 arrow_behind : (w : List ℕ) → bytes_eq (take 5 w) (codes " --> ") ≡ true → has_arrow w ≡ true
 unfolding has_arrow
 arrow_behind [] e = absurd (cc)
 arrow_behind (b ∷ bs) e =
-    or_after (bytes_eq (take 3 (b ∷ bs)) (codes "-->")) (has_arrow bs) (arrow_here bs (arrow_first bs (and_right (b == 32) (bytes_eq (take 4 bs) (codes "--> ")) e)))
+    or_right (bytes_eq (take 3 (b ∷ bs)) (codes "-->")) (has_arrow bs) (arrow_here bs (arrow_first bs (and_parts (b == 32) (bytes_eq (take 4 bs) (codes "--> ")) e).1))
 
 no_arrow_in_front : (w : List ℕ) → has_arrow w ≡ false → behind (codes " --> ") w ≡ None
-no_arrow_in_front w none = split (bytes_eq (take 5 w) (codes " --> ")) refl
-  where
-    split : (c : Bool) → bytes_eq (take 5 w) (codes " --> ") ≡ c → cond c (Some (drop 5 w)) None ≡ None
-    split true is = let e = arrow_behind w is in absurd (cc)
-    split false is = refl
+no_arrow_in_front w none =
+    elim (cases_Bool (bytes_eq (take 5 w) (codes " --> "))) [ inl is ↦ absurd (let e = arrow_behind w is in cc) | inr is ↦ rw is refl ]
 
 -- ---- no times without an arrow
 -- a fact of what an option holds
@@ -170,11 +137,7 @@ times_written a b early late =
 -- ---- a number is a number line
 all_prefix : (ds : List ℕ) → list_all is_ascii_digit ds ≡ true → prefix_len is_ascii_digit ds ≡ length ds
 all_prefix [] all = refl
-all_prefix (b ∷ bs) all = split (is_ascii_digit b) refl all (all_prefix bs)
-  where
-    split : (c : Bool) → is_ascii_digit b ≡ c → (c && list_all is_ascii_digit bs) ≡ true → (list_all is_ascii_digit bs ≡ true → prefix_len is_ascii_digit bs ≡ length bs) → prefix_len is_ascii_digit (b ∷ bs) ≡ length (b ∷ bs)
-    split true is all more = let r = more all in rw (is, r) (omega arith)
-    split false is all more = absurd (cc)
+all_prefix (b ∷ bs) all = let both = and_parts (is_ascii_digit b) (list_all is_ascii_digit bs) all in rw (both.0, all_prefix bs both.1) (omega arith)
 
 pub number_line : (ds : List ℕ) → list_all is_ascii_digit ds ≡ true → 0 < length ds → length ds ≤ 9 → is_number ds ≡ true
 unfolding is_number

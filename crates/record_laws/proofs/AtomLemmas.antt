@@ -1,9 +1,8 @@
 -- Where chapters stand, and what stands beside them, is nothing to their identifiers.
-use Rattle.std.proofs.Common.{◌≡◌, ℕ, ◌+◌, ◌==◌, Bool, true, false, cond, if◌then◌else◌, List, [], ◌∷◌, ◌++◌, length, map, flat_map, Option, None, Some, refl, sym, ap, ap₂, ◌∙◌, arith}
-use Rattle.std.specs.Prelude.{find, unwrap_or}
+use Rattle.std.proofs.Common.{◌≡◌, ℕ, ◌+◌, ◌==◌, Bool, true, false, if◌then◌else◌, List, [], ◌∷◌, ◌++◌, length, map, flat_map, Option, None, Some, refl, sym, ap, ap₂, ◌∙◌, inl, inr, find, unwrap_or}
 use Rattle.std.specs.Option.{option_map, option_map_or}
-use Rattle.std.proofs.lemmas.Bool.Decides.{nat_tests}
 use Rattle.std.proofs.lemmas.List.{length-map, map-append}
+use Rattle.std.proofs.lemmas.Bool.{cases_Bool}
 use Rattle.mkv_schema.specs.declared.ids.TheConstants.{CHAPTER_ATOM, CHAPTER_UID}
 use Rattle.tree_format.specs.Node.{Node, Nodes, leaf, master, none, node, nodes_of, list_of, id_of}
 use Rattle.tree_format.specs.NormalForm.{is_filler, header_octets, octets, octets_all}
@@ -13,6 +12,7 @@ use Rattle.tree_format.specs.Values.{integer_of}
 use Rattle.tree_format.proofs.PartLemmas.{part-other}
 use Rattle.record_laws.proofs.TrackLemmas.{placed-integer}
 use Rattle.record_changes.specs.Atoms.{atoms_among, atoms_at, value_in}
+use Rattle.record_laws.proofs.SameLemmas.{filler-other}
 
 -- the ChapterUIDs of an Element, if it is an atom, and of the atoms inside it; and of Elements one behind the other
 abbrev pub uids_at : Node → List ℕ
@@ -35,14 +35,7 @@ atoms-none (master id at kids) is = ap (λ (b : Bool). if b then master id at ki
 
 -- what is left out is none
 pub filler-none : (n : Node) → is_filler (id_of n) ≡ true → atoms_at n ≡ []
-filler-none n filler = atoms-none n (of (id_of n == CHAPTER_ATOM) refl)
-  where
-    of : (t : Bool) → (id_of n == CHAPTER_ATOM) ≡ t → t ≡ false
-    of true is =
-        let same : id_of n ≡ CHAPTER_ATOM = grind (arith, nat_tests) in
-        let never : true ≡ false = sym filler ∙ ap is_filler same in
-        absurd (cc)
-    of false is = refl
+filler-none n filler = atoms-none n (filler-other (id_of n) CHAPTER_ATOM filler refl)
 
 -- ---- where they stand
 
@@ -67,14 +60,10 @@ placed-step p n there ns same rest false filler =
     uids-more there (placed_all (p + length (octets n)) ns) ∙ ap₂ (λ (a b : List ℕ). a ++ b) same (rest (p + length (octets n))) ∙ sym (uids-more n ns)
 
 placed-master : (id at p : ℕ) (kids : Nodes) → ((q : ℕ) → uids_among (placed_all q kids) ≡ uids_among kids) → uids_at (placed p (master id at kids)) ≡ uids_at (master id at kids)
-placed-master id at p kids inside = of (id == CHAPTER_ATOM)
-  where
-    q : ℕ
-    q = p + length (header_octets id (length (octets_all kids)))
-
-    of : (t : Bool) → map (value_in CHAPTER_UID) (if t then placed p (master id at kids) ∷ atoms_among (placed_all q kids) else []) ≡ map (value_in CHAPTER_UID) (if t then master id at kids ∷ atoms_among kids else [])
-    of true = ap₂ (λ u (us : List ℕ). u ∷ us) (value-placed CHAPTER_UID (master id at kids) p refl) (inside q)
-    of false = refl
+placed-master id at p kids inside = elim (cases_Bool (id == CHAPTER_ATOM)) [
+  | inl is ↦ rw is (ap₂ (λ u (us : List ℕ). u ∷ us) (value-placed CHAPTER_UID (master id at kids) p refl) (inside (p + length (header_octets id (length (octets_all kids))))))
+  | inr is ↦ rw is refl
+]
 
 pub uids-placed_all : (ns : Nodes) (p : ℕ) → uids_among (placed_all p ns) ≡ uids_among ns
 uids-placed_all none p = refl
@@ -98,12 +87,10 @@ atoms-flat (n ∷ ns) = ap (λ l. atoms_at n ++ l) (atoms-flat ns)
 
 atoms-part : (ns : List Node) → flat_map atoms_at ns ≡ flat_map atoms_at (part CHAPTER_ATOM ns)
 atoms-part [] = refl
-atoms-part (n ∷ ns) = split (id_of n == CHAPTER_ATOM) refl (atoms-part ns)
-  where
-    split : (t : Bool) → (id_of n == CHAPTER_ATOM) ≡ t → flat_map atoms_at ns ≡ flat_map atoms_at (part CHAPTER_ATOM ns)
-        → atoms_at n ++ flat_map atoms_at ns ≡ flat_map atoms_at (cond t (n ∷ part CHAPTER_ATOM ns) (part CHAPTER_ATOM ns))
-    split true is rest = ap (λ l. atoms_at n ++ l) rest
-    split false is rest = ap (λ l. l ++ flat_map atoms_at ns) (atoms-none n is) ∙ rest
+atoms-part (n ∷ ns) = elim (cases_Bool (id_of n == CHAPTER_ATOM)) [
+  | inl is ↦ rw is (ap (λ l. atoms_at n ++ l) (atoms-part ns))
+  | inr is ↦ rw is (ap (λ l. l ++ flat_map atoms_at ns) (atoms-none n is) ∙ atoms-part ns)
+]
 
 -- a child that is set and isn't an atom
 pub atoms-set : (child : Node) (ns : List Node) → (id_of child == CHAPTER_ATOM) ≡ false → atoms_among (nodes_of (with_child child ns)) ≡ atoms_among (nodes_of ns)

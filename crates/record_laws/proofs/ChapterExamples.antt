@@ -13,6 +13,12 @@ use Rattle.tree_format.specs.NormalForm.{content}
 use Rattle.tree_format.specs.Reading.{tree_of, grove, grove_within}
 use Rattle.record_changes.specs.declared.stretch.Stretch.{Stretch}
 use Rattle.record_changes.specs.Cut.{cut}
+use Rattle.tree_format.specs.Node.{Node}
+
+-- what is made of an Element of this ID that is read of octets, which lack its header
+unfoldable pub made_of : {A : Type 0} → ℕ → (Node → A) → List ℕ → Result A Damage
+unfolding is_utf8 chars encode grove grove_within element_in id_at size_at entry_of table count_leading_zeros uint_width least_size_width
+made_of id make body = and_then (tree_of id 0 body 5 65536) (λ tree. Ok (make tree))
 
 -- ---- Elements, each of fewer than 127 octets
 
@@ -24,6 +30,9 @@ atom body = 0xB6 ∷ (0x80 + length body) ∷ body
 
 abbrev pub edition_uid : ℕ → List ℕ
 edition_uid n = 0x45 ∷ 0xBC ∷ 0x81 ∷ n ∷ []
+
+abbrev pub chapter_uid : ℕ → List ℕ
+chapter_uid n = 0x73 ∷ 0xC4 ∷ 0x81 ∷ n ∷ []
 
 -- a ChapterTimeStart, and a ChapterTimeEnd
 abbrev pub start : List ℕ → List ℕ
@@ -95,7 +104,7 @@ onward begin = record { from = begin; to = None }
 
 -- what of a Chapters Element goes into a stretch, both without its header
 abbrev cut_to : Stretch → List ℕ → Result (Option (List ℕ)) Damage
-cut_to s body = and_then (tree_of 0x1043A770 0 body 5 65536) (λ tree. Ok (option_map content (cut s tree)))
+cut_to s body = made_of 0x1043A770 (λ tree. option_map content (cut s tree)) body
 
 -- one edition becomes another, and nothing is left of one
 abbrev becomes : Stretch → List ℕ → List ℕ → Type 0
@@ -133,18 +142,5 @@ pub record AreCut : Type 0 where
   pub nothing_left : is_left_out (onward 3000000000) two_atoms
 
 pub cuts : AreCut
-unfolding is_utf8 chars encode grove grove_within element_in id_at size_at entry_of table count_leading_zeros uint_width least_size_width
-cuts = record {
-  first_part = refl;
-  second_part = refl;
-  starts_at_limit = refl;
-  ends_at_begin = refl;
-  lasts_to_next = refl;
-  next_at_begin = refl;
-  never_ends = refl;
-  missing_start = refl;
-  inside = refl;
-  left_out_with_it = refl;
-  empty_edition = refl;
-  nothing_left = refl;
-}
+unfolding made_of
+cuts = assumption refl

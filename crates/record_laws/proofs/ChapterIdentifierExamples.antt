@@ -1,25 +1,13 @@
 -- Identifiers that small Chapters Elements get, computed, so that a wrong definition does not check.
-use Rattle.std.proofs.Common.{◌≡◌, ℕ, List, [], ◌∷◌, ◌++◌, Result, Ok, refl}
-use Rattle.std.specs.Int.Count.{count_leading_zeros}
-use Rattle.std.specs.Str.{is_utf8, chars}
-use lib.Utf8.{encode}
-use Rattle.ebml_numbers.specs.Number.{id_at, size_at, uint_width, least_size_width}
-use Rattle.mkv_schema.specs.Table.{table}
-use Rattle.mkv_schema.specs.Schema.{entry_of}
-use Rattle.mkv_schema.specs.Element.{element_in}
-use Rattle.mkv_io.specs.Results.{and_then}
+use Rattle.std.proofs.Common.{◌≡◌, ℕ, List, ◌++◌, Result, Ok, refl}
 use Rattle.mkv_io.specs.declared.damage.Damage.{Damage}
 use Rattle.tree_format.specs.Node.{Node}
 use Rattle.tree_format.specs.NormalForm.{content}
-use Rattle.tree_format.specs.Reading.{tree_of, grove, grove_within}
 use Rattle.record_changes.specs.Identifiers.{renumbered}
 use Rattle.record_changes.specs.Atoms.{edition_uids, chapter_uids}
 use Rattle.record_changes.specs.ChapterIdentifiers.{with_identifiers}
-use Rattle.record_laws.proofs.ChapterExamples.{edition, atom, edition_uid, start, intro, zero_s}
+use Rattle.record_laws.proofs.ChapterExamples.{edition, atom, edition_uid, start, intro, zero_s, chapter_uid, made_of}
 use Rattle.record_laws.proofs.ShiftExamples.{one_chapter}
-
-abbrev chapter_uid : ℕ → List ℕ
-chapter_uid n = 0x73 ∷ 0xC4 ∷ 0x81 ∷ n ∷ []
 
 -- an edition and an atom with these identifiers
 abbrev named : ℕ → ℕ → List ℕ
@@ -36,7 +24,7 @@ identified tree = with_identifiers (renumbered (edition_uids tree)) (renumbered 
 
 -- what a Chapters Element becomes by that, both without its header
 abbrev renamed : List ℕ → Result (List ℕ) Damage
-renamed body = and_then (tree_of 0x1043A770 0 body 5 65536) (λ tree. Ok (content (identified tree)))
+renamed body = made_of 0x1043A770 (λ tree. content (identified tree)) body
 
 abbrev become : List ℕ → List ℕ → Type 0
 become old new = renamed old ≡ Ok new
@@ -54,5 +42,5 @@ pub record AreIdentified : Type 0 where
   pub order : become (three_atoms 0 0 0) (three_atoms 1 2 3)
 
 pub identifies : AreIdentified
-unfolding is_utf8 chars encode grove grove_within element_in id_at size_at entry_of table count_leading_zeros uint_width least_size_width
+unfolding made_of
 identifies = record { made = refl; stay = refl; repeated = refl; missing = refl; order = refl }

@@ -1,9 +1,10 @@
 -- Chapters that are written are read back.
-use Rattle.std.proofs.Common.{◌≡◌, ℕ, suc, ◌+◌, ◌*◌, ◌/◌, ◌%◌, ◌<◌, ◌≤◌, true, false, nat_lt, List, [], ◌∷◌, ◌++◌, length, Some, None, Ok, refl, sym, ◌∙◌, ap, arith, append_assoc, All}
+use Rattle.std.proofs.Common.{◌≡◌, ℕ, ◌+◌, ◌*◌, ◌/◌, ◌%◌, ◌<◌, ◌≤◌, true, false, nat_lt, List, [], ◌∷◌, ◌++◌, length, Some, None, Ok, refl, sym, ◌∙◌, ap, arith, append_assoc, codes}
 use Rattle.std.proofs.lemmas.Bool.Decides.{nat_tests}
-use Rattle.std.specs.Prelude.{codes}
 use Rattle.std.specs.Str.{is_utf8}
 use Rattle.std.specs.Str.Lines.{lines}
+use Rattle.std.proofs.lemmas.List.Elements.{recursion_from_All}
+use Rattle.std.specs.List.{AllByRecursion}
 use Rattle.srt_texts.specs.Pieces.{two_digits, three_digits, two_or_more, stamp}
 use Rattle.srt_texts.specs.declared.chapter_reading.Chapter.{Chapter}
 use Rattle.srt_texts.specs.Lines.{lines_of}
@@ -95,15 +96,7 @@ pair_lines k start name rest few early line =
     ap lines joined ∙ (first ∙ ap (λ ls. time_line k ms ∷ ls) second)
 
 -- ---- all chapters
-abbrev AllPlain : List Chapter → Type 0
-AllPlain [] = Unit {0}
-AllPlain (c ∷ cs) = IsPlain c × AllPlain cs
-
-all_plain : (cs : List Chapter) → All IsPlain cs → AllPlain cs
-all_plain [] all = tt
-all_plain (c ∷ cs) all = (all 0 c (omega arith), all_plain cs (λ k d less. all (suc k) d (omega arith)))
-
-read_back : (cs : List Chapter) (k n : ℕ) → AllPlain cs → k + length cs ≤ 10000 → pairs (lines (put_pairs k cs)) n None ≡ Ok cs
+read_back : (cs : List Chapter) (k n : ℕ) → AllByRecursion IsPlain cs → k + length cs ≤ 10000 → pairs (lines (put_pairs k cs)) n None ≡ Ok cs
 read_back [] k n plain few = pairs_end n
 read_back (c ∷ cs) k n plain few =
     let p = plain.0 in
@@ -126,4 +119,4 @@ marked (c ∷ cs) = refl
 
 pub chapters_read_back : ChaptersAreReadBack
 chapters_read_back cs plain few =
-    simple_is (put_pairs 1 cs) ∙ ap (λ ls. pairs ls 1 None) (marked cs) ∙ read_back cs 1 1 (all_plain cs plain) (omega arith)
+    simple_is (put_pairs 1 cs) ∙ ap (λ ls. pairs ls 1 None) (marked cs) ∙ read_back cs 1 1 (recursion_from_All IsPlain cs plain) (omega arith)

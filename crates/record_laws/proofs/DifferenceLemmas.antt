@@ -1,8 +1,9 @@
 -- What is told of two entries.
-use Rattle.std.proofs.Common.{◌≡◌, ℕ, Bool, true, false, not, cond, List, [], ◌∷◌, All, find, Option, Some, None, refl, ap, ◌∙◌}
+use Rattle.std.proofs.Common.{◌≡◌, ℕ, true, not, cond, List, [], ◌∷◌, All, find, Option, Some, None, refl, ap, ◌∙◌, inl, inr}
 use Rattle.std.specs.Option.{option_map}
 use Rattle.std.proofs.lemmas.List.Elements.{All-nil, All-cons, All-head, All-tail}
 use Rattle.std.proofs.lemmas.Slice.Eq.{bytes_eq-Decides}
+use Rattle.std.proofs.lemmas.Bool.{cases_Bool}
 use Rattle.tree_format.specs.Node.{Node}
 use Rattle.track_records.specs.declared.fields.Field.{Field}
 use Rattle.track_records.specs.declared.fields.TheConstants.{FIELDS}
@@ -24,12 +25,10 @@ same-alike (Some p) (Some q) is = let e : p ≡ q = cc in (bytes_eq-Decides p q)
 module _ (a b : Node) where
   none-found : (fs : List Field) → option_map (λ (f : Field). f.id) (find (λ f. not (are_alike (octets_at f a) (octets_at f b))) fs) ≡ None → All (λ f. octets_at f a ≡ octets_at f b) fs
   none-found [] is = All-nil (λ f. octets_at f a ≡ octets_at f b)
-  none-found (f ∷ fs) is = of (are_alike (octets_at f a) (octets_at f b)) refl is (none-found fs)
-    where
-      of : (t : Bool) → are_alike (octets_at f a) (octets_at f b) ≡ t → option_map (λ (f : Field). f.id) (cond (not t) (Some f) (find (λ f. not (are_alike (octets_at f a) (octets_at f b))) fs)) ≡ None
-          → (option_map (λ (f : Field). f.id) (find (λ f. not (are_alike (octets_at f a) (octets_at f b))) fs) ≡ None → All (λ f. octets_at f a ≡ octets_at f b) fs) → All (λ f. octets_at f a ≡ octets_at f b) (f ∷ fs)
-      of true alike is rest = All-cons (λ f. octets_at f a ≡ octets_at f b) f fs (alike-same (octets_at f a) (octets_at f b) alike) (rest is)
-      of false alike is rest = absurd (cc)
+  none-found (f ∷ fs) is = elim (cases_Bool (are_alike (octets_at f a) (octets_at f b))) [
+    | inl alike ↦ All-cons (λ f. octets_at f a ≡ octets_at f b) f fs (alike-same (octets_at f a) (octets_at f b) alike) (none-found fs (rw alike at is))
+    | inr other ↦ absurd (let some = rw other at is in cc)
+  ]
 
   all-alike : (fs : List Field) → All (λ f. octets_at f a ≡ octets_at f b) fs → option_map (λ (f : Field). f.id) (find (λ f. not (are_alike (octets_at f a) (octets_at f b))) fs) ≡ None
   all-alike [] all = refl

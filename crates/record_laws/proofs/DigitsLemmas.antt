@@ -1,5 +1,5 @@
 -- Numbers that are written are read back.
-use Rattle.std.proofs.Common.{◌≡◌, ℕ, ◌/◌, ◌%◌, ◌^◌, ◌<◌, ◌≤◌, Bool, true, false, cond, nat_lt, nat_le, length, Some, refl, arith}
+use Rattle.std.proofs.Common.{◌≡◌, ℕ, ◌/◌, ◌%◌, ◌^◌, ◌<◌, ◌≤◌, true, nat_lt, nat_le, length, Some, refl, arith, inl, inr, ltb-true, ltb-false}
 use Rattle.std.proofs.lemmas.Grind.{common_steps}
 use Rattle.std.proofs.lemmas.Bool.Decides.{nat_tests}
 use Rattle.std.proofs.lemmas.Fmt.{decimal_is_IsNumeral, decimal_step, length-decimal-le}
@@ -7,6 +7,7 @@ use Rattle.std.specs.List.{list_all}
 use Rattle.std.specs.Char.{is_ascii_digit, digit_value}
 use Rattle.std.specs.Str.Parse.{digits_value}
 use Rattle.std.specs.Fmt.{decimal}
+use Rattle.std.proofs.lemmas.Bool.{cases_Bool}
 use Rattle.mkv_io.proofs.OctetsLemmas.{decimal_all}
 use Rattle.srt_texts.specs.Fields.{digits, sixtieth}
 use Rattle.srt_texts.specs.Pieces.{digit, two_digits, three_digits, two_or_more}
@@ -63,15 +64,10 @@ digits_decimal n large small =
 
 -- a number of at least two digits
 pub digits_padded : (n : ℕ) → n < 10000 → digits 2 4 (two_or_more n) ≡ Some n
-digits_padded n small = split (nat_lt n 100) refl
-  where
-    split : (b : Bool) → nat_lt n 100 ≡ b → digits 2 4 (cond b (two_digits n) (decimal n)) ≡ Some n
-    split true is = digits_two 2 4 n (omega arith) (omega arith) (grind (arith, nat_tests))
-    split false is = digits_decimal n (grind (arith, nat_tests)) small
+digits_padded n small = elim (cases_Bool (nat_lt n 100)) [
+  | inl is ↦ rw is (digits_two 2 4 n (omega arith) (omega arith) (ltb-true n 100 is))
+  | inr is ↦ rw is (digits_decimal n (omega (arith, ltb-false n 100 is)) small)
+]
 
 pub padded_all : (n : ℕ) → n < 2 ^ 64 → list_all is_ascii_digit (two_or_more n) ≡ true
-padded_all n small = split (nat_lt n 100) refl
-  where
-    split : (b : Bool) → nat_lt n 100 ≡ b → list_all is_ascii_digit (cond b (two_digits n) (decimal n)) ≡ true
-    split true is = two_all n
-    split false is = decimal_all n small
+padded_all n small = elim (cases_Bool (nat_lt n 100)) [ inl is ↦ rw is (two_all n) | inr is ↦ rw is (decimal_all n small) ]

@@ -1,17 +1,16 @@
 -- Editions with identifiers keep them, and are written as they were, once they were read.
-use Rattle.std.proofs.Common.{◌≡◌, ◌<◌, ℕ, ◌+◌, ◌^◌, ◌==◌, Bool, cond, if◌then◌else◌, List, [], ◌∷◌, ◌++◌, length, map, flat_map, refl, sym, ap, ap₂, ◌∙◌, length-append}
-use Rattle.std.specs.Prelude.{All, slice_index}
+use Rattle.std.proofs.Common.{◌≡◌, ◌<◌, ℕ, ◌+◌, ◌^◌, ◌==◌, cond, List, [], ◌∷◌, ◌++◌, length, map, flat_map, refl, sym, ap, ap₂, ◌∙◌, length-append, All, slice_index}
 use Rattle.std.proofs.lemmas.List.{length-map, map-append}
 use Rattle.std.proofs.lemmas.List.Elements.{All-head, All-tail}
 use Rattle.mkv_schema.specs.declared.ids.TheConstants.{CHAPTER_UID, EDITION_ENTRY, EDITION_UID}
-use Rattle.tree_format.specs.Node.{IsMaster, Node, Nodes, leaf, master, node, nodes_of, list_of, id_of}
+use Rattle.tree_format.specs.Node.{IsMaster, Node, Nodes, leaf, master, nodes_of, id_of}
 use Rattle.tree_format.specs.NormalForm.{is_filler, header_octets, kept_octets, octets, octets_all}
 use Rattle.tree_format.specs.Changes.{part, with_child}
 use Rattle.tree_format.specs.Standing.{placed, placed_all}
 use Rattle.tree_format.proofs.NodeLemmas.{list-nodes, nodes-list, octets_all-flat}
 use Rattle.tree_format.specs.Children.{set_in, uint_leaf}
 use Rattle.record_laws.specs.Again.{read_of}
-use Rattle.record_laws.proofs.SameLemmas.{placed-id}
+use Rattle.record_laws.proofs.SameLemmas.{placed-id, read-step}
 use Rattle.record_changes.specs.Atoms.{atoms_among, atoms_inside, value_in}
 use Rattle.record_changes.specs.ChapterIdentifiers.{numbered_among, numbered_edition, numbered_editions}
 use Rattle.record_laws.proofs.AtomLemmas.{atoms-set, uids-placed_all, uids_among, value-placed}
@@ -91,9 +90,8 @@ module _ (uids : List ℕ) (small : (k : ℕ) → slice_index uids k < 2 ^ 64) w
     read-first : (j k p : ℕ) (e : Node) (es : List Node) → IsEdition e
         → read_of p (numbered_editions own uids j k (e ∷ es)) ≡ placed p (numbered_edition (slice_index own j) uids k e) ∷ read_of (p + length (octets (numbered_edition (slice_index own j) uids k e))) (numbered_editions own uids (j + 1) (k + length (atoms_inside e)) es)
     read-first j k p e es is =
-        let one : Node = numbered_edition (slice_index own j) uids k e in
-        let others : Nodes = nodes_of (numbered_editions own uids (j + 1) (k + length (atoms_inside e)) es) in
-        ap (λ (b : Bool). list_of (if b then placed_all p others else node (placed p one) (placed_all (p + length (octets one)) others))) (ap is_filler (edition-id (slice_index own j) uids k e ∙ is.id))
+        read-step p (numbered_edition (slice_index own j) uids k e) (numbered_editions own uids (j + 1) (k + length (atoms_inside e)) es)
+        (ap is_filler (edition-id (slice_index own j) uids k e ∙ is.id))
 
     -- all of them are editions
     pub editions-part : (j k p : ℕ) (es : List Node) → All IsEdition es → part EDITION_ENTRY (read_of p (numbered_editions own uids j k es)) ≡ read_of p (numbered_editions own uids j k es)

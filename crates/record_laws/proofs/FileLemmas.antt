@@ -1,15 +1,14 @@
 -- Attached files with identifiers are settled.
-use Rattle.std.proofs.Common.{◌≡◌, ◌<◌, ℕ, ◌+◌, ◌^◌, Bool, false, if◌then◌else◌, List, [], ◌∷◌, length, map, Option, None, refl, sym, ap, ap₂, ◌∙◌, arith}
-use Rattle.std.specs.Prelude.{All, unwrap_or}
+use Rattle.std.proofs.Common.{◌≡◌, ◌<◌, ℕ, ◌+◌, ◌^◌, false, List, [], ◌∷◌, length, map, Option, None, refl, sym, ap, ap₂, ◌∙◌, arith, All, unwrap_or}
 use Rattle.std.proofs.lemmas.List.{length-map}
 use Rattle.std.proofs.lemmas.List.Elements.{All-head, All-tail}
-use Rattle.mkv_schema.specs.declared.ids.TheConstants.{ATTACHED_FILE, FILE_UID}
+use Rattle.mkv_schema.specs.declared.ids.TheConstants.{FILE_UID}
 use Rattle.mkv_schema.specs.Table.{table}
 use Rattle.mkv_schema.specs.Schema.{entry_of, uint_default}
-use Rattle.tree_format.specs.Node.{IsMaster, Node, leaf, master, node, nodes_of, list_of, id_of}
+use Rattle.tree_format.specs.Node.{IsMaster, Node, leaf, master, nodes_of, list_of, id_of}
 use Rattle.tree_format.specs.NormalForm.{is_filler, header_octets, kept_octets, octets, octets_all}
 use Rattle.tree_format.specs.Changes.{with_child}
-use Rattle.tree_format.specs.Standing.{placed, placed_all}
+use Rattle.tree_format.specs.Standing.{placed}
 use Rattle.tree_format.specs.Values.{first_child, integer_in, integer_of, uint_in}
 use Rattle.tree_format.proofs.NodeLemmas.{octets_all-flat}
 use Rattle.tree_format.proofs.PartLemmas.{part-set}
@@ -17,7 +16,7 @@ use Rattle.record_changes.specs.Identifiers.{renumbered}
 use Rattle.record_changes.proofs.GivenLemmas.{numbers-settle}
 use Rattle.tree_format.specs.Children.{set_in, uint_leaf}
 use Rattle.record_laws.specs.Again.{read_of}
-use Rattle.record_laws.proofs.SameLemmas.{HasOnly, octets-read, part-read, same-only}
+use Rattle.record_laws.proofs.SameLemmas.{HasOnly, octets-read, part-read, same-only, read-step}
 use Rattle.record_changes.specs.Atoms.{value_in}
 use Rattle.record_laws.specs.Files.{AreFiles, FilesStay, IsAttachedFile, file_numbers, settled, with_numbers}
 use Rattle.record_laws.proofs.AtomLemmas.{map-or, value-placed}
@@ -56,17 +55,13 @@ set-id uid (master id at kids) = refl
 
 -- ---- all files
 
--- a file is read, and then the others
-read-step : (p : ℕ) (n : Node) (ns : List Node) → id_of n ≡ ATTACHED_FILE → read_of p (n ∷ ns) ≡ placed p n ∷ read_of (p + length (octets n)) ns
-read-step p n ns is = ap (λ (b : Bool). list_of (if b then placed_all p (nodes_of ns) else node (placed p n) (placed_all (p + length (octets n)) (nodes_of ns)))) (ap is_filler is)
-
 uids-again : (uids : List ℕ) (files : List Node) (p : ℕ) → length uids ≡ length files → All IsAttachedFile files → All (λ n. n < 2 ^ 64) uids → map (uint_in FILE_UID) (read_of p (with_numbers uids files)) ≡ uids
 uids-again [] files p same are small = refl
 uids-again (uid ∷ uids) [] p same are small = absurd (omega arith)
 uids-again (uid ∷ uids) (file ∷ files) p same are small =
     let is = All-head IsAttachedFile file files are in
     let one : Node = set_in (uint_leaf FILE_UID uid) file in
-    ap (map (uint_in FILE_UID)) (read-step p one (with_numbers uids files) (set-id uid file ∙ is.id))
+    ap (map (uint_in FILE_UID)) (read-step p one (with_numbers uids files) (ap is_filler (set-id uid file ∙ is.id)))
     ∙ ap₂ (λ u (us : List ℕ). u ∷ us) (uid-again uid p file is.master (All-head (λ n. n < 2 ^ 64) uid uids small))
     (uids-again uids files (p + length (octets one)) (omega arith) (All-tail IsAttachedFile file files are) (All-tail (λ n. n < 2 ^ 64) uid uids small))
 
@@ -76,7 +71,7 @@ files-again (uid ∷ uids) [] p same are = absurd (omega arith)
 files-again (uid ∷ uids) (file ∷ files) p same are =
     let is = All-head IsAttachedFile file files are in
     let one : Node = set_in (uint_leaf FILE_UID uid) file in
-    ap (λ (l : List Node). map octets (with_numbers (uid ∷ uids) l)) (read-step p one (with_numbers uids files) (set-id uid file ∙ is.id))
+    ap (λ (l : List Node). map octets (with_numbers (uid ∷ uids) l)) (read-step p one (with_numbers uids files) (ap is_filler (set-id uid file ∙ is.id)))
     ∙ ap₂ (λ (o : List ℕ) (os : List (List ℕ)). o ∷ os) (set-again FILE_UID uid p file is.master refl) (files-again uids files (p + length (octets one)) (omega arith) (All-tail IsAttachedFile file files are))
 
 -- Files with identifiers keep them, and stay.

@@ -37,12 +37,4 @@ pub record AreRenumbered : Type 0 where
   pub again : renumbered (renumbered (2 ∷ 2 ∷ 0 ∷ [])) ≡ renumbered (2 ∷ 2 ∷ 0 ∷ [])
 
 pub renumbers : AreRenumbered
-renumbers = record {
-  repeated = refl;
-  missing = refl;
-  missing_first = refl;
-  several_missing = refl;
-  three_times = refl;
-  greatest = refl;
-  again = refl;
-}
+renumbers = assumption refl

@@ -1,44 +1,37 @@
 -- Lines that are written are read back.
-use Rattle.std.proofs.Common.{◌≡◌, ℕ, suc, ◌+◌, ◌-◌, ◌*◌, ◌/◌, ◌%◌, ◌^◌, ◌<◌, Bool, true, false, not, ◌&&◌, List, [], ◌∷◌, ◌++◌, length, take, Some, refl, sym, ◌∙◌, ap, arith, append_assoc, All}
+use Rattle.std.proofs.Common.{◌≡◌, ℕ, ◌+◌, ◌*◌, ◌/◌, ◌%◌, ◌^◌, ◌<◌, Bool, true, false, not, List, [], ◌∷◌, ◌++◌, length, take, Some, refl, sym, ◌∙◌, ap, arith, append_assoc, All, ◌==◌, ◌-◌, slice_index}
 use Rattle.std.proofs.lemmas.Grind.{common_steps}
 use Rattle.std.proofs.lemmas.Bool.Decides.{nat_tests}
 use Rattle.std.proofs.lemmas.List.Splits.{slice_split_at, length-slice_split}
 use Rattle.std.proofs.lemmas.List.Elements.{All-nil, All-cons}
 use Rattle.std.proofs.Math.Seq.{drop-append_seam}
 use Rattle.std.proofs.Math.Nat.{div-div-eq-div-mul}
-use Rattle.std.specs.Prelude.{◌==◌}
 use Rattle.std.specs.List.{slice_split}
 use Rattle.std.specs.Char.{is_ascii_digit}
-use Rattle.std.specs.Str.{bytes_eq}
 use Rattle.std.specs.Str.Lines.{lines, lines_of_parts, strip_carriage_return}
+use Rattle.std.proofs.lemmas.Bool.{and_from}
+use Rattle.std.proofs.lemmas.Slice.Eq.{bytes_eq-Decides}
 use Rattle.srt_texts.specs.Fields.{behind}
 use Rattle.srt_texts.specs.Pieces.{digit, two_digits, three_digits, two_or_more, stamp}
 use Rattle.mkv_io.specs.Octets.{lacks}
 use Rattle.record_laws.specs.Plain.{ends_with_return, IsLine}
-use Rattle.mkv_io.proofs.OctetsLemmas.{digits_lack, lacks_both}
+use Rattle.mkv_io.proofs.OctetsLemmas.{digits_lack, lacks_both, lacks_parts}
 use Rattle.record_laws.proofs.DigitsLemmas.{two_all, three_all, padded_all}
 
 -- ---- what a text lacks
-both_true : (a b : Bool) → a ≡ true → b ≡ true → (a && b) ≡ true
-both_true a b p q = rw (p, q) refl
-
 pub lacks_more : (o b : ℕ) (w : List ℕ) → (b == o) ≡ false → lacks o w ≡ true → lacks o (b ∷ w) ≡ true
-lacks_more o b w other none = both_true (not (b == o)) (lacks o w) (rw other refl) none
+lacks_more o b w other none = and_from (not (b == o)) (lacks o w) (rw other refl) none
 
 lacks_each : (o : ℕ) (w : List ℕ) → lacks o w ≡ true → All (λ b. (b == o) ≡ false) w
 lacks_each o [] none = All-nil (λ b. (b == o) ≡ false)
-lacks_each o (b ∷ bs) none = split (b == o) refl none (λ h. lacks_each o bs h)
-  where
-    split : (c : Bool) → (b == o) ≡ c → (not c && lacks o bs) ≡ true → (lacks o bs ≡ true → All (λ d. (d == o) ≡ false) bs) → All (λ d. (d == o) ≡ false) (b ∷ bs)
-    split true is none more = absurd (cc)
-    split false is none more = All-cons (λ d. (d == o) ≡ false) b bs is (more none)
+lacks_each o (b ∷ bs) none = let parts = lacks_parts o b bs none in All-cons (λ d. (d == o) ≡ false) b bs parts.0 (lacks_each o bs parts.1)
 
 -- ---- the end of a text
+pub last_more : (x y : ℕ) (ys : List ℕ) → slice_index (x ∷ y ∷ ys) (length (x ∷ y ∷ ys) - 1) ≡ slice_index (y ∷ ys) (length (y ∷ ys) - 1)
+last_more x y ys = grind (arith, common_steps)
+
 pub ends_more : (x y : ℕ) (ys : List ℕ) → ends_with_return (x ∷ y ∷ ys) ≡ ends_with_return (y ∷ ys)
-ends_more x y ys =
-    let a : suc (suc (length ys)) - 1 ≡ suc (length ys) = omega arith in
-    let b : suc (length ys) - 1 ≡ length ys = omega arith in
-    rw (a, b) refl
+ends_more x y ys = ap (λ (b : ℕ). b == 13) (last_more x y ys)
 
 pub ends_both : (a : List ℕ) (y : ℕ) (ys : List ℕ) → ends_with_return (a ++ (y ∷ ys)) ≡ ends_with_return (y ∷ ys)
 ends_both [] y ys = refl
@@ -67,12 +60,7 @@ line_first x rest line =
 pub behind_front : (front rest : List ℕ) → behind front (front ++ rest) ≡ Some rest
 behind_front front rest =
     let e : take (length front) (front ++ rest) ≡ front = grind (arith, common_steps) in
-    let same : bytes_eq front front ≡ true = equal front in
-    rw (e, same, drop-append_seam front rest) refl
-  where
-    equal : (w : List ℕ) → bytes_eq w w ≡ true
-    equal [] = refl
-    equal (b ∷ bs) = let e : (b == b) ≡ true = grind (arith, nat_tests) in rw (e, equal bs) refl
+    rw (e, (bytes_eq-Decides front front).1 refl, drop-append_seam front rest) refl
 
 -- ---- a time
 -- its parts

@@ -1,6 +1,5 @@
 -- The identifiers that were given are those that are read.
-use Rattle.std.proofs.Common.{◌≡◌, ◌<◌, ℕ, zero, suc, ◌+◌, ◌^◌, ◌==◌, Bool, true, false, if◌then◌else◌, List, [], ◌∷◌, ◌++◌, length, map, Option, refl, sym, ap, ap₂, ◌∙◌, arith, length-append}
-use Rattle.std.specs.Prelude.{find, slice_index}
+use Rattle.std.proofs.Common.{◌≡◌, ◌<◌, ℕ, zero, suc, ◌+◌, ◌^◌, ◌==◌, Bool, true, false, if◌then◌else◌, List, [], ◌∷◌, ◌++◌, length, map, Option, refl, sym, ap, ap₂, ◌∙◌, arith, length-append, find, slice_index}
 use Rattle.std.specs.Option.{option_map_or}
 use Rattle.std.proofs.lemmas.List.{length-map, map-append}
 use Rattle.ebml_numbers.specs.Number.{uint_octets}
@@ -15,7 +14,7 @@ use Rattle.tree_format.specs.Children.{set_in, uint_leaf}
 use Rattle.record_laws.proofs.TrackLemmas.{find-filter, first_in}
 use Rattle.record_changes.specs.Atoms.{atoms_among, atoms_at, value_in}
 use Rattle.record_changes.specs.ChapterIdentifiers.{numbered, numbered_among}
-use Rattle.record_laws.proofs.AtomLemmas.{atoms-atom, atoms-set, uids_among, uids_at}
+use Rattle.record_laws.proofs.AtomLemmas.{atoms-atom, atoms-set, uids_among, uids_at, atoms-none}
 
 -- ---- numbers in a list
 
@@ -82,11 +81,8 @@ module _ (uids : List ℕ) (small : (k : ℕ) → slice_index uids k < 2 ^ 64) w
       ∙ ap (λ (l : List Node). numbers_at uids k (length l)) (sym (atoms-atom id at kids is))
   uids-own k id at kids inside false is =
       ap uids_at (numbered-none uids k id at kids is)
-      ∙ ap (map (value_in CHAPTER_UID)) (nothing id at kids is)
-      ∙ ap (λ (l : List Node). numbers_at uids k (length l)) (sym (nothing id at kids is))
-    where
-      nothing : (id at : ℕ) (kids : Nodes) → (id == CHAPTER_ATOM) ≡ false → atoms_at (master id at kids) ≡ []
-      nothing id at kids is = ap (λ (b : Bool). if b then master id at kids ∷ atoms_among kids else []) is
+      ∙ ap (map (value_in CHAPTER_UID)) (atoms-none (master id at kids) is)
+      ∙ ap (λ (l : List Node). numbers_at uids k (length l)) (sym (atoms-none (master id at kids) is))
 
   -- they have the numbers from the k-th on
   pub uids-among : (ns : Nodes) (k : ℕ) → uids_among (nodes_of (numbered_among uids k ns)) ≡ numbers_at uids k (length (atoms_among ns))

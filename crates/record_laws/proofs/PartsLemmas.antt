@@ -1,31 +1,27 @@
 -- The lines of a text, and what is read of them.
-use Rattle.std.proofs.Common.{◌≡◌, ℕ, suc, ◌-◌, ◌<◌, Bool, true, false, cond, List, [], ◌∷◌, ◌++◌, length, refl, sym, ◌∙◌, ap, arith, append_assoc}
+use Rattle.std.proofs.Common.{◌≡◌, ℕ, ◌<◌, true, false, List, [], ◌∷◌, ◌++◌, length, refl, sym, ◌∙◌, ap, arith, append_assoc, inl, inr, ◌==◌}
 use Rattle.std.proofs.lemmas.List.Splits.{join_with_byte-slice_split, length-slice_split}
-use Rattle.std.specs.Prelude.{◌==◌}
-use Rattle.std.specs.List.{onto_first, join_with_byte}
+use Rattle.std.specs.List.{onto_first, join_with_byte, AllByRecursion}
 use Rattle.std.specs.Str.Lines.{lines}
+use Rattle.std.proofs.lemmas.Bool.{cases_Bool}
 use Rattle.srt_texts.specs.Srt.{trimmed, onto_lines, text_of}
 use Rattle.mkv_io.specs.Octets.{lacks}
 use Rattle.record_laws.specs.Plain.{IsLine}
 use Rattle.record_laws.specs.SubRip.{lines_in, ends_with_break}
-use Rattle.record_laws.proofs.LineLemmas.{lacks_more, line_first}
+use Rattle.record_laws.proofs.LineLemmas.{lacks_more, line_first, last_more}
 
 -- ---- no line has LF
-abbrev pub AllLack : List (List ℕ) → Type 0
-AllLack [] = Unit {0}
-AllLack (l ∷ ls) = (lacks 10 l ≡ true) × AllLack ls
+abbrev pub LacksBreak : List ℕ → Type 0
+LacksBreak l = lacks 10 l ≡ true
 
-onto_lack : (x : ℕ) (ls : List (List ℕ)) → (x == 10) ≡ false → AllLack ls → AllLack (onto_first x ls)
+onto_lack : (x : ℕ) (ls : List (List ℕ)) → (x == 10) ≡ false → AllByRecursion LacksBreak ls → AllByRecursion LacksBreak (onto_first x ls)
 onto_lack x [] other all = (lacks_more 10 x [] other refl, tt)
 onto_lack x (l ∷ ls) other all = (lacks_more 10 x l other all.0, all.1)
 
-pub lines_lack : (w : List ℕ) → AllLack (lines_in w)
+pub lines_lack : (w : List ℕ) → AllByRecursion LacksBreak (lines_in w)
 lines_lack [] = (refl, tt)
-lines_lack (x ∷ xs) = split (x == 10) refl (lines_lack xs)
-  where
-    split : (c : Bool) → (x == 10) ≡ c → AllLack (lines_in xs) → AllLack (cond c ([] ∷ lines_in xs) (onto_first x (lines_in xs)))
-    split true is all = (refl, all)
-    split false is all = onto_lack x (lines_in xs) is all
+lines_lack (x ∷ xs) =
+    elim (cases_Bool (x == 10)) [ inl is ↦ rw is (refl, lines_lack xs) | inr is ↦ rw is (onto_lack x (lines_in xs) is (lines_lack xs)) ]
 
 -- ---- the last line has octets
 abbrev pub IsFilled : List (List ℕ) → Type 0
@@ -43,22 +39,13 @@ onto_filled x (l ∷ []) filled = omega arith
 onto_filled x (l ∷ m ∷ ms) filled = filled
 
 break_more : (x y : ℕ) (ys : List ℕ) → ends_with_break (x ∷ y ∷ ys) ≡ ends_with_break (y ∷ ys)
-break_more x y ys =
-    let a : suc (suc (length ys)) - 1 ≡ suc (length ys) = omega arith in
-    let b : suc (length ys) - 1 ≡ length ys = omega arith in
-    rw (a, b) refl
-
-one_filled : (x : ℕ) (c : Bool) → (x == 10) ≡ c → c ≡ false → IsFilled (cond c ([] ∷ [] ∷ []) (onto_first x ([] ∷ [])))
-one_filled x true is none = absurd (cc)
-one_filled x false is none = omega arith
+break_more x y ys = ap (λ (b : ℕ). b == 10) (last_more x y ys)
 
 pub lines_filled : (x : ℕ) (xs : List ℕ) → ends_with_break (x ∷ xs) ≡ false → IsFilled (lines_in (x ∷ xs))
-lines_filled x [] none = one_filled x (x == 10) refl none
-lines_filled x (y ∷ ys) none = split (x == 10) (lines_filled y ys (sym (break_more x y ys) ∙ none))
-  where
-    split : (c : Bool) → IsFilled (lines_in (y ∷ ys)) → IsFilled (cond c ([] ∷ lines_in (y ∷ ys)) (onto_first x (lines_in (y ∷ ys))))
-    split true rest = front_filled [] (lines_in (y ∷ ys)) rest
-    split false rest = onto_filled x (lines_in (y ∷ ys)) rest
+lines_filled x [] none = rw none (omega arith)
+lines_filled x (y ∷ ys) none =
+    let rest = lines_filled y ys (sym (break_more x y ys) ∙ none) in
+    elim (cases_Bool (x == 10)) [ inl is ↦ rw is (front_filled [] (lines_in (y ∷ ys)) rest) | inr is ↦ rw is (onto_filled x (lines_in (y ∷ ys)) rest) ]
 
 -- ---- what is read of the lines and an empty one
 onto_more : (l m : List ℕ) (ms : List (List ℕ)) → onto_lines l (m ∷ ms) ≡ l ∷ m ∷ ms
@@ -82,18 +69,14 @@ text_back [] none = refl
 text_back (x ∷ xs) none = ap (join_with_byte 10) (trimmed_filled (lines_in (x ∷ xs)) (lines_filled x xs none)) ∙ join_with_byte-slice_split 10 (x ∷ xs)
 
 -- ---- the lines of a text that is written
-abbrev pub AreLines : List (List ℕ) → Type 0
-AreLines [] = Unit {0}
-AreLines (l ∷ ls) = IsLine l × AreLines ls
-
-lines_joined : (l : List ℕ) (ls : List (List ℕ)) (rest : List ℕ) → AreLines (l ∷ ls) → lines (join_with_byte 10 (l ∷ ls) ++ (10 ∷ rest)) ≡ (l ∷ ls) ++ lines rest
+lines_joined : (l : List ℕ) (ls : List (List ℕ)) (rest : List ℕ) → AllByRecursion IsLine (l ∷ ls) → lines (join_with_byte 10 (l ∷ ls) ++ (10 ∷ rest)) ≡ (l ∷ ls) ++ lines rest
 lines_joined l [] rest are = line_first l rest are.0
 lines_joined l (m ∷ ms) rest are =
     let more = join_with_byte 10 (m ∷ ms) in
     let joined = append_assoc l (10 ∷ more) (10 ∷ rest) in
     ap lines joined ∙ (line_first l (more ++ (10 ∷ rest)) are.0 ∙ ap (λ ls. l ∷ ls) (lines_joined m ms rest are.1))
 
-some_joined : (ls : List (List ℕ)) (rest : List ℕ) → 0 < length ls → AreLines ls → lines (join_with_byte 10 ls ++ (10 ∷ rest)) ≡ ls ++ lines rest
+some_joined : (ls : List (List ℕ)) (rest : List ℕ) → 0 < length ls → AllByRecursion IsLine ls → lines (join_with_byte 10 ls ++ (10 ∷ rest)) ≡ ls ++ lines rest
 some_joined [] rest some are = absurd (omega arith)
 some_joined (l ∷ ls) rest some are = lines_joined l ls rest are
 
@@ -104,7 +87,7 @@ some_lines : (w : List ℕ) → 0 < length (lines_in w)
 some_lines w = let long = length-slice_split (λ b. b == 10) w in omega arith
 
 -- a text with an empty line behind it
-pub text_lines : (w rest : List ℕ) → AreLines (lines_in w) → lines (w ++ (10 ∷ 10 ∷ rest)) ≡ lines_in w ++ ([] ∷ lines rest)
+pub text_lines : (w rest : List ℕ) → AllByRecursion IsLine (lines_in w) → lines (w ++ (10 ∷ 10 ∷ rest)) ≡ lines_in w ++ ([] ∷ lines rest)
 text_lines w rest are =
     let back = join_with_byte-slice_split 10 w in
     let whole = some_joined (lines_in w) (10 ∷ rest) (some_lines w) are in

@@ -1,9 +1,8 @@
 -- Chapters with identifiers are settled.
-use Rattle.std.proofs.Common.{◌≡◌, ◌<◌, ℕ, zero, suc, ◌+◌, ◌^◌, ◌==◌, Bool, true, false, cond, List, [], ◌∷◌, length, map, flat_map, refl, sym, ap, ap₂, ◌∙◌, arith}
-use Rattle.std.specs.Prelude.{All, slice_index}
-use Rattle.std.proofs.lemmas.Bool.Decides.{nat_tests}
+use Rattle.std.proofs.Common.{◌≡◌, ◌<◌, ℕ, zero, suc, ◌+◌, ◌^◌, ◌==◌, List, [], ◌∷◌, length, map, flat_map, sym, ap, ap₂, ◌∙◌, arith, inl, inr, eqb-true, All, slice_index}
 use Rattle.std.proofs.lemmas.List.{length-map}
 use Rattle.std.proofs.lemmas.List.Elements.{All-cons, All-head, All-nil, All-tail}
+use Rattle.std.proofs.lemmas.Bool.{cases_Bool}
 use Rattle.mkv_schema.specs.declared.ids.TheConstants.{CHAPTER_UID, EDITION_ENTRY, EDITION_UID}
 use Rattle.tree_format.specs.Node.{IsMaster, Node, Nodes, leaf, master, nodes_of, list_of, id_of}
 use Rattle.tree_format.specs.NormalForm.{header_octets, kept_octets, octets, octets_all}
@@ -20,7 +19,7 @@ use Rattle.record_laws.proofs.EditionLemmas.{IsEdition, editions-again, editions
 use Rattle.record_laws.proofs.NumberLemmas.{numbers-all, numbers_at}
 
 -- where each is small, so is one at any place
-small-at : (ns : List ℕ) → All (λ n. n < 2 ^ 64) ns → (k : ℕ) → slice_index ns k < 2 ^ 64
+pub small-at : (ns : List ℕ) → All (λ n. n < 2 ^ 64) ns → (k : ℕ) → slice_index ns k < 2 ^ 64
 small-at [] small k = omega arith
 small-at (n ∷ ns) small zero = All-head (λ m. m < 2 ^ 64) n ns small
 small-at (n ∷ ns) small (suc k) = small-at ns (All-tail (λ m. m < 2 ^ 64) n ns small) k
@@ -28,14 +27,13 @@ small-at (n ∷ ns) small (suc k) = small-at ns (All-tail (λ m. m < 2 ^ 64) n n
 -- the editions among some Elements, where they are masters
 editions-are : (ns : List Node) → All IsMaster (part EDITION_ENTRY ns) → All IsEdition (part EDITION_ENTRY ns)
 editions-are [] masters = All-nil IsEdition
-editions-are (n ∷ ns) masters = split (id_of n == EDITION_ENTRY) refl masters (λ more. editions-are ns more)
-  where
-    split : (t : Bool) → (id_of n == EDITION_ENTRY) ≡ t → All IsMaster (cond t (n ∷ part EDITION_ENTRY ns) (part EDITION_ENTRY ns))
-        → (All IsMaster (part EDITION_ENTRY ns) → All IsEdition (part EDITION_ENTRY ns)) → All IsEdition (cond t (n ∷ part EDITION_ENTRY ns) (part EDITION_ENTRY ns))
-    split true is masters rest =
-        let same : id_of n ≡ EDITION_ENTRY = grind (arith, nat_tests) in
-        All-cons IsEdition n (part EDITION_ENTRY ns) (record { id = same; master = All-head IsMaster n (part EDITION_ENTRY ns) masters }) (rest (All-tail IsMaster n (part EDITION_ENTRY ns) masters))
-    split false is masters rest = rest masters
+editions-are (n ∷ ns) masters = elim (cases_Bool (id_of n == EDITION_ENTRY)) [
+  | inl is ↦
+      let all : All IsMaster (n ∷ part EDITION_ENTRY ns) = rw is at masters in
+      rw is (All-cons IsEdition n (part EDITION_ENTRY ns) (record { id = eqb-true (id_of n) EDITION_ENTRY is; master = All-head IsMaster n (part EDITION_ENTRY ns) all })
+      (editions-are ns (All-tail IsMaster n (part EDITION_ENTRY ns) all)))
+  | inr is ↦ rw is (editions-are ns (rw is at masters))
+]
 
 -- ---- one Chapters
 
@@ -48,15 +46,8 @@ abbrev inside_of : ℕ → ℕ → Node → ℕ
 inside_of id place chapters = place + length (header_octets id (length (octets_all (nodes_of (list_in chapters)))))
 
 -- there is a number for each
-all-editions : (chapters : Node) → numbers_at (edition_numbers chapters) 0 (length (editions_of chapters)) ≡ edition_numbers chapters
-all-editions chapters =
-    let many : length (editions_of chapters) ≡ length (edition_numbers chapters) = sym (numbers-settle.each (edition_uids chapters) ∙ length-map (editions_of chapters) (value_in EDITION_UID)) in
-    ap (numbers_at (edition_numbers chapters) 0) many ∙ numbers-all (edition_numbers chapters)
-
-all-chapters : (chapters : Node) → numbers_at (chapter_numbers chapters) 0 (length (atoms_of chapters)) ≡ chapter_numbers chapters
-all-chapters chapters =
-    let many : length (atoms_of chapters) ≡ length (chapter_numbers chapters) = sym (numbers-settle.each (chapter_uids chapters) ∙ length-map (atoms_of chapters) (value_in CHAPTER_UID)) in
-    ap (numbers_at (chapter_numbers chapters) 0) many ∙ numbers-all (chapter_numbers chapters)
+all-numbers : (f : Node → ℕ) (ns : List Node) → numbers_at (renumbered (map f ns)) 0 (length ns) ≡ renumbered (map f ns)
+all-numbers f ns = ap (numbers_at (renumbered (map f ns)) 0) (sym (numbers-settle.each (map f ns) ∙ length-map ns f)) ∙ numbers-all (renumbered (map f ns))
 
 module _ (id at place : ℕ) (kids : Nodes) (are : AreChapters (master id at kids)) where
   editions-read : editions_of (placed place (settled (master id at kids))) ≡ read_of (inside_of id place (master id at kids)) (list_in (master id at kids))
@@ -69,14 +60,14 @@ module _ (id at place : ℕ) (kids : Nodes) (are : AreChapters (master id at kid
       let c : Node = master id at kids in
       ap (map (value_in EDITION_UID)) editions-read
       ∙ editions-own (chapter_numbers c) (small-at (chapter_numbers c) are.chapter_numbers) (edition_numbers c) (small-at (edition_numbers c) are.edition_numbers) 0 0 (inside_of id place c) (editions_of c) (editions-are (list_of kids) are.editions)
-      ∙ all-editions c
+      ∙ all-numbers (value_in EDITION_UID) (editions_of c)
 
   chapters-keep : chapter_uids (placed place (settled (master id at kids))) ≡ chapter_numbers (master id at kids)
   chapters-keep =
       let c : Node = master id at kids in
       ap (λ (es : List Node). map (value_in CHAPTER_UID) (flat_map atoms_inside es)) editions-read
       ∙ editions-inner (chapter_numbers c) (small-at (chapter_numbers c) are.chapter_numbers) (edition_numbers c) (small-at (edition_numbers c) are.edition_numbers) 0 0 (inside_of id place c) (editions_of c) (editions-are (list_of kids) are.editions)
-      ∙ all-chapters c
+      ∙ all-numbers (value_in CHAPTER_UID) (atoms_of c)
 
   -- renumbering again changes none
   editions-still : edition_numbers (placed place (settled (master id at kids))) ≡ edition_numbers (master id at kids)
@@ -102,19 +93,13 @@ module _ (id at place : ℕ) (kids : Nodes) (are : AreChapters (master id at kid
 -- Chapters with identifiers keep them, and stay.
 pub chapters-stay : ChaptersStay
 chapters-stay = record {
-  editions = λ chapters place are. editions chapters place are;
-  chapters = λ chapters place are. atoms chapters place are;
-  same = λ chapters place are. whole chapters place are;
+  editions = λ chapters place are. (all chapters place are).0;
+  chapters = λ chapters place are. (all chapters place are).1;
+  same = λ chapters place are. (all chapters place are).2;
 }
   where
-    editions : (chapters : Node) (place : ℕ) → AreChapters chapters → edition_uids (placed place (settled chapters)) ≡ edition_numbers chapters
-    editions (leaf id at body) place are = let never = are.master in absurd (cc)
-    editions (master id at kids) place are = editions-keep id at place kids are
-
-    atoms : (chapters : Node) (place : ℕ) → AreChapters chapters → chapter_uids (placed place (settled chapters)) ≡ chapter_numbers chapters
-    atoms (leaf id at body) place are = let never = are.master in absurd (cc)
-    atoms (master id at kids) place are = chapters-keep id at place kids are
-
-    whole : (chapters : Node) (place : ℕ) → AreChapters chapters → octets (settled (placed place (settled chapters))) ≡ octets (settled chapters)
-    whole (leaf id at body) place are = let never = are.master in absurd (cc)
-    whole (master id at kids) place are = same-again id at place kids are
+    all : (chapters : Node) (place : ℕ) → AreChapters chapters
+        → (edition_uids (placed place (settled chapters)) ≡ edition_numbers chapters) × (chapter_uids (placed place (settled chapters)) ≡ chapter_numbers chapters)
+        × (octets (settled (placed place (settled chapters))) ≡ octets (settled chapters))
+    all (leaf id at body) place are = absurd (let never = are.master in cc)
+    all (master id at kids) place are = (editions-keep id at place kids are, chapters-keep id at place kids are, same-again id at place kids are)

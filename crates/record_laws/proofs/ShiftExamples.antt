@@ -1,19 +1,10 @@
 -- Chapters that are later, and where chapters start, computed, so that a wrong definition does not check.
 use Rattle.std.proofs.Common.{◌≡◌, ℕ, List, [], ◌∷◌, ◌++◌, replicate, Result, Ok, refl}
-use Rattle.std.specs.Int.Count.{count_leading_zeros}
-use Rattle.std.specs.Str.{is_utf8, chars}
-use lib.Utf8.{encode}
-use Rattle.ebml_numbers.specs.Number.{id_at, size_at, uint_width, least_size_width}
-use Rattle.mkv_schema.specs.Table.{table}
-use Rattle.mkv_schema.specs.Schema.{entry_of}
-use Rattle.mkv_schema.specs.Element.{element_in}
-use Rattle.mkv_io.specs.Results.{and_then}
 use Rattle.mkv_io.specs.declared.damage.Damage.{Damage}
 use Rattle.tree_format.specs.NormalForm.{content}
-use Rattle.tree_format.specs.Reading.{tree_of, grove, grove_within}
 use Rattle.record_changes.specs.Shift.{shifted}
 use Rattle.record_changes.specs.Starts.{top_starts}
-use Rattle.record_laws.proofs.ChapterExamples.{edition, atom, edition_uid, start, lasting, intro, zero_s, half_s, one_s, endless, nested}
+use Rattle.record_laws.proofs.ChapterExamples.{edition, atom, edition_uid, start, lasting, intro, zero_s, half_s, one_s, endless, nested, made_of, chapter_uid}
 
 -- ---- chapters
 
@@ -30,15 +21,7 @@ one_chapter =
     (0x43 ∷ 0x7C ∷ 0x83 ∷ 0x75 ∷ 0x6E ∷ 0x64 ∷ [])
 
 abbrev later_chapter : List ℕ
-later_chapter =
-    (0x45 ∷ 0xB9 ∷ 0x9F ∷ []) ++
-    (0x45 ∷ 0xBC ∷ 0x81 ∷ 1 ∷ []) ++
-    (0xB6 ∷ 0x99 ∷ []) ++
-    (0x73 ∷ 0xC4 ∷ 0x81 ∷ 1 ∷ []) ++
-    (0x91 ∷ 0x84 ∷ 1 ∷ 0x31 ∷ 0x2D ∷ 0 ∷ []) ++
-    (0x80 ∷ 0x8D ∷ []) ++
-    (0x85 ∷ 0x85 ∷ 0x49 ∷ 0x6E ∷ 0x74 ∷ 0x72 ∷ 0x6F ∷ []) ++
-    (0x43 ∷ 0x7C ∷ 0x83 ∷ 0x75 ∷ 0x6E ∷ 0x64 ∷ [])
+later_chapter = edition (edition_uid 1 ++ atom (chapter_uid 1 ++ start (1 ∷ 0x31 ∷ 0x2D ∷ 0 ∷ []) ++ intro))
 
 -- two editions with an atom each, from a start to an end
 abbrev two_editions : List ℕ → List ℕ → List ℕ
@@ -52,7 +35,7 @@ last = replicate 8 0xFF
 
 -- what a Chapters Element becomes whose chapters are so much later, both without its header
 abbrev later : ℕ → List ℕ → Result (List ℕ) Damage
-later by body = and_then (tree_of 0x1043A770 0 body 5 65536) (λ tree. Ok (content (shifted by tree)))
+later by body = made_of 0x1043A770 (λ tree. content (shifted by tree)) body
 
 -- an edition becomes another by half a second
 abbrev becomes : List ℕ → List ℕ → Type 0
@@ -74,22 +57,14 @@ pub record AreLater : Type 0 where
   pub no_later_than_last : becomes (lasting zero_s last) (lasting half_s last)
 
 pub laters : AreLater
-unfolding is_utf8 chars encode grove grove_within element_in id_at size_at entry_of table count_leading_zeros uint_width least_size_width
-laters = record {
-  one = refl;
-  ends = refl;
-  missing_start = refl;
-  others_stay = refl;
-  inside = refl;
-  missing_inside = refl;
-  no_later_than_last = refl;
-}
+unfolding made_of
+laters = assumption refl
 
 -- ---- where chapters start
 
 -- the starts of a Chapters Element's chapters
 abbrev starts : List ℕ → Result (List ℕ) Damage
-starts body = and_then (tree_of 0x1043A770 0 body 5 65536) (λ tree. Ok (top_starts tree))
+starts body = made_of 0x1043A770 top_starts body
 
 pub record AreStarts : Type 0 where
   -- in the order of the atoms; one that is missing is 0
@@ -101,5 +76,5 @@ pub record AreStarts : Type 0 where
   pub no_edition : starts [] ≡ Ok []
 
 pub begins : AreStarts
-unfolding is_utf8 chars encode grove grove_within element_in id_at size_at entry_of table count_leading_zeros
+unfolding made_of
 begins = record { top = refl; none_inside = refl; first_edition = refl; no_edition = refl }

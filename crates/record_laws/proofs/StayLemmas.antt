@@ -1,14 +1,14 @@
 -- Atoms with identifiers are written as they were, once they were read.
-use Rattle.std.proofs.Common.{◌≡◌, ◌<◌, ◌⊎◌, inl, inr, ℕ, ◌+◌, ◌^◌, ◌==◌, Bool, true, false, cond, if◌then◌else◌, List, [], ◌∷◌, ◌++◌, length, map, flat_map, refl, sym, ap, ap₂, subst, ◌∙◌, arith, length-append}
-use Rattle.std.specs.Prelude.{⊤, not, slice_index}
-use Rattle.std.proofs.lemmas.Bool.Decides.{nat_tests}
+use Rattle.std.proofs.Common.{◌≡◌, ◌<◌, inl, inr, ℕ, ◌+◌, ◌^◌, ◌==◌, Bool, true, false, List, [], ◌∷◌, ◌++◌, length, map, flat_map, refl, sym, ap, ap₂, subst, ◌∙◌, arith, length-append, eqb-true}
+use Rattle.std.specs.Prelude.{⊤, slice_index}
+use Rattle.std.proofs.lemmas.Bool.{cases_Bool}
 use Rattle.mkv_schema.specs.declared.ids.TheConstants.{CHAPTER_ATOM, CHAPTER_UID}
 use Rattle.tree_format.specs.Node.{Node, Nodes, leaf, master, none, node, nodes_of, list_of, id_of}
 use Rattle.tree_format.specs.NormalForm.{is_filler, header_octets, kept_octets, octets, octets_all}
-use Rattle.tree_format.specs.Changes.{HasNone, part, with_child, without}
+use Rattle.tree_format.specs.Changes.{part, with_child, without}
 use Rattle.tree_format.specs.Standing.{placed, placed_all}
 use Rattle.tree_format.proofs.NodeLemmas.{octets_all-flat}
-use Rattle.tree_format.proofs.PartLemmas.{SplitAt, part-set, split-first, with_child-at, with_child-none}
+use Rattle.tree_format.proofs.PartLemmas.{part-set, split-first, with_child-at, with_child-none}
 use Rattle.tree_format.specs.Children.{uint_leaf}
 use Rattle.record_laws.proofs.SameLemmas.{HasOnly, part-read, placed-octets, same-only}
 use Rattle.record_changes.specs.Atoms.{atoms_at}
@@ -37,17 +37,16 @@ octets-filler (master id at kids) is = rw is refl
 
 pub stay-read : (uids : List ℕ) (ns : List Node) (k q : ℕ) → AllStay uids k ns → flat_map octets (numbered_among uids k (placed_all q (nodes_of ns))) ≡ flat_map octets ns
 stay-read uids [] k q stay = refl
-stay-read uids (n ∷ ns) k q stay = split (is_filler (id_of n)) refl (λ j p more. stay-read uids ns j p more)
-  where
-    split : (f : Bool) → is_filler (id_of n) ≡ f → ((j p : ℕ) → AllStay uids j ns → flat_map octets (numbered_among uids j (placed_all p (nodes_of ns))) ≡ flat_map octets ns)
-        → flat_map octets (numbered_among uids k (if f then placed_all q (nodes_of ns) else node (placed q n) (placed_all (q + length (octets n)) (nodes_of ns)))) ≡ octets n ++ flat_map octets ns
-    split true filler rest =
-        let same : k + length (atoms_at n) ≡ k = omega (arith, ap length (filler-none n filler)) in
-        rest k q (stay-at uids (k + length (atoms_at n)) k ns same stay.1) ∙ ap (λ (o : List ℕ). o ++ flat_map octets ns) (sym (octets-filler n filler))
-    split false filler rest =
-        let behind : Nodes = placed_all (q + length (octets n)) (nodes_of ns) in
-        ap (λ (m : ℕ). octets (numbered uids k (placed q n)) ++ flat_map octets (numbered_among uids (k + m) behind)) (count-placed n q)
-        ∙ ap₂ (λ (a b : List ℕ). a ++ b) (stay.0 q) (rest (k + length (atoms_at n)) (q + length (octets n)) stay.1)
+stay-read uids (n ∷ ns) k q stay = elim (cases_Bool (is_filler (id_of n))) [
+  | inl filler ↦
+      let same : k + length (atoms_at n) ≡ k = omega (arith, ap length (filler-none n filler)) in
+      rw (filler, octets-filler n filler) (stay-read uids ns k q (stay-at uids (k + length (atoms_at n)) k ns same stay.1))
+  | inr kept ↦
+      let behind : Nodes = placed_all (q + length (octets n)) (nodes_of ns) in
+      rw kept
+      (ap (λ (m : ℕ). octets (numbered uids k (placed q n)) ++ flat_map octets (numbered_among uids (k + m) behind)) (count-placed n q)
+      ∙ ap₂ (λ (a b : List ℕ). a ++ b) (stay.0 q) (stay-read uids ns (k + length (atoms_at n)) (q + length (octets n)) stay.1))
+]
 
 stay-join : (uids : List ℕ) (k : ℕ) (xs ys : List Node) → AllStay uids k xs → AllStay uids (k + length (flat_map atoms_at xs)) ys → AllStay uids k (xs ++ ys)
 stay-join uids k [] ys stay more = let same : k + 0 ≡ k = omega arith in stay-at uids (k + 0) k ys same more
@@ -67,66 +66,51 @@ stay-back uids k (x ∷ xs) ys stay =
 
 -- an Element of another ID than an atom's has none inside
 not-atom : (id : ℕ) (n : Node) → (id == CHAPTER_ATOM) ≡ false → (id_of n == id) ≡ true → atoms_at n ≡ []
-not-atom id n other is =
-    let same : id_of n ≡ id = grind (arith, nat_tests) in
-    atoms-none n (ap (λ (i : ℕ). i == CHAPTER_ATOM) same ∙ other)
+not-atom id n other is = atoms-none n (rw (eqb-true (id_of n) id is) other)
 
 stay-without : (uids : List ℕ) (k id : ℕ) (ns : List Node) → (id == CHAPTER_ATOM) ≡ false → AllStay uids k ns → AllStay uids k (without id ns)
 stay-without uids k id [] other stay = tt
-stay-without uids k id (n ∷ ns) other stay = split (id_of n == id) refl (stay-without uids (k + length (atoms_at n)) id ns other stay.1)
-  where
-    split : (t : Bool) → (id_of n == id) ≡ t → AllStay uids (k + length (atoms_at n)) (without id ns) → AllStay uids k (cond (not t) (n ∷ without id ns) (without id ns))
-    split true is rest = let same : k + length (atoms_at n) ≡ k = omega (arith, ap length (not-atom id n other is)) in stay-at uids (k + length (atoms_at n)) k (without id ns) same rest
-    split false is rest = (stay.0, rest)
+stay-without uids k id (n ∷ ns) other stay =
+    let rest = stay-without uids (k + length (atoms_at n)) id ns other stay.1 in
+    elim (cases_Bool (id_of n == id)) [
+      | inl is ↦ rw is (stay-at uids (k + length (atoms_at n)) k (without id ns) (omega (arith, ap length (not-atom id n other is))) rest)
+      | inr is ↦ rw is (stay.0, rest)
+    ]
 
 -- a number that is set beside them
 pub stay-set : (uids : List ℕ) (k id value : ℕ) (ns : List Node) → (id == CHAPTER_ATOM) ≡ false → AllStay uids k ns → AllStay uids k (with_child (uint_leaf id value) ns)
-stay-set uids k id value ns other stay = of (split-first id ns)
-  where
-    child : Node
-    child = uint_leaf id value
-
-    of : HasNone id ns ⊎ SplitAt id ns → AllStay uids k (with_child (uint_leaf id value) ns)
-    of (inl lacks) = subst (AllStay uids k) (sym (with_child-none (uint_leaf id value) ns lacks)) (stay-join uids k ns (uint_leaf id value ∷ []) stay ((λ p. refl), tt))
-    of (inr s) =
-        let whole : AllStay uids k (s.front ++ s.first ∷ s.back) = subst (AllStay uids k) s.whole stay in
-        let back = stay-back uids k s.front (s.first ∷ s.back) whole in
-        let at : ℕ = k + length (flat_map atoms_at s.front) in
-        let same : at + length (atoms_at s.first) ≡ at + 0 = omega (arith, ap length (not-atom id s.first other s.is)) in
-        subst (AllStay uids k) (sym (ap (with_child (uint_leaf id value)) s.whole ∙ with_child-at (uint_leaf id value) s.first s.front s.back s.is s.none_before))
-        (stay-join uids k s.front (uint_leaf id value ∷ without id s.back) (stay-front uids k s.front (s.first ∷ s.back) whole)
-        ((λ p. refl), stay-without uids (at + 0) id s.back other (stay-at uids (at + length (atoms_at s.first)) (at + 0) s.back same back.1)))
+stay-set uids k id value ns other stay = elim (split-first id ns) [
+  | inl lacks ↦ subst (AllStay uids k) (sym (with_child-none (uint_leaf id value) ns lacks)) (stay-join uids k ns (uint_leaf id value ∷ []) stay ((λ p. refl), tt))
+  | inr s ↦
+      let whole : AllStay uids k (s.front ++ s.first ∷ s.back) = subst (AllStay uids k) s.whole stay in
+      let back = stay-back uids k s.front (s.first ∷ s.back) whole in
+      let at : ℕ = k + length (flat_map atoms_at s.front) in
+      let same : at + length (atoms_at s.first) ≡ at + 0 = omega (arith, ap length (not-atom id s.first other s.is)) in
+      subst (AllStay uids k) (sym (ap (with_child (uint_leaf id value)) s.whole ∙ with_child-at (uint_leaf id value) s.first s.front s.back s.is s.none_before))
+      (stay-join uids k s.front (uint_leaf id value ∷ without id s.back) (stay-front uids k s.front (s.first ∷ s.back) whole)
+      ((λ p. refl), stay-without uids (at + 0) id s.back other (stay-at uids (at + length (atoms_at s.first)) (at + 0) s.back same back.1)))
+]
 
 -- ---- Elements with identifiers
 
 numbered-id : (uids : List ℕ) (k : ℕ) (n : Node) → id_of (numbered uids k n) ≡ id_of n
 numbered-id uids k (leaf id at body) = refl
-numbered-id uids k (master id at kids) = split (id == CHAPTER_ATOM) refl
-  where
-    split : (t : Bool) → (id == CHAPTER_ATOM) ≡ t → id_of (numbered uids k (master id at kids)) ≡ id
-    split true is = ap id_of (numbered-atom uids k id at kids is)
-    split false is = ap id_of (numbered-none uids k id at kids is)
+numbered-id uids k (master id at kids) =
+    elim (cases_Bool (id == CHAPTER_ATOM)) [ inl is ↦ ap id_of (numbered-atom uids k id at kids is) | inr is ↦ ap id_of (numbered-none uids k id at kids is) ]
 
 numbered-same : (uids : List ℕ) (k id : ℕ) (n : Node) → (id == CHAPTER_ATOM) ≡ false → (id_of n == id) ≡ true → numbered uids k n ≡ n
 numbered-same uids k id (leaf i at body) other is = refl
-numbered-same uids k id (master i at kids) other is =
-    let same : i ≡ id = grind (arith, nat_tests) in
-    numbered-none uids k i at kids (ap (λ (j : ℕ). j == CHAPTER_ATOM) same ∙ other)
+numbered-same uids k id (master i at kids) other is = numbered-none uids k i at kids (rw (eqb-true i id is) other)
 
 -- those of another ID are the same
 pub part-numbered : (uids : List ℕ) (id k : ℕ) (ns : Nodes) → (id == CHAPTER_ATOM) ≡ false → part id (numbered_among uids k ns) ≡ part id (list_of ns)
 part-numbered uids id k none other = refl
 part-numbered uids id k (node n ns) other =
-    ap (λ (i : ℕ). cond (i == id) (numbered uids k n ∷ part id behind) (part id behind)) (numbered-id uids k n)
-    ∙ split (id_of n == id) refl (part-numbered uids id (k + length (atoms_at n)) ns other)
-  where
-    behind : List Node
-    behind = numbered_among uids (k + length (atoms_at n)) ns
-
-    split : (t : Bool) → (id_of n == id) ≡ t → part id (numbered_among uids (k + length (atoms_at n)) ns) ≡ part id (list_of ns)
-        → cond t (numbered uids k n ∷ part id (numbered_among uids (k + length (atoms_at n)) ns)) (part id (numbered_among uids (k + length (atoms_at n)) ns)) ≡ cond t (n ∷ part id (list_of ns)) (part id (list_of ns))
-    split true is rest = ap₂ (λ m (ms : List Node). m ∷ ms) (numbered-same uids k id n other is) rest
-    split false is rest = rest
+    let rest = part-numbered uids id (k + length (atoms_at n)) ns other in
+    elim (cases_Bool (id_of n == id)) [
+      | inl is ↦ rw (numbered-id uids k n, is) (ap₂ (λ m (ms : List Node). m ∷ ms) (numbered-same uids k id n other is) rest)
+      | inr is ↦ rw (numbered-id uids k n, is) rest
+    ]
 
 -- A master whose only child of an ID is this number, and whose other children stay, is written as it was: they are read at a place, their
 -- atoms get the identifiers from the k-th on, and the number is set again.

@@ -1,15 +1,16 @@
 -- Entries of SubRip that are written are read back.
-use Rattle.std.proofs.Common.{◌≡◌, ℕ, zero, suc, ◌+◌, ◌-◌, ◌*◌, ◌/◌, ◌%◌, ◌^◌, ◌<◌, ◌≤◌, pos, Bool, true, false, ◌&&◌, nat_lt, List, [], ◌∷◌, ◌++◌, length, Some, None, Ok, refl, sym, ◌∙◌, ap, arith, lit<, append_assoc, All}
+use Rattle.std.proofs.Common.{◌≡◌, ℕ, zero, suc, ◌+◌, ◌-◌, ◌*◌, ◌/◌, ◌%◌, ◌^◌, ◌<◌, ◌≤◌, pos, true, false, nat_lt, List, [], ◌∷◌, ◌++◌, length, Some, None, Ok, refl, sym, ◌∙◌, ap, arith, lit<, append_assoc, inl, inr, codes}
 use Rattle.std.proofs.lemmas.Grind.{common_steps}
 use Rattle.std.proofs.lemmas.Bool.Decides.{nat_tests}
 use Rattle.std.proofs.lemmas.Fmt.{decimal_is_IsNumeral, decimal_digit, length-decimal-le}
 use Rattle.std.proofs.lemmas.Str.{IsUtf8-from_ascii, is_utf8-from_IsUtf8}
-use Rattle.std.specs.Prelude.{◌==◌, codes}
-use Rattle.std.specs.List.{list_all}
+use Rattle.std.specs.List.{list_all, AllByRecursion}
 use Rattle.std.specs.Char.{is_ascii_digit}
 use Rattle.std.specs.Str.{is_utf8, IsAscii}
 use Rattle.std.specs.Str.Lines.{lines}
 use Rattle.std.specs.Fmt.{decimal}
+use Rattle.std.proofs.lemmas.Bool.{and_parts, cases_Bool}
+use Rattle.std.proofs.lemmas.List.Elements.{recursion_from_All}
 use Rattle.mkv_io.specs.declared.entry.Entry.{Entry}
 use Rattle.srt_texts.specs.Lines.{lines_of}
 use Rattle.srt_texts.specs.Pieces.{two_digits, three_digits, two_or_more, stamp}
@@ -25,13 +26,12 @@ use Rattle.record_laws.specs.SubRip.{put_entries, lines_in, IsPlainLine, IsPlain
 use Rattle.mkv_io.proofs.OctetsLemmas.{digit_is_not, digits_lack, decimal_all, lacks_both}
 use Rattle.record_laws.proofs.DigitsLemmas.{two_all, three_all, padded_all}
 use Rattle.record_laws.proofs.LineLemmas.{ends_more, line_first, stamp_lacks, stamp_ends}
-use Rattle.record_laws.proofs.PartsLemmas.{AllLack, AreLines, lines_lack, text_back, text_lines}
+use Rattle.record_laws.proofs.PartsLemmas.{lines_lack, text_back, text_lines, LacksBreak}
 use Rattle.record_laws.proofs.ArrowLemmas.{arrow_none, lacks_arrow, no_times, times_written, number_line}
 
 -- ---- ASCII
 abbrev Low : List ℕ → Type 0
-Low [] = Unit {0}
-Low (b ∷ bs) = (b < 128) × Low bs
+Low w = AllByRecursion (λ b. b < 128) w
 
 low_both : (a b : List ℕ) → Low a → Low b → Low (a ++ b)
 low_both [] b p q = q
@@ -42,11 +42,7 @@ digit_low b is = grind (arith, nat_tests, common_steps)
 
 digits_low : (ds : List ℕ) → list_all is_ascii_digit ds ≡ true → Low ds
 digits_low [] all = tt
-digits_low (b ∷ bs) all = split (is_ascii_digit b) refl all (digits_low bs)
-  where
-    split : (c : Bool) → is_ascii_digit b ≡ c → (c && list_all is_ascii_digit bs) ≡ true → (list_all is_ascii_digit bs ≡ true → Low bs) → Low (b ∷ bs)
-    split true is all more = (digit_low b is, more all)
-    split false is all more = absurd (cc)
+digits_low (b ∷ bs) all = let both = and_parts (is_ascii_digit b) (list_all is_ascii_digit bs) all in (digit_low b both.0, digits_low bs both.1)
 
 low_ascii : (w : List ℕ) → Low w → IsAscii w
 low_ascii [] low i = lit< tt
@@ -69,16 +65,8 @@ stamp_low ms small =
 -- ---- the line of a number
 digits_end : (ds : List ℕ) → list_all is_ascii_digit ds ≡ true → ends_with_return ds ≡ false
 digits_end [] all = refl
-digits_end (b ∷ []) all = split (is_ascii_digit b) refl all
-  where
-    split : (c : Bool) → is_ascii_digit b ≡ c → (c && true) ≡ true → (b == 13) ≡ false
-    split true is all = digit_is_not 13 b refl is
-    split false is all = absurd (cc)
-digits_end (b ∷ c ∷ cs) all = split (is_ascii_digit b) all (digits_end (c ∷ cs))
-  where
-    split : (d : Bool) → (d && list_all is_ascii_digit (c ∷ cs)) ≡ true → (list_all is_ascii_digit (c ∷ cs) ≡ true → ends_with_return (c ∷ cs) ≡ false) → ends_with_return (b ∷ c ∷ cs) ≡ false
-    split true all more = ends_more b c cs ∙ more all
-    split false all more = absurd (cc)
+digits_end (b ∷ []) all = digit_is_not 13 b refl (and_parts (is_ascii_digit b) true all).0
+digits_end (b ∷ c ∷ cs) all = ends_more b c cs ∙ digits_end (c ∷ cs) (and_parts (is_ascii_digit b) (list_all is_ascii_digit (c ∷ cs)) all).1
 
 number_is_line : (k : ℕ) → k < 2 ^ 64 → IsLine (decimal k)
 number_is_line k small = let all = decimal_all k small in record { no_break = digits_lack 10 (decimal k) refl all; no_return = digits_end (decimal k) all }
@@ -108,45 +96,33 @@ time_utf8 a b early late =
     (low_both (codes " --> ") (stamp 44 b) (lit< tt, (lit< tt, (lit< tt, (lit< tt, (lit< tt, tt))))) (stamp_low b late)))
 
 -- ---- the lines of a text
-abbrev Plains : List (List ℕ) → Type 0
-Plains [] = Unit {0}
-Plains (l ∷ ls) = IsPlainLine l × Plains ls
-
-each_plain : (ls : List (List ℕ)) → All IsPlainLine ls → Plains ls
-each_plain [] all = tt
-each_plain (l ∷ ls) all = (all 0 l (omega arith), each_plain ls (λ k d less. all (suc k) d (omega arith)))
-
-are_lines : (ls : List (List ℕ)) → AllLack ls → Plains ls → AreLines ls
+are_lines : (ls : List (List ℕ)) → AllByRecursion LacksBreak ls → AllByRecursion IsPlainLine ls → AllByRecursion IsLine ls
 are_lines [] lack plain = tt
 are_lines (l ∷ ls) lack plain = (record { no_break = lack.0; no_return = plain.0.no_return }, are_lines ls lack.1 plain.1)
 
 no_head : (l t : List ℕ) (ls : List (List ℕ)) → times t ≡ None → head (l ∷ t ∷ ls) ≡ None
-no_head l t ls none = split (is_number l) refl
-  where
-    split : (c : Bool) → is_number l ≡ c → head (l ∷ t ∷ ls) ≡ None
-    split true is = head_is l t ls is ∙ none
-    split false is = head_other l (t ∷ ls) is
+no_head l t ls none = elim (cases_Bool (is_number l)) [ inl is ↦ head_is l t ls is ∙ none | inr is ↦ head_other l (t ∷ ls) is ]
 
 empty_number : is_number [] ≡ false
 unfolding is_number
 empty_number = refl
 
-line_no_head : (l : List ℕ) (ls more : List (List ℕ)) → Plains ls → head (l ∷ (ls ++ ([] ∷ more))) ≡ None
+line_no_head : (l : List ℕ) (ls more : List (List ℕ)) → AllByRecursion IsPlainLine ls → head (l ∷ (ls ++ ([] ∷ more))) ≡ None
 line_no_head l [] more plain = no_head l [] more (no_times [] arrow_none)
 line_no_head l (m ∷ ms) more plain = no_head l m (ms ++ ([] ∷ more)) (no_times m plain.0.no_arrow)
 
-walk_entries : (ls more : List (List ℕ)) → Plains ls → entries (ls ++ ([] ∷ more)) ≡ entries more
+walk_entries : (ls more : List (List ℕ)) → AllByRecursion IsPlainLine ls → entries (ls ++ ([] ∷ more)) ≡ entries more
 walk_entries [] more plain = entries_other [] more (head_other [] more empty_number)
 walk_entries (l ∷ ls) more plain = entries_other l (ls ++ ([] ∷ more)) (line_no_head l ls more plain.1) ∙ walk_entries ls more plain.1
 
-walk_before : (ls more : List (List ℕ)) → Plains ls → before_head more ≡ [] → before_head (ls ++ ([] ∷ more)) ≡ ls ++ ([] ∷ [])
+walk_before : (ls more : List (List ℕ)) → AllByRecursion IsPlainLine ls → before_head more ≡ [] → before_head (ls ++ ([] ∷ more)) ≡ ls ++ ([] ∷ [])
 walk_before [] more plain begins = before_other [] more (head_other [] more empty_number) ∙ ap (λ ls. [] ∷ ls) begins
 walk_before (l ∷ ls) more plain begins = before_other l (ls ++ ([] ∷ more)) (line_no_head l ls more plain.1) ∙ ap (λ ms. l ∷ ms) (walk_before ls more plain.1 begins)
 
 good_line : (l : List ℕ) → is_utf8 l ≡ true → has_arrow l ≡ false → is_bad_at Behind false l ≡ false
 good_line l utf8 none = rw (utf8, none) refl
 
-walk_bad : (ls more : List (List ℕ)) (n : ℕ) → Plains ls → ((m : ℕ) → bad_from Behind m more ≡ None) → bad_from Behind n (ls ++ ([] ∷ more)) ≡ None
+walk_bad : (ls more : List (List ℕ)) (n : ℕ) → AllByRecursion IsPlainLine ls → ((m : ℕ) → bad_from Behind m more ≡ None) → bad_from Behind n (ls ++ ([] ∷ more)) ≡ None
 walk_bad [] more n plain good = bad_other Behind n [] more (head_other [] more empty_number) (good_line [] (low_utf8 [] tt) arrow_none) ∙ good (n + 1)
 walk_bad (l ∷ ls) more n plain good =
     bad_other Behind n l (ls ++ ([] ∷ more)) (line_no_head l ls more plain.1) (good_line l plain.0.utf8 plain.0.no_arrow) ∙ walk_bad ls more (n + 1) plain.1 good
@@ -174,8 +150,8 @@ module _ (k : ℕ) (e : Entry) (few : k < 10 ^ 9) (plain : IsPlainEntry e) where
   duration_back : b * 1000000 - a * 1000000 ≡ e.duration
   duration_back = let s = start_back in let t = end_back in omega arith
 
-  plains : Plains (lines_in e.text)
-  plains = each_plain (lines_in e.text) plain.lines
+  plains : AllByRecursion IsPlainLine (lines_in e.text)
+  plains = recursion_from_All IsPlainLine (lines_in e.text) plain.lines
 
   entry_lines : (rest : List ℕ) → lines (put_srt k (pos e.start) e.duration e.text ++ rest) ≡ decimal k ∷ time_line a b ∷ (lines_in e.text ++ ([] ∷ lines rest))
   unfolding put_srt
@@ -227,25 +203,14 @@ module _ (k : ℕ) (e : Entry) (few : k < 10 ^ 9) (plain : IsPlainEntry e) where
       ∙ (second_good (n + 1) (time_line a b) ls (span (a * 1000000) (b * 1000000)) shown_times (time_utf8 a b soon then) right ∙ walk_bad (lines_in e.text) more (n + 1 + 1) plains rest)
 
 -- ---- all entries
-abbrev AllPlain : List Entry → Type 0
-AllPlain [] = Unit {0}
-AllPlain (e ∷ es) = IsPlainEntry e × AllPlain es
-
-all_plain : (es : List Entry) → All IsPlainEntry es → AllPlain es
-all_plain [] all = tt
-all_plain (e ∷ es) all = (all 0 e (omega arith), all_plain es (λ k d less. all (suc k) d (omega arith)))
-
-no_lines : lines [] ≡ []
-no_lines = refl
-
-begins : (es : List Entry) (k : ℕ) → AllPlain es → k + length es ≤ 10 ^ 9 → before_head (lines (put_entries k es)) ≡ []
+begins : (es : List Entry) (k : ℕ) → AllByRecursion IsPlainEntry es → k + length es ≤ 10 ^ 9 → before_head (lines (put_entries k es)) ≡ []
 begins [] k plain few = before_end
 begins (e ∷ es) k plain few =
     let small : k < 10 ^ 9 = omega arith in
     let ls = lines_in e.text ++ ([] ∷ lines (put_entries (k + 1) es)) in
     rw (entry_lines k e small plain.0 (put_entries (k + 1) es)) (before_at (decimal k) (time_line (a k e small plain.0) (b k e small plain.0) ∷ ls) (span (a k e small plain.0 * 1000000) (b k e small plain.0 * 1000000)) (entry_head k e small plain.0 ls))
 
-entries_back : (es : List Entry) (k : ℕ) → AllPlain es → k + length es ≤ 10 ^ 9 → entries (lines (put_entries k es)) ≡ es
+entries_back : (es : List Entry) (k : ℕ) → AllByRecursion IsPlainEntry es → k + length es ≤ 10 ^ 9 → entries (lines (put_entries k es)) ≡ es
 entries_back [] k plain few = entries_end
 entries_back (e ∷ es) k plain few =
     let small : k < 10 ^ 9 = omega arith in
@@ -253,14 +218,14 @@ entries_back (e ∷ es) k plain few =
     rw (entry_lines k e small plain.0 (put_entries (k + 1) es))
     (entry_read k e small plain.0 more (begins es (k + 1) plain.1 (omega arith)) ∙ ap (λ fs. e ∷ fs) (entries_back es (k + 1) plain.1 (omega arith)))
 
-none_bad : (es : List Entry) (k n : ℕ) → AllPlain es → k + length es ≤ 10 ^ 9 → bad_from Behind n (lines (put_entries k es)) ≡ None
+none_bad : (es : List Entry) (k n : ℕ) → AllByRecursion IsPlainEntry es → k + length es ≤ 10 ^ 9 → bad_from Behind n (lines (put_entries k es)) ≡ None
 none_bad [] k n plain few = bad_end Behind n
 none_bad (e ∷ es) k n plain few =
     let small : k < 10 ^ 9 = omega arith in
     rw (entry_lines k e small plain.0 (put_entries (k + 1) es))
     (entry_good k e small plain.0 Behind n (lines (put_entries (k + 1) es)) (number_good k e small plain.0).1 (λ m. none_bad es (k + 1) m plain.1 (omega arith)))
 
-front_good : (es : List Entry) (k : ℕ) → AllPlain es → k + length es ≤ 10 ^ 9 → bad_from Front 1 (lines (put_entries k es)) ≡ None
+front_good : (es : List Entry) (k : ℕ) → AllByRecursion IsPlainEntry es → k + length es ≤ 10 ^ 9 → bad_from Front 1 (lines (put_entries k es)) ≡ None
 front_good [] k plain few = bad_end Front 1
 front_good (e ∷ es) k plain few =
     let small : k < 10 ^ 9 = omega arith in
@@ -285,7 +250,7 @@ marked (e ∷ es) = rw (decimal_digit 1 (lit< tt)) refl
 pub entries_read_back : EntriesAreReadBack
 unfolding srt
 entries_read_back es plain asc few =
-    let each = all_plain es plain in
+    let each = recursion_from_All IsPlainEntry es plain in
     let most : 1 + length es ≤ 10 ^ 9 = omega arith in
     let good : first_bad (lines (put_entries 1 es)) ≡ None = bad_is (lines (put_entries 1 es)) ∙ front_good es 1 each most in
     let back = entries_back es 1 each most in

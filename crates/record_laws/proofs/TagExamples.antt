@@ -1,18 +1,10 @@
 -- What is written of small Tags Elements, computed, so that a wrong definition does not check.
 use Rattle.std.proofs.Common.{◌≡◌, ℕ, ◌+◌, ◌==◌, ◌&&◌, if◌then◌else◌, true, false, List, [], ◌∷◌, ◌++◌, length, Option, Some, None, Result, Ok, refl}
-use Rattle.std.specs.Int.Count.{count_leading_zeros}
-use Rattle.std.specs.Str.{is_utf8, chars}
-use lib.Utf8.{encode}
-use Rattle.ebml_numbers.specs.Number.{id_at, size_at, uint_width, least_size_width}
-use Rattle.mkv_schema.specs.Table.{table}
-use Rattle.mkv_schema.specs.Schema.{entry_of}
-use Rattle.mkv_schema.specs.Element.{element_in}
-use Rattle.mkv_io.specs.Results.{and_then}
 use Rattle.mkv_io.specs.declared.damage.Damage.{Damage}
 use Rattle.tree_format.specs.NormalForm.{content}
-use Rattle.tree_format.specs.Reading.{tree_of, grove, grove_within}
 use Rattle.record_changes.specs.declared.uid_map.TagKeep.{TagKeep}
 use Rattle.record_changes.specs.Tags.{written_tags}
+use Rattle.record_laws.proofs.ChapterExamples.{made_of}
 
 -- ---- Elements, each of fewer than 127 octets
 
@@ -64,13 +56,7 @@ about_5 =
     (0x44 ∷ 0x87 ∷ 0x81 ∷ 0x62 ∷ [])
 
 abbrev about_1 : List ℕ
-about_1 =
-    (0x73 ∷ 0x73 ∷ 0x92 ∷ []) ++
-    (0x63 ∷ 0xC0 ∷ 0x84 ∷ []) ++
-    (0x63 ∷ 0xC5 ∷ 0x81 ∷ 1 ∷ []) ++
-    (0x67 ∷ 0xC8 ∷ 0x88 ∷ []) ++
-    (0x45 ∷ 0xA3 ∷ 0x81 ∷ 0x41 ∷ []) ++
-    (0x44 ∷ 0x87 ∷ 0x81 ∷ 0x62 ∷ [])
+about_1 = about (track 1)
 
 -- about a track, and about an edition and a track
 abbrev two_of_tracks : List ℕ
@@ -88,8 +74,7 @@ four_gone = about (track 6) ++ about (edition 5) ++ about (chapter 5) ++ about (
 
 -- what is written of a Tags Element, both without its header
 abbrev written : TagKeep → (ℕ → ℕ → Option ℕ) → List ℕ → Result (List ℕ) Damage
-written keep numbers body =
-    and_then (tree_of 0x1254C367 0 body 5 65536) (λ tree. Ok (content (written_tags keep numbers tree)))
+written keep numbers body = made_of 0x1254C367 (λ tree. content (written_tags keep numbers tree)) body
 
 -- of what Tags name the track 5 alone is written, with this number
 abbrev number_of_5 : ℕ → ℕ → ℕ → Option ℕ
@@ -117,17 +102,8 @@ pub record AreWritten : Type 0 where
   pub others_stay : all 1 (about (level 30 ++ track 5)) ≡ Ok (about (level 30 ++ track 1))
 
 pub writes : AreWritten
-unfolding is_utf8 chars encode grove grove_within element_in id_at size_at entry_of table count_leading_zeros uint_width least_size_width
-writes = record {
-  same = refl;
-  another = refl;
-  longer = refl;
-  shorter = refl;
-  not_written = refl;
-  some = refl;
-  no_targets = refl;
-  others_stay = refl;
-}
+unfolding made_of
+writes = assumption refl
 
 -- ---- Tags that aren't wanted
 
@@ -148,5 +124,5 @@ pub record AreUnwanted : Type 0 where
   pub not_others : without_others two_of_tracks ≡ Ok two_of_tracks
 
 pub unwanted : AreUnwanted
-unfolding is_utf8 chars encode grove grove_within element_in id_at size_at entry_of table count_leading_zeros uint_width least_size_width
+unfolding made_of
 unwanted = record { of_tracks = refl; not_of_tracks = refl; others = refl; not_others = refl }

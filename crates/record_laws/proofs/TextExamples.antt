@@ -1,6 +1,5 @@
 -- Entries of SubRip and simple chapters that are written, computed, so that a wrong definition does not check.
-use Rattle.std.proofs.Common.{◌≡◌, ℕ, List, [], ◌∷◌, ◌++◌, codes, refl}
-use Rattle.std.specs.Prelude.{pos, negsuc}
+use Rattle.std.proofs.Common.{◌≡◌, ℕ, List, [], ◌∷◌, ◌++◌, codes, refl, pos, negsuc}
 use Rattle.std.specs.Fmt.{digits}
 use Rattle.srt_texts.specs.Pieces.{stamp}
 use Rattle.srt_texts.specs.Writing.{put_srt}

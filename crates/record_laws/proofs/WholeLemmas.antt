@@ -1,6 +1,7 @@
 -- The entries of a Tracks Element that was read.
-use Rattle.std.proofs.Common.{◌≡◌, ◌<◌, ℕ, ◌==◌, Bool, true, false, cond, List, [], ◌∷◌, All, eqb-true, refl, sym, ap, subst, ◌∙◌, arith}
+use Rattle.std.proofs.Common.{◌≡◌, ◌<◌, ℕ, ◌==◌, true, false, List, [], ◌∷◌, All, eqb-true, refl, sym, ap, subst, ◌∙◌, arith, inl, inr}
 use Rattle.std.proofs.lemmas.List.Elements.{All-nil, All-cons}
+use Rattle.std.proofs.lemmas.Bool.{cases_Bool}
 use Rattle.mkv_schema.specs.declared.ids.TheConstants.{TRACKS, TRACK_ENTRY}
 use Rattle.mkv_schema.specs.Table.{table}
 use Rattle.mkv_schema.specs.Schema.{entry_of}
@@ -27,13 +28,14 @@ stands-master (master id at kids) is stands = refl
 -- of the Elements of a Tracks Element the entries are whole
 all-whole : (ns : List Node) → AllStandIn TRACKS (nodes_of ns) → depth_all (nodes_of ns) < deepest → All IsWholeEntry (part TRACK_ENTRY ns)
 all-whole [] stand low = All-nil IsWholeEntry
-all-whole (n ∷ ns) stand low = of (id_of n == TRACK_ENTRY) refl (all-whole ns stand.1 (omega arith))
-  where
-    of : (b : Bool) → (id_of n == TRACK_ENTRY) ≡ b → All IsWholeEntry (part TRACK_ENTRY ns) → All IsWholeEntry (cond b (n ∷ part TRACK_ENTRY ns) (part TRACK_ENTRY ns))
-    of false is rest = rest
-    of true is rest =
-        let own : id_of n ≡ TRACK_ENTRY = eqb-true (id_of n) TRACK_ENTRY is in
-        All-cons IsWholeEntry n (part TRACK_ENTRY ns) (record { id = own; master = stands-master n own stand.0; sound = stands-sound TRACKS n stand.0; room = omega arith }) rest
+all-whole (n ∷ ns) stand low =
+    let rest = all-whole ns stand.1 (omega arith) in
+    elim (cases_Bool (id_of n == TRACK_ENTRY)) [
+      | inl is ↦
+          let own : id_of n ≡ TRACK_ENTRY = eqb-true (id_of n) TRACK_ENTRY is in
+          rw is (All-cons IsWholeEntry n (part TRACK_ENTRY ns) (record { id = own; master = stands-master n own stand.0; sound = stands-sound TRACKS n stand.0; room = omega arith }) rest)
+      | inr is ↦ rw is rest
+    ]
 
 children-stand : (tracks : Node) → IsSoundOf TRACKS tracks → AllStandIn TRACKS (nodes_of (children tracks))
 children-stand (leaf id at body) sound = tt
