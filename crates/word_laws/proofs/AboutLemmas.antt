@@ -1,10 +1,10 @@
 -- What the items of pieces say about each thing.
-use Rattle.std.proofs.Common.{◌≡◌, ℕ, ◌+◌, Bool, true, false, ◌||◌, if◌then◌else◌, List, [], ◌∷◌, ◌++◌, Option, Some, None, refl, sym, ◌∙◌, append_assoc}
+use Rattle.std.proofs.Common.{◌≡◌, ℕ, ◌+◌, Bool, true, false, ◌||◌, if◌then◌else◌, List, [], ◌∷◌, ◌++◌, Option, Some, None, refl, sym, ◌∙◌, append_assoc, option_map, option_and_then, inl, inr}
 use Rattle.std.proofs.lemmas.List.Folds.{list_any-append}
 use Rattle.std.proofs.lemmas.List.Elements.{filter_map-append}
 use Rattle.std.proofs.lemmas.List.Concat.{flat_map-append}
-use Rattle.std.specs.Prelude.{option_map, option_and_then}
 use Rattle.std.specs.List.{AllZip, flat_map, filter_map, find}
+use Rattle.std.proofs.lemmas.Bool.{cases_Bool}
 use Rattle.word_values.specs.declared.values.Value.{Value}
 use Rattle.merge_words.specs.declared.options.Subject.{Subject}
 use Rattle.merge_words.specs.declared.options.Scope.{Scope}
@@ -41,12 +41,13 @@ is_said-append (x ∷ xs) b = refl
 
 pub stands_about : (t : Subject) (ps : List Piece) (at : ℕ) → stands t (piece_items at ps) ≡ is_said (about t ps)
 stands_about t [] at = refl
-stands_about t (p ∷ ps) at = list_any-append (λ (i : Item). same i.subject t) (said_items at p.subject p.scope p.said) (piece_items (after_said at p.said) ps)
-    ∙ (rw (stands_about t ps (after_said at p.said)) (split (same p.subject t) refl))
-  where
-    split : (b : Bool) → same p.subject t ≡ b → (stands t (said_items at p.subject p.scope p.said) || is_said (about t ps)) ≡ is_said (if b then p.said ++ about t ps else about t ps)
-    split true is = rw (said_stands_is at p.subject t p.scope p.said is) (is_said-append p.said (about t ps))
-    split false is = rw (said_stands at p.subject t p.scope p.said is) refl
+stands_about t (p ∷ ps) at =
+    let rest = stands_about t ps (after_said at p.said) in
+    list_any-append (λ (i : Item). same i.subject t) (said_items at p.subject p.scope p.said) (piece_items (after_said at p.said) ps)
+    ∙ rw rest (elim (cases_Bool (same p.subject t)) [
+      | inl is ↦ rw (said_stands_is at p.subject t p.scope p.said is, is) (is_said-append p.said (about t ps))
+      | inr is ↦ rw (said_stands at p.subject t p.scope p.said is, is) refl
+    ])
 
 -- the first value
 abbrev pub or_else : Option Value → Option Value → Option Value
@@ -75,12 +76,13 @@ first_said-append (x ∷ xs) b = refl
 
 pub value_of_about : (t : Subject) (ps : List Piece) (at : ℕ) → value_in t (piece_items at ps) ≡ first_said (about t ps)
 value_of_about t [] at = refl
-value_of_about t (p ∷ ps) at = value_either t (said_items at p.subject p.scope p.said) (piece_items (after_said at p.said) ps)
-    ∙ (rw (value_of_about t ps (after_said at p.said)) (split (same p.subject t) refl))
-  where
-    split : (b : Bool) → same p.subject t ≡ b → or_else (value_in t (said_items at p.subject p.scope p.said)) (first_said (about t ps)) ≡ first_said (if b then p.said ++ about t ps else about t ps)
-    split true is = rw (said_value_is at p.subject t p.scope p.said is) (first_said-append p.said (about t ps))
-    split false is = rw (said_value_not at p.subject t p.scope p.said is) refl
+value_of_about t (p ∷ ps) at =
+    let rest = value_of_about t ps (after_said at p.said) in
+    value_either t (said_items at p.subject p.scope p.said) (piece_items (after_said at p.said) ps)
+    ∙ rw rest (elim (cases_Bool (same p.subject t)) [
+      | inl is ↦ rw (said_value_is at p.subject t p.scope p.said is, is) (first_said-append p.said (about t ps))
+      | inr is ↦ rw (said_value_not at p.subject t p.scope p.said is, is) refl
+    ])
 
 -- all values about it
 module _ {Y : Type 0} (k : Value → Option Y) where
@@ -114,11 +116,10 @@ AreIdsOf ps parts = AllZip (λ (p : Piece) ids. ids_said p.said ≡ ids) ps part
 
 pub ids_part : (ps : List Piece) (parts : List (List ℕ)) (at : ℕ) → AreIdsOf ps parts → flat_map (λ (i : Item). ids_of i.value) (piece_items at ps) ≡ flat_map (λ part. part) parts
 ids_part [] [] at are = refl
-ids_part [] (y ∷ ys) at are = absurd are
-ids_part (p ∷ ps) [] at are = absurd are
 ids_part (p ∷ ps) (y ∷ ys) at are =
     flat_map-append (λ (i : Item). ids_of i.value) (said_items at p.subject p.scope p.said) (piece_items (after_said at p.said) ps)
     ∙ rw (said_ids at p.subject p.scope p.said) (rw are.0 (rw (ids_part ps ys (after_said at p.said) are.1) refl))
+ids_part _ _ _ are = absurd are
 
 -- ---- pieces one behind the other
 pub piece_items-append : (ps qs : List Piece) (at : ℕ) → piece_items at (ps ++ qs) ≡ piece_items at ps ++ piece_items (after_pieces at ps) qs

@@ -1,12 +1,11 @@
 -- The words of a merge are read back.
-use Rattle.std.proofs.Common.{◌≡◌, inl, inr, ◌<◌, ◌≤◌, ℕ, Bool, true, false, ◌||◌, if◌then◌else◌, List, [], ◌∷◌, ◌++◌, length, codes, Option, Some, None, Ok, refl, sym, ap, ◌∙◌, arith, append_assoc, All}
-use Rattle.std.proofs.lemmas.Bool.{or_parts}
+use Rattle.std.proofs.Common.{◌≡◌, inl, inr, ◌<◌, ◌≤◌, ℕ, Bool, true, false, ◌||◌, List, [], ◌∷◌, ◌++◌, length, codes, Option, Some, None, Ok, refl, sym, ap, ◌∙◌, arith, append_assoc, All, ◌==◌, slice_get, IfSome, option_map, option_and_then, unwrap_or, eqb-true}
+use Rattle.std.proofs.lemmas.Bool.{or_parts, cases_Bool}
 use Rattle.std.proofs.lemmas.Bool.Decides.{nat_tests}
 use Rattle.std.proofs.lemmas.List.{append-nil}
 use Rattle.std.proofs.lemmas.List.Folds.{list_any-append}
 use Rattle.std.proofs.lemmas.List.Elements.{All-head, All-tail}
 use Rattle.std.proofs.lemmas.List.Concat.{flat_map-append}
-use Rattle.std.specs.Prelude.{◌==◌, slice_get, IfSome, option_map, option_and_then, unwrap_or}
 use Rattle.std.specs.List.{flat_map}
 use Rattle.word_values.specs.declared.values.Value.{Value}
 use Rattle.word_values.specs.declared.values.Value.TheVariants.{Flag, File, Text, Scale, Split}
@@ -92,11 +91,7 @@ name_back None = refl
 name_back (Some x) = refl
 
 scale_back : (scale : ℕ) → unwrap_or (option_and_then scale_of (option_map Scale (unusual 1000000 scale))) 1000000 ≡ scale
-scale_back scale = split (scale == 1000000) refl
-  where
-    split : (b : Bool) → (scale == 1000000) ≡ b → unwrap_or (option_and_then scale_of (option_map Scale (if b then None else Some scale))) 1000000 ≡ scale
-    split true is = grind (arith, nat_tests)
-    split false is = refl
+scale_back scale = elim (cases_Bool (scale == 1000000)) [ inl is ↦ rw is (sym (eqb-true scale 1000000 is)) | inr is ↦ rw is refl ]
 
 blocks_back : (a b : Bool) (blocks span : ℕ) → (blocks == 65535) ≡ a → unwrap_or (option_and_then blocks_of (first_said (said_length a b blocks span ++ []))) 65535 ≡ blocks
 blocks_back true true blocks span is = grind (arith, nat_tests)
@@ -243,11 +238,8 @@ none_linking (x ∷ xs) none = let parts = or_parts (same x.subject subject.Link
 unlinked_none : (xs : List Item) (link : Bool) (us : List ℕ) → IsLinkable link us → stands subject.Link xs ≡ link → stands subject.Uuids xs ≡ is_said (said_uuids us ++ []) → unlinked xs ≡ None
 unlinked_none xs true [] linked links some = absurd (omega arith)
 unlinked_none xs true (u ∷ us) linked links some = rw some refl
-unlinked_none xs false us linked links some = rw (none_linking xs links) (split (stands subject.Uuids xs))
-  where
-    split : (b : Bool) → ◌≡◌ {A = Option ℕ} (if b then None else None) None
-    split true = refl
-    split false = refl
+unlinked_none xs false us linked links some =
+    rw (none_linking xs links) (elim (cases_Bool (stands subject.Uuids xs)) [ inl is ↦ rw is refl | inr is ↦ rw is refl ])
 
 complete_all : (w : MergeWords) (count : ℕ) → IsSoundMerge w → IsSpellableMerge w → complete count (all_items w) ≡ Ok tt
 unfolding complete

@@ -1,8 +1,8 @@
 -- The options for the whole output are read back.
-use Rattle.std.proofs.Common.{ℕ, ◌/◌, ◌%◌, Bool, true, false, if◌then◌else◌, List, [], ◌∷◌, ◌++◌, codes, map, All, ◌<◌, ◌^◌, ◌≡◌, Option, Some, None, IfSome, refl, subst, arith}
-use Rattle.std.specs.Prelude.{◌==◌, option_map}
+use Rattle.std.proofs.Common.{ℕ, ◌/◌, ◌%◌, Bool, true, false, if◌then◌else◌, List, [], ◌∷◌, ◌++◌, codes, map, All, ◌<◌, ◌^◌, ◌≡◌, Option, Some, None, IfSome, refl, subst, arith, ◌==◌, option_map, inl, inr}
 use Rattle.std.specs.List.{flat_map}
 use Rattle.std.specs.Fmt.{decimal}
+use Rattle.std.proofs.lemmas.Bool.{cases_Bool}
 use Rattle.word_values.specs.declared.values.Value.{Value}
 use Rattle.word_values.specs.declared.values.Value.TheVariants.{Flag, File, Text, Scale, Blocks, Span, Split, Uuids}
 use Rattle.word_values.specs.declared.values.ValueForm.{ValueForm}
@@ -129,11 +129,7 @@ title_is None x is same = absurd (cc)
 title_is (Some y) x is same = let e : y ≡ x = cc in rw e at is
 
 scale_is : (scale x : ℕ) → unusual 1000000 scale ≡ Some x → scale ≡ x
-scale_is scale x same = split (scale == 1000000) same
-  where
-    split : (b : Bool) → (if b then None else Some scale) ≡ Some x → scale ≡ x
-    split true is = absurd (cc)
-    split false is = cc
+scale_is scale x same = elim (cases_Bool (scale == 1000000)) [ inl is ↦ absurd (let none = rw is at same in cc) | inr is ↦ (let some = rw is at same in cc) ]
 
 output_readable : (w : MergeWords) → IsSoundMerge w → IsSpellableMerge w → AreReadable (output_pieces w)
 unfolding meaning_of table value_of

@@ -1,8 +1,7 @@
 -- Options that are said one behind the other are read as items.
-use Rattle.std.proofs.Common.{if◌then◌else◌, ◌≡◌, ℕ, ◌+◌, Bool, true, false, not, ◌&&◌, List, [], ◌∷◌, ◌++◌, codes, Option, Some, None, Ok, refl, ap, ◌∙◌}
-use Rattle.std.proofs.lemmas.Bool.{and_parts, not-true}
+use Rattle.std.proofs.Common.{◌≡◌, ℕ, ◌+◌, Bool, true, false, not, ◌&&◌, List, [], ◌∷◌, ◌++◌, codes, Option, Some, None, Ok, refl, ap, ◌∙◌, slice_get, is_some, inl, inr}
+use Rattle.std.proofs.lemmas.Bool.{and_parts, not-true, cases_Bool}
 use Rattle.std.proofs.lemmas.List.Folds.{list_any-append}
-use Rattle.std.specs.Prelude.{slice_get, is_some}
 use Rattle.std.specs.List.{flat_map}
 use Rattle.std.specs.Str.{bytes_eq}
 use Rattle.word_values.specs.declared.values.Value.{Value}
@@ -12,7 +11,7 @@ use Rattle.merge_words.specs.declared.options.Subject.{Subject}
 use Rattle.merge_words.specs.declared.options.Subject.TheVariants as subject
 use Rattle.merge_words.specs.declared.options.Scope.{Scope}
 use Rattle.merge_words.specs.declared.options.Meaning.{Meaning}
-use Rattle.merge_words.specs.Options.{same, table, meaning_among, meaning_of}
+use Rattle.merge_words.specs.Options.{same, meaning_of}
 use Rattle.merge_words.specs.Items.{item_at, option_at, stands, track_in, repeats, repeats_for, since_file}
 use Rattle.merge_words.specs.Merge.{start, starts, read_all, takes_next}
 use Rattle.word_laws.proofs.SimpleLemmas.{other_word}
@@ -100,11 +99,7 @@ IsOption word means = (meaning_of word ≡ Some means) × (same means.subject su
 
 looks_known : (word : List ℕ) (means : Meaning) → meaning_of word ≡ Some means → is_option word ≡ true
 unfolding meaning_of
-looks_known word means known = split (is_option word) known
-  where
-    split : (b : Bool) → (if b then meaning_among table word else None) ≡ Some means → b ≡ true
-    split true found = refl
-    split false found = absurd (cc)
+looks_known word means known = elim (cases_Bool (is_option word)) [ inl is ↦ is | inr is ↦ absurd (let none = rw is at known in cc) ]
 
 no_join : (word : List ℕ) → is_option word ≡ true → bytes_eq word (codes "+") ≡ false
 no_join word looks = other_word word (codes "+") (λ is. let e : is_option word ≡ false = ap is_option is in cc)

@@ -1,6 +1,6 @@
 -- Commands of one to three words are read back.
-use Rattle.std.proofs.Common.{◌≡◌, ◌≢◌, ℕ, Bool, true, false, nat_lt, nat_le, List, [], ◌∷◌, codes, Some, None, Ok, refl, ap, ◌∙◌, arith}
-use Rattle.std.proofs.lemmas.Bool.{and_right}
+use Rattle.std.proofs.Common.{◌≡◌, ◌≢◌, ℕ, true, false, nat_lt, nat_le, List, [], ◌∷◌, codes, Some, None, Ok, refl, ap, ◌∙◌, arith}
+use Rattle.std.proofs.lemmas.Bool.{and_right, false_from_ne_true}
 use Rattle.std.proofs.lemmas.Bool.Decides.{nat_tests}
 use Rattle.std.proofs.lemmas.Slice.Eq.{bytes_eq-Decides}
 use Rattle.std.specs.Str.{bytes_eq}
@@ -21,11 +21,7 @@ use Rattle.word_laws.proofs.NumberLemmas.{number_read}
 
 -- ---- words that are another word
 pub other_word : (a b : List ℕ) → a ≢ b → bytes_eq a b ≡ false
-other_word a b other = split (bytes_eq a b) refl
-  where
-    split : (c : Bool) → bytes_eq a b ≡ c → bytes_eq a b ≡ false
-    split true is = absurd (other ((bytes_eq-Decides a b).0 is))
-    split false is = is
+other_word a b other = false_from_ne_true (bytes_eq a b) (λ is. other ((bytes_eq-Decides a b).0 is))
 
 -- a file's name is no option
 pub no_option : (name option : List ℕ) → IsFileName name → is_option option ≡ true → bytes_eq name option ≡ false

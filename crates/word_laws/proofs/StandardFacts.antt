@@ -1,6 +1,5 @@
 -- Commands with their spellings, computed, so that a wrong definition does not check. The lines were written by hand.
-use Rattle.std.proofs.Common.{◌≢◌, ◌<◌, ◌^◌, inl, arith, ◌≡◌, ℕ, ◌==◌, true, false, List, [], ◌∷◌, codes, Some, None, map, refl}
-use Rattle.std.specs.Prelude.{pos, neg_ℤ}
+use Rattle.std.proofs.Common.{◌≢◌, ◌<◌, ◌^◌, inl, arith, ◌≡◌, ℕ, ◌==◌, true, false, List, [], ◌∷◌, codes, Some, map, refl, pos, neg_ℤ}
 use Rattle.std.specs.List.{slice_split}
 use Rattle.std.specs.Fmt.{digits}
 use Rattle.word_values.specs.declared.edit.Change.TheVariants.{Set, Delete}

@@ -1,5 +1,5 @@
 -- Times, stretches of time and identifiers are read back.
-use Rattle.std.proofs.Common.{◌≡◌, ◌<◌, ◌^◌, ℕ, zero, suc, ◌+◌, ◌-◌, ◌*◌, ◌/◌, ◌%◌, Bool, true, false, ◌&&◌, nat_lt, List, [], ◌∷◌, ◌++◌, length, codes, Option, Some, None, IfSome, refl, ap, ◌∙◌, subst, arith, length-append}
+use Rattle.std.proofs.Common.{◌≡◌, ◌<◌, ◌^◌, ℕ, zero, suc, ◌+◌, ◌-◌, ◌*◌, ◌/◌, ◌%◌, Bool, true, false, nat_lt, List, [], ◌∷◌, ◌++◌, length, codes, Option, Some, None, IfSome, refl, ap, ◌∙◌, arith, length-append, ◌==◌, ne_eqb}
 use Rattle.std.proofs.Math.Nat.{div-div-eq-div-mul}
 use Rattle.std.proofs.lemmas.List.Folds.{list_all-append}
 use Rattle.std.proofs.lemmas.Bool.Decides.{nat_tests}
@@ -7,11 +7,11 @@ use Rattle.std.proofs.lemmas.Grind.{common_steps}
 use Rattle.std.proofs.lemmas.Fmt.{decimal_nonempty}
 use Rattle.std.proofs.lemmas.Str.{digit_value-digit_char}
 use Rattle.std.proofs.lemmas.Int.Digits.{digits_value_push}
-use Rattle.std.specs.Prelude.{◌==◌}
 use Rattle.std.specs.List.{list_all}
 use Rattle.std.specs.Char.{is_ascii_digit, digit_char}
 use Rattle.std.specs.Str.Parse.{digits_value}
 use Rattle.std.specs.Fmt.{decimal}
+use Rattle.std.proofs.lemmas.Bool.{and_parts}
 use Rattle.word_values.specs.declared.lists.SpanWords.{SpanWords}
 use Rattle.word_values.specs.Numbers.{whole, sixtieth, fraction, seconds, clock, ends, time, is_hex, uuid}
 use Rattle.word_values.specs.Lists.{span, span_of}
@@ -47,17 +47,11 @@ unfolding last_digits
 hex_all zero n = refl
 hex_all (suc k) n = all_both is_hex (last_digits 16 k (n / 16)) (digit_char (n % 16)) (hex_all k (n / 16)) (hex_digit (n % 16) (omega arith))
 
-ten_power : (k : ℕ) → 10 ^ suc k ≡ 10 ^ k * 10
-ten_power k = omega arith
-
-hex_power : (k : ℕ) → 16 ^ suc k ≡ 16 ^ k * 16
-hex_power k = omega arith
-
 pub last_value : (k n : ℕ) → n < 10 ^ k → digits_value 10 (last_digits 10 k n) ≡ n
 unfolding last_digits
 last_value zero n small = omega arith
 last_value (suc k) n small =
-    let power = ten_power k in
+    let power : 10 ^ suc k ≡ 10 ^ k * 10 = omega arith in
     let less : n / 10 < 10 ^ k = omega arith in
     let one = digit_value-digit_char (n % 10) (omega arith) in
     let front = last_value k (n / 10) less in
@@ -67,7 +61,7 @@ hex_value : (k n : ℕ) → n < 16 ^ k → digits_value 16 (last_digits 16 k n) 
 unfolding last_digits
 hex_value zero n small = omega arith
 hex_value (suc k) n small =
-    let power = hex_power k in
+    let power : 16 ^ suc k ≡ 16 ^ k * 16 = omega arith in
     let less : n / 16 < 16 ^ k = omega arith in
     let one = digit_value-digit_char (n % 16) (omega arith) in
     let front = hex_value k (n / 16) less in
@@ -202,12 +196,10 @@ uuid_read u small = rw (last_length 16 32 u) (rw (hex_all 32 u) (rw (hex_value 3
 
 hex_lacks : (ds : List ℕ) → list_all is_hex ds ≡ true → lacks 44 ds ≡ true
 hex_lacks [] all = refl
-hex_lacks (d ∷ ds) all = split (d == 44) (is_hex d) refl refl all (λ h. hex_lacks ds h)
-  where
-    split : (c b : Bool) → (d == 44) ≡ c → is_hex d ≡ b → (b && list_all is_hex ds) ≡ true → (list_all is_hex ds ≡ true → lacks 44 ds ≡ true) → lacks 44 (d ∷ ds) ≡ true
-    split c false is hex all more = absurd (cc)
-    split true true is hex all more = absurd (let e : d ≡ 44 = grind (arith, nat_tests) in let f : is_hex 44 ≡ true = subst (λ k. is_hex k ≡ true) e hex in cc)
-    split false true is hex all more = rw is (more all)
+hex_lacks (d ∷ ds) all =
+    let both = and_parts (is_hex d) (list_all is_hex ds) all in
+    let other : (d == 44) ≡ false = ne_eqb d 44 (λ same. let never : is_hex 44 ≡ true = rw same at both.0 in absurd (cc)) in
+    rw (other, hex_lacks ds both.1) refl
 
 pub uuid_lacks : (u : ℕ) → lacks 44 (last_digits 16 32 u) ≡ true
 uuid_lacks u = hex_lacks (last_digits 16 32 u) (hex_all 32 u)
