@@ -2,7 +2,6 @@
 use Rattle.std.proofs.Common.{◌≡◌, ℕ, suc, ◌+◌, Bool, true, false, if◌then◌else◌, List, [], ◌∷◌, ◌++◌, ◌<◌, length, drop, get_or, map, flat_map, Option, Some, None, Ok, Err, refl, sym, ◌∙◌, ap, ap₂, subst, add-one, append_assoc, drop-cons}
 use Rattle.std.specs.Prelude.{◌==◌}
 use Rattle.std.specs.List.{All}
-use Rattle.std.specs.Option.{option_or}
 use Rattle.std.proofs.lemmas.List.{map-append}
 use Rattle.std.proofs.lemmas.List.Elements.{All-nil, All-cons, All-head, All-tail}
 use Rattle.mkv_io.specs.declared.outside.FileId.{FileId}
@@ -19,8 +18,7 @@ use Rattle.merge_plan.specs.Spots.{HasPlace}
 use Rattle.mkv_merge.specs.Chapters.{chaptered, chapters_refusal, with_file, with_tree}
 use Rattle.mkv_merge.specs.Prepared.{AreInputsOf, reads_in}
 use Rattle.mkv_io.specs.Results.{unless}
-use Rattle.input_files.specs.declared.refusal.TextRefusal.{TextRefusal}
-use Rattle.mkv_merge.specs.Texts.{given_listing, given_refusal, listings_at, missing_given, missing_times, timed_from, times_refusal, with_listings, with_times}
+use Rattle.mkv_merge.specs.Texts.{given_listing, listings_at, timed_from, times_refusal, with_listings, with_times}
 use Rattle.mkv_merge.specs.Timed.{IsSameBut, Listed, at_input, given_listed, listed_by, listed_in, listed_of, shared_at, shared_from, untimed}
 use Rattle.mkv_merge.specs.declared.refusal.Refusal.{Refusal}
 use Rattle.mkv_merge.specs.declared.texts.SharedTimes.{SharedTimes}
@@ -136,38 +134,6 @@ times-given files shared inputs new none are made =
 
 pub times-refused : (files : List TimesFile) (reads : List InputRead) (why : Refusal) → times_refusal files ≡ Some why → with_times files reads ≡ Err why
 times-refused files reads why is = ap (λ (o : Option Refusal). unless o (timed_from files 0 reads)) is
-
--- ---- the first that refuses
-
--- the files from one on
-from-one : (files : List TimesFile) (k : ℕ) (f : TimesFile) → k < length files → f ≡ get_or files k f → drop k files ≡ f ∷ drop (k + 1) files
-from-one files k f inside is = drop-cons files k f inside ∙ ap₂ (λ (first : TimesFile) (n : ℕ). first ∷ drop n files) (sym is) (sym (add-one k))
-
-pub there-given : (name : List ℕ) (g : TimesGiven) → (g ≡ given.Missing → ⊥) → missing_given name g ≡ None
-there-given name given.Missing other = absurd (other refl)
-there-given name (given.Refused why) other = refl
-there-given name (given.Read times) other = refl
-
-pub taken-given : (name : List ℕ) (g : TimesGiven) → ((why : TextRefusal) → g ≡ given.Refused why → ⊥) → given_refusal name g ≡ None
-taken-given name given.Missing other = refl
-taken-given name (given.Refused why) other = absurd (other why refl)
-taken-given name (given.Read times) other = refl
-
-pub missing-passed : (files : List TimesFile) (k : ℕ) (f : TimesFile) → k < length files → f ≡ get_or files k f → missing_given f.named.name f.given ≡ None → missing_times (drop (k + 1) files) ≡ missing_times (drop k files)
-missing-passed files k f inside is none =
-    ap (λ (o : Option Refusal). option_or o (missing_times (drop (k + 1) files))) (sym none) ∙ ap missing_times (sym (from-one files k f inside is))
-
-pub missing-found : (files : List TimesFile) (k : ℕ) (f : TimesFile) (why : Refusal) → k < length files → f ≡ get_or files k f → missing_given f.named.name f.given ≡ Some why → missing_times (drop k files) ≡ Some why
-missing-found files k f why inside is some =
-    ap missing_times (from-one files k f inside is) ∙ ap (λ (o : Option Refusal). option_or o (missing_times (drop (k + 1) files))) some
-
-pub refusal-passed : (files : List TimesFile) (k : ℕ) (f : TimesFile) → k < length files → f ≡ get_or files k f → given_refusal f.named.name f.given ≡ None → times_refusal (drop (k + 1) files) ≡ times_refusal (drop k files)
-refusal-passed files k f inside is none =
-    ap (λ (o : Option Refusal). option_or o (times_refusal (drop (k + 1) files))) (sym none) ∙ ap times_refusal (sym (from-one files k f inside is))
-
-pub refusal-found : (files : List TimesFile) (k : ℕ) (f : TimesFile) (why : Refusal) → k < length files → f ≡ get_or files k f → given_refusal f.named.name f.given ≡ Some why → times_refusal (drop k files) ≡ Some why
-refusal-found files k f why inside is some =
-    ap times_refusal (from-one files k f inside is) ∙ ap (λ (o : Option Refusal). option_or o (times_refusal (drop (k + 1) files))) some
 
 -- ---- one after the other
 

@@ -1,7 +1,7 @@
 -- The times of files in place of those of tracks, and what refuses text files. Where times come from, and what they give, is this project's.
-use Rattle.std.specs.Prelude.{ℕ, suc, ◌==◌, if◌then◌else◌, List, [], ◌∷◌, Option, Some, None, Result}
+use Rattle.std.specs.Prelude.{ℕ, suc, ◌==◌, if◌then◌else◌, List, [], ◌∷◌, find, Option, Some, None, is_some, Result}
 use Rattle.std.specs.List.{flat_map}
-use Rattle.std.specs.Option.{option_or}
+use Rattle.std.specs.Option.{option_and_then, option_or}
 use Rattle.ext_times.specs.Listing.{Listing}
 use Rattle.input_files.specs.declared.text_files.TextFiles.{TextFiles}
 use Rattle.input_files.specs.declared.times_file.TimesFile.{TimesFile}
@@ -16,6 +16,13 @@ use Rattle.mkv_merge.specs.declared.refusal.Refusal.TheVariants.{MissingTimes, T
 
 -- ---- what refuses a merge
 
+-- of files of times the first that refuses a merge so, and why it does
+abbrev pub first_refusing : (TimesFile → Option Refusal) → List TimesFile → Option TimesFile
+first_refusing why files = find (λ (f : TimesFile). is_some (why f)) files
+
+abbrev pub first_refusal : (TimesFile → Option Refusal) → List TimesFile → Option Refusal
+first_refusal why files = option_and_then why (first_refusing why files)
+
 -- a file of times of this name isn't there
 abbrev pub missing_given : List ℕ → TimesGiven → Option Refusal
 missing_given name given.Missing = Some (MissingTimes name)
@@ -23,9 +30,11 @@ missing_given name (given.Refused why) = None
 missing_given name (given.Read times) = None
 
 -- of these files the first that isn't there
+abbrev pub missing_by : TimesFile → Option Refusal
+missing_by f = missing_given f.named.name f.given
+
 abbrev pub missing_times : List TimesFile → Option Refusal
-missing_times [] = None
-missing_times (f ∷ fs) = option_or (missing_given f.named.name f.given) (missing_times fs)
+missing_times files = first_refusal missing_by files
 
 -- the chapter file isn't there, or a file of times
 abbrev pub missing_text : TextFiles → Option Refusal
@@ -38,9 +47,11 @@ given_refusal name (given.Refused why) = Some (Times name why)
 given_refusal name (given.Read times) = None
 
 -- of these files the first that isn't taken
+abbrev pub refusal_by : TimesFile → Option Refusal
+refusal_by f = given_refusal f.named.name f.given
+
 abbrev pub times_refusal : List TimesFile → Option Refusal
-times_refusal [] = None
-times_refusal (f ∷ fs) = option_or (given_refusal f.named.name f.given) (times_refusal fs)
+times_refusal files = first_refusal refusal_by files
 
 -- ---- what they give
 

@@ -1,10 +1,11 @@
 //! The times of files in place of those of tracks, and what refuses text files.
 
 ghost use Rattle.std.specs.Prelude.{◌≡◌, ◌++◌, map, IfOk, IfErr, OnOk};
+ghost use Rattle.std.specs.Option.{option_copied};
 ghost use Rattle.merge_inputs.specs.Input.{listings_in, read_in};
 ghost use Rattle.mkv_merge.specs.Ends.{IsQuiet};
 ghost use Rattle.mkv_merge.specs.Prepared.{ReadsAs, reads_in};
-ghost use Rattle.mkv_merge.specs.Texts.{missing_text, missing_times, times_refusal, with_times};
+ghost use Rattle.mkv_merge.specs.Texts.{first_refusing, missing_by, missing_text, missing_times, refusal_by, times_refusal, with_times};
 ghost use Rattle.mkv_merge.specs.Timed.{IsSameBut, at_input, listed_by, listed_in, listed_of, shared_at, shared_for, shared_from};
 
 use crate::refusal::{MergeEnd, Refusal};
@@ -15,17 +16,36 @@ use mkv_io::List;
 use std::alloc::{AllocError, Global};
 use std::rc::Rc;
 
+/// Why a file of times refuses a merge, where it isn't there.
+fn missing_by(file: &TimesFile) -> Result<Option<Refusal>, AllocError>
+    ensures { IfOk result (λ why. why ≡ missing_by file.now) }
+{
+    match &file.given {
+        TimesGiven::Missing => {
+            let name = file.named.name.clone()?;
+            Ok(Some(Refusal::MissingTimes { name }))
+        }
+        TimesGiven::Refused(_) | TimesGiven::Read(_) => Ok(None),
+    }
+}
+
 /// Of files of times the first that isn't there.
+fn first_missing(files: &[TimesFile]) -> Option<&TimesFile>
+    ensures { option_copied result ≡ first_refusing missing_by files.now }
+{
+    files
+        .iter()
+        .find(|file| matches!(&file.given, TimesGiven::Missing))
+}
+
+/// Why that one refuses a merge.
 fn missing_times(files: &[TimesFile]) -> Result<Option<Refusal>, AllocError>
     ensures { IfOk result (λ why. why ≡ missing_times files.now) }
 {
-    for file in files {
-        if let TimesGiven::Missing = &file.given {
-            let name = file.named.name.clone()?;
-            return Ok(Some(Refusal::MissingTimes { name }));
-        }
+    match first_missing(files) {
+        Some(file) => missing_by(file),
+        None => Ok(None),
     }
-    Ok(None)
 }
 
 /// The chapter file, where it isn't there, or else the first of the files of times that isn't.
@@ -38,17 +58,36 @@ pub fn missing_text(texts: &TextFiles) -> Result<Option<Refusal>, AllocError>
     }
 }
 
+/// Why a file of times refuses a merge, where it isn't taken.
+fn refusal_by(file: &TimesFile) -> Result<Option<Refusal>, AllocError>
+    ensures { IfOk result (λ why. why ≡ refusal_by file.now) }
+{
+    match &file.given {
+        TimesGiven::Refused(why) => {
+            let name = file.named.name.clone()?;
+            Ok(Some(Refusal::Times { name, why: *why }))
+        }
+        TimesGiven::Missing | TimesGiven::Read(_) => Ok(None),
+    }
+}
+
 /// Of files of times the first that isn't taken.
+fn first_refused(files: &[TimesFile]) -> Option<&TimesFile>
+    ensures { option_copied result ≡ first_refusing refusal_by files.now }
+{
+    files
+        .iter()
+        .find(|file| matches!(&file.given, TimesGiven::Refused(_)))
+}
+
+/// Why that one refuses a merge.
 fn times_refusal(files: &[TimesFile]) -> Result<Option<Refusal>, AllocError>
     ensures { IfOk result (λ why. why ≡ times_refusal files.now) }
 {
-    for file in files {
-        if let TimesGiven::Refused(why) = &file.given {
-            let name = file.named.name.clone()?;
-            return Ok(Some(Refusal::Times { name, why: *why }));
-        }
+    match first_refused(files) {
+        Some(file) => refusal_by(file),
+        None => Ok(None),
     }
-    Ok(None)
 }
 
 /// The times of a file, for the track of an input.

@@ -1,12 +1,13 @@
 -- Files of times, with one more of them.
 use Rattle.std.proofs.Common.{◌≡◌, ◌<◌, ◌≤◌, ℕ, zero, suc, ◌+◌, ◌-◌, ◌==◌, Bool, true, false, if◌then◌else◌, nat_lt, List, [], ◌∷◌, ◌++◌, length, map, Option, Some, None, Result, Ok, Err, refl, sym, ap, ap₂, subst, ◌∙◌, arith, append_assoc, eq-eqb, ◌&&◌, ◌||◌, filter, inl, inr, ◌⊎◌, length-append}
-use Rattle.std.specs.Prelude.{min}
-use Rattle.std.specs.List.{All, slice_get}
-use Rattle.std.specs.Option.{option_or}
+use Rattle.std.specs.Prelude.{cond, is_some, min}
+use Rattle.std.specs.List.{All, find, slice_get}
+use Rattle.std.specs.Option.{option_and_then, option_or}
 use Rattle.std.proofs.lemmas.Bool.Decides.{nat_tests}
 use Rattle.std.proofs.lemmas.Grind.{flat_map-append}
 use Rattle.std.proofs.lemmas.List.{map-append}
 use Rattle.std.proofs.lemmas.List.Elements.{All-append, All-cons, All-head, All-map, All-nil, All-tail, All-weaker, filter-append}
+use Rattle.std.proofs.lemmas.List.Folds.{find-append}
 use Rattle.ext_times.specs.Listing.{Listing, listing}
 use Rattle.merge_words.specs.declared.files.FileWords.{FileWords}
 use Rattle.input_files.specs.TextFile.{unless_bad}
@@ -17,7 +18,8 @@ use Rattle.input_files.specs.declared.times_file.TimesFile.{TimesFile}
 use Rattle.input_files.specs.declared.times_file.TimesGiven.{TimesGiven}
 use Rattle.input_files.specs.declared.times_file.TimesGiven.TheVariants.{Missing, Read, Refused}
 use Rattle.input_files.specs.declared.times_file.TimesName.{TimesName}
-use Rattle.mkv_merge.specs.Texts.{given_listing, given_refusal, listings_at, missing_given, missing_times, times_refusal}
+use Rattle.mkv_merge.specs.Texts.{first_refusal, given_listing, listings_at, missing_by, missing_times, refusal_by, times_refusal}
+use Rattle.mkv_merge.specs.declared.refusal.Refusal.{Refusal}
 use Rattle.merge_inputs.specs.Taken.{value_for}
 use Rattle.times_laws.specs.GivenBack.{HasOption, World, is_timed, is_too_long, set_input}
 use Rattle.times_laws.proofs.AlikeLemmas.{ListsMore}
@@ -291,23 +293,24 @@ times-more world n new old bytes times names holds is same = by_length (is_too_l
         }
 
 module _ (n : TimesName) (times : Listing) where
-  file : TimesFile
+  abbrev file : TimesFile
   file = record { named = n; given = Read times }
 
-  refusal-passed : (before behind : List TimesFile) → times_refusal (before ++ record { named = n; given = Read times } ∷ behind) ≡ times_refusal (before ++ behind)
-  refusal-passed [] behind = refl
-  refusal-passed (f ∷ fs) behind = ap (option_or (given_refusal f.named.name f.given)) (refusal-passed fs behind)
-
-  missing-passed : (before behind : List TimesFile) → missing_times (before ++ record { named = n; given = Read times } ∷ behind) ≡ missing_times (before ++ behind)
-  missing-passed [] behind = refl
-  missing-passed (f ∷ fs) behind = ap (option_or (missing_given f.named.name f.given)) (missing-passed fs behind)
+  -- it refuses nothing
+  passed : (why : TimesFile → Option Refusal) → why file ≡ None → (before behind : List TimesFile) → first_refusal why (before ++ file ∷ behind) ≡ first_refusal why (before ++ behind)
+  passed why none before behind =
+      let p : TimesFile → Bool = λ f. is_some (why f) in
+      ap (option_and_then why)
+      (find-append p before (file ∷ behind)
+      ∙ ap (λ (o : Option Refusal). option_or (find p before) (cond (is_some o) (Some file) (find p behind))) none
+      ∙ sym (find-append p before behind))
 
   module _ (new old : List TimesFile) (are : AreMore n times new old) where
     pub refusal-more : times_refusal new ≡ times_refusal old
-    refusal-more = ap times_refusal are.new_is ∙ refusal-passed are.before are.behind ∙ ap times_refusal (sym are.old_is)
+    refusal-more = ap times_refusal are.new_is ∙ passed refusal_by refl are.before are.behind ∙ ap times_refusal (sym are.old_is)
 
     pub missing-more : missing_times new ≡ missing_times old
-    missing-more = ap missing_times are.new_is ∙ missing-passed are.before are.behind ∙ ap missing_times (sym are.old_is)
+    missing-more = ap missing_times are.new_is ∙ passed missing_by refl are.before are.behind ∙ ap missing_times (sym are.old_is)
 
     -- what files list for an input
     listed-parts : (input : ℕ) → listings_at input new ≡ listings_at input are.before ++ ((if n.input == input then (n.id, times) ∷ [] else []) ++ listings_at input are.behind)
