@@ -1,5 +1,5 @@
 -- What is read of the inputs of a merge can be written.
-use Rattle.std.proofs.Common.{◌≡◌, ◌<◌, ◌≤◌, ℕ, suc, ◌+◌, ◌^◌, ◌==◌, Bool, true, false, not, ◌&&◌, ◌||◌, if◌then◌else◌, cond, List, [], ◌∷◌, length, find, map, Option, Some, None, IfSome, Result, Ok, Err, inl, inr, ◌⊎◌, eqb-true, refl, sym, ap, subst, ◌∙◌, arith, unwrap_or}
+use Rattle.std.proofs.Common.{◌≡◌, ◌<◌, ◌≤◌, ℕ, suc, ◌+◌, ◌^◌, ◌==◌, Bool, true, false, not, ◌&&◌, ◌||◌, if◌then◌else◌, cond, List, [], ◌∷◌, ◌++◌, length, find, map, Option, Some, None, IfSome, Result, Ok, Err, inl, inr, ◌⊎◌, eqb-true, refl, sym, ap, subst, ◌∙◌, arith, unwrap_or}
 use Rattle.std.specs.List.{All, AllByRecursion, list_all, zip}
 use Rattle.std.specs.Option.{option_map, option_map_or}
 use Rattle.std.specs.Result.{result_err}
@@ -74,7 +74,7 @@ use Rattle.merge_plan.specs.Places.{in_place}
 use Rattle.merge_plan.specs.Plan.{Source}
 use Rattle.merge_plan.specs.Refusal.{plan_refusal}
 use Rattle.merge_plan.specs.declared.refusal.PlanRefusal.{PlanRefusal}
-use Rattle.mkv_merge.specs.Merge.{refusals, sources_in, sources_of}
+use Rattle.mkv_merge.specs.Merge.{refusals, refusals_read, sources_in, sources_of}
 use Rattle.mkv_merge.specs.Chapters.{chaptered, first_with, with_chapters}
 use Rattle.mkv_merge.specs.Texts.{listings_at, timed_from, with_listings}
 use Rattle.mkv_merge.specs.Read.{contents_held, found_in, inputs_from, inputs_of, numbered, texts_held}
@@ -450,8 +450,9 @@ pub were-read : (world : List ℕ → Option (List ℕ)) (words : MergeWords) (s
 were-read world words sources is =
     let contents = contents_held world words in
     let all = sources_in words (texts_held world words) contents in
-    let good = no-refusal (first_cause (refusals world words)) all sources is in
-    let read = (none-stands (refusals world words) good.0).1.1.1.1 in
+    let causes = refusals world words ++ refusals_read words (texts_held world words) contents in
+    let good = no-refusal (first_cause causes) all sources is in
+    let read = (none-stands causes good.0).1.1.1.1 in
     record {
       given = texts_held world words;
       found = found_in (inputs_of words contents);

@@ -48,12 +48,12 @@ use Rattle.mkv_lines.proofs.VerdictLemmas.{IsStopped-before, Reaches-lines}
 use Rattle.mkv_merge.specs.Bound.{contents_length, files_size, most_of}
 use Rattle.mkv_merge.specs.Ends.{HasReadCause, end_as, unopened}
 use Rattle.mkv_merge.specs.Joined.{as_merged}
-use Rattle.mkv_merge.specs.Merge.{merged_verdict, refusals_read, sources_in, verdict_of}
-use Rattle.mkv_merge.specs.Prepared.{AreTold, ReadsAs, sources_with}
+use Rattle.mkv_merge.specs.Merge.{merged_verdict, refusals_read, sources_in, sources_unless, verdict_of}
+use Rattle.mkv_merge.specs.Prepared.{AreTold, ReadsAs}
 use Rattle.mkv_merge.specs.Read.{contents_held, first_written, pending_of}
 use Rattle.mkv_merge.specs.Records.{AreShort, EndsReadable, HaveRecords}
 use Rattle.mkv_merge.specs.Refused.{first_cause, line_of}
-use Rattle.mkv_merge.specs.Stages.{Leads, MergesTo, as_command, begun_refusal, sources_there}
+use Rattle.mkv_merge.specs.Stages.{Leads, MergesTo, as_command, begun_refusal, refusals_begun}
 use Rattle.mkv_merge.specs.Texts.{missing_text}
 use Rattle.mkv_merge.specs.declared.joining.Merged.{Merged}
 use Rattle.mkv_merge.specs.declared.joining.Merged.TheVariants as merged
@@ -82,10 +82,10 @@ all-there world names none = all-there-from world 0 names none
 
 -- ---- what refuses them before they are read
 
-module _ (world : List ℕ → Option (List ℕ)) (words : MergeWords) (behind : List (Option Refusal)) (sources : List Source) where
+module _ (world : List ℕ → Option (List ℕ)) (words : MergeWords) (behind : List (Option Refusal)) (texts : TextFiles) (contents : List (List ℕ)) where
   -- what is found of sources that all these may refuse
   abbrev found_by : Option (List ℕ) → Option ℕ → Result (List Source) Refusal
-  found_by written missing = unless (first_cause (option_map OutputIsInput written ∷ option_map Missing missing ∷ behind)) sources
+  found_by written missing = sources_unless (option_map OutputIsInput written ∷ option_map Missing missing ∷ behind) words texts contents
 
   abbrev found : Result (List Source) Refusal
   found = found_by (first_written words) (first_missing world (file_names words.files))
@@ -104,11 +104,11 @@ module _ (world : List ℕ → Option (List ℕ)) (words : MergeWords) (behind :
     missing-found inputs_end.Failed is = tt
     missing-found inputs_end.Memory is = tt
 
-    pub there-found : first_missing world (file_names files) ≡ None → found ≡ unless (first_cause behind) sources
+    pub there-found : first_missing world (file_names files) ≡ None → found ≡ sources_unless behind words texts contents
     there-found is = by-missing None is
 
 -- a text file isn't there, or an edit is pending
-pub begun-refused : (world : List ℕ → Option (List ℕ)) (words : MergeWords) (texts : TextFiles) (contents : List (List ℕ)) (why : Refusal) → begun_refusal world words texts ≡ Some why → sources_there world words texts contents ≡ Err why
+pub begun-refused : (world : List ℕ → Option (List ℕ)) (words : MergeWords) (texts : TextFiles) (contents : List (List ℕ)) (why : Refusal) → begun_refusal world words texts ≡ Some why → sources_unless (refusals_begun world words texts) words texts contents ≡ Err why
 begun-refused world words texts contents why is =
     ap (λ (o : Option Refusal). unless o (sources_in words texts contents)) (either (missing_text texts) (pending_of world words) is)
   where
@@ -118,7 +118,7 @@ begun-refused world words texts contents why is =
     either (Some cause) next is = is
 
 -- neither
-pub begun-past : (world : List ℕ → Option (List ℕ)) (words : MergeWords) (texts : TextFiles) (contents : List (List ℕ)) → begun_refusal world words texts ≡ None → sources_there world words texts contents ≡ sources_with words texts contents
+pub begun-past : (world : List ℕ → Option (List ℕ)) (words : MergeWords) (texts : TextFiles) (contents : List (List ℕ)) → begun_refusal world words texts ≡ None → sources_unless (refusals_begun world words texts) words texts contents ≡ sources_unless [] words texts contents
 begun-past world words texts contents is =
     ap (λ (o : Option Refusal). unless o (sources_in words texts contents)) (neither (missing_text texts) (pending_of world words) is)
   where

@@ -35,8 +35,8 @@ use Rattle.merge_plan.proofs.PlaceLemmas.{walked-within}
 use Rattle.mkv_merge.specs.Bound.{files_size}
 use Rattle.mkv_merge.specs.Chapters.{chaptered, chapters_refusal, with_chapters, with_file, with_tree}
 use Rattle.mkv_merge.specs.Ends.{unplanned}
-use Rattle.mkv_merge.specs.Merge.{refusals_read, sources_in}
-use Rattle.mkv_merge.specs.Prepared.{AreTold, Prepares, ReadsAs, ReadsEach, reads_in, sources_from, sources_with}
+use Rattle.mkv_merge.specs.Merge.{refusals_read, sources_in, sources_unless}
+use Rattle.mkv_merge.specs.Prepared.{AreTold, Prepares, ReadsAs, ReadsEach, reads_in, sources_from}
 use Rattle.mkv_merge.specs.Read.{found_in, inputs_from, inputs_of, numbered, reads_with}
 use Rattle.mkv_merge.specs.Refused.{first_cause}
 use Rattle.mkv_merge.specs.Texts.{timed_from, times_refusal, with_times}
@@ -223,7 +223,7 @@ module _ (words : MergeWords) (texts : TextFiles) (contents : List (List ℕ)) w
   abbrev behind_inputs : List (Option Refusal)
   behind_inputs = chapters_refusal texts.chapters ∷ behind_chapters
 
-  refused-for : (cause : Refusal) → first_cause (refusals_read words texts contents) ≡ Some cause → sources_with words texts contents ≡ Err cause
+  refused-for : (cause : Refusal) → first_cause (refusals_read words texts contents) ≡ Some cause → sources_unless [] words texts contents ≡ Err cause
   refused-for cause is = ap (λ (o : Option Refusal). unless o (sources_in words texts contents)) is
 
   all-read : (read : List Input) → inputs_of words contents ≡ Ok (reads_in read) → result_err (inputs_of words contents) ≡ None
@@ -271,7 +271,7 @@ module _ (words : MergeWords) (texts : TextFiles) (contents : List (List ℕ)) w
       past-times = past-chapters ∙ past (times_refusal texts.times) behind_times timed-is.0
 
       -- an appended one can't go on
-      pub differs-refused : (d : AppendDiffers) → append_refusal (reads_in timed) ≡ Some d → sources_with words texts contents ≡ Err (Differs d)
+      pub differs-refused : (d : AppendDiffers) → append_refusal (reads_in timed) ≡ Some d → sources_unless [] words texts contents ≡ Err (Differs d)
       differs-refused d differs =
           refused-for (Differs d) (past-times
           ∙ stands (option_map Differs (append_refusal (reads_with words texts contents))) behind_append (Differs d) (ap (option_map Differs) (ap append_refusal reads-are ∙ differs)))
@@ -289,7 +289,7 @@ module _ (words : MergeWords) (texts : TextFiles) (contents : List (List ℕ)) w
             ∙ ap in_place (sym (sources-told f timed contents before))
             ∙ sym (stand (each-told f timed contents before)) ∙ placed-told
 
-        pub plan-found : (o : Option PlanRefusal) → plan_refusal words (reads_in placed) ≡ o → sources_with words texts contents ≡ unless (option_map Plan o) (sources_from contents placed)
+        pub plan-found : (o : Option PlanRefusal) → plan_refusal words (reads_in placed) ≡ o → sources_unless [] words texts contents ≡ unless (option_map Plan o) (sources_from contents placed)
         plan-found o planned =
             let reads : reads_of (sources_from contents placed) ≡ reads_in placed = ap reads_of (sym placed-told) ∙ reads-in f placed in
             let why : plan_refusal words (reads_of (sources_in words texts contents)) ≡ o = ap (λ (each : List Source). plan_refusal words (reads_of each)) sources-are ∙ ap (plan_refusal words) reads ∙ planned in

@@ -40,7 +40,7 @@ abbrev pub first_with : {A : Type 0} → (Option Node → A → A) → Option No
 first_with set chapters [] = []
 first_with set chapters (i ∷ is) = set chapters i ∷ map (set None) is
 
--- inputs with what a chapter file gives: its Chapters in place of theirs, or none at all in WebM
+-- inputs with what a chapter file gives: its Chapters in place of theirs, as if the first had them, or none at all in WebM
 abbrev pub chaptered : {A : Type 0} → (Option Node → A → A) → Bool → ChapterFile → List A → List A
 chaptered set webm file.Absent inputs = inputs
 chaptered set webm file.Missing inputs = inputs

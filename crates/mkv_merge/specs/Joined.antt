@@ -12,7 +12,6 @@ use Rattle.input_files.specs.Inputs.{file_names, first_missing}
 use Rattle.input_files.specs.declared.text_files.TextFiles.{TextFiles}
 use Rattle.input_files.specs.declared.chapter_file.ChapterFile.TheVariants.{Absent}
 use Rattle.merge_words.specs.declared.output.MergeWords.{MergeWords}
-use Rattle.merge_inputs.specs.declared.input.Input.{Input}
 use Rattle.merge_plan.specs.Plan.{Source}
 use Rattle.remux_plan.specs.Parts.{PlannedOutput}
 use Rattle.remux_plan.specs.Summary.{written_of}
@@ -23,11 +22,9 @@ use Rattle.mkv_io.specs.Bounds.{ReadsUpTo}
 use Rattle.mkv_merge.specs.Bound.{contents_length, live_size, most_of}
 use Rattle.mkv_merge.specs.Ends.{end_as}
 use Rattle.mkv_io.specs.Lists.{is_some_of}
-use Rattle.mkv_merge.specs.Merge.{has_damage, outputs_of, refusals_read, sources_in, warnings}
-use Rattle.mkv_io.specs.Results.{unless}
-use Rattle.mkv_merge.specs.Prepared.{IfAllTold, sources_with}
+use Rattle.mkv_merge.specs.Merge.{has_damage, outputs_of, sources_unless, warnings}
+use Rattle.mkv_merge.specs.Prepared.{IfAllTold}
 use Rattle.mkv_merge.specs.Read.{contents_held, first_written}
-use Rattle.mkv_merge.specs.Refused.{first_cause}
 use Rattle.mkv_merge.specs.Told.{warnings_from}
 use Rattle.mkv_merge.specs.declared.joining.Merged.{Merged}
 use Rattle.mkv_merge.specs.declared.joining.Merged.TheVariants.{Written, Refused}
@@ -41,15 +38,13 @@ no_texts = record { chapters = Absent; times = [] }
 
 -- the sources of such a merge whose inputs have these contents, unless an output could have the name of a file that is read
 abbrev pub sources_apart : MergeWords → List (List ℕ) → Result (List Source) Refusal
-sources_apart words contents =
-    unless (first_cause (option_map OutputIsInput (first_written words) ∷ refusals_read words no_texts contents)) (sources_in words no_texts contents)
+sources_apart words contents = sources_unless (option_map OutputIsInput (first_written words) ∷ []) words no_texts contents
 
 -- the same of the inputs' names, in a world of names; one of them may not be there
 abbrev pub sources_alone : (List ℕ → Option (List ℕ)) → MergeWords → Result (List Source) Refusal
 sources_alone world words =
-    unless (first_cause (option_map OutputIsInput (first_written words)
-    ∷ option_map Missing (first_missing world (file_names words.files))
-    ∷ refusals_read words no_texts (contents_held world words))) (sources_in words no_texts (contents_held world words))
+    sources_unless (option_map OutputIsInput (first_written words) ∷ option_map Missing (first_missing world (file_names words.files)) ∷ [])
+    words no_texts (contents_held world words)
 
 -- what such a merge may read in a world of names
 abbrev pub most_lone : (List ℕ → Option (List ℕ)) → MergeWords → ℕ
@@ -88,11 +83,11 @@ as_merged result = end_as Written Refused result
 
 -- So does a merge of live files, and of names, where they tell.
 abbrev pub MergesLive : {S : Type 0} → Ghosts S → writing.Ghosts S → S → S → MergeWords → List FileId → Result Merged Stop → Type 0
-MergesLive r f old new words list result = IfAllTold r old list (λ contents. Merges (f.names old) (f.names new) words (sources_with words no_texts contents) result)
+MergesLive r f old new words list result = IfAllTold r old list (λ contents. Merges (f.names old) (f.names new) words (sources_unless [] words no_texts contents) result)
 
 abbrev pub MergesAlone : {S : Type 0} → writing.Ghosts S → S → S → MergeWords → Result Merged Stop → Type 0
 MergesAlone f old new words result = Told (f.names old) (λ world. Merges (f.names old) (f.names new) words (sources_alone world words) result)
 
 -- what such a merge may read of live files
 abbrev pub ReadsLive : {S : Type 0} → Ghosts S → S → S → MergeWords → List FileId → Type 0
-ReadsLive r old new words list = IfAllTold r old list (λ contents. ReadsUpTo r old new (most_of (sources_with words no_texts contents) (live_size r old list)))
+ReadsLive r old new words list = IfAllTold r old list (λ contents. ReadsUpTo r old new (most_of (sources_unless [] words no_texts contents) (live_size r old list)))

@@ -45,8 +45,8 @@ use Rattle.mkv_merge.specs.declared.refusal.Refusal.TheVariants.{Differs, Missin
 
 -- ---- the sources
 
--- the sources of a merge whose inputs have these contents: what is read of each, with what the text files give, and each that is
--- appended in its place
+-- the sources of a merge whose inputs have these contents: what is read of each, with what the text files give (a chapter file counts as the
+-- first input's Chapters, in place of all others), and each that is appended in its place
 abbrev pub sources_in : MergeWords → TextFiles → List (List ℕ) → List Source
 sources_in words texts contents = in_place (zip contents (reads_with words texts contents))
 
@@ -61,19 +61,23 @@ refusals_read words texts contents =
     ∷ option_map Plan (plan_refusal words (reads_of (sources_in words texts contents)))
     ∷ []
 
--- What refuses a merge in a world of names, in order: an output that could have the name of a file that is read, an input and a text file
--- that isn't there, an edit that is pending, and then what is read.
+-- The sources of a merge whose inputs have these contents, or what refuses it: the first that stands of these causes, and then of what is read.
+abbrev pub sources_unless : List (Option Refusal) → MergeWords → TextFiles → List (List ℕ) → Result (List Source) Refusal
+sources_unless causes words texts contents = unless (first_cause (causes ++ refusals_read words texts contents)) (sources_in words texts contents)
+
+-- What refuses a merge in a world of names before its files are read, in order: an output that could have the name of a file that is read, an
+-- input and a text file that isn't there, and an edit that is pending.
 abbrev pub refusals : (List ℕ → Option (List ℕ)) → MergeWords → List (Option Refusal)
 refusals world words =
     option_map OutputIsInput (first_written words)
     ∷ option_map Missing (first_missing world (file_names words.files))
     ∷ missing_text (texts_held world words)
     ∷ pending_of world words
-    ∷ refusals_read words (texts_held world words) (contents_held world words)
+    ∷ []
 
 -- The sources of a merge, or the first of what refuses it that stands.
 abbrev pub sources_of : (List ℕ → Option (List ℕ)) → MergeWords → Result (List Source) Refusal
-sources_of world words = unless (first_cause (refusals world words)) (sources_in words (texts_held world words) (contents_held world words))
+sources_of world words = sources_unless (refusals world words) words (texts_held world words) (contents_held world words)
 
 -- ---- the outputs
 

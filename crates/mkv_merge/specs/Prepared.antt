@@ -1,5 +1,5 @@
 -- What is known of a merge whose inputs were read and planned.
-use Rattle.std.specs.Prelude.{◌≡◌, ⊤, ℕ, Bool, List, length, map, Some, Result, Ok, Err}
+use Rattle.std.specs.Prelude.{◌≡◌, ⊤, ℕ, Bool, List, [], length, map, Some, Result, Ok, Err}
 use Rattle.std.specs.List.{All, zip}
 use Rattle.mkv_io.specs.declared.outside.FileId.{FileId}
 use Rattle.mkv_io.specs.LiveFiles.{LiveFiles}
@@ -17,10 +17,8 @@ use Rattle.merge_plan.specs.Plan.{Source}
 use Rattle.merge_plan.specs.Planned.{CanBeWritten, IsPlanOf}
 use Rattle.merge_plan.specs.Spots.{HasPlace}
 use Rattle.mkv_merge.specs.Ends.{HasReadCause}
-use Rattle.mkv_io.specs.Results.{unless}
-use Rattle.mkv_merge.specs.Merge.{refusals_read, sources_in}
+use Rattle.mkv_merge.specs.Merge.{sources_unless}
 use Rattle.mkv_merge.specs.Read.{inputs_of, numbered}
-use Rattle.mkv_merge.specs.Refused.{first_cause}
 use Rattle.mkv_merge.specs.declared.preparing.Prepared.{Prepared}
 use Rattle.mkv_merge.specs.declared.refusal.MergeEnd.{MergeEnd}
 use Rattle.mkv_merge.specs.declared.refusal.MergeEnd.TheVariants.{Refused, Stopped}
@@ -77,10 +75,6 @@ pub record IsPrepared (f : LiveFiles) (words : MergeWords) (list : List FileId) 
   pub plan : IsPlanOf words p.inputs p.plan
   pub written : CanBeWritten p.inputs p.plan
 
--- the sources of a merge whose inputs have these contents, or what refuses them
-abbrev pub sources_with : MergeWords → TextFiles → List (List ℕ) → Result (List Source) Refusal
-sources_with words texts contents = unless (first_cause (refusals_read words texts contents)) (sources_in words texts contents)
-
--- They are those of what was prepared.
+-- The sources are those of what was prepared, or what is read refuses the merge.
 abbrev pub Prepares : MergeWords → TextFiles → List (List ℕ) → Result Prepared MergeEnd → Type 0
-Prepares words texts contents result = ReadsAs (λ (p : Prepared). sources_from contents p.inputs) (sources_with words texts contents) result
+Prepares words texts contents result = ReadsAs (λ (p : Prepared). sources_from contents p.inputs) (sources_unless [] words texts contents) result

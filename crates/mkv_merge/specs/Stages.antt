@@ -2,7 +2,6 @@
 -- verdict stands on these words: a lemma ties them to what `Merge` says.
 use Rattle.std.specs.Prelude.{◌≡◌, ℕ, ◌+◌, List, [], ◌∷◌, Option, IfOk, Result, Ok, Err}
 use Rattle.std.specs.Option.{option_or}
-use Rattle.mkv_io.specs.Results.{unless}
 use Rattle.mkv_io.specs.Told.{Told}
 use Rattle.mkv_io.specs.declared.outside.FileId.{FileId}
 use Rattle.mkv_io.specs.declared.files.Files as writing
@@ -22,11 +21,10 @@ use Rattle.mkv_lines.specs.declared.status.Status.TheVariants as status
 use Rattle.mkv_lines.specs.declared.status.Stop.{Stop}
 use Rattle.mkv_merge.specs.Bound.{live_size, most_looked, most_of, most_planned, most_read}
 use Rattle.mkv_merge.specs.Ends.{end_as}
-use Rattle.mkv_merge.specs.Merge.{merge_verdict, merged_verdict, refusals_read, sources_in, sources_of, verdict_of}
+use Rattle.mkv_merge.specs.Merge.{merge_verdict, merged_verdict, sources_of, sources_unless, verdict_of}
 use Rattle.mkv_merge.specs.Prepared.{IfAllTold, sources_from}
 use Rattle.mkv_merge.specs.Read.{pending_of}
 use Rattle.mkv_merge.specs.Records.{AreShort, EndsReadable}
-use Rattle.mkv_merge.specs.Refused.{first_cause}
 use Rattle.mkv_merge.specs.Texts.{missing_text}
 use Rattle.mkv_merge.specs.declared.refusal.MergeEnd.{MergeEnd}
 use Rattle.mkv_merge.specs.declared.refusal.MergeEnd.TheVariants.{Refused, Stopped}
@@ -51,13 +49,11 @@ EndsShort r f files words list inputs result = Told (f.names files) (λ world. I
 -- ---- a merge up to its verdict, where a refusal isn't told yet
 
 -- what refuses a merge whose inputs are there before they are read: a text file that isn't there, or an edit that is pending
+abbrev pub refusals_begun : (List ℕ → Option (List ℕ)) → MergeWords → TextFiles → List (Option Refusal)
+refusals_begun world words texts = missing_text texts ∷ pending_of world words ∷ []
+
 abbrev pub begun_refusal : (List ℕ → Option (List ℕ)) → MergeWords → TextFiles → Option Refusal
 begun_refusal world words texts = option_or (missing_text texts) (pending_of world words)
-
--- the sources of a merge whose inputs are there and have these contents, and whose text files give this
-abbrev pub sources_there : (List ℕ → Option (List ℕ)) → MergeWords → TextFiles → List (List ℕ) → Result (List Source) Refusal
-sources_there world words texts contents =
-    unless (first_cause (missing_text texts ∷ pending_of world words ∷ refusals_read words texts contents)) (sources_in words texts contents)
 
 -- how the command ends that tells a refusal
 abbrev pub as_command : Result Status MergeEnd → Result Status Stop
@@ -78,7 +74,7 @@ pub record MergesTo {F P : Type 0} (r : Ghosts F) (f : writing.Ghosts F) (p : Re
 -- of live files
 abbrev pub MergesThere : {F P : Type 0} → Ghosts F → writing.Ghosts F → ReportGhosts P → F → F → P → P → MergeWords → TextFiles → List FileId → Result Status MergeEnd → Type 0
 MergesThere r f p files files' report report' words texts list result = Told (f.names files) (λ world. IfAllTold r files list (λ contents.
-    let found = sources_there world words texts contents in
+    let found = sources_unless (refusals_begun world words texts) words texts contents in
     MergesTo r f p files files' report report' words found (most_of found (live_size r files list) + most_looked words) result))
 
 -- of the files of the inputs' names

@@ -1,5 +1,5 @@
 -- The sources of a merge whose words name one more file of times.
-use Rattle.std.proofs.Common.{◌≡◌, ◌<◌, ℕ, zero, suc, Bool, ◌&&◌, List, [], ◌∷◌, map, Option, Some, None, Result, Ok, Err, refl, sym, ap, subst, not, is_none, unwrap_or, arith}
+use Rattle.std.proofs.Common.{◌≡◌, ◌<◌, ℕ, zero, suc, Bool, ◌&&◌, List, [], ◌∷◌, ◌++◌, map, Option, Some, None, Result, Ok, Err, refl, sym, ap, subst, not, is_none, unwrap_or, arith}
 use Rattle.std.specs.List.{slice_get, zip}
 use Rattle.std.specs.Option.{option_map, option_or}
 use Rattle.std.specs.Result.{result_err}
@@ -24,7 +24,7 @@ use Rattle.merge_inputs.specs.Input.{InputRead, input_of}
 use Rattle.merge_inputs.specs.Select.{kept_one}
 use Rattle.merge_plan.specs.Appending.{append_refusal}
 use Rattle.merge_plan.specs.Front.{reads_of}
-use Rattle.merge_plan.specs.Places.{begun_at, end_of, in_place, in_place_from}
+use Rattle.merge_plan.specs.Places.{begun_at, end_of, in_place_from}
 use Rattle.merge_plan.specs.Plan.{Source}
 use Rattle.merge_plan.specs.Records.{entries_of}
 use Rattle.merge_plan.specs.Refusal.{lanes_refusal, plan_refusal}
@@ -191,6 +191,6 @@ module _ (world : World) (words : MergeWords) (n : TimesName) (times : Listing) 
   pub sources-both : Both (AreGiven n) (sources_of world more) (sources_of world words)
   sources-both =
       subst (λ (all : List (List ℕ)). Both (AreGiven n) (unless (first_cause (refusals_by all)) (sources_in more more_texts (held_by world all))) (sources_of world words)) (sym names)
-      (both-unless (AreGiven n) (first_cause (refusals_by (file_names words.files))) (first_cause (refusals world words)) (sources_in more more_texts contents) (sources_in words texts contents)
+      (both-unless (AreGiven n) (first_cause (refusals_by (file_names words.files))) (first_cause (refusals world words ++ refusals_read words texts contents)) (sources_in more more_texts contents) (sources_in words texts contents)
       (λ i. first_cause (option_map OutputIsInput (name_is i) ∷ option_map Missing (first_missing world (file_names words.files)) ∷ option_or (missing_chapters texts.chapters) (misses i) ∷ pending_of world words ∷ read-both i))
       placed-given)

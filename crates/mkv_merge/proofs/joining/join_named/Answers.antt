@@ -1,4 +1,4 @@
-use Rattle.std.proofs.Common.{◌≡◌, ℕ, List, [], None, Result, Ok, Err, refl, sym, ◌∙◌, subst, arith}
+use Rattle.std.proofs.Common.{◌≡◌, List, [], Result, refl, sym, ◌∙◌, subst, arith}
 use Rattle.std.proofs.lemmas.Result.{err_from_is_err_and}
 use Rattle.mkv_io.specs.Names.{Names}
 use Rattle.mkv_io.specs.Sources.{live_files}
@@ -8,9 +8,9 @@ use Rattle.mkv_lines.specs.declared.status.Stop.TheVariants as stop
 use Rattle.mkv_merge.specs.Bound.{contents_length, files_size}
 use Rattle.mkv_merge.specs.Ends.{unopened}
 use Rattle.mkv_merge.specs.Joined.{Merges, as_merged, no_texts, sources_alone}
-use Rattle.mkv_merge.specs.Merge.{refusals_read, sources_in}
-use Rattle.mkv_merge.specs.Prepared.{AreTold, sources_with}
-use Rattle.mkv_merge.specs.Read.{contents_held, first_written}
+use Rattle.mkv_merge.specs.Merge.{sources_unless}
+use Rattle.mkv_merge.specs.Prepared.{AreTold}
+use Rattle.mkv_merge.specs.Read.{contents_held}
 use Rattle.mkv_merge.specs.declared.refusal.MergeEnd.TheVariants.{Stopped}
 use Rattle.mkv_merge.specs.declared.refusal.Refusal.{Refusal}
 use Rattle.mkv_merge.proofs.JoinedLemmas.{merges-ended}
@@ -29,7 +29,7 @@ returns-in_err-name-clause-merges g c = λ world told.
 pub returns-in-Some-clause-merges : goal.returns-in-Some-clause-merges
 returns-in-Some-clause-merges g c = λ world told.
     let words = c.args.words.now in
-    (written-found world words (refusals_read words no_texts (contents_held world words)) (sources_in words no_texts (contents_held world words)) c.in-Some.name (sym c.in_ok-name.ensures ∙ c.in-Some.is), refl)
+    (written-found world words [] no_texts (contents_held world words) c.in-Some.name (sym c.in_ok-name.ensures ∙ c.in-Some.is), refl)
 
 -- an input isn't there, or couldn't be opened
 pub returns-in_err-ids-clause-merges : goal.returns-in_err-ids-clause-merges
@@ -38,7 +38,7 @@ returns-in_err-ids-clause-merges g c = λ world told.
     let words = c.args.words.now in
     let end = c.in_err-ids.field-0.0 in
     rw (p.1, p.2) (merges-ended (g.F.Files.names c.args.files.now) (g.F.Files.names c.open_all.new.files) words (sources_alone world words) (unopened end)
-    (missing-found world words (refusals_read words no_texts (contents_held world words)) (sources_in words no_texts (contents_held world words)) (sym c.in_ok-name.ensures ∙ c.in_default.is) c.as_slice.result.now c.as_slice.ensures end (c.in_err-ids.ensures.missing world told))
+    (missing-found world words [] no_texts (contents_held world words) (sym c.in_ok-name.ensures ∙ c.in_default.is) c.as_slice.result.now c.as_slice.ensures end (c.in_err-ids.ensures.missing world told))
     c.open_all.ensures.same.names)
 
 -- they were opened, merged and closed
@@ -48,8 +48,8 @@ returns-clause-merges g c = λ world told.
     let contents = contents_held world words in
     let there = c.in_ok-ids.ensures.missing world told in
     let f = live_files g.F.Reads c.open_all.new.files in
-    let found : sources_alone world words ≡ sources_with words no_texts contents =
-    there-found world words (refusals_read words no_texts contents) (sources_in words no_texts contents) (sym c.in_ok-name.ensures ∙ c.in_default.is) c.as_slice.result.now c.as_slice.ensures there in
+    let found : sources_alone world words ≡ sources_unless [] words no_texts contents =
+    there-found world words [] no_texts contents (sym c.in_ok-name.ensures ∙ c.in_default.is) c.as_slice.result.now c.as_slice.ensures there in
     let contents-told : AreTold f c.as_slice-2.result.now contents =
     opened-told f world words c.as_slice.result.now c.in_ok-ids.ids c.as_slice-2.result.now c.as_slice.ensures c.as_slice-2.ensures there (c.in_ok-ids.ensures.contents world told) in
     subst (λ (now : Names). Merges (g.F.Files.names c.args.files.now) now words (sources_alone world words) (as_merged c.join_opened-ended.result)) (sym c.close_all.ensures.names)
@@ -77,9 +77,9 @@ returns-clause-octets g c = λ world told.
     let contents-told : AreTold f ids contents =
     opened-told f world words c.as_slice.result.now c.in_ok-ids.ids ids c.as_slice.ensures c.as_slice-2.ensures there (c.in_ok-ids.ensures.contents world told) in
     let paid = c.join_opened-ended.ensures.octets contents contents-told in
-    let closed = reads-closed (sources_alone world words) (sources_with words no_texts contents) (contents_length world words.files) (files_size f ids) 0 0
+    let closed = reads-closed (sources_alone world words) (sources_unless [] words no_texts contents) (contents_length world words.files) (files_size f ids) 0 0
     (g.F.Reads.octets_read c.args.files.now) (g.F.Reads.octets_read c.args.files.now) (g.F.Reads.octets_read opened) (g.F.Reads.octets_read c.join_opened-ended.new.files) (g.F.Reads.octets_read c.close_all.new.files)
-    (there-found world words (refusals_read words no_texts contents) (sources_in words no_texts contents) (sym c.in_ok-name.ensures ∙ c.in_default.is) c.as_slice.result.now c.as_slice.ensures there)
+    (there-found world words [] no_texts contents (sym c.in_ok-name.ensures ∙ c.in_default.is) c.as_slice.result.now c.as_slice.ensures there)
     (size-told f (g.met.F.Reads.told_size (g.F.Reads.standing opened)) world words.files ids contents-told) (omega arith) c.in_ok-ids.ensures.same.octets (omega (arith, paid)) c.close_all.ensures.octets in
     omega (arith, closed)
 

@@ -14,7 +14,8 @@ use Rattle.mkv_merge.specs.Asked.{AsksToMerge}
 use Rattle.mkv_merge.specs.Bound.{files_size, most_of}
 use Rattle.mkv_lines.specs.Code.{stop_of}
 use Rattle.mkv_merge.specs.Joined.{Merges, no_texts}
-use Rattle.mkv_merge.specs.Prepared.{AreTold, ReadsAs, sources_from, sources_with}
+use Rattle.mkv_merge.specs.Merge.{sources_unless}
+use Rattle.mkv_merge.specs.Prepared.{AreTold, ReadsAs, sources_from}
 use Rattle.mkv_merge.specs.declared.refusal.Refusal.{Refusal}
 use Rattle.mkv_merge.proofs.JoinedLemmas.{merges-ended, merges-stopped, merges-written}
 use Rattle.mkv_merge.specs.declared.joining.Merged.TheVariants.{Written}
@@ -35,8 +36,8 @@ pub returns-in_err-prepared-clause-merges : goal.returns-in_err-prepared-clause-
 returns-in_err-prepared-clause-merges g c = λ contents told.
     let p = err_from_is_err_and c.from_residual.result c.from_residual.ensures.1 in
     let words = c.args.words.now in
-    let plain = ap (λ (times : List TimesFile). let texts : TextFiles = record { chapters = Absent; times = times } in sources_with words texts contents) c.new.ensures in
-    rw (p.1, p.2) (merges-ended (g.F.Files.names c.args.files.now) (g.F.Files.names c.prepare.new.src) words (sources_with words no_texts contents) c.in_err-prepared.field-0.0
+    let plain = ap (λ (times : List TimesFile). let texts : TextFiles = record { chapters = Absent; times = times } in sources_unless [] words texts contents) c.new.ensures in
+    rw (p.1, p.2) (merges-ended (g.F.Files.names c.args.files.now) (g.F.Files.names c.prepare.new.src) words (sources_unless [] words no_texts contents) c.in_err-prepared.field-0.0
     (subst (λ (o : Result (List Source) Refusal). ReadsAs {B = List Source} (λ (s : List Source). s) o (Err c.in_err-prepared.field-0.0)) plain (c.in_err-prepared.ensures.exact contents told))
     (g.met.F.Files.names_stand c.prepare.new.src c.args.files.now c.in_err-prepared.ensures.reading.standing))
 
@@ -49,15 +50,15 @@ returns-in_err-remux-clause-merges g c = λ contents told.
     let prepared = c.in_ok-prepared.prepared in
     let standing = c.in_ok-prepared.ensures.reading.standing in
     let now = live_files g.F.Reads c.prepare.new.src in
-    let plain = ap (λ (times : List TimesFile). let texts : TextFiles = record { chapters = Absent; times = times } in sources_with words texts contents) c.new.ensures in
+    let plain = ap (λ (times : List TimesFile). let texts : TextFiles = record { chapters = Absent; times = times } in sources_unless [] words texts contents) c.new.ensures in
     let sources = sources_from contents prepared.inputs in
     let now-told : AreTold now ids contents = subst (λ (f : LiveFiles). AreTold f ids contents) (sym (ap g.F.Reads.files standing)) told in
     let many = many-inputs g.F.Reads g.F.Files c.args.files.now words ids prepared.inputs c.requires.inputs c.in_ok-prepared.ensures.prepared.inputs.of in
     let is = merge-is now words ids contents prepared c.in_ok-prepared.ensures.prepared now-told many in
     let planned = plan-told now words ids contents prepared c.in_ok-prepared.ensures.prepared now-told in
     rw (p.1, p.2)
-    (subst (λ (before : Names). Merges before (g.F.Files.names c.remux.new.files) words (sources_with words no_texts contents) (Err (stop_of c.in_err-remux.field-0.0))) (g.met.F.Files.names_stand c.prepare.new.src c.args.files.now standing)
-    (merges-stopped (g.F.Files.names c.prepare.new.src) (g.F.Files.names c.remux.new.files) words (sources_with words no_texts contents) now prepared.inputs prepared.plan sources (stop_of c.in_err-remux.field-0.0) (sym plain ∙ c.in_ok-prepared.ensures.exact contents told) is
+    (subst (λ (before : Names). Merges before (g.F.Files.names c.remux.new.files) words (sources_unless [] words no_texts contents) (Err (stop_of c.in_err-remux.field-0.0))) (g.met.F.Files.names_stand c.prepare.new.src c.args.files.now standing)
+    (merges-stopped (g.F.Files.names c.prepare.new.src) (g.F.Files.names c.remux.new.files) words (sources_unless [] words no_texts contents) now prepared.inputs prepared.plan sources (stop_of c.in_err-remux.field-0.0) (sym plain ∙ c.in_ok-prepared.ensures.exact contents told) is
     (c.in_err-remux.ensures.output planned)))
 
 -- they stand
@@ -68,14 +69,14 @@ returns-clause-merges g c = λ contents told.
     let prepared = c.in_ok-prepared.prepared in
     let standing = c.in_ok-prepared.ensures.reading.standing in
     let now = live_files g.F.Reads c.prepare.new.src in
-    let plain = ap (λ (times : List TimesFile). let texts : TextFiles = record { chapters = Absent; times = times } in sources_with words texts contents) c.new.ensures in
+    let plain = ap (λ (times : List TimesFile). let texts : TextFiles = record { chapters = Absent; times = times } in sources_unless [] words texts contents) c.new.ensures in
     let sources = sources_from contents prepared.inputs in
     let now-told : AreTold now ids contents = subst (λ (f : LiveFiles). AreTold f ids contents) (sym (ap g.F.Reads.files standing)) told in
     let many = many-inputs g.F.Reads g.F.Files c.args.files.now words ids prepared.inputs c.requires.inputs c.in_ok-prepared.ensures.prepared.inputs.of in
     let is = merge-is now words ids contents prepared c.in_ok-prepared.ensures.prepared now-told many in
     let planned = plan-told now words ids contents prepared c.in_ok-prepared.ensures.prepared now-told in
-    subst (λ (before : Names). Merges before (g.F.Files.names c.remux.new.files) words (sources_with words no_texts contents) (Ok (Written c.in_ok-remux.field-0))) (g.met.F.Files.names_stand c.prepare.new.src c.args.files.now standing)
-    (merges-written (g.F.Files.names c.prepare.new.src) (g.F.Files.names c.remux.new.files) words (sources_with words no_texts contents) now prepared.inputs prepared.plan sources c.in_ok-remux.field-0 (sym plain ∙ c.in_ok-prepared.ensures.exact contents told) is
+    subst (λ (before : Names). Merges before (g.F.Files.names c.remux.new.files) words (sources_unless [] words no_texts contents) (Ok (Written c.in_ok-remux.field-0))) (g.met.F.Files.names_stand c.prepare.new.src c.args.files.now standing)
+    (merges-written (g.F.Files.names c.prepare.new.src) (g.F.Files.names c.remux.new.files) words (sources_unless [] words no_texts contents) now prepared.inputs prepared.plan sources c.in_ok-remux.field-0 (sym plain ∙ c.in_ok-prepared.ensures.exact contents told) is
     (c.in_ok-remux.ensures.summary planned) (c.in_ok-remux.ensures.output planned))
 
 -- ---- how it ends
@@ -101,11 +102,11 @@ returns-in_err-remux-clause-octets g c = λ contents told.
     let prepared = c.in_ok-prepared.prepared in
     let now = live_files g.F.Reads c.prepare.new.src in
     let same : now ≡ live_files g.F.Reads c.args.files.now = ap g.F.Reads.files c.in_ok-prepared.ensures.reading.standing in
-    let plain = ap (λ (times : List TimesFile). let texts : TextFiles = record { chapters = Absent; times = times } in sources_with words texts contents) c.new.ensures in
+    let plain = ap (λ (times : List TimesFile). let texts : TextFiles = record { chapters = Absent; times = times } in sources_unless [] words texts contents) c.new.ensures in
     let sources = sources_from contents prepared.inputs in
     let many = many-inputs g.F.Reads g.F.Files c.args.files.now words ids prepared.inputs c.requires.inputs c.in_ok-prepared.ensures.prepared.inputs.of in
     let is = merge-is now words ids contents prepared c.in_ok-prepared.ensures.prepared (subst (λ (f : LiveFiles). AreTold f ids contents) (sym same) told) many in
-    reads-both (sources_with words no_texts contents) sources (length prepared.plan.lanes) (g.F.Reads.octets_read c.args.files.now) (g.F.Reads.octets_read c.prepare.new.src) (g.F.Reads.octets_read c.remux.new.files) (files_size (live_files g.F.Reads c.args.files.now) ids) (files_size now ids) (data_length prepared.plan)
+    reads-both (sources_unless [] words no_texts contents) sources (length prepared.plan.lanes) (g.F.Reads.octets_read c.args.files.now) (g.F.Reads.octets_read c.prepare.new.src) (g.F.Reads.octets_read c.remux.new.files) (files_size (live_files g.F.Reads c.args.files.now) ids) (files_size now ids) (data_length prepared.plan)
     (sym plain ∙ c.in_ok-prepared.ensures.exact contents told) (lanes-count now words prepared.inputs prepared.plan sources is) (ap (λ (f : LiveFiles). files_size f ids) same) (data-counted now words prepared.inputs prepared.plan sources is) c.prepare.ensures.octets
     (plan-reads now words ids prepared (g.F.Reads.octets_read c.prepare.new.src) (g.F.Reads.octets_read c.remux.new.files) c.in_ok-prepared.ensures.prepared c.remux.ensures.octets)
 
@@ -116,11 +117,11 @@ returns-clause-octets g c = λ contents told.
     let prepared = c.in_ok-prepared.prepared in
     let now = live_files g.F.Reads c.prepare.new.src in
     let same : now ≡ live_files g.F.Reads c.args.files.now = ap g.F.Reads.files c.in_ok-prepared.ensures.reading.standing in
-    let plain = ap (λ (times : List TimesFile). let texts : TextFiles = record { chapters = Absent; times = times } in sources_with words texts contents) c.new.ensures in
+    let plain = ap (λ (times : List TimesFile). let texts : TextFiles = record { chapters = Absent; times = times } in sources_unless [] words texts contents) c.new.ensures in
     let sources = sources_from contents prepared.inputs in
     let many = many-inputs g.F.Reads g.F.Files c.args.files.now words ids prepared.inputs c.requires.inputs c.in_ok-prepared.ensures.prepared.inputs.of in
     let is = merge-is now words ids contents prepared c.in_ok-prepared.ensures.prepared (subst (λ (f : LiveFiles). AreTold f ids contents) (sym same) told) many in
-    reads-both (sources_with words no_texts contents) sources (length prepared.plan.lanes) (g.F.Reads.octets_read c.args.files.now) (g.F.Reads.octets_read c.prepare.new.src) (g.F.Reads.octets_read c.remux.new.files) (files_size (live_files g.F.Reads c.args.files.now) ids) (files_size now ids) (data_length prepared.plan)
+    reads-both (sources_unless [] words no_texts contents) sources (length prepared.plan.lanes) (g.F.Reads.octets_read c.args.files.now) (g.F.Reads.octets_read c.prepare.new.src) (g.F.Reads.octets_read c.remux.new.files) (files_size (live_files g.F.Reads c.args.files.now) ids) (files_size now ids) (data_length prepared.plan)
     (sym plain ∙ c.in_ok-prepared.ensures.exact contents told) (lanes-count now words prepared.inputs prepared.plan sources is) (ap (λ (f : LiveFiles). files_size f ids) same) (data-counted now words prepared.inputs prepared.plan sources is) c.prepare.ensures.octets
     (plan-reads now words ids prepared (g.F.Reads.octets_read c.prepare.new.src) (g.F.Reads.octets_read c.remux.new.files) c.in_ok-prepared.ensures.prepared c.remux.ensures.octets)
 

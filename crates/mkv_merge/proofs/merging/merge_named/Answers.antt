@@ -1,27 +1,22 @@
-use Rattle.std.proofs.Common.{◌≡◌, ℕ, ◌+◌, ◌≤◌, ◌∷◌, List, [], None, Result, Ok, Err, refl, sym, ◌∙◌, ap, subst, arith}
+use Rattle.std.proofs.Common.{◌≡◌, ℕ, ◌+◌, ◌≤◌, List, None, Err, refl, sym, ◌∙◌, ap, subst, arith}
 use Rattle.std.proofs.lemmas.Result.{err_from_is_err_and}
-use Rattle.mkv_io.specs.LiveFiles.{LiveFiles}
 use Rattle.mkv_io.specs.Sources.{live_files}
-use Rattle.input_files.specs.Inputs.{file_names}
 use Rattle.input_files.specs.TextFiles.{text_files, text_octets}
 use Rattle.input_files.specs.declared.text_files.TextFiles.{TextFiles}
 use Rattle.merge_words.specs.declared.files.FileWords.{FileWords}
-use Rattle.merge_plan.specs.Plan.{Source}
 use Rattle.mkv_lines.specs.Code.{read_stop}
 use Rattle.mkv_lines.specs.declared.status.Status.{Status}
 use Rattle.mkv_lines.specs.declared.status.Stop.TheVariants as stop
 use Rattle.mkv_merge.specs.Asked.{opened_by}
 use Rattle.mkv_merge.specs.Bound.{contents_length, files_size, most_looked, most_read}
 use Rattle.mkv_merge.specs.Ends.{HasReadCause, unopened}
-use Rattle.mkv_merge.specs.Merge.{refusals_read, sources_in, sources_of}
+use Rattle.mkv_merge.specs.Merge.{sources_of, sources_unless}
 use Rattle.mkv_merge.specs.Prepared.{AreTold}
-use Rattle.mkv_merge.specs.Read.{contents_held, first_written, pending_of, texts_held}
-use Rattle.mkv_merge.specs.Stages.{sources_there}
-use Rattle.mkv_merge.specs.Texts.{missing_text}
+use Rattle.mkv_merge.specs.Read.{contents_held, first_written, texts_held}
+use Rattle.mkv_merge.specs.Stages.{refusals_begun}
 use Rattle.mkv_merge.specs.declared.refusal.MergeEnd.TheVariants.{Refused, Stopped}
-use Rattle.mkv_merge.specs.declared.refusal.Refusal.{Refusal}
 use Rattle.mkv_merge.specs.declared.refusal.Refusal.TheVariants.{OutputIsInput}
-use Rattle.mkv_merge.proofs.MergingLemmas.{ended-early, ended-within, inputs-cause, merges-early, merges-within, missing-found, opened-told, reads-closed, seen-kept, size-told, texts-cause, there-found, written-found}
+use Rattle.mkv_merge.proofs.MergingLemmas.{ended-early, inputs-cause, merges-early, merges-within, missing-found, opened-told, reads-closed, seen-kept, size-told, texts-cause, there-found, written-found}
 use Rattle.mkv_merge.proofs.AskedLemmas.{merge-asks-both, merge-asks-files, merge-asks-inputs, merge-asks-none, merge-asks-sidecars, merge-asks-texts}
 use Rattle.mkv_merge.proofs.merging.merge_named.Goals as goal
 
@@ -38,7 +33,7 @@ returns-in-Some-clause-merges g c = λ world told.
     let words = c.args.words.now in
     let files = c.args.files.now in
     merges-early g.F.Reads g.F.Files g.P.Report files files c.args.report.now words (sources_of world words) (most_read world words) (Refused (OutputIsInput c.in-Some.name))
-    (written-found world words (missing_text (texts_held world words) ∷ pending_of world words ∷ refusals_read words (texts_held world words) (contents_held world words)) (sources_in words (texts_held world words) (contents_held world words)) c.in-Some.name (sym c.in_ok-name.ensures ∙ c.in-Some.is))
+    (written-found world words (refusals_begun world words (texts_held world words)) (texts_held world words) (contents_held world words) c.in-Some.name (sym c.in_ok-name.ensures ∙ c.in-Some.is))
     refl (omega arith)
 
 -- a text file couldn't be read
@@ -60,7 +55,7 @@ returns-in_err-ids-clause-merges g c = λ world told.
     let apart : first_written words ≡ None = sym c.in_ok-name.ensures ∙ c.in_default.is in
     let paid = subst (λ (files : List FileWords). g.F.Reads.octets_read c.read_text_files.new.files ≤ g.F.Reads.octets_read c.args.files.now + text_octets world words.chapters files) c.as_slice.ensures (c.read_text_files.ensures.octets world told) in
     rw (p.1, p.2) (merges-early g.F.Reads g.F.Files g.P.Report c.args.files.now c.open_all.new.files c.args.report.now words (sources_of world words) (most_read world words) (unopened end)
-    (missing-found world words (missing_text (texts_held world words) ∷ pending_of world words ∷ refusals_read words (texts_held world words) (contents_held world words)) (sources_in words (texts_held world words) (contents_held world words)) apart c.as_slice-2.result.now c.as_slice-2.ensures end
+    (missing-found world words (refusals_begun world words (texts_held world words)) (texts_held world words) (contents_held world words) apart c.as_slice-2.result.now c.as_slice-2.ensures end
     (c.in_err-ids.ensures.missing world (looks.names ∙ told)))
     (c.open_all.ensures.same.names ∙ looks.names) (omega (arith, paid, c.open_all.ensures.same.octets)))
 
@@ -82,15 +77,15 @@ returns-clause-merges g c = λ world told.
     let texts : c.in_ok-texts.texts ≡ texts_held world words = c.in_ok-texts.ensures.exact world told ∙ ap (text_files world words.chapters) c.as_slice.ensures in
     let contents-told : AreTold f ids contents =
     opened-told f world words c.as_slice-2.result.now c.in_ok-ids.ids ids c.as_slice-2.ensures c.as_slice-3.ensures there (c.in_ok-ids.ensures.contents world (looks.names ∙ told)) in
-    let found : sources_of world words ≡ sources_there world words c.in_ok-texts.texts contents =
-    there-found world words (missing_text (texts_held world words) ∷ pending_of world words ∷ refusals_read words (texts_held world words) contents) (sources_in words (texts_held world words) contents) apart c.as_slice-2.result.now c.as_slice-2.ensures there
-    ∙ ap (λ (t : TextFiles). sources_there world words t contents) (sym texts) in
+    let found : sources_of world words ≡ sources_unless (refusals_begun world words c.in_ok-texts.texts) words c.in_ok-texts.texts contents =
+    there-found world words (refusals_begun world words (texts_held world words)) (texts_held world words) contents apart c.as_slice-2.result.now c.as_slice-2.ensures there
+    ∙ ap (λ (t : TextFiles). sources_unless (refusals_begun world words t) words t contents) (sym texts) in
     let merged = c.merge_opened-ended.ensures.merges world (names ∙ told) contents contents-told in
     let paid = subst (λ (files : List FileWords). g.F.Reads.octets_read c.read_text_files.new.files ≤ g.F.Reads.octets_read c.args.files.now + text_octets world words.chapters files) c.as_slice.ensures (c.read_text_files.ensures.octets world told) in
-    merges-within g.F.Reads g.F.Files g.P.Report c.args.files.now opened c.merge_opened-ended.new.files c.close_all.new.files c.args.report.now said words (sources_of world words) (sources_there world words c.in_ok-texts.texts contents) (most_read world words) _ c.merge_opened-ended.result
+    merges-within g.F.Reads g.F.Files g.P.Report c.args.files.now opened c.merge_opened-ended.new.files c.close_all.new.files c.args.report.now said words (sources_of world words) (sources_unless (refusals_begun world words c.in_ok-texts.texts) words c.in_ok-texts.texts contents) (most_read world words) _ c.merge_opened-ended.result
     (seen-kept g.F.Reads g.F.Files g.P.Report c.args.files.now opened c.args.report.now (c.in_ok-ids.ensures.cause ∙ c.in_ok-texts.ensures.cause) (same.writing ∙ looks.writing) names)
     (seen-kept g.F.Reads g.F.Files g.P.Report c.merge_opened-ended.new.files c.close_all.new.files said ends.reading ends.writing ends.names)
-    found (reads-closed (sources_of world words) (sources_there world words c.in_ok-texts.texts contents) (contents_length world words.files) (files_size f ids) (text_octets world words.chapters words.files) (most_looked words)
+    found (reads-closed (sources_of world words) (sources_unless (refusals_begun world words c.in_ok-texts.texts) words c.in_ok-texts.texts contents) (contents_length world words.files) (files_size f ids) (text_octets world words.chapters words.files) (most_looked words)
     (g.F.Reads.octets_read c.args.files.now) (g.F.Reads.octets_read c.read_text_files.new.files) (g.F.Reads.octets_read opened) (g.F.Reads.octets_read c.merge_opened-ended.new.files) (g.F.Reads.octets_read c.close_all.new.files)
     found (size-told f (g.met.F.Reads.told_size (g.F.Reads.standing opened)) world words.files ids contents-told) paid same.octets merged.octets ends.octets) merged
 

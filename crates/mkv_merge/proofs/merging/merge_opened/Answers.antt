@@ -13,7 +13,8 @@ use Rattle.mkv_merge.specs.Asked.{AsksToMerge, sidecars_of}
 use Rattle.mkv_merge.specs.Bound.{files_size, most_looked, most_of}
 use Rattle.mkv_merge.specs.Ends.{HasReadCause}
 use Rattle.mkv_merge.specs.Prepared.{AreTold, ReadsAs, sources_from}
-use Rattle.mkv_merge.specs.Stages.{sources_there}
+use Rattle.mkv_merge.specs.Merge.{sources_unless}
+use Rattle.mkv_merge.specs.Stages.{refusals_begun}
 use Rattle.mkv_merge.specs.declared.refusal.MergeEnd.TheVariants.{Refused, Stopped}
 use Rattle.mkv_merge.specs.declared.refusal.Refusal.{Refusal}
 use Rattle.mkv_merge.proofs.MergingLemmas.{begun-past, begun-refused, contents-kept, ended-early, ended-written, inputs-kept, inputs-stand, merges-early, merges-written, reads-both, seen-kept, sizes-kept, texts-cause}
@@ -36,7 +37,7 @@ pub returns-in_err-why-clause-merges : goal.returns-in_err-why-clause-merges
 returns-in_err-why-clause-merges g c = λ world told contents held.
     let p = err_from_is_err_and c.from_residual.result c.from_residual.ensures.1 in
     let words = c.args.words.now in
-    let found = sources_there world words c.args.texts contents in
+    let found = sources_unless (refusals_begun world words c.args.texts) words c.args.texts contents in
     let most = most_of found (files_size (live_files g.F.Reads c.args.files.now) c.args.ids.now) + most_looked words in
     rw (p.1, p.2) (merges-early g.F.Reads g.F.Files g.P.Report c.args.files.now c.begun_refusal.new.files c.args.report.now words found most (Stopped (read_stop c.in_err-why.field-0.0)) tt
     c.begun_refusal.ensures.looks.names (omega (arith, c.begun_refusal.ensures.octets)))
@@ -45,7 +46,7 @@ returns-in_err-why-clause-merges g c = λ world told contents held.
 pub returns-in-Some-clause-merges : goal.returns-in-Some-clause-merges
 returns-in-Some-clause-merges g c = λ world told contents held.
     let words = c.args.words.now in
-    let found = sources_there world words c.args.texts contents in
+    let found = sources_unless (refusals_begun world words c.args.texts) words c.args.texts contents in
     let most = most_of found (files_size (live_files g.F.Reads c.args.files.now) c.args.ids.now) + most_looked words in
     merges-early g.F.Reads g.F.Files g.P.Report c.args.files.now c.begun_refusal.new.files c.args.report.now words found most (Refused c.in-Some.why)
     (begun-refused world words c.args.texts contents c.in-Some.why (sym (c.in_ok-why.ensures.exact world told) ∙ c.in-Some.is))
@@ -60,7 +61,7 @@ returns-in_err-prepared-clause-merges g c = λ world told contents held.
     let old = live_files g.F.Reads c.args.files.now in
     let mid = live_files g.F.Reads c.begun_refusal.new.files in
     let kept = c.begun_refusal.ensures.looks.kept in
-    let found = sources_there world words c.args.texts contents in
+    let found = sources_unless (refusals_begun world words c.args.texts) words c.args.texts contents in
     let size : files_size mid ids ≡ files_size old ids = sizes-kept old mid ids (λ file. kept.others file tt) c.requires.inputs.live in
     let mid-told : AreTold mid ids contents = contents-kept old.live old.content mid.content ids (λ file live. (kept.others file tt).content live) c.requires.inputs.live ∙ held in
     let past = begun-past world words c.args.texts contents (sym (c.in_ok-why.ensures.exact world told) ∙ c.in_default.is) in
@@ -81,7 +82,7 @@ returns-in_err-write-clause-merges g c = λ world told contents held.
     let now = live_files g.F.Reads c.prepare.new.src in
     let looks = c.begun_refusal.ensures.looks in
     let standing = c.in_ok-prepared.ensures.reading.standing in
-    let found = sources_there world words c.args.texts contents in
+    let found = sources_unless (refusals_begun world words c.args.texts) words c.args.texts contents in
     let size : files_size mid ids ≡ files_size old ids = sizes-kept old mid ids (λ file. looks.kept.others file tt) c.requires.inputs.live in
     let same : now ≡ mid = ap g.F.Reads.files standing in
     let mid-told : AreTold mid ids contents = contents-kept old.live old.content mid.content ids (λ file live. (looks.kept.others file tt).content live) c.requires.inputs.live ∙ held in
@@ -110,7 +111,7 @@ returns-clause-merges g c = λ world told contents held.
     let now = live_files g.F.Reads c.prepare.new.src in
     let looks = c.begun_refusal.ensures.looks in
     let standing = c.in_ok-prepared.ensures.reading.standing in
-    let found = sources_there world words c.args.texts contents in
+    let found = sources_unless (refusals_begun world words c.args.texts) words c.args.texts contents in
     let size : files_size mid ids ≡ files_size old ids = sizes-kept old mid ids (λ file. looks.kept.others file tt) c.requires.inputs.live in
     let same : now ≡ mid = ap g.F.Reads.files standing in
     let mid-told : AreTold mid ids contents = contents-kept old.live old.content mid.content ids (λ file live. (looks.kept.others file tt).content live) c.requires.inputs.live ∙ held in
