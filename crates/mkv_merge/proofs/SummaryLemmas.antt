@@ -27,7 +27,7 @@ use Rattle.merge_plan.specs.Records.{is_appended}
 use Rattle.merge_plan.proofs.ChainLemmas.{numbers-below}
 use Rattle.mkv_lines.specs.Line.{more_damages_line, warning_line}
 use Rattle.mkv_io.specs.Lists.{is_some_of}
-use Rattle.mkv_merge.specs.Merge.{damages_met, has_damage, links_met, told_lines, warnings}
+use Rattle.mkv_merge.specs.Merge.{damages_met, damages_warned, first_met, has_damage, links_met, warnings}
 use Rattle.mkv_merge.specs.Told.{damages_at, input_warnings, more_at, warnings_from}
 
 -- ---- tests of numbers
@@ -49,10 +49,6 @@ is-other n k is = grind (arith, nat_tests)
 -- links, each with its input's number and the damages of its file
 abbrev Tagged : Type 0
 Tagged = List (ℕ × List Damage)
-
--- those of an input, by the first of its links
-abbrev first_met : ℕ → Tagged → List Damage
-first_met k links = option_map_or (λ (link : ℕ × List Damage). link.1) (find (λ (link : ℕ × List Damage). link.0 == k) links) []
 
 links-are : (f : LiveFiles) (lanes : List PlannedLane) → flat_map (link_damages f) lanes ≡ links_met (map (λ (l : PlannedLane). l.inputs) lanes) (map (map (given_in f)) (links_of lanes))
 links-are f [] = refl
@@ -227,7 +223,7 @@ more-lines name m true = refl
 more-lines name m false = refl
 
 -- the warnings of an input
-input-told : (found : ℕ → List Damage) (count : ℕ) (s : Summary) → Tells found count s → (k : ℕ) (name : List ℕ) → input_warnings s k name ≡ told_lines name (told_damages (found k))
+input-told : (found : ℕ → List Damage) (count : ℕ) (s : Summary) → Tells found count s → (k : ℕ) (name : List ℕ) → input_warnings s k name ≡ damages_warned name (found k)
 input-told found count s tells k name =
     let told = told_damages (found k) in
     ap (λ (ds : List InputDamage). map (λ (d : InputDamage). warning_line name d.damage) ds ++ map (λ (m : MoreDamage). more_damages_line name m.count) (more_at k s.more)) (damages-told found count s tells k)
@@ -240,12 +236,12 @@ input-told found count s tells k name =
 one_more : (n : ℕ) → n + 1 ≡ suc n
 one_more n = omega arith
 
-all-warnings : (s : Summary) (found : ℕ → List Damage) (sources : List Source) → ((k : ℕ) (name : List ℕ) → input_warnings s k name ≡ told_lines name (told_damages (found k)))
+all-warnings : (s : Summary) (found : ℕ → List Damage) (sources : List Source) → ((k : ℕ) (name : List ℕ) → input_warnings s k name ≡ damages_warned name (found k))
     → ((k : ℕ) → found k ≡ damages_met sources k) → (n : ℕ) (files : List FileWords) → warnings_from s n files ≡ flat_map (warnings sources) (enumerate_from n files)
 all-warnings s found sources told are n [] = refl
 all-warnings s found sources told are n (file ∷ files) =
-    ap (λ (lines : List (List ℕ)). lines ++ warnings_from s (suc n) files) (told n file.name ∙ ap (λ (list : List Damage). told_lines file.name (told_damages list)) (are n))
-    ∙ ap (λ (lines : List (List ℕ)). told_lines file.name (told_damages (damages_met sources n)) ++ lines)
+    ap (λ (lines : List (List ℕ)). lines ++ warnings_from s (suc n) files) (told n file.name ∙ ap (λ (list : List Damage). damages_warned file.name list) (are n))
+    ∙ ap (λ (lines : List (List ℕ)). damages_warned file.name (damages_met sources n) ++ lines)
     (ap (λ (m : ℕ). warnings_from s m files) (sym (one_more n)) ∙ all-warnings s found sources told are (n + 1) files)
 
 pub warnings-told : (found : ℕ → List Damage) (count : ℕ) (s : Summary) (files : List FileWords) (sources : List Source) → Tells found count s → ((k : ℕ) → found k ≡ damages_met sources k) → warnings_from s 0 files ≡ flat_map (warnings sources) (enumerate_from 0 files)

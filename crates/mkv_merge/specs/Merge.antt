@@ -6,7 +6,7 @@ use Rattle.std.specs.Result.{result_err}
 use Rattle.mkv_io.specs.declared.damage.Damage.{Damage}
 use Rattle.mkv_io.specs.Faults.{counted}
 use Rattle.mkv_io.specs.Lists.{is_some_of}
-use Rattle.cluster_reader.specs.ToldDamages.{ToldDamages, told_damages}
+use Rattle.cluster_reader.specs.ToldDamages.{told_damages}
 use Rattle.output_model.specs.OutputBlock.{OutputBlock}
 use Rattle.tree_format.specs.Node.{Node}
 use Rattle.output_model.specs.Document.{Document, Front}
@@ -136,23 +136,26 @@ lines_absent file count = map (no_track_line file.name) (absent_of file count)
 abbrev pub absent_lines : FileWords × InputRead → List (List ℕ)
 absent_lines f = lines_absent f.0 f.1.count
 
--- the links of lanes: of each the number of its source, and the damages that are met in it
+-- the links of lanes, by the numbers of their sources and by what these give: of each its source's number, and the damages that are met in it
 abbrev pub links_met : List (List ℕ) → List (List Given) → List (ℕ × List Damage)
-links_met [] given = []
-links_met (ns ∷ numbers) [] = []
-links_met (ns ∷ numbers) (gs ∷ given) = zip ns (lane_damages gs) ++ links_met numbers given
+links_met numbers given = flat_map (λ (lane : List ℕ × List Given). zip lane.0 (lane_damages lane.1)) (zip numbers given)
 
--- the damages of the source of this number: those that are met in the first of its links, of which no lane may have one
+-- of links those damages that are met in the first one of the source of this number; none where no link is of it
+abbrev pub first_met : ℕ → List (ℕ × List Damage) → List Damage
+first_met k links = option_map_or (λ (link : ℕ × List Damage). link.1) (find (λ (link : ℕ × List Damage). link.0 == k) links) []
+
+-- The damages of the events of the source of this number: none where no track of it is taken, so that it has no link, or where a file before it in
+-- its chain stopped. The same are met in all of its links.
 abbrev pub damages_met : List Source → ℕ → List Damage
-damages_met sources k = option_map_or (λ (link : ℕ × List Damage). link.1) (find (λ (link : ℕ × List Damage). link.0 == k) (links_met (inputs_given 0 (reads_of sources)) (lanes_given sources))) []
+damages_met sources k = first_met k (links_met (inputs_given 0 (reads_of sources)) (lanes_given sources))
 
--- a warning for each of those that are told one by one, and the number of the others
-abbrev pub told_lines : List ℕ → ToldDamages → List (List ℕ)
-told_lines name told = damage_lines name told.first told.more
+-- what is warned of a file of this name that has these damages
+abbrev pub damages_warned : List ℕ → List Damage → List (List ℕ)
+damages_warned name damages = let told = told_damages damages in damage_lines name told.first told.more
 
 -- what is warned of a source, by its number
 abbrev pub warnings : List Source → ℕ × FileWords → List (List ℕ)
-warnings sources each = told_lines each.1.name (told_damages (damages_met sources each.0))
+warnings sources each = damages_warned each.1.name (damages_met sources each.0)
 
 -- a track isn't there
 abbrev pub has_absent : MergeWords → List InputRead → Bool

@@ -1,10 +1,9 @@
 -- What a merge comes to whose sources give the same.
-use Rattle.std.proofs.Common.{◌≡◌, ◌<◌, ℕ, zero, suc, ◌+◌, ◌==◌, nat_le, Bool, true, false, ◌||◌, if◌then◌else◌, List, [], ◌∷◌, ◌++◌, length, map, filter, flat_map, find, Result, Ok, Err, refl, ap, ◌∙◌, arith, unwrap_or, not, eqb-true, sym, Some, ap₂}
+use Rattle.std.proofs.Common.{◌≡◌, ◌<◌, ℕ, zero, suc, ◌+◌, ◌==◌, nat_le, Bool, true, false, ◌||◌, if◌then◌else◌, List, [], ◌∷◌, ◌++◌, length, map, filter, flat_map, Result, Ok, Err, refl, ap, ◌∙◌, arith, unwrap_or, not, eqb-true, sym, Some, ap₂}
 use Rattle.std.specs.List.{enumerate_from, list_any, range_with_len, slice_get, zip}
 use Rattle.std.specs.Option.{option_map_or}
 use Rattle.std.proofs.lemmas.Bool.Decides.{nat_tests}
 use Rattle.mkv_io.specs.declared.damage.Damage.{Damage}
-use Rattle.cluster_reader.specs.ToldDamages.{told_damages}
 use Rattle.tree_format.specs.Node.{Node}
 use Rattle.output_model.specs.Cued.{document_of}
 use Rattle.merged_records.specs.declared.inputs.InputRecords.{InputRecords}
@@ -30,7 +29,7 @@ use Rattle.merge_plan.specs.Records.{entries_of, first_title, records_of, tracks
 use Rattle.mkv_lines.specs.Line.{append_differs_line, missing_line, no_track_line, pending_edit_line}
 use Rattle.mkv_lines.specs.Verdict.{Verdict, in_turn, refused}
 use Rattle.mkv_io.specs.Lists.{is_some_of}
-use Rattle.mkv_merge.specs.Merge.{absent, absent_lines, absent_of, front_for, has_absent, has_damage, has_other_count, lines_before, links_met, merged_verdict, output_line, outputs_of, warned_if, told_lines, uuid_lines, verdict_of, warnings}
+use Rattle.mkv_merge.specs.Merge.{absent, absent_lines, absent_of, damages_warned, first_met, front_for, has_absent, has_damage, has_other_count, lines_before, links_met, merged_verdict, output_line, outputs_of, warned_if, uuid_lines, verdict_of, warnings}
 use Rattle.mkv_merge.specs.Read.{is_split}
 use Rattle.mkv_merge.specs.Refused.{input_line, line_of}
 use Rattle.mkv_merge.specs.declared.refusal.Refusal.{Refusal}
@@ -43,7 +42,7 @@ use Rattle.times_laws.proofs.SourcesLemmas.{AreGiven, Has}
 
 -- the damages of the input of this number, by the inputs of links and what these give
 abbrev met_by : List (List ℕ) → List (List Given) → ℕ → List Damage
-met_by numbers given k = option_map_or (λ (link : ℕ × List Damage). link.1) (find (λ (link : ℕ × List Damage). link.0 == k) (links_met numbers given)) []
+met_by numbers given k = first_met k (links_met numbers given)
 
 -- ---- the tracks that aren't there
 
@@ -93,12 +92,12 @@ module _ (id : ℕ) (new own : FileWords) (named : others id new.named ≡ other
   -- ---- the names of inputs
 
   warned-same : (numbers : List (List ℕ)) (given : List (List Given)) (j k : ℕ) (files : List FileWords) → slice_get files k ≡ Some own
-      → flat_map (λ (each : ℕ × FileWords). told_lines each.1.name (told_damages (met_by numbers given each.0))) (enumerate_from j (set_input k new files))
-      ≡ flat_map (λ (each : ℕ × FileWords). told_lines each.1.name (told_damages (met_by numbers given each.0))) (enumerate_from j files)
+      → flat_map (λ (each : ℕ × FileWords). damages_warned each.1.name (met_by numbers given each.0)) (enumerate_from j (set_input k new files))
+      ≡ flat_map (λ (each : ℕ × FileWords). damages_warned each.1.name (met_by numbers given each.0)) (enumerate_from j files)
   warned-same numbers given j k [] found = refl
   warned-same numbers given j zero (f ∷ fs) found =
-      ap (λ (name : List ℕ). told_lines name (told_damages (met_by numbers given j)) ++ flat_map (λ (each : ℕ × FileWords). told_lines each.1.name (told_damages (met_by numbers given each.0))) (enumerate_from (j + 1) fs)) (name-own f found)
-  warned-same numbers given j (suc k) (f ∷ fs) found = ap (λ (rest : List (List ℕ)). told_lines f.name (told_damages (met_by numbers given j)) ++ rest) (warned-same numbers given (j + 1) k fs found)
+      ap (λ (name : List ℕ). damages_warned name (met_by numbers given j) ++ flat_map (λ (each : ℕ × FileWords). damages_warned each.1.name (met_by numbers given each.0)) (enumerate_from (j + 1) fs)) (name-own f found)
+  warned-same numbers given j (suc k) (f ∷ fs) found = ap (λ (rest : List (List ℕ)). damages_warned f.name (met_by numbers given j) ++ rest) (warned-same numbers given (j + 1) k fs found)
 
   name-same : (k j : ℕ) (files : List FileWords) → slice_get files k ≡ Some own → option_map_or (λ (f : FileWords). f.name) (slice_get (set_input k new files) j) [] ≡ option_map_or (λ (f : FileWords). f.name) (slice_get files j) []
   name-same k j [] found = refl
@@ -179,7 +178,7 @@ module _ (words : MergeWords) (n : TimesName) (timed own : FileWords) (named : o
 
     warned : flat_map (warnings new) (enumerate_from 0 more.files) ≡ flat_map (warnings old) (enumerate_from 0 words.files)
     warned =
-        (λ i. flat_map (λ (each : ℕ × FileWords). told_lines each.1.name (told_damages (met_by (numbers i) (lanes i) each.0))) (enumerate_from 0 more.files))
+        (λ i. flat_map (λ (each : ℕ × FileWords). damages_warned each.1.name (met_by (numbers i) (lanes i) each.0)) (enumerate_from 0 more.files))
         ∙ warned-same n.id timed own named name_is (inputs_given 0 (reads_of old)) (lanes_given old) 0 n.input words.files found
 
     pub merged-same : merged_verdict more new ≡ merged_verdict words old
