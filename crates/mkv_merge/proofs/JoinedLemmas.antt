@@ -1,7 +1,8 @@
 -- A merge of which nothing is said.
-use Rattle.std.proofs.Common.{◌≡◌, List, map, Result, Ok, Err, sym, ◌∙◌, ap, subst}
+use Rattle.std.proofs.Common.{◌≡◌, List, map, Result, Ok, Err, IfOk, sym, ◌∙◌, ap, subst}
 use Rattle.mkv_io.specs.LiveFiles.{LiveFiles}
 use Rattle.mkv_io.specs.Names.{Names}
+use Rattle.mkv_io.specs.declared.remux_end.RemuxEnd.{RemuxEnd}
 use Rattle.mkv_outputs.specs.Drafts.{StandsInTurn}
 use Rattle.mkv_outputs.proofs.DraftsLemmas.{StandsInTurn-none}
 use Rattle.merge_words.specs.declared.output.MergeWords.{MergeWords}
@@ -11,11 +12,11 @@ use Rattle.remux_plan.specs.Parts.{PlannedOutput, outputs_in}
 use Rattle.remux_plan.specs.Summary.{IsSummary, damages_of, written_of}
 use Rattle.remux_plan.specs.declared.plan.MergePlan.{MergePlan}
 use Rattle.remux_plan.specs.declared.summary.Summary.{Summary}
-use Rattle.remuxer.specs.Output.{WritesAll, drafts_of}
+use Rattle.remuxer.specs.Output.{WritesAll, WritesOutputs, drafts_of}
 use Rattle.mkv_lines.specs.declared.status.Stop.{Stop}
+use Rattle.mkv_merge.specs.Ends.{as_remuxed}
 use Rattle.mkv_merge.specs.Joined.{IsSummaryOf, Merges, as_merged, outputs_found}
 use Rattle.mkv_merge.specs.Prepared.{ReadsAs}
-use Rattle.mkv_merge.specs.declared.joining.Merged.TheVariants.{Written}
 use Rattle.mkv_merge.specs.declared.refusal.MergeEnd.{MergeEnd}
 use Rattle.mkv_merge.specs.declared.refusal.MergeEnd.TheVariants.{Refused as Ended, Stopped}
 use Rattle.mkv_merge.specs.declared.refusal.Refusal.{Refusal}
@@ -32,20 +33,16 @@ summary-of f words inputs p sources s is sums = record {
   damaged = some-told (damages_of f p.lanes) _ s sources (tells-is f p s sums) (λ k. damages-are f sources p.lanes k (lanes-for f words inputs p sources is));
 }
 
--- the outputs were written
-pub merges-written : (old new : Names) (words : MergeWords) (found : Result (List Source) Refusal) (f : LiveFiles) (inputs : List Input) (p : MergePlan) (sources : List Source) (s : Summary) → found ≡ Ok sources → IsMergeOf f words inputs p sources → IsSummary f p s
-    → WritesAll old new (outputs_in f p) → Merges old new words found (Ok (Written s))
-merges-written old new words found f inputs p sources s are is sums writes = record {
+-- the outputs were written, or couldn't be
+pub merges-remuxed : (old new : Names) (words : MergeWords) (found : Result (List Source) Refusal) (f : LiveFiles) (inputs : List Input) (p : MergePlan) (sources : List Source) (r : Result Summary RemuxEnd) → found ≡ Ok sources → IsMergeOf f words inputs p sources
+    → IfOk r (IsSummary f p) → WritesOutputs old new (outputs_in f p) r → Merges old new words found (as_merged (as_remuxed r))
+merges-remuxed old new words found f inputs p sources (Ok s) are is sums writes = record {
   sources = sources;
   are = are;
   writes = subst (WritesAll old new) (outputs-are f words inputs p sources is) writes;
   summary = summary-of f words inputs p sources s is sums;
 }
-
--- they couldn't be
-pub merges-stopped : (old new : Names) (words : MergeWords) (found : Result (List Source) Refusal) (f : LiveFiles) (inputs : List Input) (p : MergePlan) (sources : List Source) (why : Stop) → found ≡ Ok sources → IsMergeOf f words inputs p sources
-    → StandsInTurn old new (drafts_of (outputs_in f p)) → Merges old new words found (Err why)
-merges-stopped old new words found f inputs p sources why are is stands =
+merges-remuxed old new words found f inputs p sources (Err end) are is sums stands =
     subst (λ (r : Result (List Source) Refusal). StandsInTurn old new (drafts_of (outputs_found words r))) (sym are)
     (subst (λ (os : List PlannedOutput). StandsInTurn old new (drafts_of os)) (outputs-are f words inputs p sources is) stands)
 

@@ -32,7 +32,7 @@ use Rattle.merge_words.specs.declared.output.MergeWords.{MergeWords}
 use Rattle.merge_plan.specs.Front.{attached_length, reads_of}
 use Rattle.merge_plan.specs.Plan.{Source, lanes_given}
 use Rattle.remux_plan.specs.declared.summary.Summary.{Summary}
-use Rattle.mkv_lines.specs.Code.{read_stop, stop_of}
+use Rattle.mkv_lines.specs.Code.{read_stop}
 use Rattle.mkv_lines.specs.Command.{ComesTo, HasEnded, HasFilesCause, files_counts, seen_in}
 use Rattle.mkv_io.specs.Bounds.{ReadsUpTo}
 use Rattle.mkv_lines.specs.Faults.{Counts, HasStopCause}
@@ -46,7 +46,7 @@ use Rattle.mkv_lines.specs.declared.status.Stop.{Stop}
 use Rattle.mkv_lines.specs.declared.status.Stop.TheVariants as stop
 use Rattle.mkv_lines.proofs.VerdictLemmas.{IsStopped-before, Reaches-lines}
 use Rattle.mkv_merge.specs.Bound.{contents_length, files_size, most_of}
-use Rattle.mkv_merge.specs.Ends.{HasReadCause, end_as, unopened}
+use Rattle.mkv_merge.specs.Ends.{HasReadCause, as_remuxed, as_written, end_as, unopened}
 use Rattle.mkv_merge.specs.Joined.{as_merged}
 use Rattle.mkv_merge.specs.Merge.{merged_verdict, refusals_read, sources_in, sources_unless, verdict_of}
 use Rattle.mkv_merge.specs.Prepared.{AreTold, ReadsAs}
@@ -55,7 +55,6 @@ use Rattle.mkv_merge.specs.Records.{AreShort, EndsReadable, HaveRecords}
 use Rattle.mkv_merge.specs.Refused.{first_cause, line_of}
 use Rattle.mkv_merge.specs.Stages.{Leads, MergesTo, as_command, begun_refusal, refusals_begun}
 use Rattle.mkv_merge.specs.Texts.{missing_text}
-use Rattle.mkv_merge.specs.declared.joining.Merged.{Merged}
 use Rattle.mkv_merge.specs.declared.joining.Merged.TheVariants as merged
 use Rattle.mkv_merge.specs.declared.joining.Merged.TheVariants.{Written}
 use Rattle.mkv_merge.specs.declared.preparing.Prepared.{Prepared}
@@ -231,20 +230,16 @@ join-ended r f old new end cause same =
     subst (λ (n : ℕ). HasStopCause (files_counts r f old) (record { reading = r.reading_faults new; writing = n; report = 0 }) (as_merged (Err end))) (sym same)
     (early-cause Written merged.Refused (r.reading_faults old) (r.reading_faults new) (f.writing_faults old) 0 end cause)
 
--- and what was stopped while it wrote
-pub join-stopped : {S : Type 0} (r : Ghosts S) (f : writing.Ghosts S) (old mid new : S) (end : RemuxEnd) → r.reading_faults mid ≡ r.reading_faults old → f.writing_faults mid ≡ f.writing_faults old → HasRemuxCause {T = Summary} r f mid new (Err end) → HasFilesCause {T = Merged} r f old new (Err (stop_of end))
-join-stopped r f old mid new end reading writing cause =
-    subst (λ (counts : Counts). HasStopCause {T = Merged} counts (files_counts r f new) (Err (stop_of end))) (λ i. record { reading = reading i; writing = writing i; report = 0 }) (by_end end cause)
+-- and what has written
+pub join-remuxed : {S : Type 0} (r : Ghosts S) (f : writing.Ghosts S) (old mid new : S) (result : Result Summary RemuxEnd) → r.reading_faults mid ≡ r.reading_faults old → f.writing_faults mid ≡ f.writing_faults old → HasRemuxCause r f mid new result → HasFilesCause r f old new (as_merged (as_remuxed result))
+join-remuxed r f old mid new result reading writing cause =
+    subst (λ (counts : Counts). HasStopCause counts (files_counts r f new) (as_merged (as_remuxed result))) (λ i. record { reading = reading i; writing = writing i; report = 0 }) (by_end result cause)
   where
-    by_end : (end : RemuxEnd) → HasRemuxCause {T = Summary} r f mid new (Err end) → HasStopCause {T = Merged} (files_counts r f mid) (files_counts r f new) (Err (stop_of end))
-    by_end remux_end.ReadFault cause = (inl cause.reading, refl)
-    by_end remux_end.WriteFault cause = (inr cause.writing, refl)
-    by_end remux_end.Memory cause = λ i. record { reading = cause.reading i; writing = cause.writing i; report = 0 }
-
--- what was written ends by itself, or is stopped
-abbrev pub as_end : Result Status Stop → Result Status MergeEnd
-as_end (Ok s) = Ok s
-as_end (Err why) = Err (Stopped why)
+    by_end : (result : Result Summary RemuxEnd) → HasRemuxCause r f mid new result → HasStopCause (files_counts r f mid) (files_counts r f new) (as_merged (as_remuxed result))
+    by_end (Ok s) cause = λ i. record { reading = cause.reading i; writing = cause.writing i; report = 0 }
+    by_end (Err remux_end.ReadFault) cause = (inl cause.reading, refl)
+    by_end (Err remux_end.WriteFault) cause = (inr cause.writing, refl)
+    by_end (Err remux_end.Memory) cause = λ i. record { reading = cause.reading i; writing = cause.writing i; report = 0 }
 
 module _ {F P : Type 0} (r : Ghosts F) (f : writing.Ghosts F) (p : ReportGhosts P) where
   -- files that were only looked into are seen as before
@@ -284,10 +279,10 @@ module _ {F P : Type 0} (r : Ghosts F) (f : writing.Ghosts F) (p : ReportGhosts 
 
   -- what was found is written, and told
   pub merges-written : (old mid new : F) (report report' : P) (words : MergeWords) (found : Result (List Source) Refusal) (sources : List Source) (most : ℕ) (result : Result Status Stop) → seen_in r f p mid report ≡ seen_in r f p old report → found ≡ Ok sources
-      → HaveRecords sources → IfOk result (λ (s : Status). AreShort words sources) → ComesTo r f p mid new report report' result (merged_verdict words sources) → ReadsUpTo r old new most → MergesTo r f p old new report report' words found most (as_end result)
+      → HaveRecords sources → IfOk result (λ (s : Status). AreShort words sources) → ComesTo r f p mid new report report' result (merged_verdict words sources) → ReadsUpTo r old new most → MergesTo r f p old new report report' words found most (as_written result)
   merges-written old mid new report report' words found sources most result begun is have short comes paid = by_end result short comes
     where
-      by_end : (result : Result Status Stop) → IfOk result (λ (s : Status). AreShort words sources) → ComesTo r f p mid new report report' result (merged_verdict words sources) → MergesTo r f p old new report report' words found most (as_end result)
+      by_end : (result : Result Status Stop) → IfOk result (λ (s : Status). AreShort words sources) → ComesTo r f p mid new report report' result (merged_verdict words sources) → MergesTo r f p old new report report' words found most (as_written result)
       by_end (Ok s) short comes = record {
         verdict = subst (λ (o : Result (List Source) Refusal). Reaches (seen_in r f p old report) (seen_in r f p new report') (Ok s) (verdict_of words o)) (sym is)
             (subst (λ (seen : Seen). Reaches seen (seen_in r f p new report') (Ok s) (merged_verdict words sources)) begun comes);
@@ -302,10 +297,10 @@ module _ {F P : Type 0} (r : Ghosts F) (f : writing.Ghosts F) (p : ReportGhosts 
       }
 
   pub ended-written : (old mid new : F) (report report' : P) (result : Result Status Stop) → seen_in r f p mid report ≡ seen_in r f p old report → ((file : ℕ) → (live_files r mid).live file ≡ (live_files r old).live file) → HasEnded r f p mid new report report' result
-      → HasEnded r f p old new report report' (as_command (as_end result))
+      → HasEnded r f p old new report report' (as_command (as_written result))
   ended-written old mid new report report' result begun live ended = by_end result ended
     where
-      by_end : (result : Result Status Stop) → HasEnded r f p mid new report report' result → HasEnded r f p old new report report' (as_command (as_end result))
+      by_end : (result : Result Status Stop) → HasEnded r f p mid new report report' result → HasEnded r f p old new report report' (as_command (as_written result))
       by_end (Ok s) ended = record {
         ordinary = ended.ordinary;
         live = λ file. ended.live file ∙ live file;

@@ -2,6 +2,10 @@
 use Rattle.std.specs.Prelude.{◌≡◌, ⊤, ℕ, Result, Ok, Err}
 use Rattle.input_files.specs.declared.inputs_end.InputsEnd.{InputsEnd}
 use Rattle.input_files.specs.declared.inputs_end.InputsEnd.TheVariants as inputs_end
+use Rattle.mkv_io.specs.declared.remux_end.RemuxEnd.{RemuxEnd}
+use Rattle.remux_plan.specs.declared.summary.Summary.{Summary}
+use Rattle.mkv_lines.specs.Code.{stop_of}
+use Rattle.mkv_lines.specs.declared.status.Status.{Status}
 use Rattle.mkv_lines.specs.declared.status.Stop.{Stop}
 use Rattle.mkv_lines.specs.declared.status.Stop.TheVariants as stop
 use Rattle.mkv_io.specs.Faults.{HasRisen}
@@ -38,6 +42,15 @@ unopened inputs_end.Memory = Stopped stop.Memory
 abbrev pub unplanned : PlanEnd → MergeEnd
 unplanned (plan_end.Refused why) = Refused (Plan why)
 unplanned plan_end.Memory = Stopped stop.Memory
+
+-- how a merge ends that has written, and told of it; and one that has written, and of which nothing is said
+abbrev pub as_written : Result Status Stop → Result Status MergeEnd
+as_written (Ok s) = Ok s
+as_written (Err why) = Err (Stopped why)
+
+abbrev pub as_remuxed : Result Summary RemuxEnd → Result Summary MergeEnd
+as_remuxed (Ok s) = Ok s
+as_remuxed (Err end) = Err (Stopped (stop_of end))
 
 -- how what merges files ends, where this is what it has done, and what it makes of a refusal
 abbrev pub end_as : {A T : Type 0} → (A → T) → (Refusal → T) → Result A MergeEnd → Result T Stop

@@ -1,6 +1,6 @@
 //! Files are merged, and no line is said.
 
-ghost use Rattle.std.specs.Prelude.{◌≡◌, []};
+ghost use Rattle.std.specs.Prelude.{[]};
 ghost use Rattle.mkv_io.specs.Seen.{SameLive};
 ghost use Rattle.mkv_io.specs.Told.{Told};
 ghost use Rattle.input_files.specs.Inputs.{AreInputs, file_names};
@@ -13,7 +13,7 @@ ghost use Rattle.mkv_io.specs.Bounds.{ReadsUpTo};
 
 use crate::names::first_written;
 use crate::preparing::prepare;
-use crate::refusal::{MergeEnd, Refusal};
+use crate::refusal::{MergeEnd, Refusal, remuxed};
 use input_files::{ChapterFile, TextFiles, close_all, open_all};
 use merge_words::MergeWords;
 use mkv_io::{FileId, Files, List, Reads};
@@ -49,7 +49,7 @@ fn join_opened<F: Files>(
         times: List::new(alloc),
     };
     let prepared = prepare(alloc, words, texts, files, ids)?;
-    Ok(remux(alloc, prepared.plan, files)?)
+    remuxed(remux(alloc, prepared.plan, files))
 }
 
 /// Merges the files of the inputs' names, unless an output could have the name of a file that is read.

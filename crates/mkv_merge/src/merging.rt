@@ -16,7 +16,7 @@ ghost use Rattle.mkv_merge.specs.Stages.{ComesToMerge, MergesNamed, MergesThere,
 use crate::names::first_written;
 use crate::pending::begun_refusal;
 use crate::preparing::prepare;
-use crate::refusal::{MergeEnd, Refusal};
+use crate::refusal::{MergeEnd, Refusal, written};
 use crate::telling::refuse;
 use crate::writing::write;
 use input_files::{TextFiles, close_all, open_all, read_text_files};
@@ -46,7 +46,7 @@ fn merge_opened<F: Files, P: Report>(
         return Err(MergeEnd::Refused(why));
     }
     let prepared = prepare(alloc, words, texts, files, ids)?;
-    Ok(write(alloc, words, prepared, ids, files, report)?)
+    written(write(alloc, words, prepared, ids, files, report))
 }
 
 /// Merges the files of the inputs' names, unless an output could have the name of a file that is read.

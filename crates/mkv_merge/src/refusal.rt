@@ -1,16 +1,17 @@
 //! Why nothing is merged.
 
 ghost use Rattle.std.specs.Prelude.{◌≡◌};
-ghost use Rattle.mkv_lines.specs.Code.{read_stop, stop_of};
+ghost use Rattle.mkv_lines.specs.Code.{read_stop};
 ghost use Rattle.mkv_lines.specs.declared.status.Stop.TheVariants as stop;
-ghost use Rattle.mkv_merge.specs.Ends.{unopened, unplanned};
+ghost use Rattle.mkv_merge.specs.Ends.{as_remuxed, as_written, unopened, unplanned};
 ghost use Rattle.mkv_merge.specs.declared.refusal.MergeEnd.TheVariants as merge_end;
 
 use input_files::{InputsEnd, TextRefusal};
 use merge_inputs::InputRefusal;
 use merge_plan::{AppendDiffers, PlanEnd, PlanRefusal};
 use mkv_io::{ReadEnd, RemuxEnd, Text};
-use mkv_lines::{Stop, stop_of};
+use mkv_lines::{Status, Stop, stop_of};
+use remux_plan::Summary;
 use std::alloc::AllocError;
 
 /// Why nothing is merged. Inputs count from 0, in the order of the words.
@@ -48,6 +49,26 @@ pub enum MergeEnd {
     Stopped(Stop),
 }
 
+/// How a merge ends that has written, and told of it.
+pub fn written(ended: Result<Status, Stop>) -> Result<Status, MergeEnd>
+    ensures { result ≡ as_written ended }
+{
+    match ended {
+        Ok(status) => Ok(status),
+        Err(why) => Err(MergeEnd::Stopped(why)),
+    }
+}
+
+/// How one ends that has written, and of which nothing is said.
+pub fn remuxed(ended: Result<Summary, RemuxEnd>) -> Result<Summary, MergeEnd>
+    ensures { result ≡ as_remuxed ended }
+{
+    match ended {
+        Ok(summary) => Ok(summary),
+        Err(end) => Err(MergeEnd::Stopped(stop_of(end))),
+    }
+}
+
 impl From<AllocError> for MergeEnd {
     ghost from_gives = { λ _ end. end ≡ merge_end.Stopped stop.Memory };
 
@@ -69,14 +90,6 @@ impl From<ReadEnd> for MergeEnd {
 
     fn from(why: ReadEnd) -> MergeEnd {
         MergeEnd::Stopped(Stop::from(why))
-    }
-}
-
-impl From<RemuxEnd> for MergeEnd {
-    ghost from_gives = { λ why end. end ≡ merge_end.Stopped (stop_of why) };
-
-    fn from(why: RemuxEnd) -> MergeEnd {
-        MergeEnd::Stopped(stop_of(why))
     }
 }
 

@@ -1,4 +1,4 @@
-use Rattle.std.proofs.Common.{◌≡◌, List, [], Result, Ok, Err, length, refl, sym, ◌∙◌, ap, subst, arith}
+use Rattle.std.proofs.Common.{◌≡◌, List, [], Result, Err, length, sym, ◌∙◌, ap, subst}
 use Rattle.std.proofs.lemmas.Result.{err_from_is_err_and}
 use Rattle.mkv_io.specs.LiveFiles.{LiveFiles}
 use Rattle.mkv_io.specs.Names.{Names}
@@ -11,15 +11,14 @@ use Rattle.input_files.specs.declared.chapter_file.ChapterFile.TheVariants.{Abse
 use Rattle.merge_plan.specs.Plan.{Source}
 use Rattle.remuxer.specs.Plan.{data_length}
 use Rattle.mkv_merge.specs.Asked.{AsksToMerge}
-use Rattle.mkv_merge.specs.Bound.{files_size, most_of}
-use Rattle.mkv_lines.specs.Code.{stop_of}
-use Rattle.mkv_merge.specs.Joined.{Merges, no_texts}
+use Rattle.mkv_merge.specs.Bound.{files_size}
+use Rattle.mkv_merge.specs.Ends.{as_remuxed}
+use Rattle.mkv_merge.specs.Joined.{Merges, as_merged, no_texts}
 use Rattle.mkv_merge.specs.Merge.{sources_unless}
 use Rattle.mkv_merge.specs.Prepared.{AreTold, ReadsAs, sources_from}
 use Rattle.mkv_merge.specs.declared.refusal.Refusal.{Refusal}
-use Rattle.mkv_merge.proofs.JoinedLemmas.{merges-ended, merges-stopped, merges-written}
-use Rattle.mkv_merge.specs.declared.joining.Merged.TheVariants.{Written}
-use Rattle.mkv_merge.proofs.MergingLemmas.{inputs-kept, join-ended, join-stopped, reads-both}
+use Rattle.mkv_merge.proofs.JoinedLemmas.{merges-ended, merges-remuxed}
+use Rattle.mkv_merge.proofs.MergingLemmas.{inputs-kept, join-ended, join-remuxed, reads-both}
 use Rattle.mkv_merge.proofs.WritingLemmas.{data-counted, lanes-count, many-inputs, merge-is, plan-good, plan-reads, plan-told}
 use Rattle.mkv_merge.proofs.AskedLemmas.{merge-asks-made, merge-asks-none}
 use Rattle.mkv_merge.proofs.joining.join_opened.Goals as goal
@@ -41,27 +40,7 @@ returns-in_err-prepared-clause-merges g c = λ contents told.
     (subst (λ (o : Result (List Source) Refusal). ReadsAs {B = List Source} (λ (s : List Source). s) o (Err c.in_err-prepared.field-0.0)) plain (c.in_err-prepared.ensures.exact contents told))
     (g.met.F.Files.names_stand c.prepare.new.src c.args.files.now c.in_err-prepared.ensures.reading.standing))
 
--- an output couldn't be written
-pub returns-in_err-remux-clause-merges : goal.returns-in_err-remux-clause-merges
-returns-in_err-remux-clause-merges g c = λ contents told.
-    let p = err_from_is_err_and c.from_residual-in_err-remux.result c.from_residual-in_err-remux.ensures.1 in
-    let words = c.args.words.now in
-    let ids = c.args.ids.now in
-    let prepared = c.in_ok-prepared.prepared in
-    let standing = c.in_ok-prepared.ensures.reading.standing in
-    let now = live_files g.F.Reads c.prepare.new.src in
-    let plain = ap (λ (times : List TimesFile). let texts : TextFiles = record { chapters = Absent; times = times } in sources_unless [] words texts contents) c.new.ensures in
-    let sources = sources_from contents prepared.inputs in
-    let now-told : AreTold now ids contents = subst (λ (f : LiveFiles). AreTold f ids contents) (sym (ap g.F.Reads.files standing)) told in
-    let many = many-inputs g.F.Reads g.F.Files c.args.files.now words ids prepared.inputs c.requires.inputs c.in_ok-prepared.ensures.prepared.inputs.of in
-    let is = merge-is now words ids contents prepared c.in_ok-prepared.ensures.prepared now-told many in
-    let planned = plan-told now words ids contents prepared c.in_ok-prepared.ensures.prepared now-told in
-    rw (p.1, p.2)
-    (subst (λ (before : Names). Merges before (g.F.Files.names c.remux.new.files) words (sources_unless [] words no_texts contents) (Err (stop_of c.in_err-remux.field-0.0))) (g.met.F.Files.names_stand c.prepare.new.src c.args.files.now standing)
-    (merges-stopped (g.F.Files.names c.prepare.new.src) (g.F.Files.names c.remux.new.files) words (sources_unless [] words no_texts contents) now prepared.inputs prepared.plan sources (stop_of c.in_err-remux.field-0.0) (sym plain ∙ c.in_ok-prepared.ensures.exact contents told) is
-    (c.in_err-remux.ensures.output planned)))
-
--- they stand
+-- they are written, or can't be
 pub returns-clause-merges : goal.returns-clause-merges
 returns-clause-merges g c = λ contents told.
     let words = c.args.words.now in
@@ -75,9 +54,10 @@ returns-clause-merges g c = λ contents told.
     let many = many-inputs g.F.Reads g.F.Files c.args.files.now words ids prepared.inputs c.requires.inputs c.in_ok-prepared.ensures.prepared.inputs.of in
     let is = merge-is now words ids contents prepared c.in_ok-prepared.ensures.prepared now-told many in
     let planned = plan-told now words ids contents prepared c.in_ok-prepared.ensures.prepared now-told in
-    subst (λ (before : Names). Merges before (g.F.Files.names c.remux.new.files) words (sources_unless [] words no_texts contents) (Ok (Written c.in_ok-remux.field-0))) (g.met.F.Files.names_stand c.prepare.new.src c.args.files.now standing)
-    (merges-written (g.F.Files.names c.prepare.new.src) (g.F.Files.names c.remux.new.files) words (sources_unless [] words no_texts contents) now prepared.inputs prepared.plan sources c.in_ok-remux.field-0 (sym plain ∙ c.in_ok-prepared.ensures.exact contents told) is
-    (c.in_ok-remux.ensures.summary planned) (c.in_ok-remux.ensures.output planned))
+    rw c.remuxed.ensures
+    (subst (λ (before : Names). Merges before (g.F.Files.names c.remux.new.files) words (sources_unless [] words no_texts contents) (as_merged (as_remuxed c.remux.result))) (g.met.F.Files.names_stand c.prepare.new.src c.args.files.now standing)
+    (merges-remuxed (g.F.Files.names c.prepare.new.src) (g.F.Files.names c.remux.new.files) words (sources_unless [] words no_texts contents) now prepared.inputs prepared.plan sources c.remux.result (sym plain ∙ c.in_ok-prepared.ensures.exact contents told) is
+    (c.remux.ensures.summary planned) (c.remux.ensures.output planned)))
 
 -- ---- how it ends
 
@@ -87,28 +67,12 @@ returns-in_err-prepared-clause-cause g c =
     rw (p.1, p.2) (join-ended g.F.Reads g.F.Files c.args.files.now c.prepare.new.src c.in_err-prepared.field-0.0 c.in_err-prepared.ensures.reading.cause
     (g.met.F.Files.writing_stands c.prepare.new.src c.args.files.now c.in_err-prepared.ensures.reading.standing))
 
-pub returns-in_err-remux-clause-cause : goal.returns-in_err-remux-clause-cause
-returns-in_err-remux-clause-cause g c =
-    let p = err_from_is_err_and c.from_residual-in_err-remux.result c.from_residual-in_err-remux.ensures.1 in
-    rw (p.1, p.2) (join-stopped g.F.Reads g.F.Files c.args.files.now c.prepare.new.src c.remux.new.files c.in_err-remux.field-0.0 c.in_ok-prepared.ensures.reading.cause
-    (g.met.F.Files.writing_stands c.prepare.new.src c.args.files.now c.in_ok-prepared.ensures.reading.standing) c.in_err-remux.ensures.cause)
+pub returns-clause-cause : goal.returns-clause-cause
+returns-clause-cause g c =
+    rw c.remuxed.ensures (join-remuxed g.F.Reads g.F.Files c.args.files.now c.prepare.new.src c.remux.new.files c.remux.result c.in_ok-prepared.ensures.reading.cause
+    (g.met.F.Files.writing_stands c.prepare.new.src c.args.files.now c.in_ok-prepared.ensures.reading.standing) c.remux.ensures.cause)
 
 -- ---- how much is read
-
-pub returns-in_err-remux-clause-octets : goal.returns-in_err-remux-clause-octets
-returns-in_err-remux-clause-octets g c = λ contents told.
-    let words = c.args.words.now in
-    let ids = c.args.ids.now in
-    let prepared = c.in_ok-prepared.prepared in
-    let now = live_files g.F.Reads c.prepare.new.src in
-    let same : now ≡ live_files g.F.Reads c.args.files.now = ap g.F.Reads.files c.in_ok-prepared.ensures.reading.standing in
-    let plain = ap (λ (times : List TimesFile). let texts : TextFiles = record { chapters = Absent; times = times } in sources_unless [] words texts contents) c.new.ensures in
-    let sources = sources_from contents prepared.inputs in
-    let many = many-inputs g.F.Reads g.F.Files c.args.files.now words ids prepared.inputs c.requires.inputs c.in_ok-prepared.ensures.prepared.inputs.of in
-    let is = merge-is now words ids contents prepared c.in_ok-prepared.ensures.prepared (subst (λ (f : LiveFiles). AreTold f ids contents) (sym same) told) many in
-    reads-both (sources_unless [] words no_texts contents) sources (length prepared.plan.lanes) (g.F.Reads.octets_read c.args.files.now) (g.F.Reads.octets_read c.prepare.new.src) (g.F.Reads.octets_read c.remux.new.files) (files_size (live_files g.F.Reads c.args.files.now) ids) (files_size now ids) (data_length prepared.plan)
-    (sym plain ∙ c.in_ok-prepared.ensures.exact contents told) (lanes-count now words prepared.inputs prepared.plan sources is) (ap (λ (f : LiveFiles). files_size f ids) same) (data-counted now words prepared.inputs prepared.plan sources is) c.prepare.ensures.octets
-    (plan-reads now words ids prepared (g.F.Reads.octets_read c.prepare.new.src) (g.F.Reads.octets_read c.remux.new.files) c.in_ok-prepared.ensures.prepared c.remux.ensures.octets)
 
 pub returns-clause-octets : goal.returns-clause-octets
 returns-clause-octets g c = λ contents told.
@@ -131,12 +95,6 @@ returns-clause-octets g c = λ contents told.
 pub returns-in_err-prepared-clause-asks : goal.returns-in_err-prepared-clause-asks
 returns-in_err-prepared-clause-asks g c =
     merge-asks-none [] c.args.words.now (g.F.Files.asked c.args.files.now) (g.F.Files.asked c.prepare.new.src) (g.met.F.Files.asked_stands c.prepare.new.src c.args.files.now c.in_err-prepared.ensures.reading.standing)
-
-pub returns-in_err-remux-clause-asks : goal.returns-in_err-remux-clause-asks
-returns-in_err-remux-clause-asks g c =
-    let prepared = c.in_ok-prepared.prepared in
-    subst (λ (asked : List Asked). AsksToMerge [] c.args.words.now asked (g.F.Files.asked c.remux.new.files)) (g.met.F.Files.asked_stands c.prepare.new.src c.args.files.now c.in_ok-prepared.ensures.reading.standing)
-    (merge-asks-made g.F.Reads g.F.Files c.args.words.now prepared.inputs prepared.plan c.prepare.new.src c.remux.new.files c.in_ok-prepared.ensures.prepared.plan c.remux.ensures.kept)
 
 pub returns-clause-asks : goal.returns-clause-asks
 returns-clause-asks g c =

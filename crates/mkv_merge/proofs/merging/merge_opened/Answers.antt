@@ -71,36 +71,6 @@ returns-in_err-prepared-clause-merges g c = λ world told contents held.
     (omega (arith, c.begun_refusal.ensures.octets, c.prepare.ensures.octets, size)))
 
 -- what was prepared is written, or its writing was stopped
-pub returns-in_err-write-clause-merges : goal.returns-in_err-write-clause-merges
-returns-in_err-write-clause-merges g c = λ world told contents held.
-    let p = err_from_is_err_and c.from_residual-in_err-write.result c.from_residual-in_err-write.ensures.1 in
-    let words = c.args.words.now in
-    let ids = c.args.ids.now in
-    let prepared = c.in_ok-prepared.prepared in
-    let old = live_files g.F.Reads c.args.files.now in
-    let mid = live_files g.F.Reads c.begun_refusal.new.files in
-    let now = live_files g.F.Reads c.prepare.new.src in
-    let looks = c.begun_refusal.ensures.looks in
-    let standing = c.in_ok-prepared.ensures.reading.standing in
-    let found = sources_unless (refusals_begun world words c.args.texts) words c.args.texts contents in
-    let size : files_size mid ids ≡ files_size old ids = sizes-kept old mid ids (λ file. looks.kept.others file tt) c.requires.inputs.live in
-    let same : now ≡ mid = ap g.F.Reads.files standing in
-    let mid-told : AreTold mid ids contents = contents-kept old.live old.content mid.content ids (λ file live. (looks.kept.others file tt).content live) c.requires.inputs.live ∙ held in
-    let now-told : AreTold now ids contents = subst (λ (f : LiveFiles). AreTold f ids contents) (sym same) mid-told in
-    let is : found ≡ Ok (sources_from contents prepared.inputs) = begun-past world words c.args.texts contents (sym (c.in_ok-why.ensures.exact world told) ∙ c.in_default.is) ∙ c.in_ok-prepared.ensures.exact contents mid-told in
-    let many = many-inputs g.F.Reads g.F.Files c.args.files.now words ids prepared.inputs c.requires.inputs c.in_ok-prepared.ensures.prepared.inputs.of in
-    let merge = merge-is now words ids contents prepared c.in_ok-prepared.ensures.prepared now-told many in
-    let names = g.met.F.Files.names_stand c.prepare.new.src c.begun_refusal.new.files standing ∙ looks.names in
-    let seen = seen-kept g.F.Reads g.F.Files g.P.Report c.args.files.now c.prepare.new.src c.args.report.now (c.in_ok-prepared.ensures.reading.cause ∙ c.in_ok-why.ensures.cause)
-    (g.met.F.Files.writing_stands c.prepare.new.src c.begun_refusal.new.files standing ∙ looks.writing) names in
-    let paid = reads-both found (sources_from contents prepared.inputs) (length prepared.plan.lanes) (g.F.Reads.octets_read c.begun_refusal.new.files) (g.F.Reads.octets_read c.prepare.new.src) (g.F.Reads.octets_read c.write.new.files) (files_size old ids) (files_size now ids) (data_length prepared.plan)
-    is (lanes-count now words prepared.inputs prepared.plan (sources_from contents prepared.inputs) merge) (ap (λ (f : LiveFiles). files_size f ids) same ∙ size)
-    (data-counted now words prepared.inputs prepared.plan (sources_from contents prepared.inputs) merge) (omega (arith, c.prepare.ensures.octets, size)) c.write.ensures.octets in
-    rw (p.1, p.2)
-    (merges-written g.F.Reads g.F.Files g.P.Report c.args.files.now c.prepare.new.src c.write.new.files c.args.report.now c.write.new.report words found (sources_from contents prepared.inputs) (most_of found (files_size old ids) + most_looked words) (Err c.in_err-write.field-0.0)
-    seen is (records-are now words prepared.inputs prepared.plan (sources_from contents prepared.inputs) merge c.in_ok-prepared.ensures.prepared.written) (c.in_err-write.ensures.short world (names ∙ told) contents now-told)
-    (c.in_err-write.ensures.verdict contents now-told) (omega (arith, c.begun_refusal.ensures.octets, paid)))
-
 pub returns-clause-merges : goal.returns-clause-merges
 returns-clause-merges g c = λ world told contents held.
     let words = c.args.words.now in
@@ -125,9 +95,9 @@ returns-clause-merges g c = λ world told contents held.
     let paid = reads-both found (sources_from contents prepared.inputs) (length prepared.plan.lanes) (g.F.Reads.octets_read c.begun_refusal.new.files) (g.F.Reads.octets_read c.prepare.new.src) (g.F.Reads.octets_read c.write.new.files) (files_size old ids) (files_size now ids) (data_length prepared.plan)
     is (lanes-count now words prepared.inputs prepared.plan (sources_from contents prepared.inputs) merge) (ap (λ (f : LiveFiles). files_size f ids) same ∙ size)
     (data-counted now words prepared.inputs prepared.plan (sources_from contents prepared.inputs) merge) (omega (arith, c.prepare.ensures.octets, size)) c.write.ensures.octets in
-    (merges-written g.F.Reads g.F.Files g.P.Report c.args.files.now c.prepare.new.src c.write.new.files c.args.report.now c.write.new.report words found (sources_from contents prepared.inputs) (most_of found (files_size old ids) + most_looked words) (Ok c.in_ok-write.field-0)
-    seen is (records-are now words prepared.inputs prepared.plan (sources_from contents prepared.inputs) merge c.in_ok-prepared.ensures.prepared.written) (c.in_ok-write.ensures.short world (names ∙ told) contents now-told)
-    (c.in_ok-write.ensures.verdict contents now-told) (omega (arith, c.begun_refusal.ensures.octets, paid)))
+    rw c.written.ensures (merges-written g.F.Reads g.F.Files g.P.Report c.args.files.now c.prepare.new.src c.write.new.files c.args.report.now c.write.new.report words found (sources_from contents prepared.inputs) (most_of found (files_size old ids) + most_looked words) c.write.result
+    seen is (records-are now words prepared.inputs prepared.plan (sources_from contents prepared.inputs) merge c.in_ok-prepared.ensures.prepared.written) (c.write.ensures.short world (names ∙ told) contents now-told)
+    (c.write.ensures.verdict contents now-told) (omega (arith, c.begun_refusal.ensures.octets, paid)))
 
 -- ---- how it ends
 
@@ -146,25 +116,14 @@ returns-in_err-prepared-clause-ended g c =
     (subst (λ (n : ℕ). HasReadCause {T = Status} n (g.F.Reads.reading_faults c.prepare.new.src) (Err c.in_err-prepared.field-0.0)) c.in_ok-why.ensures.cause c.in_err-prepared.ensures.reading.cause)
     (g.met.F.Files.writing_stands c.prepare.new.src c.begun_refusal.new.files standing ∙ looks.writing) (λ file. ap (λ standing. (g.F.Reads.files standing).live file) standing ∙ looks.kept.live file))
 
-pub returns-in_err-write-clause-ended : goal.returns-in_err-write-clause-ended
-returns-in_err-write-clause-ended g c =
-    let p = err_from_is_err_and c.from_residual-in_err-write.result c.from_residual-in_err-write.ensures.1 in
-    let looks = c.begun_refusal.ensures.looks in
-    let standing = c.in_ok-prepared.ensures.reading.standing in
-    let seen = seen-kept g.F.Reads g.F.Files g.P.Report c.args.files.now c.prepare.new.src c.args.report.now (c.in_ok-prepared.ensures.reading.cause ∙ c.in_ok-why.ensures.cause)
-    (g.met.F.Files.writing_stands c.prepare.new.src c.begun_refusal.new.files standing ∙ looks.writing) (g.met.F.Files.names_stand c.prepare.new.src c.begun_refusal.new.files standing ∙ looks.names) in
-    rw (p.1, p.2)
-    (ended-written g.F.Reads g.F.Files g.P.Report c.args.files.now c.prepare.new.src c.write.new.files c.args.report.now c.write.new.report (Err c.in_err-write.field-0.0) seen
-    (λ file. ap (λ standing. (g.F.Reads.files standing).live file) standing ∙ looks.kept.live file) c.in_err-write.ensures.ended)
-
 pub returns-clause-ended : goal.returns-clause-ended
 returns-clause-ended g c =
     let looks = c.begun_refusal.ensures.looks in
     let standing = c.in_ok-prepared.ensures.reading.standing in
     let seen = seen-kept g.F.Reads g.F.Files g.P.Report c.args.files.now c.prepare.new.src c.args.report.now (c.in_ok-prepared.ensures.reading.cause ∙ c.in_ok-why.ensures.cause)
     (g.met.F.Files.writing_stands c.prepare.new.src c.begun_refusal.new.files standing ∙ looks.writing) (g.met.F.Files.names_stand c.prepare.new.src c.begun_refusal.new.files standing ∙ looks.names) in
-    (ended-written g.F.Reads g.F.Files g.P.Report c.args.files.now c.prepare.new.src c.write.new.files c.args.report.now c.write.new.report (Ok c.in_ok-write.field-0) seen
-    (λ file. ap (λ standing. (g.F.Reads.files standing).live file) standing ∙ looks.kept.live file) c.in_ok-write.ensures.ended)
+    rw c.written.ensures (ended-written g.F.Reads g.F.Files g.P.Report c.args.files.now c.prepare.new.src c.write.new.files c.args.report.now c.write.new.report c.write.result seen
+    (λ file. ap (λ standing. (g.F.Reads.files standing).live file) standing ∙ looks.kept.live file) c.write.ensures.ended)
 
 -- ---- what is asked for
 
@@ -182,17 +141,6 @@ returns-in_err-prepared-clause-asks g c =
     merge-asks-looks c.args.words.now (g.F.Files.asked c.args.files.now) (g.F.Files.asked c.prepare.new.src)
     (subst (λ (asked : List Asked). AsksOnly (sidecars_of c.args.words.now) [] (g.F.Files.asked c.args.files.now) asked) (sym (g.met.F.Files.asked_stands c.prepare.new.src mid c.in_err-prepared.ensures.reading.standing)) c.begun_refusal.ensures.looks.kept.asks)
 
-pub returns-in_err-write-clause-asks : goal.returns-in_err-write-clause-asks
-returns-in_err-write-clause-asks g c =
-    let words = c.args.words.now in
-    let old = g.F.Files.asked c.args.files.now in
-    let mid = g.F.Files.asked c.begun_refusal.new.files in
-    let read = g.F.Files.asked c.prepare.new.src in
-    let new = g.F.Files.asked c.write.new.files in
-    merge-asks-both (sidecars_of words) words old mid new (merge-asks-looks words old mid c.begun_refusal.ensures.looks.kept.asks)
-    (merge-asks-more [] (sidecars_of words) words mid new (λ name others. tt)
-    (subst (λ (asked : List Asked). AsksToMerge [] words asked new) (g.met.F.Files.asked_stands c.prepare.new.src c.begun_refusal.new.files c.in_ok-prepared.ensures.reading.standing) c.in_err-write.ensures.asks))
-
 pub returns-clause-asks : goal.returns-clause-asks
 returns-clause-asks g c =
     let words = c.args.words.now in
@@ -202,4 +150,4 @@ returns-clause-asks g c =
     let new = g.F.Files.asked c.write.new.files in
     merge-asks-both (sidecars_of words) words old mid new (merge-asks-looks words old mid c.begun_refusal.ensures.looks.kept.asks)
     (merge-asks-more [] (sidecars_of words) words mid new (λ name others. tt)
-    (subst (λ (asked : List Asked). AsksToMerge [] words asked new) (g.met.F.Files.asked_stands c.prepare.new.src c.begun_refusal.new.files c.in_ok-prepared.ensures.reading.standing) c.in_ok-write.ensures.asks))
+    (subst (λ (asked : List Asked). AsksToMerge [] words asked new) (g.met.F.Files.asked_stands c.prepare.new.src c.begun_refusal.new.files c.in_ok-prepared.ensures.reading.standing) c.write.ensures.asks))
