@@ -1,5 +1,5 @@
 -- What is read of inputs one after the other, and what they come to.
-use Rattle.std.proofs.Common.{◌≡◌, ℕ, zero, suc, ◌+◌, ◌*◌, ◌<◌, ◌≤◌, Bool, true, false, if◌then◌else◌, List, [], ◌∷◌, ◌++◌, length, take, drop, get_or, map, Option, Some, None, Result, Ok, Err, refl, sym, ◌∙◌, ap, arith, append_assoc}
+use Rattle.std.proofs.Common.{◌≡◌, ℕ, zero, suc, ◌+◌, ◌*◌, ◌<◌, ◌≤◌, Bool, true, false, if◌then◌else◌, List, [], ◌∷◌, ◌++◌, length, take, drop, get_or, map, Option, Some, None, Result, Ok, Err, refl, sym, ◌∙◌, ap, subst, arith, append_assoc}
 use Rattle.std.specs.List.{All, AllByRecursion, sum_by, zip}
 use Rattle.std.specs.Option.{option_map, unwrap_or}
 use Rattle.std.specs.Result.{result_err}
@@ -11,7 +11,9 @@ use Rattle.mkv_io.specs.declared.outside.FileId.{FileId}
 use Rattle.mkv_io.specs.Faults.{counted}
 use Rattle.mkv_io.specs.LiveFiles.{LiveFiles}
 use Rattle.mkv_io.specs.Told.{Told}
+use Rattle.input_files.specs.ChapterFile.{CanBeWritten}
 use Rattle.input_files.specs.Inputs as files
+use Rattle.input_files.specs.declared.chapter_file.ChapterFile.{ChapterFile}
 use Rattle.merge_model.specs.FileLinks.{octets_in}
 use Rattle.input_files.specs.declared.text_files.TextFiles.{TextFiles}
 use Rattle.merge_words.specs.declared.files.FileWords.{FileWords}
@@ -36,16 +38,18 @@ use Rattle.mkv_merge.specs.Bound.{files_size}
 use Rattle.mkv_merge.specs.Chapters.{chaptered, chapters_refusal, with_chapters, with_file, with_tree}
 use Rattle.mkv_merge.specs.Ends.{unplanned}
 use Rattle.mkv_merge.specs.Merge.{refusals_read, sources_in, sources_unless}
-use Rattle.mkv_merge.specs.Prepared.{AreTold, Prepares, ReadsAs, ReadsEach, reads_in, sources_from}
+use Rattle.mkv_merge.specs.Prepared.{AreInputsOf, AreTold, Prepares, ReadsAs, ReadsEach, reads_in, sources_from}
 use Rattle.mkv_merge.specs.Read.{found_in, inputs_from, inputs_of, numbered, reads_with}
 use Rattle.mkv_merge.specs.Refused.{first_cause}
 use Rattle.mkv_merge.specs.Texts.{timed_from, times_refusal, with_times}
+use Rattle.mkv_merge.specs.Timed.{IsSameBut}
 use Rattle.mkv_io.specs.Results.{and_then, unless}
 use Rattle.mkv_merge.specs.declared.refusal.MergeEnd.{MergeEnd}
 use Rattle.mkv_merge.specs.declared.refusal.MergeEnd.TheVariants.{Refused, Stopped}
 use Rattle.mkv_merge.specs.declared.refusal.Refusal.{Refusal}
 use Rattle.mkv_merge.specs.declared.refusal.Refusal.TheVariants.{Differs, Plan}
 use Rattle.mkv_merge.proofs.ChaptersLemmas.{chaptered-read, stood, unrefused}
+use Rattle.mkv_merge.proofs.TextsLemmas.{inputs-timed}
 
 -- ---- a file and its content
 
@@ -277,8 +281,11 @@ module _ (words : MergeWords) (texts : TextFiles) (contents : List (List ℕ)) w
           ∙ stands (option_map Differs (append_refusal (reads_with words texts contents))) behind_append (Differs d) (ap (option_map Differs) (ap append_refusal reads-are ∙ differs)))
 
       -- they were set in place
-      module _ (f : LiveFiles) (ids : List FileId) (placed : List Input) (of : map (λ (i : Input). i.file) timed ≡ ids) (same : map (λ (i : Input). i.file) placed ≡ map (λ (i : Input). i.file) timed)
-          (told : AreTold f ids contents) (none : append_refusal (reads_in timed) ≡ None) (stand : StandInPlace f timed placed) where
+      module _ (f now : LiveFiles) (ids : List FileId) (placed : List Input) (standing : now ≡ f) (written : CanBeWritten texts.chapters) (are : AreInputsOf now ids read) (but : IsSameBut headed timed)
+          (same : map (λ (i : Input). i.file) placed ≡ map (λ (i : Input). i.file) timed) (told : AreTold f ids contents) (none : append_refusal (reads_in timed) ≡ None) (stand : StandInPlace now timed placed) where
+        of : map (λ (i : Input). i.file) timed ≡ ids
+        of = (inputs-timed now ids words.webm texts.chapters read headed timed written are made but).of
+
         placed-told : map (source_in f) placed ≡ sources_from contents placed
         placed-told = sources-told f placed contents (told-contents f ids contents placed (same ∙ of) told)
 
@@ -287,7 +294,7 @@ module _ (words : MergeWords) (texts : TextFiles) (contents : List (List ℕ)) w
             let before = told-contents f ids contents timed of told in
             ap (λ (reads : List InputRead). in_place (zip contents reads)) reads-are
             ∙ ap in_place (sym (sources-told f timed contents before))
-            ∙ sym (stand (each-told f timed contents before)) ∙ placed-told
+            ∙ sym (subst (λ (each : LiveFiles). StandInPlace each timed placed) standing stand (each-told f timed contents before)) ∙ placed-told
 
         pub plan-found : (o : Option PlanRefusal) → plan_refusal words (reads_in placed) ≡ o → sources_unless [] words texts contents ≡ unless (option_map Plan o) (sources_from contents placed)
         plan-found o planned =
@@ -306,7 +313,8 @@ module _ (words : MergeWords) (texts : TextFiles) (contents : List (List ℕ)) w
 -- ---- how much is read before the blocks
 
 -- inputs are read, and then walked over
-pub pays-both : (f : LiveFiles) (ids : List FileId) (inputs : List Input) (start mid now : ℕ) → map (λ (i : Input). i.file) inputs ≡ ids → mid ≤ start + 25 * files_size f ids → now ≤ mid + 2 * walked_length f inputs → now ≤ start + 27 * files_size f ids
-pays-both f ids inputs start mid now of read walked =
-    let long : sum_by (λ (i : Input). f.size i.file.n) inputs ≡ files_size f ids = inputs-size f inputs ∙ ap (files_size f) of in
-    omega (arith, long, walked-within f 0 inputs)
+pub pays-both : (f now : LiveFiles) (ids : List FileId) (webm : Bool) (c : ChapterFile) (read headed timed : List Input) (start mid end : ℕ) → now ≡ f → CanBeWritten c → AreInputsOf now ids read → with_file with_tree webm c read ≡ Ok headed → IsSameBut headed timed
+    → mid ≤ start + 25 * files_size f ids → end ≤ mid + 2 * walked_length now timed → end ≤ start + 27 * files_size f ids
+pays-both f now ids webm c read headed timed start mid end standing written are made same paid walked =
+    let long : sum_by (λ (i : Input). f.size i.file.n) timed ≡ files_size f ids = inputs-size f timed ∙ ap (files_size f) (inputs-timed now ids webm c read headed timed written are made same).of in
+    omega (arith, long, ap (λ (each : LiveFiles). walked_length each timed) standing, walked-within f 0 timed)

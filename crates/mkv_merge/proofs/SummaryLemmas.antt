@@ -4,7 +4,7 @@ use Rattle.std.specs.List.{All, enumerate_from, find, list_any, range_with_len, 
 use Rattle.std.specs.Option.{option_map_or, option_or}
 use Rattle.std.proofs.lemmas.Bool.Decides.{nat_tests}
 use Rattle.std.proofs.lemmas.List.{length-map}
-use Rattle.std.proofs.lemmas.List.Elements.{All-head, All-map, All-tail, filter-append}
+use Rattle.std.proofs.lemmas.List.Elements.{All-cons, All-head, All-map, All-nil, All-tail, filter-append}
 use Rattle.std.proofs.lemmas.List.Folds.{find-append}
 use Rattle.mkv_io.specs.declared.damage.Damage.{Damage}
 use Rattle.mkv_io.specs.LiveFiles.{LiveFiles}
@@ -83,12 +83,15 @@ met-none (ns ∷ numbers) (gs ∷ given) k below =
     ∙ ap (λ (o : Option (ℕ × List Damage)). option_or o (find (λ (link : ℕ × List Damage). link.0 == k) (links_met numbers given))) (zip-none ns (lane_damages gs) k (All-head (All (λ m. m < k)) ns numbers below))
     ∙ met-none numbers given k (All-tail (All (λ m. m < k)) ns numbers below)
 
+abbrev first_of : Option (ℕ × List Damage) → List Damage
+first_of o = option_map_or (λ (link : ℕ × List Damage). link.1) o []
+
 -- so it has no damages
 past-source : (sources : List Source) (k : ℕ) → length sources ≤ k → damages_met sources k ≡ []
 past-source sources k past =
     let many : length (reads_of sources) ≡ length sources = length-map sources (λ (s : Source). s.1) in
     let below : All (All (λ m. m < k)) (inputs_given 0 (reads_of sources)) = numbers-below (λ (each : ℕ × InputRead). is_appended each.1) numbers_of (λ each. All-map (λ m. m ≡ each.0) (λ (t : TakenTrack). each.0) each.1.taken (λ n d inside. refl)) 0 k (reads_of sources) (omega arith) in
-    ap (λ (o : Option (ℕ × List Damage)). option_map_or (λ (link : ℕ × List Damage). link.1) o []) (met-none (inputs_given 0 (reads_of sources)) (lanes_given sources) k below)
+    ap first_of (met-none (inputs_given 0 (reads_of sources)) (lanes_given sources) k below)
 
 -- ---- no lane has a link of an input of a higher number
 
@@ -99,37 +102,24 @@ count-append (n ∷ ns) ms = ap (λ (m : ℕ). max (suc n) m) (count-append ns m
     regroup : (a b c : ℕ) → max a (max b c) ≡ max (max a b) c
     regroup a b c = omega arith
 
--- of these links none is of such an input
-zip-past : (ns : List ℕ) (found : List (List Damage)) (k : ℕ) → count_to ns ≤ k → find (λ (link : ℕ × List Damage). link.0 == k) (zip ns found) ≡ None
-zip-past [] found k past = refl
-zip-past (n ∷ ns) [] k past = refl
-zip-past (n ∷ ns) (d ∷ found) k past =
-    let apart : n ≢ k = below n (count_to ns) k past in
-    ap (λ (is : Bool). if is then Some (n, d) else find (λ (link : ℕ × List Damage). link.0 == k) (zip ns found)) (other-is n k apart)
-    ∙ zip-past ns found k (behind n (count_to ns) k past)
-  where
-    below : (n m k : ℕ) → max (suc n) m ≤ k → n ≢ k
-    below n m k past = omega arith
+within : (n m k : ℕ) → max n m ≤ k → (n ≤ k) × (m ≤ k)
+within n m k past = (omega arith, omega arith)
 
-    behind : (n m k : ℕ) → max (suc n) m ≤ k → m ≤ k
-    behind n m k past = omega arith
+count-below : (ns : List ℕ) (k : ℕ) → count_to ns ≤ k → All (λ m. m < k) ns
+count-below [] k past = All-nil (λ m. m < k)
+count-below (n ∷ ns) k past = let both = within (suc n) (count_to ns) k past in All-cons (λ m. m < k) n ns (omega (arith, both.0)) (count-below ns k both.1)
 
-lanes-past : (f : LiveFiles) (lanes : List PlannedLane) (k : ℕ) → count_to (flat_map (λ (l : PlannedLane). l.inputs) lanes) ≤ k → find (λ (link : ℕ × List Damage). link.0 == k) (flat_map (link_damages f) lanes) ≡ None
-lanes-past f [] k past = refl
-lanes-past f (l ∷ lanes) k past =
-    let both : max (count_to l.inputs) (count_to (flat_map (λ (l : PlannedLane). l.inputs) lanes)) ≤ k = subst (λ (n : ℕ). n ≤ k) (count-append l.inputs (flat_map (λ (l : PlannedLane). l.inputs) lanes)) past in
-    find-append (λ (link : ℕ × List Damage). link.0 == k) (link_damages f l) (flat_map (link_damages f) lanes)
-    ∙ ap (λ (o : Option (ℕ × List Damage)). option_or o (find (λ (link : ℕ × List Damage). link.0 == k) (flat_map (link_damages f) lanes))) (zip-past l.inputs (lane_damages (map (given_in f) l.spec.links)) k (first (count_to l.inputs) _ k both))
-    ∙ lanes-past f lanes k (second _ (count_to (flat_map (λ (l : PlannedLane). l.inputs) lanes)) k both)
-  where
-    first : (n m k : ℕ) → max n m ≤ k → n ≤ k
-    first n m k past = omega arith
-
-    second : (n m k : ℕ) → max n m ≤ k → m ≤ k
-    second n m k past = omega arith
+lanes-below : (lanes : List PlannedLane) (k : ℕ) → count_to (flat_map (λ (l : PlannedLane). l.inputs) lanes) ≤ k → All (All (λ m. m < k)) (map (λ (l : PlannedLane). l.inputs) lanes)
+lanes-below [] k past = All-nil (All (λ m. m < k))
+lanes-below (l ∷ lanes) k past =
+    let rest : List ℕ = flat_map (λ (l : PlannedLane). l.inputs) lanes in
+    let both = within (count_to l.inputs) (count_to rest) k (subst (λ (n : ℕ). n ≤ k) (count-append l.inputs rest) past) in
+    All-cons (All (λ m. m < k)) l.inputs (map (λ (l : PlannedLane). l.inputs) lanes) (count-below l.inputs k both.0) (lanes-below lanes k both.1)
 
 pub past-damages : (f : LiveFiles) (lanes : List PlannedLane) (k : ℕ) → count_to (flat_map (λ (l : PlannedLane). l.inputs) lanes) ≤ k → damages_of f lanes k ≡ []
-past-damages f lanes k past = ap (λ (o : Option (ℕ × List Damage)). option_map_or (λ (link : ℕ × List Damage). link.1) o []) (lanes-past f lanes k past)
+past-damages f lanes k past =
+    ap (first_met k) (links-are f lanes)
+    ∙ ap first_of (met-none (map (λ (l : PlannedLane). l.inputs) lanes) (map (map (given_in f)) (links_of lanes)) k (lanes-below lanes k past))
 
 -- ---- what is told of one input
 

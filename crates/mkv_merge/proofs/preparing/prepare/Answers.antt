@@ -2,13 +2,11 @@
 use Rattle.std.proofs.Common.{◌≡◌, None, List, Err, length, map, sym, ◌∙◌, ap, subst, arith}
 use Rattle.std.proofs.lemmas.List.{length-map}
 use Rattle.std.proofs.lemmas.Result.{err_from_is_err_and}
-use Rattle.mkv_io.specs.LiveFiles.{LiveFiles}
 use Rattle.mkv_io.specs.Sources.{live_files}
 use Rattle.mkv_io.specs.declared.outside.FileId.{FileId}
 use Rattle.merge_inputs.specs.Input.{read_in}
 use Rattle.merge_inputs.specs.declared.input.Input.{Input}
 use Rattle.merge_plan.specs.Appending.{append_refusal}
-use Rattle.merge_plan.specs.Placed.{StandInPlace, walked_length}
 use Rattle.merge_plan.specs.Planned.{CanBeWritten, IsPlanOf, Plans}
 use Rattle.merge_plan.specs.Refusal.{plan_refusal}
 use Rattle.mkv_merge.proofs.PreparingLemmas.{chapters-ended, differs-refused, input-ended, pays-both, plan-ended, plan-found, times-ended}
@@ -60,33 +58,19 @@ pub returns-in_err-plan-clause-exact : goal.returns-in_err-plan-clause-exact
 returns-in_err-plan-clause-exact g c = λ contents told.
     let p = err_from_is_err_and c.from_residual-in_err-plan.result c.from_residual-in_err-plan.ensures.1 in
     let words = c.args.words.now in
-    let ids = c.args.files.now in
-    let f = live_files g.R.Reads c.args.src.now in
-    let timed : List Input = c.in_ok-timed.timed in
-    let placed : List Input = c.in_ok-inputs.inputs in
-    let are = inputs-timed (live_files g.R.Reads c.read_inputs.new.src) ids c.args.words.now.webm c.args.texts.chapters c.in_ok-read.read c.in_ok-chaptered.chaptered timed
-    c.requires.chapters c.in_ok-read.ensures.inputs c.in_ok-chaptered.ensures.exact c.in_ok-timed.ensures.same in
-    let same : live_files g.R.Reads c.read_inputs.new.src ≡ f = ap g.R.Reads.files c.in_ok-read.ensures.reading.standing in
     rw (p.1, p.2)
-    (plan-ended words c.args.texts contents c.in_ok-read.read c.in_ok-chaptered.chaptered (c.in_ok-read.ensures.exact contents told) c.in_ok-chaptered.ensures.exact timed c.in_ok-timed.ensures.exact
-    f ids placed are.of c.in_ok-inputs.ensures.placed.files told (ap append_refusal (sym (ap (map read_in) c.as_slice.ensures)) ∙ sym c.append_refusal.ensures ∙ c.in_default.is)
-    (subst (λ (now : LiveFiles). StandInPlace now timed placed) same c.in_ok-inputs.ensures.exact)
+    (plan-ended words c.args.texts contents c.in_ok-read.read c.in_ok-chaptered.chaptered (c.in_ok-read.ensures.exact contents told) c.in_ok-chaptered.ensures.exact c.in_ok-timed.timed c.in_ok-timed.ensures.exact
+    (live_files g.R.Reads c.args.src.now) (live_files g.R.Reads c.read_inputs.new.src) c.args.files.now c.in_ok-inputs.inputs (ap g.R.Reads.files c.in_ok-read.ensures.reading.standing) c.requires.chapters c.in_ok-read.ensures.inputs c.in_ok-timed.ensures.same
+    c.in_ok-inputs.ensures.placed.files told (ap append_refusal (sym (ap (map read_in) c.as_slice.ensures)) ∙ sym c.append_refusal.ensures ∙ c.in_default.is) c.in_ok-inputs.ensures.exact
     c.in_err-plan.field-0.0 (subst (λ (inputs : List Input). Plans words inputs (Err c.in_err-plan.field-0.0)) c.as_slice-2.ensures c.in_err-plan.ensures.exact))
 
 -- they are
 pub returns-clause-exact : goal.returns-clause-exact
 returns-clause-exact g c = λ contents told.
     let words = c.args.words.now in
-    let ids = c.args.files.now in
-    let f = live_files g.R.Reads c.args.src.now in
-    let timed : List Input = c.in_ok-timed.timed in
-    let placed : List Input = c.in_ok-inputs.inputs in
-    let are = inputs-timed (live_files g.R.Reads c.read_inputs.new.src) ids c.args.words.now.webm c.args.texts.chapters c.in_ok-read.read c.in_ok-chaptered.chaptered timed
-    c.requires.chapters c.in_ok-read.ensures.inputs c.in_ok-chaptered.ensures.exact c.in_ok-timed.ensures.same in
-    let same : live_files g.R.Reads c.read_inputs.new.src ≡ f = ap g.R.Reads.files c.in_ok-read.ensures.reading.standing in
-    plan-found words c.args.texts contents c.in_ok-read.read c.in_ok-chaptered.chaptered (c.in_ok-read.ensures.exact contents told) c.in_ok-chaptered.ensures.exact timed c.in_ok-timed.ensures.exact
-    f ids placed are.of c.in_ok-inputs.ensures.placed.files told (ap append_refusal (sym (ap (map read_in) c.as_slice.ensures)) ∙ sym c.append_refusal.ensures ∙ c.in_default.is)
-    (subst (λ (now : LiveFiles). StandInPlace now timed placed) same c.in_ok-inputs.ensures.exact)
+    plan-found words c.args.texts contents c.in_ok-read.read c.in_ok-chaptered.chaptered (c.in_ok-read.ensures.exact contents told) c.in_ok-chaptered.ensures.exact c.in_ok-timed.timed c.in_ok-timed.ensures.exact
+    (live_files g.R.Reads c.args.src.now) (live_files g.R.Reads c.read_inputs.new.src) c.args.files.now c.in_ok-inputs.inputs (ap g.R.Reads.files c.in_ok-read.ensures.reading.standing) c.requires.chapters c.in_ok-read.ensures.inputs c.in_ok-timed.ensures.same
+    c.in_ok-inputs.ensures.placed.files told (ap append_refusal (sym (ap (map read_in) c.as_slice.ensures)) ∙ sym c.append_refusal.ensures ∙ c.in_default.is) c.in_ok-inputs.ensures.exact
     None (ap (plan_refusal words) (sym (ap (map read_in) c.as_slice-2.ensures)) ∙ c.in_ok-plan.ensures.exact.0)
 
 pub returns-clause-prepared : goal.returns-clause-prepared
@@ -106,33 +90,18 @@ returns-clause-prepared g c =
 
 pub returns-in_err-inputs-clause-octets : goal.returns-in_err-inputs-clause-octets
 returns-in_err-inputs-clause-octets g c =
-    let ids = c.args.files.now in
-    let f = live_files g.R.Reads c.args.src.now in
-    let timed : List Input = c.in_ok-timed.timed in
-    let are = inputs-timed (live_files g.R.Reads c.read_inputs.new.src) ids c.args.words.now.webm c.args.texts.chapters c.in_ok-read.read c.in_ok-chaptered.chaptered timed
-    c.requires.chapters c.in_ok-read.ensures.inputs c.in_ok-chaptered.ensures.exact c.in_ok-timed.ensures.same in
-    let same : live_files g.R.Reads c.read_inputs.new.src ≡ f = ap g.R.Reads.files c.in_ok-read.ensures.reading.standing in
-    pays-both f ids timed (g.R.Reads.octets_read c.args.src.now) (g.R.Reads.octets_read c.read_inputs.new.src) (g.R.Reads.octets_read c.set_in_place.new.src) are.of c.read_inputs.ensures.octets
-    (omega (arith, c.set_in_place.ensures.octets, ap (λ (now : LiveFiles). walked_length now timed) same))
+    pays-both (live_files g.R.Reads c.args.src.now) (live_files g.R.Reads c.read_inputs.new.src) c.args.files.now c.args.words.now.webm c.args.texts.chapters c.in_ok-read.read c.in_ok-chaptered.chaptered c.in_ok-timed.timed
+    (g.R.Reads.octets_read c.args.src.now) (g.R.Reads.octets_read c.read_inputs.new.src) (g.R.Reads.octets_read c.set_in_place.new.src) (ap g.R.Reads.files c.in_ok-read.ensures.reading.standing)
+    c.requires.chapters c.in_ok-read.ensures.inputs c.in_ok-chaptered.ensures.exact c.in_ok-timed.ensures.same c.read_inputs.ensures.octets c.set_in_place.ensures.octets
 
 pub returns-in_err-plan-clause-octets : goal.returns-in_err-plan-clause-octets
 returns-in_err-plan-clause-octets g c =
-    let ids = c.args.files.now in
-    let f = live_files g.R.Reads c.args.src.now in
-    let timed : List Input = c.in_ok-timed.timed in
-    let are = inputs-timed (live_files g.R.Reads c.read_inputs.new.src) ids c.args.words.now.webm c.args.texts.chapters c.in_ok-read.read c.in_ok-chaptered.chaptered timed
-    c.requires.chapters c.in_ok-read.ensures.inputs c.in_ok-chaptered.ensures.exact c.in_ok-timed.ensures.same in
-    let same : live_files g.R.Reads c.read_inputs.new.src ≡ f = ap g.R.Reads.files c.in_ok-read.ensures.reading.standing in
-    pays-both f ids timed (g.R.Reads.octets_read c.args.src.now) (g.R.Reads.octets_read c.read_inputs.new.src) (g.R.Reads.octets_read c.set_in_place.new.src) are.of c.read_inputs.ensures.octets
-    (omega (arith, c.set_in_place.ensures.octets, ap (λ (now : LiveFiles). walked_length now timed) same))
+    pays-both (live_files g.R.Reads c.args.src.now) (live_files g.R.Reads c.read_inputs.new.src) c.args.files.now c.args.words.now.webm c.args.texts.chapters c.in_ok-read.read c.in_ok-chaptered.chaptered c.in_ok-timed.timed
+    (g.R.Reads.octets_read c.args.src.now) (g.R.Reads.octets_read c.read_inputs.new.src) (g.R.Reads.octets_read c.set_in_place.new.src) (ap g.R.Reads.files c.in_ok-read.ensures.reading.standing)
+    c.requires.chapters c.in_ok-read.ensures.inputs c.in_ok-chaptered.ensures.exact c.in_ok-timed.ensures.same c.read_inputs.ensures.octets c.set_in_place.ensures.octets
 
 pub returns-clause-octets : goal.returns-clause-octets
 returns-clause-octets g c =
-    let ids = c.args.files.now in
-    let f = live_files g.R.Reads c.args.src.now in
-    let timed : List Input = c.in_ok-timed.timed in
-    let are = inputs-timed (live_files g.R.Reads c.read_inputs.new.src) ids c.args.words.now.webm c.args.texts.chapters c.in_ok-read.read c.in_ok-chaptered.chaptered timed
-    c.requires.chapters c.in_ok-read.ensures.inputs c.in_ok-chaptered.ensures.exact c.in_ok-timed.ensures.same in
-    let same : live_files g.R.Reads c.read_inputs.new.src ≡ f = ap g.R.Reads.files c.in_ok-read.ensures.reading.standing in
-    pays-both f ids timed (g.R.Reads.octets_read c.args.src.now) (g.R.Reads.octets_read c.read_inputs.new.src) (g.R.Reads.octets_read c.set_in_place.new.src) are.of c.read_inputs.ensures.octets
-    (omega (arith, c.set_in_place.ensures.octets, ap (λ (now : LiveFiles). walked_length now timed) same))
+    pays-both (live_files g.R.Reads c.args.src.now) (live_files g.R.Reads c.read_inputs.new.src) c.args.files.now c.args.words.now.webm c.args.texts.chapters c.in_ok-read.read c.in_ok-chaptered.chaptered c.in_ok-timed.timed
+    (g.R.Reads.octets_read c.args.src.now) (g.R.Reads.octets_read c.read_inputs.new.src) (g.R.Reads.octets_read c.set_in_place.new.src) (ap g.R.Reads.files c.in_ok-read.ensures.reading.standing)
+    c.requires.chapters c.in_ok-read.ensures.inputs c.in_ok-chaptered.ensures.exact c.in_ok-timed.ensures.same c.read_inputs.ensures.octets c.set_in_place.ensures.octets
