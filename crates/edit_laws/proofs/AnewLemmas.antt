@@ -34,21 +34,21 @@ use Rattle.edit_changes.specs.Plan.{if_editable, number_of, twin_of, writes_of_p
 use Rattle.edit_changes.specs.Records.{EditableFile, trees_of}
 use Rattle.edit_changes.specs.SeekHead.{stays}
 use Rattle.edit_plan.proofs.PlanLemmas.{parts-in-order, unless-none}
+use Rattle.edit_laws.proofs.AmongLemmas.{IsAmong}
 use Rattle.edit_laws.proofs.BlockLemmas.{AreAlike}
 use Rattle.edit_laws.proofs.EndLemmas.{twin-none}
-use Rattle.edit_laws.proofs.HeldLemmas.{level-attachments, level-chapters, level-tags}
 use Rattle.edit_laws.proofs.OpenedLemmas.{IsOpened, opened}
 use Rattle.edit_laws.proofs.PlannedLemmas.{in-order}
 use Rattle.edit_laws.proofs.SectionLemmas.{AreFirst, trees-first}
-use Rattle.edit_laws.proofs.TileLemmas.{IsAhead}
 use Rattle.edit_laws.proofs.TreeLemmas.{then-ok}
 use Rattle.edit_laws.specs.Laws.{IsOutside}
 use Rattle.reindex.specs.Index.{file_damage, indexable}
 use Rattle.reindex.specs.Plan.{Index, cues_parts, index_ids, index_with, index_writes, new_cues}
 use Rattle.reindex.specs.Points.{cluster_before, index_points, indexed_tracks, is_indexed, point_in}
 use Rattle.edit_laws.specs.IndexLaws.{HoldsIndex, NewIndexIsWhole, HasSeeksOf, first_seeks}
-use Rattle.edit_laws.proofs.CuesLemmas.{HoldsCues, cues-are, cues-hold, level-info, level-tracks, new-own}
+use Rattle.edit_laws.proofs.CuesLemmas.{HoldsCues, cues-are, cues-hold, new-own}
 use Rattle.edit_laws.proofs.PointLemmas.{IsAtTick, each-has, hidden-none, indexable-whole, indexed-time}
+use Rattle.edit_laws.proofs.ItemLemmas.{names}
 
 -- ---- an undamaged file
 
@@ -61,7 +61,7 @@ AreBlocks (Err d ∷ found) = ⊥
 -- No damage ends level 1, and none stands in a Cluster.
 record AreUndamaged (r : Rules) (bytes : List ℕ) (e : ℕ) (list : List Header) (wrong : Option Damage) : Type 0 where
   level : wrong ≡ None
-  clusters : (h : Header) → (h.id == CLUSTER) ≡ true → IsAhead list h → AreBlocks (found_in r bytes e h)
+  clusters : (h : Header) → (h.id == CLUSTER) ≡ true → IsAmong list h → AreBlocks (found_in r bytes e h)
 
 then-undamaged : (closed : Bool) (found : List Found) (rest : List Event) → damages_of (events_then closed found rest) ≡ [] → AreBlocks found × (damages_of rest ≡ [])
 then-undamaged closed [] rest is = (tt, is)
@@ -112,11 +112,11 @@ alike-same (Err d ∷ xs) ys are alike = absurd are
 -- ---- the points
 
 -- the Cluster before a place is one of the list
-before-ahead : (at : ℕ) (list : List Header) (c : Header) → cluster_before at list ≡ Some c → IsAhead list c
+before-ahead : (at : ℕ) (list : List Header) (c : Header) → cluster_before at list ≡ Some c → IsAmong list c
 before-ahead at [] c is = absurd (cc)
 before-ahead at (h ∷ hs) c is = of (cluster_before at hs) (before-ahead at hs c) (h.id == CLUSTER && nat_lt h.offset at) is
   where
-    of : (later : Option Header) → (later ≡ Some c → IsAhead hs c) → (test : Bool) → option_or later (if test then Some h else None) ≡ Some c → (h ≡ c) ⊎ IsAhead hs c
+    of : (later : Option Header) → (later ≡ Some c → IsAmong hs c) → (test : Bool) → option_or later (if test then Some h else None) ≡ Some c → (h ≡ c) ⊎ IsAmong hs c
     of (Some k) further test is = inr (further is)
     of None further true is = inl (cc)
     of None further false is = absurd (cc)
@@ -208,7 +208,7 @@ module _ (bytes : List ℕ) (f : EditableFile) (is : indexable bytes ≡ Ok f) w
 
   holds-index : (new : List ℕ) → HoldsCues bytes new f.outline (index_points bytes segment f.trees.tracks) → HoldsIndex bytes new f (index_points bytes segment f.trees.tracks)
   holds-index new h =
-      let info = h.rest.tree INFO (h.untouched INFO level-info refl refl refl) in
+      let info = h.rest.tree INFO (h.untouched INFO names.info.level refl refl refl) in
       let same : scale ≡ file_scale new h.rest.segment = scale-tree bytes segment ∙ sym (scale-tree new h.rest.segment ∙ ap scale_read info) in
       record {
         segment = h.rest.segment;
@@ -218,10 +218,10 @@ module _ (bytes : List ℕ) (f : EditableFile) (is : indexable bytes ≡ Ok f) w
         whole = ap (λ (r : Run). r.damage) h.rest.run;
         undamaged = subst (λ n. damages_of (events_of (with_limits n) new h.rest.segment) ≡ []) same (h.rest.undamaged (with_limits scale) (indexable-whole bytes f is).undamaged);
         info = info;
-        tracks = h.rest.tree TRACKS (h.untouched TRACKS level-tracks refl refl refl);
-        attachments = h.rest.attached first.files (h.untouched ATTACHMENTS level-attachments refl refl refl) first.attached ∙ sym first.attached;
-        chapters = h.rest.tree CHAPTERS (h.untouched CHAPTERS level-chapters refl refl refl);
-        tags = h.rest.tree TAGS (h.untouched TAGS level-tags refl refl refl);
+        tracks = h.rest.tree TRACKS (h.untouched TRACKS names.tracks.level refl refl refl);
+        attachments = h.rest.attached first.files (h.untouched ATTACHMENTS names.attachments.level refl refl refl) first.attached ∙ sym first.attached;
+        chapters = h.rest.tree CHAPTERS (h.untouched CHAPTERS names.chapters.level refl refl refl);
+        tags = h.rest.tree TAGS (h.untouched TAGS names.tags.level refl refl refl);
         blocks = h.rest.blocks;
         cues = subst (λ list. CuesAre new list (index_points bytes segment f.trees.tracks)) (sym (ap (λ (r : Run). r.list) h.rest.run)) h.cues;
         points_at = subst (λ n. All (PointsAtBlock n new h.rest.segment) (index_points bytes segment f.trees.tracks)) same

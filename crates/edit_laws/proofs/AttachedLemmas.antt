@@ -1,13 +1,12 @@
 -- The attached files of an Attachments Element that two contents share.
-use Rattle.std.proofs.Common.{is_none, ◌≡◌, ◌==◌, ℕ, ◌+◌, Bool, true, false, if◌then◌else◌, List, [], ◌∷◌, ◌++◌, map, filter, flat_map, All, Option, Some, None, Result, Ok, Err, refl, sym, ◌∙◌, ap, subst}
-use Rattle.std.specs.Bool.{⊤}
+use Rattle.std.proofs.Common.{is_none, ◌≡◌, ◌==◌, ℕ, ◌+◌, Bool, true, false, if◌then◌else◌, List, [], ◌∷◌, map, filter, flat_map, All, Option, Some, None, Result, Ok, Err, refl, sym, ◌∙◌, ap, subst}
 use Rattle.std.specs.Option.{is_some, option_map_or}
 use Rattle.std.proofs.lemmas.List.Elements.{All-head, All-tail, All-filter, All-weaker}
 use Rattle.mkv_schema.specs.declared.ids.TheConstants.{ATTACHED_FILE, FILE_DATA, FILE_UID}
 use Rattle.mkv_io.specs.declared.damage.Damage.{Damage}
 use Rattle.mkv_schema.specs.declared.element.Header.{Header}
 use Rattle.mkv_io.specs.declared.damage.Kind.TheVariants.{MissingChild}
-use Rattle.mkv_schema.specs.Element.{damage, known, stated_end}
+use Rattle.mkv_schema.specs.Element.{damage, known, stated_end, in_master}
 use Rattle.mkv_schema.specs.Elements.{never}
 use Rattle.mkv_schema.specs.Outline.{first_damage, first_refusal, where_it}
 use Rattle.mkv_io.specs.Results.{unless}
@@ -18,7 +17,7 @@ use Rattle.tree_format.specs.Values.{uint_in}
 use Rattle.meta_records.specs.Attachments.{Met, children_of, part_of, is_attached, ended, met_in, at_part, parts_in, at_child, causes, refused_from, refused_in, data_in, missing_data, attached_in, too_many_files, leaf_of, entry_of}
 use Rattle.meta_records.specs.Attached.{AttachedFile, file_at, files_at}
 use Rattle.edit_laws.proofs.RunLemmas.{AreAlikeRuns, runs-alike, run-inside, StandsInside}
-use Rattle.edit_laws.proofs.BlockLemmas.{IsHeld, shared-body, map-same}
+use Rattle.edit_laws.proofs.BlockLemmas.{AreAlike, IsHeld, alike-append, map-same, shared-body}
 use Rattle.edit_laws.proofs.ClusterLemmas.{held-inside}
 
 module _ (a b : List ℕ) where
@@ -33,7 +32,7 @@ module _ (a b : List ℕ) where
       let inside = shared-body a b h own.shared in
       record {
         alike = runs-alike never a b h.body (stated_end h) own.left own.right inside;
-        held = All-weaker (StandsInside h.body (stated_end h)) (IsHeld a b) (λ c is. held-inside a b h.body (stated_end h) c own.left own.right inside is) (children_of a h).list (run-inside never a h.body (stated_end h));
+        held = All-weaker (StandsInside h.body (stated_end h)) (IsHeld a b) (λ c is. held-inside a b h.body (stated_end h) c own.left own.right inside is) (children_of a h).list (run-inside in_master (λ id. refl) never a (stated_end h) h.body);
       }
 
   list-same : (h : Header) → IsHeld a b h → (children_of b h).list ≡ (children_of a h).list
@@ -60,56 +59,34 @@ module _ (a b : List ℕ) where
 
   -- ---- what is met
 
-  abbrev AreMet : List (Result Met Damage) → List (Result Met Damage) → Type 0
-  AreMet [] [] = ⊤
-  AreMet [] (y ∷ ys) = ⊥
-  AreMet (x ∷ xs) [] = ⊥
-  AreMet (Ok m ∷ xs) (Ok n ∷ ys) = (m ≡ n) × AreMet xs ys
-  AreMet (Ok m ∷ xs) (Err d ∷ ys) = ⊥
-  AreMet (Err c ∷ xs) (Ok n ∷ ys) = ⊥
-  AreMet (Err c ∷ xs) (Err d ∷ ys) = ⊤
-
-  met-append : (xs ys us vs : List (Result Met Damage)) → AreMet xs ys → AreMet us vs → AreMet (xs ++ us) (ys ++ vs)
-  met-append [] [] us vs one two = two
-  met-append [] (y ∷ ys) us vs one two = absurd one
-  met-append (x ∷ xs) [] us vs one two = of x one
-    where
-      of : (x : Result Met Damage) → AreMet (x ∷ xs) [] → AreMet (x ∷ xs ++ us) vs
-      of (Ok m) none = absurd none
-      of (Err d) none = absurd none
-  met-append (Ok m ∷ xs) (Ok n ∷ ys) us vs one two = (one.0, met-append xs ys us vs one.1 two)
-  met-append (Ok m ∷ xs) (Err d ∷ ys) us vs one two = absurd one
-  met-append (Err c ∷ xs) (Ok n ∷ ys) us vs one two = absurd one
-  met-append (Err c ∷ xs) (Err d ∷ ys) us vs one two = tt
-
-  ended-met : (one two : Option Damage) → is_some one ≡ is_some two → AreMet (ended one) (ended two)
+  ended-met : (one two : Option Damage) → is_some one ≡ is_some two → AreAlike (ended one) (ended two)
   ended-met None None same = tt
   ended-met None (Some d) same = absurd (cc)
   ended-met (Some c) None same = absurd (cc)
   ended-met (Some c) (Some d) same = tt
 
-  all-met : (f g : Header → List (Result Met Damage)) (hs : List Header) → ((h : Header) → IsHeld a b h → AreMet (f h) (g h)) → All (IsHeld a b) hs → AreMet (flat_map f hs) (flat_map g hs)
+  all-met : (f g : Header → List (Result Met Damage)) (hs : List Header) → ((h : Header) → IsHeld a b h → AreAlike (f h) (g h)) → All (IsHeld a b) hs → AreAlike (flat_map f hs) (flat_map g hs)
   all-met f g [] each held = tt
-  all-met f g (h ∷ hs) each held = met-append (f h) (g h) (flat_map f hs) (flat_map g hs) (each h (All-head (IsHeld a b) h hs held)) (all-met f g hs each (All-tail (IsHeld a b) h hs held))
+  all-met f g (h ∷ hs) each held = alike-append (f h) (g h) (flat_map f hs) (flat_map g hs) (each h (All-head (IsHeld a b) h hs held)) (all-met f g hs each (All-tail (IsHeld a b) h hs held))
 
-  run-met : (f g : Header → List (Result Met Damage)) (h : Header) → ((c : Header) → IsHeld a b c → AreMet (f c) (g c)) → IsHeld a b h → AreMet (met_in f (children_of a h)) (met_in g (children_of b h))
+  run-met : (f g : Header → List (Result Met Damage)) (h : Header) → ((c : Header) → IsHeld a b c → AreAlike (f c) (g c)) → IsHeld a b h → AreAlike (met_in f (children_of a h)) (met_in g (children_of b h))
   run-met f g h each own =
       let has = children-held h own in
-      met-append (flat_map f (children_of a h).list) (flat_map g (children_of b h).list) _ _
-      (subst (λ (l : List Header). AreMet (flat_map f (children_of a h).list) (flat_map g l)) has.alike.list (all-met f g (children_of a h).list each has.held))
+      alike-append (flat_map f (children_of a h).list) (flat_map g (children_of b h).list) _ _
+      (subst (λ (l : List Header). AreAlike (flat_map f (children_of a h).list) (flat_map g l)) has.alike.list (all-met f g (children_of a h).list each has.held))
       (ended-met (children_of a h).damage (children_of b h).damage has.alike.damage)
 
-  part-met : (h : Header) → IsHeld a b h → AreMet (at_part a h) (at_part b h)
+  part-met : (h : Header) → IsHeld a b h → AreAlike (at_part a h) (at_part b h)
   part-met h own = (ap (λ (o : List ℕ). record (part_of a h) { fits = is_known_value ATTACHED_FILE h.id o }) (sym (shared-body a b h own.shared)), tt)
 
-  child-met : (h : Header) → IsHeld a b h → AreMet (at_child a h) (at_child b h)
+  child-met : (h : Header) → IsHeld a b h → AreAlike (at_child a h) (at_child b h)
   child-met h own = (refl, of (is_attached h))
     where
-      of : (test : Bool) → AreMet (if test then parts_in a h else []) (if test then parts_in b h else [])
+      of : (test : Bool) → AreAlike (if test then parts_in a h else []) (if test then parts_in b h else [])
       of true = run-met (at_part a) (at_part b) h part-met own
       of false = tt
 
-  refused-none : (octets nodes : ℕ) (xs ys : List (Result Met Damage)) → AreMet xs ys → refused_from octets nodes xs ≡ None → refused_from octets nodes ys ≡ None
+  refused-none : (octets nodes : ℕ) (xs ys : List (Result Met Damage)) → AreAlike xs ys → refused_from octets nodes xs ≡ None → refused_from octets nodes ys ≡ None
   refused-none octets nodes [] [] met none = refl
   refused-none octets nodes [] (y ∷ ys) met none = absurd met
   refused-none octets nodes (x ∷ xs) [] met none = refl

@@ -8,7 +8,7 @@ use Rattle.mkv_schema.specs.declared.ids.TheConstants.{BLOCK_GROUP, BLOCK, BLOCK
 use Rattle.mkv_io.specs.declared.damage.Damage.{Damage}
 use Rattle.mkv_io.specs.declared.damage.Kind.TheVariants.{BadValue}
 use Rattle.mkv_schema.specs.declared.element.Header.{Header}
-use Rattle.mkv_schema.specs.Element.{stated_end, damage}
+use Rattle.mkv_schema.specs.Element.{stated_end, damage, in_master}
 use Rattle.mkv_schema.specs.Elements.{Run, never}
 use Rattle.mkv_schema.specs.Value.{body_of, is_known_value, first_of}
 use Rattle.mkv_schema.specs.Outline.{first_damage, bad_value}
@@ -17,6 +17,7 @@ use Rattle.block_format.specs.Block.{nanoseconds, simple_block_with}
 use Rattle.block_format.specs.Content.{Content, content_in}
 use Rattle.block_format.specs.Elements.{Rules, timestamp_for, at_place, in_time, simple_block, group_run, group_refusal, group_children, block_or, references_among, too_many_references, duration_of, references_of, is_kept, element_octets, kept_of, group_with, group_among, block_group}
 use Rattle.block_format.specs.Events.{Found, found_in_timestamp, found_at, timestamp_behind, found_among}
+use Rattle.edit_laws.proofs.AmongLemmas.{all-among, first-among}
 use Rattle.edit_laws.proofs.SameLemmas.{AreSame, same-part}
 use Rattle.edit_laws.proofs.RunLemmas.{AreAlikeRuns, runs-alike, run-inside, StandsInside}
 
@@ -46,15 +47,8 @@ flat_map-same f g (x ∷ xs) same = ap₂ (λ y ys. y ++ ys) (All-head (λ x. f 
 
 -- ---- what is found
 
--- the same block, or something that is wrong
-abbrev pub IsAlike : Found → Found → Type 0
-IsAlike (Ok x) (Ok y) = x ≡ y
-IsAlike (Ok x) (Err d) = ⊥
-IsAlike (Err c) (Ok y) = ⊥
-IsAlike (Err c) (Err d) = ⊤
-
--- the same blocks, up to the first thing that is wrong
-abbrev pub AreAlike : List Found → List Found → Type 0
+-- the same ones, up to the first thing that is wrong
+abbrev pub AreAlike : {X : Type 0} → List (Result X Damage) → List (Result X Damage) → Type 0
 AreAlike [] [] = ⊤
 AreAlike [] (y ∷ ys) = ⊥
 AreAlike (x ∷ xs) [] = ⊥
@@ -63,29 +57,27 @@ AreAlike (Ok x ∷ xs) (Err d ∷ ys) = ⊥
 AreAlike (Err c ∷ xs) (Ok y ∷ ys) = ⊥
 AreAlike (Err c ∷ xs) (Err d ∷ ys) = ⊤
 
-pub alike-self : (xs : List Found) → AreAlike xs xs
+-- the same block, or something that is wrong
+abbrev IsAlike : Found → Found → Type 0
+IsAlike x y = AreAlike (x ∷ []) (y ∷ [])
+
+alike-self : (xs : List Found) → AreAlike xs xs
 alike-self [] = tt
 alike-self (Ok x ∷ xs) = (refl, alike-self xs)
 alike-self (Err d ∷ xs) = tt
 
-pub alike-append : (xs ys us vs : List Found) → AreAlike xs ys → AreAlike us vs → AreAlike (xs ++ us) (ys ++ vs)
+pub alike-append : {X : Type 0} (xs ys us vs : List (Result X Damage)) → AreAlike xs ys → AreAlike us vs → AreAlike (xs ++ us) (ys ++ vs)
 alike-append [] [] us vs one two = two
 alike-append [] (y ∷ ys) us vs one two = absurd one
-alike-append (x ∷ xs) [] us vs one two = of x one
+alike-append {X = X} (x ∷ xs) [] us vs one two = of x one
   where
-    of : (x : Found) → AreAlike (x ∷ xs) [] → AreAlike (x ∷ xs ++ us) vs
+    of : (x : Result X Damage) → AreAlike (x ∷ xs) [] → AreAlike (x ∷ xs ++ us) vs
     of (Ok x) none = absurd none
     of (Err d) none = absurd none
 alike-append (Ok x ∷ xs) (Ok y ∷ ys) us vs one two = (one.0, alike-append xs ys us vs one.1 two)
 alike-append (Ok x ∷ xs) (Err d ∷ ys) us vs one two = absurd one
 alike-append (Err c ∷ xs) (Ok y ∷ ys) us vs one two = absurd one
 alike-append (Err c ∷ xs) (Err d ∷ ys) us vs one two = tt
-
-one-alike : (x y : Found) → IsAlike x y → AreAlike (x ∷ []) (y ∷ [])
-one-alike (Ok x) (Ok y) is = (is, tt)
-one-alike (Ok x) (Err d) is = absurd is
-one-alike (Err c) (Ok y) is = absurd is
-one-alike (Err c) (Err d) is = tt
 
 -- ---- an Element that two contents share
 
@@ -162,23 +154,6 @@ module _ (a b : List ℕ) (children : List Header) (shared : All (IsShared a b) 
       (All-weaker (IsShared a b) (λ h. not (is_known_value parent h.id (body_of b h)) ≡ not (is_known_value parent h.id (body_of a h)))
       (λ h is. ap (λ o. not (is_known_value parent h.id o)) (shared-body a b h is)) children shared))
 
--- the first of a list that passes has what all have
-pub first-has : {X : Type 0} (P : X → Type 0) (passes : X → Bool) (xs : List X) (x : X) → All P xs → find passes xs ≡ Some x → P x
-first-has P passes [] x all found = absurd (cc)
-first-has P passes (y ∷ ys) x all found = of (λ is. first-has P passes ys x (All-tail P y ys all) is) (passes y) found
-  where
-    of : (find passes ys ≡ Some x → P x) → (test : Bool) → (if test then Some y else find passes ys) ≡ Some x → P x
-    of rest true is = let same : y ≡ x = cc in subst P same (All-head P y ys all)
-    of rest false is = rest is
-
-pub first-passes : {X : Type 0} (passes : X → Bool) (xs : List X) (x : X) → find passes xs ≡ Some x → passes x ≡ true
-first-passes passes [] x found = absurd (cc)
-first-passes passes (y ∷ ys) x found = of (λ is. first-passes passes ys x is) (passes y) refl found
-  where
-    of : (find passes ys ≡ Some x → passes x ≡ true) → (test : Bool) → passes y ≡ test → (if test then Some y else find passes ys) ≡ Some x → passes x ≡ true
-    of rest true same is = let found : y ≡ x = cc in subst (λ z. passes z ≡ true) found same
-    of rest false same is = rest is
-
 -- the block of these children, and the Block among them
 behind-children : (r : Rules) (a b : List ℕ) (timestamp : ℕ) (h : Header) (children : List Header) → All (IsShared a b) children
     → and_then (block_or h (first_of BLOCK children)) (group_among r b timestamp h.offset children) ≡ and_then (block_or h (first_of BLOCK children)) (group_among r a timestamp h.offset children)
@@ -187,11 +162,7 @@ behind-children r a b timestamp h children shared = of (first_of BLOCK children)
     of : (first : Option Header) → first_of BLOCK children ≡ first
         → and_then (block_or h first) (group_among r b timestamp h.offset children) ≡ and_then (block_or h first) (group_among r a timestamp h.offset children)
     of None is = refl
-    of (Some block) is = among-same a b children shared r timestamp h.offset block (first-has (IsShared a b) (λ c. c.id == BLOCK) children block shared is)
-
-found-self : (x : Found) → IsAlike x x
-found-self (Ok x) = refl
-found-self (Err d) = tt
+    of (Some block) is = among-same a b children shared r timestamp h.offset block (all-among (IsShared a b) children block shared (first-among (λ c. c.id == BLOCK) children block is).0)
 
 -- with the children of a run, or what refuses them
 children-alike : (r : Rules) (a b : List ℕ) (timestamp : ℕ) (h : Header) (x y : Run) → AreAlikeRuns x y → All (IsShared a b) x.list
@@ -211,7 +182,7 @@ children-alike r a b timestamp h x y alike shared =
     of None (Some c) (Some d) same = tt
     of None (Some c) None same = absurd (cc)
     of None None (Some d) same = absurd (cc)
-    of None None None same = subst (IsAlike (rest a x.list)) (sym (behind-children r a b timestamp h x.list shared)) (found-self (rest a x.list))
+    of None None None same = subst (IsAlike (rest a x.list)) (sym (behind-children r a b timestamp h x.list shared)) (alike-self (rest a x.list ∷ []))
 
 group-alike : (r : Rules) (a b : List ℕ) (timestamp : Option ℕ) (h : Header) → stated_end h ≤ length a → stated_end h ≤ length b → IsShared a b h → IsAlike (block_group r a timestamp h) (block_group r b timestamp h)
 unfolding block_group
@@ -226,7 +197,7 @@ group-alike r a b timestamp h within within' shared = of (timestamp_for r timest
     of (Err d) = tt
     of (Ok time) =
         children-alike r a b time h (group_run a h) (group_run b h) (runs-alike never a b h.body (stated_end h) within within' inside)
-        (All-weaker (StandsInside h.body (stated_end h)) (IsShared a b) (λ c is. shared-inside a b h.body (stated_end h) c inside is) (group_run a h).list (run-inside never a h.body (stated_end h)))
+        (All-weaker (StandsInside h.body (stated_end h)) (IsShared a b) (λ c is. shared-inside a b h.body (stated_end h) c inside is) (group_run a h).list (run-inside in_master (λ id. refl) never a (stated_end h) h.body))
 
 -- ---- the children of a Cluster
 
@@ -243,8 +214,8 @@ at-alike r a b timestamp h held = of (h.id == TIMESTAMP) (h.id == SIMPLE_BLOCK) 
         → AreAlike (if time then found_in_timestamp h else if simple then simple_block r a timestamp h ∷ [] else if group then block_group r a timestamp h ∷ [] else [])
         (if time then found_in_timestamp h else if simple then simple_block r b timestamp h ∷ [] else if group then block_group r b timestamp h ∷ [] else [])
     of true simple group = alike-self (found_in_timestamp h)
-    of false true group = one-alike (simple_block r a timestamp h) (simple_block r b timestamp h) (subst (IsAlike (simple_block r a timestamp h)) (sym (simple-same r a b timestamp h held.shared)) (found-self (simple_block r a timestamp h)))
-    of false false true = one-alike (block_group r a timestamp h) (block_group r b timestamp h) (group-alike r a b timestamp h held.left held.right held.shared)
+    of false true group = subst (IsAlike (simple_block r a timestamp h)) (sym (simple-same r a b timestamp h held.shared)) (alike-self (simple_block r a timestamp h ∷ []))
+    of false false true = group-alike r a b timestamp h held.left held.right held.shared
     of false false false = tt
 
 pub behind-same : (a b : List ℕ) (timestamp : Option ℕ) (h : Header) → IsHeld a b h → timestamp_behind b timestamp h ≡ timestamp_behind a timestamp h

@@ -1,8 +1,7 @@
 -- The blocks of a Cluster whose octets two contents share.
-use Rattle.std.proofs.Common.{◌≡◌, ◌≤◌, ℕ, ◌==◌, Bool, true, false, if◌then◌else◌, List, [], ◌∷◌, ◌++◌, length, All, Option, Some, None, Ok, Err, refl, sym, ◌∙◌, ap, subst, arith}
+use Rattle.std.proofs.Common.{◌≡◌, ◌≤◌, ℕ, Bool, true, false, if◌then◌else◌, List, [], ◌∷◌, ◌++◌, length, All, Option, Some, None, Ok, Err, refl, sym, ◌∙◌, ap, subst, arith}
 use Rattle.std.specs.Option.{is_some}
 use Rattle.std.proofs.lemmas.List.Elements.{All-head, All-tail, All-weaker}
-use Rattle.mkv_schema.specs.declared.ids.TheConstants.{TIMESTAMP, SIMPLE_BLOCK, BLOCK_GROUP}
 use Rattle.mkv_io.specs.declared.damage.Damage.{Damage}
 use Rattle.mkv_schema.specs.declared.element.Header.{Header}
 use Rattle.mkv_schema.specs.Element.{in_master, is_unknown, end_in}
@@ -12,6 +11,7 @@ use Rattle.block_format.specs.Events.{Found, Event, found_at, timestamp_behind, 
 use Rattle.edit_laws.proofs.SameLemmas.{AreSame}
 use Rattle.edit_laws.proofs.RunLemmas.{runs-alike, run-inside, StandsInside}
 use Rattle.edit_laws.proofs.BlockLemmas.{AreAlike, alike-append, IsHeld, shared-inside, among-alike, at-alike, behind-same}
+use Rattle.edit_laws.specs.Laws.{IsOutside}
 
 -- ---- a Cluster of known size
 
@@ -27,7 +27,7 @@ held-inside a b p e h within within' same inside = let to = inside.to in record 
 known-run : (r : Rules) (a b : List ℕ) (p e : ℕ) → e ≤ length a → e ≤ length b → AreSame a b p e → AreAlike (found_in_run r a None (children_in in_master a p e)) (found_in_run r b None (children_in in_master b p e))
 known-run r a b p e within within' same =
     let alike = runs-alike never a b p e within within' same in
-    let inside = run-inside never a p e in
+    let inside = run-inside in_master (λ id. refl) never a e p in
     let held : All (IsHeld a b) (children_in in_master a p e).list = All-weaker (StandsInside p e) (IsHeld a b) (λ c is. held-inside a b p e c within within' same is) _ inside in
     alike-append (found_among r a None (children_in in_master a p e).list) (found_among r b None (children_in in_master b p e).list) _ _
     (subst (λ l. AreAlike (found_among r a None (children_in in_master a p e).list) (found_among r b None l)) alike.list (among-alike r a b None (children_in in_master a p e).list held))
@@ -41,20 +41,14 @@ known-alike r a b e e' h known ends within within' same =
 
 -- ---- one of unknown size, in which more Elements stand
 
--- an Element that is neither a Timestamp nor a block
-pub record HasNoBlock (h : Header) : Type 0 where
-  pub time : (h.id == TIMESTAMP) ≡ false
-  pub simple : (h.id == SIMPLE_BLOCK) ≡ false
-  pub group : (h.id == BLOCK_GROUP) ≡ false
-
-none-found : (r : Rules) (bytes : List ℕ) (timestamp : Option ℕ) (hs : List Header) → All HasNoBlock hs → found_among r bytes timestamp hs ≡ []
+none-found : (r : Rules) (bytes : List ℕ) (timestamp : Option ℕ) (hs : List Header) → All IsOutside hs → found_among r bytes timestamp hs ≡ []
 none-found r bytes timestamp [] none = refl
 none-found r bytes timestamp (h ∷ hs) none =
-    let own = All-head HasNoBlock h hs none in
-    let here : found_at r bytes timestamp h ≡ [] = rw (own.time, own.simple, own.group) refl in
-    ap (λ xs. xs ++ found_among r bytes (timestamp_behind bytes timestamp h) hs) here ∙ none-found r bytes (timestamp_behind bytes timestamp h) hs (All-tail HasNoBlock h hs none)
+    let own = All-head IsOutside h hs none in
+    let here : found_at r bytes timestamp h ≡ [] = rw (own.timestamp, own.simple, own.group) refl in
+    ap (λ xs. xs ++ found_among r bytes (timestamp_behind bytes timestamp h) hs) here ∙ none-found r bytes (timestamp_behind bytes timestamp h) hs (All-tail IsOutside h hs none)
 
-more-alike : (r : Rules) (a b : List ℕ) (timestamp : Option ℕ) (hs more : List Header) → All (IsHeld a b) hs → All HasNoBlock more → AreAlike (found_among r a timestamp hs) (found_among r b timestamp (hs ++ more))
+more-alike : (r : Rules) (a b : List ℕ) (timestamp : Option ℕ) (hs more : List Header) → All (IsHeld a b) hs → All IsOutside more → AreAlike (found_among r a timestamp hs) (found_among r b timestamp (hs ++ more))
 more-alike r a b timestamp [] more held none = subst (AreAlike []) (sym (none-found r b timestamp more none)) tt
 more-alike r a b timestamp (h ∷ hs) more held none =
     let own = All-head (IsHeld a b) h hs held in
@@ -65,7 +59,7 @@ more-alike r a b timestamp (h ∷ hs) more held none =
 
 pub open-alike : (r : Rules) (a b : List ℕ) (e e' p q : ℕ) (h : Header) (hs more : List Header) → is_unknown h.size ≡ true
     → open_cluster a h.body e ≡ record { list = hs; damage = None; end = p } → open_cluster b h.body e' ≡ record { list = hs ++ more; damage = None; end = q }
-    → All (IsHeld a b) hs → All HasNoBlock more → AreAlike (found_in r a e h) (found_in r b e' h)
+    → All (IsHeld a b) hs → All IsOutside more → AreAlike (found_in r a e h) (found_in r b e' h)
 open-alike r a b e e' p q h hs more unknown left right held none =
     subst (λ (u : Bool). AreAlike (found_in_run r a None (if u then open_cluster a h.body e else children_in in_master a h.body (end_in e h))) (found_in_run r b None (if u then open_cluster b h.body e' else children_in in_master b h.body (end_in e' h)))) (sym unknown)
     (subst (λ x. AreAlike (found_in_run r a None (open_cluster a h.body e)) (found_in_run r b None x)) (sym right)

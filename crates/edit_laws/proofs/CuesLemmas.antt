@@ -9,8 +9,6 @@ use Rattle.std.proofs.lemmas.List.{length-replicate}
 use Rattle.std.proofs.lemmas.List.Elements.{All-nil, All-cons, All-head, All-tail, All-weaker}
 use Rattle.ebml_numbers.specs.Number.{AreOctets, all_ones, is_id}
 use Rattle.ebml_numbers.proofs.NumberLemmas.{is_id-bounds}
-use Rattle.mkv_schema.specs.Schema.{entry_of}
-use Rattle.mkv_schema.specs.Table.{table}
 use Rattle.mkv_schema.specs.declared.ids.TheConstants.{ATTACHMENTS, CHAPTERS, CLUSTER, CUES, INFO, SEEK_HEAD, TAGS, TRACKS}
 use Rattle.mkv_io.specs.declared.outside.TheConstants.{LONGEST_FILE}
 use Rattle.mkv_schema.specs.declared.element.Header.{Header}
@@ -40,8 +38,8 @@ use Rattle.edit_plan.proofs.SitsLemmas.{element-some}
 use Rattle.edit_plan.proofs.VoidLemmas.{first-room}
 use Rattle.edit_laws.proofs.SameLemmas.{InOrder}
 use Rattle.edit_laws.proofs.FillLemmas.{small-widen}
-use Rattle.edit_laws.proofs.HeldLemmas.{IsWritten, level-attachments, level-chapters, level-tags, written-first}
-use Rattle.edit_laws.proofs.ItemLemmas.{IsItem, IsName, Item}
+use Rattle.edit_laws.proofs.HeldLemmas.{IsWritten, written-first}
+use Rattle.edit_laws.proofs.ItemLemmas.{IsItem, IsName, Item, names}
 use Rattle.edit_laws.proofs.OpenedLemmas.{IsOpened}
 use Rattle.edit_laws.proofs.PlannedLemmas.{IsPlanned, head-read, rest-behind, rest-beside, writes-planned}
 use Rattle.edit_laws.proofs.RestLemmas.{HoldsRest, IsUntouched, last-within, small-item, stand}
@@ -50,21 +48,7 @@ use Rattle.edit_laws.specs.Laws.{IsOutside}
 use Rattle.edit_laws.specs.IndexLaws.{first_seeks}
 use Rattle.reindex.specs.Plan.{cues_part, cues_parts, index_ids, new_cues}
 
--- ---- IDs that end a Cluster
-
-pub level-info : ends_cluster INFO ≡ true
-unfolding entry_of table
-level-info = refl
-
-pub level-tracks : ends_cluster TRACKS ≡ true
-unfolding entry_of table
-level-tracks = refl
-
 -- ---- a Cues as it is written
-
-cues-name : IsName CUES
-unfolding entry_of table
-cues-name = record { cluster = refl; void = refl; level = refl; inner = refl }
 
 cues-valid : is_id CUES ≡ true
 unfolding is_id
@@ -95,7 +79,7 @@ gone-item others h room first short =
     let body : length (replicate {A = ℕ} room 0) ≡ room = length-replicate room 0 in
     record {
       first = first;
-      name = cues-name;
+      name = names.cues;
       widen = record {
         own = record { id_stands = cues-valid; some = omega arith; most = omega arith; fits = (let fit : 2 ^ 48 < all_ones 7 = omega arith in omega arith) };
         wide = omega arith;
@@ -227,11 +211,23 @@ module _ (bytes : List ℕ) (are_octets : AreOctets bytes) (short : length bytes
         ap (λ (es : List Element). filter_map (seek_for (seeks_from (o.total - o.segment.body) es) o ps) index_ids) moved
         ∙ filter_map-same (seek_for (seeks_from (o.total - o.segment.body) added) o ps) (λ id. option_map (seek_to o.segment.body) (first_of id rest.list)) index_ids
         (six (λ id. seek_for (seeks_from (o.total - o.segment.body) added) o ps id ≡ option_map (seek_to o.segment.body) (first_of id rest.list))
-        (other-seek INFO level-info refl refl refl) (other-seek TRACKS level-tracks refl refl refl) (other-seek ATTACHMENTS level-attachments refl refl refl) cues
-        (other-seek CHAPTERS level-chapters refl refl refl) (other-seek TAGS level-tags refl refl refl))
+        (other-seek INFO names.info.level refl refl refl) (other-seek TRACKS names.tracks.level refl refl refl) (other-seek ATTACHMENTS names.attachments.level refl refl refl) cues
+        (other-seek CHAPTERS names.chapters.level refl refl refl) (other-seek TAGS names.tags.level refl refl refl))
 
     seeks-written : IsWritten new SEEK_HEAD (seek_head_body index_ids (first_seeks index_ids o.segment.body rest.list) (children (head-read bytes o s op is).tree)) rest.list
     seeks-written = subst (λ (body : List ℕ). IsWritten new SEEK_HEAD body rest.list) (ap₂ (seek_head_body index_ids) seeks-are (head-read bytes o s op is).seeks) written
+
+    holds : (points : List CuePoint) → CuesAre new rest.list points → HoldsCues bytes new o points
+    holds points are = record {
+      items = items;
+      added = added;
+      rest = rest;
+      untouched = untouched;
+      cues = are;
+      old_head = (head-read bytes o s op is).tree;
+      read = (head-read bytes o s op is).read;
+      seeks = seeks-written;
+    }
 
   -- a Seek of a Cues, where it stands at a place
   abbrev seek_at : ℕ → ℕ → Option Seek
@@ -250,17 +246,9 @@ module _ (bytes : List ℕ) (are_octets : AreOctets bytes) (short : length bytes
       let head : Item = record { header = plan.0.header; element = seek_head index_ids o [] (Some plan.0) } in
       let rest = rest-beside bytes are_octets short o ws op undamaged order outside_all index_ids [] plan.0 plan.2 [] (All-nil (IsItem others)) tt (All-nil (λ (i : Item). (i.element.id == SEEK_HEAD) ≡ false)) refl refl in
       let untouched = untouched-by head [] [] refl (All-nil (λ (i : Item). i.element.id ≡ CUES)) (All-nil (λ (d : Element). d.id ≡ CUES)) in
-      record {
-        items = head ∷ [];
-        added = [];
-        rest = rest;
-        untouched = untouched;
-        cues = rest.joins CUES cues-name.level (no-cues head refl) (none-listed none);
-        old_head = (head-read bytes o plan.0 op plan.1).tree;
-        read = (head-read bytes o plan.0 op plan.1).read;
-        seeks = seeks-written [] plan.0 plan.1 (head ∷ []) [] rest untouched refl (rest.stays head (inl refl) plan.2.reaches).0 (λ id other. refl)
-            (ap (option_map (seek_to o.segment.body)) (ap (first_of CUES) op.others ∙ none) ∙ sym (ap (option_map (seek_to o.segment.body)) (rest.joins CUES cues-name.level (no-cues head refl) (none-listed none))));
-      }
+      let lacks = rest.joins CUES names.cues.level (no-cues head refl) (none-listed none) in
+      holds [] plan.0 plan.1 (head ∷ []) [] rest untouched refl (rest.stays head (inl refl) plan.2.reaches).0 (λ id other. refl)
+      (ap (option_map (seek_to o.segment.body)) (ap (first_of CUES) op.others ∙ none ∙ sym lacks)) [] lacks
 
   -- there is none, and one is written behind the old end
   none-new : (p : CuePoint) (ps : List CuePoint) → first_of CUES others ≡ None → writes_of_parts index_ids true bytes o (cues_moves 0 0 (cues_of (p ∷ ps))) ≡ Ok ws → HoldsCues bytes new o (p ∷ ps)
@@ -276,19 +264,11 @@ module _ (bytes : List ℕ) (are_octets : AreOctets bytes) (short : length bytes
       let all = length-octets_of e in
       let own = (small-widen CUES e.body cues-valid (omega arith)).own in
       let rest = rest-behind bytes are_octets short o ws op undamaged order outside_all index_ids parts plan.0 plan.2 [] (All-nil (IsItem others)) tt (All-nil (λ (i : Item). (i.element.id == SEEK_HEAD) ≡ false)) refl
-      moved.0 e [] moved.1 (All-cons IsElement e [] own (All-nil IsElement)) (All-cons (λ (d : Element). IsName d.id) e [] cues-name (All-nil (λ (d : Element). IsName d.id))) in
+      moved.0 e [] moved.1 (All-cons IsElement e [] own (All-nil IsElement)) (All-cons (λ (d : Element). IsName d.id) e [] names.cues (All-nil (λ (d : Element). IsName d.id))) in
       let untouched = untouched-by head [] (e ∷ []) refl (All-nil (λ (i : Item). i.element.id ≡ CUES)) (All-cons (λ (d : Element). d.id ≡ CUES) e [] refl (All-nil (λ (d : Element). d.id ≡ CUES))) in
-      record {
-        items = head ∷ [];
-        added = e ∷ [];
-        rest = rest;
-        untouched = untouched;
-        cues = written-are new rest.list p ps (written-first new CUES e.body (headers_in_place (length bytes) (e ∷ [])) rest.list (rest.joins CUES cues-name.level (no-cues head refl) (none-listed none)) (alone-written new (length bytes) e.body rest.held));
-        old_head = (head-read bytes o plan.0 op plan.1).tree;
-        read = (head-read bytes o plan.0 op plan.1).read;
-        seeks = seeks-written parts plan.0 plan.1 (head ∷ []) (e ∷ []) rest untouched moved.1 (rest.stays head (inl refl) plan.2.reaches).0 (λ id other. rw other refl)
-            (added-seek e.body rest.list (rest.joins CUES cues-name.level (no-cues head refl) (none-listed none)));
-      }
+      let joins = rest.joins CUES names.cues.level (no-cues head refl) (none-listed none) in
+      holds parts plan.0 plan.1 (head ∷ []) (e ∷ []) rest untouched moved.1 (rest.stays head (inl refl) plan.2.reaches).0 (λ id other. rw other refl) (added-seek e.body rest.list joins)
+      (p ∷ ps) (written-are new rest.list p ps (written-first new CUES e.body (headers_in_place (length bytes) (e ∷ [])) rest.list joins (alone-written new (length bytes) e.body rest.held)))
 
   -- there is one
   module _ (h : Header) (found : first_of CUES others ≡ Some h) where
@@ -327,17 +307,9 @@ module _ (bytes : List ℕ) (are_octets : AreOctets bytes) (short : length bytes
         (All-cons (IsItem others) item [] (gone-item others h space found space-short) (All-nil (IsItem others))) (All-nil (λ (j : Item). (j.element.id == CUES) ≡ false), tt)
         (All-cons (λ (i : Item). (i.element.id == SEEK_HEAD) ≡ false) item [] refl (All-nil (λ (i : Item). (i.element.id == SEEK_HEAD) ≡ false))) writes refl in
         let untouched = untouched-by head (item ∷ []) [] refl (All-cons (λ (i : Item). i.element.id ≡ CUES) item [] refl (All-nil (λ (i : Item). i.element.id ≡ CUES))) (All-nil (λ (d : Element). d.id ≡ CUES)) in
-        record {
-          items = head ∷ item ∷ [];
-          added = [];
-          rest = rest;
-          untouched = untouched;
-          cues = rest.moves item (inr (inl refl)) (gone-long space) alone;
-          old_head = (head-read bytes o plan.0 op plan.1).tree;
-          read = (head-read bytes o plan.0 op plan.1).read;
-          seeks = seeks-written (part ∷ []) plan.0 plan.1 (head ∷ item ∷ []) [] rest untouched refl (rest.stays head (inl refl) plan.2.reaches).0 (λ id other. rw other refl)
-              (sym (ap (option_map (seek_to o.segment.body)) (rest.moves item (inr (inl refl)) (gone-long space) alone)));
-        }
+        let lacks = rest.moves item (inr (inl refl)) (gone-long space) alone in
+        holds (part ∷ []) plan.0 plan.1 (head ∷ item ∷ []) [] rest untouched refl (rest.stays head (inl refl) plan.2.reaches).0 (λ id other. rw other refl)
+        (sym (ap (option_map (seek_to o.segment.body)) lacks)) [] lacks
 
     -- one is written, in its room or behind the old end
     module _ (p : CuePoint) (ps : List CuePoint) (made : writes_of_parts index_ids true bytes o (cues_moves h.offset (span_of h (others_of (segment_run bytes o.segment).list)) (cues_of (p ∷ ps))) ≡ Ok ws) where
@@ -366,7 +338,7 @@ module _ (bytes : List ℕ) (are_octets : AreOctets bytes) (short : length bytes
           omega arith
 
       item-is : IsItem others item
-      item-is = small-item others CUES e.body h cues-name cues-valid found few
+      item-is = small-item others CUES e.body h names.cues cues-valid found few
 
       its-own : All (λ (i : Item). i.element.id ≡ CUES) (item ∷ [])
       its-own = All-cons (λ (i : Item). i.element.id ≡ CUES) item [] refl (All-nil (λ (i : Item). i.element.id ≡ CUES))
@@ -380,36 +352,20 @@ module _ (bytes : List ℕ) (are_octets : AreOctets bytes) (short : length bytes
           let rest = rest-beside bytes are_octets short o ws op undamaged order outside_all index_ids parts plan.0 plan.2 (item ∷ [])
           (All-cons (IsItem others) item [] item-is (All-nil (IsItem others))) (All-nil (λ (j : Item). (j.element.id == CUES) ≡ false), tt) no-head (of-writes others parts (item ∷ []) of-it) still.0 in
           let untouched = untouched-by head (item ∷ []) [] refl its-own (All-nil (λ (d : Element). d.id ≡ CUES)) in
-          record {
-            items = head ∷ item ∷ [];
-            added = [];
-            rest = rest;
-            untouched = untouched;
-            cues = written-are new rest.list p ps (rest.stays item (inr (inl refl)) fits).0;
-            old_head = (head-read bytes o plan.0 op plan.1).tree;
-            read = (head-read bytes o plan.0 op plan.1).read;
-            seeks = seeks-written parts plan.0 plan.1 (head ∷ item ∷ []) [] rest untouched still.1 (rest.stays head (inl refl) plan.2.reaches).0 (λ id other. rw other refl)
-                (placed-seek rest.list e.body (rest.stays item (inr (inl refl)) fits).0 (rest.stays item (inr (inl refl)) fits).1);
-          }
+          let stays = rest.stays item (inr (inl refl)) fits in
+          holds parts plan.0 plan.1 (head ∷ item ∷ []) [] rest untouched still.1 (rest.stays head (inl refl) plan.2.reaches).0 (λ id other. rw other refl)
+          (placed-seek rest.list e.body stays.0 stays.1) (p ∷ ps) (written-are new rest.list p ps stays.0)
 
       moves-on : space < length (octets_of e) → HoldsCues bytes new o (p ∷ ps)
       moves-on long =
           let moved = moving-one h.offset space e long in
           let rest = rest-behind bytes are_octets short o ws op undamaged order outside_all index_ids parts plan.0 plan.2 (item ∷ [])
           (All-cons (IsItem others) item [] item-is (All-nil (IsItem others))) (All-nil (λ (j : Item). (j.element.id == CUES) ≡ false), tt) no-head (of-writes others parts (item ∷ []) of-it)
-          moved.0 e [] moved.1 (All-cons IsElement e [] item-is.widen.own (All-nil IsElement)) (All-cons (λ (d : Element). IsName d.id) e [] cues-name (All-nil (λ (d : Element). IsName d.id))) in
+          moved.0 e [] moved.1 (All-cons IsElement e [] item-is.widen.own (All-nil IsElement)) (All-cons (λ (d : Element). IsName d.id) e [] names.cues (All-nil (λ (d : Element). IsName d.id))) in
           let untouched = untouched-by head (item ∷ []) (e ∷ []) refl its-own (All-cons (λ (d : Element). d.id ≡ CUES) e [] refl (All-nil (λ (d : Element). d.id ≡ CUES))) in
-          record {
-            items = head ∷ item ∷ [];
-            added = e ∷ [];
-            rest = rest;
-            untouched = untouched;
-            cues = written-are new rest.list p ps (written-first new CUES e.body (headers_in_place (length bytes) (e ∷ [])) rest.list (rest.moves item (inr (inl refl)) long alone) (alone-written new (length bytes) e.body rest.held));
-            old_head = (head-read bytes o plan.0 op plan.1).tree;
-            read = (head-read bytes o plan.0 op plan.1).read;
-            seeks = seeks-written parts plan.0 plan.1 (head ∷ item ∷ []) (e ∷ []) rest untouched moved.1 (rest.stays head (inl refl) plan.2.reaches).0 (λ id other. rw other refl)
-                (added-seek e.body rest.list (rest.moves item (inr (inl refl)) long alone));
-          }
+          let away = rest.moves item (inr (inl refl)) long alone in
+          holds parts plan.0 plan.1 (head ∷ item ∷ []) (e ∷ []) rest untouched moved.1 (rest.stays head (inl refl) plan.2.reaches).0 (λ id other. rw other refl) (added-seek e.body rest.list away)
+          (p ∷ ps) (written-are new rest.list p ps (written-first new CUES e.body (headers_in_place (length bytes) (e ∷ [])) rest.list away (alone-written new (length bytes) e.body rest.held)))
 
       one-anew : HoldsCues bytes new o (p ∷ ps)
       one-anew = elim (cases_lt space (length (octets_of e))) [ inl long ↦ moves-on long | inr fits ↦ fits-in fits ]

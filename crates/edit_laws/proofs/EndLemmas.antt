@@ -22,12 +22,13 @@ use Rattle.sidecar_edit.specs.Writes.{Write, end_of, extent, WritesOctet}
 use Rattle.edit_changes.specs.declared.refusal.Refusal.TheVariants as refusal
 use Rattle.edit_changes.specs.declared.refusal.Room.TheVariants as room
 use Rattle.edit_changes.specs.Plan.{Part, cluster_end, elements_moving, moves, moving, number_of, other_end, size_width, size_writes, tail_refusal, twin_of, twin_refusal, wrong_end, write}
+use Rattle.edit_laws.proofs.AmongLemmas.{IsAmong}
 use Rattle.edit_laws.proofs.SameLemmas.{InOrder}
-use Rattle.edit_laws.proofs.TileLemmas.{advances-level, end-stops, level, run_of, Stands, Tiles, tiled, whole, IsAhead}
+use Rattle.edit_laws.proofs.TileLemmas.{advances-level, end-stops, level, run_of, Stands, Tiles, tiled, whole}
 use Rattle.edit_laws.proofs.LevelLemmas.{level-within, next-known, whole-known}
 use Rattle.edit_changes.specs.Span.{span_of}
 use Rattle.mkv_schema.specs.Value.{first_of}
-use Rattle.edit_laws.proofs.ItemLemmas.{IsItemIn, Item}
+use Rattle.edit_laws.proofs.ItemLemmas.{Item}
 use Rattle.edit_laws.proofs.OpenedLemmas.{IsOpened}
 use Rattle.edit_laws.proofs.RoomLemmas.{last-there}
 use Rattle.edit_laws.proofs.WriteLemmas.{AreOf, extent-within, moves_from, of-moves, of-moving}
@@ -107,7 +108,7 @@ module _ (bytes : List ℕ) (o : FileOutline) (op : IsOpened bytes o) (undamaged
           ]
 
   -- each Element ends in the file
-  pub ends-total : (h : Header) (m : ℕ) → Stands (level bytes o.segment.size (segment_bound bytes o.segment)) h.offset h m → IsAhead (segment_run bytes o.segment).list h → stated_end h ≤ length bytes
+  pub ends-total : (h : Header) (m : ℕ) → Stands (level bytes o.segment.size (segment_bound bytes o.segment)) h.offset h m → IsAmong (segment_run bytes o.segment).list h → stated_end h ≤ length bytes
   ends-total h m stands ahead = of (h.id == CLUSTER) refl (is_unknown h.size) refl
     where
       unknown-end : (size : Size) → h.size ≡ size → is_unknown size ≡ true → stated_end h ≤ length bytes
@@ -244,13 +245,13 @@ twins-none list (p ∷ ps) none =
     All-cons (λ (p : Part). number_of p.id list ≤ 1) p ps (twin-none list p.id both.0) (twins-none list ps both.1)
 
 -- so an item that moves has none
-pub twin-of : (list : List Header) (ps : List Part) (is : List Item) (i : Item) → AreOf list ps is → All (λ (p : Part). number_of p.id list ≤ 1) (moving ps) → IsItemIn is i → span_of i.header list < length (octets_of i.element) → number_of i.element.id list ≤ 1
+pub twin-of : (list : List Header) (ps : List Part) (is : List Item) (i : Item) → AreOf list ps is → All (λ (p : Part). number_of p.id list ≤ 1) (moving ps) → IsAmong is i → span_of i.header list < length (octets_of i.element) → number_of i.element.id list ≤ 1
 twin-of list ps [] i are all member long = absurd member
 twin-of list [] (j ∷ js) i are all member long = absurd are
 twin-of list (p ∷ ps) (j ∷ js) i are all member long = of (λ rest. twin-of list ps js i are.1 rest) (moves p) refl all member
   where
-    of : (All (λ (p : Part). number_of p.id list ≤ 1) (moving ps) → IsItemIn js i → span_of i.header list < length (octets_of i.element) → number_of i.element.id list ≤ 1) → (b : Bool) → moves p ≡ b
-        → All (λ (p : Part). number_of p.id list ≤ 1) (if b then p ∷ moving ps else moving ps) → (j ≡ i) ⊎ IsItemIn js i → number_of i.element.id list ≤ 1
+    of : (All (λ (p : Part). number_of p.id list ≤ 1) (moving ps) → IsAmong js i → span_of i.header list < length (octets_of i.element) → number_of i.element.id list ≤ 1) → (b : Bool) → moves p ≡ b
+        → All (λ (p : Part). number_of p.id list ≤ 1) (if b then p ∷ moving ps else moving ps) → (j ≡ i) ⊎ IsAmong js i → number_of i.element.id list ≤ 1
     of further true is all (inl same) =
         let own = All-head (λ (p : Part). number_of p.id list ≤ 1) p (moving ps) all in
         let number : number_of p.id list ≡ number_of i.element.id list = ap (λ n. number_of n list) (are.0.id ∙ ap (λ (k : Item). k.element.id) same) in
@@ -262,16 +263,16 @@ twin-of list (p ∷ ps) (j ∷ js) i are all member long = of (λ rest. twin-of 
     of further false is all (inr later) = further all later long
 
 -- and what moves has it
-pub moves-found : (list : List Header) (ps : List Part) (is : List Item) (i : Item) (place : ℕ) → AreOf list ps is → IsItemIn is i → span_of i.header list < length (octets_of i.element) → (g : Header) × (first_of i.element.id (headers_in_place place (elements_moving ps)) ≡ Some g)
+pub moves-found : (list : List Header) (ps : List Part) (is : List Item) (i : Item) (place : ℕ) → AreOf list ps is → IsAmong is i → span_of i.header list < length (octets_of i.element) → (g : Header) × (first_of i.element.id (headers_in_place place (elements_moving ps)) ≡ Some g)
 moves-found list ps is i place are member long =
     let there = found is place member in
     (there.0, ap (λ (es : List Element). first_of i.element.id (headers_in_place place es)) (of-moving list ps is are) ∙ there.1)
   where
-    found : (js : List Item) (q : ℕ) → IsItemIn js i → (g : Header) × (first_of i.element.id (headers_in_place q (map (λ (k : Item). k.element) (filter (moves_from list) js))) ≡ Some g)
+    found : (js : List Item) (q : ℕ) → IsAmong js i → (g : Header) × (first_of i.element.id (headers_in_place q (map (λ (k : Item). k.element) (filter (moves_from list) js))) ≡ Some g)
     found [] q member = absurd member
     found (j ∷ js) q member = of (λ r. found js r) (moves_from list j) refl member
       where
-        of : ((r : ℕ) → IsItemIn js i → (g : Header) × (first_of i.element.id (headers_in_place r (map (λ (k : Item). k.element) (filter (moves_from list) js))) ≡ Some g)) → (b : Bool) → moves_from list j ≡ b → (j ≡ i) ⊎ IsItemIn js i
+        of : ((r : ℕ) → IsAmong js i → (g : Header) × (first_of i.element.id (headers_in_place r (map (λ (k : Item). k.element) (filter (moves_from list) js))) ≡ Some g)) → (b : Bool) → moves_from list j ≡ b → (j ≡ i) ⊎ IsAmong js i
             → (g : Header) × (first_of i.element.id (headers_in_place q (map (λ (k : Item). k.element) (if b then j ∷ filter (moves_from list) js else filter (moves_from list) js))) ≡ Some g)
         of further true test (inl same) =
             let own : j.element.id ≡ i.element.id = ap (λ (k : Item). k.element.id) same in

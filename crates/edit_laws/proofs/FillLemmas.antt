@@ -1,10 +1,10 @@
 -- What stands in a room once it is filled.
-use Rattle.std.proofs.Common.{inl, inr, ◌≡◌, ◌≢◌, ◌⊎◌, ℕ, ◌+◌, ◌-◌, ◌^◌, ◌<◌, ◌≤◌, ◌==◌, nat_lt, nat_le, Bool, true, false, if◌then◌else◌, List, [], ◌∷◌, ◌++◌, append-nil, length, replicate, All, Some, None, refl, sym, ◌∙◌, ap, ap₂, subst, arith}
+use Rattle.std.proofs.Common.{inl, inr, ◌≡◌, ◌≢◌, ◌⊎◌, ℕ, ◌+◌, ◌-◌, ◌*◌, ◌^◌, ◌<◌, ◌≤◌, ◌==◌, nat_lt, nat_le, Bool, true, false, if◌then◌else◌, List, [], ◌∷◌, ◌++◌, append-nil, length, replicate, All, Some, None, refl, sym, ◌∙◌, ap, ap₂, subst, arith}
 use Rattle.std.specs.Option.{unwrap_or}
 use Rattle.std.specs.Int.Count.{count_leading_zeros}
 use Rattle.std.proofs.lemmas.List.{length-append, length-replicate}
 use Rattle.std.proofs.lemmas.List.Elements.{All-nil, All-cons}
-use Rattle.std.proofs.lemmas.Bool.{cases_lt}
+use Rattle.std.proofs.lemmas.Nat.{pow_below}
 use Rattle.std.proofs.lemmas.Bool.Decides.{nat_tests}
 use Rattle.ebml_numbers.specs.Number.{is_id, uint_width, all_ones, id_octets, size_octets, least_size_width}
 use Rattle.ebml_numbers.proofs.WidthLemmas.{least_size_width-IsLeast}
@@ -174,33 +174,9 @@ small-widen id body valid short =
     let least = least_size_width-IsLeast (length body) (omega arith) in
     let few = least.least 4 (omega arith) (let fit : length body < all_ones 4 = omega arith in fit) in
     let fits = least.fits in
+    let more = pow_below (7 * least_size_width (length body)) (7 * (least_size_width (length body) + 1)) (omega arith) in
     record {
       own = record { id_stands = valid; some = least.some; most = least.most; fits = fits };
       wide = omega arith;
-      fits = more (least_size_width (length body)) least.some few fits;
+      fits = omega arith;
     }
-  where
-    cases-few : (w : ℕ) → 1 ≤ w → w ≤ 4 → (w ≡ 1) ⊎ ((w ≡ 2) ⊎ ((w ≡ 3) ⊎ (w ≡ 4)))
-    cases-few w some few =
-        elim (cases_lt w 2) [
-          | inl one ↦ inl (omega arith)
-          | inr two ↦ inr (elim (cases_lt w 3) [
-            | inl is ↦ inl (omega arith)
-            | inr three ↦ inr (elim (cases_lt w 4) [
-              | inl is ↦ inl (omega arith)
-              | inr four ↦ inr (omega arith)
-            ])
-          ])
-        ]
-
-    more : (w : ℕ) → 1 ≤ w → w ≤ 4 → length body < all_ones w → length body < all_ones (w + 1)
-    more w some few fits = elim (cases-few w some few) [
-      | inl one ↦ subst (λ k. length body < all_ones (k + 1)) (sym one) (let small : length body < all_ones 1 = subst (λ k. length body < all_ones k) one fits in omega arith)
-      | inr rest ↦ elim rest [
-        | inl two ↦ subst (λ k. length body < all_ones (k + 1)) (sym two) (let small : length body < all_ones 2 = subst (λ k. length body < all_ones k) two fits in omega arith)
-        | inr others ↦ elim others [
-          | inl three ↦ subst (λ k. length body < all_ones (k + 1)) (sym three) (let small : length body < all_ones 3 = subst (λ k. length body < all_ones k) three fits in omega arith)
-          | inr four ↦ subst (λ k. length body < all_ones (k + 1)) (sym four) (omega arith)
-        ]
-      ]
-    ]

@@ -3,7 +3,7 @@ use Rattle.std.proofs.Common.{inl, inr, ◌≡◌, ◌<◌, ◌≤◌, ℕ, zero
 use Rattle.std.specs.List.{starts_with}
 use Rattle.std.specs.Option.{option_map, option_map_or}
 use Rattle.std.proofs.lemmas.Bool.{cases_lt, le-ltb}
-use Rattle.std.proofs.lemmas.List.Elements.{All-head, All-tail, All-nil, All-cons, All-weaker}
+use Rattle.std.proofs.lemmas.List.Elements.{All-head, All-tail, All-weaker}
 use Rattle.ebml_numbers.specs.declared.number.IdRead.{IdRead}
 use Rattle.ebml_numbers.specs.declared.number.NumFault.{NumFault}
 use Rattle.ebml_numbers.specs.declared.number.NumFault.TheVariants as fault
@@ -24,12 +24,12 @@ use Rattle.mkv_schema.specs.Elements.{Run, never, in_front, step, children_in}
 use Rattle.mkv_schema.specs.Outline.{first_damage, where_it, ebml_mark, header_children, header_causes, over, bad_value, wrong_doc_type, is_doc_type, above, place_of, ebml_header}
 use Rattle.mkv_io.specs.Results.{and_then, unless}
 use Rattle.mkv_schema.specs.Value.{body_of, is_known_value, uint_value, text_of, first_of}
-use Rattle.mkv_schema.proofs.ElementLemmas.{element_at-placed, element_in-whole}
+use Rattle.mkv_schema.proofs.ElementLemmas.{element_at-placed}
 use Rattle.mkv_schema.proofs.OutlineLemmas.{unless-ok}
 use Rattle.mkv_schema.proofs.ElementsLemmas.{Advances-known, elements-end, elements-more}
 use Rattle.edit_laws.proofs.SameLemmas.{AreSame, same-part}
 use Rattle.edit_laws.proofs.HeaderLemmas.{announced-inside, outside, found-sound, found-same}
-use Rattle.edit_laws.proofs.RunLemmas.{StandsInside}
+use Rattle.edit_laws.proofs.RunLemmas.{StandsInside, run-inside}
 use Rattle.edit_laws.proofs.BlockLemmas.{find-same}
 
 -- ---- a master that is read whole depends on its own octets
@@ -81,30 +81,6 @@ tree-within (suc n) parent a b p e few same =
 tree-same : (parent : ℕ) (a b : List ℕ) (p e : ℕ) → AreSame a b p e → tree-run parent b p e ≡ tree-run parent a p e
 tree-same parent a b p e same = tree-within (e - p) parent a b p e (omega arith) same
 
-tree-inside-past : (parent : ℕ) (bytes : List ℕ) (p e : ℕ) → e ≤ p → All (StandsInside p e) (tree-run parent bytes p e).list
-tree-inside-past parent bytes p e past = rw (elements-end (in_tree parent) never (λ h. Ok (end_in e h)) bytes p e past) (All-nil (StandsInside p e))
-
-tree-inside-within : (n : ℕ) (parent : ℕ) (bytes : List ℕ) (p e : ℕ) → e - p ≤ n → All (StandsInside p e) (tree-run parent bytes p e).list
-tree-inside-within zero parent bytes p e few = tree-inside-past parent bytes p e (omega arith)
-tree-inside-within (suc n) parent bytes p e few =
-    elim (cases_lt p e) [
-      | inl inside ↦ rw (elements-more (in_tree parent) never (λ h. Ok (end_in e h)) bytes p e (Advances-known (in_tree parent) bytes e) inside) (goes inside (λ k later. tree-inside-within n parent bytes k e (omega arith)) (element_at (in_tree parent) bytes p e) refl)
-      | inr past ↦ tree-inside-past parent bytes p e past
-    ]
-  where
-    later-inside : (q : ℕ) (h : Header) → p ≤ q → StandsInside q e h → StandsInside p e h
-    later-inside q h later inside = let from = inside.from in record { from = omega arith; header = inside.header; to = inside.to }
-
-    goes : p < e → ((k : ℕ) → p < k → All (StandsInside k e) (tree-run parent bytes k e).list) → (found : Result Header Damage) → element_at (in_tree parent) bytes p e ≡ found → All (StandsInside p e) (step p (λ h. Ok (end_in e h)) found (λ q. tree-run parent bytes q e)).list
-    goes inside further (Err d) is = All-nil (StandsInside p e)
-    goes inside further (Ok h) is =
-        let placed = element_at-placed (in_tree parent) bytes p e h (omega arith) is in
-        let whole = element_in-whole (in_tree parent) (octets_between bytes p e) (length bytes) p e h is in
-        let at = placed.offset in let later = placed.later in let ends = whole.inside refl in
-        let end : p < end_in e h = grind arith in
-        All-cons (StandsInside p e) h _ (record { from = omega arith; header = omega arith; to = ends })
-        (All-weaker (StandsInside (end_in e h) e) (StandsInside p e) (λ k is. later-inside (end_in e h) k (omega arith) is) _ (further (end_in e h) end))
-
 -- ---- what is asked of the children
 
 module _ (a b : List ℕ) (list : List Header) (same : All (λ h. body_of b h ≡ body_of a h) list) where
@@ -149,7 +125,7 @@ children-causes a b h same =
     ∙ causes-same a b (header_children a h).list
     (All-weaker (StandsInside h.body (stated_end h)) (λ c. body_of b c ≡ body_of a c)
     (λ c inside. let from = inside.from in let header = inside.header in let to = inside.to in let body : c.body ≤ stated_end c = omega arith in same-part a b h.body (stated_end h) c.body (stated_end c) (omega arith) body to same)
-    (header_children a h).list (tree-inside-within (stated_end h - h.body) EBML a h.body (stated_end h) (omega arith)))
+    (header_children a h).list (run-inside (in_tree EBML) (λ id. refl) never a (stated_end h) h.body))
     h (header_children a h).damage (header_children a h).end
 
 -- ---- the header itself

@@ -3,9 +3,7 @@ use Rattle.std.proofs.Common.{◌≡◌, ℕ, ◌+◌, ◌==◌, Bool, true, fal
 use Rattle.std.specs.Option.{option_map}
 use Rattle.std.proofs.lemmas.Bool.Decides.{nat_tests}
 use Rattle.std.proofs.lemmas.List.Elements.{All-head, All-tail}
-use Rattle.mkv_schema.specs.Schema.{entry_of}
-use Rattle.mkv_schema.specs.Table.{table}
-use Rattle.mkv_schema.specs.declared.ids.TheConstants.{ATTACHMENTS, CHAPTERS, CLUSTER, TAGS}
+use Rattle.mkv_schema.specs.declared.ids.TheConstants.{ATTACHMENTS, CLUSTER}
 use Rattle.mkv_schema.specs.declared.element.Header.{Header}
 use Rattle.mkv_schema.specs.Elements.{Run, ends_cluster}
 use Rattle.mkv_schema.specs.Outline.{segment_bound, segment_run}
@@ -21,25 +19,15 @@ use Rattle.block_format.specs.Elements.{Rules}
 use Rattle.block_format.specs.Events.{blocks_of, damages_of, events_among, events_in_run, events_of}
 use Rattle.meta_records.specs.Attached.{AttachedFile, files_at, first_attached}
 use Rattle.meta_records.specs.Records.{first_tree, tree_at}
+use Rattle.edit_laws.proofs.AmongLemmas.{IsAmong}
 use Rattle.edit_laws.proofs.BlockLemmas.{IsHeld, shared-body}
 use Rattle.edit_laws.proofs.AttachedLemmas.{files-same}
 use Rattle.edit_laws.proofs.TileLemmas.{run_of, whole}
-use Rattle.edit_laws.proofs.LevelLemmas.{Spot, Edit, new_level, IsSpot, IsIn, IsListed}
+use Rattle.edit_laws.proofs.LevelLemmas.{Spot, Edit, new_level, IsSpot, IsListed}
 use Rattle.edit_laws.proofs.ResultLemmas.{blocks-stay, damages-stay, first-stays, held-stays, first-now}
 use Rattle.edit_laws.specs.Laws.{normal_form}
 use Rattle.edit_laws.proofs.AgainLemmas.{CanBeRead, again}
-
-pub level-attachments : ends_cluster ATTACHMENTS ≡ true
-unfolding entry_of table
-level-attachments = refl
-
-pub level-chapters : ends_cluster CHAPTERS ≡ true
-unfolding entry_of table
-level-chapters = refl
-
-pub level-tags : ends_cluster TAGS ≡ true
-unfolding entry_of table
-level-tags = refl
+use Rattle.edit_laws.proofs.ItemLemmas.{names}
 
 -- An Element that is written stands in a content, at a place, as the first of its ID in a list.
 pub record IsWritten (new : List ℕ) (id : ℕ) (body : List ℕ) (list : List Header) : Type 0 where
@@ -90,7 +78,7 @@ written-again new now list end run id nodes can is =
     ap (λ (o : Option Header). and_then (tree_at new o) (λ (n : Option Node). Ok (option_map octets n))) (ap (λ (r : Run). first_of id r.list) run ∙ is.first)
     ∙ again id nodes new is.place is.element can is.own is.spells is.held
 
-module _ (t : Edit) (Moves : Type 0) (listed : IsListed t Moves t.list t.start) (was now : Header)
+module _ (t : Edit) (listed : IsListed t t.list t.start) (was now : Header)
     (old_run : segment_run t.old was ≡ whole t.list t.last) (new_run : segment_run t.new now ≡ run_of (new_level t) t.start)
     (old_bound : segment_bound t.old was ≡ t.end) (new_bound : segment_bound t.new now ≡ t.now_end) where
   pub now-is : segment_run t.new now ≡ whole listed.list listed.end
@@ -103,7 +91,7 @@ module _ (t : Edit) (Moves : Type 0) (listed : IsListed t Moves t.list t.start) 
   same-blocks r tail spots =
       ap (λ (x : Run). blocks_of (events_in_run r t.new (segment_bound t.new now) x)) now-is
       ∙ ap (λ e. blocks_of (events_among r t.new e listed.list None)) new_bound
-      ∙ sym (blocks-stay t Moves r tail spots t.list listed.list listed.becomes)
+      ∙ sym (blocks-stay t r tail spots t.list listed.list listed.becomes)
       ∙ sym (ap (λ (x : Run). blocks_of (events_in_run r t.old (segment_bound t.old was) x)) old_run ∙ ap (λ e. blocks_of (events_among r t.old e t.list None)) old_bound)
 
   pub same-undamaged : (r : Rules) → events_among r t.new t.now_end t.behind None ≡ [] → All (λ (s : Spot). (s.header.id == CLUSTER) ≡ false) t.spots → damages_of (events_of r t.old was) ≡ [] → damages_of (events_of r t.new now) ≡ []
@@ -111,7 +99,7 @@ module _ (t : Edit) (Moves : Type 0) (listed : IsListed t Moves t.list t.start) 
   same-undamaged r tail spots none =
       ap (λ (x : Run). damages_of (events_in_run r t.new (segment_bound t.new now) x)) now-is
       ∙ ap (λ e. damages_of (events_among r t.new e listed.list None)) new_bound
-      ∙ damages-stay t Moves r tail spots t.list listed.list listed.becomes
+      ∙ damages-stay t r tail spots t.list listed.list listed.becomes
       (sym (ap (λ (x : Run). damages_of (events_in_run r t.old (segment_bound t.old was) x)) old_run ∙ ap (λ e. damages_of (events_among r t.old e t.list None)) old_bound) ∙ none)
 
   -- ---- what isn't written anew
@@ -119,10 +107,10 @@ module _ (t : Edit) (Moves : Type 0) (listed : IsListed t Moves t.list t.start) 
   module _ (id : ℕ) (level : ends_cluster id ≡ true) (other : (id == CLUSTER) ≡ false) (spots : All (λ (s : Spot). (s.header.id == id) ≡ false) t.spots) (behind : first_of id t.behind ≡ None) where
     first-same : first_of id (segment_run t.new now).list ≡ first_of id (segment_run t.old was).list
     first-same =
-        ap (λ (r : Run). first_of id r.list) now-is ∙ first-stays t Moves id level spots behind t.list listed.list listed.becomes ∙ sym (ap (λ (r : Run). first_of id r.list) old_run)
+        ap (λ (r : Run). first_of id r.list) now-is ∙ first-stays t id level spots behind t.list listed.list listed.becomes ∙ sym (ap (λ (r : Run). first_of id r.list) old_run)
 
     pub first-held : (h : Header) → first_of id (segment_run t.old was).list ≡ Some h → IsHeld t.old t.new h
-    first-held h is = held-stays t Moves id h level other spots t.list listed.list listed.becomes (sym (ap (λ (r : Run). first_of id r.list) old_run) ∙ is)
+    first-held h is = held-stays t id h level other spots t.list listed.list listed.becomes (sym (ap (λ (r : Run). first_of id r.list) old_run) ∙ is)
 
     tree-same : (first : Option Header) → first_of id (segment_run t.old was).list ≡ first → tree_at t.new first ≡ tree_at t.old first
     tree-same None is = refl
@@ -134,21 +122,21 @@ module _ (t : Edit) (Moves : Type 0) (listed : IsListed t Moves t.list t.start) 
 
   pub attached-same : (files : List AttachedFile) → All (λ (s : Spot). (s.header.id == ATTACHMENTS) ≡ false) t.spots → first_of ATTACHMENTS t.behind ≡ None → first_attached t.old was ≡ Ok files → first_attached t.new now ≡ Ok files
   attached-same files spots behind is =
-      ap (files_at t.new) (first-same ATTACHMENTS level-attachments refl spots behind) ∙ of (first_of ATTACHMENTS (segment_run t.old was).list) refl is
+      ap (files_at t.new) (first-same ATTACHMENTS names.attachments.level refl spots behind) ∙ of (first_of ATTACHMENTS (segment_run t.old was).list) refl is
     where
       of : (first : Option Header) → first_of ATTACHMENTS (segment_run t.old was).list ≡ first → files_at t.old first ≡ Ok files → files_at t.new first ≡ Ok files
       of None none is = is
-      of (Some h) some is = files-same t.old t.new h files (first-held ATTACHMENTS level-attachments refl spots behind h some) is
+      of (Some h) some is = files-same t.old t.new h files (first-held ATTACHMENTS names.attachments.level refl spots behind h some) is
 
   -- ---- what is written anew
 
-  module _ (s : Spot) (member : IsIn t.spots s) (spot : IsSpot t Moves s) (id : ℕ) (body : List ℕ) (own : s.header.id ≡ id) (level : ends_cluster id ≡ true) (single : All (λ (o : Spot). o.header ≡ s.header → o ≡ s) t.spots) (first : first_of id t.list ≡ Some s.header) where
+  module _ (s : Spot) (member : IsAmong t.spots s) (spot : IsSpot t s) (id : ℕ) (body : List ℕ) (own : s.header.id ≡ id) (level : ends_cluster id ≡ true) (single : All (λ (o : Spot). o.header ≡ s.header → o ≡ s) t.spots) (first : first_of id t.list ≡ Some s.header) where
     -- in its place
     abbrev pub in-place : s.now.id ≡ id → s.now.body ≡ body → IsWritten t.new id body listed.list
     in-place same spells = record {
       place = s.header.offset;
       element = s.now;
-      first = first-now t Moves s member spot id own level single (same ∙ sym own) t.list listed.list listed.becomes first;
+      first = first-now t s member spot id own level single (same ∙ sym own) t.list listed.list listed.becomes first;
       held = held-left t.new s.header.offset (octets_of s.now) (joined s.voids) spot.held;
       own = same;
       spells = spells;

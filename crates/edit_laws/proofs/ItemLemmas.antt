@@ -8,7 +8,7 @@ use Rattle.ebml_numbers.specs.declared.number.Size.{Size}
 use Rattle.ebml_numbers.specs.declared.number.Size.TheVariants.{Known, Unknown}
 use Rattle.mkv_schema.specs.Schema.{entry_of, is_level0}
 use Rattle.mkv_schema.specs.Table.{table}
-use Rattle.mkv_schema.specs.declared.ids.TheConstants.{CLUSTER, VOID}
+use Rattle.mkv_schema.specs.declared.ids.TheConstants.{ATTACHMENTS, CHAPTERS, CLUSTER, CUES, INFO, SEEK_HEAD, TAGS, TRACKS, VOID}
 use Rattle.mkv_io.specs.declared.outside.TheConstants.{LONGEST_FILE}
 use Rattle.mkv_schema.specs.declared.element.Header.{Header}
 use Rattle.mkv_schema.specs.Element.{in_segment, is_unknown, stated_end, end_in, body_damage}
@@ -26,12 +26,13 @@ use Rattle.edit_changes.specs.Plan.{write}
 use Rattle.edit_plan.proofs.LevelLemmas.{Stand}
 use Rattle.edit_plan.proofs.PartLemmas.{first-own}
 use Rattle.edit_plan.proofs.VoidLemmas.{first-room, span-end, voids-least}
-use Rattle.edit_laws.proofs.SameLemmas.{AreSame, same-clear, InOrder, order-fits, IsOneOf, order-held, order-end}
-use Rattle.edit_laws.proofs.ClusterLemmas.{HasNoBlock}
-use Rattle.edit_laws.proofs.TileLemmas.{level, run_of, advances-level, Stands, Tiles, whole, tiled, stands-placed, IsAhead, ahead-later}
-use Rattle.edit_laws.proofs.LevelLemmas.{Spot, end_of, Edit, new_level, old_inner, new_inner, IsSpot, IsIn, IsOld, IsClear, IsEdit, IsListed, whole-known, level-becomes}
+use Rattle.edit_laws.proofs.AmongLemmas.{IsAmong, all-among}
+use Rattle.edit_laws.proofs.SameLemmas.{AreSame, same-clear, InOrder, order-fits, order-held, order-end}
+use Rattle.edit_laws.proofs.TileLemmas.{level, run_of, advances-level, Stands, Tiles, whole, tiled, stands-placed, ahead-later}
+use Rattle.edit_laws.proofs.LevelLemmas.{Spot, end_of, Edit, new_level, new_inner, IsSpot, IsOld, IsClear, IsEdit, IsListed, whole-known, level-becomes}
 use Rattle.edit_laws.proofs.FillLemmas.{IsFilled, CanWiden, filled}
 use Rattle.edit_laws.proofs.RoomLemmas.{tiles-stand, room-voids, first-there, ahead-behind}
+use Rattle.edit_laws.specs.Laws.{IsOutside}
 
 -- an Element that is written anew: its header, and what is written of it
 pub record Item : Type 0 where
@@ -54,11 +55,6 @@ pub record IsItem (others : List Header) (i : Item) : Type 0 where
   pub name : IsName i.element.id
   pub widen : CanWiden i.element
 
--- one of some items
-abbrev pub IsItemIn : List Item → Item → Type 0
-IsItemIn [] i = ⊥
-IsItemIn (j ∷ js) i = (j ≡ i) ⊎ IsItemIn js i
-
 -- no two of them have one ID
 abbrev pub AreDistinct : List Item → Type 0
 AreDistinct [] = ⊤
@@ -68,6 +64,28 @@ AreDistinct (i ∷ is) = All (λ (j : Item). (j.element.id == i.element.id) ≡ 
 abbrev pub IsInside : List Header → List Item → ℕ → Type 0
 IsInside others [] k = ⊥
 IsInside others (i ∷ is) k = ((i.header.offset ≤ k) × (k < i.header.offset + span_of i.header others)) ⊎ IsInside others is k
+
+-- Elements of level 1 that are written anew, or stay.
+pub record AreNames : Type 0 where
+  pub info : IsName INFO
+  pub tracks : IsName TRACKS
+  pub seek_head : IsName SEEK_HEAD
+  pub cues : IsName CUES
+  pub attachments : IsName ATTACHMENTS
+  pub chapters : IsName CHAPTERS
+  pub tags : IsName TAGS
+
+pub names : AreNames
+unfolding entry_of table
+names = record {
+  info = record { cluster = refl; void = refl; level = refl; inner = refl };
+  tracks = record { cluster = refl; void = refl; level = refl; inner = refl };
+  seek_head = record { cluster = refl; void = refl; level = refl; inner = refl };
+  cues = record { cluster = refl; void = refl; level = refl; inner = refl };
+  attachments = record { cluster = refl; void = refl; level = refl; inner = refl };
+  chapters = record { cluster = refl; void = refl; level = refl; inner = refl };
+  tags = record { cluster = refl; void = refl; level = refl; inner = refl };
+}
 
 void-level : is_level0 VOID ≡ false
 unfolding entry_of table
@@ -79,7 +97,7 @@ goes-on Unknown id is = is
 
 -- each of some Elements that stand one behind the other
 tiles-all : (bytes : List ℕ) (size : Size) (e p q : ℕ) (hs : List Header) (P : Header → Type 0) → Tiles (level bytes size e) p hs q
-    → ((h : Header) (m : ℕ) → Stands (level bytes size e) h.offset h m → IsAhead hs h → P h) → All P hs
+    → ((h : Header) (m : ℕ) → Stands (level bytes size e) h.offset h m → IsAmong hs h → P h) → All P hs
 tiles-all bytes size e p q [] P tiles each = All-nil P
 tiles-all bytes size e p q (h ∷ hs) P (m, stands, rest) each =
     let at = (stands-placed (level bytes size e) p m h (advances-level bytes size e) stands).0 in
@@ -92,12 +110,19 @@ pub record CanKeep (a b : List ℕ) (e e' : ℕ) (h : Header) : Type 0 where
   pub ends : is_unknown h.size ≡ false → end_in e' h ≡ end_in e h
   pub closed : is_closed (length b) h ≡ is_closed (length a) h
 
-module _ (bytes : List ℕ) (size now_size : Size) (start e now_end last : ℕ) (list : List Header) (items : List Item) (ws : List Write) (behind : List Header) (Moves : Type 0)
+-- The old Elements of level 1 become the new ones, where items are written anew: each of these has a spot of its own.
+pub record IsAnew (t : Edit) (items : List Item) : Type 0 where
+  pub listed : IsListed t t.list t.start
+  pub edit : IsEdit t
+  pub none : (id : ℕ) → All (λ (i : Item). (i.element.id == id) ≡ false) items → All (λ (s : Spot). (s.header.id == id) ≡ false) t.spots
+  pub spots : (i : Item) → IsAmong items i → (f : IsFilled t.new i.header.offset (span_of i.header (others_of t.list)) i.element) × IsAmong t.spots (record { header = i.header; now = f.now; voids = f.voids })
+  pub single : (s : Spot) → IsAmong t.spots s → All (λ (o : Spot). o.header ≡ s.header → o ≡ s) t.spots
+
+module _ (bytes : List ℕ) (size now_size : Size) (start e now_end last : ℕ) (list : List Header) (items : List Item) (ws : List Write) (behind : List Header)
     (short : length bytes ≤ LONGEST_FILE) (within : e ≤ length bytes) (longer : e ≤ now_end) (reaches : last ≤ e)
     (run : run_of (level bytes size e) start ≡ whole list last)
-    (order : InOrder (length bytes) 0 ws) (are : All (IsItem (others_of list)) items) (one : All (λ (i : Item). IsOneOf ws (write_of (others_of list) i)) items)
-    (touch : (k : ℕ) → WritesOctet ws k → (k < start) ⊎ ((length bytes ≤ k) ⊎ IsInside (others_of list) items k))
-    (moves : All (λ (i : Item). span_of i.header (others_of list) < length (octets_of i.element) → Moves) items) where
+    (order : InOrder (length bytes) 0 ws) (are : All (IsItem (others_of list)) items) (one : All (λ (i : Item). IsAmong ws (write_of (others_of list) i)) items)
+    (touch : (k : ℕ) → WritesOctet ws k → (k < start) ⊎ ((length bytes ≤ k) ⊎ IsInside (others_of list) items k)) where
   abbrev pub new : List ℕ
   new = applied bytes ws
 
@@ -121,7 +146,7 @@ module _ (bytes : List ℕ) (size now_size : Size) (start e now_end last : ℕ) 
   abbrev pub Filled : Item → Type 0
   Filled i = IsFilled new i.header.offset (span_of i.header others) i.element
 
-  pub fill : (i : Item) → IsItem others i → IsOneOf ws (write_of others i) → Filled i
+  pub fill : (i : Item) → IsItem others i → IsAmong ws (write_of others i) → Filled i
   fill i is in_them =
       let room = first-room i.element.id start last others i.header stand is.first in
       let least = room.least in let inside = room.inside in let more = grows in
@@ -138,17 +163,17 @@ module _ (bytes : List ℕ) (size now_size : Size) (start e now_end last : ℕ) 
       let all = f.len in
       omega arith
 
-  abbrev pub spots : (is : List Item) → All (IsItem others) is → All (λ (i : Item). IsOneOf ws (write_of others i)) is → List Spot
+  abbrev pub spots : (is : List Item) → All (IsItem others) is → All (λ (i : Item). IsAmong ws (write_of others i)) is → List Spot
   spots [] are one = []
   spots (i ∷ is) are one =
-      spot i (fill i (All-head (IsItem others) i is are) (All-head (λ (i : Item). IsOneOf ws (write_of others i)) i is one))
-      ∷ spots is (All-tail (IsItem others) i is are) (All-tail (λ (i : Item). IsOneOf ws (write_of others i)) i is one)
+      spot i (fill i (All-head (IsItem others) i is are) (All-head (λ (i : Item). IsAmong ws (write_of others i)) i is one))
+      ∷ spots is (All-tail (IsItem others) i is are) (All-tail (λ (i : Item). IsAmong ws (write_of others i)) i is one)
 
   abbrev pub edit : Edit
   edit = record { old = bytes; new = new; size = size; now_size = now_size; start = start; end = e; now_end = now_end; list = list; spots = spots items are one; behind = behind; last = last }
 
-  pub spot-is : (i : Item) (is : IsItem others i) (f : Filled i) → (span_of i.header others < length (octets_of i.element) → Moves) → IsSpot edit Moves (spot i f)
-  spot-is i is f can_move =
+  spot-is : (i : Item) (is : IsItem others i) (f : Filled i) → IsSpot edit (spot i f)
+  spot-is i is f =
       let name = is.name in
       let first : first_of i.element.id list ≡ Some i.header = sym (first_in-others i.element.id list name.cluster) ∙ is.first in
       let there = first-there bytes size e i.element.id start last list i.header tiles first in
@@ -184,87 +209,82 @@ module _ (bytes : List ℕ) (size now_size : Size) (start e now_end last : ℕ) 
       now-goes name (inr (void, alone, long)) = ap (ends_segment now_size) void ∙ goes-on now_size VOID void-level
 
       of : i.header.id ≡ i.element.id → IsName i.element.id → ((f.now.id ≡ i.element.id) × (f.now.body ≡ i.element.body) × (length (octets_of i.element) ≤ span_of i.header others)) ⊎ ((f.now.id ≡ VOID) × (f.voids ≡ []) × (span_of i.header others < length (octets_of i.element)))
-          → ((f.now.id ≡ i.header.id) × (ends_cluster i.header.id ≡ true)) ⊎ ((f.now.id ≡ VOID) × (f.voids ≡ []) × Moves)
+          → ((f.now.id ≡ i.header.id) × (ends_cluster i.header.id ≡ true)) ⊎ ((f.now.id ≡ VOID) × (f.voids ≡ []))
       of own name (inl (same, body, fits)) = inl (same ∙ sym own, ap ends_cluster own ∙ name.level)
-      of own name (inr (void, alone, long)) = inr (void, alone, can_move long)
+      of own name (inr (void, alone, long)) = inr (void, alone)
 
   -- ---- all of them
 
-  spots-are : (is : List Item) (are : All (IsItem others) is) (one : All (λ (i : Item). IsOneOf ws (write_of others i)) is) → All (λ (i : Item). span_of i.header others < length (octets_of i.element) → Moves) is → All (IsSpot edit Moves) (spots is are one)
-  spots-are [] are one move = All-nil (IsSpot edit Moves)
-  spots-are (i ∷ is) are one move =
-      All-cons (IsSpot edit Moves) _ _ (spot-is i (All-head (IsItem others) i is are) (fill i (All-head (IsItem others) i is are) (All-head (λ (i : Item). IsOneOf ws (write_of others i)) i is one)) (All-head (λ (i : Item). span_of i.header others < length (octets_of i.element) → Moves) i is move))
-      (spots-are is (All-tail (IsItem others) i is are) (All-tail (λ (i : Item). IsOneOf ws (write_of others i)) i is one) (All-tail (λ (i : Item). span_of i.header others < length (octets_of i.element) → Moves) i is move))
+  spots-are : (is : List Item) (are : All (IsItem others) is) (one : All (λ (i : Item). IsAmong ws (write_of others i)) is) → All (IsSpot edit) (spots is are one)
+  spots-are [] are one = All-nil (IsSpot edit)
+  spots-are (i ∷ is) are one =
+      All-cons (IsSpot edit) _ _ (spot-is i (All-head (IsItem others) i is are) (fill i (All-head (IsItem others) i is are) (All-head (λ (i : Item). IsAmong ws (write_of others i)) i is one)))
+      (spots-are is (All-tail (IsItem others) i is are) (All-tail (λ (i : Item). IsAmong ws (write_of others i)) i is one))
 
   -- they end where their rooms do
-  ends-are : (is : List Item) (are : All (IsItem others) is) (one : All (λ (i : Item). IsOneOf ws (write_of others i)) is) → All (λ (s : Spot). end_of s ≡ behind_voids (stated_end s.header) others) (spots is are one)
+  ends-are : (is : List Item) (are : All (IsItem others) is) (one : All (λ (i : Item). IsAmong ws (write_of others i)) is) → All (λ (s : Spot). end_of s ≡ behind_voids (stated_end s.header) others) (spots is are one)
   ends-are [] are one = All-nil (λ (s : Spot). end_of s ≡ behind_voids (stated_end s.header) others)
   ends-are (i ∷ is) are one =
-      All-cons (λ (s : Spot). end_of s ≡ behind_voids (stated_end s.header) others) _ _ (end-is i (All-head (IsItem others) i is are) (fill i (All-head (IsItem others) i is are) (All-head (λ (i : Item). IsOneOf ws (write_of others i)) i is one)))
-      (ends-are is (All-tail (IsItem others) i is are) (All-tail (λ (i : Item). IsOneOf ws (write_of others i)) i is one))
+      All-cons (λ (s : Spot). end_of s ≡ behind_voids (stated_end s.header) others) _ _ (end-is i (All-head (IsItem others) i is are) (fill i (All-head (IsItem others) i is are) (All-head (λ (i : Item). IsAmong ws (write_of others i)) i is one)))
+      (ends-are is (All-tail (IsItem others) i is are) (All-tail (λ (i : Item). IsAmong ws (write_of others i)) i is one))
 
-  ahead-are : (is : List Item) (are : All (IsItem others) is) (one : All (λ (i : Item). IsOneOf ws (write_of others i)) is) → All (λ (s : Spot). IsAhead list s.header) (spots is are one)
-  ahead-are [] are one = All-nil (λ (s : Spot). IsAhead list s.header)
+  ahead-are : (is : List Item) (are : All (IsItem others) is) (one : All (λ (i : Item). IsAmong ws (write_of others i)) is) → All (λ (s : Spot). IsAmong list s.header) (spots is are one)
+  ahead-are [] are one = All-nil (λ (s : Spot). IsAmong list s.header)
   ahead-are (i ∷ is) are one =
       let own = All-head (IsItem others) i is are in
       let name = own.name in
       let first : first_of i.element.id list ≡ Some i.header = sym (first_in-others i.element.id list name.cluster) ∙ own.first in
-      All-cons (λ (s : Spot). IsAhead list s.header) _ _ (first-there bytes size e i.element.id start last list i.header tiles first).ahead
-      (ahead-are is (All-tail (IsItem others) i is are) (All-tail (λ (i : Item). IsOneOf ws (write_of others i)) i is one))
-
-  all-in : (P : Spot → Type 0) (xs : List Spot) (s : Spot) → All P xs → IsIn xs s → P s
-  all-in P [] s all member = absurd member
-  all-in P (x ∷ xs) s all (inl same) = subst P same (All-head P x xs all)
-  all-in P (x ∷ xs) s all (inr later) = all-in P xs s (All-tail P x xs all) later
+      All-cons (λ (s : Spot). IsAmong list s.header) _ _ (first-there bytes size e i.element.id start last list i.header tiles first).ahead
+      (ahead-are is (All-tail (IsItem others) i is are) (All-tail (λ (i : Item). IsAmong ws (write_of others i)) i is one))
 
   -- each has its own
-  pub spot-in : (is : List Item) (are : All (IsItem others) is) (one : All (λ (i : Item). IsOneOf ws (write_of others i)) is) (i : Item) → IsItemIn is i → (f : Filled i) × IsIn (spots is are one) (spot i f)
+  spot-in : (is : List Item) (are : All (IsItem others) is) (one : All (λ (i : Item). IsAmong ws (write_of others i)) is) (i : Item) → IsAmong is i → (f : Filled i) × IsAmong (spots is are one) (spot i f)
   spot-in [] are one i member = absurd member
   spot-in (j ∷ js) are one i (inl same) =
-      let P : Item → Type 0 = λ (k : Item). (f : Filled k) × IsIn (spots (j ∷ js) are one) (spot k f) in
-      subst P same (fill j (All-head (IsItem others) j js are) (All-head (λ (i : Item). IsOneOf ws (write_of others i)) j js one), inl refl)
+      let P : Item → Type 0 = λ (k : Item). (f : Filled k) × IsAmong (spots (j ∷ js) are one) (spot k f) in
+      subst P same (fill j (All-head (IsItem others) j js are) (All-head (λ (i : Item). IsAmong ws (write_of others i)) j js one), inl refl)
   spot-in (j ∷ js) are one i (inr later) =
-      let rest = spot-in js (All-tail (IsItem others) j js are) (All-tail (λ (i : Item). IsOneOf ws (write_of others i)) j js one) i later in
+      let rest = spot-in js (All-tail (IsItem others) j js are) (All-tail (λ (i : Item). IsAmong ws (write_of others i)) j js one) i later in
       (rest.0, inr rest.1)
 
   header-id : (i : Item) → IsItem others i → i.header.id ≡ i.element.id
   header-id i is = first-own i.element.id others i.header is.first
 
   -- what their IDs have
-  pub ids-are : (P : ℕ → Type 0) (is : List Item) (are : All (IsItem others) is) (one : All (λ (i : Item). IsOneOf ws (write_of others i)) is) → All (λ (i : Item). P i.element.id) is → All (λ (s : Spot). P s.header.id) (spots is are one)
+  ids-are : (P : ℕ → Type 0) (is : List Item) (are : All (IsItem others) is) (one : All (λ (i : Item). IsAmong ws (write_of others i)) is) → All (λ (i : Item). P i.element.id) is → All (λ (s : Spot). P s.header.id) (spots is are one)
   ids-are P [] are one all = All-nil (λ (s : Spot). P s.header.id)
   ids-are P (i ∷ is) are one all =
       All-cons (λ (s : Spot). P s.header.id) _ _ (subst P (sym (header-id i (All-head (IsItem others) i is are))) (All-head (λ (i : Item). P i.element.id) i is all))
-      (ids-are P is (All-tail (IsItem others) i is are) (All-tail (λ (i : Item). IsOneOf ws (write_of others i)) i is one) (All-tail (λ (i : Item). P i.element.id) i is all))
+      (ids-are P is (All-tail (IsItem others) i is are) (All-tail (λ (i : Item). IsAmong ws (write_of others i)) i is one) (All-tail (λ (i : Item). P i.element.id) i is all))
 
   -- no two have one header
-  pub single-in : (is : List Item) (are : All (IsItem others) is) (one : All (λ (i : Item). IsOneOf ws (write_of others i)) is) → AreDistinct is → (s : Spot) → IsIn (spots is are one) s → All (λ (o : Spot). o.header ≡ s.header → o ≡ s) (spots is are one)
+  single-in : (is : List Item) (are : All (IsItem others) is) (one : All (λ (i : Item). IsAmong ws (write_of others i)) is) → AreDistinct is → (s : Spot) → IsAmong (spots is are one) s → All (λ (o : Spot). o.header ≡ s.header → o ≡ s) (spots is are one)
   single-in [] are one distinct s member = absurd member
   single-in (i ∷ is) are one distinct s (inl same) =
-      let rest_ids = ids-are (λ n. (n == i.element.id) ≡ false) is (All-tail (IsItem others) i is are) (All-tail (λ (i : Item). IsOneOf ws (write_of others i)) i is one) distinct.0 in
+      let rest_ids = ids-are (λ n. (n == i.element.id) ≡ false) is (All-tail (IsItem others) i is are) (All-tail (λ (i : Item). IsAmong ws (write_of others i)) i is one) distinct.0 in
       let own = header-id i (All-head (IsItem others) i is are) in
       All-cons (λ (o : Spot). o.header ≡ s.header → o ≡ s) _ _ (λ header. same)
       (λ k d below header.
       let differs = rest_ids k d below in
-      let ids : (get_or (spots is (All-tail (IsItem others) i is are) (All-tail (λ (i : Item). IsOneOf ws (write_of others i)) i is one)) k d).header.id ≡ i.element.id =
+      let ids : (get_or (spots is (All-tail (IsItem others) i is are) (All-tail (λ (i : Item). IsAmong ws (write_of others i)) i is one)) k d).header.id ≡ i.element.id =
       ap (λ (g : Header). g.id) header ∙ ap (λ (x : Spot). x.header.id) (sym same) ∙ own in
-      absurd (let here : ((get_or (spots is (All-tail (IsItem others) i is are) (All-tail (λ (i : Item). IsOneOf ws (write_of others i)) i is one)) k d).header.id == i.element.id) ≡ true = grind (arith, nat_tests) in cc))
+      absurd (let here : ((get_or (spots is (All-tail (IsItem others) i is are) (All-tail (λ (i : Item). IsAmong ws (write_of others i)) i is one)) k d).header.id == i.element.id) ≡ true = grind (arith, nat_tests) in cc))
   single-in (i ∷ is) are one distinct s (inr later) =
-      let rest_ids = ids-are (λ n. (n == i.element.id) ≡ false) is (All-tail (IsItem others) i is are) (All-tail (λ (i : Item). IsOneOf ws (write_of others i)) i is one) distinct.0 in
+      let rest_ids = ids-are (λ n. (n == i.element.id) ≡ false) is (All-tail (IsItem others) i is are) (All-tail (λ (i : Item). IsAmong ws (write_of others i)) i is one) distinct.0 in
       let own = header-id i (All-head (IsItem others) i is are) in
-      let differs = all-in (λ (s : Spot). (s.header.id == i.element.id) ≡ false) (spots is (All-tail (IsItem others) i is are) (All-tail (λ (i : Item). IsOneOf ws (write_of others i)) i is one)) s rest_ids later in
+      let differs = all-among (λ (s : Spot). (s.header.id == i.element.id) ≡ false) (spots is (All-tail (IsItem others) i is are) (All-tail (λ (i : Item). IsAmong ws (write_of others i)) i is one)) s rest_ids later in
       All-cons (λ (o : Spot). o.header ≡ s.header → o ≡ s) _ _
       (λ header. let ids : s.header.id ≡ i.element.id = sym (ap (λ (g : Header). g.id) header) ∙ own in absurd (let here : (s.header.id == i.element.id) ≡ true = grind (arith, nat_tests) in cc))
-      (single-in is (All-tail (IsItem others) i is are) (All-tail (λ (i : Item). IsOneOf ws (write_of others i)) i is one) distinct.1 s later)
+      (single-in is (All-tail (IsItem others) i is are) (All-tail (λ (i : Item). IsAmong ws (write_of others i)) i is one) distinct.1 s later)
 
   -- where none of them reaches, no octet is written
-  none-inside : (p q k : ℕ) (is : List Item) (are : All (IsItem others) is) (one : All (λ (i : Item). IsOneOf ws (write_of others i)) is)
+  none-inside : (p q k : ℕ) (is : List Item) (are : All (IsItem others) is) (one : All (λ (i : Item). IsAmong ws (write_of others i)) is)
       → All (λ (s : Spot). (q ≤ s.header.offset) ⊎ (end_of s ≤ p)) (spots is are one) → p ≤ k → k < q → IsInside others is k → ⊥
   none-inside p q k [] are one clear from to inside = inside
   none-inside p q k (i ∷ is) are one clear from to (inr later) =
-      none-inside p q k is (All-tail (IsItem others) i is are) (All-tail (λ (i : Item). IsOneOf ws (write_of others i)) i is one) (All-tail (λ (s : Spot). (q ≤ s.header.offset) ⊎ (end_of s ≤ p)) _ _ clear) from to later
+      none-inside p q k is (All-tail (IsItem others) i is are) (All-tail (λ (i : Item). IsAmong ws (write_of others i)) i is one) (All-tail (λ (s : Spot). (q ≤ s.header.offset) ⊎ (end_of s ≤ p)) _ _ clear) from to later
   none-inside p q k (i ∷ is) are one clear from to (inl (begins, ends)) =
-      let f : Filled i = fill i (All-head (IsItem others) i is are) (All-head (λ (i : Item). IsOneOf ws (write_of others i)) i is one) in
+      let f : Filled i = fill i (All-head (IsItem others) i is are) (All-head (λ (i : Item). IsAmong ws (write_of others i)) i is one) in
       let all = f.len in
       elim (All-head (λ (s : Spot). (q ≤ s.header.offset) ⊎ (end_of s ≤ p)) _ _ clear) [
         | inl before ↦ omega arith
@@ -284,11 +304,11 @@ module _ (bytes : List ℕ) (size now_size : Size) (start e now_end last : ℕ) 
 
   -- The new content is the old one, but for what is written anew and what stands behind it.
   module _ (now_within : now_end ≤ length new) (stops : (id : ℕ) → ends_segment now_size id ≡ ends_segment size id)
-      (keep : (h : Header) (m : ℕ) → Stands (level bytes size e) h.offset h m → IsAhead list h → CanKeep bytes new e now_end h)
-      (blocks : (h : Header) → IsAhead list h → ends_cluster h.id ≡ false → HasNoBlock h)
+      (keep : (h : Header) (m : ℕ) → Stands (level bytes size e) h.offset h m → IsAmong list h → CanKeep bytes new e now_end h)
+      (blocks : (h : Header) → IsAmong list h → ends_cluster h.id ≡ false → IsOutside h)
       (tail : run_of (new_level edit) last ≡ whole behind (run_of (new_level edit) last).end)
-      (closes : (run_of (old_inner edit) last ≡ ends_at last) ⊎ Moves → run_of (new_inner edit) last ≡ ends_at last) where
-    old-is : (h : Header) (m : ℕ) → Stands (level bytes size e) h.offset h m → IsAhead list h → IsOld edit Moves h
+      (closes : run_of (new_inner edit) last ≡ ends_at last) where
+    old-is : (h : Header) (m : ℕ) → Stands (level bytes size e) h.offset h m → IsAmong list h → IsOld edit h
     old-is h m stands ahead =
         let k = keep h m stands ahead in
         record {
@@ -297,13 +317,13 @@ module _ (bytes : List ℕ) (size now_size : Size) (start e now_end last : ℕ) 
           closed = k.closed;
           block = blocks h ahead;
           room = λ s member after before.
-              let end = all-in (λ (s : Spot). end_of s ≡ behind_voids (stated_end s.header) others) (spots items are one) s (ends-are items are one) member in
-              let there = all-in (λ (s : Spot). IsAhead list s.header) (spots items are one) s (ahead-are items are one) member in
-              let own = all-in (IsSpot edit Moves) (spots items are one) s (spots-are items are one moves) member in
+              let end = all-among (λ (s : Spot). end_of s ≡ behind_voids (stated_end s.header) others) (spots items are one) s (ends-are items are one) member in
+              let there = all-among (λ (s : Spot). IsAmong list s.header) (spots items are one) s (ahead-are items are one) member in
+              let own = all-among (IsSpot edit) (spots items are one) s (spots-are items are one) member in
               in-room h m stands ahead s own end there after before;
         }
       where
-        in-room : (h : Header) (m : ℕ) → Stands (level bytes size e) h.offset h m → IsAhead list h → (s : Spot) → IsSpot edit Moves s → end_of s ≡ behind_voids (stated_end s.header) others → IsAhead list s.header
+        in-room : (h : Header) (m : ℕ) → Stands (level bytes size e) h.offset h m → IsAmong list h → (s : Spot) → IsSpot edit s → end_of s ≡ behind_voids (stated_end s.header) others → IsAmong list s.header
             → s.header.offset < h.offset → h.offset < end_of s → (h.id ≡ VOID) × (stated_end h ≤ end_of s)
         in-room h m stands ahead s own end there after before =
             let behind_it = ahead-behind bytes size e start last list s.header h tiles there ahead own.cluster after in
@@ -313,23 +333,28 @@ module _ (bytes : List ℕ) (size now_size : Size) (start e now_end last : ℕ) 
             let void = room-voids bytes size e (stated_end s.header) start last list h (omega arith) tiles ahead behind_it (omega arith) in
             (void.0, (let ends = void.1 in omega arith))
 
-    pub is-edit : IsEdit edit Moves
+    is-edit : IsEdit edit
     is-edit = record {
       same = same-is;
       longer = longer;
       within = within;
       now_within = now_within;
       stops = stops;
-      spots = spots-are items are one moves;
+      spots = spots-are items are one;
       single = λ k d below j c under same.
           let one_end = ends-are items are one k d below in
           let other_end = ends-are items are one j c under in
           one_end ∙ ap (λ (g : Header). behind_voids (stated_end g) others) same ∙ sym other_end;
-      stay = tiles-all bytes size e start last list (IsOld edit Moves) tiles old-is;
+      stay = tiles-all bytes size e start last list (IsOld edit) tiles old-is;
       behind = tail;
       closes = closes;
     }
 
-    -- The old Elements of level 1 become the new ones.
-    pub listed : IsListed edit Moves list start
-    listed = level-becomes edit Moves is-edit reaches run (ahead-are items are one)
+    pub anew : AreDistinct items → IsAnew edit items
+    anew distinct = record {
+      listed = level-becomes edit is-edit reaches run (ahead-are items are one);
+      edit = is-edit;
+      none = λ id written. ids-are (λ n. (n == id) ≡ false) items are one written;
+      spots = spot-in items are one;
+      single = single-in items are one distinct;
+    }

@@ -19,11 +19,13 @@ use Rattle.output_model.proofs.ReadLemmas.{element_at-read, elements-read, eleme
 use Rattle.output_model.proofs.HeldLemmas.{held-left}
 use Rattle.block_format.specs.Elements.{Rules}
 use Rattle.block_format.specs.Events.{found_in, is_closed}
+use Rattle.edit_laws.proofs.AmongLemmas.{IsAmong, all-among, first-among}
 use Rattle.edit_laws.proofs.SameLemmas.{AreSame, same-part}
 use Rattle.edit_laws.proofs.HeaderLemmas.{outside, found-same, id-same}
-use Rattle.edit_laws.proofs.BlockLemmas.{AreAlike, IsShared, IsHeld, first-has, first-passes}
-use Rattle.edit_laws.proofs.ClusterLemmas.{HasNoBlock, known-alike, open-alike}
-use Rattle.edit_laws.proofs.TileLemmas.{Way, level, inner, run_of, advances-level, advances-inner, Stands, Tiles, whole, run-step, run-stops, run-tiled, tiled, stands-placed, tiles-end, inner-within, IsAhead, ahead-later}
+use Rattle.edit_laws.proofs.BlockLemmas.{AreAlike, IsShared, IsHeld}
+use Rattle.edit_laws.proofs.ClusterLemmas.{known-alike, open-alike}
+use Rattle.edit_laws.proofs.TileLemmas.{Way, level, inner, run_of, advances-level, advances-inner, Stands, Tiles, whole, run-step, run-stops, run-tiled, tiled, stands-placed, tiles-end, inner-within, ahead-later}
+use Rattle.edit_laws.specs.Laws.{IsOutside}
 
 -- ---- what is written anew
 
@@ -69,7 +71,7 @@ abbrev pub new_inner : Edit → Way
 new_inner t = inner t.new t.now_end
 
 -- An Element is written anew, in its place or at the end.
-pub record IsSpot (t : Edit) (Moves : Type 0) (s : Spot) : Type 0 where
+pub record IsSpot (t : Edit) (s : Spot) : Type 0 where
   pub inside : s.header.offset < t.end
   pub found : element_at in_segment t.old s.header.offset t.end ≡ Ok s.header
   pub known : is_unknown s.header.size ≡ false
@@ -83,37 +85,32 @@ pub record IsSpot (t : Edit) (Moves : Type 0) (s : Spot) : Type 0 where
   pub within : end_of s ≤ t.now_end
   pub goes : All (λ (d : Element). ends_segment t.now_size d.id ≡ false) (all_now s)
   pub voids : All (λ (d : Element). d.id ≡ VOID) s.voids
-  pub stays : ((s.now.id ≡ s.header.id) × (ends_cluster s.header.id ≡ true)) ⊎ ((s.now.id ≡ VOID) × (s.voids ≡ []) × Moves)
-
--- one of some spots
-abbrev pub IsIn : List Spot → Spot → Type 0
-IsIn [] s = ⊥
-IsIn (x ∷ xs) s = (x ≡ s) ⊎ IsIn xs s
+  pub stays : ((s.now.id ≡ s.header.id) × (ends_cluster s.header.id ≡ true)) ⊎ ((s.now.id ≡ VOID) × (s.voids ≡ []))
 
 -- An old Element that isn't written anew can stand where it stood; in the room of one that is it is a Void.
-pub record IsOld (t : Edit) (Moves : Type 0) (h : Header) : Type 0 where
+pub record IsOld (t : Edit) (h : Header) : Type 0 where
   pub sound : body_damage in_segment (length t.new) t.now_end h ≡ None
   pub ends : is_unknown h.size ≡ false → end_in t.now_end h ≡ end_in t.end h
   pub closed : is_closed (length t.new) h ≡ is_closed (length t.old) h
-  pub block : ends_cluster h.id ≡ false → HasNoBlock h
-  pub room : (s : Spot) → IsIn t.spots s → s.header.offset < h.offset → h.offset < end_of s → (h.id ≡ VOID) × (stated_end h ≤ end_of s)
+  pub block : ends_cluster h.id ≡ false → IsOutside h
+  pub room : (s : Spot) → IsAmong t.spots s → s.header.offset < h.offset → h.offset < end_of s → (h.id ≡ VOID) × (stated_end h ≤ end_of s)
 
 -- no spot reaches in between two places
 abbrev pub IsClear : Edit → ℕ → ℕ → Type 0
 IsClear t p q = All (λ (s : Spot). (q ≤ s.header.offset) ⊎ (end_of s ≤ p)) t.spots
 
 -- The new content is the old one, but for what is written anew and what stands behind it.
-pub record IsEdit (t : Edit) (Moves : Type 0) : Type 0 where
+pub record IsEdit (t : Edit) : Type 0 where
   pub same : (p q : ℕ) → t.start ≤ p → p ≤ q → q ≤ t.end → IsClear t p q → AreSame t.old t.new p q
   pub longer : t.end ≤ t.now_end
   pub within : t.end ≤ length t.old
   pub now_within : t.now_end ≤ length t.new
   pub stops : (id : ℕ) → ends_segment t.now_size id ≡ ends_segment t.size id
-  pub spots : All (IsSpot t Moves) t.spots
+  pub spots : All (IsSpot t) t.spots
   pub single : All (λ (s : Spot). All (λ (other : Spot). s.header ≡ other.header → end_of s ≡ end_of other) t.spots) t.spots
-  pub stay : All (IsOld t Moves) t.list
+  pub stay : All (IsOld t) t.list
   pub behind : run_of (new_level t) t.last ≡ whole t.behind (run_of (new_level t) t.last).end
-  pub closes : (run_of (old_inner t) t.last ≡ ends_at t.last) ⊎ Moves → run_of (new_inner t) t.last ≡ ends_at t.last
+  pub closes : run_of (new_inner t) t.last ≡ ends_at t.last
 
 -- ---- what becomes of the Elements
 
@@ -126,34 +123,34 @@ pub record IsKept (t : Edit) (h : Header) : Type 0 where
   pub held : (h.id == CLUSTER) ≡ false → IsHeld t.old t.new h
 
 -- It is no longer listed: a Void in a room that is used, or what a Cluster of unknown size holds now.
-abbrev pub IsGone : Edit → Type 0 → Header → Type 0
-IsGone t Moves h = (ends_cluster h.id ≡ false) ⊎ ((s : Spot) × IsIn t.spots s × IsSpot t Moves s × (s.header ≡ h) × (s.now.id ≡ VOID))
+abbrev pub IsGone : Edit → Header → Type 0
+IsGone t h = (ends_cluster h.id ≡ false) ⊎ ((s : Spot) × IsAmong t.spots s × IsSpot t s × (s.header ≡ h) × (s.now.id ≡ VOID))
 
 -- What becomes of an Element in front of others: it stays, is written anew, or is gone.
-pub data Turn (t : Edit) (Moves : Type 0) (h : Header) (ks ns : List Header) : Type 0 where
-  kept : IsKept t h → ns ≡ h ∷ ks → Turn t Moves h ks ns
-  now : (s : Spot) → IsIn t.spots s → IsSpot t Moves s → s.header ≡ h → ns ≡ headers_in_place s.header.offset (all_now s) ++ ks → Turn t Moves h ks ns
-  gone : IsGone t Moves h → ns ≡ ks → Turn t Moves h ks ns
+pub data Turn (t : Edit) (h : Header) (ks ns : List Header) : Type 0 where
+  kept : IsKept t h → ns ≡ h ∷ ks → Turn t h ks ns
+  now : (s : Spot) → IsAmong t.spots s → IsSpot t s → s.header ≡ h → ns ≡ headers_in_place s.header.offset (all_now s) ++ ks → Turn t h ks ns
+  gone : IsGone t h → ns ≡ ks → Turn t h ks ns
 
 -- Old Elements become new ones, behind which stands what is added.
-abbrev pub Becomes : Edit → Type 0 → List Header → List Header → Type 0
-Becomes t Moves [] ns = ns ≡ t.behind
-Becomes t Moves (h ∷ hs) ns = (ks : List Header) × Turn t Moves h ks ns × Becomes t Moves hs ks
+abbrev pub Becomes : Edit → List Header → List Header → Type 0
+Becomes t [] ns = ns ≡ t.behind
+Becomes t (h ∷ hs) ns = (ks : List Header) × Turn t h ks ns × Becomes t hs ks
 
 -- The Elements from a place on become those that the new content lists from there on.
-pub record IsListed (t : Edit) (Moves : Type 0) (hs : List Header) (q : ℕ) : Type 0 where
+pub record IsListed (t : Edit) (hs : List Header) (q : ℕ) : Type 0 where
   pub list : List Header
   pub end : ℕ
   pub run : run_of (new_level t) q ≡ whole list end
-  pub becomes : Becomes t Moves hs list
+  pub becomes : Becomes t hs list
 
 -- So they do where a Cluster of unknown size stands in front of them: it holds those that no longer end it.
-pub record IsInside (t : Edit) (Moves : Type 0) (hs : List Header) (q : ℕ) : Type 0 where
+pub record IsInside (t : Edit) (hs : List Header) (q : ℕ) : Type 0 where
   pub more : List Header
   pub end : ℕ
   pub held : run_of (new_inner t) q ≡ whole more end
-  pub none : All HasNoBlock more
-  pub rest : IsListed t Moves hs end
+  pub none : All IsOutside more
+  pub rest : IsListed t hs end
 
 -- ---- Elements of known size
 
@@ -165,8 +162,8 @@ pub void-goes : ends_cluster VOID ≡ false
 unfolding entry_of table
 void-goes = refl
 
-void-none : (h : Header) → h.id ≡ VOID → HasNoBlock h
-void-none h is = record { time = ap (λ n. n == TIMESTAMP) is; simple = ap (λ n. n == SIMPLE_BLOCK) is; group = ap (λ n. n == BLOCK_GROUP) is }
+void-none : (h : Header) → h.id ≡ VOID → IsOutside h
+void-none h is = record { timestamp = ap (λ n. n == TIMESTAMP) is; simple = ap (λ n. n == SIMPLE_BLOCK) is; group = ap (λ n. n == BLOCK_GROUP) is }
 
 -- nothing is wrong with a body of known size that ends with its parent or before
 sound-known : (may_open : ℕ → Bool) (total e : ℕ) (h : Header) → is_unknown h.size ≡ false → stated_end h ≤ e → e ≤ total → body_damage (outside may_open) total e h ≡ None
@@ -203,10 +200,6 @@ open-whole bytes size p e q h stands unknown = with-end (open_cluster bytes h.bo
     with-end run None none goes = let end : run.end ≡ q = cc in ap (λ d. record { list = run.list; damage = d; end = run.end }) none ∙ ap (λ k. whole run.list k) end
     with-end run (Some d) some goes = absurd (cc)
 
--- and it ends there
-open-over : (bytes : List ℕ) (size : Size) (p e q : ℕ) (h : Header) → Stands (level bytes size e) p h q → is_unknown h.size ≡ true → run_of (inner bytes e) q ≡ ends_at q
-open-over bytes size p e q h stands unknown = (tiled (inner bytes e) h.body q (open_cluster bytes h.body e).list (advances-inner bytes e) (open-whole bytes size p e q h stands unknown)).ends
-
 -- Elements of level 1 end where their Segment may at most.
 pub level-within : (bytes : List ℕ) (size : Size) (e p q : ℕ) (hs : List Header) → Tiles (level bytes size e) p hs q → p ≤ e → q ≤ e
 level-within bytes size e p q [] tiles inside = omega (arith, tiles)
@@ -219,7 +212,7 @@ level-within bytes size e p q (h ∷ hs) (m, stands, rest) inside = level-within
         let run = open-whole bytes size p e m h stands unknown in
         inner-within bytes e h.body m (open_cluster bytes h.body e).list (tiled (inner bytes e) h.body m (open_cluster bytes h.body e).list (advances-inner bytes e) run).tiles placed.within
 
-module _ (t : Edit) (Moves : Type 0) (is : IsEdit t Moves) where
+module _ (t : Edit) (is : IsEdit t) where
   -- ---- the children of a Cluster of unknown size
 
   pub record AreHeld (p : ℕ) (hs : List Header) (q : ℕ) : Type 0 where
@@ -262,21 +255,21 @@ module _ (t : Edit) (Moves : Type 0) (is : IsEdit t Moves) where
 
   -- a place of the old list and the one of the new list, which may be behind it where Voids of a room are passed over
   abbrev IsAt : ℕ → ℕ → Type 0
-  IsAt p q = (p ≡ q) ⊎ ((s : Spot) × IsIn t.spots s × IsSpot t Moves s × (s.header.offset < p) × (p ≤ q) × (q ≡ end_of s))
+  IsAt p q = (p ≡ q) ⊎ ((s : Spot) × IsAmong t.spots s × IsSpot t s × (s.header.offset < p) × (p ≤ q) × (q ≡ end_of s))
 
   -- what is written anew is behind, or still ahead
   abbrev Await : ℕ → List Header → Spot → Type 0
-  Await q hs s = (end_of s ≤ q) ⊎ IsAhead hs s.header
+  Await q hs s = (end_of s ≤ q) ⊎ IsAmong hs s.header
 
   abbrev AreAwaited : ℕ → List Header → Type 0
   AreAwaited q hs = All (Await q hs) t.spots
 
-  -- it holds what ends here, or something moves
-  abbrev CanGoOn : ℕ → Type 0
-  CanGoOn p = (run_of (old_inner t) p ≡ ends_at p) ⊎ Moves
+  abbrev Goes : List Header → ℕ → Type 0
+  Goes hs q = IsListed t hs q × IsInside t hs q
 
-  abbrev Goes : List Header → ℕ → ℕ → Type 0
-  Goes hs p q = IsListed t Moves hs q × (CanGoOn p → IsInside t Moves hs q)
+  -- one that is gone changes nothing of the others
+  not-listed : (h : Header) (hs : List Header) (q : ℕ) → IsGone t h → IsListed t hs q → IsListed t (h ∷ hs) q
+  not-listed h hs q is-gone rest = record { list = rest.list; end = rest.end; run = rest.run; becomes = (rest.list, gone is-gone refl, rest.becomes) }
 
   -- ---- an Element of level 1 that a Cluster can hold
 
@@ -294,23 +287,13 @@ module _ (t : Edit) (Moves : Type 0) (is : IsEdit t Moves) where
         next = ap (λ k. Ok k) next;
       }
 
-  -- it holds none where its children ended, so something moves
-  goes-moves : (p m : ℕ) (h : Header) → Stands (old_level t) p h m → ends_cluster h.id ≡ false → CanGoOn p → Moves
-  goes-moves p m h stands goes (inr moves) = moves
-  goes-moves p m h stands goes (inl over) =
-      let other : (h.id == CLUSTER) ≡ false = no_cluster h goes (h.id == CLUSTER) refl in
-      let whole = whole-known t.old t.size p t.end m h stands other in
-      let next = next-known t.old t.size p t.end m h stands whole.0 in
-      let step = run-step (old_inner t) p m h (advances-inner t.old t.end) (child t.old p t.end m h stands.found stands.inside whole.1 is.within whole.0 goes next) in
-      absurd (let none : h ∷ (run_of (old_inner t) m).list ≡ [] = ap (λ (r : Run). r.list) (sym step ∙ over) in cc)
-
   -- ---- an Element that is written anew
 
-  module _ (s : Spot) (member : IsIn t.spots s) (spot : IsSpot t Moves s) (h : Header) (own : s.header ≡ h) (hs : List Header) where
+  module _ (s : Spot) (member : IsAmong t.spots s) (spot : IsSpot t s) (h : Header) (own : s.header ≡ h) (hs : List Header) where
     abbrev headers : List Header
     headers = headers_in_place s.header.offset (all_now s)
 
-    listed-now : IsListed t Moves hs (end_of s) → IsListed t Moves (h ∷ hs) s.header.offset
+    listed-now : IsListed t hs (end_of s) → IsListed t (h ∷ hs) s.header.offset
     listed-now rest = record {
       list = headers ++ rest.list;
       end = rest.end;
@@ -326,21 +309,20 @@ module _ (t : Edit) (Moves : Type 0) (is : IsEdit t Moves) where
         let within = spot.within in
         element_at-read in_master t.new s.now s.header.offset t.now_end refl (All-head IsElement s.now s.voids spot.elements) (held-left t.new s.header.offset (octets_of s.now) (joined s.voids) spot.held) (omega arith)
 
-    inside-now : IsListed t Moves (h ∷ hs) s.header.offset → (CanGoOn (stated_end s.header) → IsInside t Moves hs (end_of s)) → IsInside t Moves (h ∷ hs) s.header.offset
-    inside-now here further = of spot.stays
+    inside-now : IsListed t (h ∷ hs) s.header.offset → IsInside t hs (end_of s) → IsInside t (h ∷ hs) s.header.offset
+    inside-now here rest = of spot.stays
       where
-        of : ((s.now.id ≡ s.header.id) × (ends_cluster s.header.id ≡ true)) ⊎ ((s.now.id ≡ VOID) × (s.voids ≡ []) × Moves) → IsInside t Moves (h ∷ hs) s.header.offset
+        of : ((s.now.id ≡ s.header.id) × (ends_cluster s.header.id ≡ true)) ⊎ ((s.now.id ≡ VOID) × (s.voids ≡ [])) → IsInside t (h ∷ hs) s.header.offset
         of (inl (same, ends)) = record {
           more = [];
           end = s.header.offset;
           held = run-stops (new_inner t) s.header.offset (advances-inner t.new t.now_end)
               (let inside = spot.inside in let longer = is.longer in omega arith)
               (ap (λ f. ends_cluster (id_of f)) first-found ∙ ap ends_cluster same ∙ ends);
-          none = All-nil HasNoBlock;
+          none = All-nil IsOutside;
           rest = here;
         }
-        of (inr (void, alone, moves)) =
-            let rest = further (inr moves) in
+        of (inr (void, alone)) =
             let g : Header = header_in_place s.header.offset s.now in
             let nothing : joined s.voids ≡ [] = ap joined alone in
             let len : length (octets_of s.now ++ joined s.voids) ≡ length (octets_of s.now) = ap (λ l. length (octets_of s.now ++ l)) nothing ∙ ap length (append-nil (octets_of s.now)) in
@@ -353,18 +335,13 @@ module _ (t : Edit) (Moves : Type 0) (is : IsEdit t Moves) where
               more = g ∷ rest.more;
               end = rest.end;
               held = step ∙ ap (λ k. in_front g (run_of (new_inner t) k)) end ∙ ap (in_front g) rest.held;
-              none = All-cons HasNoBlock g rest.more (void-none g void) rest.none;
-              rest = record {
-                list = rest.rest.list;
-                end = rest.rest.end;
-                run = rest.rest.run;
-                becomes = (rest.rest.list, gone (inr (s, member, spot, own, void)) refl, rest.rest.becomes);
-              };
+              none = All-cons IsOutside g rest.more (void-none g void) rest.none;
+              rest = not-listed h hs rest.end (inr (s, member, spot, own, void)) rest.rest;
             }
 
   -- ---- an Element that stays
 
-  module _ (p m last : ℕ) (from : t.start ≤ p) (h : Header) (hs : List Header) (stands : Stands (old_level t) p h m) (rest : Tiles (old_level t) m hs last) (inside_old : m ≤ t.end) (old : IsOld t Moves h)
+  module _ (p m last : ℕ) (from : t.start ≤ p) (h : Header) (hs : List Header) (stands : Stands (old_level t) p h m) (rest : Tiles (old_level t) m hs last) (inside_old : m ≤ t.end) (old : IsOld t h)
       (apart : All (λ (s : Spot). (s.header.offset == h.offset) ≡ false) t.spots) (awaited : AreAwaited p (h ∷ hs)) where
     at : h.offset ≡ p
     at = (stands-placed (old_level t) p m h (advances-level t.old t.size t.end) stands).0
@@ -420,7 +397,7 @@ module _ (t : Edit) (Moves : Type 0) (is : IsEdit t Moves) where
       next-is : end_in t.end h ≡ m
       next-is = next-known t.old t.size p t.end m h stands known
 
-      listed-known : IsListed t Moves hs m → IsListed t Moves (h ∷ hs) p
+      listed-known : IsListed t hs m → IsListed t (h ∷ hs) p
       listed-known rest = record {
         list = h ∷ rest.list;
         end = rest.end;
@@ -458,7 +435,7 @@ module _ (t : Edit) (Moves : Type 0) (is : IsEdit t Moves) where
 
     -- a Cluster of unknown size
 
-    listed-open : is_unknown h.size ≡ true → IsInside t Moves hs m → IsListed t Moves (h ∷ hs) p
+    listed-open : is_unknown h.size ≡ true → IsInside t hs m → IsListed t (h ∷ hs) p
     listed-open unknown further =
         let run_is = open-whole t.old t.size p t.end m h stands unknown in
         let children : List Header = (open_cluster t.old h.body t.end).list in
@@ -489,37 +466,35 @@ module _ (t : Edit) (Moves : Type 0) (is : IsEdit t Moves) where
 
     -- a Cluster of unknown size that stands in front of it
 
-    inside-here : IsListed t Moves (h ∷ hs) p → (CanGoOn m → IsInside t Moves hs m) → CanGoOn p → IsInside t Moves (h ∷ hs) p
-    inside-here here further can = of (ends_cluster h.id) refl
+    inside-here : IsListed t (h ∷ hs) p → IsInside t hs m → IsInside t (h ∷ hs) p
+    inside-here here more = of (ends_cluster h.id) refl
       where
-        stops : ends_cluster h.id ≡ true → IsInside t Moves (h ∷ hs) p
+        stops : ends_cluster h.id ≡ true → IsInside t (h ∷ hs) p
         stops ends = record {
           more = [];
           end = p;
           held = run-stops (new_inner t) p (advances-inner t.new t.now_end) (let inside = stands.inside in let longer = is.longer in omega arith)
               (ap ends_cluster (id-same ((in_segment).may_open) (λ id. false) t.new p t.now_end h found) ∙ ends);
-          none = All-nil HasNoBlock;
+          none = All-nil IsOutside;
           rest = here;
         }
 
-        goes_on : ends_cluster h.id ≡ false → IsInside t Moves (h ∷ hs) p
+        goes_on : ends_cluster h.id ≡ false → IsInside t (h ∷ hs) p
         goes_on goes =
             let other : (h.id == CLUSTER) ≡ false = no_cluster h goes (h.id == CLUSTER) refl in
             let known = (whole-known t.old t.size p t.end m h stands other).0 in
             let ends = (whole-known t.old t.size p t.end m h stands other).1 in
             let next = next-known t.old t.size p t.end m h stands known in
             let longer = is.longer in let left = is.within in let right = is.now_within in let inside = stands.inside in
-            let moves : Moves = goes-moves p m h stands goes can in
-            let more = further (inr moves) in
             record {
               more = h ∷ more.more;
               end = more.end;
               held = run-step (new_inner t) p m h (advances-inner t.new t.now_end) (child t.new p t.now_end m h found (omega arith) (omega arith) right known goes (old.ends known ∙ next)) ∙ ap (in_front h) more.held;
-              none = All-cons HasNoBlock h more.more (old.block goes) more.none;
-              rest = record { list = more.rest.list; end = more.rest.end; run = more.rest.run; becomes = (more.rest.list, gone (inl goes) refl, more.rest.becomes) };
+              none = All-cons IsOutside h more.more (old.block goes) more.none;
+              rest = not-listed h hs more.end (inl goes) more.rest;
             }
 
-        of : (ends : Bool) → ends_cluster h.id ≡ ends → IsInside t Moves (h ∷ hs) p
+        of : (ends : Bool) → ends_cluster h.id ≡ ends → IsInside t (h ∷ hs) p
         of true ends = stops ends
         of false goes = goes_on goes
 
@@ -542,17 +517,9 @@ module _ (t : Edit) (Moves : Type 0) (is : IsEdit t Moves) where
       of further true same some = absurd (cc)
       of further false same rest = All-cons (λ x. passes x ≡ false) x xs same (further rest)
 
-  first-in : (passes : Spot → Bool) (xs : List Spot) (s : Spot) → find passes xs ≡ Some s → IsIn xs s
-  first-in passes [] s found = absurd (cc)
-  first-in passes (x ∷ xs) s found = of (first-in passes xs s) (passes x) found
-    where
-      of : (find passes xs ≡ Some s → IsIn xs s) → (test : Bool) → (if test then Some x else find passes xs) ≡ Some s → IsIn (x ∷ xs) s
-      of further true is_it = inl (cc)
-      of further false rest = inr (further rest)
-
   -- An Element where all before it are settled.
-  module _ (p m : ℕ) (from : t.start ≤ p) (h : Header) (hs : List Header) (stands : Stands (old_level t) p h m) (rest : Tiles (old_level t) m hs t.last) (old : IsOld t Moves h) (awaited : AreAwaited p (h ∷ hs))
-      (further : (q : ℕ) → IsAt m q → AreAwaited q hs → Goes hs m q) where
+  module _ (p m : ℕ) (from : t.start ≤ p) (h : Header) (hs : List Header) (stands : Stands (old_level t) p h m) (rest : Tiles (old_level t) m hs t.last) (old : IsOld t h) (awaited : AreAwaited p (h ∷ hs))
+      (further : (q : ℕ) → IsAt m q → AreAwaited q hs → Goes hs q) where
     place : h.offset ≡ p
     place = (stands-placed (old_level t) p m h (advances-level t.old t.size t.end) stands).0
 
@@ -560,7 +527,7 @@ module _ (t : Edit) (Moves : Type 0) (is : IsEdit t Moves) where
     step = (stands-placed (old_level t) p m h (advances-level t.old t.size t.end) stands).1
 
     -- one that is written anew
-    at-spot : (s : Spot) → IsIn t.spots s → IsSpot t Moves s → All (λ (other : Spot). s.header ≡ other.header → end_of s ≡ end_of other) t.spots → s.header.offset ≡ p → Goes (h ∷ hs) p p
+    at-spot : (s : Spot) → IsAmong t.spots s → IsSpot t s → All (λ (other : Spot). s.header ≡ other.header → end_of s ≡ end_of other) t.spots → s.header.offset ≡ p → Goes (h ∷ hs) p
     at-spot s member spot single same_place =
         let there : element_at in_segment t.old p t.end ≡ Ok s.header = subst (λ k. element_at in_segment t.old k t.end ≡ Ok s.header) same_place spot.found in
         let both : Ok s.header ≡ Ok h = sym there ∙ stands.found in
@@ -573,71 +540,68 @@ module _ (t : Edit) (Moves : Type 0) (is : IsEdit t Moves) where
         let on = step in
         let go = further (end_of s) (inr (s, member, spot, omega arith, omega arith, refl))
         (await-behind p (end_of s) h hs (omega arith) (λ k other below same. let end = single k other below (own ∙ same) in omega arith) awaited) in
-        let here : IsListed t Moves (h ∷ hs) p = subst (IsListed t Moves (h ∷ hs)) same_place (listed-now s member spot h own hs go.0) in (
+        let here : IsListed t (h ∷ hs) p = subst (IsListed t (h ∷ hs)) same_place (listed-now s member spot h own hs go.0) in (
           here,
-          λ can. subst (IsInside t Moves (h ∷ hs)) same_place
-              (inside-now s member spot h own hs (listed-now s member spot h own hs go.0) (λ can. go.1 (subst CanGoOn (sym behind) can))),
+          subst (IsInside t (h ∷ hs)) same_place (inside-now s member spot h own hs (listed-now s member spot h own hs go.0) go.1),
         )
 
     -- one that isn't
-    at-other : m ≤ t.end → All (λ (s : Spot). (s.header.offset == h.offset) ≡ false) t.spots → Goes (h ∷ hs) p p
+    at-other : m ≤ t.end → All (λ (s : Spot). (s.header.offset == h.offset) ≡ false) t.spots → Goes (h ∷ hs) p
     at-other inside apart =
         let go = further m (inl refl)
         (await-behind p m h hs (omega (arith, step)) (λ k s below same. let at : h.offset ≡ (get_or t.spots k s).header.offset = ap (λ (g : Header). g.offset) same in let other = apart k s below in absurd (let here : ((get_or t.spots k s).header.offset == h.offset) ≡ true = grind (arith, nat_tests) in cc)) awaited) in
-        let here : IsListed t Moves (h ∷ hs) p = of go (is_unknown h.size) refl in
+        let here : IsListed t (h ∷ hs) p = of go (is_unknown h.size) refl in
         (here, inside-here p m t.last from h hs stands rest inside old apart awaited here go.1)
       where
-        ended : is_unknown h.size ≡ true → CanGoOn m
-        ended unknown = inl (open-over t.old t.size p t.end m h stands unknown)
-
-        of : Goes hs m m → (unknown : Bool) → is_unknown h.size ≡ unknown → IsListed t Moves (h ∷ hs) p
-        of go true unknown = listed-open p m t.last from h hs stands rest inside old apart awaited unknown (go.1 (ended unknown))
+        of : Goes hs m → (unknown : Bool) → is_unknown h.size ≡ unknown → IsListed t (h ∷ hs) p
+        of go true unknown = listed-open p m t.last from h hs stands rest inside old apart awaited unknown go.1
         of go false known = listed-known p m t.last from h hs stands rest inside old apart awaited known go.0
 
-    goes-here : m ≤ t.end → Goes (h ∷ hs) p p
+    goes-here : m ≤ t.end → Goes (h ∷ hs) p
     goes-here inside = of (find (λ (s : Spot). s.header.offset == h.offset) t.spots) refl
       where
-        of : (found : Option Spot) → find (λ (s : Spot). s.header.offset == h.offset) t.spots ≡ found → Goes (h ∷ hs) p p
+        of : (found : Option Spot) → find (λ (s : Spot). s.header.offset == h.offset) t.spots ≡ found → Goes (h ∷ hs) p
         of None none = at-other inside (find-none (λ (s : Spot). s.header.offset == h.offset) t.spots none)
         of (Some s) some =
-            let has = first-has (λ (s : Spot). IsSpot t Moves s × All (λ (other : Spot). s.header ≡ other.header → end_of s ≡ end_of other) t.spots) (λ (s : Spot). s.header.offset == h.offset) t.spots s (λ k x below. (is.spots k x below, is.single k x below)) some in
-            let passes = first-passes (λ (s : Spot). s.header.offset == h.offset) t.spots s some in
+            let first = first-among (λ (s : Spot). s.header.offset == h.offset) t.spots s some in
+            let passes = first.1 in
             let same : s.header.offset ≡ h.offset = grind (arith, nat_tests) in
-            at-spot s (first-in (λ (s : Spot). s.header.offset == h.offset) t.spots s some) has.0 has.1 (same ∙ place)
+            at-spot s first.0 (all-among (IsSpot t) t.spots s is.spots first.0)
+            (all-among (λ (s : Spot). All (λ (other : Spot). s.header ≡ other.header → end_of s ≡ end_of other) t.spots) t.spots s is.single first.0) (same ∙ place)
 
   -- The Elements from a place on become those that the new content lists from there on.
-  goes-from : (hs : List Header) (p q : ℕ) → t.start ≤ p → t.last ≤ t.end → Tiles (old_level t) p hs t.last → All (IsOld t Moves) hs → IsAt p q → AreAwaited q hs → Goes hs p q
+  goes-from : (hs : List Header) (p q : ℕ) → t.start ≤ p → t.last ≤ t.end → Tiles (old_level t) p hs t.last → All (IsOld t) hs → IsAt p q → AreAwaited q hs → Goes hs q
   goes-from [] p q from short tiles old at awaited = done (at-end at)
     where
       at-end : IsAt p q → q ≡ t.last
       at-end (inl same) = omega (arith, same, tiles)
       at-end (inr (s, member, spot, after, before, end)) = let last = spot.last in omega (arith, tiles)
 
-      done : q ≡ t.last → Goes [] p q
+      done : q ≡ t.last → Goes [] q
       done there =
-          let here : IsListed t Moves [] q = record {
+          let here : IsListed t [] q = record {
             list = t.behind;
             end = (run_of (new_level t) t.last).end;
             run = ap (run_of (new_level t)) there ∙ is.behind;
             becomes = refl;
           } in
-          (here, λ can. record { more = []; end = q; held = subst (λ k. run_of (new_inner t) k ≡ ends_at k) (sym there) (is.closes (subst CanGoOn tiles can)); none = All-nil HasNoBlock; rest = here })
+          (here, record { more = []; end = q; held = subst (λ k. run_of (new_inner t) k ≡ ends_at k) (sym there) is.closes; none = All-nil IsOutside; rest = here })
   goes-from (h ∷ hs) p q from short (m, stands, rest) old at awaited =
-      of (λ k there awaited. goes-from hs m k (omega (arith, step.1)) short rest (All-tail (IsOld t Moves) h hs old) there awaited) at
+      of (λ k there awaited. goes-from hs m k (omega (arith, step.1)) short rest (All-tail (IsOld t) h hs old) there awaited) at
     where
-      own : IsOld t Moves h
-      own = All-head (IsOld t Moves) h hs old
+      own : IsOld t h
+      own = All-head (IsOld t) h hs old
 
       step : (h.offset ≡ p) × (p < m)
       step = stands-placed (old_level t) p m h (advances-level t.old t.size t.end) stands
 
-      here : ((k : ℕ) → IsAt m k → AreAwaited k hs → Goes hs m k) → p ≡ q → Goes (h ∷ hs) p q
+      here : ((k : ℕ) → IsAt m k → AreAwaited k hs → Goes hs k) → p ≡ q → Goes (h ∷ hs) q
       here further same =
           let inside : m ≤ t.end = (let last = tiles-end (old_level t) m t.last hs (advances-level t.old t.size t.end) rest in omega arith) in
-          subst (Goes (h ∷ hs) p) same (goes-here p m from h hs stands rest own (subst (λ k. AreAwaited k (h ∷ hs)) (sym same) awaited) further inside)
+          subst (Goes (h ∷ hs)) same (goes-here p m from h hs stands rest own (subst (λ k. AreAwaited k (h ∷ hs)) (sym same) awaited) further inside)
 
       -- a Void in a room that is used
-      passed : ((k : ℕ) → IsAt m k → AreAwaited k hs → Goes hs m k) → (s : Spot) → IsIn t.spots s → IsSpot t Moves s → s.header.offset < p → p < q → q ≡ end_of s → Goes (h ∷ hs) p q
+      passed : ((k : ℕ) → IsAt m k → AreAwaited k hs → Goes hs k) → (s : Spot) → IsAmong t.spots s → IsSpot t s → s.header.offset < p → p < q → q ≡ end_of s → Goes (h ∷ hs) q
       passed further s member spot after before end =
           let at = step.0 in
           let void = own.room s member (omega arith) (omega arith) in
@@ -651,18 +615,11 @@ module _ (t : Edit) (Moves : Type 0) (is : IsEdit t Moves) where
           let behind : m ≡ stated_end h = omega arith in
           let go = further q (inr (s, member, spot, omega arith, omega arith, end))
           (await-behind q q h hs (omega arith) (λ k other below same. let no_void = (is.spots k other below).void in let same_id : h.id ≡ (get_or t.spots k other).header.id = ap (λ (g : Header). g.id) same in absurd (let void_it : ((get_or t.spots k other).header.id == VOID) ≡ true = ap (λ n. n == VOID) (sym same_id ∙ void.0) in cc)) awaited) in (
-            record { list = go.0.list; end = go.0.end; run = go.0.run; becomes = (go.0.list, gone (inl goes) refl, go.0.becomes) },
-            λ can. let more = go.1 (inr (goes-moves p m h stands goes can)) in
-                record {
-                  more = more.more;
-                  end = more.end;
-                  held = more.held;
-                  none = more.none;
-                  rest = record { list = more.rest.list; end = more.rest.end; run = more.rest.run; becomes = (more.rest.list, gone (inl goes) refl, more.rest.becomes) };
-                },
+            not-listed h hs q (inl goes) go.0,
+            (let more = go.1 in record { more = more.more; end = more.end; held = more.held; none = more.none; rest = not-listed h hs more.end (inl goes) more.rest }),
           )
 
-      of : ((k : ℕ) → IsAt m k → AreAwaited k hs → Goes hs m k) → IsAt p q → Goes (h ∷ hs) p q
+      of : ((k : ℕ) → IsAt m k → AreAwaited k hs → Goes hs k) → IsAt p q → Goes (h ∷ hs) q
       of further (inl same) = here further same
       of further (inr (s, member, spot, after, before, end)) =
           elim (cases_lt p q) [
@@ -671,7 +628,7 @@ module _ (t : Edit) (Moves : Type 0) (is : IsEdit t Moves) where
           ]
 
   -- The old Elements of level 1 become the new ones.
-  pub level-becomes : t.last ≤ t.end → run_of (old_level t) t.start ≡ whole t.list t.last → All (λ (s : Spot). IsAhead t.list s.header) t.spots → IsListed t Moves t.list t.start
+  pub level-becomes : t.last ≤ t.end → run_of (old_level t) t.start ≡ whole t.list t.last → All (λ (s : Spot). IsAmong t.list s.header) t.spots → IsListed t t.list t.start
   level-becomes short run ahead =
       let tiles = tiled (old_level t) t.start t.last t.list (advances-level t.old t.size t.end) run in
       (goes-from t.list t.start t.start (omega arith) short tiles.tiles is.stay (inl refl) (λ k s below. inr (ahead k s below))).0

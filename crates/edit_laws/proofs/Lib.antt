@@ -1,3 +1,4 @@
+mod AmongLemmas
 mod SameLemmas
 mod HeaderLemmas
 mod RunLemmas

@@ -1,6 +1,5 @@
 -- Edits of which something moves: it stands behind the old end, up to which the Segment reached.
 use Rattle.std.proofs.Common.{◌≡◌, ◌⊎◌, ◌<◌, ◌≤◌, ℕ, ◌+◌, nat_le, not, min, Bool, true, false, ◌&&◌, List, ◌∷◌, append-nil, length, length-append, All, Ok, refl, sym, ◌∙◌, ap, arith}
-use Rattle.std.specs.Bool.{⊤}
 use Rattle.std.proofs.lemmas.Bool.Decides.{nat_tests}
 use Rattle.std.proofs.lemmas.List.Elements.{All-head}
 use Rattle.ebml_numbers.specs.declared.number.Size.{Size}
@@ -14,24 +13,23 @@ use Rattle.output_model.specs.Element.{Element, IsElement, HoldsAt, octets_of, j
 use Rattle.output_model.proofs.ReadLemmas.{element_at-read, elements-read, octets_of-some}
 use Rattle.output_model.proofs.HeldLemmas.{held-left}
 use Rattle.sidecar_edit.specs.Writes.{Write, applied, WritesOctet}
-use Rattle.edit_changes.specs.Span.{span_of}
-use Rattle.edit_laws.proofs.SameLemmas.{InOrder, IsOneOf}
+use Rattle.edit_laws.proofs.AmongLemmas.{IsAmong}
+use Rattle.edit_laws.proofs.SameLemmas.{InOrder}
 use Rattle.edit_laws.proofs.HeaderLemmas.{found-sound}
 use Rattle.edit_laws.proofs.HeadLemmas.{sound-longer}
-use Rattle.edit_laws.proofs.ClusterLemmas.{HasNoBlock}
-use Rattle.edit_laws.proofs.TileLemmas.{level, inner, run_of, advances-inner, Stands, whole, run-stops, IsAhead}
-use Rattle.edit_laws.proofs.LevelLemmas.{Edit, Spot, IsEdit, IsIn, IsListed, Lists-level}
-use Rattle.edit_laws.proofs.FillLemmas.{IsFilled}
-use Rattle.edit_laws.proofs.ItemLemmas.{AreDistinct, Item, IsItem, IsItemIn, IsInside, CanKeep, write_of, edit, ids-are, is-edit, listed, single-in, spot-in}
+use Rattle.edit_laws.proofs.TileLemmas.{level, inner, run_of, advances-inner, Stands, whole, run-stops}
+use Rattle.edit_laws.proofs.LevelLemmas.{Edit, Lists-level}
+use Rattle.edit_laws.proofs.ItemLemmas.{AreDistinct, IsAnew, Item, IsItem, IsInside, CanKeep, anew, edit, write_of}
+use Rattle.edit_laws.specs.Laws.{IsOutside}
 
 module _ (bytes : List ℕ) (size now_size : Size) (start : ℕ) (list : List Header) (items : List Item) (ws : List Write) (first : Element) (more : List Element)
     (short : length bytes ≤ LONGEST_FILE)
     (run : run_of (level bytes size (length bytes)) start ≡ whole list (length bytes))
-    (order : InOrder (length bytes) 0 ws) (are : All (IsItem (others_of list)) items) (one : All (λ (i : Item). IsOneOf ws (write_of (others_of list) i)) items)
+    (order : InOrder (length bytes) 0 ws) (are : All (IsItem (others_of list)) items) (one : All (λ (i : Item). IsAmong ws (write_of (others_of list) i)) items)
     (touch : (k : ℕ) → WritesOctet ws k → (k < start) ⊎ ((length bytes ≤ k) ⊎ IsInside (others_of list) items k))
     (stops : (id : ℕ) → ends_segment now_size id ≡ ends_segment size id)
-    (ends : (h : Header) (m : ℕ) → Stands (level bytes size (length bytes)) h.offset h m → IsAhead list h → stated_end h ≤ length bytes)
-    (blocks : (h : Header) → IsAhead list h → ends_cluster h.id ≡ false → HasNoBlock h)
+    (ends : (h : Header) (m : ℕ) → Stands (level bytes size (length bytes)) h.offset h m → IsAmong list h → stated_end h ≤ length bytes)
+    (blocks : (h : Header) → IsAmong list h → ends_cluster h.id ≡ false → IsOutside h)
     (long : length (applied bytes ws) ≡ length bytes + length (joined (first ∷ more)))
     (held : HoldsAt (applied bytes ws) (length bytes) (joined (first ∷ more))) (elements : All IsElement (first ∷ more))
     (go : All (λ (d : Element). ends_segment now_size d.id ≡ false) (first ∷ more)) (is_level : ends_cluster first.id ≡ true) where
@@ -44,7 +42,7 @@ module _ (bytes : List ℕ) (size now_size : Size) (start : ℕ) (list : List He
   abbrev pub now_end : ℕ
   now_end = total + length (joined (first ∷ more))
 
-  keep : (h : Header) (m : ℕ) → Stands (level bytes size total) h.offset h m → IsAhead list h → CanKeep bytes new total now_end h
+  keep : (h : Header) (m : ℕ) → Stands (level bytes size total) h.offset h m → IsAmong list h → CanKeep bytes new total now_end h
   keep h m stands ahead =
       let end = ends h m stands ahead in
       record {
@@ -71,8 +69,8 @@ module _ (bytes : List ℕ) (size now_size : Size) (start : ℕ) (list : List He
   found : element_at in_master new total now_end ≡ Ok (header_in_place total first)
   found = element_at-read in_master new first total now_end refl (All-head IsElement first more elements) (held-left new total (octets_of first) (joined more) held) (omega (arith, lengths))
 
-  closes : (run_of (inner bytes total) total ≡ ends_at total) ⊎ ⊤ → run_of (inner new now_end) total ≡ ends_at total
-  closes can = run-stops (inner new now_end) total (advances-inner new now_end) (omega (arith, some, lengths)) (ap (λ f. ends_cluster (id_of f)) found ∙ is_level)
+  closes : run_of (inner new now_end) total ≡ ends_at total
+  closes = run-stops (inner new now_end) total (advances-inner new now_end) (omega (arith, some, lengths)) (ap (λ f. ends_cluster (id_of f)) found ∙ is_level)
 
   pub no-longer : total ≤ total
   no-longer = omega arith
@@ -83,29 +81,10 @@ module _ (bytes : List ℕ) (size now_size : Size) (start : ℕ) (list : List He
   now-within : now_end ≤ length new
   now-within = omega (arith, long)
 
-  pub may-move : All (λ (i : Item). span_of i.header (others_of list) < length (octets_of i.element) → ⊤) items
-  may-move = λ k d below long. tt
-
   abbrev pub moved : Edit
-  moved = edit bytes size now_size start total now_end total list items ws (headers_in_place total (first ∷ more)) ⊤ short no-longer longer no-longer run order are one touch may-move
+  moved = edit bytes size now_size start total now_end total list items ws (headers_in_place total (first ∷ more)) short no-longer longer no-longer run order are one touch
 
-  pub moved-edit : IsEdit moved ⊤
-  moved-edit =
-      is-edit bytes size now_size start total now_end total list items ws (headers_in_place total (first ∷ more)) ⊤ short no-longer longer no-longer run order are one touch may-move
+  pub moved-anew : AreDistinct items → IsAnew moved items
+  moved-anew =
+      anew bytes size now_size start total now_end total list items ws (headers_in_place total (first ∷ more)) short no-longer longer no-longer run order are one touch
       now-within stops keep blocks (tail ∙ sym (ap (λ n. whole (headers_in_place total (first ∷ more)) n) (ap (λ (r : Run). r.end) tail))) closes
-
-  pub moved-listed : IsListed moved ⊤ list start
-  moved-listed =
-      listed bytes size now_size start total now_end total list items ws (headers_in_place total (first ∷ more)) ⊤ short no-longer longer no-longer run order are one touch may-move
-      now-within stops keep blocks (tail ∙ sym (ap (λ n. whole (headers_in_place total (first ∷ more)) n) (ap (λ (r : Run). r.end) tail))) closes
-
-  -- ---- its spots
-
-  pub moved-ids : (P : ℕ → Type 0) → All (λ (i : Item). P i.element.id) items → All (λ (s : Spot). P s.header.id) moved.spots
-  moved-ids P all = ids-are bytes size now_size start total now_end total list items ws (headers_in_place total (first ∷ more)) ⊤ short no-longer longer no-longer run order are one touch may-move P items are one all
-
-  pub moved-in : (i : Item) → IsItemIn items i → (f : IsFilled new i.header.offset (span_of i.header (others_of list)) i.element) × IsIn moved.spots (record { header = i.header; now = f.now; voids = f.voids })
-  moved-in i member = spot-in bytes size now_size start total now_end total list items ws (headers_in_place total (first ∷ more)) ⊤ short no-longer longer no-longer run order are one touch may-move items are one i member
-
-  pub moved-single : AreDistinct items → (s : Spot) → IsIn moved.spots s → All (λ (o : Spot). o.header ≡ s.header → o ≡ s) moved.spots
-  moved-single distinct s member = single-in bytes size now_size start total now_end total list items ws (headers_in_place total (first ∷ more)) ⊤ short no-longer longer no-longer run order are one touch may-move items are one distinct s member

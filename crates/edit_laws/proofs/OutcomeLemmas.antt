@@ -2,13 +2,11 @@
 use Rattle.std.proofs.Common.{inl, inr, ◌≡◌, ◌⊎◌, ◌<◌, ◌≤◌, ℕ, ◌+◌, ◌^◌, ◌==◌, max, nat_lt, Bool, true, false, ◌||◌, if◌then◌else◌, List, [], ◌∷◌, ◌++◌, length, flat_map, All, Option, Some, None, IfSome, Result, Ok, refl, sym, ◌∙◌, ap, ap₂, subst, arith}
 use Rattle.std.specs.List.{list_any}
 use Rattle.std.specs.Prelude.{filter_map}
-use Rattle.std.specs.Option.{option_map, option_map_or}
+use Rattle.std.specs.Option.{is_some, option_map, option_map_or}
 use Rattle.std.proofs.lemmas.Bool.{cases_lt}
 use Rattle.std.proofs.lemmas.Bool.Decides.{nat_tests}
 use Rattle.std.proofs.lemmas.List.Elements.{All-nil, All-cons, All-head, All-tail, All-append, All-weaker}
 use Rattle.ebml_numbers.specs.Number.{AreOctets}
-use Rattle.mkv_schema.specs.Schema.{entry_of}
-use Rattle.mkv_schema.specs.Table.{table}
 use Rattle.mkv_schema.specs.declared.ids.TheConstants.{ATTACHMENTS, CHAPTERS, CLUSTER, INFO, SEEK_HEAD, TAGS, TRACKS}
 use Rattle.mkv_io.specs.declared.damage.Damage.{Damage}
 use Rattle.mkv_io.specs.declared.outside.TheConstants.{LONGEST_FILE}
@@ -40,29 +38,22 @@ use Rattle.edit_changes.specs.declared.refusal.Refusal.TheVariants as refusal
 use Rattle.edit_plan.proofs.PlanLemmas.{large-none}
 use Rattle.edit_plan.proofs.LevelLemmas.{Stand}
 use Rattle.edit_changes.specs.SeekHead.{SeekHeadAt}
+use Rattle.edit_laws.proofs.AmongLemmas.{IsAmong, all-among, among-left, among-right}
 use Rattle.edit_laws.proofs.SameLemmas.{InOrder}
 use Rattle.edit_laws.specs.Laws.{HoldsEdited, IsOutside, normal_form, tracks_octets}
 use Rattle.edit_laws.proofs.AgainLemmas.{CanBeRead}
-use Rattle.edit_laws.proofs.HeldLemmas.{IsWritten, first-written, level-attachments, level-chapters, level-tags, written-again, written-first}
-use Rattle.edit_laws.proofs.ItemLemmas.{AreDistinct, IsItem, IsItemIn, IsName, Item}
+use Rattle.edit_laws.proofs.HeldLemmas.{IsWritten, first-written, written-again, written-first}
+use Rattle.edit_laws.proofs.ItemLemmas.{AreDistinct, IsItem, IsName, Item, names}
 use Rattle.edit_laws.proofs.OpenedLemmas.{IsOpened}
 use Rattle.edit_changes.specs.Span.{span_of}
 use Rattle.edit_laws.proofs.EndLemmas.{moves-found, moving-all, twin-of, twins-none}
 use Rattle.edit_laws.proofs.PlannedLemmas.{IsPlanned, rest-behind}
-use Rattle.edit_laws.proofs.RestLemmas.{HoldsRest, IsUntouched, all-items, rest-stays, stand}
-use Rattle.edit_laws.proofs.SectionLemmas.{AreFirst, SameInfo, first-fit, info-octets, info-stands, info-there, same-then, tracks-octets, tracks-stand, trees-fit}
+use Rattle.edit_laws.proofs.RestLemmas.{HoldsRest, IsUntouched, rest-stays, stand}
+use Rattle.edit_laws.proofs.SectionLemmas.{AreFirst, first-fit, info-octets, info-stands, info-there, tracks-octets, tracks-stand, trees-fit}
 use Rattle.edit_laws.proofs.TreeLemmas.{AreFit, IsFit, fit-all, info-stays, tracks-stay}
 use Rattle.edit_laws.proofs.WriteLemmas.{AreOf, few-parts, item_at, items-are, items_of, of-append, of-part, of-still, of-writes}
 
 -- ---- what can be written anew
-
-pub info-name : IsName INFO
-unfolding entry_of table
-info-name = record { cluster = refl; void = refl; level = refl; inner = refl }
-
-pub tracks-name : IsName TRACKS
-unfolding entry_of table
-tracks-name = record { cluster = refl; void = refl; level = refl; inner = refl }
 
 -- items are of their ID
 pub items-id : (written : Bool) (id : ℕ) (list : List Header) (nodes : List Node) → All (λ (i : Item). i.element.id ≡ id) (items_of written id list nodes)
@@ -83,15 +74,6 @@ item-cases true id list nodes = of (first_of id list) refl
         → (((true ≡ false) ⊎ (first_of id list ≡ None)) × (option_map_or (λ h. item_at nodes h ∷ []) first [] ≡ [])) ⊎ ((h : Header) × (first_of id list ≡ Some h) × (option_map_or (λ h. item_at nodes h ∷ []) first [] ≡ item_at nodes h ∷ []))
     of None is = inl (inr is, refl)
     of (Some h) is = inr (h, is, refl)
-
-pub member-left : (xs ys : List Item) (i : Item) → IsItemIn xs i → IsItemIn (xs ++ ys) i
-member-left [] ys i member = absurd member
-member-left (x ∷ xs) ys i (inl same) = inl same
-member-left (x ∷ xs) ys i (inr later) = inr (member-left xs ys i later)
-
-pub member-right : (xs ys : List Item) (i : Item) → IsItemIn ys i → IsItemIn (xs ++ ys) i
-member-right [] ys i member = member
-member-right (x ∷ xs) ys i member = inr (member-right xs ys i member)
 
 -- items of two IDs are distinct
 pub two-distinct : (one other : Bool) (a b : ℕ) (list : List Header) (ns ms : List Node) → (b == a) ≡ false → AreDistinct (items_of one a list ns ++ items_of other b list ms)
@@ -208,8 +190,8 @@ module _ (bytes : List ℕ) (are_octets : AreOctets bytes) (short : length bytes
   module _ (few : All (λ (i : Item). length (octets_of i.element) ≤ 2 ^ 24) items) (nodes : most_nodes ps ≤ MOST_NODES) where
     pub are : All (IsItem others) items
     are = All-append (IsItem others) infos tracks
-        (items-are (are_of_info edits) INFO others (info_nodes t.info) info-name info-valid (all-left (λ (i : Item). length (octets_of i.element) ≤ 2 ^ 24) infos tracks few))
-        (items-are (are_of_tracks edits) TRACKS others t.tracks tracks-name tracks-valid (all-right (λ (i : Item). length (octets_of i.element) ≤ 2 ^ 24) infos tracks few))
+        (items-are (are_of_info edits) INFO others (info_nodes t.info) names.info info-valid (all-left (λ (i : Item). length (octets_of i.element) ≤ 2 ^ 24) infos tracks few))
+        (items-are (are_of_tracks edits) TRACKS others t.tracks names.tracks tracks-valid (all-right (λ (i : Item). length (octets_of i.element) ≤ 2 ^ 24) infos tracks few))
 
     both-nodes : (most_nodes (part_of (are_of_info edits) INFO others (info_nodes t.info)) ≤ MOST_NODES) × (most_nodes (part_of (are_of_tracks edits) TRACKS others t.tracks) ≤ MOST_NODES)
     both-nodes = (let all = nodes-append (part_of (are_of_info edits) INFO others (info_nodes t.info)) (part_of (are_of_tracks edits) TRACKS others t.tracks) in (omega arith, omega arith))
@@ -242,30 +224,30 @@ module _ (bytes : List ℕ) (are_octets : AreOctets bytes) (short : length bytes
   in-list id h other is = sym (first_in-others id list other) ∙ is
 
   -- there was an Info where there is one, and none where there is none
-  info-was : (h : Option Header) → first_of INFO list ≡ h → SameInfo (option_map (λ (x : Header). master INFO 0 (nodes_of [])) h) f.trees.info
+  info-was : (h : Option Header) → first_of INFO list ≡ h → is_some h ≡ is_some f.trees.info
   info-was None is =
       let read : Ok None ≡ Ok f.trees.info = sym (ap (tree_at bytes) is) ∙ first.info in
       let same : None ≡ f.trees.info = cc in
-      subst (λ (x : Option Node). SameInfo None x) same tt
+      ap is_some same
   info-was (Some h) is =
       let read = and_then-ok (tree_of h.id h.offset (body_of bytes h) h.body MOST_NODES) (λ tree. Ok (Some tree)) f.trees.info (sym (ap (tree_at bytes) is) ∙ first.info) in
       let same : Some read.0 ≡ f.trees.info = (let last = read.1.1 in cc) in
-      subst (λ (x : Option Node). SameInfo (Some (master INFO 0 (nodes_of []))) x) same tt
+      ap is_some same
 
   info-is : (h : Header) → first_of INFO others ≡ Some h → (n : Node) × (t.info ≡ Some n)
-  info-is h is = of t.info refl (same-then (Some (master INFO 0 (nodes_of []))) f.trees.info t.info (info-was (Some h) (in-list INFO (Some h) refl is)) (info-there 0 edits f.trees t made))
+  info-is h is = of t.info refl (info-was (Some h) (in-list INFO (Some h) refl is) ∙ info-there 0 edits f.trees t made)
     where
-      of : (n : Option Node) → t.info ≡ n → SameInfo (Some (master INFO 0 (nodes_of []))) n → (m : Node) × (t.info ≡ Some m)
-      of None is there = absurd there
+      of : (n : Option Node) → t.info ≡ n → true ≡ is_some n → (m : Node) × (t.info ≡ Some m)
+      of None is there = absurd (cc)
       of (Some n) is there = (n, is)
 
   info-none : first_of INFO others ≡ None → t.info ≡ f.trees.info
   info-none is = of f.trees.info t.info (info-was None (in-list INFO None refl is)) (info-there 0 edits f.trees t made)
     where
-      of : (a b : Option Node) → SameInfo None a → SameInfo a b → b ≡ a
+      of : (a b : Option Node) → false ≡ is_some a → is_some a ≡ is_some b → b ≡ a
       of None None one two = refl
-      of None (Some b) one two = absurd two
-      of (Some a) b one two = absurd one
+      of None (Some b) one two = absurd (cc)
+      of (Some a) b one two = absurd (cc)
 
   info-kept : (new : List ℕ) (now : Header) → ((are_of_info edits ≡ false) ⊎ (first_of INFO others ≡ None)) → first_tree INFO new now ≡ first_tree INFO bytes segment → normal_form INFO new now ≡ Ok (option_map octets t.info)
   info-kept new now why same =
@@ -331,26 +313,26 @@ module _ (bytes : List ℕ) (are_octets : AreOctets bytes) (short : length bytes
   module _ (new : List ℕ) (all : List Item) (added : List Element) (rest : HoldsRest bytes new f.outline list all added)
       (few : All (λ (i : Item). length (octets_of i.element) ≤ 2 ^ 24) items) (nodes : most_nodes ps ≤ MOST_NODES)
       (untouched : (id : ℕ) → ends_cluster id ≡ true → (id == CLUSTER) ≡ false → (SEEK_HEAD == id) ≡ false → All (λ (i : Item). (i.element.id == id) ≡ false) items → IsUntouched all added id)
-      (written : (id : ℕ) (nodes : List Node) (h : Header) → (id == CLUSTER) ≡ false → IsItemIn items (item_at nodes h) → first_of id others ≡ Some h
+      (written : (id : ℕ) (nodes : List Node) (h : Header) → (id == CLUSTER) ≡ false → IsAmong items (item_at nodes h) → first_of id others ≡ Some h
       → All (λ (i : Item). i.element.id ≡ id → i.element.body ≡ flat_map octets nodes) items → IsWritten new id (flat_map octets nodes) rest.list) where
-    section : (id : ℕ) (nodes : List Node) (h : Header) → (id == CLUSTER) ≡ false → CanBeRead id nodes → IsItemIn items (item_at nodes h) → first_of id others ≡ Some h
+    section : (id : ℕ) (nodes : List Node) (h : Header) → (id == CLUSTER) ≡ false → CanBeRead id nodes → IsAmong items (item_at nodes h) → first_of id others ≡ Some h
         → All (λ (i : Item). i.element.id ≡ id → i.element.body ≡ flat_map octets nodes) items → normal_form id new rest.segment ≡ Ok (Some (octets (master id 0 (nodes_of nodes))))
     section id nodes h other can member found spells =
         written-again new rest.segment rest.list rest.end rest.run id nodes can (written id nodes h other member found spells)
 
     info-now : normal_form INFO new rest.segment ≡ Ok (option_map octets t.info)
     info-now = elim (item-cases (are_of_info edits) INFO others (info_nodes t.info)) [
-      | inl (why, none) ↦ info-kept new rest.segment why (rest.tree INFO (untouched INFO info-name.level refl refl (no-info none)))
+      | inl (why, none) ↦ info-kept new rest.segment why (rest.tree INFO (untouched INFO names.info.level refl refl (no-info none)))
       | inr (h, found, item) ↦
           info-new new rest.segment h found
-          (λ n is. section INFO (info_nodes t.info) h refl (can-info few nodes n h is item) (member-left infos tracks (item_at (info_nodes t.info) h) (subst (λ (is : List Item). IsItemIn is (item_at (info_nodes t.info) h)) (sym item) (inl refl))) found (info-spells h item))
+          (λ n is. section INFO (info_nodes t.info) h refl (can-info few nodes n h is item) (among-left infos tracks (item_at (info_nodes t.info) h) (subst (λ (is : List Item). IsAmong is (item_at (info_nodes t.info) h)) (sym item) (inl refl))) found (info-spells h item))
     ]
 
     tracks-now : normal_form TRACKS new rest.segment ≡ Ok (Some (tracks_octets t.tracks))
     tracks-now = elim (item-cases (are_of_tracks edits) TRACKS others t.tracks) [
-      | inl (why, none) ↦ tracks-kept new rest.segment why (rest.tree TRACKS (untouched TRACKS tracks-name.level refl refl (no-tracks none)))
+      | inl (why, none) ↦ tracks-kept new rest.segment why (rest.tree TRACKS (untouched TRACKS names.tracks.level refl refl (no-tracks none)))
       | inr (h, found, item) ↦
-          section TRACKS t.tracks h refl (can-tracks few nodes h item) (member-right infos tracks (item_at t.tracks h) (subst (λ (is : List Item). IsItemIn is (item_at t.tracks h)) (sym item) (inl refl))) found (tracks-spell h item)
+          section TRACKS t.tracks h refl (can-tracks few nodes h item) (among-right infos tracks (item_at t.tracks h) (subst (λ (is : List Item). IsAmong is (item_at t.tracks h)) (sym item) (inl refl))) found (tracks-spell h item)
     ]
 
     holds : HoldsEdited bytes new f t
@@ -361,9 +343,9 @@ module _ (bytes : List ℕ) (are_octets : AreOctets bytes) (short : length bytes
       whole = ap (λ (r : Run). r.damage) rest.run;
       info = info-now;
       tracks = tracks-now;
-      attachments = rest.attached first.files (untouched ATTACHMENTS level-attachments refl refl (neither ATTACHMENTS refl refl)) first.attached ∙ sym first.attached;
-      chapters = rest.tree CHAPTERS (untouched CHAPTERS level-chapters refl refl (neither CHAPTERS refl refl));
-      tags = rest.tree TAGS (untouched TAGS level-tags refl refl (neither TAGS refl refl));
+      attachments = rest.attached first.files (untouched ATTACHMENTS names.attachments.level refl refl (neither ATTACHMENTS refl refl)) first.attached ∙ sym first.attached;
+      chapters = rest.tree CHAPTERS (untouched CHAPTERS names.chapters.level refl refl (neither CHAPTERS refl refl));
+      tags = rest.tree TAGS (untouched TAGS names.tags.level refl refl (neither TAGS refl refl));
       blocks = rest.blocks;
     }
 
@@ -382,11 +364,11 @@ module _ (bytes : List ℕ) (are_octets : AreOctets bytes) (short : length bytes
     rest-still : HoldsRest bytes (applied bytes ws) f.outline list items []
     rest-still = rest-stays bytes are_octets short f.outline ws op undamaged order outside_all items (are few nodes) distinct (ap ascending (sym (of-writes others ps items are-of)) ∙ is_ws)
 
-    written-still : (id : ℕ) (nodes : List Node) (h : Header) → (id == CLUSTER) ≡ false → IsItemIn items (item_at nodes h) → first_of id others ≡ Some h
+    written-still : (id : ℕ) (nodes : List Node) (h : Header) → (id == CLUSTER) ≡ false → IsAmong items (item_at nodes h) → first_of id others ≡ Some h
         → All (λ (i : Item). i.element.id ≡ id → i.element.body ≡ flat_map octets nodes) items → IsWritten (applied bytes ws) id (flat_map octets nodes) rest-still.list
     written-still id nodes h other member found spells =
         let own : h.id ≡ id = first-own id others h found in
-        let fits = all-items (λ (i : Item). span_of i.header others < length (octets_of i.element) → ⊥) items (item_at nodes h) (of-still others ps items are-of still) member in
+        let fits = all-among (λ (i : Item). span_of i.header others < length (octets_of i.element) → ⊥) items (item_at nodes h) (of-still others ps items are-of still) member in
         subst (λ n. IsWritten (applied bytes ws) n (flat_map octets nodes) rest-still.list) own
         (elim (cases_lt (span_of h others) (length (octets_of (element h.id (flat_map octets nodes))))) [
           | inl long ↦ absurd (fits long)
@@ -450,7 +432,7 @@ module _ (bytes : List ℕ) (are_octets : AreOctets bytes) (short : length bytes
       behind = of-items (λ d. (d.id == id) ≡ false) none;
     }
 
-    written-away : (id : ℕ) (nodes : List Node) (h : Header) → (id == CLUSTER) ≡ false → IsItemIn items (item_at nodes h) → first_of id others ≡ Some h
+    written-away : (id : ℕ) (nodes : List Node) (h : Header) → (id == CLUSTER) ≡ false → IsAmong items (item_at nodes h) → first_of id others ≡ Some h
         → All (λ (i : Item). i.element.id ≡ id → i.element.body ≡ flat_map octets nodes) items → IsWritten grown id (flat_map octets nodes) rest-away.list
     written-away id nodes h other member found spells =
         let own : h.id ≡ id = first-own id others h found in

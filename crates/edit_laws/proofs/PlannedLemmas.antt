@@ -33,9 +33,9 @@ use Rattle.edit_plan.proofs.PlanLemmas.{first-none, head-first, if-true, lacks-n
 use Rattle.edit_plan.proofs.SitsLemmas.{element-some}
 use Rattle.edit_laws.proofs.SameLemmas.{InOrder}
 use Rattle.edit_laws.proofs.EndLemmas.{can-grow}
-use Rattle.edit_laws.proofs.ItemLemmas.{AreDistinct, IsItem, IsName, Item, write_of}
+use Rattle.edit_laws.proofs.ItemLemmas.{AreDistinct, IsItem, IsName, Item, write_of, names}
 use Rattle.edit_laws.proofs.OpenedLemmas.{IsOpened}
-use Rattle.edit_laws.proofs.RestLemmas.{HoldsRest, rest-moves, rest-stays, seek-name, small-item, stand}
+use Rattle.edit_laws.proofs.RestLemmas.{HoldsRest, rest-moves, rest-stays, small-item, stand}
 use Rattle.edit_laws.proofs.WriteLemmas.{fitted-long, item-some, writes_of}
 use Rattle.edit_laws.specs.Laws.{IsOutside}
 
@@ -158,7 +158,7 @@ module _ (bytes : List ℕ) (are_octets : AreOctets bytes) (short : length bytes
   seeks-few = let most = small in let long = fitted-long seeks space (octets_of seeks) planned.reaches in omega arith
 
   all-are : All (IsItem others) (head_item ∷ items)
-  all-are = All-cons (IsItem others) head_item items (small-item others SEEK_HEAD seeks.body s.header seek-name seek_head-valid planned.head seeks-few) are
+  all-are = All-cons (IsItem others) head_item items (small-item others SEEK_HEAD seeks.body s.header names.seek_head seek_head-valid planned.head seeks-few) are
 
   head-write : write s.header.offset (unwrap_or (fitted seeks space) []) ≡ write_of others head_item
   head-write =

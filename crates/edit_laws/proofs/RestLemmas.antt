@@ -1,14 +1,11 @@
 -- What stays of a content of which some Elements of level 1 are written anew, with others behind its old end or none.
 use Rattle.std.proofs.Common.{inl, inr, ◌≡◌, ◌⊎◌, ◌<◌, ◌≤◌, ℕ, ◌+◌, ◌-◌, ◌^◌, ◌==◌, min, Bool, true, false, if◌then◌else◌, List, [], ◌∷◌, ◌++◌, length, length-append, append-nil, All, None, Some, Ok, refl, sym, ◌∙◌, ap, ap₂, subst, arith}
-use Rattle.std.specs.Bool.{⊤}
 use Rattle.std.proofs.lemmas.List.Elements.{All-nil, All-head, All-tail, All-weaker}
 use Rattle.ebml_numbers.specs.declared.number.Size.{Size}
 use Rattle.ebml_numbers.specs.declared.number.Size.TheVariants.{Known, Unknown}
 use Rattle.ebml_numbers.specs.Number.{AreOctets, all_ones, id_octets, is_id, size_octets, uint_width}
 use Rattle.ebml_numbers.proofs.NumberLemmas.{length-size_octets, length-uint_octets}
-use Rattle.mkv_schema.specs.Schema.{entry_of}
-use Rattle.mkv_schema.specs.Table.{table}
-use Rattle.mkv_schema.specs.declared.ids.TheConstants.{ATTACHMENTS, CLUSTER, SEEK_HEAD, SEGMENT}
+use Rattle.mkv_schema.specs.declared.ids.TheConstants.{ATTACHMENTS, CLUSTER, SEGMENT}
 use Rattle.mkv_io.specs.declared.outside.TheConstants.{LONGEST_FILE}
 use Rattle.mkv_schema.specs.declared.element.Header.{Header}
 use Rattle.mkv_schema.specs.Element.{at_level_0, body_damage, element_at, end_in, in_segment, is_unknown, known, octets_between, stated_end}
@@ -36,24 +33,24 @@ use Rattle.edit_plan.proofs.PartLemmas.{first-own}
 use Rattle.edit_plan.proofs.PlanLemmas.{bound-most}
 use Rattle.edit_plan.proofs.SizeLemmas.{HasSize, has-size}
 use Rattle.edit_plan.proofs.VoidLemmas.{first-room}
-use Rattle.edit_laws.proofs.SameLemmas.{AreSame, InOrder, IsOneOf, order-fits, order-held, same-clear, same-part}
+use Rattle.edit_laws.proofs.AmongLemmas.{IsAmong, all-among, among-left, among-right}
+use Rattle.edit_laws.proofs.SameLemmas.{AreSame, InOrder, order-fits, order-held, same-clear, same-part}
 use Rattle.edit_laws.proofs.HeaderLemmas.{found-same, found-sound}
 use Rattle.edit_laws.proofs.HeadLemmas.{header-long, header-same, sound-longer}
 use Rattle.edit_laws.proofs.SegmentLemmas.{IsSegment, segment-is, segment-same}
 use Rattle.edit_laws.proofs.BlockLemmas.{AreAlike}
-use Rattle.edit_laws.proofs.ClusterLemmas.{HasNoBlock}
-use Rattle.edit_laws.proofs.TileLemmas.{advances-level, level, run_of, Stands, tiled, whole, IsAhead}
-use Rattle.edit_laws.proofs.LevelLemmas.{Edit, Spot, IsEdit, IsIn, IsListed, IsSpot, level-within, new_level}
-use Rattle.edit_laws.proofs.ResultLemmas.{all-in, cluster-kept, events-skip, first-behind, first-moved, first-skips, first-stays}
+use Rattle.edit_laws.proofs.TileLemmas.{advances-level, level, run_of, Stands, tiled, whole}
+use Rattle.edit_laws.proofs.LevelLemmas.{Edit, Spot, IsSpot, level-within, new_level}
+use Rattle.edit_laws.proofs.ResultLemmas.{cluster-kept, events-skip, first-behind, first-moved, first-skips, first-stays}
 use Rattle.edit_laws.proofs.FillLemmas.{IsFilled, small-widen}
 use Rattle.edit_laws.proofs.HeldLemmas.{IsWritten, attached-same, first-tree, in-place, same-blocks, same-undamaged}
-use Rattle.edit_laws.proofs.ItemLemmas.{AreDistinct, IsInside, IsItem, IsItemIn, IsName, Item, goes-on, write_of}
+use Rattle.edit_laws.proofs.ItemLemmas.{AreDistinct, IsAnew, IsInside, IsItem, IsName, Item, goes-on, write_of}
 use Rattle.edit_laws.proofs.OpenedLemmas.{IsOpened}
 use Rattle.edit_laws.proofs.EndLemmas.{CanGrow, alone-first, bound-total, ends-total, extent-last, last-total, touches-size}
-use Rattle.edit_laws.proofs.MoveLemmas.{moved, moved-edit, moved-ids, moved-in, moved-listed, moved-single}
+use Rattle.edit_laws.proofs.MoveLemmas.{moved, moved-anew}
 use Rattle.edit_laws.proofs.RoomLemmas.{tiles-stand}
-use Rattle.edit_laws.proofs.StayLemmas.{same-length, same-outside, stays, stays-edit, stays-ids, stays-in, stays-listed, stays-single}
-use Rattle.edit_laws.proofs.WriteLemmas.{one-ascending, one-items, one-left, one-right, touches-append, touches-ascending, touches-items, writes_of}
+use Rattle.edit_laws.proofs.StayLemmas.{same-length, same-outside, stays, stays-anew}
+use Rattle.edit_laws.proofs.WriteLemmas.{one-ascending, one-items, touches-append, touches-ascending, touches-items, writes_of}
 use Rattle.edit_laws.specs.Laws.{IsOutside}
 
 -- ---- what stays
@@ -87,24 +84,14 @@ pub record HoldsRest (old new : List ℕ) (o : FileOutline) (was : List Header) 
   pub attached : (files : List AttachedFile) → IsUntouched items added ATTACHMENTS → first_attached old o.segment ≡ Ok files → first_attached new segment ≡ Ok files
   pub blocks : (r : Rules) → blocks_of (events_of r new segment) ≡ blocks_of (events_of r old o.segment)
   pub undamaged : (r : Rules) → damages_of (events_of r old o.segment) ≡ [] → damages_of (events_of r new segment) ≡ []
-  pub clusters : (h : Header) → (h.id == CLUSTER) ≡ true → IsAhead was h → HoldsCluster old new o.segment segment h
-  pub stays : (i : Item) → IsItemIn items i → length (octets_of i.element) ≤ span_of i.header (others_of was) → (w : IsWritten new i.element.id i.element.body list) × (w.place ≡ i.header.offset)
-  pub moves : (i : Item) → IsItemIn items i → span_of i.header (others_of was) < length (octets_of i.element) → number_of i.element.id (others_of was) ≤ 1
+  pub clusters : (h : Header) → (h.id == CLUSTER) ≡ true → IsAmong was h → HoldsCluster old new o.segment segment h
+  pub stays : (i : Item) → IsAmong items i → length (octets_of i.element) ≤ span_of i.header (others_of was) → (w : IsWritten new i.element.id i.element.body list) × (w.place ≡ i.header.offset)
+  pub moves : (i : Item) → IsAmong items i → span_of i.header (others_of was) < length (octets_of i.element) → number_of i.element.id (others_of was) ≤ 1
       → first_of i.element.id list ≡ first_of i.element.id (headers_in_place (length old) added)
   pub joins : (id : ℕ) → ends_cluster id ≡ true → All (λ (i : Item). (i.element.id == id) ≡ false) items → first_of id was ≡ None
       → first_of id list ≡ first_of id (headers_in_place (length old) added)
 
 -- ---- items
-
--- what all items have, one has
-pub all-items : (P : Item → Type 0) (is : List Item) (i : Item) → All P is → IsItemIn is i → P i
-all-items P [] i all member = absurd member
-all-items P (j ∷ js) i all (inl same) = subst P same (All-head P j js all)
-all-items P (j ∷ js) i all (inr later) = all-items P js i (All-tail P j js all) later
-
-pub seek-name : IsName SEEK_HEAD
-unfolding entry_of table
-seek-name = record { cluster = refl; void = refl; level = refl; inner = refl }
 
 -- an Element of few octets can be written anew
 pub small-item : (others : List Header) (id : ℕ) (body : List ℕ) (h : Header) → IsName id → is_id id ≡ true → first_of id others ≡ Some h → length (octets_of (element id body)) ≤ 2 ^ 24 → IsItem others (record { header = h; element = element id body })
@@ -129,24 +116,12 @@ held-nothing bytes p = let len = length-octets_between bytes p (p + 0) in of (oc
     of [] is = refl
     of (x ∷ xs) is = absurd (omega arith)
 
--- an Element of level 1 holds no block
-outside-ahead : (list : List Header) → All IsOutside list → (h : Header) → IsAhead list h → HasNoBlock h
-outside-ahead [] all h ahead = absurd ahead
-outside-ahead (g ∷ gs) all h (inl same) = let is = All-head IsOutside g gs all in subst HasNoBlock same (record { time = is.timestamp; simple = is.simple; group = is.group })
-outside-ahead (g ∷ gs) all h (inr later) = outside-ahead gs (All-tail IsOutside g gs all) h later
-
 -- ---- what the new list gives
 
-module _ (t : Edit) (o : FileOutline) (items : List Item) (added : List Element) (now : Header) (listed : IsListed t ⊤ t.list t.start) (holds : IsEdit t ⊤)
+module _ (t : Edit) (o : FileOutline) (items : List Item) (added : List Element) (now : Header) (anew : IsAnew t items)
     (old_run : segment_run t.old o.segment ≡ whole t.list t.last) (new_run : segment_run t.new now ≡ run_of (new_level t) t.start)
     (old_bound : segment_bound t.old o.segment ≡ t.end) (new_bound : segment_bound t.new now ≡ t.now_end)
-    (are : All (IsItem (others_of t.list)) items) (behind : t.behind ≡ headers_in_place (length t.old) added) (none : All (λ (d : Element). (d.id == CLUSTER) ≡ false) added)
-    (ids : (P : ℕ → Type 0) → All (λ (i : Item). P i.element.id) items → All (λ (s : Spot). P s.header.id) t.spots)
-    (in_it : (i : Item) → IsItemIn items i → (f : IsFilled t.new i.header.offset (span_of i.header (others_of t.list)) i.element) × IsIn t.spots (record { header = i.header; now = f.now; voids = f.voids }))
-    (single : (s : Spot) → IsIn t.spots s → All (λ (x : Spot). x.header ≡ s.header → x ≡ s) t.spots) where
-  none-spot : (id : ℕ) → All (λ (i : Item). (i.element.id == id) ≡ false) items → All (λ (s : Spot). (s.header.id == id) ≡ false) t.spots
-  none-spot id written = ids (λ n. (n == id) ≡ false) written
-
+    (are : All (IsItem (others_of t.list)) items) (behind : t.behind ≡ headers_in_place (length t.old) added) (none : All (λ (d : Element). (d.id == CLUSTER) ≡ false) added) where
   none-behind : (id : ℕ) → All (λ (d : Element). (d.id == id) ≡ false) added → first_of id t.behind ≡ None
   none-behind id others =
       ap (first_of id) (behind ∙ sym (append-nil (headers_in_place (length t.old) added))) ∙ first-skips id (length t.old) added [] others
@@ -154,14 +129,14 @@ module _ (t : Edit) (o : FileOutline) (items : List Item) (added : List Element)
   no-events : (r : Rules) → events_among r t.new t.now_end t.behind None ≡ []
   no-events r =
       ap (λ l. events_among r t.new t.now_end l None) (behind ∙ sym (append-nil (headers_in_place (length t.old) added)))
-      ∙ events-skip t ⊤ r (length t.old) added [] none
+      ∙ events-skip t r (length t.old) added [] none
 
   no-cluster : All (λ (i : Item). (i.element.id == CLUSTER) ≡ false) items
   no-cluster = All-weaker (IsItem (others_of t.list)) (λ (i : Item). (i.element.id == CLUSTER) ≡ false) (λ i is. is.name.cluster) items are
 
-  cluster-holds : (h : Header) → (h.id == CLUSTER) ≡ true → IsAhead t.list h → HoldsCluster t.old t.new o.segment now h
+  cluster-holds : (h : Header) → (h.id == CLUSTER) ≡ true → IsAmong t.list h → HoldsCluster t.old t.new o.segment now h
   cluster-holds h cluster ahead =
-      let keeps = cluster-kept t ⊤ h cluster t.list listed.list listed.becomes ahead in
+      let keeps = cluster-kept t h cluster t.list anew.listed.list anew.listed.becomes ahead in
       record {
         found = subst (λ e. element_at in_segment t.new h.offset e ≡ Ok h) (sym new_bound) keeps.found;
         alike = λ r.
@@ -170,18 +145,18 @@ module _ (t : Edit) (o : FileOutline) (items : List Item) (added : List Element)
       }
 
   -- one that is written anew
-  module _ (i : Item) (member : IsItemIn items i) where
+  module _ (i : Item) (member : IsAmong items i) where
     is : IsItem (others_of t.list) i
-    is = all-items (IsItem (others_of t.list)) items i are member
+    is = all-among (IsItem (others_of t.list)) items i are member
 
     abbrev fill : IsFilled t.new i.header.offset (span_of i.header (others_of t.list)) i.element
-    fill = (in_it i member).0
+    fill = (anew.spots i member).0
 
     abbrev spot : Spot
     spot = record { header = i.header; now = fill.now; voids = fill.voids }
 
-    in_them : IsIn t.spots spot
-    in_them = (in_it i member).1
+    in_them : IsAmong t.spots spot
+    in_them = (anew.spots i member).1
 
     own : i.header.id ≡ i.element.id
     own = first-own i.element.id (others_of t.list) i.header is.first
@@ -189,20 +164,20 @@ module _ (t : Edit) (o : FileOutline) (items : List Item) (added : List Element)
     first : first_of i.element.id t.list ≡ Some i.header
     first = sym (first_in-others i.element.id t.list is.name.cluster) ∙ is.first
 
-    holds-spot : IsSpot t ⊤ spot
-    holds-spot = all-in (IsSpot t ⊤) t.spots spot holds.spots in_them
+    holds-spot : IsSpot t spot
+    holds-spot = all-among (IsSpot t) t.spots spot anew.edit.spots in_them
 
-    item-stays : length (octets_of i.element) ≤ span_of i.header (others_of t.list) → (w : IsWritten t.new i.element.id i.element.body listed.list) × (w.place ≡ i.header.offset)
+    item-stays : length (octets_of i.element) ≤ span_of i.header (others_of t.list) → (w : IsWritten t.new i.element.id i.element.body anew.listed.list) × (w.place ≡ i.header.offset)
     item-stays fits = elim fill.is [
-      | inl (same, body, room) ↦ (in-place t ⊤ listed o.segment now old_run new_run old_bound new_bound spot in_them holds-spot i.element.id i.element.body own is.name.level (single spot in_them) first same body, refl)
+      | inl (same, body, room) ↦ (in-place t anew.listed o.segment now old_run new_run old_bound new_bound spot in_them holds-spot i.element.id i.element.body own is.name.level (anew.single spot in_them) first same body, refl)
       | inr (void, alone, long) ↦ absurd (omega arith)
     ]
 
-    item-moves : span_of i.header (others_of t.list) < length (octets_of i.element) → number_of i.element.id (others_of t.list) ≤ 1 → first_of i.element.id listed.list ≡ first_of i.element.id (headers_in_place (length t.old) added)
+    item-moves : span_of i.header (others_of t.list) < length (octets_of i.element) → number_of i.element.id (others_of t.list) ≤ 1 → first_of i.element.id anew.listed.list ≡ first_of i.element.id (headers_in_place (length t.old) added)
     item-moves long few = elim fill.is [
       | inl (same, body, room) ↦ absurd (omega arith)
       | inr (void, alone, more) ↦
-          first-moved t ⊤ spot in_them holds-spot i.element.id own is.name.level (single spot in_them) void t.list listed.list (alone-first i.element.id t.list i.header is.name.cluster few first) listed.becomes
+          first-moved t spot in_them holds-spot i.element.id own is.name.level (anew.single spot in_them) void t.list anew.listed.list (alone-first i.element.id t.list i.header is.name.cluster few first) anew.listed.becomes
           ∙ ap (first_of i.element.id) behind
     ]
 
@@ -212,19 +187,19 @@ module _ (t : Edit) (o : FileOutline) (items : List Item) (added : List Element)
     ebml = ebml;
     found = found;
     body = body;
-    list = listed.list;
-    end = listed.end;
-    run = new_run ∙ listed.run;
+    list = anew.listed.list;
+    end = anew.listed.end;
+    run = new_run ∙ anew.listed.run;
     held = held;
-    same = λ id is. first-stays t ⊤ id is.level (none-spot id is.written) (none-behind id is.behind) t.list listed.list listed.becomes;
-    tree = λ id is. first-tree t ⊤ listed o.segment now old_run new_run old_bound new_bound id is.level is.other (none-spot id is.written) (none-behind id is.behind);
-    attached = λ files is old. attached-same t ⊤ listed o.segment now old_run new_run old_bound new_bound files (none-spot ATTACHMENTS is.written) (none-behind ATTACHMENTS is.behind) old;
-    blocks = λ r. same-blocks t ⊤ listed o.segment now old_run new_run old_bound new_bound r (no-events r) (none-spot CLUSTER no-cluster);
-    undamaged = λ r. same-undamaged t ⊤ listed o.segment now old_run new_run old_bound new_bound r (no-events r) (none-spot CLUSTER no-cluster);
+    same = λ id is. first-stays t id is.level (anew.none id is.written) (none-behind id is.behind) t.list anew.listed.list anew.listed.becomes;
+    tree = λ id is. first-tree t anew.listed o.segment now old_run new_run old_bound new_bound id is.level is.other (anew.none id is.written) (none-behind id is.behind);
+    attached = λ files is old. attached-same t anew.listed o.segment now old_run new_run old_bound new_bound files (anew.none ATTACHMENTS is.written) (none-behind ATTACHMENTS is.behind) old;
+    blocks = λ r. same-blocks t anew.listed o.segment now old_run new_run old_bound new_bound r (no-events r) (anew.none CLUSTER no-cluster);
+    undamaged = λ r. same-undamaged t anew.listed o.segment now old_run new_run old_bound new_bound r (no-events r) (anew.none CLUSTER no-cluster);
     clusters = cluster-holds;
     stays = item-stays;
     moves = item-moves;
-    joins = λ id level written nothing. first-behind t ⊤ id level (none-spot id written) t.list listed.list listed.becomes nothing ∙ ap (first_of id) behind;
+    joins = λ id level written nothing. first-behind t id level (anew.none id written) t.list anew.listed.list anew.listed.becomes nothing ∙ ap (first_of id) behind;
   }
 
 -- ---- the two contents
@@ -288,8 +263,8 @@ module _ (bytes : List ℕ) (are_octets : AreOctets bytes) (short : length bytes
       let long = header-long bytes o.ebml op.ebml in
       let before = seg.before in omega arith
 
-  blocks : (h : Header) → IsAhead list h → ends_cluster h.id ≡ false → HasNoBlock h
-  blocks h ahead goes = outside-ahead list outside_all h ahead
+  blocks : (h : Header) → IsAmong list h → ends_cluster h.id ≡ false → IsOutside h
+  blocks h ahead goes = all-among IsOutside list h outside_all ahead
 
   -- an octet of a room stands in front of the end of the list
   inside-room : (is : List Item) (k : ℕ) → All (IsItem others) is → IsInside others is k → (segment.body ≤ k) × (k < last)
@@ -304,9 +279,9 @@ module _ (bytes : List ℕ) (are_octets : AreOctets bytes) (short : length bytes
   -- ---- nothing stands behind the old end
 
   module _ (items : List Item) (are : All (IsItem others) items) (distinct : AreDistinct items) (is_ws : ascending (writes_of others items) ≡ ws) where
-    one : All (λ (i : Item). IsOneOf ws (write_of others i)) items
-    one = subst (λ (vs : List Write). All (λ (i : Item). IsOneOf vs (write_of others i)) items) is_ws
-        (All-weaker (λ (i : Item). IsOneOf (writes_of others items) (write_of others i)) (λ (i : Item). IsOneOf (ascending (writes_of others items)) (write_of others i)) (λ i is. one-ascending (writes_of others items) (write_of others i) is) items (one-items others items))
+    one : All (λ (i : Item). IsAmong ws (write_of others i)) items
+    one = subst (λ (vs : List Write). All (λ (i : Item). IsAmong vs (write_of others i)) items) is_ws
+        (All-weaker (λ (i : Item). IsAmong (writes_of others items) (write_of others i)) (λ (i : Item). IsAmong (ascending (writes_of others items)) (write_of others i)) (λ i is. one-ascending (writes_of others items) (write_of others i) is) items (one-items others items))
 
     touch : (k : ℕ) → WritesOctet ws k → IsInside others items k
     touch k touched =
@@ -342,12 +317,8 @@ module _ (bytes : List ℕ) (are_octets : AreOctets bytes) (short : length bytes
     pub rest-stays : HoldsRest bytes new o list items []
     rest-stays =
         rest-of edit-is o items [] segment
-        (stays-listed bytes segment.size segment.body end last list items ws short within begins run order are one touch blocks)
-        (stays-edit bytes segment.size segment.body end last list items ws short within begins run order are one touch blocks)
+        (stays-anew bytes segment.size segment.body end last list items ws short within begins run order are one touch blocks distinct)
         run new-run refl bound-same are refl (All-nil (λ (d : Element). (d.id == CLUSTER) ≡ false))
-        (stays-ids bytes segment.size segment.body end last list items ws short within begins run order are one touch blocks)
-        (stays-in bytes segment.size segment.body end last list items ws short within begins run order are one touch blocks)
-        (stays-single bytes segment.size segment.body end last list items ws short within begins run order are one touch blocks distinct)
         (held-nothing new total)
         (header-same bytes new o.ebml segment.offset front-part offset-long seg.before (omega (arith, seg.inside)) (omega (arith, len)) op.ebml)
         (segment-same bytes new o.ebml segment segment seg (omega (arith, len)) front-part there seg.own)
@@ -374,10 +345,10 @@ module _ (bytes : List ℕ) (are_octets : AreOctets bytes) (short : length bytes
     abbrev tail_write : Write
     tail_write = write total added
 
-    one-moving : All (λ (i : Item). IsOneOf ws (write_of others i)) items
-    one-moving = subst (λ (vs : List Write). All (λ (i : Item). IsOneOf vs (write_of others i)) items) is_ws
-        (All-weaker (λ (i : Item). IsOneOf (writes_of others items) (write_of others i)) (λ (i : Item). IsOneOf (front ++ middle ++ tail_write ∷ []) (write_of others i))
-        (λ i is. one-left (front ++ middle) (tail_write ∷ []) (write_of others i) (one-right front middle (write_of others i) (one-ascending (writes_of others items) (write_of others i) is))) items (one-items others items))
+    one-moving : All (λ (i : Item). IsAmong ws (write_of others i)) items
+    one-moving = subst (λ (vs : List Write). All (λ (i : Item). IsAmong vs (write_of others i)) items) is_ws
+        (All-weaker (λ (i : Item). IsAmong (writes_of others items) (write_of others i)) (λ (i : Item). IsAmong (front ++ middle ++ tail_write ∷ []) (write_of others i))
+        (λ i is. among-left (front ++ middle) (tail_write ∷ []) (write_of others i) (among-right front middle (write_of others i) (one-ascending (writes_of others items) (write_of others i) is))) items (one-items others items))
 
     -- where an octet is written
     where-written : (k : ℕ) → WritesOctet ws k → ((segment.offset + length (id_octets SEGMENT) ≤ k) × (k < segment.body)) ⊎ ((total ≤ k) ⊎ IsInside others items k)
@@ -416,7 +387,7 @@ module _ (bytes : List ℕ) (are_octets : AreOctets bytes) (short : length bytes
         ∙ extent-last total (front ++ middle) tail_write order-is inside-front (omega arith)
 
     added-held : HoldsAt new total added
-    added-held = order-held total ws bytes tail_write refl order (subst (λ (vs : List Write). IsOneOf vs tail_write) is_ws (one-right (front ++ middle) (tail_write ∷ []) tail_write (inl refl))) (omega (arith, grown-len))
+    added-held = order-held total ws bytes tail_write refl order (subst (λ (vs : List Write). IsAmong vs tail_write) is_ws (among-right (front ++ middle) (tail_write ∷ []) tail_write (inl refl))) (omega (arith, grown-len))
 
     -- ---- level 1
 
@@ -442,7 +413,7 @@ module _ (bytes : List ℕ) (are_octets : AreOctets bytes) (short : length bytes
     run-moving : run_of (level bytes segment.size total) segment.body ≡ whole list total
     run-moving = ap (λ n. run_of (level bytes segment.size n) segment.body) (sym bound-is) ∙ run ∙ ap (whole list) (last-total bytes o op undamaged grow body-inside run)
 
-    ends-moving : (h : Header) (m : ℕ) → Stands (level bytes segment.size total) h.offset h m → IsAhead list h → stated_end h ≤ total
+    ends-moving : (h : Header) (m : ℕ) → Stands (level bytes segment.size total) h.offset h m → IsAmong list h → stated_end h ≤ total
     ends-moving h m stands ahead = ends-total bytes o op undamaged grow body-inside run h m (subst (λ n. Stands (level bytes segment.size n) h.offset h m) (sym bound-is) stands) ahead
 
     abbrev moving-edit : Edit
@@ -532,10 +503,10 @@ module _ (bytes : List ℕ) (are_octets : AreOctets bytes) (short : length bytes
             let is_e : IsElement e = record { id_stands = subst (λ n. is_id n ≡ true) own_id w.piece.id_stands; some = omega arith; most = omega arith; fits = (let same_width : min (size_width segment) 8 ≡ size_width segment = omega arith in subst (λ n. length now_body < all_ones n) same_width (omega (arith, body_len))) } in
             let id_held : HoldsAt bytes segment.offset (id_octets SEGMENT) = held-left bytes segment.offset (id_octets SEGMENT) (size_octets (length d.body) d.width) (subst (λ n. HoldsAt bytes segment.offset (id_octets n ++ size_octets (length d.body) d.width)) own_id (held-left bytes segment.offset (header_of d) d.body w.stands)) in
             let id_now : HoldsAt new segment.offset (id_octets SEGMENT) = clear-before segment.offset (segment.offset + length (id_octets SEGMENT)) (omega arith) behind (omega arith) ∙ id_held in
-            let size_one : IsOneOf ws (write (segment.offset + length (id_octets SEGMENT)) (size_octets (now_end - segment.body) (size_width segment))) =
-            subst (λ (vs : List Write). IsOneOf vs (write (segment.offset + length (id_octets SEGMENT)) (size_octets (now_end - segment.body) (size_width segment)))) is_ws
-            (one-left (front ++ middle) (tail_write ∷ []) _ (one-left front middle _
-            (subst (λ (u : Bool). IsOneOf (if u then [] else write (segment.offset + length (id_octets SEGMENT)) (size_octets (now_end - segment.body) (size_width segment)) ∷ []) (write (segment.offset + length (id_octets SEGMENT)) (size_octets (now_end - segment.body) (size_width segment)))) (sym known_size) (inl refl)))) in
+            let size_one : IsAmong ws (write (segment.offset + length (id_octets SEGMENT)) (size_octets (now_end - segment.body) (size_width segment))) =
+            subst (λ (vs : List Write). IsAmong vs (write (segment.offset + length (id_octets SEGMENT)) (size_octets (now_end - segment.body) (size_width segment)))) is_ws
+            (among-left (front ++ middle) (tail_write ∷ []) _ (among-left front middle _
+            (subst (λ (u : Bool). IsAmong (if u then [] else write (segment.offset + length (id_octets SEGMENT)) (size_octets (now_end - segment.body) (size_width segment)) ∷ []) (write (segment.offset + length (id_octets SEGMENT)) (size_octets (now_end - segment.body) (size_width segment)))) (sym known_size) (inl refl)))) in
             let size_len = length-size_octets (now_end - segment.body) (size_width segment) in
             let size_now : HoldsAt new (segment.offset + length (id_octets SEGMENT)) (size_octets (length now_body) (size_width segment)) =
             subst (λ n. HoldsAt new (segment.offset + length (id_octets SEGMENT)) (size_octets n (size_width segment))) (sym body_len)
@@ -590,13 +561,9 @@ module _ (bytes : List ℕ) (are_octets : AreOctets bytes) (short : length bytes
       rest-now : HoldsRest bytes new o list items (first ∷ more)
       rest-now =
           rest-of moving-edit o items (first ∷ more) now
-          (moved-listed bytes segment.size now_size segment.body list items ws first more short run-moving order are one-moving touch-moving stops ends-moving blocks grown-len added-held elements added-go added-level)
-          (moved-edit bytes segment.size now_size segment.body list items ws first more short run-moving order are one-moving touch-moving stops ends-moving blocks grown-len added-held elements added-go added-level)
+          (moved-anew bytes segment.size now_size segment.body list items ws first more short run-moving order are one-moving touch-moving stops ends-moving blocks grown-len added-held elements added-go added-level distinct)
           old-run moving-run bound-is moving-bound are refl
           (All-weaker (λ (d : Element). IsName d.id) (λ (d : Element). (d.id == CLUSTER) ≡ false) (λ d name. name.cluster) (first ∷ more) names)
-          (moved-ids bytes segment.size now_size segment.body list items ws first more short run-moving order are one-moving touch-moving stops ends-moving blocks grown-len added-held elements added-go added-level)
-          (moved-in bytes segment.size now_size segment.body list items ws first more short run-moving order are one-moving touch-moving stops ends-moving blocks grown-len added-held elements added-go added-level)
-          (moved-single bytes segment.size now_size segment.body list items ws first more short run-moving order are one-moving touch-moving stops ends-moving blocks grown-len added-held elements added-go added-level distinct)
           added-held
           (header-same bytes new o.ebml segment.offset front-clear offset-long seg.before (omega (arith, seg.inside)) (omega (arith, grown-len)) op.ebml)
           (segment-same bytes new o.ebml segment now seg (omega (arith, grown-len)) front-clear is.there is.own)

@@ -13,7 +13,8 @@ use Rattle.element_reader.specs.Collected.{others_of}
 use Rattle.edit_changes.specs.Span.{behind_voids}
 use Rattle.edit_plan.proofs.LevelLemmas.{Stand, Stand-later, element_at-header}
 use Rattle.edit_plan.proofs.VoidLemmas.{voids-least}
-use Rattle.edit_laws.proofs.TileLemmas.{level, advances-level, Stands, Tiles, stands-placed, tiles-end, IsAhead, ahead-later}
+use Rattle.edit_laws.proofs.AmongLemmas.{IsAmong}
+use Rattle.edit_laws.proofs.TileLemmas.{level, advances-level, Stands, Tiles, stands-placed, tiles-end, ahead-later}
 use Rattle.edit_laws.proofs.LevelLemmas.{whole-known, next-known}
 
 module _ (bytes : List ℕ) (size : Size) (e : ℕ) where
@@ -69,7 +70,7 @@ module _ (bytes : List ℕ) (size : Size) (e : ℕ) where
   IsVoidIn end g = (g.id ≡ VOID) × (stated_end g ≤ end)
 
   -- what stands in a room is a Void, which ends inside
-  pub room-voids : (x p q : ℕ) (hs : List Header) (g : Header) → p ≤ x → Tiles (level bytes size e) p hs q → IsAhead hs g → x ≤ g.offset → g.offset < behind_voids x (others_of hs) → IsVoidIn (behind_voids x (others_of hs)) g
+  pub room-voids : (x p q : ℕ) (hs : List Header) (g : Header) → p ≤ x → Tiles (level bytes size e) p hs q → IsAmong hs g → x ≤ g.offset → g.offset < behind_voids x (others_of hs) → IsVoidIn (behind_voids x (others_of hs)) g
   room-voids x p q [] g before tiles ahead from inside = absurd ahead
   room-voids x p q (h ∷ hs) g before (m, stands, rest) ahead from inside =
       of (λ later. room-voids x m q hs g later rest) (room-voids (stated_end h) m q hs g) ahead inside (h.id == CLUSTER) (h.id == VOID) (h.offset == x) refl refl refl
@@ -81,8 +82,8 @@ module _ (bytes : List ℕ) (size : Size) (e : ℕ) where
       on = (stands-placed (level bytes size e) p m h (advances-level bytes size e) stands).1
 
       -- behind it
-      later : (m ≤ x → IsAhead hs g → x ≤ g.offset → g.offset < behind_voids x (others_of hs) → IsVoidIn (behind_voids x (others_of hs)) g)
-          → IsAhead (h ∷ hs) g → (h.offset == x) ≡ false → g.offset < behind_voids x (others_of hs) → IsVoidIn (behind_voids x (others_of hs)) g
+      later : (m ≤ x → IsAmong hs g → x ≤ g.offset → g.offset < behind_voids x (others_of hs) → IsVoidIn (behind_voids x (others_of hs)) g)
+          → IsAmong (h ∷ hs) g → (h.offset == x) ≡ false → g.offset < behind_voids x (others_of hs) → IsVoidIn (behind_voids x (others_of hs)) g
       later further (inl same) other inside =
           let place : h.offset ≡ g.offset = ap (λ (k : Header). k.offset) same in
           let less : p < x = before-it other in
@@ -96,15 +97,15 @@ module _ (bytes : List ℕ) (size : Size) (e : ℕ) where
             | inr reached ↦ further reached ahead from inside
           ]
 
-      of : (m ≤ x → IsAhead hs g → x ≤ g.offset → g.offset < behind_voids x (others_of hs) → IsVoidIn (behind_voids x (others_of hs)) g)
-          → (m ≤ stated_end h → Tiles (level bytes size e) m hs q → IsAhead hs g → stated_end h ≤ g.offset → g.offset < behind_voids (stated_end h) (others_of hs) → IsVoidIn (behind_voids (stated_end h) (others_of hs)) g)
-          → IsAhead (h ∷ hs) g → g.offset < behind_voids x (others_of (h ∷ hs))
+      of : (m ≤ x → IsAmong hs g → x ≤ g.offset → g.offset < behind_voids x (others_of hs) → IsVoidIn (behind_voids x (others_of hs)) g)
+          → (m ≤ stated_end h → Tiles (level bytes size e) m hs q → IsAmong hs g → stated_end h ≤ g.offset → g.offset < behind_voids (stated_end h) (others_of hs) → IsVoidIn (behind_voids (stated_end h) (others_of hs)) g)
+          → IsAmong (h ∷ hs) g → g.offset < behind_voids x (others_of (h ∷ hs))
           → (cluster void here : Bool) → (h.id == CLUSTER) ≡ cluster → (h.id == VOID) ≡ void → (h.offset == x) ≡ here → IsVoidIn (behind_voids x (others_of (h ∷ hs))) g
       of further behind ahead inside true void here is_cluster is_void is_here =
           let same : behind_voids x (others_of (h ∷ hs)) ≡ behind_voids x (others_of hs) = ap (λ (b : Bool). behind_voids x (if not b then h ∷ others_of hs else others_of hs)) is_cluster in
           subst (λ n. IsVoidIn n g) (sym same) (cluster-here (subst (λ n. g.offset < n) same inside) ahead here is_here)
         where
-          cluster-here : g.offset < behind_voids x (others_of hs) → IsAhead (h ∷ hs) g → (here : Bool) → (h.offset == x) ≡ here → IsVoidIn (behind_voids x (others_of hs)) g
+          cluster-here : g.offset < behind_voids x (others_of hs) → IsAmong (h ∷ hs) g → (here : Bool) → (h.offset == x) ≡ here → IsVoidIn (behind_voids x (others_of hs)) g
           cluster-here inside ahead true is = absurd (let place = at in let step = on in let same : h.offset ≡ x = grind (arith, nat_tests) in let none = voids-none x m q hs (omega arith) rest in omega arith)
           cluster-here inside ahead false is = later further ahead is inside
       of further behind ahead inside false true true is_cluster is_void is_here =
@@ -120,7 +121,7 @@ module _ (bytes : List ℕ) (size : Size) (e : ℕ) where
               let next = next-known bytes size p e m h stands whole.0 in
               let ends = whole.1 in omega arith
 
-          void-here : IsAhead (h ∷ hs) g → g.offset < behind_voids (stated_end h) (others_of hs) → IsVoidIn (behind_voids (stated_end h) (others_of hs)) g
+          void-here : IsAmong (h ∷ hs) g → g.offset < behind_voids (stated_end h) (others_of hs) → IsVoidIn (behind_voids (stated_end h) (others_of hs)) g
           void-here (inl same) inside =
               let void : h.id ≡ VOID = grind (arith, nat_tests) in
               let least = voids-least (stated_end h) m q (others_of hs) (tiles-stand m q hs rest) in
@@ -141,7 +142,7 @@ module _ (bytes : List ℕ) (size : Size) (e : ℕ) where
           ∙ ap (λ (b : Bool). if b && h.offset == x then behind_voids (stated_end h) (others_of hs) else behind_voids x (others_of hs)) is_void in
           subst (λ n. IsVoidIn n g) (sym same) (other-here (subst (λ n. g.offset < n) same inside) ahead here is_here)
         where
-          other-here : g.offset < behind_voids x (others_of hs) → IsAhead (h ∷ hs) g → (here : Bool) → (h.offset == x) ≡ here → IsVoidIn (behind_voids x (others_of hs)) g
+          other-here : g.offset < behind_voids x (others_of hs) → IsAmong (h ∷ hs) g → (here : Bool) → (h.offset == x) ≡ here → IsVoidIn (behind_voids x (others_of hs)) g
           other-here inside ahead true is = absurd (let place = at in let step = on in let same : h.offset ≡ x = grind (arith, nat_tests) in let none = voids-none x m q hs (omega arith) rest in omega arith)
           other-here inside ahead false is = later further ahead is inside
 
@@ -151,7 +152,7 @@ module _ (bytes : List ℕ) (size : Size) (e : ℕ) where
   pub record IsThere (id p q : ℕ) (hs : List Header) (g : Header) : Type 0 where
     pub next : ℕ
     pub stands : Stands (level bytes size e) g.offset g next
-    pub ahead : IsAhead hs g
+    pub ahead : IsAmong hs g
     pub own : g.id ≡ id
     pub from : p ≤ g.offset
 
@@ -174,7 +175,7 @@ module _ (bytes : List ℕ) (size : Size) (e : ℕ) where
           record { next = r.next; stands = r.stands; ahead = inr r.ahead; own = r.own; from = omega arith }
 
   -- an Element that stands behind another begins where that ends, or behind
-  pub ahead-behind : (p q : ℕ) (hs : List Header) (g h : Header) → Tiles (level bytes size e) p hs q → IsAhead hs g → IsAhead hs h → (g.id == CLUSTER) ≡ false → g.offset < h.offset → stated_end g ≤ h.offset
+  pub ahead-behind : (p q : ℕ) (hs : List Header) (g h : Header) → Tiles (level bytes size e) p hs q → IsAmong hs g → IsAmong hs h → (g.id == CLUSTER) ≡ false → g.offset < h.offset → stated_end g ≤ h.offset
   ahead-behind p q [] g h tiles one two other before = absurd one
   ahead-behind p q (k ∷ hs) g h (m, stands, rest) (inl same) (inl also) other before =
       let both : g.offset ≡ h.offset = ap (λ (x : Header). x.offset) (sym same ∙ also) in
@@ -196,7 +197,7 @@ module _ (bytes : List ℕ) (size : Size) (e : ℕ) where
   ahead-behind p q (k ∷ hs) g h (m, stands, rest) (inr one) (inr two) other before = ahead-behind m q hs g h rest one two other before
 
   -- the one behind which nothing can stand is the last
-  pub last-there : (p q : ℕ) (hs : List Header) (h : Header) (m : ℕ) (before : Option Header) → Tiles (level bytes size e) p hs q → IsAhead hs h → Stands (level bytes size e) h.offset h m → e ≤ m → last_or before hs ≡ Some h
+  pub last-there : (p q : ℕ) (hs : List Header) (h : Header) (m : ℕ) (before : Option Header) → Tiles (level bytes size e) p hs q → IsAmong hs h → Stands (level bytes size e) h.offset h m → e ≤ m → last_or before hs ≡ Some h
   last-there p q [] h m before tiles ahead stands past = absurd ahead
   last-there p q (k ∷ hs) h m before (n, here, rest) (inl same) stands past = alone hs rest
     where

@@ -13,7 +13,7 @@ use Rattle.mkv_io.specs.declared.damage.Damage.{Damage}
 use Rattle.mkv_io.specs.declared.damage.Kind.{Kind}
 use Rattle.mkv_io.specs.declared.damage.Kind.TheVariants.{TooLong, Truncated, UnknownSize}
 use Rattle.mkv_schema.specs.declared.element.Header.{Header}
-use Rattle.mkv_schema.specs.Element.{in_master, octets_between, id_in, cut_header, with_body, with_size, with_id, body_damage, element_in, element_at, is_unknown, stated_end, end_in, may_be_open}
+use Rattle.mkv_schema.specs.Element.{Setting, in_master, octets_between, id_in, cut_header, with_body, with_size, with_id, body_damage, element_in, element_at, is_unknown, stated_end, end_in, may_be_open}
 use Rattle.mkv_schema.specs.Elements.{Run, ends_at, in_front, id_of, step, elements}
 use Rattle.mkv_schema.proofs.ElementLemmas.{element_at-placed, element_in-whole}
 use Rattle.mkv_schema.proofs.ElementsLemmas.{Advances-known, elements-end, elements-more}
@@ -152,31 +152,35 @@ pub record StandsInside (p e : ℕ) (h : Header) : Type 0 where
 inside-later : (p q e : ℕ) (h : Header) → p ≤ q → StandsInside q e h → StandsInside p e h
 inside-later p q e h later inside = let from = inside.from in record { from = omega arith; header = inside.header; to = inside.to }
 
-inside-past : (stops : ℕ → Bool) (bytes : List ℕ) (p e : ℕ) → e ≤ p → All (StandsInside p e) (children stops bytes p e).list
-inside-past stops bytes p e past = rw (elements-end in_master stops (λ h. Ok (end_in e h)) bytes p e past) (All-nil (StandsInside p e))
+-- where no Element may be open
+module _ (s : Setting) (shut : (id : ℕ) → s.may_open id ≡ false) (stops : ℕ → Bool) (bytes : List ℕ) (e : ℕ) where
+  inside-past : (p : ℕ) → e ≤ p → All (StandsInside p e) (elements s stops (λ h. Ok (end_in e h)) bytes p e).list
+  inside-past p past = rw (elements-end s stops (λ h. Ok (end_in e h)) bytes p e past) (All-nil (StandsInside p e))
 
-inside-within : (n : ℕ) (stops : ℕ → Bool) (bytes : List ℕ) (p e : ℕ) → e - p ≤ n → All (StandsInside p e) (children stops bytes p e).list
-inside-within zero stops bytes p e few = inside-past stops bytes p e (omega arith)
-inside-within (suc n) stops bytes p e few =
-    elim (cases_lt p e) [
-      | inl inside ↦ rw (elements-more in_master stops (λ h. Ok (end_in e h)) bytes p e (Advances-known in_master bytes e) inside) (stopped inside (λ k later. inside-within n stops bytes k e (omega arith)) (stops (id_of (element_at in_master bytes p e))))
-      | inr past ↦ inside-past stops bytes p e past
-    ]
-  where
-    goes_on : p < e → ((k : ℕ) → p < k → All (StandsInside k e) (children stops bytes k e).list) → (found : Result Header Damage) → element_at in_master bytes p e ≡ found → All (StandsInside p e) (step p (λ h. Ok (end_in e h)) found (λ q. children stops bytes q e)).list
-    goes_on inside further (Err d) is = All-nil (StandsInside p e)
-    goes_on inside further (Ok h) is =
-        let placed = element_at-placed in_master bytes p e h (omega arith) is in
-        let whole = element_in-whole in_master (octets_between bytes p e) (length bytes) p e h is in
-        let at = placed.offset in let later = placed.later in let ends = whole.inside refl in
-        let end : p < end_in e h = grind arith in
-        All-cons (StandsInside p e) h _ (record { from = omega arith; header = omega arith; to = ends })
-        (All-weaker (StandsInside (end_in e h) e) (StandsInside p e) (λ k is. inside-later p (end_in e h) e k (omega arith) is) _ (further (end_in e h) end))
+  inside-within : (n p : ℕ) → e - p ≤ n → All (StandsInside p e) (elements s stops (λ h. Ok (end_in e h)) bytes p e).list
+  inside-within zero p few = inside-past p (omega arith)
+  inside-within (suc n) p few =
+      elim (cases_lt p e) [
+        | inl inside ↦ rw (elements-more s stops (λ h. Ok (end_in e h)) bytes p e (Advances-known s bytes e) inside) (stopped inside (λ k later. inside-within n k (omega arith)) (stops (id_of (element_at s bytes p e))))
+        | inr past ↦ inside-past p past
+      ]
+    where
+      goes_on : p < e → ((k : ℕ) → p < k → All (StandsInside k e) (elements s stops (λ h. Ok (end_in e h)) bytes k e).list) → (found : Result Header Damage) → element_at s bytes p e ≡ found
+          → All (StandsInside p e) (step p (λ h. Ok (end_in e h)) found (λ q. elements s stops (λ h. Ok (end_in e h)) bytes q e)).list
+      goes_on inside further (Err d) is = All-nil (StandsInside p e)
+      goes_on inside further (Ok h) is =
+          let placed = element_at-placed s bytes p e h (omega arith) is in
+          let whole = element_in-whole s (octets_between bytes p e) (length bytes) p e h is in
+          let at = placed.offset in let later = placed.later in let ends = whole.inside (shut h.id) in
+          let end : p < end_in e h = grind arith in
+          All-cons (StandsInside p e) h _ (record { from = omega arith; header = omega arith; to = ends })
+          (All-weaker (StandsInside (end_in e h) e) (StandsInside p e) (λ k is. inside-later p (end_in e h) e k (omega arith) is) _ (further (end_in e h) end))
 
-    stopped : p < e → ((k : ℕ) → p < k → All (StandsInside k e) (children stops bytes k e).list) → (stop : Bool) → All (StandsInside p e) (if stop then ends_at p else step p (λ h. Ok (end_in e h)) (element_at in_master bytes p e) (λ q. children stops bytes q e)).list
-    stopped inside further true = All-nil (StandsInside p e)
-    stopped inside further false = goes_on inside further (element_at in_master bytes p e) refl
+      stopped : p < e → ((k : ℕ) → p < k → All (StandsInside k e) (elements s stops (λ h. Ok (end_in e h)) bytes k e).list) → (stop : Bool)
+          → All (StandsInside p e) (if stop then ends_at p else step p (λ h. Ok (end_in e h)) (element_at s bytes p e) (λ q. elements s stops (λ h. Ok (end_in e h)) bytes q e)).list
+      stopped inside further true = All-nil (StandsInside p e)
+      stopped inside further false = goes_on inside further (element_at s bytes p e) refl
 
--- Each child stands inside its master's body.
-pub run-inside : (stops : ℕ → Bool) (bytes : List ℕ) (p e : ℕ) → All (StandsInside p e) (children stops bytes p e).list
-run-inside stops bytes p e = inside-within (e - p) stops bytes p e (omega arith)
+  -- Each child stands inside its master's body.
+  pub run-inside : (p : ℕ) → All (StandsInside p e) (elements s stops (λ h. Ok (end_in e h)) bytes p e).list
+  run-inside p = inside-within (e - p) p (omega arith)

@@ -9,6 +9,7 @@ use Rattle.output_model.specs.Element.{HoldsAt}
 use Rattle.output_model.proofs.HeldLemmas.{between-take, between-drop}
 use Rattle.sidecar_edit.specs.Writes.{Write, end_of, applied, extent, Fits, WritesOctet}
 use Rattle.sidecar_edit.proofs.RedoLemmas.{applied_elsewhere, length-applied, extent_grows, length-overwritten, overwritten_inside}
+use Rattle.edit_laws.proofs.AmongLemmas.{IsAmong}
 
 -- two contents have the same octets from a place up to another
 abbrev pub AreSame : List ℕ → List ℕ → ℕ → ℕ → Type 0
@@ -72,12 +73,7 @@ pub order-fits : (old from n : ℕ) (ws : List Write) → old ≤ n → from ≤
 order-fits old from n [] long begins order = tt
 order-fits old from n (w ∷ ws) long begins order = let at = order.2 in (omega arith, order-fits old (end_of w) (max n (end_of w)) ws (omega arith) (omega arith) order.3)
 
--- one of some writes
-abbrev pub IsOneOf : List Write → Write → Type 0
-IsOneOf [] w = ⊥
-IsOneOf (v ∷ vs) w = (v ≡ w) ⊎ IsOneOf vs w
-
-order-octet : (old from : ℕ) (ws : List Write) (file : List ℕ) (w : Write) (k : ℕ) → old ≤ length file → from ≤ length file → InOrder old from ws → IsOneOf ws w → w.at ≤ k → k < end_of w → get_or (applied file ws) k 0 ≡ get_or w.bytes (k - w.at) 0
+order-octet : (old from : ℕ) (ws : List Write) (file : List ℕ) (w : Write) (k : ℕ) → old ≤ length file → from ≤ length file → InOrder old from ws → IsAmong ws w → w.at ≤ k → k < end_of w → get_or (applied file ws) k 0 ≡ get_or w.bytes (k - w.at) 0
 order-octet old from [] file w k long starts order one begins ends = absurd one
 order-octet old from (v ∷ vs) file w k long starts order one begins ends =
     of (λ later. order-octet old (end_of v) vs (overwritten file v.at v.bytes) w k (omega (arith, size)) (omega (arith, size)) order.3 later begins ends) one
@@ -88,7 +84,7 @@ order-octet old from (v ∷ vs) file w k long starts order one begins ends =
     size : length (overwritten file v.at v.bytes) ≡ max (length file) (end_of v)
     size = length-overwritten file v.at v.bytes at
 
-    of : (IsOneOf vs w → get_or (applied (overwritten file v.at v.bytes) vs) k 0 ≡ get_or w.bytes (k - w.at) 0) → (v ≡ w) ⊎ IsOneOf vs w → get_or (applied (overwritten file v.at v.bytes) vs) k 0 ≡ get_or w.bytes (k - w.at) 0
+    of : (IsAmong vs w → get_or (applied (overwritten file v.at v.bytes) vs) k 0 ≡ get_or w.bytes (k - w.at) 0) → (v ≡ w) ⊎ IsAmong vs w → get_or (applied (overwritten file v.at v.bytes) vs) k 0 ≡ get_or w.bytes (k - w.at) 0
     of rest (inr later) = rest later
     of rest (inl same) =
         let from_is : v.at ≡ w.at = ap (λ (x : Write). x.at) same in
@@ -99,7 +95,7 @@ order-octet old from (v ∷ vs) file w k long starts order one begins ends =
         ∙ ap (λ (x : Write). get_or x.bytes (k - x.at) 0) same
 
 -- What is written stands there afterwards.
-pub order-held : (old : ℕ) (ws : List Write) (file : List ℕ) (w : Write) → old ≡ length file → InOrder old 0 ws → IsOneOf ws w → end_of w ≤ length (applied file ws) → HoldsAt (applied file ws) w.at w.bytes
+pub order-held : (old : ℕ) (ws : List Write) (file : List ℕ) (w : Write) → old ≡ length file → InOrder old 0 ws → IsAmong ws w → end_of w ≤ length (applied file ws) → HoldsAt (applied file ws) w.at w.bytes
 order-held old ws file w whole order one inside =
     let len = length-octets_between (applied file ws) w.at (end_of w) in
     ext_get_or 0 (octets_between (applied file ws) w.at (end_of w)) w.bytes (omega arith)
@@ -108,7 +104,7 @@ order-held old ws file w whole order one inside =
     ∙ ap (λ n. get_or w.bytes n 0) (let same : w.at + k - w.at ≡ k = omega arith in same))
 
 -- it ends within the new content
-pub order-end : (old from n : ℕ) (ws : List Write) (w : Write) → InOrder old from ws → IsOneOf ws w → end_of w ≤ extent n ws
+pub order-end : (old from n : ℕ) (ws : List Write) (w : Write) → InOrder old from ws → IsAmong ws w → end_of w ≤ extent n ws
 order-end old from n [] w order one = absurd one
 order-end old from n (v ∷ vs) w order (inl same) =
     let end : end_of v ≡ end_of w = ap end_of same in

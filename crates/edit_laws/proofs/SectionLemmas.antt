@@ -1,7 +1,6 @@
 -- Info and Tracks of a file, before and behind edits.
-use Rattle.std.proofs.Common.{◌≡◌, ◌<◌, ◌≤◌, ℕ, ◌+◌, ◌==◌, Bool, true, false, if◌then◌else◌, List, [], ◌∷◌, All, Option, Some, None, IfSome, Ok, slice_get, slice_set, refl, sym, ◌∙◌, ap, subst, arith}
-use Rattle.std.specs.Bool.{⊤}
-use Rattle.std.proofs.lemmas.Bool.Decides.{nat_tests}
+use Rattle.std.proofs.Common.{◌≡◌, ◌<◌, ◌≤◌, ℕ, ◌+◌, List, [], ◌∷◌, All, Option, Some, None, IfSome, Ok, refl, sym, ◌∙◌, ap, subst, arith}
+use Rattle.std.specs.Option.{is_some}
 use Rattle.std.proofs.lemmas.List.Elements.{All-nil, All-cons, All-head, All-tail}
 use Rattle.ebml_numbers.specs.Number.{AreOctets}
 use Rattle.ebml_numbers.proofs.SpelledLemmas.{AreOctets-take, AreOctets-drop}
@@ -25,11 +24,11 @@ use Rattle.meta_records.specs.Attached.{AttachedFile, first_attached}
 use Rattle.meta_records.specs.Records.{first_tree, good_info, tree_at}
 use Rattle.file_format.specs.Info.{info_refusal}
 use Rattle.edit_changes.specs.declared.trees.Trees.{Trees}
-use Rattle.edit_changes.specs.Property.{is_info}
-use Rattle.edit_changes.specs.Change.{edited_from, edited_node, edited_once, in_entry, in_info, in_tracks, numbered, place_of}
+use Rattle.edit_changes.specs.Change.{edited_from, edited_once, numbered}
 use Rattle.edit_changes.specs.Records.{good_tracks, trees_of}
+use Rattle.edit_plan.proofs.PartLemmas.{first-own}
 use Rattle.edit_laws.proofs.DepthLemmas.{tree_of-deep}
-use Rattle.edit_laws.proofs.TreeLemmas.{AreFit, IsFit, numbered-ok, then-ok}
+use Rattle.edit_laws.proofs.TreeLemmas.{AreFit, IsFit, Once, of_info, of_tracks, numbered-ok, once-is, then-ok}
 
 -- ---- what was read
 
@@ -80,14 +79,6 @@ read-fit id bytes h n are own is =
       deep = of.deep;
     }
 
-first-id : (id : ℕ) (list : List Header) (h : Header) → first_of id list ≡ Some h → h.id ≡ id
-first-id id [] h found = absurd (cc)
-first-id id (g ∷ gs) h found = of (first-id id gs h) (g.id == id) refl found
-  where
-    of : (first_of id gs ≡ Some h → h.id ≡ id) → (test : Bool) → (g.id == id) ≡ test → (if test then Some g else first_of id gs) ≡ Some h → h.id ≡ id
-    of further true same is = let it : g ≡ h = cc in let own : g.id ≡ id = grind (arith, nat_tests) in sym (ap (λ (x : Header). x.id) it) ∙ own
-    of further false same is = further is
-
 pub first-fit : (id : ℕ) (bytes : List ℕ) (segment : Header) (n : Option Node) → AreOctets bytes → first_tree id bytes segment ≡ Ok n → IfSome n (IsFit id deepest)
 first-fit id bytes segment n are is = of (first_of id (segment_run bytes segment).list) refl is
   where
@@ -96,7 +87,7 @@ first-fit id bytes segment n are is = of (first_of id (segment_run bytes segment
     of (Some h) some is =
         let read = and_then-ok (tree_of h.id h.offset (body_of bytes h) h.body MOST_NODES) (λ tree. Ok (Some tree)) n is in
         let same : Some read.0 ≡ n = (let last = read.1.1 in cc) in
-        subst (λ (x : Option Node). IfSome x (IsFit id deepest)) same (read-fit id bytes h read.0 are (first-id id (segment_run bytes segment).list h some) read.1.0)
+        subst (λ (x : Option Node). IfSome x (IsFit id deepest)) same (read-fit id bytes h read.0 are (first-own id (segment_run bytes segment).list h some) read.1.0)
 
 -- children that stand in a master
 all-stand : (parent : ℕ) (ns : Nodes) (most : ℕ) → AllStandIn parent ns → depth_all ns < most → All (λ (n : Node). StandsIn parent n × (depth n < most)) (list_of ns)
@@ -148,51 +139,13 @@ tracks-stand t fit = stand-all TRACKS t.tracks deepest fit.tracks (omega arith)
 
 -- ---- where there is an Info, or none
 
-abbrev pub SameInfo : Option Node → Option Node → Type 0
-SameInfo None None = ⊤
-SameInfo None (Some m) = ⊥
-SameInfo (Some n) None = ⊥
-SameInfo (Some n) (Some m) = ⊤
-
-same-self : (n : Option Node) → SameInfo n n
-same-self None = tt
-same-self (Some n) = tt
-
-pub same-then : (n m k : Option Node) → SameInfo n m → SameInfo m k → SameInfo n k
-same-then None None None one two = tt
-same-then None None (Some k) one two = absurd two
-same-then None (Some m) k one two = absurd one
-same-then (Some n) None k one two = absurd one
-same-then (Some n) (Some m) None one two = absurd two
-same-then (Some n) (Some m) (Some k) one two = tt
-
-info-once : (e : Edit) (t u : Trees) → edited_once e t ≡ Ok u → SameInfo t.info u.info
-info-once e t u is = of (is_info e.place) is
-  where
-    in-it : (n : Option Node) → in_info e t n ≡ Ok u → SameInfo n u.info
-    in-it None is = absurd (cc)
-    in-it (Some n) is =
-        let made = then-ok (edited_node e n) (λ m. Ok (record { info = Some m; tracks = t.tracks })) u is in
-        let same : record { info = Some made.0; tracks = t.tracks } ≡ u = (let last = made.1.1 in cc) in
-        subst (λ (x : Trees). SameInfo (Some n) x.info) same tt
-
-    entry : (j : ℕ) (n : Option Node) → in_entry e t j n ≡ Ok u → SameInfo t.info u.info
-    entry j None is = absurd (cc)
-    entry j (Some n) is =
-        let made = then-ok (edited_node e n) (λ m. Ok (record { info = t.info; tracks = slice_set t.tracks j m })) u is in
-        let same : record { info = t.info; tracks = slice_set t.tracks j made.0 } ≡ u = (let last = made.1.1 in cc) in
-        subst (λ (x : Trees). SameInfo t.info x.info) same (same-self t.info)
-
-    place : (j : Option ℕ) → in_tracks e t j ≡ Ok u → SameInfo t.info u.info
-    place None is = absurd (cc)
-    place (Some j) is = entry j (slice_get t.tracks j) is
-
-    of : (info : Bool) → (if info then in_info e t t.info else in_tracks e t (place_of e.place t.tracks)) ≡ Ok u → SameInfo t.info u.info
-    of true is = in-it t.info is
-    of false is = place (place_of e.place t.tracks) is
-
-pub info-there : (k : ℕ) (es : List Edit) (t u : Trees) → edited_from k es t ≡ Ok u → SameInfo t.info u.info
-info-there k [] t u is = let same : t ≡ u = cc in subst (λ (x : Trees). SameInfo t.info x.info) same (same-self t.info)
+-- Where there was one there is one, and where there was none there is none.
+pub info-there : (k : ℕ) (es : List Edit) (t u : Trees) → edited_from k es t ≡ Ok u → is_some t.info ≡ is_some u.info
+info-there k [] t u is = let same : t ≡ u = cc in ap (λ (x : Trees). is_some x.info) same
 info-there k (e ∷ es) t u is =
     let made = then-ok (numbered (k + 1) (edited_once e t)) (edited_from (k + 1) es) u is in
-    same-then t.info made.0.info u.info (info-once e t made.0 (numbered-ok (k + 1) (edited_once e t) made.0 made.1.0)) (info-there (k + 1) es made.0 u made.1.1)
+    once made.0 (once-is e t made.0 (numbered-ok (k + 1) (edited_once e t) made.0 made.1.0)) ∙ info-there (k + 1) es made.0 u made.1.1
+  where
+    once : (x : Trees) → Once e t x → is_some t.info ≡ is_some x.info
+    once x (of_info own n m at made same) = ap is_some at ∙ ap (λ (y : Trees). is_some y.info) same
+    once x (of_tracks own k n m place at made same) = ap (λ (y : Trees). is_some y.info) same

@@ -1,6 +1,5 @@
 -- Edits of which nothing stands behind the old end: the new content is as long as the old one, and its Segment ends where it did.
 use Rattle.std.proofs.Common.{inl, inr, ◌≡◌, ◌⊎◌, ◌<◌, ◌≤◌, ℕ, Bool, true, false, ◌||◌, List, [], ◌∷◌, length, All, Ok, refl, sym, ◌∙◌, ap, ap₂, arith}
-use Rattle.std.specs.Bool.{⊤}
 use Rattle.std.proofs.lemmas.Bool.{cases_lt}
 use Rattle.std.proofs.lemmas.List.Elements.{All-head, All-tail}
 use Rattle.ebml_numbers.specs.declared.number.Size.{Size}
@@ -12,29 +11,27 @@ use Rattle.mkv_schema.specs.Element.{in_segment, in_master, body_damage, element
 use Rattle.mkv_schema.specs.Elements.{Run, ends_cluster, ends_at, ends_segment, id_of}
 use Rattle.mkv_schema.proofs.ElementsLemmas.{elements-end}
 use Rattle.element_reader.specs.Collected.{others_of}
-use Rattle.output_model.specs.Element.{octets_of}
 use Rattle.block_format.specs.Events.{is_closed}
 use Rattle.sidecar_edit.specs.Writes.{Write, applied, WritesOctet}
 use Rattle.sidecar_edit.proofs.RedoLemmas.{length-applied}
-use Rattle.edit_changes.specs.Span.{span_of}
 use Rattle.edit_plan.proofs.LevelLemmas.{Stand}
 use Rattle.edit_plan.proofs.VoidLemmas.{first-room}
-use Rattle.edit_laws.proofs.SameLemmas.{AreSame, same-clear, InOrder, order-fits, IsOneOf}
+use Rattle.edit_laws.proofs.AmongLemmas.{IsAmong}
+use Rattle.edit_laws.proofs.SameLemmas.{AreSame, same-clear, InOrder, order-fits}
 use Rattle.edit_laws.proofs.HeaderLemmas.{outside, found-sound, id-either}
-use Rattle.edit_laws.proofs.ClusterLemmas.{HasNoBlock}
-use Rattle.edit_laws.proofs.TileLemmas.{level, inner, run_of, advances-level, advances-inner, Stands, Tiles, whole, tiled, end-same, end-stops, run-stops, IsAhead}
-use Rattle.edit_laws.proofs.LevelLemmas.{Edit, Spot, IsEdit, IsIn, IsListed, level-within}
+use Rattle.edit_laws.proofs.TileLemmas.{level, inner, run_of, advances-level, advances-inner, Stands, Tiles, whole, tiled, end-same, end-stops, run-stops}
+use Rattle.edit_laws.proofs.LevelLemmas.{Edit, level-within}
 use Rattle.edit_laws.proofs.RoomLemmas.{tiles-stand}
-use Rattle.edit_laws.proofs.FillLemmas.{IsFilled}
-use Rattle.edit_laws.proofs.ItemLemmas.{AreDistinct, Item, IsItem, IsItemIn, IsInside, CanKeep, write_of, edit, ids-are, is-edit, listed, single-in, spot-in}
+use Rattle.edit_laws.proofs.ItemLemmas.{AreDistinct, IsAnew, Item, IsItem, IsInside, CanKeep, anew, edit, write_of}
 use Rattle.edit_laws.proofs.WriteLemmas.{extent-within}
+use Rattle.edit_laws.specs.Laws.{IsOutside}
 
 module _ (bytes : List ℕ) (size : Size) (start e last : ℕ) (list : List Header) (items : List Item) (ws : List Write)
     (short : length bytes ≤ LONGEST_FILE) (within : e ≤ length bytes) (begins : start ≤ e)
     (run : run_of (level bytes size e) start ≡ whole list last)
-    (order : InOrder (length bytes) 0 ws) (are : All (IsItem (others_of list)) items) (one : All (λ (i : Item). IsOneOf ws (write_of (others_of list) i)) items)
+    (order : InOrder (length bytes) 0 ws) (are : All (IsItem (others_of list)) items) (one : All (λ (i : Item). IsAmong ws (write_of (others_of list) i)) items)
     (touch : (k : ℕ) → WritesOctet ws k → IsInside (others_of list) items k)
-    (blocks : (h : Header) → IsAhead list h → ends_cluster h.id ≡ false → HasNoBlock h) where
+    (blocks : (h : Header) → IsAmong list h → ends_cluster h.id ≡ false → IsOutside h) where
   abbrev new : List ℕ
   new = applied bytes ws
 
@@ -75,7 +72,7 @@ module _ (bytes : List ℕ) (size : Size) (start e last : ℕ) (list : List Head
         | inr behind ↦ (let wrong : ⊥ = omega arith in wrong)
       ])
 
-  keep : (h : Header) (m : ℕ) → Stands (level bytes size e) h.offset h m → IsAhead list h → CanKeep bytes new e e h
+  keep : (h : Header) (m : ℕ) → Stands (level bytes size e) h.offset h m → IsAmong list h → CanKeep bytes new e e h
   keep h m stands ahead = record {
     sound = ap (λ n. body_damage in_segment n e h) same-length ∙ found-sound ((in_segment).may_open) bytes h.offset e h stands.found;
     ends = λ known. refl;
@@ -101,8 +98,8 @@ module _ (bytes : List ℕ) (size : Size) (start e last : ℕ) (list : List Head
       of true = refl
       of false = is
 
-  closes : (run_of (inner bytes e) last ≡ ends_at last) ⊎ ⊤ → run_of (inner new e) last ≡ ends_at last
-  closes can =
+  closes : run_of (inner new e) last ≡ ends_at last
+  closes =
       elim (cases_lt last e) [
         | inl inside ↦
             run-stops (inner new e) last (advances-inner new e) inside
@@ -121,29 +118,10 @@ module _ (bytes : List ℕ) (size : Size) (start e last : ℕ) (list : List Head
   now-within : e ≤ length new
   now-within = omega (arith, same-length)
 
-  pub may-move : All (λ (i : Item). span_of i.header (others_of list) < length (octets_of i.element) → ⊤) items
-  may-move = λ k d below long. tt
-
   abbrev pub stays : Edit
-  stays = edit bytes size size start e e last list items ws [] ⊤ short within no-longer reaches run order are one touch-all may-move
+  stays = edit bytes size size start e e last list items ws [] short within no-longer reaches run order are one touch-all
 
-  pub stays-edit : IsEdit stays ⊤
-  stays-edit =
-      is-edit bytes size size start e e last list items ws [] ⊤ short within no-longer reaches run order are one touch-all may-move
+  pub stays-anew : AreDistinct items → IsAnew stays items
+  stays-anew =
+      anew bytes size size start e e last list items ws [] short within no-longer reaches run order are one touch-all
       now-within (λ id. refl) keep blocks (tail ∙ sym (ap (λ n. whole [] n) (ap (λ (r : Run). r.end) tail))) closes
-
-  pub stays-listed : IsListed stays ⊤ list start
-  stays-listed =
-      listed bytes size size start e e last list items ws [] ⊤ short within no-longer reaches run order are one touch-all may-move
-      now-within (λ id. refl) keep blocks (tail ∙ sym (ap (λ n. whole [] n) (ap (λ (r : Run). r.end) tail))) closes
-
-  -- ---- its spots
-
-  pub stays-ids : (P : ℕ → Type 0) → All (λ (i : Item). P i.element.id) items → All (λ (s : Spot). P s.header.id) stays.spots
-  stays-ids P all = ids-are bytes size size start e e last list items ws [] ⊤ short within no-longer reaches run order are one touch-all may-move P items are one all
-
-  pub stays-in : (i : Item) → IsItemIn items i → (f : IsFilled new i.header.offset (span_of i.header (others_of list)) i.element) × IsIn stays.spots (record { header = i.header; now = f.now; voids = f.voids })
-  stays-in i member = spot-in bytes size size start e e last list items ws [] ⊤ short within no-longer reaches run order are one touch-all may-move items are one i member
-
-  pub stays-single : AreDistinct items → (s : Spot) → IsIn stays.spots s → All (λ (o : Spot). o.header ≡ s.header → o ≡ s) stays.spots
-  stays-single distinct s member = single-in bytes size size start e e last list items ws [] ⊤ short within no-longer reaches run order are one touch-all may-move items are one distinct s member

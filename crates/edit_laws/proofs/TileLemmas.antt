@@ -1,5 +1,5 @@
 -- Elements that stand one behind the other.
-use Rattle.std.proofs.Common.{inl, inr, ◌≡◌, ◌⊎◌, ◌<◌, ◌≤◌, ℕ, Bool, true, false, if◌then◌else◌, List, [], ◌∷◌, Some, None, Result, Ok, Err, refl, sym, ◌∙◌, ap, subst, arith}
+use Rattle.std.proofs.Common.{inl, inr, ◌≡◌, ◌<◌, ◌≤◌, ℕ, Bool, true, false, if◌then◌else◌, List, [], ◌∷◌, Some, None, Result, Ok, Err, refl, sym, ◌∙◌, ap, subst, arith}
 use Rattle.std.proofs.lemmas.Bool.{cases_lt}
 use Rattle.ebml_numbers.specs.declared.number.Size.{Size}
 use Rattle.mkv_io.specs.declared.damage.Damage.{Damage}
@@ -9,6 +9,7 @@ use Rattle.mkv_schema.specs.Elements.{Run, Next, in_front, behind, step, ends_at
 use Rattle.mkv_schema.proofs.ElementLemmas.{element_at-placed}
 use Rattle.mkv_schema.proofs.ElementsLemmas.{Advances, Advances-known, Advances-segment, elements-more, elements-end}
 use Rattle.output_model.specs.Element.{all_in_front}
+use Rattle.edit_laws.proofs.AmongLemmas.{IsAmong}
 
 -- How Elements are listed: where they stand, which IDs end them, where the next one begins, the content, and the end.
 pub record Way : Type 0 where
@@ -152,12 +153,7 @@ tiles-end w p q (h ∷ hs) advances (m, stands, rest) =
     let later = tiles-end w m q hs advances rest in
     omega arith
 
--- one of the Elements of a list
-abbrev pub IsAhead : List Header → Header → Type 0
-IsAhead [] g = ⊥
-IsAhead (h ∷ hs) g = (h ≡ g) ⊎ IsAhead hs g
-
-pub ahead-later : (w : Way) (p q : ℕ) (hs : List Header) (g : Header) → AdvancesIn w → Tiles w p hs q → IsAhead hs g → p ≤ g.offset
+pub ahead-later : (w : Way) (p q : ℕ) (hs : List Header) (g : Header) → AdvancesIn w → Tiles w p hs q → IsAmong hs g → p ≤ g.offset
 ahead-later w p q [] g advances tiles ahead = absurd ahead
 ahead-later w p q (h ∷ hs) g advances (m, stands, rest) (inl same) =
     let here = stands-placed w p m h advances stands in

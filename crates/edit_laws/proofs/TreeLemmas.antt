@@ -1,9 +1,10 @@
 -- What edits make of trees stands where they stand, and is no deeper.
-use Rattle.std.proofs.Common.{◌≡◌, ◌<◌, ◌≤◌, ℕ, zero, suc, ◌+◌, ◌-◌, ◌==◌, ◌^◌, not, Bool, true, false, ◌&&◌, ◌||◌, if◌then◌else◌, List, [], ◌∷◌, ◌++◌, length, Option, Some, None, IfSome, Result, Ok, Err, slice_get, slice_set, slice_index, slice_index_or, refl, sym, ◌∙◌, ap, subst, arith}
+use Rattle.std.proofs.Common.{◌≡◌, ◌<◌, ◌≤◌, ℕ, zero, suc, ◌+◌, ◌-◌, ◌==◌, ◌^◌, not, Bool, true, false, ◌&&◌, if◌then◌else◌, List, [], ◌∷◌, ◌++◌, length, Option, Some, None, IfSome, Result, Ok, Err, slice_get, slice_set, slice_index, slice_index_or, refl, sym, ◌∙◌, ap, subst, arith}
 use Rattle.std.specs.List.{All, list_all}
 use Rattle.std.specs.Str.{is_utf8, IsUtf8, IsAscii}
 use Rattle.std.proofs.lemmas.Str.{IsUtf8-from_is_utf8, IsUtf8-from_ascii}
 use Rattle.ebml_numbers.specs.Number.{uint_octets}
+use Rattle.std.proofs.lemmas.Bool.{and_parts, not-false, or_parts}
 use Rattle.std.proofs.lemmas.Bool.Decides.{nat_tests}
 use Rattle.std.proofs.lemmas.Option.{slice_get_within}
 use Rattle.std.proofs.lemmas.List.Elements.{All-set}
@@ -30,7 +31,6 @@ use Rattle.edit_changes.specs.Property.{is_between, is_info, is_in_tag, is_langu
 use Rattle.edit_changes.specs.Change.{are_of_info, are_of_tracks, added, added_to, changed, edited_from, edited_node, edited_once, has, in_entry, in_info, in_tracks, named, numbered, place_of, set}
 use Rattle.mkv_io.specs.Results.{and_then}
 use Rattle.edit_changes.specs.Properties.{IsOfKind, IsPropertyOf, section_of}
-use Rattle.edit_changes.specs.Trees.{IsEntryAt}
 use Rattle.edit_changes.proofs.PropertyLemmas.{property-stands}
 use Rattle.edit_changes.proofs.SelectLemmas.{entry-sound, entry-master, entry-stands, place-entry}
 
@@ -66,11 +66,6 @@ number-is least most (Some n) octets is = of (is_between least most n) refl is
     of true inside same = (n, grind (arith, nat_tests), cc)
     of false inside same = absurd (cc)
 
-both-true : (a b : Bool) → (a && b) ≡ true → (a ≡ true) × (b ≡ true)
-both-true true true is = (refl, refl)
-both-true true false is = absurd (cc)
-both-true false b is = absurd (cc)
-
 text-leaf : (parent id : ℕ) (value octets : List ℕ) (test : Bool) → IsTextIn parent id → where_text test value ≡ Some octets → (test ≡ true → IsUtf8 value) → StandsIn parent (leaf id 0 octets)
 text-leaf parent id value octets test stands is utf8 =
     let w = where-is test value octets is in
@@ -85,13 +80,13 @@ uint-leaf parent id least most n octets small stands is =
 -- the octets of a value are a leaf's of its property
 leaf-stands : (parent id : ℕ) (kind : ValueKind) (value octets : List ℕ) → IsOfKind parent id kind → value_of kind value ≡ Some octets → StandsIn parent (leaf id 0 octets)
 leaf-stands parent id Words value octets stands is =
-    text-leaf parent id value octets (is_words value) stands is (λ words. IsUtf8-from_is_utf8 value (both-true (is_utf8 value) (list_all is_not_zero value) words).0)
+    text-leaf parent id value octets (is_words value) stands is (λ words. IsUtf8-from_is_utf8 value (and_parts (is_utf8 value) (list_all is_not_zero value) words).0)
 leaf-stands parent id Language value octets stands is =
-    text-leaf parent id value octets (is_language value) stands is (λ three. IsUtf8-from_ascii value (list-ascii is_lower value lower-small (both-true (length value == 3) (list_all is_lower value) three).1))
+    text-leaf parent id value octets (is_language value) stands is (λ three. IsUtf8-from_ascii value (list-ascii is_lower value lower-small (and_parts (length value == 3) (list_all is_lower value) three).1))
 leaf-stands parent id LanguageTag value octets stands is =
-    text-leaf parent id value octets (is_short is_in_tag value) stands is (λ few. IsUtf8-from_ascii value (list-ascii is_in_tag value tag-small (both-true (is_between 1 63 (length value)) (list_all is_in_tag value) few).1))
+    text-leaf parent id value octets (is_short is_in_tag value) stands is (λ few. IsUtf8-from_ascii value (list-ascii is_in_tag value tag-small (and_parts (is_between 1 63 (length value)) (list_all is_in_tag value) few).1))
 leaf-stands parent id Codec value octets stands is =
-    text-leaf parent id value octets (is_short is_printable value) stands is (λ few. IsUtf8-from_ascii value (list-ascii is_printable value print-small (both-true (is_between 1 63 (length value)) (list_all is_printable value) few).1))
+    text-leaf parent id value octets (is_short is_printable value) stands is (λ few. IsUtf8-from_ascii value (list-ascii is_printable value print-small (and_parts (is_between 1 63 (length value)) (list_all is_printable value) few).1))
 leaf-stands parent id Duration value octets stands is = uint-leaf parent id 1 (2 ^ 48 - 1) (number value) octets (omega arith) stands is
 leaf-stands parent id Flag value octets stands is = uint-leaf parent id 0 1 (number value) octets (omega arith) stands is
 
@@ -183,50 +178,55 @@ get-all P ns k n all at = subst P (own-get ns k n at) (all k n (slice_get_within
     own-get (m ∷ ns) zero n at = cc at
     own-get (m ∷ ns) (suc k) n at = own-get ns k n at
 
-fit-info : (e : Edit) (t u : Trees) → is_info e.place ≡ true → AreFit t → in_info e t t.info ≡ Ok u → AreFit u
-fit-info e t u info fit is = of t.info fit.info is
+-- What one edit makes of trees: another Info, or another entry of Tracks.
+pub data Once (e : Edit) (t u : Trees) : Type 0 where
+  of_info : is_info e.place ≡ true → (n m : Node) → t.info ≡ Some n → edited_node e n ≡ Ok m → record { info = Some m; tracks = t.tracks } ≡ u → Once e t u
+  of_tracks : is_info e.place ≡ false → (k : ℕ) (n m : Node) → place_of e.place t.tracks ≡ Some k → slice_get t.tracks k ≡ Some n → edited_node e n ≡ Ok m
+      → record { info = t.info; tracks = slice_set t.tracks k m } ≡ u → Once e t u
+
+pub once-is : (e : Edit) (t u : Trees) → edited_once e t ≡ Ok u → Once e t u
+once-is e t u is = of (is_info e.place) refl is
   where
-    of : (n : Option Node) → IfSome n (IsFit INFO deepest) → in_info e t n ≡ Ok u → AreFit u
-    of None fits is = absurd (cc)
-    of (Some n) fits is =
+    info : is_info e.place ≡ true → (n : Option Node) → t.info ≡ n → in_info e t n ≡ Ok u → Once e t u
+    info own None at is = absurd (cc)
+    info own (Some n) at is =
         let made = then-ok (edited_node e n) (λ m. Ok (record { info = Some m; tracks = t.tracks })) u is in
-        let own : INFO ≡ section_of (is_info e.place) = sym (ap section_of info) in
-        let after = fit-edited e deepest n made.0 (subst (λ k. IsFit k deepest n) own fits) made.1.0 in
-        let same : record { info = Some made.0; tracks = t.tracks } ≡ u = (let last = made.1.1 in cc) in
-        subst AreFit same (record { info = subst (λ k. IsFit k deepest made.0) (sym own) after; tracks = fit.tracks })
+        of_info own n made.0 at made.1.0 (let last = made.1.1 in cc)
 
-fit-tracks : (e : Edit) (t u : Trees) → is_info e.place ≡ false → AreFit t → in_tracks e t (place_of e.place t.tracks) ≡ Ok u → AreFit u
-fit-tracks e t u info fit is = of (place_of e.place t.tracks) refl is
-  where
-    entry : (k : ℕ) → IsEntryAt t.tracks k → (n : Option Node) → slice_get t.tracks k ≡ n → in_entry e t k n ≡ Ok u → AreFit u
-    entry k here None none is = absurd (cc)
-    entry k here (Some n) some is =
+    entry : is_info e.place ≡ false → (k : ℕ) → place_of e.place t.tracks ≡ Some k → (n : Option Node) → slice_get t.tracks k ≡ n → in_entry e t k n ≡ Ok u → Once e t u
+    entry other k place None at is = absurd (cc)
+    entry other k place (Some n) at is =
         let made = then-ok (edited_node e n) (λ m. Ok (record { info = t.info; tracks = slice_set t.tracks k m })) u is in
-        let own : TRACK_ENTRY ≡ section_of (is_info e.place) = sym (ap section_of info) in
-        let same_n : here.entry ≡ n = (let at = here.at in cc) in
-        let id : id_of n ≡ TRACK_ENTRY = ap id_of (sym same_n) ∙ here.id in
-        let both = get-all (λ (n : Node). StandsIn TRACKS n × (depth n < deepest)) t.tracks k n fit.tracks some in
-        let room = both.1 in
-        let before : IsFit TRACK_ENTRY (deepest - 1) n = record { own = id; master = entry-master n both.0 id; sound = (entry-sound n both.0 id).sound; deep = omega arith } in
-        let after = fit-edited e (deepest - 1) n made.0 (subst (λ k. IsFit k (deepest - 1) n) own before) made.1.0 in
-        let own_after : id_of made.0 ≡ TRACK_ENTRY = after.own ∙ sym own in
-        let deep = after.deep in
-        let same : record { info = t.info; tracks = slice_set t.tracks k made.0 } ≡ u = (let last = made.1.1 in cc) in
-        subst AreFit same (record {
-          info = fit.info;
-          tracks = All-set (λ (n : Node). StandsIn TRACKS n × (depth n < deepest)) t.tracks k made.0 (entry-stands made.0 after.master own_after after.sound, omega arith) fit.tracks;
-        })
+        of_tracks other k n made.0 place at made.1.0 (let last = made.1.1 in cc)
 
-    of : (k : Option ℕ) → place_of e.place t.tracks ≡ k → in_tracks e t k ≡ Ok u → AreFit u
-    of None none is = absurd (cc)
-    of (Some k) some is = entry k (place-entry e.place t.tracks k some) (slice_get t.tracks k) refl is
+    tracks : is_info e.place ≡ false → (k : Option ℕ) → place_of e.place t.tracks ≡ k → in_tracks e t k ≡ Ok u → Once e t u
+    tracks other None place is = absurd (cc)
+    tracks other (Some k) place is = entry other k place (slice_get t.tracks k) refl is
 
-fit-once : (e : Edit) (t u : Trees) → AreFit t → edited_once e t ≡ Ok u → AreFit u
-fit-once e t u fit is = of (is_info e.place) refl is
-  where
-    of : (info : Bool) → is_info e.place ≡ info → (if info then in_info e t t.info else in_tracks e t (place_of e.place t.tracks)) ≡ Ok u → AreFit u
-    of true info is = fit-info e t u info fit is
-    of false info is = fit-tracks e t u info fit is
+    of : (own : Bool) → is_info e.place ≡ own → (if own then in_info e t t.info else in_tracks e t (place_of e.place t.tracks)) ≡ Ok u → Once e t u
+    of true own is = info own t.info refl is
+    of false other is = tracks other (place_of e.place t.tracks) refl is
+
+fit-once : (e : Edit) (t u : Trees) → AreFit t → Once e t u → AreFit u
+fit-once e t u fit (of_info is n m at made same) =
+    let own : INFO ≡ section_of (is_info e.place) = sym (ap section_of is) in
+    let fits : IsFit INFO deepest n = subst (λ (x : Option Node). IfSome x (IsFit INFO deepest)) at fit.info in
+    let after = fit-edited e deepest n m (subst (λ k. IsFit k deepest n) own fits) made in
+    subst AreFit same (record { info = subst (λ k. IsFit k deepest m) (sym own) after; tracks = fit.tracks })
+fit-once e t u fit (of_tracks other k n m place at made same) =
+    let here = place-entry e.place t.tracks k place in
+    let own : TRACK_ENTRY ≡ section_of (is_info e.place) = sym (ap section_of other) in
+    let same_n : here.entry ≡ n = (let there = here.at in cc) in
+    let id : id_of n ≡ TRACK_ENTRY = ap id_of (sym same_n) ∙ here.id in
+    let both = get-all (λ (n : Node). StandsIn TRACKS n × (depth n < deepest)) t.tracks k n fit.tracks at in
+    let room = both.1 in
+    let before : IsFit TRACK_ENTRY (deepest - 1) n = record { own = id; master = entry-master n both.0 id; sound = (entry-sound n both.0 id).sound; deep = omega arith } in
+    let after = fit-edited e (deepest - 1) n m (subst (λ k. IsFit k (deepest - 1) n) own before) made in
+    let deep = after.deep in
+    subst AreFit same (record {
+      info = fit.info;
+      tracks = All-set (λ (n : Node). StandsIn TRACKS n × (depth n < deepest)) t.tracks k m (entry-stands m after.master (after.own ∙ sym own) after.sound, omega arith) fit.tracks;
+    })
 
 pub numbered-ok : {A : Type 0} (k : ℕ) (r : Result A Why) (x : A) → numbered k r ≡ Ok x → r ≡ Ok x
 numbered-ok k (Ok y) x is = let same : y ≡ x = cc in ap (λ z. Ok z) same
@@ -237,7 +237,7 @@ pub fit-all : (k : ℕ) (es : List Edit) (t u : Trees) → AreFit t → edited_f
 fit-all k [] t u fit is = subst AreFit (cc) fit
 fit-all k (e ∷ es) t u fit is =
     let made = then-ok (numbered (k + 1) (edited_once e t)) (edited_from (k + 1) es) u is in
-    fit-all (k + 1) es made.0 u (fit-once e t made.0 fit (numbered-ok (k + 1) (edited_once e t) made.0 made.1.0)) made.1.1
+    fit-all (k + 1) es made.0 u (fit-once e t made.0 fit (once-is e t made.0 (numbered-ok (k + 1) (edited_once e t) made.0 made.1.0))) made.1.1
 
 -- ---- what edits aren't about
 
@@ -246,39 +246,21 @@ pub info-stays : (k : ℕ) (es : List Edit) (t u : Trees) → are_of_info es ≡
 info-stays k [] t u none is = let same : t ≡ u = cc in ap (λ (x : Trees). x.info) (sym same)
 info-stays k (e ∷ es) t u none is =
     let made = then-ok (numbered (k + 1) (edited_once e t)) (edited_from (k + 1) es) u is in
-    let own = neither (is_info e.place) (are_of_info es) none in
-    info-stays (k + 1) es made.0 u own.1 made.1.1 ∙ once made.0 (numbered-ok (k + 1) (edited_once e t) made.0 made.1.0) (is_info e.place) own.0
+    let own = or_parts (is_info e.place) (are_of_info es) none in
+    info-stays (k + 1) es made.0 u own.1 made.1.1 ∙ once made.0 own.0 (once-is e t made.0 (numbered-ok (k + 1) (edited_once e t) made.0 made.1.0))
   where
-    neither : (a b : Bool) → (a || b) ≡ false → (a ≡ false) × (b ≡ false)
-    neither true b is = absurd (cc)
-    neither false b is = (refl, is)
-
-    entry : (x : Trees) (j : ℕ) (n : Option Node) → in_entry e t j n ≡ Ok x → x.info ≡ t.info
-    entry x j None is = absurd (cc)
-    entry x j (Some n) is = let made = then-ok (edited_node e n) (λ m. Ok (record { info = t.info; tracks = slice_set t.tracks j m })) x is in let last = made.1.1 in let same : record { info = t.info; tracks = slice_set t.tracks j made.0 } ≡ x = cc in sym (ap (λ (y : Trees). y.info) same)
-
-    place : (x : Trees) (j : Option ℕ) → in_tracks e t j ≡ Ok x → x.info ≡ t.info
-    place x None is = absurd (cc)
-    place x (Some j) is = entry x j (slice_get t.tracks j) is
-
-    once : (x : Trees) → edited_once e t ≡ Ok x → (info : Bool) → is_info e.place ≡ false → x.info ≡ t.info
-    once x is info other = place x (place_of e.place t.tracks) (sym (ap (λ (b : Bool). if b then in_info e t t.info else in_tracks e t (place_of e.place t.tracks)) other) ∙ is)
+    once : (x : Trees) → is_info e.place ≡ false → Once e t x → x.info ≡ t.info
+    once x other (of_info own n m at made same) = absurd (cc)
+    once x other (of_tracks own k n m place at made same) = sym (ap (λ (y : Trees). y.info) same)
 
 -- and without an edit of Tracks that does
 pub tracks-stay : (k : ℕ) (es : List Edit) (t u : Trees) → are_of_tracks es ≡ false → edited_from k es t ≡ Ok u → u.tracks ≡ t.tracks
 tracks-stay k [] t u none is = let same : t ≡ u = cc in ap (λ (x : Trees). x.tracks) (sym same)
 tracks-stay k (e ∷ es) t u none is =
     let made = then-ok (numbered (k + 1) (edited_once e t)) (edited_from (k + 1) es) u is in
-    let own = neither (is_info e.place) (are_of_tracks es) none in
-    tracks-stay (k + 1) es made.0 u own.1 made.1.1 ∙ once made.0 (numbered-ok (k + 1) (edited_once e t) made.0 made.1.0) own.0
+    let own = or_parts (not (is_info e.place)) (are_of_tracks es) none in
+    tracks-stay (k + 1) es made.0 u own.1 made.1.1 ∙ once made.0 (not-false (is_info e.place) own.0) (once-is e t made.0 (numbered-ok (k + 1) (edited_once e t) made.0 made.1.0))
   where
-    neither : (a b : Bool) → (not a || b) ≡ false → (a ≡ true) × (b ≡ false)
-    neither true b is = (refl, is)
-    neither false b is = absurd (cc)
-
-    in-it : (x : Trees) (n : Option Node) → in_info e t n ≡ Ok x → x.tracks ≡ t.tracks
-    in-it x None is = absurd (cc)
-    in-it x (Some n) is = let made = then-ok (edited_node e n) (λ m. Ok (record { info = Some m; tracks = t.tracks })) x is in let last = made.1.1 in let same : record { info = Some made.0; tracks = t.tracks } ≡ x = cc in sym (ap (λ (y : Trees). y.tracks) same)
-
-    once : (x : Trees) → edited_once e t ≡ Ok x → is_info e.place ≡ true → x.tracks ≡ t.tracks
-    once x is own = in-it x t.info (sym (ap (λ (b : Bool). if b then in_info e t t.info else in_tracks e t (place_of e.place t.tracks)) own) ∙ is)
+    once : (x : Trees) → is_info e.place ≡ true → Once e t x → x.tracks ≡ t.tracks
+    once x info (of_info own n m at made same) = sym (ap (λ (y : Trees). y.tracks) same)
+    once x info (of_tracks own k n m place at made same) = absurd (cc)

@@ -23,7 +23,8 @@ use Rattle.edit_plan.proofs.LevelLemmas.{Stand}
 use Rattle.edit_plan.proofs.VoidLemmas.{first-room}
 use Rattle.edit_plan.proofs.PartLemmas.{first-own}
 use Rattle.edit_plan.proofs.FitLemmas.{fills-place, wider-length}
-use Rattle.edit_laws.proofs.SameLemmas.{InOrder, IsOneOf}
+use Rattle.edit_laws.proofs.AmongLemmas.{IsAmong}
+use Rattle.edit_laws.proofs.SameLemmas.{InOrder}
 use Rattle.edit_laws.proofs.FillLemmas.{small-widen}
 use Rattle.edit_laws.proofs.ItemLemmas.{Item, IsName, IsItem, IsInside, write_of}
 
@@ -56,29 +57,20 @@ touches-append (x ∷ xs) ys k (inr later) = elim (touches-append xs ys k later)
   | inr right ↦ inr right
 ]
 
-one-inserted : (w v : Write) (vs : List Write) → IsOneOf (v ∷ vs) w → IsOneOf (inserted v vs) w
+one-inserted : (w v : Write) (vs : List Write) → IsAmong (v ∷ vs) w → IsAmong (inserted v vs) w
 one-inserted w v [] one = one
 one-inserted w v (u ∷ us) one = of (one-inserted w v us) (nat_le v.at u.at) one
   where
-    of : (IsOneOf (v ∷ us) w → IsOneOf (inserted v us) w) → (first : Bool) → IsOneOf (v ∷ u ∷ us) w → IsOneOf (if first then v ∷ u ∷ us else u ∷ inserted v us) w
+    of : (IsAmong (v ∷ us) w → IsAmong (inserted v us) w) → (first : Bool) → IsAmong (v ∷ u ∷ us) w → IsAmong (if first then v ∷ u ∷ us else u ∷ inserted v us) w
     of further true one = one
     of further false (inl own) = inr (further (inl own))
     of further false (inr (inl here)) = inl here
     of further false (inr (inr later)) = inr (further (inr later))
 
-pub one-ascending : (ws : List Write) (w : Write) → IsOneOf ws w → IsOneOf (ascending ws) w
+pub one-ascending : (ws : List Write) (w : Write) → IsAmong ws w → IsAmong (ascending ws) w
 one-ascending [] w one = one
 one-ascending (v ∷ vs) w (inl own) = one-inserted w v (ascending vs) (inl own)
 one-ascending (v ∷ vs) w (inr later) = one-inserted w v (ascending vs) (inr (one-ascending vs w later))
-
-pub one-left : (xs ys : List Write) (w : Write) → IsOneOf xs w → IsOneOf (xs ++ ys) w
-one-left [] ys w one = absurd one
-one-left (x ∷ xs) ys w (inl own) = inl own
-one-left (x ∷ xs) ys w (inr later) = inr (one-left xs ys w later)
-
-pub one-right : (xs ys : List Write) (w : Write) → IsOneOf ys w → IsOneOf (xs ++ ys) w
-one-right [] ys w one = one
-one-right (x ∷ xs) ys w one = inr (one-right xs ys w one)
 
 -- where writes stay in front of an end, the file grows no longer
 pub extent-within : (old from n : ℕ) (ws : List Write) → InOrder old from ws → ((k : ℕ) → WritesOctet ws k → k < n) → extent n ws ≡ n
@@ -112,11 +104,11 @@ module _ (q e : ℕ) (list : List Header) (stand : Stand q e list) where
   touches-items (i ∷ is) k are (inl (begins, ends)) = let most = item-most i (All-head (IsItem list) i is are) in inl (begins, omega arith)
   touches-items (i ∷ is) k are (inr later) = inr (touches-items is k (All-tail (IsItem list) i is are) later)
 
-pub one-items : (list : List Header) (is : List Item) → All (λ (i : Item). IsOneOf (writes_of list is) (write_of list i)) is
-one-items list [] = All-nil (λ (i : Item). IsOneOf [] (write_of list i))
+pub one-items : (list : List Header) (is : List Item) → All (λ (i : Item). IsAmong (writes_of list is) (write_of list i)) is
+one-items list [] = All-nil (λ (i : Item). IsAmong [] (write_of list i))
 one-items list (i ∷ is) =
-    All-cons (λ (j : Item). IsOneOf (writes_of list (i ∷ is)) (write_of list j)) i is (inl refl)
-    (All-weaker (λ (j : Item). IsOneOf (writes_of list is) (write_of list j)) (λ (j : Item). IsOneOf (writes_of list (i ∷ is)) (write_of list j)) (λ j one. inr one) is (one-items list is))
+    All-cons (λ (j : Item). IsAmong (writes_of list (i ∷ is)) (write_of list j)) i is (inl refl)
+    (All-weaker (λ (j : Item). IsAmong (writes_of list is) (write_of list j)) (λ (j : Item). IsAmong (writes_of list (i ∷ is)) (write_of list j)) (λ j one. inr one) is (one-items list is))
 
 -- ---- the Info and the Tracks that are written anew, as items
 
