@@ -32,7 +32,6 @@ use Rattle.edit_plan.proofs.LevelLemmas.{Stand}
 use Rattle.edit_plan.proofs.PartLemmas.{first-own}
 use Rattle.edit_plan.proofs.PlanLemmas.{bound-most}
 use Rattle.edit_plan.proofs.SizeLemmas.{HasSize, has-size}
-use Rattle.edit_plan.proofs.VoidLemmas.{first-room}
 use Rattle.edit_laws.proofs.AmongLemmas.{IsAmong, all-among, among-left, among-right}
 use Rattle.edit_laws.proofs.SameLemmas.{AreSame, InOrder, order-fits, order-held, same-clear, same-part}
 use Rattle.edit_laws.proofs.HeaderLemmas.{found-same, found-sound}
@@ -50,7 +49,7 @@ use Rattle.edit_laws.proofs.EndLemmas.{CanGrow, alone-first, bound-total, ends-t
 use Rattle.edit_laws.proofs.MoveLemmas.{moved, moved-anew}
 use Rattle.edit_laws.proofs.RoomLemmas.{tiles-stand}
 use Rattle.edit_laws.proofs.StayLemmas.{same-length, same-outside, stays, stays-anew}
-use Rattle.edit_laws.proofs.WriteLemmas.{one-ascending, one-items, touches-append, touches-ascending, touches-items, writes_of}
+use Rattle.edit_laws.proofs.WriteLemmas.{inside-room, one-ascending, one-items, touches-append, touches-ascending, touches-items, writes_of}
 use Rattle.edit_laws.specs.Laws.{IsOutside}
 
 -- ---- what stays
@@ -266,16 +265,6 @@ module _ (bytes : List ℕ) (are_octets : AreOctets bytes) (short : length bytes
   blocks : (h : Header) → IsAmong list h → ends_cluster h.id ≡ false → IsOutside h
   blocks h ahead goes = all-among IsOutside list h outside_all ahead
 
-  -- an octet of a room stands in front of the end of the list
-  inside-room : (is : List Item) (k : ℕ) → All (IsItem others) is → IsInside others is k → (segment.body ≤ k) × (k < last)
-  inside-room [] k are inside = absurd inside
-  inside-room (i ∷ is) k are (inr later) = inside-room is k (All-tail (IsItem others) i is are) later
-  inside-room (i ∷ is) k are (inl here) =
-      let own = All-head (IsItem others) i is are in
-      let room = first-room i.element.id segment.body last others i.header stand own.first in
-      let from = room.from in let inside = room.inside in let left = here.0 in let right = here.1 in
-      (omega arith, omega arith)
-
   -- ---- nothing stands behind the old end
 
   module _ (items : List Item) (are : All (IsItem others) items) (distinct : AreDistinct items) (is_ws : ascending (writes_of others items) ≡ ws) where
@@ -374,7 +363,7 @@ module _ (bytes : List ℕ) (are_octets : AreOctets bytes) (short : length bytes
     inside-front : (k : ℕ) → WritesOctet (front ++ middle) k → k < total
     inside-front k touched = elim (touches-append front middle k touched) [
       | inl size ↦ (let is = touches-size segment now_end k size in let before = is.1 in let most = body-inside in omega arith)
-      | inr mid ↦ (let is = inside-room items k are (touches-items segment.body last others stand items k are (touches-ascending (writes_of others items) k mid)) in let right = is.1 in let ends = last-total bytes o op undamaged grow body-inside run in omega arith)
+      | inr mid ↦ (let is = inside-room segment.body last others stand items k are (touches-items segment.body last others stand items k are (touches-ascending (writes_of others items) k mid)) in let right = is.1 in let ends = last-total bytes o op undamaged grow body-inside run in omega arith)
     ]
 
     order-is : InOrder total 0 (front ++ middle ++ tail_write ∷ [])
@@ -435,7 +424,7 @@ module _ (bytes : List ℕ) (are_octets : AreOctets bytes) (short : length bytes
           | inl size ↦ (let is = size.0 in let wrong : ⊥ = omega arith in wrong)
           | inr rest ↦ elim rest [
             | inl past ↦ (let wrong : ⊥ = omega arith in wrong)
-            | inr room ↦ (let is = (inside-room items k are room).0 in let wrong : ⊥ = omega arith in wrong)
+            | inr room ↦ (let is = (inside-room segment.body last others stand items k are room).0 in let wrong : ⊥ = omega arith in wrong)
           ]
         ])
 
@@ -446,7 +435,7 @@ module _ (bytes : List ℕ) (are_octets : AreOctets bytes) (short : length bytes
         (λ k from to touched. elim (touches-append (front ++ middle) (tail_write ∷ []) k (subst (λ (vs : List Write). WritesOctet vs k) (sym is_ws) touched)) [
           | inl head_or ↦ elim (touches-append front middle k head_or) [
             | inl size ↦ no-size k size
-            | inr mid ↦ (let is = (inside-room items k are (touches-items segment.body last others stand items k are (touches-ascending (writes_of others items) k mid))).0 in let wrong : ⊥ = omega arith in wrong)
+            | inr mid ↦ (let is = (inside-room segment.body last others stand items k are (touches-items segment.body last others stand items k are (touches-ascending (writes_of others items) k mid))).0 in let wrong : ⊥ = omega arith in wrong)
           ]
           | inr behind ↦ elim behind [
             | inl here ↦ (let is = here.0 in let wrong : ⊥ = omega arith in wrong)

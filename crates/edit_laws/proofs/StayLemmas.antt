@@ -1,7 +1,6 @@
 -- Edits of which nothing stands behind the old end: the new content is as long as the old one, and its Segment ends where it did.
 use Rattle.std.proofs.Common.{inl, inr, ◌≡◌, ◌⊎◌, ◌<◌, ◌≤◌, ℕ, Bool, true, false, ◌||◌, List, [], ◌∷◌, length, All, Ok, refl, sym, ◌∙◌, ap, ap₂, arith}
 use Rattle.std.proofs.lemmas.Bool.{cases_lt}
-use Rattle.std.proofs.lemmas.List.Elements.{All-head, All-tail}
 use Rattle.ebml_numbers.specs.declared.number.Size.{Size}
 use Rattle.ebml_numbers.specs.declared.number.Size.TheVariants.{Known, Unknown}
 use Rattle.mkv_io.specs.declared.outside.TheConstants.{LONGEST_FILE}
@@ -15,7 +14,6 @@ use Rattle.block_format.specs.Events.{is_closed}
 use Rattle.sidecar_edit.specs.Writes.{Write, applied, WritesOctet}
 use Rattle.sidecar_edit.proofs.RedoLemmas.{length-applied}
 use Rattle.edit_plan.proofs.LevelLemmas.{Stand}
-use Rattle.edit_plan.proofs.VoidLemmas.{first-room}
 use Rattle.edit_laws.proofs.AmongLemmas.{IsAmong}
 use Rattle.edit_laws.proofs.SameLemmas.{AreSame, same-clear, InOrder, order-fits}
 use Rattle.edit_laws.proofs.HeaderLemmas.{outside, found-sound, id-either}
@@ -23,7 +21,7 @@ use Rattle.edit_laws.proofs.TileLemmas.{level, inner, run_of, advances-level, ad
 use Rattle.edit_laws.proofs.LevelLemmas.{Edit, level-within}
 use Rattle.edit_laws.proofs.RoomLemmas.{tiles-stand}
 use Rattle.edit_laws.proofs.ItemLemmas.{AreDistinct, IsAnew, Item, IsItem, IsInside, CanKeep, anew, edit, write_of}
-use Rattle.edit_laws.proofs.WriteLemmas.{extent-within}
+use Rattle.edit_laws.proofs.WriteLemmas.{inside-room, extent-within}
 use Rattle.edit_laws.specs.Laws.{IsOutside}
 
 module _ (bytes : List ℕ) (size : Size) (start e last : ℕ) (list : List Header) (items : List Item) (ws : List Write)
@@ -44,18 +42,8 @@ module _ (bytes : List ℕ) (size : Size) (start e last : ℕ) (list : List Head
   pub reaches : last ≤ e
   reaches = level-within bytes size e start last list tiles begins
 
-  -- an octet of a room stands in front of the end of the list
-  inside-last : (is : List Item) (k : ℕ) → All (IsItem (others_of list)) is → IsInside (others_of list) is k → (start ≤ k) × (k < last)
-  inside-last [] k are inside = absurd inside
-  inside-last (i ∷ is) k are (inr later) = inside-last is k (λ j d below. (All-tail (IsItem (others_of list)) i is are) j d below) later
-  inside-last (i ∷ is) k are (inl here) =
-      let own = All-head (IsItem (others_of list)) i is are in
-      let room = first-room i.element.id start last (others_of list) i.header stand own.first in
-      let from = room.from in let inside = room.inside in let left = here.0 in let right = here.1 in
-      (omega arith, omega arith)
-
   touched-inside : (k : ℕ) → WritesOctet ws k → (start ≤ k) × (k < last)
-  touched-inside k touched = inside-last items k are (touch k touched)
+  touched-inside k touched = inside-room start last (others_of list) stand items k are (touch k touched)
 
   pub same-length : length new ≡ length bytes
   same-length =

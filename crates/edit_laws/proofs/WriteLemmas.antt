@@ -104,6 +104,16 @@ module _ (q e : ℕ) (list : List Header) (stand : Stand q e list) where
   touches-items (i ∷ is) k are (inl (begins, ends)) = let most = item-most i (All-head (IsItem list) i is are) in inl (begins, omega arith)
   touches-items (i ∷ is) k are (inr later) = inr (touches-items is k (All-tail (IsItem list) i is are) later)
 
+  -- an octet of a room stands in front of the end of the list
+  pub inside-room : (is : List Item) (k : ℕ) → All (IsItem list) is → IsInside list is k → (q ≤ k) × (k < e)
+  inside-room [] k are inside = absurd inside
+  inside-room (i ∷ is) k are (inr later) = inside-room is k (All-tail (IsItem list) i is are) later
+  inside-room (i ∷ is) k are (inl here) =
+      let own = All-head (IsItem list) i is are in
+      let room = first-room i.element.id q e list i.header stand own.first in
+      let from = room.from in let inside = room.inside in let left = here.0 in let right = here.1 in
+      (omega arith, omega arith)
+
 pub one-items : (list : List Header) (is : List Item) → All (λ (i : Item). IsAmong (writes_of list is) (write_of list i)) is
 one-items list [] = All-nil (λ (i : Item). IsAmong [] (write_of list i))
 one-items list (i ∷ is) =
