@@ -139,21 +139,6 @@ scale-tree bytes segment = of (first_of INFO (segment_run bytes segment).list)
     of None = refl
     of (Some h) = read (info_tree bytes h)
 
--- ---- a file that can be indexed
-
--- What is known of a file that can be indexed.
-record IsRead (bytes : List ℕ) (f : EditableFile) : Type 0 where
-  outline : outline_in 0 bytes ≡ Ok f.outline
-  trees : trees_of bytes f.outline.segment ≡ Ok f.trees
-
-indexable-read : (bytes : List ℕ) (f : EditableFile) → indexable bytes ≡ Ok f → IsRead bytes f
-indexable-read bytes f is =
-    let outline = and_then-ok (outline_in 0 bytes) _ f is in
-    let trees = and_then-ok (trees_of bytes outline.0.segment) _ f outline.1.1 in
-    let made = unless-ok (file_damage bytes outline.0.segment) (record { outline = outline.0; trees = trees.0 }) f trees.1.1 in
-    let P : EditableFile → Type 0 = λ g. IsRead bytes g in
-    subst P made.1 (record { outline = outline.1.0; trees = trees.1.0 })
-
 -- ---- the law
 
 module _ (bytes : List ℕ) (f : EditableFile) (is : indexable bytes ≡ Ok f) where
@@ -167,10 +152,10 @@ module _ (bytes : List ℕ) (f : EditableFile) (is : indexable bytes ≡ Ok f) w
   undamaged = events-undamaged (without_limits scale) bytes segment (ap damages_of (hidden-none bytes f is) ∙ (indexable-whole bytes f is).undamaged)
 
   op : IsOpened bytes f.outline
-  op = opened bytes f.outline (indexable-read bytes f is).outline
+  op = opened bytes f.outline (indexable-whole bytes f is).outline
 
   first : AreFirst bytes segment f.trees
-  first = trees-first bytes segment f.trees (indexable-read bytes f is).trees
+  first = trees-first bytes segment f.trees (indexable-whole bytes f is).trees
 
   -- a point of the old file points at the same block in the new one
   point-holds : (new : List ℕ) (h : HoldsCues bytes new f.outline (index_points bytes segment f.trees.tracks)) (b : Block) (at : IsAtTick bytes segment b) → is_indexed (indexed_tracks f.trees.tracks) b ≡ true
@@ -238,7 +223,7 @@ module _ (bytes : List ℕ) (f : EditableFile) (is : indexable bytes ≡ Ok f) w
       let split = then-ok (unless_refused (twin_of old CUES) (cues_parts old found (new_cues points))) (writes_of_parts index_ids true bytes f.outline) ws made in
       let parts = unless-none (twin_of old CUES) (cues_parts old found (new_cues points)) split.0 split.1.0 in
       let written : writes_of_parts index_ids true bytes f.outline (cues_parts old found (new_cues points)) ≡ Ok ws = ap (writes_of_parts index_ids true bytes f.outline) parts.1 ∙ split.1.1 in
-      let plan = parts-in-order bytes 0 f.outline index_ids true (cues_parts old found (new_cues points)) ws short (indexable-read bytes f is).outline (cues-are old found (new_cues points) refl (new-own points)) written in
+      let plan = parts-in-order bytes 0 f.outline index_ids true (cues_parts old found (new_cues points)) ws short (indexable-whole bytes f is).outline (cues-are old found (new_cues points) refl (new-own points)) written in
       let alone : number_of CUES old ≤ 1 = twin-none old CUES parts.0 in
       holds-index (applied bytes ws)
       (cues-hold bytes are_octets short f.outline ws op (op.damage ∙ undamaged.level) (in-order (length bytes) 0 ws plan.sound.order) outside (subst (λ l. number_of CUES l ≤ 1) op.others alone) points

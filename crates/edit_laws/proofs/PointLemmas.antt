@@ -30,22 +30,26 @@ use Rattle.edit_laws.proofs.TickLemmas.{times-ticks}
 
 -- ---- a file that can be indexed
 
--- no damage is told of it, and its scale is at least 1
-pub record IsWhole (bytes : List ℕ) (segment : Header) : Type 0 where
-  pub undamaged : damages_of (file_events true bytes segment) ≡ []
-  pub scale : 1 ≤ file_scale bytes segment
+-- It was read from this, no damage is told of it, and its scale is at least 1.
+pub record IsWhole (bytes : List ℕ) (f : EditableFile) : Type 0 where
+  pub outline : outline_in 0 bytes ≡ Ok f.outline
+  pub trees : trees_of bytes f.outline.segment ≡ Ok f.trees
+  pub undamaged : damages_of (file_events true bytes f.outline.segment) ≡ []
+  pub scale : 1 ≤ file_scale bytes f.outline.segment
 
 none-first : (ds : List Damage) → slice_get ds 0 ≡ None → ds ≡ []
 none-first [] none = refl
 none-first (d ∷ ds) none = absurd (cc)
 
-pub indexable-whole : (bytes : List ℕ) (f : EditableFile) → indexable bytes ≡ Ok f → IsWhole bytes f.outline.segment
+pub indexable-whole : (bytes : List ℕ) (f : EditableFile) → indexable bytes ≡ Ok f → IsWhole bytes f
 indexable-whole bytes f is =
     let outline = and_then-ok (outline_in 0 bytes) _ f is in
     let trees = and_then-ok (trees_of bytes outline.0.segment) _ f outline.1.1 in
     let made = unless-ok (file_damage bytes outline.0.segment) (record { outline = outline.0; trees = trees.0 }) f trees.1.1 in
-    let P : EditableFile → Type 0 = λ g. IsWhole bytes g.outline.segment in
+    let P : EditableFile → Type 0 = λ g. IsWhole bytes g in
     subst P made.1 (record {
+      outline = outline.1.0;
+      trees = trees.1.0;
       undamaged = none-first (damages_of (file_events true bytes outline.0.segment)) made.0;
       scale = (trees-scale bytes outline.0.segment trees.0 trees.1.0).some;
     })
