@@ -97,17 +97,19 @@ module _ (bytes : List ℕ) (size : Size) (e : ℕ) where
             | inr reached ↦ further reached ahead from inside
           ]
 
+      -- where it is no Void, nothing is passed over
+      not-here : (m ≤ x → IsAmong hs g → x ≤ g.offset → g.offset < behind_voids x (others_of hs) → IsVoidIn (behind_voids x (others_of hs)) g)
+          → g.offset < behind_voids x (others_of hs) → IsAmong (h ∷ hs) g → (here : Bool) → (h.offset == x) ≡ here → IsVoidIn (behind_voids x (others_of hs)) g
+      not-here further inside ahead true is = absurd (let place = at in let step = on in let same : h.offset ≡ x = grind (arith, nat_tests) in let none = voids-none x m q hs (omega arith) rest in omega arith)
+      not-here further inside ahead false is = later further ahead is inside
+
       of : (m ≤ x → IsAmong hs g → x ≤ g.offset → g.offset < behind_voids x (others_of hs) → IsVoidIn (behind_voids x (others_of hs)) g)
           → (m ≤ stated_end h → Tiles (level bytes size e) m hs q → IsAmong hs g → stated_end h ≤ g.offset → g.offset < behind_voids (stated_end h) (others_of hs) → IsVoidIn (behind_voids (stated_end h) (others_of hs)) g)
           → IsAmong (h ∷ hs) g → g.offset < behind_voids x (others_of (h ∷ hs))
           → (cluster void here : Bool) → (h.id == CLUSTER) ≡ cluster → (h.id == VOID) ≡ void → (h.offset == x) ≡ here → IsVoidIn (behind_voids x (others_of (h ∷ hs))) g
       of further behind ahead inside true void here is_cluster is_void is_here =
           let same : behind_voids x (others_of (h ∷ hs)) ≡ behind_voids x (others_of hs) = ap (λ (b : Bool). behind_voids x (if not b then h ∷ others_of hs else others_of hs)) is_cluster in
-          subst (λ n. IsVoidIn n g) (sym same) (cluster-here (subst (λ n. g.offset < n) same inside) ahead here is_here)
-        where
-          cluster-here : g.offset < behind_voids x (others_of hs) → IsAmong (h ∷ hs) g → (here : Bool) → (h.offset == x) ≡ here → IsVoidIn (behind_voids x (others_of hs)) g
-          cluster-here inside ahead true is = absurd (let place = at in let step = on in let same : h.offset ≡ x = grind (arith, nat_tests) in let none = voids-none x m q hs (omega arith) rest in omega arith)
-          cluster-here inside ahead false is = later further ahead is inside
+          subst (λ n. IsVoidIn n g) (sym same) (not-here further (subst (λ n. g.offset < n) same inside) ahead here is_here)
       of further behind ahead inside false true true is_cluster is_void is_here =
           let same : behind_voids x (others_of (h ∷ hs)) ≡ behind_voids (stated_end h) (others_of hs) =
           ap (λ (b : Bool). behind_voids x (if not b then h ∷ others_of hs else others_of hs)) is_cluster
@@ -140,11 +142,7 @@ module _ (bytes : List ℕ) (size : Size) (e : ℕ) where
           let same : behind_voids x (others_of (h ∷ hs)) ≡ behind_voids x (others_of hs) =
           ap (λ (b : Bool). behind_voids x (if not b then h ∷ others_of hs else others_of hs)) is_cluster
           ∙ ap (λ (b : Bool). if b && h.offset == x then behind_voids (stated_end h) (others_of hs) else behind_voids x (others_of hs)) is_void in
-          subst (λ n. IsVoidIn n g) (sym same) (other-here (subst (λ n. g.offset < n) same inside) ahead here is_here)
-        where
-          other-here : g.offset < behind_voids x (others_of hs) → IsAmong (h ∷ hs) g → (here : Bool) → (h.offset == x) ≡ here → IsVoidIn (behind_voids x (others_of hs)) g
-          other-here inside ahead true is = absurd (let place = at in let step = on in let same : h.offset ≡ x = grind (arith, nat_tests) in let none = voids-none x m q hs (omega arith) rest in omega arith)
-          other-here inside ahead false is = later further ahead is inside
+          subst (λ n. IsVoidIn n g) (sym same) (not-here further (subst (λ n. g.offset < n) same inside) ahead here is_here)
 
   -- ---- the first of an ID
 
