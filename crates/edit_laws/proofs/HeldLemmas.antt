@@ -38,6 +38,10 @@ pub record IsWritten (new : List ℕ) (id : ℕ) (body : List ℕ) (list : List 
   pub own : element.id ≡ id
   pub spells : element.body ≡ body
 
+-- it does so in each list of which it is the first
+pub written-first : (new : List ℕ) (id : ℕ) (body : List ℕ) (hs ns : List Header) → first_of id ns ≡ first_of id hs → IsWritten new id body hs → IsWritten new id body ns
+written-first new id body hs ns same is = record { place = is.place; element = is.element; first = same ∙ is.first; held = is.held; own = is.own; spells = is.spells }
+
 -- the first of an ID among Elements that are written one behind the other
 pub first-written : (new : List ℕ) (id : ℕ) (body : List ℕ) (p : ℕ) (ds : List Element) → HoldsAt new p (joined ds) → All (λ (d : Element). d.id ≡ id → d.body ≡ body) ds → (g : Header) → first_of id (headers_in_place p ds) ≡ Some g → IsWritten new id body (headers_in_place p ds)
 first-written new id body p [] held spells g found = absurd (cc)
@@ -57,19 +61,8 @@ first-written new id body p (d ∷ ds) held spells g found =
           spells = All-head (λ (d : Element). d.id ≡ id → d.body ≡ body) d ds spells own;
         }
     of further false same is =
-        let w = further is in
-        record {
-          place = w.place;
-          element = w.element;
-          first = ap (λ (b : Bool). if b then Some (header_in_place p d) else first_of id (headers_in_place (p + length (octets_of d)) ds)) same ∙ w.first;
-          held = w.held;
-          own = w.own;
-          spells = w.spells;
-        }
-
--- it is so in each list of which it is the first
-pub written-first : (new : List ℕ) (id : ℕ) (body : List ℕ) (hs ns : List Header) → first_of id ns ≡ first_of id hs → IsWritten new id body hs → IsWritten new id body ns
-written-first new id body hs ns same is = record { place = is.place; element = is.element; first = same ∙ is.first; held = is.held; own = is.own; spells = is.spells }
+        written-first new id body (headers_in_place (p + length (octets_of d)) ds) (headers_in_place p (d ∷ ds))
+        (ap (λ (b : Bool). if b then Some (header_in_place p d) else first_of id (headers_in_place (p + length (octets_of d)) ds)) same) (further is)
 
 -- it is read as it was written
 pub written-again : (new : List ℕ) (now : Header) (list : List Header) (end : ℕ) → segment_run new now ≡ whole list end → (id : ℕ) (nodes : List Node) → CanBeRead id nodes → IsWritten new id (flat_map octets nodes) list
