@@ -49,7 +49,7 @@ use Rattle.edit_changes.specs.Span.{span_of}
 use Rattle.edit_laws.proofs.EndLemmas.{moves-found, moving-all, twin-of, twins-none}
 use Rattle.edit_laws.proofs.PlannedLemmas.{IsPlanned, rest-behind}
 use Rattle.edit_laws.proofs.RestLemmas.{HoldsRest, IsUntouched, rest-stays, stand}
-use Rattle.edit_laws.proofs.SectionLemmas.{AreFirst, first-fit, info-octets, info-stands, info-there, tracks-octets, tracks-stand, trees-fit}
+use Rattle.edit_laws.proofs.SectionLemmas.{AreFirst, first-fit, fit-octets, info-stands, info-there, tracks-stand, trees-fit}
 use Rattle.edit_laws.proofs.TreeLemmas.{AreFit, IsFit, fit-all, info-stays, tracks-stay}
 use Rattle.edit_laws.proofs.WriteLemmas.{AreOf, few-parts, item_at, items-are, items_of, of-append, of-part, of-still, of-writes}
 
@@ -266,13 +266,13 @@ module _ (bytes : List ℕ) (are_octets : AreOctets bytes) (short : length bytes
       let own : IsFit INFO deepest there.0 = subst (λ (x : Option Node). IfSome x (IsFit INFO deepest)) there.1 fit.info in
       read there.0 there.1
       ∙ ap (λ (x : Option Node). Ok (Some (octets (master INFO 0 (nodes_of (info_nodes x)))))) there.1
-      ∙ ap (λ (l : List ℕ). Ok (Some l)) (info-octets there.0 own)
+      ∙ ap (λ (l : List ℕ). Ok (Some l)) (fit-octets INFO there.0 own)
       ∙ ap (λ (x : Option Node). Ok (option_map octets x)) (sym there.1)
 
   tracks-kept : (new : List ℕ) (now : Header) → ((are_of_tracks edits ≡ false) ⊎ (first_of TRACKS others ≡ None)) → first_tree TRACKS new now ≡ first_tree TRACKS bytes segment → normal_form TRACKS new now ≡ Ok (Some (tracks_octets t.tracks))
   tracks-kept new now why same =
       ap (λ (x : Result (Option Node) Damage). and_then x (λ (n : Option Node). Ok (option_map octets n))) (same ∙ first.tracks)
-      ∙ ap (λ (l : List ℕ). Ok (Some l)) (tracks-octets first.whole (first-fit TRACKS bytes segment (Some first.whole) are_octets first.tracks))
+      ∙ ap (λ (l : List ℕ). Ok (Some l)) (sym (fit-octets TRACKS first.whole (first-fit TRACKS bytes segment (Some first.whole) are_octets first.tracks)))
       ∙ ap (λ (ns : List Node). Ok (Some (tracks_octets ns))) (sym first.children ∙ sym stay_it)
     where
       stay_it : t.tracks ≡ f.trees.tracks

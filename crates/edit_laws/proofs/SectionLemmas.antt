@@ -126,13 +126,9 @@ info-stands (master id at kids) fit =
     let len : depth_all (nodes_of (list_of kids)) ≡ depth_all kids = ap depth_all same in
     (subst (AllStandIn INFO) (sym same) sound, omega arith)
 
-pub info-octets : (n : Node) → IsFit INFO deepest n → octets (master INFO 0 (nodes_of (children n))) ≡ octets n
-info-octets (leaf id at body) fit = let never = fit.master in absurd (cc)
-info-octets (master id at kids) fit = ap (λ (ks : Nodes). octets (master INFO 0 ks)) (nodes-list kids) ∙ ap (λ (i : ℕ). octets (master i 0 kids)) (sym fit.own)
-
-pub tracks-octets : (n : Node) → IsFit TRACKS deepest n → octets n ≡ octets (master TRACKS 0 (nodes_of (children n)))
-tracks-octets (leaf id at body) fit = let never = fit.master in absurd (cc)
-tracks-octets (master id at kids) fit = sym (ap (λ (ks : Nodes). octets (master TRACKS 0 ks)) (nodes-list kids) ∙ ap (λ (i : ℕ). octets (master i 0 kids)) (sym fit.own))
+pub fit-octets : (id : ℕ) (n : Node) → IsFit id deepest n → octets (master id 0 (nodes_of (children n))) ≡ octets n
+fit-octets id (leaf own at body) fit = let never = fit.master in absurd (cc)
+fit-octets id (master own at kids) fit = ap (λ (ks : Nodes). octets (master id 0 ks)) (nodes-list kids) ∙ ap (λ (i : ℕ). octets (master i 0 kids)) (sym fit.own)
 
 pub tracks-stand : (t : Trees) → AreFit t → AllStandIn TRACKS (nodes_of t.tracks) × (depth_all (nodes_of t.tracks) < deepest)
 tracks-stand t fit = stand-all TRACKS t.tracks deepest fit.tracks (omega arith)
