@@ -14,8 +14,6 @@ use Rattle.mkv_schema.specs.Elements.{Run}
 use Rattle.mkv_schema.specs.Outline.{segment_bound, segment_run}
 use Rattle.mkv_io.specs.Results.{and_then, and_then as edits_then, unless as unless_refused}
 use Rattle.mkv_schema.specs.Value.{first_of}
-use Rattle.mkv_schema.proofs.OutlineLemmas.{and_then-ok, unless-ok}
-use Rattle.element_reader.specs.Outline.{outline_in}
 use Rattle.tree_format.specs.Node.{Node, children}
 use Rattle.tree_format.specs.NormalForm.{octets}
 use Rattle.file_format.specs.Info.{file_scale, info_tree, scale_at, scale_in}
@@ -31,7 +29,7 @@ use Rattle.output_laws.specs.Points.{PointsAt, PointsAtBlock}
 use Rattle.output_laws.specs.Reading.{CuesAre}
 use Rattle.sidecar_edit.specs.Writes.{Write, applied}
 use Rattle.edit_changes.specs.Plan.{if_editable, number_of, twin_of, writes_of_parts}
-use Rattle.edit_changes.specs.Records.{EditableFile, trees_of}
+use Rattle.edit_changes.specs.Records.{EditableFile}
 use Rattle.edit_changes.specs.SeekHead.{stays}
 use Rattle.edit_plan.proofs.PlanLemmas.{parts-in-order, unless-none}
 use Rattle.edit_laws.proofs.AmongLemmas.{IsAmong}
@@ -42,7 +40,7 @@ use Rattle.edit_laws.proofs.PlannedLemmas.{in-order}
 use Rattle.edit_laws.proofs.SectionLemmas.{AreFirst, trees-first}
 use Rattle.edit_laws.proofs.TreeLemmas.{then-ok}
 use Rattle.edit_laws.specs.Laws.{IsOutside}
-use Rattle.reindex.specs.Index.{file_damage, indexable}
+use Rattle.reindex.specs.Index.{indexable}
 use Rattle.reindex.specs.Plan.{Index, cues_parts, index_ids, index_with, index_writes, new_cues}
 use Rattle.reindex.specs.Points.{cluster_before, index_points, indexed_tracks, is_indexed, point_in}
 use Rattle.edit_laws.specs.IndexLaws.{HoldsIndex, NewIndexIsWhole, HasSeeksOf, first_seeks}

@@ -99,9 +99,6 @@ pub record IsFilled (new : List ℕ) (at room : ℕ) (e : Element) : Type 0 wher
   pub are : All (λ (d : Element). d.id ≡ VOID) voids
   pub is : Stands now voids room e
 
-joined-one : (d : Element) → joined (d ∷ []) ≡ octets_of d
-joined-one d = append-nil (octets_of d)
-
 joined-two : (d v : Element) → joined (d ∷ v ∷ []) ≡ octets_of d ++ octets_of v
 joined-two d v = ap (λ l. octets_of d ++ l) (append-nil (octets_of v))
 
@@ -121,8 +118,8 @@ filled new at room e can some short within held =
       now = d;
       voids = [];
       elements = All-cons IsElement d [] is (All-nil IsElement);
-      held = subst (HoldsAt new at) (sym (joined-one d)) there;
-      len = ap (λ (l : List ℕ). length l) (joined-one d) ∙ len;
+      held = subst (HoldsAt new at) (sym (append-nil (octets_of d))) there;
+      len = ap (λ (l : List ℕ). length l) (append-nil (octets_of d)) ∙ len;
       are = All-nil (λ (d : Element). d.id ≡ VOID);
       is = kind;
     }

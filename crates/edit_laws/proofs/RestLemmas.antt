@@ -1,6 +1,6 @@
 -- What stays of a content of which some Elements of level 1 are written anew, with others behind its old end or none.
 use Rattle.std.proofs.Common.{inl, inr, ◌≡◌, ◌⊎◌, ◌<◌, ◌≤◌, ℕ, ◌+◌, ◌-◌, ◌^◌, ◌==◌, min, Bool, true, false, if◌then◌else◌, List, [], ◌∷◌, ◌++◌, length, length-append, append-nil, All, None, Some, Ok, refl, sym, ◌∙◌, ap, ap₂, subst, arith}
-use Rattle.std.proofs.lemmas.List.Elements.{All-nil, All-head, All-tail, All-weaker}
+use Rattle.std.proofs.lemmas.List.Elements.{All-nil, All-head, All-weaker}
 use Rattle.ebml_numbers.specs.declared.number.Size.{Size}
 use Rattle.ebml_numbers.specs.declared.number.Size.TheVariants.{Known, Unknown}
 use Rattle.ebml_numbers.specs.Number.{AreOctets, all_ones, id_octets, is_id, size_octets, uint_width}
