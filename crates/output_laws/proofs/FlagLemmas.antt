@@ -13,16 +13,17 @@ AreBlockFlags invisible kind =
     let flags = flag 0x08 invisible + lace_bits kind in
     (is_invisible flags ≡ invisible) × (lace_of flags ≡ kind)
 
+-- what each kind has
+each-kind : (P : Lace → Type 0) → P lace.None → P lace.Xiph → P lace.Fixed → P lace.Ebml → (kind : Lace) → P kind
+each-kind P none xiph fixed ebml lace.None = none
+each-kind P none xiph fixed ebml lace.Xiph = xiph
+each-kind P none xiph fixed ebml lace.Fixed = fixed
+each-kind P none xiph fixed ebml lace.Ebml = ebml
+
 -- each of the 8 octets is computed
 each-block : (invisible : Bool) (kind : Lace) → AreBlockFlags invisible kind
-each-block true lace.None = (refl, refl)
-each-block true lace.Xiph = (refl, refl)
-each-block true lace.Fixed = (refl, refl)
-each-block true lace.Ebml = (refl, refl)
-each-block false lace.None = (refl, refl)
-each-block false lace.Xiph = (refl, refl)
-each-block false lace.Fixed = (refl, refl)
-each-block false lace.Ebml = (refl, refl)
+each-block true = each-kind (AreBlockFlags true) (refl, refl) (refl, refl) (refl, refl) (refl, refl)
+each-block false = each-kind (AreBlockFlags false) (refl, refl) (refl, refl) (refl, refl) (refl, refl)
 
 -- a Block of a group isn't shown, or is, and is laced as it was written
 pub block_flags-read : (b : OutputBlock) → (is_invisible (block_flags b) ≡ b.invisible) × (lace_of (block_flags b) ≡ b.lace)
@@ -36,40 +37,23 @@ pub record AreFlags (flags : ℕ) (key invisible discardable : Bool) (kind : Lac
   pub discardable_is : is_discardable flags ≡ discardable
   pub lace_is : lace_of flags ≡ kind
 
+abbrev AreSimpleFlags : Bool → Bool → Bool → Lace → Type 0
+AreSimpleFlags key discardable invisible kind =
+    let flags = flag 0x80 key + flag 0x01 discardable + (flag 0x08 invisible + lace_bits kind) in
+    (is_key flags ≡ key) × (is_invisible flags ≡ invisible) × (is_discardable flags ≡ discardable) × (lace_of flags ≡ kind)
+
 -- each of the 32 octets is computed
-each-simple : (key discardable invisible : Bool) (kind : Lace) → AreFlags (flag 0x80 key + flag 0x01 discardable + (flag 0x08 invisible + lace_bits kind)) key invisible discardable kind
-each-simple true true true lace.None = record { key_is = refl; invisible_is = refl; discardable_is = refl; lace_is = refl }
-each-simple true true true lace.Xiph = record { key_is = refl; invisible_is = refl; discardable_is = refl; lace_is = refl }
-each-simple true true true lace.Fixed = record { key_is = refl; invisible_is = refl; discardable_is = refl; lace_is = refl }
-each-simple true true true lace.Ebml = record { key_is = refl; invisible_is = refl; discardable_is = refl; lace_is = refl }
-each-simple true true false lace.None = record { key_is = refl; invisible_is = refl; discardable_is = refl; lace_is = refl }
-each-simple true true false lace.Xiph = record { key_is = refl; invisible_is = refl; discardable_is = refl; lace_is = refl }
-each-simple true true false lace.Fixed = record { key_is = refl; invisible_is = refl; discardable_is = refl; lace_is = refl }
-each-simple true true false lace.Ebml = record { key_is = refl; invisible_is = refl; discardable_is = refl; lace_is = refl }
-each-simple true false true lace.None = record { key_is = refl; invisible_is = refl; discardable_is = refl; lace_is = refl }
-each-simple true false true lace.Xiph = record { key_is = refl; invisible_is = refl; discardable_is = refl; lace_is = refl }
-each-simple true false true lace.Fixed = record { key_is = refl; invisible_is = refl; discardable_is = refl; lace_is = refl }
-each-simple true false true lace.Ebml = record { key_is = refl; invisible_is = refl; discardable_is = refl; lace_is = refl }
-each-simple true false false lace.None = record { key_is = refl; invisible_is = refl; discardable_is = refl; lace_is = refl }
-each-simple true false false lace.Xiph = record { key_is = refl; invisible_is = refl; discardable_is = refl; lace_is = refl }
-each-simple true false false lace.Fixed = record { key_is = refl; invisible_is = refl; discardable_is = refl; lace_is = refl }
-each-simple true false false lace.Ebml = record { key_is = refl; invisible_is = refl; discardable_is = refl; lace_is = refl }
-each-simple false true true lace.None = record { key_is = refl; invisible_is = refl; discardable_is = refl; lace_is = refl }
-each-simple false true true lace.Xiph = record { key_is = refl; invisible_is = refl; discardable_is = refl; lace_is = refl }
-each-simple false true true lace.Fixed = record { key_is = refl; invisible_is = refl; discardable_is = refl; lace_is = refl }
-each-simple false true true lace.Ebml = record { key_is = refl; invisible_is = refl; discardable_is = refl; lace_is = refl }
-each-simple false true false lace.None = record { key_is = refl; invisible_is = refl; discardable_is = refl; lace_is = refl }
-each-simple false true false lace.Xiph = record { key_is = refl; invisible_is = refl; discardable_is = refl; lace_is = refl }
-each-simple false true false lace.Fixed = record { key_is = refl; invisible_is = refl; discardable_is = refl; lace_is = refl }
-each-simple false true false lace.Ebml = record { key_is = refl; invisible_is = refl; discardable_is = refl; lace_is = refl }
-each-simple false false true lace.None = record { key_is = refl; invisible_is = refl; discardable_is = refl; lace_is = refl }
-each-simple false false true lace.Xiph = record { key_is = refl; invisible_is = refl; discardable_is = refl; lace_is = refl }
-each-simple false false true lace.Fixed = record { key_is = refl; invisible_is = refl; discardable_is = refl; lace_is = refl }
-each-simple false false true lace.Ebml = record { key_is = refl; invisible_is = refl; discardable_is = refl; lace_is = refl }
-each-simple false false false lace.None = record { key_is = refl; invisible_is = refl; discardable_is = refl; lace_is = refl }
-each-simple false false false lace.Xiph = record { key_is = refl; invisible_is = refl; discardable_is = refl; lace_is = refl }
-each-simple false false false lace.Fixed = record { key_is = refl; invisible_is = refl; discardable_is = refl; lace_is = refl }
-each-simple false false false lace.Ebml = record { key_is = refl; invisible_is = refl; discardable_is = refl; lace_is = refl }
+each-simple : (key discardable invisible : Bool) (kind : Lace) → AreSimpleFlags key discardable invisible kind
+each-simple true true true = each-kind (AreSimpleFlags true true true) (refl, refl, refl, refl) (refl, refl, refl, refl) (refl, refl, refl, refl) (refl, refl, refl, refl)
+each-simple true true false = each-kind (AreSimpleFlags true true false) (refl, refl, refl, refl) (refl, refl, refl, refl) (refl, refl, refl, refl) (refl, refl, refl, refl)
+each-simple true false true = each-kind (AreSimpleFlags true false true) (refl, refl, refl, refl) (refl, refl, refl, refl) (refl, refl, refl, refl) (refl, refl, refl, refl)
+each-simple true false false = each-kind (AreSimpleFlags true false false) (refl, refl, refl, refl) (refl, refl, refl, refl) (refl, refl, refl, refl) (refl, refl, refl, refl)
+each-simple false true true = each-kind (AreSimpleFlags false true true) (refl, refl, refl, refl) (refl, refl, refl, refl) (refl, refl, refl, refl) (refl, refl, refl, refl)
+each-simple false true false = each-kind (AreSimpleFlags false true false) (refl, refl, refl, refl) (refl, refl, refl, refl) (refl, refl, refl, refl) (refl, refl, refl, refl)
+each-simple false false true = each-kind (AreSimpleFlags false false true) (refl, refl, refl, refl) (refl, refl, refl, refl) (refl, refl, refl, refl) (refl, refl, refl, refl)
+each-simple false false false = each-kind (AreSimpleFlags false false false) (refl, refl, refl, refl) (refl, refl, refl, refl) (refl, refl, refl, refl) (refl, refl, refl, refl)
 
 pub simple_block_flags-read : (b : OutputBlock) → AreFlags (simple_block_flags b) b.key b.invisible b.discardable b.lace
-simple_block_flags-read b = each-simple b.key b.discardable b.invisible b.lace
+simple_block_flags-read b =
+    let are = each-simple b.key b.discardable b.invisible b.lace in
+    record { key_is = are.0; invisible_is = are.1; discardable_is = are.2; lace_is = are.3 }
