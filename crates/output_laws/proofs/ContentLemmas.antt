@@ -1,8 +1,8 @@
 -- The octets of a block spell what was written.
-use Rattle.std.proofs.Common.{◌≡◌, ℕ, ◌+◌, ◌-◌, ◌^◌, ◌<◌, ◌≤◌, ◌==◌, nat_le, nat_lt, Bool, ◌&&◌, true, false, ◌||◌, if◌then◌else◌, ℤ, pos, negsuc, List, [], ◌∷◌, ◌++◌, length, map, take, drop, slice_index, sum, append-nil, append_assoc, length-append, Result, Ok, Err, refl, ap, ap₂, ◌∙◌, arith}
+use Rattle.std.proofs.Common.{◌≡◌, ℕ, ◌+◌, ◌-◌, ◌^◌, ◌<◌, ◌≤◌, ◌==◌, nat_le, nat_lt, Bool, true, false, ◌||◌, if◌then◌else◌, ℤ, pos, negsuc, List, [], ◌∷◌, ◌++◌, length, map, take, drop, slice_index, sum, append-nil, append_assoc, length-append, Result, Ok, Err, refl, ap, ap₂, ◌∙◌, arith}
 use Rattle.std.specs.List.{concat}
 use Rattle.std.proofs.Math.Seq.{take-append_seam, drop-append_seam}
-use Rattle.std.proofs.lemmas.Bool.{cond-false, ne_eqb, le-ltb, lt-ltb}
+use Rattle.std.proofs.lemmas.Bool.{cond-false, ne_eqb, le-ltb, lt-ltb, and_parts}
 use Rattle.std.proofs.lemmas.Bool.Decides.{nat_tests}
 use Rattle.std.proofs.lemmas.Int.{ints}
 use Rattle.std.proofs.lemmas.List.Sums.{sum_by-cons}
@@ -103,14 +103,9 @@ near-fits tick timestamp before after = split (pos tick -ℤ pos timestamp) refl
     split (pos n) is = lt-ltb n (2 ^ 15) (omega (arith, ints))
     split (negsuc n) is = lt-ltb n (2 ^ 15) (omega (arith, ints))
 
-both : (a b : Bool) → (a && b) ≡ true → (a ≡ true) × (b ≡ true)
-both true true is = (refl, refl)
-both true false is = absurd (cc)
-both false b is = absurd (cc)
-
 ticks-fit : (timestamp tick : ℕ) → is_near timestamp tick ≡ true → int_fits (pos tick -ℤ pos timestamp) 2 ≡ true
 ticks-fit timestamp tick near =
-    let parts = both (nat_le timestamp (tick + 32768)) (nat_le tick (timestamp + 32767)) near in
+    let parts = and_parts (nat_le timestamp (tick + 32768)) (nat_le tick (timestamp + 32767)) near in
     let before = parts.0 in
     let after = parts.1 in
     near-fits tick timestamp (grind (arith, nat_tests)) (grind (arith, nat_tests))

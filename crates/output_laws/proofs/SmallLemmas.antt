@@ -2,7 +2,7 @@
 use Rattle.std.proofs.Common.{◌≡◌, ℕ, zero, suc, ◌<◌, ◌≤◌, nat_lt, nat_abs, Bool, true, false, ◌||◌, ℤ, pos, inl, inr, List, [], ◌∷◌, length, Option, Some, None, Result, Ok, Err, refl, ap, ◌∙◌, subst, arith}
 use Rattle.std.specs.List.{All, list_any, slice_get}
 use Rattle.std.specs.Option.{IfSome, option_map, option_map_or}
-use Rattle.std.proofs.lemmas.Bool.{cases_lt}
+use Rattle.std.proofs.lemmas.Bool.{cases_lt, or_parts}
 use Rattle.std.proofs.lemmas.Bool.Decides.{nat_tests}
 use Rattle.std.proofs.lemmas.List.Elements.{All-nil, All-cons}
 use Rattle.std.proofs.lemmas.List.{length-map}
@@ -41,10 +41,6 @@ none-of false true c is = absurd (cc)
 none-of false false true is = absurd (cc)
 none-of false false false is = (refl, refl, refl)
 
-either-of : (a b : Bool) → (a || b) ≡ false → (a ≡ false) × (b ≡ false)
-either-of true b is = absurd (cc)
-either-of false b is = (refl, is)
-
 small-time : (z : ℤ) → is_too_large z ≡ false → nat_abs z < TOO_LARGE_TIME
 small-time z is = grind (arith, nat_tests)
 
@@ -55,7 +51,7 @@ small-duration (Some n) is = small-time (pos n) is
 small-references : (rs : List ℤ) → list_any is_too_large rs ≡ false → All (λ z. nat_abs z < TOO_LARGE_TIME) rs
 small-references [] is = All-nil (λ z. nat_abs z < TOO_LARGE_TIME)
 small-references (r ∷ rs) is =
-    let parts = either-of (is_too_large r) (list_any is_too_large rs) is in
+    let parts = or_parts (is_too_large r) (list_any is_too_large rs) is in
     All-cons (λ z. nat_abs z < TOO_LARGE_TIME) r rs (small-time r parts.0) (small-references rs parts.1)
 
 -- a block of few parts whose times aren't too large
