@@ -45,15 +45,6 @@ list-ascii passes (b ∷ bs) small all i = of (passes b) refl all i (list-ascii 
     of true is rest (suc k) further = further rest k
     of false is rest k further = absurd (cc)
 
-lower-small : (c : ℕ) → is_lower c ≡ true → c < 128
-lower-small c is = grind (arith, nat_tests)
-
-tag-small : (c : ℕ) → is_in_tag c ≡ true → c < 128
-tag-small c is = grind (arith, nat_tests)
-
-print-small : (c : ℕ) → is_printable c ≡ true → c < 128
-print-small c is = grind (arith, nat_tests)
-
 where-is : (test : Bool) (value octets : List ℕ) → where_text test value ≡ Some octets → (test ≡ true) × (value ≡ octets)
 where-is true value octets is = (refl, cc)
 where-is false value octets is = absurd (cc)
@@ -82,11 +73,11 @@ leaf-stands : (parent id : ℕ) (kind : ValueKind) (value octets : List ℕ) →
 leaf-stands parent id Words value octets stands is =
     text-leaf parent id value octets (is_words value) stands is (λ words. IsUtf8-from_is_utf8 value (and_parts (is_utf8 value) (list_all is_not_zero value) words).0)
 leaf-stands parent id Language value octets stands is =
-    text-leaf parent id value octets (is_language value) stands is (λ three. IsUtf8-from_ascii value (list-ascii is_lower value lower-small (and_parts (length value == 3) (list_all is_lower value) three).1))
+    text-leaf parent id value octets (is_language value) stands is (λ three. IsUtf8-from_ascii value (list-ascii is_lower value (λ c is. grind (arith, nat_tests)) (and_parts (length value == 3) (list_all is_lower value) three).1))
 leaf-stands parent id LanguageTag value octets stands is =
-    text-leaf parent id value octets (is_short is_in_tag value) stands is (λ few. IsUtf8-from_ascii value (list-ascii is_in_tag value tag-small (and_parts (is_between 1 63 (length value)) (list_all is_in_tag value) few).1))
+    text-leaf parent id value octets (is_short is_in_tag value) stands is (λ few. IsUtf8-from_ascii value (list-ascii is_in_tag value (λ c is. grind (arith, nat_tests)) (and_parts (is_between 1 63 (length value)) (list_all is_in_tag value) few).1))
 leaf-stands parent id Codec value octets stands is =
-    text-leaf parent id value octets (is_short is_printable value) stands is (λ few. IsUtf8-from_ascii value (list-ascii is_printable value print-small (and_parts (is_between 1 63 (length value)) (list_all is_printable value) few).1))
+    text-leaf parent id value octets (is_short is_printable value) stands is (λ few. IsUtf8-from_ascii value (list-ascii is_printable value (λ c is. grind (arith, nat_tests)) (and_parts (is_between 1 63 (length value)) (list_all is_printable value) few).1))
 leaf-stands parent id Duration value octets stands is = uint-leaf parent id 1 (2 ^ 48 - 1) (number value) octets (omega arith) stands is
 leaf-stands parent id Flag value octets stands is = uint-leaf parent id 0 1 (number value) octets (omega arith) stands is
 
