@@ -353,10 +353,7 @@ module _ (bytes : List ℕ) (are_octets : AreOctets bytes) (short : length bytes
     ]
 
     touch-moving : (k : ℕ) → WritesOctet ws k → (k < segment.body) ⊎ ((total ≤ k) ⊎ IsInside others items k)
-    touch-moving k touched = elim (where-written k touched) [
-      | inl size ↦ inl size.1
-      | inr rest ↦ inr rest
-    ]
+    touch-moving k touched = elim (where-written k touched) [ inl size ↦ inl size.1 | inr rest ↦ inr rest ]
 
     -- ---- how long the file is
 

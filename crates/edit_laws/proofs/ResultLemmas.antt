@@ -1,5 +1,6 @@
 -- What an edited content still holds at level 1.
 use Rattle.std.proofs.Common.{inl, inr, ◌≡◌, ◌⊎◌, ℕ, ◌+◌, ◌==◌, Bool, true, false, if◌then◌else◌, List, [], ◌∷◌, ◌++◌, length, All, Some, None, refl, sym, ◌∙◌, ap, subst, arith}
+use Rattle.std.proofs.lemmas.Bool.{false_from_ne_true}
 use Rattle.std.proofs.lemmas.Bool.Decides.{nat_tests}
 use Rattle.std.proofs.lemmas.List.Elements.{All-head, All-tail, All-cons, All-weaker}
 use Rattle.mkv_schema.specs.declared.ids.TheConstants.{CLUSTER, VOID}
@@ -19,11 +20,7 @@ other-id : (a b id : ℕ) → a ≡ b → (b == id) ≡ false → (a == id) ≡ 
 other-id a b id same other = ap (λ n. n == id) same ∙ other
 
 goes-other : (a id : ℕ) → ends_cluster a ≡ false → ends_cluster id ≡ true → (a == id) ≡ false
-goes-other a id goes ends = of (a == id) refl
-  where
-    of : (test : Bool) → (a == id) ≡ test → test ≡ false
-    of true same = let is : a ≡ id = grind (arith, nat_tests) in absurd (let wrong : true ≡ false = sym ends ∙ ap ends_cluster (sym is) ∙ goes in cc)
-    of false same = refl
+goes-other a id goes ends = false_from_ne_true (a == id) (λ same. let is : a ≡ id = grind (arith, nat_tests) in let wrong : true ≡ false = sym ends ∙ ap ends_cluster (sym is) ∙ goes in cc)
 
 void-other : (id : ℕ) → ends_cluster id ≡ true → (VOID == id) ≡ false
 void-other id ends = goes-other VOID id void-goes ends
