@@ -1,6 +1,6 @@
 -- Level 1 of two contents that differ in the rooms of some of its Elements, and behind the end.
 use Rattle.std.proofs.Common.{inl, inr, ◌≡◌, ◌⊎◌, ◌<◌, ◌≤◌, ℕ, ◌+◌, nat_lt, min, ◌==◌, Bool, true, false, if◌then◌else◌, List, [], ◌∷◌, ◌++◌, length, length-append, append-nil, find, get_or, All, Option, Some, None, Ok, refl, sym, ◌∙◌, ap, subst, arith}
-use Rattle.std.proofs.lemmas.Bool.{cases_lt, le-ltb, cond-false}
+use Rattle.std.proofs.lemmas.Bool.{cases_lt, le-ltb, cond-false, false_from_ne_true}
 use Rattle.std.proofs.lemmas.Bool.Decides.{nat_tests}
 use Rattle.std.proofs.lemmas.List.Elements.{All-head, All-tail, All-nil, All-cons}
 use Rattle.ebml_numbers.specs.declared.number.Size.{Size}
@@ -162,6 +162,10 @@ pub void-goes : ends_cluster VOID ≡ false
 unfolding entry_of table
 void-goes = refl
 
+-- an ID that a Cluster can hold is none that ends it
+pub goes-other : (a id : ℕ) → ends_cluster a ≡ false → ends_cluster id ≡ true → (a == id) ≡ false
+goes-other a id goes ends = false_from_ne_true (a == id) (λ same. let is : a ≡ id = grind (arith, nat_tests) in let wrong : true ≡ false = sym ends ∙ ap ends_cluster (sym is) ∙ goes in cc)
+
 void-none : (h : Header) → h.id ≡ VOID → IsOutside h
 void-none h is = record { timestamp = ap (λ n. n == TIMESTAMP) is; simple = ap (λ n. n == SIMPLE_BLOCK) is; group = ap (λ n. n == BLOCK_GROUP) is }
 
@@ -272,10 +276,6 @@ module _ (t : Edit) (is : IsEdit t) where
   not-listed h hs q is-gone rest = record { list = rest.list; end = rest.end; run = rest.run; becomes = (rest.list, gone is-gone refl, rest.becomes) }
 
   -- ---- an Element of level 1 that a Cluster can hold
-
-  no_cluster : (h : Header) → ends_cluster h.id ≡ false → (cluster : Bool) → (h.id == CLUSTER) ≡ cluster → cluster ≡ false
-  no_cluster h goes true same = let is_it : h.id ≡ CLUSTER = grind (arith, nat_tests) in let ends : ends_cluster h.id ≡ true = ap ends_cluster is_it ∙ cluster-ends in absurd (cc)
-  no_cluster h goes false same = refl
 
   child : (bytes : List ℕ) (p e q : ℕ) (h : Header) → element_at in_segment bytes p e ≡ Ok h → p < e → stated_end h ≤ e → e ≤ length bytes → is_unknown h.size ≡ false → ends_cluster h.id ≡ false → end_in e h ≡ q → Stands (inner bytes e) p h q
   child bytes p e q h there before ends within known goes next =
@@ -481,7 +481,7 @@ module _ (t : Edit) (is : IsEdit t) where
 
         goes_on : ends_cluster h.id ≡ false → IsInside t (h ∷ hs) p
         goes_on goes =
-            let other : (h.id == CLUSTER) ≡ false = no_cluster h goes (h.id == CLUSTER) refl in
+            let other : (h.id == CLUSTER) ≡ false = goes-other h.id CLUSTER goes cluster-ends in
             let known = (whole-known t.old t.size p t.end m h stands other).0 in
             let ends = (whole-known t.old t.size p t.end m h stands other).1 in
             let next = next-known t.old t.size p t.end m h stands known in
@@ -606,7 +606,7 @@ module _ (t : Edit) (is : IsEdit t) where
           let at = step.0 in
           let void = own.room s member (omega arith) (omega arith) in
           let goes : ends_cluster h.id ≡ false = ap ends_cluster void.0 ∙ void-goes in
-          let other : (h.id == CLUSTER) ≡ false = no_cluster h goes (h.id == CLUSTER) refl in
+          let other : (h.id == CLUSTER) ≡ false = goes-other h.id CLUSTER goes cluster-ends in
           let whole = whole-known t.old t.size p t.end m h stands other in
           let next = next-known t.old t.size p t.end m h stands whole.0 in
           let ends = whole.1 in

@@ -1,6 +1,5 @@
 -- What an edited content still holds at level 1.
 use Rattle.std.proofs.Common.{inl, inr, ◌≡◌, ◌⊎◌, ℕ, ◌+◌, ◌==◌, Bool, true, false, if◌then◌else◌, List, [], ◌∷◌, ◌++◌, length, All, Some, None, refl, sym, ◌∙◌, ap, subst, arith}
-use Rattle.std.proofs.lemmas.Bool.{false_from_ne_true}
 use Rattle.std.proofs.lemmas.Bool.Decides.{nat_tests}
 use Rattle.std.proofs.lemmas.List.Elements.{All-head, All-tail, All-cons, All-weaker}
 use Rattle.mkv_schema.specs.declared.ids.TheConstants.{CLUSTER, VOID}
@@ -13,14 +12,11 @@ use Rattle.block_format.specs.Events.{found_in, is_closed, events_then, events_a
 use Rattle.edit_laws.proofs.AmongLemmas.{IsAmong, all-among}
 use Rattle.edit_laws.proofs.BlockLemmas.{IsHeld}
 use Rattle.edit_laws.proofs.ClusterLemmas.{blocks-then, undamaged-then}
-use Rattle.edit_laws.proofs.LevelLemmas.{Spot, Edit, all_now, IsSpot, IsKept, IsGone, Becomes, Turn, kept, now, gone, cluster-ends, void-goes}
+use Rattle.edit_laws.proofs.LevelLemmas.{Spot, Edit, all_now, IsSpot, IsKept, IsGone, Becomes, Turn, kept, now, gone, cluster-ends, void-goes, goes-other}
 
 -- IDs that differ from one of an Element
 other-id : (a b id : ℕ) → a ≡ b → (b == id) ≡ false → (a == id) ≡ false
 other-id a b id same other = ap (λ n. n == id) same ∙ other
-
-goes-other : (a id : ℕ) → ends_cluster a ≡ false → ends_cluster id ≡ true → (a == id) ≡ false
-goes-other a id goes ends = false_from_ne_true (a == id) (λ same. let is : a ≡ id = grind (arith, nat_tests) in let wrong : true ≡ false = sym ends ∙ ap ends_cluster (sym is) ∙ goes in cc)
 
 void-other : (id : ℕ) → ends_cluster id ≡ true → (VOID == id) ≡ false
 void-other id ends = goes-other VOID id void-goes ends

@@ -1,6 +1,6 @@
 -- Edits of which nothing stands behind the old end: the new content is as long as the old one, and its Segment ends where it did.
-use Rattle.std.proofs.Common.{inl, inr, ◌≡◌, ◌⊎◌, ◌<◌, ◌≤◌, ℕ, Bool, true, false, ◌||◌, List, [], length, All, Ok, refl, sym, ◌∙◌, ap, ap₂, arith}
-use Rattle.std.proofs.lemmas.Bool.{cases_lt}
+use Rattle.std.proofs.Common.{inl, inr, ◌≡◌, ◌⊎◌, ◌<◌, ◌≤◌, ℕ, Bool, true, false, List, [], length, All, Ok, refl, sym, ◌∙◌, ap, ap₂, arith}
+use Rattle.std.proofs.lemmas.Bool.{cases_lt, or_right}
 use Rattle.ebml_numbers.specs.declared.number.Size.{Size}
 use Rattle.ebml_numbers.specs.declared.number.Size.TheVariants.{Known, Unknown}
 use Rattle.mkv_io.specs.declared.outside.TheConstants.{LONGEST_FILE}
@@ -80,11 +80,7 @@ module _ (bytes : List ℕ) (size : Size) (start e last : ℕ) (list : List Head
   -- what ends the list ends a Cluster of unknown size too: the end of the Segment, or an ID of level 0
   stops-cluster : (z : Size) (id : ℕ) → ends_segment z id ≡ true → ends_cluster id ≡ true
   stops-cluster (Known n) id is = absurd (cc)
-  stops-cluster Unknown id is = of (is_level1 id)
-    where
-      of : (level : Bool) → (level || is_level0 id) ≡ true
-      of true = refl
-      of false = is
+  stops-cluster Unknown id is = or_right (is_level1 id) (is_level0 id) is
 
   closes : run_of (inner new e) last ≡ ends_at last
   closes =
