@@ -96,12 +96,13 @@ module _ {Y : Type 0} (k : Value → Option Y) where
 
   pub all_about : (t : Subject) (ps : List Piece) (at : ℕ) → said_about k t (piece_items at ps) ≡ all_said k (about t ps)
   all_about t [] at = refl
-  all_about t (p ∷ ps) at = filter_map-append (λ (i : Item). option_and_then k (value_about t i)) (said_items at p.subject p.scope p.said) (piece_items (after_said at p.said) ps)
-      ∙ (rw (all_about t ps (after_said at p.said)) (split (same p.subject t) refl))
-    where
-      split : (b : Bool) → same p.subject t ≡ b → said_about k t (said_items at p.subject p.scope p.said) ++ all_said k (about t ps) ≡ all_said k (if b then p.said ++ about t ps else about t ps)
-      split true is = rw (said_all_is at p.subject t p.scope p.said is) (sym (filter_map-append (λ (x : Said). k x.says) p.said (about t ps)))
-      split false is = rw (said_all_not at p.subject t p.scope p.said is) refl
+  all_about t (p ∷ ps) at =
+      let rest = all_about t ps (after_said at p.said) in
+      filter_map-append (λ (i : Item). option_and_then k (value_about t i)) (said_items at p.subject p.scope p.said) (piece_items (after_said at p.said) ps)
+      ∙ rw rest (elim (cases_Bool (same p.subject t)) [
+        | inl is ↦ rw (said_all_is at p.subject t p.scope p.said is, is) (sym (filter_map-append (λ (x : Said). k x.says) p.said (about t ps)))
+        | inr is ↦ rw (said_all_not at p.subject t p.scope p.said is, is) refl
+      ])
 
 -- the tracks that are named
 abbrev pub ids_said : List Said → List ℕ

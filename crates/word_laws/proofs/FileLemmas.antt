@@ -75,9 +75,8 @@ AreSpelled ps parts = AllZip (λ (p : Piece) words. said_words p.said ≡ words)
 
 pub pieces_spelled : (ps : List Piece) (ws : List (List (List ℕ))) → AreSpelled ps ws → piece_words ps ≡ parts_joined ws
 pieces_spelled [] [] are = refl
-pieces_spelled [] (w ∷ ws) are = absurd are
-pieces_spelled (p ∷ ps) [] are = absurd are
 pieces_spelled (p ∷ ps) (w ∷ ws) are = rw are.0 (rw (pieces_spelled ps ws are.1) refl)
+pieces_spelled _ _ are = absurd are
 
 file_spelled : (f : FileWords) → piece_words (file_pieces f) ≡ parts_joined (file_options f)
 file_spelled f = pieces_spelled (file_pieces f) (file_options f) (

@@ -145,25 +145,10 @@ joined_none : {X : Type 0} (a b c : List X) → a ≡ [] → b ≡ c → a ++ b 
 joined_none a b c none same = rw none same
 
 first_says : (w : MergeWords) (f : FileWords) → IsSaidOf f (output_pieces w ++ group f)
-first_says w f = record {
-  joins = refl;
-  video = refl;
-  audio = refl;
-  subtitles = refl;
-  attachments = refl;
-  track_tags = refl;
-  global_tags = refl;
-  chapters = refl;
-  names = refl;
-  languages = refl;
-  defaults = refl;
-  forced = refl;
-  times = refl;
-  syncs = refl;
-  cues = refl;
-  named = λ at. ap (λ l. flat_map (λ (i : Item). ids_of i.value) l) (piece_items-append (output_pieces w) (group f) at)
-      ∙ (flat_map-append (λ (i : Item). ids_of i.value) (piece_items at (output_pieces w)) (piece_items (after_pieces at (output_pieces w)) (group f)) ∙ joined_none _ _ _ (ids_none w at) (ids_are f (after_pieces at (output_pieces w))));
-}
+first_says w f =
+    let named = λ (at : ℕ). ap (λ (l : List Item). flat_map (λ (i : Item). ids_of i.value) l) (piece_items-append (output_pieces w) (group f) at)
+    ∙ (flat_map-append (λ (i : Item). ids_of i.value) (piece_items at (output_pieces w)) (piece_items (after_pieces at (output_pieces w)) (group f)) ∙ joined_none _ _ _ (ids_none w at) (ids_are f (after_pieces at (output_pieces w)))) in
+    assumption (refl, named)
 
 all_files : (w : MergeWords) (fs : List FileWords) → 0 < length fs → All IsMergeFile fs → files_from [] (out_items w ++ files_items (begin w) fs) ≡ fs
 all_files w [] some are = absurd (omega arith)

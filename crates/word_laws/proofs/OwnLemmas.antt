@@ -127,21 +127,4 @@ pub ids_are : (f : FileWords) (at : ℕ) → flat_map (λ (i : Item). ids_of i.v
 ids_are f at = ids_part (group f) (id_lists f) at (id_parts f)
 
 pub group_says : (f : FileWords) → IsSaidOf f (group f)
-group_says f = record {
-  joins = refl;
-  video = refl;
-  audio = refl;
-  subtitles = refl;
-  attachments = refl;
-  track_tags = refl;
-  global_tags = refl;
-  chapters = refl;
-  names = refl;
-  languages = refl;
-  defaults = refl;
-  forced = refl;
-  times = refl;
-  syncs = refl;
-  cues = refl;
-  named = ids_are f;
-}
+group_says f = assumption (refl, ids_are f)
