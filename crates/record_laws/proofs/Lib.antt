@@ -5,11 +5,11 @@ pub mod WholeLemmas
 pub mod DifferenceLemmas
 mod AtomLemmas
 mod NumberLemmas
-mod StayLemmas
+pub mod StayLemmas
 mod EditionLemmas
-mod SettledLemmas
+pub mod SettledLemmas
 mod FileLemmas
-mod TagLemmas
+pub mod TagLemmas
 pub mod DigitsLemmas
 pub mod LineLemmas
 pub mod ChaptersLemmas

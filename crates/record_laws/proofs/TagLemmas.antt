@@ -63,7 +63,7 @@ written-short numbers n small = elim (cases_Bool (is_target n)) [
     made None fits = All-nil IsShort
     made (Some m) fits = All-cons IsShort (uint_leaf (id_of n) m) [] (λ target. ap (λ (k : ℕ). octets (uint_leaf (id_of n) k)) (uint_value-octets (id_of n) m (uint_octets m) fits refl)) (All-nil IsShort)
 
-all-made : (P : Node → Type 0) (f : Node → List Node) (ns : List Node) → ((n : Node) → All P (f n)) → All P (flat_map f ns)
+pub all-made : (P : Node → Type 0) (f : Node → List Node) (ns : List Node) → ((n : Node) → All P (f n)) → All P (flat_map f ns)
 all-made P f [] so = All-nil P
 all-made P f (n ∷ ns) so = All-append P (f n) (flat_map f ns) (so n) (all-made P f ns so)
 

@@ -1,9 +1,9 @@
 -- The Chapters of an output are merged again as they were.
-use Rattle.std.proofs.Common.{◌≡◌, ℕ, ◌+◌, ◌==◌, Bool, true, false, cond, List, [], ◌∷◌, ◌++◌, length, map, filter, flat_map, All, Option, None, Some, IfSome, refl, sym, ap, subst, ◌∙◌, append-nil, arith}
+use Rattle.std.proofs.Common.{◌≡◌, ℕ, ◌+◌, ◌==◌, true, false, List, [], ◌∷◌, ◌++◌, length, map, filter, flat_map, All, Option, None, Some, IfSome, refl, sym, ap, subst, ◌∙◌, append-nil, arith}
 use Rattle.std.specs.Option.{option_map}
 use Rattle.std.proofs.lemmas.Bool.{eqb-true}
 use Rattle.std.proofs.lemmas.List.{length-map}
-use Rattle.std.proofs.lemmas.List.Elements.{All-nil, All-cons, All-head, All-tail}
+use Rattle.std.proofs.lemmas.List.Elements.{All-nil, All-cons, All-head, All-tail, All-weaker, filter_passes}
 use Rattle.mkv_schema.specs.declared.ids.TheConstants.{CHAPTERS, CHAPTER_UID, EDITION_ENTRY, EDITION_UID}
 use Rattle.record_changes.proofs.ChapterFacts.{edition-in}
 use Rattle.tree_format.specs.Node.{Node, leaf, master, nodes_of, list_of, id_of, children, IsMaster}
@@ -45,13 +45,9 @@ editions-masters editions uids j k (e ∷ es) own stand =
     All-cons IsMaster e es (edition-master _ uids k e (All-head IsEdition e es own) stand.0) (editions-masters editions uids (j + 1) _ es (All-tail IsEdition e es own) stand.1)
 
 all-editions : (ns : List Node) → All IsEdition (filter (λ n. id_of n == EDITION_ENTRY) ns)
-all-editions [] = All-nil IsEdition
-all-editions (n ∷ ns) = of (id_of n == EDITION_ENTRY) refl (all-editions ns)
-  where
-    of : (t : Bool) → (id_of n == EDITION_ENTRY) ≡ t → All IsEdition (filter (λ m. id_of m == EDITION_ENTRY) ns)
-        → All IsEdition (cond t (n ∷ filter (λ m. id_of m == EDITION_ENTRY) ns) (filter (λ m. id_of m == EDITION_ENTRY) ns))
-    of true is rest = All-cons IsEdition n (filter (λ m. id_of m == EDITION_ENTRY) ns) (eqb-true (id_of n) EDITION_ENTRY is) rest
-    of false is rest = rest
+all-editions ns =
+    All-weaker (λ (n : Node). (id_of n == EDITION_ENTRY) ≡ true) IsEdition (λ n is. eqb-true (id_of n) EDITION_ENTRY is) (filter (λ n. id_of n == EDITION_ENTRY) ns)
+    (filter_passes (λ n. id_of n == EDITION_ENTRY) ns)
 
 -- ---- the Chapters
 

@@ -1,6 +1,5 @@
 -- The Info of an output is written again as it was.
-use Rattle.std.proofs.Common.{◌≡◌, ℕ, List, [], ◌∷◌, Option, None, Some, refl, sym, ap, ap₂, ◌∙◌}
-use Rattle.std.specs.Prelude.{unwrap_or}
+use Rattle.std.proofs.Common.{◌≡◌, ℕ, List, [], ◌∷◌, Option, None, Some, refl, sym, ap, ap₂, ◌∙◌, unwrap_or}
 use Rattle.mkv_schema.specs.declared.ids.TheConstants.{TITLE}
 use Rattle.mkv_schema.specs.Value.{text_of}
 use Rattle.tree_format.specs.Node.{Node, body_of}

@@ -1,6 +1,5 @@
 -- The Tags of an output are merged again as they were.
-use Rattle.std.proofs.Common.{◌≡◌, ◌≤◌, ◌<◌, ℕ, ◌+◌, ◌==◌, nat_eq, Bool, true, false, cond, if◌then◌else◌, List, [], ◌∷◌, ◌++◌, length, map, flat_map, take, zip, All, Contains, Option, None, Some, inl, inr, refl, sym, ap, ap₂, subst, ◌∙◌, append-nil, length-append, arith, zero, suc}
-use Rattle.std.specs.Prelude.{is_some}
+use Rattle.std.proofs.Common.{◌≡◌, ◌≤◌, ◌<◌, ℕ, ◌+◌, ◌==◌, nat_eq, Bool, true, false, cond, if◌then◌else◌, List, [], ◌∷◌, ◌++◌, length, map, flat_map, take, zip, All, Contains, Option, None, Some, inl, inr, refl, sym, ap, ap₂, subst, ◌∙◌, append-nil, length-append, arith, zero, suc, is_some}
 use Rattle.std.specs.Map.{lookup}
 use Rattle.std.specs.Option.{option_map}
 use Rattle.std.proofs.lemmas.Bool.{eqb-false, eqb-true}

@@ -30,23 +30,20 @@ same-itself (e ∷ es) = (record { id = refl; octets_are = refl }, same-itself e
 
 same-append : (xs ys cs ds : List Element) → AreSame xs ys → AreSame cs ds → AreSame (xs ++ cs) (ys ++ ds)
 same-append [] [] cs ds one two = two
-same-append [] (b ∷ ys) cs ds one two = absurd one
-same-append (a ∷ xs) [] cs ds one two = absurd one
 same-append (a ∷ xs) (b ∷ ys) cs ds one two = (one.0, same-append xs ys cs ds one.1 two)
+same-append _ _ _ _ one _ = absurd one
 
 joined-same : (xs ys : List Element) → AreSame xs ys → joined xs ≡ joined ys
 joined-same [] [] are = refl
-joined-same [] (b ∷ ys) are = absurd are
-joined-same (a ∷ xs) [] are = absurd are
 joined-same (a ∷ xs) (b ∷ ys) are = ap₂ (λ (x y : List ℕ). x ++ y) are.0.octets_are (joined-same xs ys are.1)
+joined-same _ _ are = absurd are
 
 seeks-same : (p : ℕ) (xs ys : List Element) → AreSame xs ys → seeks_from p xs ≡ seeks_from p ys
 seeks-same p [] [] are = refl
-seeks-same p [] (b ∷ ys) are = absurd are
-seeks-same p (a ∷ xs) [] are = absurd are
 seeks-same p (a ∷ xs) (b ∷ ys) are =
     ap₂ (λ (i : ℕ) (o : List ℕ). let s : Seek = record { id = i; position = p } in s ∷ seeks_from (p + length o) xs) are.0.id are.0.octets_are
     ∙ ap (λ (l : List Seek). let s : Seek = record { id = b.id; position = p } in s ∷ l) (seeks-same (p + length (octets_of b)) xs ys are.1)
+seeks-same _ _ _ are = absurd are
 
 -- ---- of a document
 
@@ -61,9 +58,8 @@ tree-same m n alike = record { id = alike.id; octets_are = tree-octets m n alike
 
 trees-same : (ms ns : List Node) → AllZip AreAlike ms ns → AreSame (map tree_element ms) (map tree_element ns)
 trees-same [] [] are = tt
-trees-same [] (n ∷ ns) are = absurd are
-trees-same (m ∷ ms) [] are = absurd are
 trees-same (m ∷ ms) (n ∷ ns) are = (tree-same m n are.0, trees-same ms ns are.1)
+trees-same _ _ are = absurd are
 
 may-same : (o p : Option Node) → MayBeAlike o p → AreSame (tree_elements o) (tree_elements p)
 may-same None None alike = tt
@@ -73,8 +69,6 @@ may-same (Some m) (Some n) alike = (tree-same m n alike, tt)
 
 attachments-same : (ms ns : List Node) → AllZip AreAlike ms ns → AreSame (attachments_elements ms) (attachments_elements ns)
 attachments-same [] [] are = tt
-attachments-same [] (n ∷ ns) are = absurd are
-attachments-same (m ∷ ms) [] are = absurd are
 attachments-same (m ∷ ms) (n ∷ ns) are = (
   record {
     id = refl;
@@ -82,6 +76,7 @@ attachments-same (m ∷ ms) (n ∷ ns) are = (
   },
   tt,
 )
+attachments-same _ _ are = absurd are
 
 -- what stands in front of the Clusters
 pub fronts-same : (f g : Front) → AreAlike f.info g.info → AreAlike f.tracks g.tracks → AllZip AreAlike f.attachments g.attachments → joined (front_elements f) ≡ joined (front_elements g)

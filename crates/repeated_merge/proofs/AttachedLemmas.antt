@@ -1,10 +1,10 @@
 -- An attached file is read of what was written of it.
-use Rattle.std.proofs.Common.{◌≡◌, ℕ, ◌+◌, ◌==◌, ◌≤◌, Bool, true, false, not, cond, if◌then◌else◌, List, [], ◌∷◌, ◌++◌, length, map, filter, find, flat_map, append-nil, All, Option, Some, None, Result, Ok, Err, refl, sym, ap, ap₂, ◌∙◌, subst, arith}
-use Rattle.std.specs.Prelude.{unwrap_or, is_none}
+use Rattle.std.proofs.Common.{◌≡◌, ℕ, ◌+◌, ◌==◌, ◌≤◌, Bool, true, false, not, cond, if◌then◌else◌, List, [], ◌∷◌, ◌++◌, length, map, filter, find, flat_map, append-nil, All, Option, Some, None, Result, Ok, Err, refl, sym, ap, ap₂, ◌∙◌, subst, arith, unwrap_or, is_none, inl, inr}
 use Rattle.std.specs.List.{AllZip}
 use Rattle.std.specs.Option.{option_map, option_map_or}
 use Rattle.std.proofs.lemmas.List.{drop-take}
 use Rattle.std.proofs.lemmas.List.Elements.{All-nil, All-cons, All-head, All-tail, All-append}
+use Rattle.std.proofs.lemmas.Bool.{cases_Bool}
 use Rattle.ebml_numbers.specs.Number.{is_id}
 use Rattle.mkv_io.specs.Contents.{octets_from}
 use Rattle.mkv_io.specs.declared.damage.Damage.{Damage}
@@ -40,6 +40,8 @@ use Rattle.meta_records.specs.Attachments.{Met, at_child, at_part, attached_in, 
 use Rattle.meta_records.proofs.TableFacts.{no_master-in}
 use Rattle.repeated_merge.specs.Files.{passed_from, AttachmentsKeepLimits, IsFileOf}
 use Rattle.repeated_merge.proofs.ChangedLemmas.{written, as_read, part-written, changed-again, emptied, integer-read, element-found}
+use Rattle.record_laws.proofs.StayLemmas.{octets-filler}
+use Rattle.repeated_merge.proofs.TreeLemmas.{none-both, three-none}
 
 -- ---- where it stands
 
@@ -55,12 +57,10 @@ pub record IsAttachedAt (bytes : List ℕ) (h : Header) (n : Node) : Type 0 wher
 -- what is written of a master behind its header
 content-joined : (ns : Nodes) → octets_all ns ≡ joined (map tree_element (written (list_of ns)))
 content-joined none = refl
-content-joined (node n ns) =
-    ap₂ (λ (a b : List ℕ). a ++ b) (octets-kept n) (content-joined ns) ∙ split (is_filler (id_of n))
-  where
-    split : (f : Bool) → cond f [] (octets_of (tree_element n)) ++ joined (map tree_element (written (list_of ns))) ≡ joined (map tree_element (cond (not f) (n ∷ written (list_of ns)) (written (list_of ns))))
-    split true = refl
-    split false = refl
+content-joined (node n ns) = elim (cases_Bool (is_filler (id_of n))) [
+  | inl filler ↦ rw (filler, octets-filler n filler) (content-joined ns)
+  | inr kept ↦ rw kept (ap₂ (λ (a b : List ℕ). a ++ b) (octets-kept n ∙ ap (λ (t : Bool). cond t [] (octets_of (tree_element n))) kept) (content-joined ns))
+]
 
 -- the children of an AttachedFile are leaves
 all-leaves : (ns : Nodes) → AllStandIn ATTACHED_FILE ns → All (λ (k : Node). is_leaf k ≡ true) (list_of ns)
@@ -81,16 +81,15 @@ file-elements none stand = All-nil IsFileElement
 file-elements (node (master id at kids) ns) stand =
     let never : true ≡ false = sym stand.0.0 ∙ no_master-in id in
     absurd (cc)
-file-elements (node (leaf id at body) ns) stand = split (is_filler id) (file-elements ns stand.1)
-  where
-    e : Element
-    e = tree_element (leaf id at body)
-
-    split : (f : Bool) → All IsFileElement (map tree_element (written (list_of ns))) → All IsFileElement (map tree_element (cond (not f) (leaf id at body ∷ written (list_of ns)) (written (list_of ns))))
-    split true rest = rest
-    split false rest =
-        All-cons IsFileElement e (map tree_element (written (list_of ns)))
-        (record { valid = stand.0.id_stands; value = stand.0.value; short_header = λ short. IsElement-element id body stand.0.id_stands short }) rest
+file-elements (node (leaf id at body) ns) stand =
+    let rest = file-elements ns stand.1 in
+    elim (cases_Bool (is_filler id)) [
+      | inl filler ↦ rw filler rest
+      | inr kept ↦
+          rw kept
+          (All-cons IsFileElement (tree_element (leaf id at body)) (map tree_element (written (list_of ns)))
+          (record { valid = stand.0.id_stands; value = stand.0.value; short_header = λ short. IsElement-element id body stand.0.id_stands short }) rest)
+    ]
 
 are-elements : (es : List Element) → All IsFileElement es → All HasSize es → All IsElement es
 are-elements [] are short = All-nil IsElement
@@ -169,10 +168,9 @@ attached-all bytes ns p are held =
 
 leaves-read : (bytes : List ℕ) (hs : List Header) (ns : List Node) → AllZip (IsRead bytes) hs (map tree_element ns) → map (leaf_of bytes) hs ≡ map as_read ns
 leaves-read bytes [] [] are = refl
-leaves-read bytes [] (n ∷ ns) are = absurd are
-leaves-read bytes (h ∷ hs) [] are = absurd are
 leaves-read bytes (h ∷ hs) (n ∷ ns) are =
     ap₂ (λ (k : Node) ks. k ∷ ks) (ap₂ (λ (i : ℕ) (b : List ℕ). leaf i 0 (if i == FILE_DATA then [] else b)) are.0.id_is are.0.body_is) (leaves-read bytes hs ns are.1)
+leaves-read _ _ _ are = absurd are
 
 -- where its data are
 data-found : (bytes : List ℕ) (hs : List Header) (m : Node) (ns : List Node) → AllZip (IsRead bytes) hs (map tree_element ns) → part FILE_DATA ns ≡ m ∷ []
@@ -239,17 +237,10 @@ abbrev Fits : Result Met Damage → Type 0
 Fits (Ok m) = m.fits ≡ true
 Fits (Err d) = ⊥
 
-none-both : (a b : Option Damage) → first_refusal a b ≡ None → (a ≡ None) × (b ≡ None)
-none-both None b is = (refl, is)
-none-both (Some d) b is = absurd (cc)
-
 two-none : (a b : Option Damage) → first_damage (a ∷ b ∷ []) ≡ None → (a ≡ None) × (b ≡ None)
 two-none None None is = (refl, refl)
 two-none None (Some d) is = absurd (cc)
 two-none (Some d) b is = absurd (cc)
-
-three-none : (a b c : Option Damage) → a ≡ None → b ≡ None → c ≡ None → first_damage (a ∷ b ∷ c ∷ []) ≡ None
-three-none a b c x y z = rw (x, y, z) refl
 
 -- what fits is refused by a limit alone
 none-refused : (octets_before nodes : ℕ) (list : List (Result Met Damage)) → All Fits list → passed_from octets_before nodes list ≡ None → refused_from octets_before nodes list ≡ None
@@ -265,12 +256,11 @@ none-refused octets_before nodes (Ok m ∷ rest) fit passed =
 
 parts-fit : (bytes : List ℕ) (hs : List Header) (es : List Element) → AllZip (IsRead bytes) hs es → All (λ (e : Element). is_known_value ATTACHED_FILE e.id e.body ≡ true) es → All Fits (flat_map (at_part bytes) hs)
 parts-fit bytes [] [] are values = All-nil Fits
-parts-fit bytes [] (e ∷ es) are values = absurd are
-parts-fit bytes (h ∷ hs) [] are values = absurd are
 parts-fit bytes (h ∷ hs) (e ∷ es) are values =
     All-cons Fits (Ok (part_of bytes h)) (flat_map (at_part bytes) hs)
     (ap₂ (is_known_value ATTACHED_FILE) are.0.id_is are.0.body_is ∙ All-head (λ (x : Element). is_known_value ATTACHED_FILE x.id x.body ≡ true) e es values)
     (parts-fit bytes hs es are.1 (All-tail (λ (x : Element). is_known_value ATTACHED_FILE x.id x.body ≡ true) e es values))
+parts-fit _ _ _ are _ = absurd are
 
 all-in : (bytes : List ℕ) (h : Header) (n : Node) → IsAttachedAt bytes h n → All Fits (parts_in bytes h)
 all-in bytes h n at_place =
@@ -282,33 +272,29 @@ is-attached h is = ap (λ i. i == ATTACHED_FILE) is
 
 children-fit : (bytes : List ℕ) (hs : List Header) (ns : List Node) → AllZip (IsAttachedAt bytes) hs ns → All Fits (flat_map (at_child bytes) hs)
 children-fit bytes [] [] are = All-nil Fits
-children-fit bytes [] (n ∷ ns) are = absurd are
-children-fit bytes (h ∷ hs) [] are = absurd are
 children-fit bytes (h ∷ hs) (n ∷ ns) are =
     let inner : All Fits (if is_attached h then parts_in bytes h else []) =
     subst (λ (b : Bool). All Fits (if b then parts_in bytes h else [])) (sym (is-attached h are.0.id)) (all-in bytes h n are.0) in
     All-append Fits (at_child bytes h) (flat_map (at_child bytes) hs) (All-cons Fits (Ok (child_of h)) (if is_attached h then parts_in bytes h else []) refl inner) (children-fit bytes hs ns are.1)
+children-fit _ _ _ are = absurd are
 
 -- all children are AttachedFiles
 all-attached : (bytes : List ℕ) (hs : List Header) (ns : List Node) → AllZip (IsAttachedAt bytes) hs ns → filter is_attached hs ≡ hs
 all-attached bytes [] [] are = refl
-all-attached bytes [] (n ∷ ns) are = absurd are
-all-attached bytes (h ∷ hs) [] are = absurd are
 all-attached bytes (h ∷ hs) (n ∷ ns) are =
     ap (λ (b : Bool). cond b (h ∷ filter is_attached hs) (filter is_attached hs)) (is-attached h are.0.id) ∙ ap (λ l. h ∷ l) (all-attached bytes hs ns are.1)
+all-attached _ _ _ are = absurd are
 
 none-missing : (bytes : List ℕ) (hs : List Header) (ns : List Node) → AllZip (IsAttachedAt bytes) hs ns → first_damage (map (missing_data bytes) hs) ≡ None
 none-missing bytes [] [] are = refl
-none-missing bytes [] (n ∷ ns) are = absurd are
-none-missing bytes (h ∷ hs) [] are = absurd are
 none-missing bytes (h ∷ hs) (n ∷ ns) are =
     ap (λ (o : Option Damage). first_damage (o ∷ map (missing_data bytes) hs)) (data-there bytes h n are.0) ∙ none-missing bytes hs ns are.1
+none-missing _ _ _ are = absurd are
 
 files-are : (bytes : List ℕ) (hs : List Header) (ns : List Node) → AllZip (IsAttachedAt bytes) hs ns → AllZip (IsFileOf bytes) ns (map (file_at bytes) hs)
 files-are bytes [] [] are = tt
-files-are bytes [] (n ∷ ns) are = absurd are
-files-are bytes (h ∷ hs) [] are = absurd are
 files-are bytes (h ∷ hs) (n ∷ ns) are = (file-read bytes h n are.0, files-are bytes hs ns are.1)
+files-are _ _ _ are = absurd are
 
 -- An Attachments Element of AttachedFiles that passes no limit isn't refused, and its files are these.
 pub files-read : (bytes : List ℕ) (h : Header) (ns : List Node) → AreAttachedAt bytes h ns → AttachmentsKeepLimits bytes h

@@ -1,7 +1,7 @@
 -- Blocks that keep a reader's limits are read with them.
-use Rattle.std.proofs.Common.{◌≡◌, ℕ, ◌≤◌, ◌==◌, Bool, true, false, ◌||◌, if◌then◌else◌, List, [], ◌∷◌, ◌++◌, length, All, Option, Some, None, Ok, Err, refl, sym, ap, ap₂, ◌∙◌, subst, arith}
+use Rattle.std.proofs.Common.{◌≡◌, ℕ, ◌≤◌, ◌==◌, Bool, true, false, ◌||◌, if◌then◌else◌, List, [], ◌∷◌, ◌++◌, length, All, Option, Some, None, Ok, Err, refl, sym, ap, ap₂, ◌∙◌, subst, arith, inl, inr}
 use Rattle.std.specs.Option.{option_map}
-use Rattle.std.proofs.lemmas.Bool.{le-ltb}
+use Rattle.std.proofs.lemmas.Bool.{le-ltb, cases_Bool}
 use Rattle.std.proofs.lemmas.List.{length-map}
 use Rattle.std.proofs.lemmas.List.Elements.{All-nil, All-cons, All-head, All-tail}
 use Rattle.std.proofs.lemmas.Option.{slice_get_past}
@@ -142,18 +142,14 @@ events-limited : (s : ℕ) (bytes : List ℕ) (e : ℕ) (hs : List Header) (wron
 events-limited s bytes e [] None none short good = refl
 events-limited s bytes e [] (Some d) none short good = refl
 events-limited s bytes e (h ∷ hs) wrong none short good =
-    split (λ n g. events-limited s bytes e hs wrong n (All-tail (HasShort bytes e) h hs short) g) (h.id == CLUSTER) (All-head (HasShort bytes e) h hs short) none good
-  where
-    split : (damages_of (events_among (without_limits s) bytes e hs wrong) ≡ [] → All IsReadable (blocks_of (events_among (without_limits s) bytes e hs wrong)) → events_among (with_limits s) bytes e hs wrong ≡ events_among (without_limits s) bytes e hs wrong)
-        → (t : Bool) → (t ≡ true → All IsShortBlock (cluster_run bytes e h).list)
-        → damages_of (if t then events_then (is_closed (length bytes) h) (found_in (without_limits s) bytes e h) (events_among (without_limits s) bytes e hs wrong) else events_among (without_limits s) bytes e hs wrong) ≡ []
-        → All IsReadable (blocks_of (if t then events_then (is_closed (length bytes) h) (found_in (without_limits s) bytes e h) (events_among (without_limits s) bytes e hs wrong) else events_among (without_limits s) bytes e hs wrong))
-        → (if t then events_then (is_closed (length bytes) h) (found_in (with_limits s) bytes e h) (events_among (with_limits s) bytes e hs wrong) else events_among (with_limits s) bytes e hs wrong)
-        ≡ (if t then events_then (is_closed (length bytes) h) (found_in (without_limits s) bytes e h) (events_among (without_limits s) bytes e hs wrong) else events_among (without_limits s) bytes e hs wrong)
-    split rest true own is good =
-        let parts = then-good (is_closed (length bytes) h) (found_in (without_limits s) bytes e h) (events_among (without_limits s) bytes e hs wrong) is good in
-        ap₂ (events_then (is_closed (length bytes) h)) (cluster-limited s bytes e h (own refl) parts.0) (rest parts.1 parts.2)
-    split rest false own is good = rest is good
+    elim (cases_Bool (h.id == CLUSTER)) [
+      | inl is ↦
+          let fs : List Found = found_in (without_limits s) bytes e h in
+          let parts = then-good (is_closed (length bytes) h) fs (events_among (without_limits s) bytes e hs wrong) (rw is at none) (rw is at good) in
+          rw is (ap₂ (events_then (is_closed (length bytes) h)) (cluster-limited s bytes e h (All-head (HasShort bytes e) h hs short is) parts.0)
+          (events-limited s bytes e hs wrong parts.1 (All-tail (HasShort bytes e) h hs short) parts.2))
+      | inr is ↦ rw is (events-limited s bytes e hs wrong (rw is at none) (All-tail (HasShort bytes e) h hs short) (rw is at good))
+    ]
 
 pub limits-leave : LimitsLeaveBlocks
 unfolding events_of

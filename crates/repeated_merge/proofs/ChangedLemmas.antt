@@ -3,10 +3,11 @@ use Rattle.std.proofs.Common.{◌≡◌, ◌⊎◌, inl, inr, ℕ, ◌==◌, Boo
 use Rattle.std.specs.Option.{option_map}
 use Rattle.std.proofs.lemmas.Bool.Decides.{nat_tests}
 use Rattle.std.proofs.lemmas.List.Elements.{All-nil, All-cons, All-head, All-tail}
+use Rattle.std.proofs.lemmas.Bool.{cases_Bool}
 use Rattle.mkv_schema.specs.declared.ids.TheConstants.{FILE_DATA, FILE_UID}
 use Rattle.mkv_schema.specs.Value.{uint_value}
 use Rattle.tree_format.specs.Node.{Node, Nodes, leaf, master, none, node, list_of, id_of, is_leaf}
-use Rattle.tree_format.specs.NormalForm.{is_filler, element_octets, kept_octets, octets, content}
+use Rattle.tree_format.specs.NormalForm.{is_filler, kept_octets, octets, content}
 use Rattle.tree_format.specs.Changes.{without, with_child, part, HasNone}
 use Rattle.tree_format.specs.Children.{uint_leaf}
 use Rattle.tree_format.specs.Values.{integer_of}
@@ -14,6 +15,8 @@ use Rattle.tree_format.proofs.PartLemmas.{SplitAt, split-first, with_child-at, w
 use Rattle.tree_format.proofs.WrittenLemmas.{octets-kept}
 use Rattle.output_model.specs.Element.{Element}
 use Rattle.output_model.specs.Document.{tree_element}
+use Rattle.record_laws.proofs.SameLemmas.{filler-other}
+use Rattle.record_laws.proofs.StayLemmas.{octets-filler}
 
 -- the children that are written
 abbrev pub written : List Node → List Node
@@ -45,33 +48,14 @@ with-alone n = with_child-none n [] (All-nil (λ k. (id_of k == id_of n) ≡ fal
 
 -- ---- what is left out doesn't count
 
-octets-filler : (n : Node) → is_filler (id_of n) ≡ true → octets n ≡ []
-octets-filler n is = octets-kept n ∙ ap (λ (t : Bool). cond t [] (element_octets (id_of n) (content n))) is
-
--- an ID that is kept isn't that of what is left out
-other-filler : (id : ℕ) (n : Node) (t : Bool) → (id_of n == id) ≡ t → is_filler id ≡ false → is_filler (id_of n) ≡ true → t ≡ false
-other-filler id n true is keeps filler =
-    let same : id_of n ≡ id = grind (arith, nat_tests) in
-    let never : true ≡ false = sym filler ∙ ap is_filler same ∙ keeps in
-    absurd (cc)
-other-filler id n false is keeps filler = refl
-
 without-written : (id : ℕ) (ns : List Node) → flat_map octets (without id (written ns)) ≡ flat_map octets (without id ns)
 without-written id [] = refl
-without-written id (n ∷ ns) = split (is_filler (id_of n)) refl (without-written id ns)
-  where
-    keep : (t : Bool) (xs : List Node) → flat_map octets xs ≡ flat_map octets (without id ns) → flat_map octets (cond t (n ∷ xs) xs) ≡ flat_map octets (cond t (n ∷ without id ns) (without id ns))
-    keep true xs rest = ap (λ (o : List ℕ). octets n ++ o) rest
-    keep false xs rest = rest
-
-    leave : (t : Bool) → octets n ≡ [] → flat_map octets (without id ns) ≡ flat_map octets (cond t (n ∷ without id ns) (without id ns))
-    leave true nothing = ap (λ (o : List ℕ). o ++ flat_map octets (without id ns)) (sym nothing)
-    leave false nothing = refl
-
-    split : (f : Bool) → is_filler (id_of n) ≡ f → flat_map octets (without id (written ns)) ≡ flat_map octets (without id ns)
-        → flat_map octets (without id (cond (not f) (n ∷ written ns) (written ns))) ≡ flat_map octets (without id (n ∷ ns))
-    split true is rest = rest ∙ leave (not (id_of n == id)) (octets-filler n is)
-    split false is rest = keep (not (id_of n == id)) (without id (written ns)) rest
+without-written id (n ∷ ns) =
+    let rest = without-written id ns in
+    elim (cases_Bool (is_filler (id_of n))) [
+      | inl filler ↦ elim (cases_Bool (id_of n == id)) [ inl is ↦ rw (filler, is) rest | inr is ↦ rw (filler, is, octets-filler n filler) rest ]
+      | inr kept ↦ elim (cases_Bool (id_of n == id)) [ inl is ↦ rw (kept, is) rest | inr is ↦ rw (kept, is) (ap (λ (o : List ℕ). octets n ++ o) rest) ]
+    ]
 
 with-written : (c : Node) (ns : List Node) → is_filler (id_of c) ≡ false → flat_map octets (with_child c (written ns)) ≡ flat_map octets (with_child c ns)
 with-written c [] keeps = refl
@@ -87,18 +71,19 @@ with-written c (n ∷ ns) keeps = split (is_filler (id_of n)) refl (with-written
     split true is rest =
         rest ∙ ap (λ (o : List ℕ). o ++ flat_map octets (with_child c ns)) (sym (octets-filler n is))
         ∙ sym (ap (flat_map octets) (with-first c n ns
-        ∙ ap (λ (t : Bool). cond t (c ∷ without (id_of c) ns) (n ∷ with_child c ns)) (other-filler (id_of c) n (id_of n == id_of c) refl keeps is)))
+        ∙ ap (λ (t : Bool). cond t (c ∷ without (id_of c) ns) (n ∷ with_child c ns)) (filler-other (id_of n) (id_of c) is keeps)))
     split false is rest =
         ap (flat_map octets) (with-first c n (written ns)) ∙ keep (id_of n == id_of c) rest ∙ sym (ap (flat_map octets) (with-first c n ns))
 
 -- the children of an ID that is kept
 pub part-written : (id : ℕ) (ns : List Node) → is_filler id ≡ false → part id (written ns) ≡ part id ns
 part-written id [] keeps = refl
-part-written id (n ∷ ns) keeps = split (is_filler (id_of n)) refl (part-written id ns keeps)
-  where
-    split : (f : Bool) → is_filler (id_of n) ≡ f → part id (written ns) ≡ part id ns → part id (cond (not f) (n ∷ written ns) (written ns)) ≡ cond (id_of n == id) (n ∷ part id ns) (part id ns)
-    split true is rest = rest ∙ sym (ap (λ (t : Bool). cond t (n ∷ part id ns) (part id ns)) (other-filler id n (id_of n == id) refl keeps is))
-    split false is rest = ap (λ (l : List Node). cond (id_of n == id) (n ∷ l) l) rest
+part-written id (n ∷ ns) keeps =
+    let rest = part-written id ns keeps in
+    elim (cases_Bool (is_filler (id_of n))) [
+      | inl filler ↦ rw (filler, filler-other (id_of n) id filler keeps) rest
+      | inr kept ↦ rw kept (ap (λ (l : List Node). cond (id_of n == id) (n ∷ l) l) rest)
+    ]
 
 -- ---- a child as it is read
 
@@ -112,11 +97,9 @@ as_read-data n is =
 
 without-map : (id : ℕ) (ns : List Node) → without id (map as_read ns) ≡ map as_read (without id ns)
 without-map id [] = refl
-without-map id (n ∷ ns) = split (not (id_of n == id)) (without-map id ns)
-  where
-    split : (t : Bool) → without id (map as_read ns) ≡ map as_read (without id ns) → cond t (as_read n ∷ without id (map as_read ns)) (without id (map as_read ns)) ≡ map as_read (cond t (n ∷ without id ns) (without id ns))
-    split true rest = ap (λ l. as_read n ∷ l) rest
-    split false rest = rest
+without-map id (n ∷ ns) =
+    let rest = without-map id ns in
+    elim (cases_Bool (id_of n == id)) [ inl is ↦ rw is rest | inr is ↦ rw is (ap (λ l. as_read n ∷ l) rest) ]
 
 -- a child that is read as itself is set before or after
 with-map : (c : Node) (ns : List Node) → as_read c ≡ c → with_child c (map as_read ns) ≡ map as_read (with_child c ns)
@@ -133,11 +116,8 @@ with-map c (n ∷ ns) same =
 
 -- there is none
 none-data : (n : Node) (ns : List Node) → part FILE_DATA (n ∷ ns) ≡ [] → ((id_of n == FILE_DATA) ≡ false) × (part FILE_DATA ns ≡ [])
-none-data n ns is = split (id_of n == FILE_DATA) refl is
-  where
-    split : (t : Bool) → (id_of n == FILE_DATA) ≡ t → cond t (n ∷ part FILE_DATA ns) (part FILE_DATA ns) ≡ [] → ((id_of n == FILE_DATA) ≡ false) × (part FILE_DATA ns ≡ [])
-    split true test is = absurd (cc)
-    split false test is = (test, is)
+none-data n ns is =
+    elim (cases_Bool (id_of n == FILE_DATA)) [ inl test ↦ absurd (let some = rw test at is in cc) | inr test ↦ (test, rw test at is) ]
 
 without-data : (ns : List Node) → part FILE_DATA ns ≡ [] → without FILE_DATA (map as_read ns) ≡ map as_read ns
 without-data [] lacks = refl
@@ -228,15 +208,16 @@ integer-read id (node (leaf i at body) ns) keeps other leaves =
 
     split : (f : Bool) → is_filler i ≡ f → option_map integer_of (find (λ k. id_of k == id) rest_read) ≡ option_map integer_of (find (λ k. id_of k == id) (list_of ns))
         → option_map integer_of (find (λ k. id_of k == id) (map as_read (cond (not f) (n ∷ written (list_of ns)) (written (list_of ns))))) ≡ option_map integer_of (cond (i == id) (Some n) (find (λ k. id_of k == id) (list_of ns)))
-    split true is rest = rest ∙ sym (ap (λ (t : Bool). option_map integer_of (cond t (Some n) (find (λ k. id_of k == id) (list_of ns)))) (other-filler id n (i == id) refl keeps is))
+    split true is rest = rest ∙ sym (ap (λ (t : Bool). option_map integer_of (cond t (Some n) (find (λ k. id_of k == id) (list_of ns)))) (filler-other i id is keeps))
     split false is rest = here (i == id) refl rest
 
 -- the first Element of an ID
 pub element-found : (id : ℕ) (m : Node) (ns ms : List Node) → part id ns ≡ m ∷ ms → find (λ (e : Element). e.id == id) (map tree_element ns) ≡ Some (tree_element m)
 element-found id m [] ms is = absurd (cc)
-element-found id m (n ∷ ns) ms is = split (id_of n == id) is (λ rest. element-found id m ns ms rest)
-  where
-    split : (t : Bool) → cond t (n ∷ part id ns) (part id ns) ≡ m ∷ ms → (part id ns ≡ m ∷ ms → find (λ (e : Element). e.id == id) (map tree_element ns) ≡ Some (tree_element m))
-        → cond t (Some (tree_element n)) (find (λ (e : Element). e.id == id) (map tree_element ns)) ≡ Some (tree_element m)
-    split true is rest = let it : n ≡ m = cc in ap (λ (k : Node). Some (tree_element k)) it
-    split false is rest = rest is
+element-found id m (n ∷ ns) ms is = elim (cases_Bool (id_of n == id)) [
+  | inl test ↦
+      let first : n ∷ part id ns ≡ m ∷ ms = rw test at is in
+      let it : n ≡ m = cc in
+      rw test (ap (λ (k : Node). Some (tree_element k)) it)
+  | inr test ↦ rw test (element-found id m ns ms (rw test at is))
+]

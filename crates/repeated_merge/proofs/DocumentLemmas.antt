@@ -1,10 +1,10 @@
 -- The outline of an output keeps a reader's limits.
-use Rattle.std.proofs.Common.{◌≡◌, ℕ, ◌+◌, ◌-◌, ◌*◌, ◌≤◌, ◌==◌, nat_le, not, Bool, true, false, if◌then◌else◌, List, [], ◌∷◌, ◌++◌, length, filter, replicate, All, IfSome, Option, Some, None, refl, sym, ap, ◌∙◌, arith}
-use Rattle.std.specs.Prelude.{sum_by}
+use Rattle.std.proofs.Common.{◌≡◌, ℕ, ◌+◌, ◌-◌, ◌*◌, ◌≤◌, ◌==◌, nat_le, not, Bool, true, false, if◌then◌else◌, List, [], ◌∷◌, ◌++◌, length, filter, All, IfSome, Option, Some, None, refl, sym, ap, ◌∙◌, arith, sum_by, inl, inr}
 use Rattle.std.proofs.lemmas.List.Elements.{All-nil, All-cons, All-head, All-tail, All-append}
 use Rattle.std.proofs.lemmas.List.Sums.{sum_by-append}
+use Rattle.std.proofs.lemmas.Bool.{cases_Bool}
 use Rattle.ebml_numbers.specs.Number.{uint_width, least_size_width}
-use Rattle.mkv_schema.specs.declared.ids.TheConstants.{CLUSTER, VOID}
+use Rattle.mkv_schema.specs.declared.ids.TheConstants.{CLUSTER}
 use Rattle.mkv_schema.specs.declared.element.Header.{Header}
 use Rattle.mkv_schema.specs.declared.limits.TheConstants.{MOST_OF_HEADER, MOST_OF_ONE}
 use Rattle.mkv_schema.specs.Element.{known}
@@ -95,11 +95,7 @@ count-none : CountFor 0 0 []
 count-none = record { short = All-nil IsShortElement; weight_most = omega arith; most = omega arith }
 
 one-most : (e : Element) → one_other e ≤ 1
-one-most e = split (not (e.id == CLUSTER))
-  where
-    split : (t : Bool) → (if t then 1 else 0) ≤ 1
-    split true = omega arith
-    split false = omega arith
+one-most e = elim (cases_Bool (not (e.id == CLUSTER))) [ inl is ↦ rw is (omega arith) | inr is ↦ rw is (omega arith) ]
 
 -- one Element of another ID
 count-plain : (e : Element) → is_described e.id ≡ false → CountFor 0 1 (e ∷ [])
@@ -133,11 +129,7 @@ count-records None keeps = record { short = All-nil IsShortElement; weight_most 
 count-records (Some n) keeps = count-record n keeps
 
 void-plain : (total : ℕ) → is_described (void_element total).id ≡ false
-void-plain total = split (nat_le total 128)
-  where
-    split : (t : Bool) → (let e : Element = if t then record { id = VOID; width = 1; body = replicate (total - 2) 0 } else record { id = VOID; width = 8; body = replicate (total - 9) 0 } in is_described e.id ≡ false)
-    split true = refl
-    split false = refl
+void-plain total = elim (cases_Bool (nat_le total 128)) [ inl is ↦ rw is refl | inr is ↦ rw is refl ]
 
 count-area : (seeks : List Seek) → CountFor 0 2 (area_elements seeks)
 count-area seeks =

@@ -1,7 +1,8 @@
 -- Where the Elements of an output stand, and which of them is the first of its ID.
-use Rattle.std.proofs.Common.{◌≡◌, ℕ, ◌+◌, ◌-◌, ◌==◌, nat_le, Bool, true, false, cond, if◌then◌else◌, List, [], ◌∷◌, ◌++◌, length, map, find, replicate, append-nil, append_assoc, length-append, All, IfSome, Option, Some, None, refl, sym, ap, ◌∙◌, subst, arith}
+use Rattle.std.proofs.Common.{◌≡◌, ℕ, ◌+◌, ◌-◌, ◌==◌, nat_le, Bool, true, false, cond, List, [], ◌∷◌, ◌++◌, length, map, find, append-nil, append_assoc, length-append, All, IfSome, Option, Some, None, refl, sym, ap, ◌∙◌, subst, arith, inl, inr}
 use Rattle.std.proofs.lemmas.List.Concat.{flat_map-append}
 use Rattle.std.proofs.lemmas.List.Elements.{All-nil, All-cons, All-head, All-tail}
+use Rattle.std.proofs.lemmas.Bool.{cases_Bool}
 use Rattle.ebml_numbers.specs.Number.{id_octets, size_octets}
 use Rattle.ebml_numbers.proofs.NumberLemmas.{length-size_octets}
 use Rattle.mkv_schema.specs.declared.ids.TheConstants.{ATTACHMENTS, CHAPTERS, CLUSTER, CUES, INFO, SEEK_HEAD, SEGMENT, TAGS, TRACKS, VOID}
@@ -59,16 +60,13 @@ pub record IsFirstAt (bytes : List ℕ) (h : Header) (found : Option Element) : 
 pub first-at : (bytes : List ℕ) (id : ℕ) (es : List Element) (p : ℕ) (h : Header) → HoldsAt bytes p (joined es) → first_of id (headers_in_place p es) ≡ Some h
     → IsFirstAt bytes h (find (λ (e : Element). e.id == id) es)
 first-at bytes id [] p h held found = absurd (cc)
-first-at bytes id (e ∷ es) p h held found =
-    split (e.id == id) found (λ later. first-at bytes id es (p + length (octets_of e)) h (held-right bytes p (octets_of e) (joined es) held) later)
-  where
-    split : (t : Bool) → cond t (Some (header_in_place p e)) (first_of id (headers_in_place (p + length (octets_of e)) es)) ≡ Some h
-        → (first_of id (headers_in_place (p + length (octets_of e)) es) ≡ Some h → IsFirstAt bytes h (find (λ (x : Element). x.id == id) es))
-        → IsFirstAt bytes h (cond t (Some e) (find (λ (x : Element). x.id == id) es))
-    split true here later =
-        let same : header_in_place p e ≡ h = cc in
-        record { element = e; place = p; header = sym same; stands = held-left bytes p (octets_of e) (joined es) held; first = refl }
-    split false here later = later here
+first-at bytes id (e ∷ es) p h held found = elim (cases_Bool (e.id == id)) [
+  | inl is ↦
+      let here : Some (header_in_place p e) ≡ Some h = rw is at found in
+      let same : header_in_place p e ≡ h = cc in
+      rw is (record { element = e; place = p; header = sym same; stands = held-left bytes p (octets_of e) (joined es) held; first = refl })
+  | inr is ↦ rw is (first-at bytes id es (p + length (octets_of e)) h (held-right bytes p (octets_of e) (joined es) held) (rw is at found))
+]
 
 -- ---- the first of an ID
 
@@ -91,11 +89,7 @@ behind id own (e ∷ es) rest differs are =
     ∙ behind id own es rest differs (All-tail (HasId own) e es are)
 
 void-id : (total : ℕ) → (void_element total).id ≡ VOID
-void-id total = split (nat_le total 128)
-  where
-    split : (t : Bool) → (let e : Element = if t then record { id = VOID; width = 1; body = replicate (total - 2) 0 } else record { id = VOID; width = 8; body = replicate (total - 9) 0 } in e.id ≡ VOID)
-    split true = refl
-    split false = refl
+void-id total = elim (cases_Bool (nat_le total 128)) [ inl is ↦ rw is refl | inr is ↦ rw is refl ]
 
 one-id : (own : ℕ) (e : Element) → HasId own e → All (HasId own) (e ∷ [])
 one-id own e is = All-cons (HasId own) e [] is (All-nil (HasId own))

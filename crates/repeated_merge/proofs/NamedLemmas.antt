@@ -1,9 +1,9 @@
 -- The targets of joined Tags name what the output has.
-use Rattle.std.proofs.Common.{◌≡◌, ◌<◌, ℕ, ◌+◌, ◌^◌, ◌==◌, Bool, true, false, ◌&&◌, cond, if◌then◌else◌, List, [], ◌∷◌, length, map, filter, flat_map, take, drop, zip, All, Contains, Option, None, Some, IfSome, refl, sym, ap, subst, ◌∙◌}
+use Rattle.std.proofs.Common.{◌≡◌, ◌<◌, ℕ, ◌+◌, ◌^◌, ◌==◌, Bool, true, false, ◌&&◌, if◌then◌else◌, List, [], ◌∷◌, length, map, filter, flat_map, take, drop, zip, All, Contains, Option, None, Some, IfSome, refl, sym, ap, subst, ◌∙◌, inl, inr, slice_index_or}
 use Rattle.std.specs.Map.{lookup}
 use Rattle.std.specs.Option.{option_map}
-use Rattle.std.proofs.lemmas.Bool.{eqb-true}
-use Rattle.std.proofs.lemmas.List.Elements.{All-append, All-cons, All-contains_itself, All-drop, All-head, All-nil, All-tail, All-take}
+use Rattle.std.proofs.lemmas.Bool.{eqb-true, cases_Bool, and_parts}
+use Rattle.std.proofs.lemmas.List.Elements.{All-append, All-cons, All-contains_itself, All-drop, All-head, All-nil, All-tail, All-take, All-map}
 use Rattle.ebml_numbers.specs.Number.{uint_octets}
 use Rattle.mkv_schema.specs.declared.ids.TheConstants.{TAG, TAGS, TARGETS, TAG_TRACK_UID, TAG_EDITION_UID, TAG_CHAPTER_UID, TAG_ATTACHMENT_UID}
 use Rattle.tree_format.specs.Node.{Node, Nodes, leaf, master, none, node, nodes_of, list_of, id_of, children}
@@ -25,17 +25,21 @@ use Rattle.merge_plan.specs.Identifiers.{Have64Bits, Identifiers, identifiers_of
 use Rattle.merge_plan.specs.Records.{Kept, is_appended, kept_anywhere, records_from, records_of, uids_at, uids_behind}
 use Rattle.repeated_merge.specs.Joined.{IsWrittenTag}
 use Rattle.repeated_merge.specs.Named.{JoinedTagsNameTheOutput, NamesOneOf, named_by, tags_joined}
+use Rattle.record_laws.proofs.TagLemmas.{all-made}
 
 -- ---- what is read of Elements
 
 -- a fact that each Element keeps where it stands
 list-placed : (P : Node → Type 0) → ((n : Node) (q : ℕ) → P n → P (placed q n)) → (ns : Nodes) (q : ℕ) → All P (list_of ns) → All P (list_of (placed_all q ns))
 list-placed P keep none q all = All-nil P
-list-placed P keep (node n ns) q all = split (is_filler (id_of n)) (λ p. list-placed P keep ns p (All-tail P n (list_of ns) all))
-  where
-    split : (t : Bool) → ((p : ℕ) → All P (list_of (placed_all p ns))) → All P (list_of (if t then placed_all q ns else node (placed q n) (placed_all (q + length (octets n)) ns)))
-    split true rest = rest q
-    split false rest = All-cons P (placed q n) (list_of (placed_all (q + length (octets n)) ns)) (keep n q (All-head P n (list_of ns) all)) (rest (q + length (octets n)))
+list-placed P keep (node n ns) q all =
+    let rest = All-tail P n (list_of ns) all in
+    elim (cases_Bool (is_filler (id_of n))) [
+      | inl filler ↦ rw filler (list-placed P keep ns q rest)
+      | inr kept ↦
+          let p : ℕ = q + length (octets n) in
+          rw kept (All-cons P (placed q n) (list_of (placed_all p ns)) (keep n q (All-head P n (list_of ns) all)) (list-placed P keep ns p rest))
+    ]
 
 -- ---- targets that name one of these
 
@@ -65,18 +69,18 @@ module _ (ids : Identifiers) where
 
   filter-names : (ns : List Node) → All Names ns → All (NamesOneOf ids) (filter is_target ns)
   filter-names [] all = All-nil (NamesOneOf ids)
-  filter-names (n ∷ ns) all = split (is_target n) refl (filter-names ns (All-tail Names n ns all))
-    where
-      split : (t : Bool) → is_target n ≡ t → All (NamesOneOf ids) (filter is_target ns) → All (NamesOneOf ids) (cond t (n ∷ filter is_target ns) (filter is_target ns))
-      split true is rest = All-cons (NamesOneOf ids) n (filter is_target ns) (All-head Names n ns all is) rest
-      split false is rest = rest
+  filter-names (n ∷ ns) all =
+      let rest = filter-names ns (All-tail Names n ns all) in
+      elim (cases_Bool (is_target n)) [
+        | inl is ↦ rw is (All-cons (NamesOneOf ids) n (filter is_target ns) (All-head Names n ns all is) rest)
+        | inr is ↦ rw is rest
+      ]
 
   inside-names : (p : Node) → NamesInside p → All (NamesOneOf ids) (targets_in p)
-  inside-names p names = split (id_of p == TARGETS) refl
-    where
-      split : (t : Bool) → (id_of p == TARGETS) ≡ t → All (NamesOneOf ids) (if t then filter is_target (children p) else [])
-      split true is = filter-names (children p) (names (eqb-true (id_of p) TARGETS is))
-      split false is = All-nil (NamesOneOf ids)
+  inside-names p names = elim (cases_Bool (id_of p == TARGETS)) [
+    | inl is ↦ rw is (filter-names (children p) (names (eqb-true (id_of p) TARGETS is)))
+    | inr is ↦ rw is (All-nil (NamesOneOf ids))
+  ]
 
   flat-all : (P : Node → Type 0) (f : Node → List Node) → ((n : Node) → P n → All (NamesOneOf ids) (f n)) → (ns : List Node) → All P ns → All (NamesOneOf ids) (flat_map f ns)
   flat-all P f each [] all = All-nil (NamesOneOf ids)
@@ -105,7 +109,10 @@ module _ (ids : Identifiers) where
 
   module _ (numbers : ℕ → ℕ → Option ℕ) (gives : GivesAll numbers) where
     target-names : (n : Node) → All Names (written_target numbers n)
-    target-names n = split (is_target n) refl
+    target-names n = elim (cases_Bool (is_target n)) [
+      | inl is ↦ rw is (made (number_of numbers n) (gives (id_of n) (integer_of n)))
+      | inr is ↦ rw is (All-cons Names n [] (λ target. absurd (let never : true ≡ false = sym target ∙ is in cc)) (All-nil Names))
+    ]
       where
         made : (o : Option ℕ) → IfSome o (Gives (id_of n)) → All Names (given (uint_leaf (id_of n)) o)
         made None is = All-nil Names
@@ -113,36 +120,18 @@ module _ (ids : Identifiers) where
             All-cons Names (uint_leaf (id_of n) v) []
             (λ target. subst (Contains (named_by ids (id_of n))) (sym (uint_value-octets (id_of n) v (uint_octets v) is.0 refl)) is.1) (All-nil Names)
 
-        split : (t : Bool) → is_target n ≡ t → All Names (if t then given (uint_leaf (id_of n)) (number_of numbers n) else n ∷ [])
-        split true is = made (number_of numbers n) (gives (id_of n) (integer_of n))
-        split false is = All-cons Names n [] (λ target. let never : true ≡ false = sym target ∙ is in absurd (cc)) (All-nil Names)
-
-    targets-name : (ns : List Node) → All Names (flat_map (written_target numbers) ns)
-    targets-name [] = All-nil Names
-    targets-name (n ∷ ns) = All-append Names (written_target numbers n) (flat_map (written_target numbers) ns) (target-names n) (targets-name ns)
-
     part-names : (n : Node) → NamesInside (written_part numbers n)
-    part-names (leaf id at body) = split (id == TARGETS)
-      where
-        split : (t : Bool) → NamesInside (if t then leaf id at body else leaf id at body)
-        split true = λ is. All-nil Names
-        split false = λ is. All-nil Names
-    part-names (master id at kids) = split (id == TARGETS) refl
-      where
-        list : List Node
-        list = flat_map (written_target numbers) (list_of kids)
-
-        split : (t : Bool) → (id == TARGETS) ≡ t → NamesInside (if t then master id at (nodes_of list) else master id at kids)
-        split true is = λ same. subst (All Names) (sym (list-nodes list)) (targets-name (list_of kids))
-        split false is = λ same. let never : (TARGETS == TARGETS) ≡ false = sym (ap (λ (k : ℕ). k == TARGETS) same) ∙ is in absurd (cc)
-
-    parts-name : (ns : List Node) → All NamesInside (map (written_part numbers) ns)
-    parts-name [] = All-nil NamesInside
-    parts-name (n ∷ ns) = All-cons NamesInside (written_part numbers n) (map (written_part numbers) ns) (part-names n) (parts-name ns)
+    part-names (leaf id at body) = elim (cases_Bool (id == TARGETS)) [ inl is ↦ rw is (λ same. All-nil Names) | inr is ↦ rw is (λ same. All-nil Names) ]
+    part-names (master id at kids) = elim (cases_Bool (id == TARGETS)) [
+      | inl is ↦
+          let list : List Node = flat_map (written_target numbers) (list_of kids) in
+          rw is (λ same. subst (All Names) (sym (list-nodes list)) (all-made Names (written_target numbers) (list_of kids) target-names))
+      | inr is ↦ rw is (λ same. absurd (let never : (TARGETS == TARGETS) ≡ false = sym (ap (λ (k : ℕ). k == TARGETS) same) ∙ is in cc))
+    ]
 
     tag-names : (n : Node) → NamesOfTag (written_tag numbers n)
     tag-names (leaf id at body) = All-nil NamesInside
-    tag-names (master id at kids) = subst (All NamesInside) (sym (list-nodes (map (written_part numbers) (list_of kids)))) (parts-name (list_of kids))
+    tag-names (master id at kids) = subst (All NamesInside) (sym (list-nodes (map (written_part numbers) (list_of kids)))) (All-map NamesInside (written_part numbers) (list_of kids) (λ k d less. part-names (slice_index_or (list_of kids) k d)))
 
   -- a Tag that was written, whose targets name one of these
   record IsNamingTag (n : Node) : Type 0 where
@@ -151,24 +140,19 @@ module _ (ids : Identifiers) where
 
   module _ (keep : TagKeep) (numbers : ℕ → ℕ → Option ℕ) (gives : GivesAll numbers) where
     child-names : (n : Node) → All IsNamingTag (written_child keep numbers n)
-    child-names n = split (id_of n == TAG) refl (are_kept keep (aims_in numbers n))
-      where
-        split : (t : Bool) → (id_of n == TAG) ≡ t → (k : Bool) → All IsNamingTag (if t && k then written_tag numbers n ∷ [] else [])
-        split true is true =
-            All-cons IsNamingTag (written_tag numbers n) []
-            (record { written = record { numbers = numbers; small = gives-small numbers gives; tag = n; is = eqb-true (id_of n) TAG is; written = refl }; names = tag-names numbers gives n }) (All-nil IsNamingTag)
-        split true is false = All-nil IsNamingTag
-        split false is k = All-nil IsNamingTag
-
-    children-name : (ns : List Node) → All IsNamingTag (flat_map (written_child keep numbers) ns)
-    children-name [] = All-nil IsNamingTag
-    children-name (n ∷ ns) = All-append IsNamingTag (written_child keep numbers n) (flat_map (written_child keep numbers) ns) (child-names n) (children-name ns)
+    child-names n = elim (cases_Bool (id_of n == TAG && are_kept keep (aims_in numbers n))) [
+      | inl is ↦
+          let own : id_of n ≡ TAG = eqb-true (id_of n) TAG (and_parts (id_of n == TAG) (are_kept keep (aims_in numbers n)) is).0 in
+          rw is (All-cons IsNamingTag (written_tag numbers n) []
+          (record { written = record { numbers = numbers; small = gives-small numbers gives; tag = n; is = own; written = refl }; names = tag-names numbers gives n }) (All-nil IsNamingTag))
+      | inr is ↦ rw is (All-nil IsNamingTag)
+    ]
 
     written-names : (tags : Option Node) → All IsNamingTag (children_in (option_map (written_tags keep numbers) tags))
     written-names None = All-nil IsNamingTag
     written-names (Some (leaf id at body)) = All-nil IsNamingTag
     written-names (Some (master id at kids)) =
-        subst (All IsNamingTag) (sym (list-nodes (flat_map (written_child keep numbers) (list_of kids)))) (children-name (list_of kids))
+        subst (All IsNamingTag) (sym (list-nodes (flat_map (written_child keep numbers) (list_of kids)))) (all-made IsNamingTag (written_child keep numbers) (list_of kids) child-names)
 
   -- ---- inputs
 
@@ -184,11 +168,9 @@ module _ (ids : Identifiers) where
   looked-up : (P : ℕ → Type 0) (test : ℕ → Bool) (source numbers : List ℕ) → All P numbers → IfSome (lookup test (zip source numbers)) P
   looked-up P test [] numbers all = tt
   looked-up P test (s ∷ source) [] all = tt
-  looked-up P test (s ∷ source) (n ∷ numbers) all = split (test s) (looked-up P test source numbers (All-tail P n numbers all))
-    where
-      split : (t : Bool) → IfSome (lookup test (zip source numbers)) P → IfSome (cond t (Some n) (lookup test (zip source numbers))) P
-      split true rest = All-head P n numbers all
-      split false rest = rest
+  looked-up P test (s ∷ source) (n ∷ numbers) all =
+      let rest = looked-up P test source numbers (All-tail P n numbers all) in
+      elim (cases_Bool (test s)) [ inl is ↦ rw is (All-head P n numbers all) | inr is ↦ rw is rest ]
 
   input-gives : (i : InputRecords) (editions chapters files : List ℕ) → AreAmong ids.tracks i.output_uids → AreNumbers editions chapters files → GivesAll (numbers_for i (all_uids editions chapters files))
   input-gives i editions chapters files own are id uid = split (id == TAG_TRACK_UID) (id == TAG_EDITION_UID) (id == TAG_CHAPTER_UID) (id == TAG_ATTACHMENT_UID)

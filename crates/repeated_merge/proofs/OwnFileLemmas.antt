@@ -1,6 +1,5 @@
 -- The attached files of an output stay.
-use Rattle.std.proofs.Common.{◌≡◌, ℕ, ◌==◌, List, [], ◌∷◌, map, find, All, Option, Some, refl, sym, ap, ap₂, ◌∙◌}
-use Rattle.std.specs.Prelude.{unwrap_or}
+use Rattle.std.proofs.Common.{◌≡◌, ℕ, ◌==◌, List, [], ◌∷◌, map, find, All, Option, Some, refl, sym, ap, ap₂, ◌∙◌, unwrap_or}
 use Rattle.std.specs.List.{AllZip}
 use Rattle.std.specs.Option.{option_map}
 use Rattle.std.proofs.lemmas.List.Elements.{All-head, All-tail}
@@ -40,19 +39,17 @@ set-again (master id at kids) is =
 
 pub uids-same : (bytes : List ℕ) (ns : List Node) (files : List AttachedFile) → AllZip (IsFileOf bytes) ns files → map (λ (a : AttachedFile). a.uid) files ≡ map (uint_in FILE_UID) ns
 uids-same bytes [] [] are = refl
-uids-same bytes [] (a ∷ files) are = absurd are
-uids-same bytes (n ∷ ns) [] are = absurd are
 uids-same bytes (n ∷ ns) (a ∷ files) are = ap₂ (λ (u : ℕ) us. u ∷ us) are.0.uid (uids-same bytes ns files are.1)
+uids-same _ _ _ are = absurd are
 
 each-stays : (bytes : List ℕ) (ns : List Node) (files : List AttachedFile) → AllZip (IsFileOf bytes) ns files → All IsNumbered ns → map octets (written_files bytes (map (uint_in FILE_UID) ns) files) ≡ map octets ns
 each-stays bytes [] [] are numbered = refl
-each-stays bytes [] (a ∷ files) are numbered = absurd are
-each-stays bytes (n ∷ ns) [] are numbered = absurd are
 each-stays bytes (n ∷ ns) (a ∷ files) are numbered =
     let is = All-head IsNumbered n ns numbered in
     ap₂ (λ (o : List ℕ) os. o ∷ os)
     (are.0.same (uint_in FILE_UID n) ∙ ap (λ (u : ℕ). octets (set_in (uint_leaf FILE_UID u) n)) (uid-is n is) ∙ set-again n is)
     (each-stays bytes ns files are.1 (All-tail IsNumbered n ns numbered))
+each-stays _ _ _ are _ = absurd are
 
 pub own-files : OwnFilesStay
 own-files bytes ns files are numbered settled =

@@ -1,11 +1,11 @@
 -- The entries that are read of an output are those that were written.
-use Rattle.std.proofs.Common.{◌≡◌, ℕ, ◌+◌, ◌==◌, cond, if◌then◌else◌, List, [], ◌∷◌, length, map, filter, All, refl, sym, ap, ◌∙◌}
+use Rattle.std.proofs.Common.{◌≡◌, ℕ, ◌+◌, ◌==◌, cond, List, [], ◌∷◌, length, map, filter, All, refl, sym, ap, ◌∙◌}
 use Rattle.std.proofs.lemmas.List.Elements.{All-nil, All-cons, All-head, All-tail}
 use Rattle.mkv_schema.specs.declared.ids.TheConstants.{TRACKS, TRACK_ENTRY}
-use Rattle.tree_format.specs.Node.{Node, leaf, master, node, nodes_of, list_of, id_of}
+use Rattle.tree_format.specs.Node.{Node, leaf, master, nodes_of, id_of}
 use Rattle.tree_format.specs.NormalForm.{header_octets, is_filler, octets, octets_all}
 use Rattle.tree_format.specs.Children.{set_each, set_in, removed_each, removed_in}
-use Rattle.tree_format.specs.Standing.{placed, placed_all}
+use Rattle.tree_format.specs.Standing.{placed}
 use Rattle.file_format.specs.Entry.{entries_of}
 use Rattle.track_records.specs.declared.track.Track.{Track}
 use Rattle.track_records.specs.declared.track_change.TrackChange.{TrackChange}
@@ -14,6 +14,7 @@ use Rattle.track_records.specs.Track.{track_of}
 use Rattle.record_laws.specs.Again.{TracksStay, merged_again, read_of, written_entries}
 use Rattle.repeated_merge.specs.OwnTracks.{OwnTracksStay}
 use Rattle.repeated_merge.proofs.PlacedLemmas.{id-placed}
+use Rattle.record_laws.proofs.SameLemmas.{read-step}
 
 -- ---- what is written is a TrackEntry
 
@@ -55,8 +56,7 @@ read-ones [] p are = refl
 read-ones (n ∷ ns) p are =
     let q : ℕ = p + length (octets n) in
     let is : id_of n ≡ TRACK_ENTRY = All-head IsOne n ns are in
-    let step : read_of p (n ∷ ns) ≡ placed p n ∷ read_of q ns =
-    ap (λ (i : ℕ). list_of (if is_filler i then placed_all p (nodes_of ns) else node (placed p n) (placed_all q (nodes_of ns)))) is in
+    let step = read-step p n ns (ap is_filler is) in
     ap (filter (λ k. id_of k == TRACK_ENTRY)) step
     ∙ ap (λ (i : ℕ). cond (i == TRACK_ENTRY) (placed p n ∷ filter (λ k. id_of k == TRACK_ENTRY) (read_of q ns)) (filter (λ k. id_of k == TRACK_ENTRY) (read_of q ns))) (id-placed n p ∙ is)
     ∙ ap (λ l. placed p n ∷ l) (read-ones ns q (All-tail IsOne n ns are))

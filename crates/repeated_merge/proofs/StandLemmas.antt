@@ -1,11 +1,11 @@
 -- Chapters and Tags that are changed stand as they stood.
-use Rattle.std.proofs.Common.{◌≡◌, ℕ, zero, suc, ◌+◌, ◌<◌, ◌≤◌, ◌^◌, ◌==◌, Bool, true, false, ◌&&◌, cond, if◌then◌else◌, List, [], ◌∷◌, ◌++◌, length, map, filter, flat_map, All, IfSome, Option, None, Some, refl, sym, ap, ◌∙◌, subst, arith, eqb-true}
-use Rattle.std.specs.Prelude.{slice_index}
+use Rattle.std.proofs.Common.{◌≡◌, ℕ, ◌+◌, ◌<◌, ◌≤◌, ◌^◌, ◌==◌, Bool, true, ◌&&◌, List, [], ◌∷◌, ◌++◌, length, map, filter, flat_map, All, IfSome, Option, None, Some, refl, sym, ap, ◌∙◌, subst, arith, eqb-true, slice_index, inl, inr}
 use Rattle.std.proofs.lemmas.List.Elements.{All-head, All-tail, filter_passes}
+use Rattle.std.proofs.lemmas.Bool.{cases_Bool}
 use Rattle.mkv_schema.specs.declared.ids.TheConstants.{CHAPTERS, CHAPTER_ATOM, CHAPTER_UID, EDITION_ENTRY, EDITION_UID, TAG, TARGETS}
 use Rattle.tree_format.specs.Node.{Node, Nodes, leaf, master, none, node, nodes_of, list_of, id_of, children, depth, depth_all, IsMaster}
 use Rattle.tree_format.specs.Changes.{with_child, part}
-use Rattle.tree_format.specs.Children.{uint_leaf, set_in, given}
+use Rattle.tree_format.specs.Children.{uint_leaf, given}
 use Rattle.tree_format.specs.Standing.{StandsIn, AllStandIn}
 use Rattle.tree_format.specs.Values.{integer_of}
 use Rattle.tree_format.specs.NormalForm.{kept_octets, octets, octets_all}
@@ -21,6 +21,7 @@ use Rattle.record_changes.specs.declared.uid_map.TagKeep.{TagKeep}
 use Rattle.record_changes.proofs.ChapterFacts.{chapter_uid, edition_uid}
 use Rattle.record_changes.proofs.TargetLemmas.{target-id, target-is}
 use Rattle.repeated_merge.specs.Changed.{ChaptersStand, ChildrenDecide, TagsStand}
+use Rattle.record_laws.proofs.SettledLemmas.{small-at}
 
 -- ---- lists that stand
 
@@ -33,28 +34,18 @@ stand-append parent (m ∷ ms) ns front behind = (front.0, stand-append parent m
 
 stand-filter : (parent : ℕ) (p : Node → Bool) (ns : List Node) → Stand parent ns → Stand parent (filter p ns)
 stand-filter parent p [] stand = tt
-stand-filter parent p (n ∷ ns) stand = split (p n) (stand-filter parent p ns stand.1)
-  where
-    split : (t : Bool) → Stand parent (filter p ns) → Stand parent (cond t (n ∷ filter p ns) (filter p ns))
-    split true rest = (stand.0, rest)
-    split false rest = rest
+stand-filter parent p (n ∷ ns) stand =
+    let rest = stand-filter parent p ns stand.1 in
+    elim (cases_Bool (p n)) [ inl is ↦ rw is (stand.0, rest) | inr is ↦ rw is rest ]
 
 deep-filter : (p : Node → Bool) (ns : List Node) → depth_all (nodes_of (filter p ns)) ≤ depth_all (nodes_of ns)
 deep-filter p [] = omega arith
-deep-filter p (n ∷ ns) = split (p n) (deep-filter p ns)
-  where
-    split : (t : Bool) → depth_all (nodes_of (filter p ns)) ≤ depth_all (nodes_of ns) → depth_all (nodes_of (cond t (n ∷ filter p ns) (filter p ns))) ≤ depth_all (nodes_of (n ∷ ns))
-    split true rest = omega arith
-    split false rest = omega arith
+deep-filter p (n ∷ ns) =
+    let rest = deep-filter p ns in
+    elim (cases_Bool (p n)) [ inl is ↦ rw is (omega arith) | inr is ↦ rw is (omega arith) ]
 
 stand-list : (parent : ℕ) (kids : Nodes) → AllStandIn parent kids → Stand parent (list_of kids)
 stand-list parent kids stand = subst (AllStandIn parent) (sym (nodes-list kids)) stand
-
--- numbers of 64 bits, and 0 where there is none
-small-at : (ns : List ℕ) (k : ℕ) → All (λ n. n < 2 ^ 64) ns → slice_index ns k < 2 ^ 64
-small-at [] k small = omega arith
-small-at (n ∷ ns) zero small = All-head (λ n. n < 2 ^ 64) n ns small
-small-at (n ∷ ns) (suc k) small = small-at ns k (All-tail (λ n. n < 2 ^ 64) n ns small)
 
 -- ---- a number that is set in a master
 
@@ -72,13 +63,14 @@ module _ (uids : List ℕ) (small : All (λ n. n < 2 ^ 64) uids) where
   mutual
     atom-stands : (parent k : ℕ) (n : Node) → StandsIn parent n → StandsIn parent (numbered uids k n)
     atom-stands parent k (leaf id at body) stands = stands
-    atom-stands parent k (master id at kids) stands = split (id == CHAPTER_ATOM) refl (atoms-stand id (k + 1) kids stands.1)
-      where
-        split : (t : Bool) → (id == CHAPTER_ATOM) ≡ t → Stand id (numbered_among uids (k + 1) kids)
-            → StandsIn parent (if t then set_in (uint_leaf CHAPTER_UID (slice_index uids k)) (master id at (nodes_of (numbered_among uids (k + 1) kids))) else master id at kids)
-        split true is inner =
-            (stands.0, set-stands id at CHAPTER_UID (slice_index uids k) (numbered_among uids (k + 1) kids) (subst (λ (i : ℕ). IsUintIn i CHAPTER_UID) (sym (eqb-true id CHAPTER_ATOM is)) chapter_uid) (small-at uids k small) inner)
-        split false is inner = stands
+    atom-stands parent k (master id at kids) stands =
+        let inner = atoms-stand id (k + 1) kids stands.1 in
+        elim (cases_Bool (id == CHAPTER_ATOM)) [
+          | inl is ↦
+              rw is
+              (stands.0, set-stands id at CHAPTER_UID (slice_index uids k) (numbered_among uids (k + 1) kids) (subst (λ (i : ℕ). IsUintIn i CHAPTER_UID) (sym (eqb-true id CHAPTER_ATOM is)) chapter_uid) (small-at uids small k) inner)
+          | inr is ↦ rw is stands
+        ]
 
     atoms-stand : (parent k : ℕ) (ns : Nodes) → AllStandIn parent ns → Stand parent (numbered_among uids k ns)
     atoms-stand parent k none stand = tt
@@ -87,12 +79,12 @@ module _ (uids : List ℕ) (small : All (λ n. n < 2 ^ 64) uids) where
   mutual
     atom-shallow : (k : ℕ) (n : Node) → depth (numbered uids k n) ≤ depth n
     atom-shallow k (leaf id at body) = omega arith
-    atom-shallow k (master id at kids) = split (id == CHAPTER_ATOM) (atoms-shallow (k + 1) kids)
-      where
-        split : (t : Bool) → depth_all (nodes_of (numbered_among uids (k + 1) kids)) ≤ depth_all kids
-            → depth (if t then set_in (uint_leaf CHAPTER_UID (slice_index uids k)) (master id at (nodes_of (numbered_among uids (k + 1) kids))) else master id at kids) ≤ depth_all kids + 1
-        split true inner = omega (arith, set-shallow CHAPTER_UID (slice_index uids k) (nodes_of (numbered_among uids (k + 1) kids)))
-        split false inner = omega arith
+    atom-shallow k (master id at kids) =
+        let inner = atoms-shallow (k + 1) kids in
+        elim (cases_Bool (id == CHAPTER_ATOM)) [
+          | inl is ↦ rw is (omega (arith, set-shallow CHAPTER_UID (slice_index uids k) (nodes_of (numbered_among uids (k + 1) kids))))
+          | inr is ↦ rw is (omega arith)
+        ]
 
     atoms-shallow : (k : ℕ) (ns : Nodes) → depth_all (nodes_of (numbered_among uids k ns)) ≤ depth_all ns
     atoms-shallow k none = omega arith
@@ -119,7 +111,7 @@ module _ (uids : List ℕ) (small : All (λ n. n < 2 ^ 64) uids) where
     editions-stand : (j k : ℕ) (ns : List Node) → All (λ (n : Node). (id_of n == EDITION_ENTRY) ≡ true) ns → Stand CHAPTERS ns → Stand CHAPTERS (numbered_editions editions uids j k ns)
     editions-stand j k [] are stand = tt
     editions-stand j k (n ∷ ns) are stand = (
-      edition-stands (slice_index editions j) k n (small-at editions j fit) (All-head (λ (m : Node). (id_of m == EDITION_ENTRY) ≡ true) n ns are) stand.0,
+      edition-stands (slice_index editions j) k n (small-at editions fit j) (All-head (λ (m : Node). (id_of m == EDITION_ENTRY) ≡ true) n ns are) stand.0,
       editions-stand (j + 1) (k + length (atoms_inside n)) ns (All-tail (λ (m : Node). (id_of m == EDITION_ENTRY) ≡ true) n ns are) stand.1,
     )
 
@@ -150,26 +142,21 @@ chapters-stand editions uids (master id at kids) is own sound fit small =
 module _ (numbers : ℕ → ℕ → Option ℕ) (small : (id uid : ℕ) → IfSome (numbers id uid) (λ n. n < 2 ^ 64)) where
   -- a target with its number, or nothing
   target-stands : (n : Node) → StandsIn TARGETS n → Stand TARGETS (written_target numbers n)
-  target-stands n stands = split (is_target n) refl
+  target-stands n stands = elim (cases_Bool (is_target n)) [
+    | inl is ↦ rw is (made (number_of numbers n) (target-id (id_of n) (target-is n is)) (small (id_of n) (integer_of n)))
+    | inr is ↦ rw is (stands, tt)
+  ]
     where
       made : (o : Option ℕ) → IsUintIn TARGETS (id_of n) → IfSome o (λ m. m < 2 ^ 64) → Stand TARGETS (given (uint_leaf (id_of n)) o)
       made None known fits = tt
       made (Some m) known fits = (uint-stands TARGETS (id_of n) m known fits, tt)
 
-      split : (t : Bool) → is_target n ≡ t → Stand TARGETS (if t then given (uint_leaf (id_of n)) (number_of numbers n) else n ∷ [])
-      split true is = made (number_of numbers n) (target-id (id_of n) (target-is n is)) (small (id_of n) (integer_of n))
-      split false is = (stands, tt)
-
   target-shallow : (n : Node) → depth_all (nodes_of (written_target numbers n)) ≤ depth n
-  target-shallow n = split (is_target n)
+  target-shallow n = elim (cases_Bool (is_target n)) [ inl is ↦ rw is (made (number_of numbers n)) | inr is ↦ rw is (omega arith) ]
     where
       made : (o : Option ℕ) → depth_all (nodes_of (given (uint_leaf (id_of n)) o)) ≤ depth n
       made None = omega arith
       made (Some m) = omega arith
-
-      split : (t : Bool) → depth_all (nodes_of (if t then given (uint_leaf (id_of n)) (number_of numbers n) else n ∷ [])) ≤ depth n
-      split true = made (number_of numbers n)
-      split false = omega arith
 
   targets-stand : (ns : List Node) → Stand TARGETS ns → Stand TARGETS (flat_map (written_target numbers) ns)
   targets-stand [] stand = tt
@@ -183,33 +170,20 @@ module _ (numbers : ℕ → ℕ → Option ℕ) (small : (id uid : ℕ) → IfSo
 
   -- a child of a Tag
   part-stands : (parent : ℕ) (n : Node) → StandsIn parent n → StandsIn parent (written_part numbers n)
-  part-stands parent (leaf id at body) stands = split (id == TARGETS)
-    where
-      split : (t : Bool) → StandsIn parent (if t then leaf id at body else leaf id at body)
-      split true = stands
-      split false = stands
-  part-stands parent (master id at kids) stands = split (id == TARGETS) refl
-    where
-      split : (t : Bool) → (id == TARGETS) ≡ t → StandsIn parent (if t then master id at (nodes_of (flat_map (written_target numbers) (list_of kids))) else master id at kids)
-      split true is =
-          let own : id ≡ TARGETS = eqb-true id TARGETS is in
-          let inner : Stand TARGETS (flat_map (written_target numbers) (list_of kids)) = targets-stand (list_of kids) (stand-list TARGETS kids (subst (λ (i : ℕ). AllStandIn i kids) own stands.1)) in
-          (stands.0, subst (λ (i : ℕ). AllStandIn i (nodes_of (flat_map (written_target numbers) (list_of kids)))) (sym own) inner)
-      split false is = stands
+  part-stands parent (leaf id at body) stands = elim (cases_Bool (id == TARGETS)) [ inl is ↦ rw is stands | inr is ↦ rw is stands ]
+  part-stands parent (master id at kids) stands = elim (cases_Bool (id == TARGETS)) [
+    | inl is ↦
+        let own : id ≡ TARGETS = eqb-true id TARGETS is in
+        let inner : Stand TARGETS (flat_map (written_target numbers) (list_of kids)) = targets-stand (list_of kids) (stand-list TARGETS kids (subst (λ (i : ℕ). AllStandIn i kids) own stands.1)) in
+        rw is (stands.0, subst (λ (i : ℕ). AllStandIn i (nodes_of (flat_map (written_target numbers) (list_of kids)))) (sym own) inner)
+    | inr is ↦ rw is stands
+  ]
 
   part-shallow : (n : Node) → depth (written_part numbers n) ≤ depth n
-  part-shallow (leaf id at body) = split (id == TARGETS)
-    where
-      split : (t : Bool) → depth (if t then leaf id at body else leaf id at body) ≤ 0
-      split true = omega arith
-      split false = omega arith
-  part-shallow (master id at kids) = split (id == TARGETS)
-    where
-      split : (t : Bool) → depth (if t then master id at (nodes_of (flat_map (written_target numbers) (list_of kids))) else master id at kids) ≤ depth_all kids + 1
-      split true =
-          let same : depth_all (nodes_of (list_of kids)) ≡ depth_all kids = ap depth_all (nodes-list kids) in
-          omega (arith, targets-shallow (list_of kids))
-      split false = omega arith
+  part-shallow (leaf id at body) = elim (cases_Bool (id == TARGETS)) [ inl is ↦ rw is (omega arith) | inr is ↦ rw is (omega arith) ]
+  part-shallow (master id at kids) =
+      let same : depth_all (nodes_of (list_of kids)) ≡ depth_all kids = ap depth_all (nodes-list kids) in
+      elim (cases_Bool (id == TARGETS)) [ inl is ↦ rw is (omega (arith, targets-shallow (list_of kids))) | inr is ↦ rw is (omega arith) ]
 
   parts-stand : (parent : ℕ) (ns : List Node) → Stand parent ns → Stand parent (map (written_part numbers) ns)
   parts-stand parent [] stand = tt
@@ -231,18 +205,12 @@ module _ (numbers : ℕ → ℕ → Option ℕ) (small : (id uid : ℕ) → IfSo
       omega (arith, parts-shallow (list_of kids))
 
   child-stands : (keep : TagKeep) (parent : ℕ) (n : Node) → StandsIn parent n → Stand parent (written_child keep numbers n)
-  child-stands keep parent n stands = split (id_of n == TAG && are_kept keep (aims_in numbers n))
-    where
-      split : (t : Bool) → Stand parent (if t then written_tag numbers n ∷ [] else [])
-      split true = (tag-stands parent n stands, tt)
-      split false = tt
+  child-stands keep parent n stands =
+      elim (cases_Bool (id_of n == TAG && are_kept keep (aims_in numbers n))) [ inl is ↦ rw is (tag-stands parent n stands, tt) | inr is ↦ rw is tt ]
 
   child-shallow : (keep : TagKeep) (n : Node) → depth_all (nodes_of (written_child keep numbers n)) ≤ depth n
-  child-shallow keep n = split (id_of n == TAG && are_kept keep (aims_in numbers n))
-    where
-      split : (t : Bool) → depth_all (nodes_of (if t then written_tag numbers n ∷ [] else [])) ≤ depth n
-      split true = omega (arith, tag-shallow n)
-      split false = omega arith
+  child-shallow keep n =
+      elim (cases_Bool (id_of n == TAG && are_kept keep (aims_in numbers n))) [ inl is ↦ rw is (omega (arith, tag-shallow n)) | inr is ↦ rw is (omega arith) ]
 
   children-stand : (keep : TagKeep) (parent : ℕ) (ns : List Node) → Stand parent ns → Stand parent (flat_map (written_child keep numbers) ns)
   children-stand keep parent [] stand = tt

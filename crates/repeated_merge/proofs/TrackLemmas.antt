@@ -1,6 +1,5 @@
 -- The tracks of a Tracks Element are read where it was written.
-use Rattle.std.proofs.Common.{◌≡◌, ◌≢◌, ◌<◌, ◌+◌, ℕ, false, List, [], ◌∷◌, length, map, All, IfSome, Option, None, Some, refl, sym, ap, ap₂, ◌∙◌, subst, arith}
-use Rattle.std.specs.Prelude.{unwrap_or}
+use Rattle.std.proofs.Common.{◌≡◌, ◌≢◌, ◌<◌, ◌+◌, ℕ, false, List, [], ◌∷◌, length, map, All, IfSome, Option, None, Some, refl, sym, ap, ap₂, ◌∙◌, subst, arith, unwrap_or}
 use Rattle.std.specs.List.{AllZip, AllPairs}
 use Rattle.std.specs.Option.{option_map, is_some}
 use Rattle.std.proofs.lemmas.List.Elements.{All-nil, All-cons, All-head, All-tail, length_all_zip}
@@ -73,24 +72,21 @@ track-placed n p is = record {
 
 tracks-same : (ns ms : List Node) → AllZip StandsAs ns ms → AllZip IsTrackOf ns (map track_of ms)
 tracks-same [] [] are = tt
-tracks-same [] (m ∷ ms) are = absurd are
-tracks-same (n ∷ ns) [] are = absurd are
 tracks-same (n ∷ ns) (m ∷ ms) are =
     (subst (λ (k : Node). IsTrackOf n (track_of k)) (sym are.0.1) (track-same n are.0.0), tracks-same ns ms are.1)
+tracks-same _ _ are = absurd are
 
 tracks-placed : (ns ms : List Node) → AllZip StandsAs ns ms → All IsTrack ns → All IsTrack ms
 tracks-placed [] [] are each = All-nil IsTrack
-tracks-placed [] (m ∷ ms) are each = absurd are
-tracks-placed (n ∷ ns) [] are each = absurd are
 tracks-placed (n ∷ ns) (m ∷ ms) are each =
     All-cons IsTrack m ms (subst IsTrack (sym are.0.1) (track-placed n are.0.0 (All-head IsTrack n ns each))) (tracks-placed ns ms are.1 (All-tail IsTrack n ns each))
+tracks-placed _ _ are _ = absurd are
 
 numbers-same : (ns ms : List Node) → AllZip StandsAs ns ms → map number_of ms ≡ map number_of ns
 numbers-same [] [] are = refl
-numbers-same [] (m ∷ ms) are = absurd are
-numbers-same (n ∷ ns) [] are = absurd are
 numbers-same (n ∷ ns) (m ∷ ms) are =
     ap₂ (λ (k : ℕ) ks. k ∷ ks) (ap number_of are.0.1 ∙ uint-same TRACK_NUMBER n are.0.0 refl) (numbers-same ns ms are.1)
+numbers-same _ _ are = absurd are
 
 -- the entries of a Tracks Element are read where they were written
 pub entries-placed : (tracks : Node) (place : ℕ) → AllZip StandsAs (entries_of tracks) (entries_of (placed place tracks))

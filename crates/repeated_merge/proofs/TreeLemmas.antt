@@ -1,7 +1,6 @@
 -- Trees that keep a reader's limits are read with them.
-use Rattle.std.proofs.Common.{◌≡◌, ℕ, ◌+◌, ◌≤◌, ◌<◌, Bool, true, false, if◌then◌else◌, List, [], ◌∷◌, map, length, length-append, All, Option, Some, None, Result, Ok, refl, sym, ap, ap₂, ◌∙◌, arith}
-use Rattle.std.specs.Prelude.{max}
-use Rattle.std.proofs.lemmas.Bool.{lt-leb}
+use Rattle.std.proofs.Common.{◌≡◌, ℕ, ◌+◌, ◌≤◌, ◌<◌, Bool, List, [], ◌∷◌, map, length, length-append, All, Option, Some, None, Result, Ok, refl, sym, ap, ap₂, ◌∙◌, arith, inl, inr}
+use Rattle.std.proofs.lemmas.Bool.{lt-leb, cases_Bool}
 use Rattle.std.proofs.lemmas.List.Elements.{All-nil, All-cons, All-head, All-tail, All-append}
 use Rattle.mkv_io.specs.declared.damage.Damage.{Damage}
 use Rattle.mkv_io.specs.declared.damage.Kind.TheVariants.{TooMany}
@@ -48,7 +47,7 @@ mutual
 
 -- ---- none of it is refused
 
-none-both : (a b : Option Damage) → first_refusal a b ≡ None → (a ≡ None) × (b ≡ None)
+pub none-both : (a b : Option Damage) → first_refusal a b ≡ None → (a ≡ None) × (b ≡ None)
 none-both None b is = (refl, is)
 none-both (Some d) b is = absurd (cc)
 
@@ -56,7 +55,7 @@ first-refusal : (o : Option Damage) (os : List (Option Damage)) → first_damage
 first-refusal None os = refl
 first-refusal (Some d) os = refl
 
-three-none : (a b c : Option Damage) → a ≡ None → b ≡ None → c ≡ None → first_damage (a ∷ b ∷ c ∷ []) ≡ None
+pub three-none : (a b c : Option Damage) → a ≡ None → b ≡ None → c ≡ None → first_damage (a ∷ b ∷ c ∷ []) ≡ None
 three-none a b c x y z = rw (x, y, z) refl
 
 none-refused : (nodes before : ℕ) (spots : List Spot) → All IsHigh spots → first_damage (map no_value spots) ≡ None → before + length spots ≤ nodes → first_refused nodes before spots ≡ None
@@ -93,12 +92,10 @@ mutual
 
   count-placed_all : (p : ℕ) (ns : Nodes) → count_all (placed_all p ns) ≡ kept_all ns
   count-placed_all p none = refl
-  count-placed_all p (node n ns) = split (is_filler (id_of n)) (count-placed p n) (λ q. count-placed_all q ns)
-    where
-      split : (f : Bool) → count (placed p n) ≡ kept n → ((q : ℕ) → count_all (placed_all q ns) ≡ kept_all ns)
-          → count_all (if f then placed_all p ns else node (placed p n) (placed_all (p + length (octets n)) ns)) ≡ (if f then kept_all ns else kept n + kept_all ns)
-      split true one rest = rest p
-      split false one rest = ap₂ (λ (a b : ℕ). a + b) one (rest (p + length (octets n)))
+  count-placed_all p (node n ns) = elim (cases_Bool (is_filler (id_of n))) [
+    | inl filler ↦ rw filler (count-placed_all p ns)
+    | inr other ↦ rw other (ap₂ (λ (a b : ℕ). a + b) (count-placed p n) (count-placed_all (p + length (octets n)) ns))
+  ]
 
 -- so it is at any two places
 count-placed_in : (offset base : ℕ) (n : Node) → count (placed_in offset base n) ≡ kept n
@@ -112,12 +109,10 @@ mutual
 
   depth-placed_all : (p : ℕ) (ns : Nodes) → depth_all (placed_all p ns) ≤ depth_all ns
   depth-placed_all p none = omega arith
-  depth-placed_all p (node n ns) = split (is_filler (id_of n)) (depth-placed p n) (λ q. depth-placed_all q ns)
-    where
-      split : (f : Bool) → depth (placed p n) ≤ depth n → ((q : ℕ) → depth_all (placed_all q ns) ≤ depth_all ns)
-          → depth_all (if f then placed_all p ns else node (placed p n) (placed_all (p + length (octets n)) ns)) ≤ max (depth n) (depth_all ns)
-      split true one rest = let behind = rest p in omega arith
-      split false one rest = let behind = rest (p + length (octets n)) in omega arith
+  depth-placed_all p (node n ns) = elim (cases_Bool (is_filler (id_of n))) [
+    | inl filler ↦ rw filler (let behind = depth-placed_all p ns in omega arith)
+    | inr other ↦ rw other (let one = depth-placed p n in let behind = depth-placed_all (p + length (octets n)) ns in omega arith)
+  ]
 
 -- ---- records that are written alike
 
