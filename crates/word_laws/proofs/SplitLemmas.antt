@@ -1,5 +1,5 @@
 -- Where an output is split, and identifiers of outputs, are read back.
-use Rattle.std.proofs.Common.{◌∙◌, sym, ap, zero, suc, Bool, nat_lt, [], ◌∷◌, ◌++◌, ◌-◌, ◌*◌, ◌/◌, ◌%◌, min, ◌||◌, if◌then◌else◌, ◌≡◌, ◌≤◌, ◌<◌, ◌^◌, ℕ, true, false, nat_le, List, length, map, codes, Some, refl, ap, arith, All, slice_index, ◌==◌}
+use Rattle.std.proofs.Common.{◌∙◌, sym, ap, zero, suc, Bool, nat_lt, [], ◌∷◌, ◌++◌, ◌-◌, ◌*◌, ◌/◌, ◌%◌, min, ◌||◌, if◌then◌else◌, ◌≡◌, ◌≤◌, ◌<◌, ◌^◌, ℕ, true, false, nat_le, List, length, map, codes, Some, refl, ap, arith, All, slice_index, ◌==◌, le-leb}
 use Rattle.std.proofs.lemmas.List.Elements.{All-weaker}
 use Rattle.std.proofs.lemmas.Bool.{and_parts, and_right}
 use Rattle.std.proofs.lemmas.Bool.Decides.{nat_tests}
@@ -63,9 +63,7 @@ amount_read : (n : ℕ) → 1 ≤ n → n < 10 ^ 12 → amount (decimal n) ≡ S
 unfolding amount
 amount_read n some small =
     let fits : n < 2 ^ 64 = omega arith in
-    let short : nat_le (length (decimal n)) 12 ≡ true = (let h = length-decimal-le 12 n (omega arith) small fits in grind (arith, nat_tests)) in
-    let low : nat_le 1 n ≡ true = grind (arith, nat_tests) in
-    rw short (rw (whole_read n fits) (rw low refl))
+    rw (le-leb (length (decimal n)) 12 (length-decimal-le 12 n (omega arith) small fits), whole_read n fits, le-leb 1 n some) refl
 
 ends_other : (w : List ℕ) (o p : ℕ) → (o == p) ≡ false → ends (w ++ o ∷ []) p ≡ false
 ends_other w o p other = rw (last_is w o) (and_right (nat_lt 0 (length (w ++ o ∷ []))) _ other)

@@ -1,5 +1,5 @@
 -- Times, stretches of time and identifiers are read back.
-use Rattle.std.proofs.Common.{◌≡◌, ◌<◌, ◌^◌, ℕ, zero, suc, ◌+◌, ◌-◌, ◌*◌, ◌/◌, ◌%◌, Bool, true, false, nat_lt, List, [], ◌∷◌, ◌++◌, length, codes, Option, Some, None, IfSome, refl, ap, ◌∙◌, arith, length-append, ◌==◌, ne_eqb}
+use Rattle.std.proofs.Common.{◌≡◌, ◌<◌, ◌^◌, ℕ, zero, suc, ◌+◌, ◌-◌, ◌*◌, ◌/◌, ◌%◌, Bool, true, false, nat_lt, List, [], ◌∷◌, ◌++◌, length, codes, Option, Some, None, IfSome, refl, ap, ◌∙◌, arith, length-append, ◌==◌, ne_eqb, lt-ltb}
 use Rattle.std.proofs.Math.Nat.{div-div-eq-div-mul}
 use Rattle.std.proofs.lemmas.List.Folds.{list_all-append}
 use Rattle.std.proofs.lemmas.Bool.Decides.{nat_tests}
@@ -69,15 +69,11 @@ hex_value (suc k) n small =
 
 last_whole : (k n : ℕ) → 0 < k → n < 10 ^ k → whole (last_digits 10 k n) ≡ Some n
 unfolding whole
-last_whole k n some small =
-    let filled : nat_lt 0 k ≡ true = grind (arith, nat_tests) in
-    rw (last_length 10 k n) (rw filled (rw (last_all k n) (rw (last_value k n small) refl)))
+last_whole k n some small = rw (last_length 10 k n, lt-ltb 0 k some, last_all k n, last_value k n small) refl
 
 sixtieth_read : (n : ℕ) → n < 60 → sixtieth (last_digits 10 2 n) ≡ Some n
 unfolding sixtieth
-sixtieth_read n small =
-    let under : nat_lt n 60 ≡ true = grind (arith, nat_tests) in
-    rw (last_length 10 2 n) (rw (last_whole 2 n (omega arith) (omega arith)) (rw under refl))
+sixtieth_read n small = rw (last_length 10 2 n, last_whole 2 n (omega arith) (omega arith), lt-ltb n 60 small) refl
 
 fraction_read : (n : ℕ) → n < 1000000000 → fraction (last_digits 10 9 n) ≡ Some n
 unfolding fraction
@@ -143,9 +139,7 @@ time_ends t =
 
 pub time_read : (t : ℕ) → t < 2 ^ 63 → time (time_word t) ≡ Some t
 unfolding time
-time_read t small =
-    let under : nat_lt t (2 ^ 63) ≡ true = grind (arith, nat_tests) in
-    rw (time_ends t) (rw (clock_read t small) (rw under refl))
+time_read t small = rw (time_ends t, clock_read t small, lt-ltb t (2 ^ 63) small) refl
 
 pub time_lacks : (o t : ℕ) → t < 2 ^ 63 → is_ascii_digit o ≡ false → (46 == o) ≡ false → (58 == o) ≡ false → lacks o (time_word t) ≡ true
 time_lacks o t small other point colon =

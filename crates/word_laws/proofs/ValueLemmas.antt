@@ -1,5 +1,5 @@
 -- Values of options are read back.
-use Rattle.std.proofs.Common.{◌≡◌, ◌≤◌, ◌<◌, ◌^◌, ℕ, zero, suc, ◌-◌, ◌*◌, ◌/◌, ◌%◌, ℤ, pos, negsuc, Bool, true, false, nat_lt, nat_le, List, [], ◌∷◌, ◌++◌, length, map, codes, Option, Some, refl, sym, ap, ◌∙◌, arith, append_assoc, All, slice_index, ◌==◌, nat_abs}
+use Rattle.std.proofs.Common.{◌≡◌, ◌<◌, ◌^◌, ℕ, zero, suc, ◌-◌, ◌*◌, ◌/◌, ◌%◌, ℤ, pos, negsuc, Bool, true, false, nat_lt, List, [], ◌∷◌, ◌++◌, length, map, codes, Option, Some, refl, sym, ap, ◌∙◌, arith, append_assoc, All, slice_index, ◌==◌, nat_abs, le-leb, lt-ltb}
 use Rattle.std.proofs.lemmas.Bool.{and_parts, and_right}
 use Rattle.std.proofs.lemmas.Bool.Decides.{nat_tests}
 use Rattle.std.proofs.lemmas.Grind.{common_steps}
@@ -62,34 +62,22 @@ front_is w o = grind (arith, common_steps)
 -- ---- ticks, blocks and milliseconds
 pub scale_read : (n : ℕ) → IsWithin 1000 10000000 n → value_of form.Scale (decimal n) ≡ Some (Scale n)
 unfolding value_of scale
-scale_read n within =
-    let least = within.least in
-    let most = within.most in
-    let low : nat_le 1000 n ≡ true = grind (arith, nat_tests) in
-    let high : nat_lt n 10000001 ≡ true = grind (arith, nat_tests) in
-    rw (number_read n (omega arith)) (rw low (rw high refl))
+scale_read n within = rw (number_read n (omega arith), le-leb 1000 n within.least, lt-ltb n 10000001 (omega arith)) refl
 
 pub blocks_read : (n : ℕ) → IsWithin 1 65535 n → value_of form.Length (decimal n) ≡ Some (Blocks n)
 unfolding value_of cluster_length
 blocks_read n within =
-    let least = within.least in
-    let most = within.most in
-    let low : nat_le 1 n ≡ true = grind (arith, nat_tests) in
-    let high : nat_lt n 65536 ≡ true = grind (arith, nat_tests) in
     let fits : n < 2 ^ 64 = omega arith in
-    rw (digits_end 115 (decimal n) refl (decimal_nonempty n fits) (decimal_all n fits)) (rw (number_read n (omega arith)) (rw low (rw high refl)))
+    rw (digits_end 115 (decimal n) refl (decimal_nonempty n fits) (decimal_all n fits), number_read n (omega arith), le-leb 1 n within.least, lt-ltb n 65536 (omega arith)) refl
 
 pub span_read : (span : ℕ) → IsWithin 100000000 32000000000 span → span % 1000000 ≡ 0 → value_of form.Length (decimal (span / 1000000) ++ codes "ms") ≡ Some (Span span)
 unfolding value_of cluster_length
 span_read span within whole =
-    let least = within.least in
-    let most = within.most in
     let n = span / 1000000 in
     let same : n * 1000000 ≡ span = omega arith in
-    let low : nat_le 100 n ≡ true = (let h : 100 ≤ n = omega arith in grind (arith, nat_tests)) in
-    let high : nat_lt n 32001 ≡ true = (let h : n < 32001 = omega arith in grind (arith, nat_tests)) in
     let apart : decimal n ++ codes "ms" ≡ (decimal n ++ 109 ∷ []) ++ 115 ∷ [] = sym (append_assoc (decimal n) (109 ∷ []) (115 ∷ [])) in
-    rw apart (rw (ends_is (decimal n ++ 109 ∷ []) 115, front_is (decimal n ++ 109 ∷ []) 115) (rw (ends_is (decimal n) 109, front_is (decimal n) 109) (rw (number_read n (omega arith)) (rw low (rw high (rw same refl))))))
+    rw apart (rw (ends_is (decimal n ++ 109 ∷ []) 115, front_is (decimal n ++ 109 ∷ []) 115, ends_is (decimal n) 109, front_is (decimal n) 109)
+    (rw (number_read n (omega arith), le-leb 100 n (omega arith), lt-ltb n 32001 (omega arith), same) refl))
 
 -- ---- values of tracks
 pub delay_read : (d : ℤ) → nat_abs d < 2 ^ 55 → nat_abs d % 1000000 ≡ 0 → delay (delay_word d) ≡ Some d
