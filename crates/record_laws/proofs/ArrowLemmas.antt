@@ -1,7 +1,6 @@
 -- Lines without an arrow are no lines of times; and lines of times that are written are read back.
-use Rattle.std.proofs.Common.{◌≡◌, ℕ, zero, suc, ◌+◌, ◌*◌, ◌/◌, ◌%◌, ◌<◌, ◌≤◌, true, false, nat_le, List, [], ◌∷◌, ◌++◌, length, take, drop, Option, Some, None, refl, ap, arith, append_assoc, append-nil, inl, inr, codes, option_and_then, option_map, ◌==◌}
+use Rattle.std.proofs.Common.{◌≡◌, ℕ, zero, suc, ◌+◌, ◌*◌, ◌/◌, ◌%◌, ◌<◌, ◌≤◌, true, false, List, [], ◌∷◌, ◌++◌, length, take, drop, Option, Some, None, refl, ap, arith, append_assoc, append-nil, inl, inr, codes, option_and_then, option_map, ◌==◌, le-leb}
 use Rattle.std.proofs.lemmas.Grind.{common_steps}
-use Rattle.std.proofs.lemmas.Bool.Decides.{nat_tests}
 use Rattle.std.specs.List.{list_all, position, prefix_len}
 use Rattle.std.specs.Char.{is_ascii_digit}
 use Rattle.std.specs.Str.{bytes_eq}
@@ -143,7 +142,5 @@ pub number_line : (ds : List ℕ) → list_all is_ascii_digit ds ≡ true → 0 
 unfolding is_number
 number_line ds all some short =
     let e = all_prefix ds all in
-    let low : nat_le 1 (length ds) ≡ true = grind (arith, nat_tests) in
-    let high : nat_le (length ds) 9 ≡ true = grind (arith, nat_tests) in
     let none : drop (length ds) ds ≡ [] = grind (arith, common_steps) in
-    rw (e, low, high, none) refl
+    rw (e, le-leb 1 (length ds) some, le-leb (length ds) 9 short, none) refl

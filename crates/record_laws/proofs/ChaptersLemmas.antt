@@ -1,6 +1,5 @@
 -- Chapters that are written are read back.
-use Rattle.std.proofs.Common.{◌≡◌, ℕ, ◌+◌, ◌*◌, ◌/◌, ◌%◌, ◌<◌, ◌≤◌, true, false, nat_lt, List, [], ◌∷◌, ◌++◌, length, Some, None, Ok, refl, sym, ◌∙◌, ap, arith, append_assoc, codes}
-use Rattle.std.proofs.lemmas.Bool.Decides.{nat_tests}
+use Rattle.std.proofs.Common.{◌≡◌, ℕ, ◌+◌, ◌*◌, ◌/◌, ◌%◌, ◌<◌, ◌≤◌, true, false, List, [], ◌∷◌, ◌++◌, length, Some, None, Ok, refl, sym, ◌∙◌, ap, arith, append_assoc, codes, lt-ltb}
 use Rattle.std.specs.Str.{is_utf8}
 use Rattle.std.specs.Str.Lines.{lines}
 use Rattle.std.proofs.lemmas.List.Elements.{recursion_from_All}
@@ -26,7 +25,6 @@ time_written ms early =
     let h = ms / 3600000 in let m = ms / 60000 % 60 in let s = ms / 1000 % 60 in let t = ms % 1000 in
     let parts = parts_of ms in
     let few : h < 100 = omega arith in
-    let short : nat_lt h 100 ≡ true = grind (arith, nat_tests) in
     let last : List ℕ = two_digits s ++ (46 ∷ three_digits t) in
     let middle : List ℕ = two_digits m ++ (58 ∷ last) in
     let a = cut_behind 58 (two_digits h) middle (digits_lack 58 (two_digits h) refl (two_all h)) in
@@ -36,7 +34,7 @@ time_written ms early =
     let e = sixtieth_two m parts.minutes in
     let f = sixtieth_two s parts.seconds in
     let g = digits_three t parts.thousandths in
-    rw short (rw a (rw b (rw c (rw d (rw e (rw f (rw g (ap (λ n. Some (n * 1000000)) parts.whole))))))))
+    rw (lt-ltb h 100 few) (rw a (rw b (rw c (rw d (rw e (rw f (rw g (ap (λ n. Some (n * 1000000)) parts.whole))))))))
 
 -- ---- the two lines of a chapter
 abbrev time_line : ℕ → ℕ → List ℕ

@@ -1,5 +1,5 @@
 -- Numbers that are written are read back.
-use Rattle.std.proofs.Common.{◌≡◌, ℕ, ◌/◌, ◌%◌, ◌^◌, ◌<◌, ◌≤◌, true, nat_lt, nat_le, length, Some, refl, arith, inl, inr, ltb-true, ltb-false}
+use Rattle.std.proofs.Common.{◌≡◌, ℕ, ◌/◌, ◌%◌, ◌^◌, ◌<◌, ◌≤◌, true, nat_lt, length, Some, refl, arith, inl, inr, ltb-true, ltb-false, le-leb, lt-ltb}
 use Rattle.std.proofs.lemmas.Grind.{common_steps}
 use Rattle.std.proofs.lemmas.Bool.Decides.{nat_tests}
 use Rattle.std.proofs.lemmas.Fmt.{decimal_is_IsNumeral, decimal_step, length-decimal-le}
@@ -28,10 +28,8 @@ three_all n = rw (digit_is (n / 100), digit_is (n / 10), digit_is n) refl
 pub digits_two : (least most n : ℕ) → least ≤ 2 → 2 ≤ most → n < 100 → digits least most (two_digits n) ≡ Some n
 unfolding digits
 digits_two least most n low high small =
-    let a : nat_le least 2 ≡ true = grind (arith, nat_tests) in
-    let b : nat_le 2 most ≡ true = grind (arith, nat_tests) in
     let same : digits_value 10 (two_digits n) ≡ n = (let p = digit_says (n / 10) in let q = digit_says n in rw (p, q) (omega arith)) in
-    rw (a, b, digit_is (n / 10), digit_is n, same) refl
+    rw (le-leb least 2 low, le-leb 2 most high, digit_is (n / 10), digit_is n, same) refl
 
 pub digits_three : (n : ℕ) → n < 1000 → digits 3 3 (three_digits n) ≡ Some n
 unfolding digits
@@ -41,11 +39,7 @@ digits_three n small =
 
 pub sixtieth_two : (n : ℕ) → n < 60 → sixtieth (two_digits n) ≡ Some n
 unfolding sixtieth
-sixtieth_two n small =
-    let lt : n < 100 = omega arith in
-    let e : digits 2 2 (two_digits n) ≡ Some n = digits_two 2 2 n (omega arith) (omega arith) lt in
-    let b : nat_lt n 60 ≡ true = grind (arith, nat_tests) in
-    rw e (rw b refl)
+sixtieth_two n small = rw (digits_two 2 2 n (omega arith) (omega arith) (omega arith), lt-ltb n 60 small) refl
 
 -- ---- numbers of any width
 decimal_long : (n : ℕ) → 10 ≤ n → n < 2 ^ 64 → 2 ≤ length (decimal n)
@@ -58,9 +52,8 @@ digits_decimal : (n : ℕ) → 10 ≤ n → n < 10000 → digits 2 4 (decimal n)
 unfolding digits
 digits_decimal n large small =
     let fits : n < 2 ^ 64 = omega arith in
-    let low : nat_le 2 (length (decimal n)) ≡ true = (let h = decimal_long n large fits in grind (arith, nat_tests)) in
-    let high : nat_le (length (decimal n)) 4 ≡ true = (let h = length-decimal-le 4 n (omega arith) (omega arith) fits in grind (arith, nat_tests)) in
-    rw (low, high, decimal_all n fits, (decimal_is_IsNumeral n fits).1) refl
+    let short = length-decimal-le 4 n (omega arith) (omega arith) fits in
+    rw (le-leb 2 (length (decimal n)) (decimal_long n large fits), le-leb (length (decimal n)) 4 short, decimal_all n fits, (decimal_is_IsNumeral n fits).1) refl
 
 -- a number of at least two digits
 pub digits_padded : (n : ℕ) → n < 10000 → digits 2 4 (two_or_more n) ≡ Some n

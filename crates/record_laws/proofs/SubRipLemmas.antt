@@ -1,5 +1,5 @@
 -- Entries of SubRip that are written are read back.
-use Rattle.std.proofs.Common.{◌≡◌, ℕ, zero, suc, ◌+◌, ◌-◌, ◌*◌, ◌/◌, ◌%◌, ◌^◌, ◌<◌, ◌≤◌, pos, true, false, nat_lt, List, [], ◌∷◌, ◌++◌, length, Some, None, Ok, refl, sym, ◌∙◌, ap, arith, lit<, append_assoc, inl, inr, codes}
+use Rattle.std.proofs.Common.{◌≡◌, ℕ, zero, suc, ◌+◌, ◌-◌, ◌*◌, ◌/◌, ◌%◌, ◌^◌, ◌<◌, ◌≤◌, pos, true, false, List, [], ◌∷◌, ◌++◌, length, Some, None, Ok, refl, sym, ◌∙◌, ap, arith, lit<, append_assoc, inl, inr, codes, le-ltb}
 use Rattle.std.proofs.lemmas.Grind.{common_steps}
 use Rattle.std.proofs.lemmas.Bool.Decides.{nat_tests}
 use Rattle.std.proofs.lemmas.Fmt.{decimal_is_IsNumeral, decimal_digit, length-decimal-le}
@@ -236,11 +236,7 @@ front_good (e ∷ es) k plain few =
 sorted_back : (es : List Entry) → Ascend es → by_start es ≡ es
 sorted_back [] asc = refl
 sorted_back (e ∷ []) asc = refl
-sorted_back (e ∷ f ∷ es) asc =
-    let rest = sorted_back (f ∷ es) asc.1 in
-    let le = asc.0 in
-    let other : nat_lt f.start e.start ≡ false = grind (arith, nat_tests) in
-    ap (insert_by (λ (g : Entry). g.start) e) rest ∙ rw other refl
+sorted_back (e ∷ f ∷ es) asc = ap (insert_by (λ (g : Entry). g.start) e) (sorted_back (f ∷ es) asc.1) ∙ rw (le-ltb f.start e.start asc.0) refl
 
 marked : (es : List Entry) → lines_of (put_entries 1 es) ≡ lines (put_entries 1 es)
 unfolding put_srt

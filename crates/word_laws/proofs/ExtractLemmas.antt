@@ -1,7 +1,6 @@
 -- The words of `extract` are read back.
-use Rattle.std.proofs.Common.{◌≡◌, ◌≢◌, ◌≤◌, ℕ, ◌+◌, false, nat_lt, nat_le, List, [], ◌∷◌, ◌++◌, length, map, codes, Ok, refl, sym, ◌∙◌, arith, append_assoc, All}
+use Rattle.std.proofs.Common.{◌≡◌, ◌≢◌, ◌≤◌, ℕ, ◌+◌, false, nat_le, List, [], ◌∷◌, ◌++◌, length, map, codes, Ok, refl, sym, ◌∙◌, arith, append_assoc, All, le-ltb}
 use Rattle.std.proofs.lemmas.Bool.{and_right}
-use Rattle.std.proofs.lemmas.Bool.Decides.{nat_tests}
 use Rattle.std.proofs.lemmas.Fmt.{decimal_nonempty}
 use Rattle.std.proofs.lemmas.List.{append-nil}
 use Rattle.std.proofs.lemmas.List.Elements.{All-head, All-tail}
@@ -40,9 +39,7 @@ free_at (b ∷ bs) t ts apart =
 
 target_read : (least : ℕ) (before : List Target) (at : ℕ) (t : Target) → least ≤ t.id → HasFewDigits t.id → is_taken t.name before ≡ false → target least before at (target_word t) ≡ Ok t
 unfolding target
-target_read least before at t from short free =
-    let low : nat_lt t.id least ≡ false = grind (arith, nat_tests) in
-    rw (numbered_read t.id t.name short) (rw low (rw free refl))
+target_read least before at t from short free = rw (numbered_read t.id t.name short) (rw (le-ltb t.id least from) (rw free refl))
 
 targets_from_read : (least : ℕ) (before : List Target) (at : ℕ) (list : List Target) → AreApart (names_of (before ++ list)) → All (λ (t : Target). least ≤ t.id) list → HaveFewDigits list
     → targets_from least before at (map target_word list) ≡ Ok (before ++ list)

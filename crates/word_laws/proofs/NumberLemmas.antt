@@ -1,6 +1,5 @@
 -- Numbers in decimal digits are read back.
-use Rattle.std.proofs.Common.{◌≡◌, ℕ, ◌^◌, ◌<◌, ◌≤◌, true, nat_lt, nat_le, List, length, Some, refl, arith}
-use Rattle.std.proofs.lemmas.Bool.Decides.{nat_tests}
+use Rattle.std.proofs.Common.{◌≡◌, ℕ, ◌^◌, ◌<◌, ◌≤◌, List, length, Some, refl, arith, le-leb, lt-ltb}
 use Rattle.std.proofs.lemmas.Fmt.{decimal_is_IsNumeral, decimal_nonempty, length-decimal-le}
 use Rattle.std.specs.Fmt.{decimal}
 use Rattle.mkv_io.proofs.OctetsLemmas.{decimal_all, decimal_lacks, cut_behind}
@@ -11,9 +10,7 @@ use Rattle.word_laws.specs.Values.{HasFewDigits, with_number}
 -- ---- numbers alone
 pub whole_read : (n : ℕ) → n < 2 ^ 64 → whole (decimal n) ≡ Some n
 unfolding whole
-whole_read n small =
-    let some : nat_lt 0 (length (decimal n)) ≡ true = (let h = decimal_nonempty n small in grind (arith, nat_tests)) in
-    rw (some, decimal_all n small, (decimal_is_IsNumeral n small).1) refl
+whole_read n small = rw (lt-ltb 0 (length (decimal n)) (decimal_nonempty n small), decimal_all n small, (decimal_is_IsNumeral n small).1) refl
 
 pub short_fits : (n : ℕ) → HasFewDigits n → n < 2 ^ 64
 short_fits n short = omega arith
@@ -23,9 +20,7 @@ short_length n short = length-decimal-le 18 n (omega arith) short (short_fits n 
 
 pub number_read : (n : ℕ) → HasFewDigits n → number (decimal n) ≡ Some n
 unfolding number
-number_read n short =
-    let few : nat_le (length (decimal n)) 18 ≡ true = (let h = short_length n short in grind (arith, nat_tests)) in
-    rw few (whole_read n (short_fits n short))
+number_read n short = rw (le-leb (length (decimal n)) 18 (short_length n short)) (whole_read n (short_fits n short))
 
 -- ---- a number, and what is said of it
 pub numbered_read : (n : ℕ) (rest : List ℕ) → HasFewDigits n → track_and_rest (with_number n rest) ≡ Some (n, rest)

@@ -1,5 +1,5 @@
 -- The words of `propedit` are read back.
-use Rattle.std.proofs.Common.{◌≡◌, ◌≤◌, inl, inr, ℕ, ◌+◌, Bool, true, false, nat_le, List, [], ◌∷◌, length, codes, Some, Ok, refl, sym, ap, ◌∙◌, subst, arith, All, slice_index, ◌==◌}
+use Rattle.std.proofs.Common.{◌≡◌, ◌≤◌, inl, inr, ℕ, ◌+◌, Bool, true, false, List, [], ◌∷◌, length, codes, Some, Ok, refl, sym, ap, ◌∙◌, subst, arith, All, slice_index, ◌==◌, le-leb}
 use Rattle.std.proofs.lemmas.Bool.Decides.{nat_tests}
 use Rattle.std.proofs.lemmas.Fmt.{decimal_nonempty}
 use Rattle.std.proofs.lemmas.List.{append-nil}
@@ -31,7 +31,7 @@ use Rattle.word_laws.proofs.SimpleLemmas.{by_verb, more_help_none}
 -- ---- sections
 place_read : (n : ℕ) → 1 ≤ n → HasFewDigits n → place (decimal n) ≡ Some n
 unfolding place
-place_read n some short = let low : nat_le 1 n ≡ true = grind (arith, nat_tests) in rw (number_read n short) (rw low refl)
+place_read n some short = rw (number_read n short) (rw (le-leb 1 n some) refl)
 
 not_begun : (o : ℕ) (word : List ℕ) → (slice_index word 0 == o) ≡ false → begins (o ∷ []) word ≡ false
 not_begun o [] other = refl

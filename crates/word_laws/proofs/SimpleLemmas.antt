@@ -1,7 +1,6 @@
 -- Commands of one to three words are read back.
-use Rattle.std.proofs.Common.{◌≡◌, ◌≢◌, ℕ, true, false, nat_lt, nat_le, List, [], ◌∷◌, codes, Some, None, Ok, refl, ap, ◌∙◌, arith}
+use Rattle.std.proofs.Common.{◌≡◌, ◌≢◌, ℕ, true, false, List, [], ◌∷◌, codes, Some, None, Ok, refl, ap, ◌∙◌, arith, le-leb, lt-ltb}
 use Rattle.std.proofs.lemmas.Bool.{and_right, false_from_ne_true}
-use Rattle.std.proofs.lemmas.Bool.Decides.{nat_tests}
 use Rattle.std.proofs.lemmas.Slice.Eq.{bytes_eq-Decides}
 use Rattle.std.specs.Str.{bytes_eq}
 use Rattle.std.specs.Fmt.{decimal}
@@ -76,11 +75,8 @@ identify_read file input = by_verb verb.Merge (codes "-J" ∷ file ∷ []) (more
 pub generate_read : (n : ℕ) (prefix : List ℕ) → IsWithin 1 100000 n → command (codes "generate" ∷ decimal n ∷ prefix ∷ []) ≡ Ok (commands.Generate n prefix)
 unfolding command_named generate blocks_at
 generate_read n prefix within =
-    let least = within.least in
-    let most = within.most in
-    let low : nat_le 1 n ≡ true = grind (arith, nat_tests) in
-    let high : nat_lt n 100001 ≡ true = grind (arith, nat_tests) in
-    by_verb verb.Generate (decimal n ∷ prefix ∷ []) (more_help_none (codes "generate") (decimal n) prefix []) ∙ rw (number_read n (omega arith)) (rw low (rw high refl))
+    by_verb verb.Generate (decimal n ∷ prefix ∷ []) (more_help_none (codes "generate") (decimal n) prefix [])
+    ∙ rw (number_read n (omega arith)) (rw (le-leb 1 n within.least) (rw (lt-ltb n 100001 (omega arith)) refl))
 
 pub help_read : (v : Verb) → HasHelp v → command (verb_word v ∷ codes "--help" ∷ []) ≡ Ok (commands.Help (Some v))
 unfolding command verbs

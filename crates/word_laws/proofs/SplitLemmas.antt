@@ -1,5 +1,5 @@
 -- Where an output is split, and identifiers of outputs, are read back.
-use Rattle.std.proofs.Common.{◌∙◌, sym, ap, zero, suc, Bool, nat_lt, [], ◌∷◌, ◌++◌, ◌-◌, ◌*◌, ◌/◌, ◌%◌, min, ◌||◌, if◌then◌else◌, ◌≡◌, ◌≤◌, ◌<◌, ◌^◌, ℕ, true, false, nat_le, List, length, map, codes, Some, refl, ap, arith, All, slice_index, ◌==◌, le-leb}
+use Rattle.std.proofs.Common.{◌∙◌, sym, ap, zero, suc, Bool, nat_lt, [], ◌∷◌, ◌++◌, ◌-◌, ◌*◌, ◌/◌, ◌%◌, min, ◌||◌, if◌then◌else◌, ◌≡◌, ◌≤◌, ◌<◌, ◌^◌, ℕ, true, false, List, length, map, codes, Some, refl, ap, arith, All, slice_index, ◌==◌, le-leb}
 use Rattle.std.proofs.lemmas.List.Elements.{All-weaker}
 use Rattle.std.proofs.lemmas.Bool.{and_parts, and_right}
 use Rattle.std.proofs.lemmas.Bool.Decides.{nat_tests}
@@ -26,9 +26,7 @@ use Rattle.word_laws.proofs.TimeLemmas.{time_read, time_lacks, span_is_read, spa
 
 duration_read : (by : ℕ) → 1 ≤ by → by < 2 ^ 63 → split (split_word (split_by.Duration by)) ≡ Some (split_by.Duration by)
 unfolding split split_of duration
-duration_read by some small =
-    let low : nat_le 1 by ≡ true = grind (arith, nat_tests) in
-    rw (cut_behind 58 (codes "duration") (time_word by) refl) (rw (time_read by small) (rw low refl))
+duration_read by some small = rw (cut_behind 58 (codes "duration") (time_word by) refl) (rw (time_read by small) (rw (le-leb 1 by some) refl))
 
 times_read : (at : List ℕ) → IsSoundSplit (split_by.Times at) → 0 < length at → split (split_word (split_by.Times at)) ≡ Some (split_by.Times at)
 unfolding split split_of times
@@ -146,5 +144,4 @@ unfolding value_of uuids
 uuids_read us some sound small =
     let each = list_read uuid (last_digits 16 32) us some (All-weaker (λ u. u < 2 ^ 128) (λ u. lacks 44 (last_digits 16 32 u) ≡ true) (λ u h. uuid_lacks u) us small)
     (All-weaker (λ u. u < 2 ^ 128) (λ u. uuid (last_digits 16 32 u) ≡ Some u) (λ u h. uuid_read u h) us small) in
-    let few : nat_le (length us) 1024 ≡ true = (let h = sound.few in grind (arith, nat_tests)) in
-    rw each (rw few (rw sound.differ refl))
+    rw each (rw (le-leb (length us) 1024 sound.few) (rw sound.differ refl))

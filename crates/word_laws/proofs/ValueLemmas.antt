@@ -87,13 +87,11 @@ delay_read (pos n) small whole =
     let same : ms * 1000000 ≡ n = omega arith in
     let fits : ms < 2 ^ 64 = omega arith in
     let first : (slice_index (decimal ms) 0 == 45) ≡ false = rw append-nil at (first_other 45 (decimal ms) [] refl (decimal_nonempty ms fits) (decimal_all ms fits)) in
-    let high : nat_lt n (2 ^ 55) ≡ true = grind (arith, nat_tests) in
-    rw first (rw (number_read ms (omega arith)) (rw same (rw high refl)))
+    rw first (rw (number_read ms (omega arith)) (rw same (rw (lt-ltb n (2 ^ 55) small) refl)))
 delay_read (negsuc n) small whole =
     let ms = suc n / 1000000 in
     let same : ms * 1000000 ≡ suc n = omega arith in
-    let high : nat_lt (suc n) (2 ^ 55) ≡ true = grind (arith, nat_tests) in
-    rw (number_read ms (omega arith)) (rw same (rw high refl))
+    rw (number_read ms (omega arith)) (rw same (rw (lt-ltb (suc n) (2 ^ 55) small) refl))
 
 pub track_delay_read : (id : ℕ) (d : ℤ) → HasFewDigits id → nat_abs d < 2 ^ 55 → nat_abs d % 1000000 ≡ 0 → value_of form.TrackDelay (with_number id (delay_word d)) ≡ Some (TrackDelay id d)
 unfolding value_of track_value
