@@ -1,6 +1,6 @@
 -- An outline that keeps a reader's limits is read with them.
-use Rattle.std.proofs.Common.{◌≡◌, ℕ, ◌+◌, ◌≤◌, ◌==◌, nat_lt, not, Bool, true, false, ◌&&◌, if◌then◌else◌, List, [], ◌∷◌, ◌++◌, append_assoc, filter, All, None, Ok, refl, sym, ap, ap₂, ◌∙◌, subst, arith, sum_by}
-use Rattle.std.proofs.lemmas.Bool.{le-ltb}
+use Rattle.std.proofs.Common.{◌≡◌, ℕ, ◌+◌, ◌≤◌, ◌==◌, nat_lt, not, Bool, true, false, if◌then◌else◌, List, [], ◌∷◌, ◌++◌, append_assoc, filter, All, None, Ok, refl, sym, ap, ap₂, ◌∙◌, subst, arith, sum_by}
+use Rattle.std.proofs.lemmas.Bool.{le-ltb, and_right}
 use Rattle.std.proofs.lemmas.List.Elements.{All-head, All-tail, filter-append}
 use Rattle.std.proofs.lemmas.List.Sums.{sum_by-append}
 use Rattle.mkv_io.specs.declared.damage.Kind.TheVariants.{HeaderTooLarge, TooMany}
@@ -72,11 +72,7 @@ no-size held before h true is short fits =
     rw (is, one, all) refl
 
 no-count : (before : List Header) (h : Header) → others (before ++ h ∷ []) ≤ MOST_ELEMENTS → passes_count before h ≡ false
-no-count before h few = split (not (h.id == CLUSTER)) (le-ltb MOST_ELEMENTS (others (before ++ h ∷ [])) few)
-  where
-    split : (t : Bool) → nat_lt MOST_ELEMENTS (others (before ++ h ∷ [])) ≡ false → (t && nat_lt MOST_ELEMENTS (others (before ++ h ∷ []))) ≡ false
-    split true is = is
-    split false is = refl
+no-count before h few = and_right (not (h.id == CLUSTER)) _ (le-ltb MOST_ELEMENTS (others (before ++ h ∷ [])) few)
 
 -- a list that keeps the limits
 pub none-passed : (held : ℕ) (before hs : List Header) → All IsShortHeader hs → held + described (before ++ hs) ≤ MOST_OF_ALL → others (before ++ hs) ≤ MOST_ELEMENTS
