@@ -12,15 +12,13 @@ use Rattle.record_laws.specs.Entries.{DifferencesAreTold}
 
 alike-same : (p q : Option (List ℕ)) → are_alike p q ≡ true → p ≡ q
 alike-same None None is = refl
-alike-same None (Some q) is = absurd (cc)
-alike-same (Some p) None is = absurd (cc)
 alike-same (Some p) (Some q) is = ap Some ((bytes_eq-Decides p q).0 is)
+alike-same _ _ is = absurd (cc)
 
 same-alike : (p q : Option (List ℕ)) → p ≡ q → are_alike p q ≡ true
 same-alike None None is = refl
-same-alike None (Some q) is = absurd (cc)
-same-alike (Some p) None is = absurd (cc)
 same-alike (Some p) (Some q) is = let e : p ≡ q = cc in (bytes_eq-Decides p q).1 e
+same-alike _ _ is = absurd (cc)
 
 module _ (a b : Node) where
   none-found : (fs : List Field) → option_map (λ (f : Field). f.id) (find (λ f. not (are_alike (octets_at f a) (octets_at f b))) fs) ≡ None → All (λ f. octets_at f a ≡ octets_at f b) fs

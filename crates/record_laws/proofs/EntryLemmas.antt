@@ -64,23 +64,15 @@ options c = given (leaf NAME 0) c.name ++ given (leaf LANGUAGE 0) c.language ++ 
 none-options : (id : ℕ) (c : TrackChange) → (NAME == id) ≡ false → (LANGUAGE == id) ≡ false → (FLAG_DEFAULT == id) ≡ false → (FLAG_FORCED == id) ≡ false → HasNone id (options c)
 none-options id c name language default forced =
     let P : Node → Type 0 = λ n. (id_of n == id) ≡ false in
-    let named : List Node = given (leaf NAME 0) c.name in
-    let spoken : List Node = given (leaf LANGUAGE 0) c.language in
-    let by_default : List Node = given (flag_leaf FLAG_DEFAULT) c.flag_default in
-    let are_forced : List Node = given (flag_leaf FLAG_FORCED) c.flag_forced in
-    All-append P (named ++ spoken ++ by_default) are_forced
-    (All-append P (named ++ spoken) by_default
-    (All-append P named spoken (none-given id (leaf NAME 0) c.name (λ t. name)) (none-given id (leaf LANGUAGE 0) c.language (λ t. language)))
+    All-append P _ _
+    (All-append P _ _ (All-append P _ _ (none-given id (leaf NAME 0) c.name (λ t. name)) (none-given id (leaf LANGUAGE 0) c.language (λ t. language)))
     (none-given id (flag_leaf FLAG_DEFAULT) c.flag_default (flag-id FLAG_DEFAULT id default)))
     (none-given id (flag_leaf FLAG_FORCED) c.flag_forced (flag-id FLAG_FORCED id forced))
 
 -- number and identifier come first, then what a user gives
 entry_list-is : (c : TrackChange) (ns : List Node)
     → entry_list c ns ≡ with_each (options c) (with_child (uint_leaf TRACK_UID c.uid) (with_child (uint_leaf TRACK_NUMBER c.number) (without_each (ids_removed c.language) ns)))
-entry_list-is c ns = ap (λ cs. with_each cs (without_each (ids_removed c.language) ns)) (shape (given (leaf NAME 0) c.name) (given (leaf LANGUAGE 0) c.language) (given (flag_leaf FLAG_DEFAULT) c.flag_default) (given (flag_leaf FLAG_FORCED) c.flag_forced))
-  where
-    shape : (a b d e : List Node) → uint_leaf TRACK_NUMBER c.number ∷ uint_leaf TRACK_UID c.uid ∷ a ++ b ++ d ++ e ≡ uint_leaf TRACK_NUMBER c.number ∷ uint_leaf TRACK_UID c.uid ∷ (a ++ b ++ d ++ e)
-    shape a b d e = refl
+entry_list-is c ns = refl
 
 module _ (c : TrackChange) (ns : List Node) where
   bare : List Node
