@@ -59,21 +59,16 @@ without-written id (n ∷ ns) =
 
 with-written : (c : Node) (ns : List Node) → is_filler (id_of c) ≡ false → flat_map octets (with_child c (written ns)) ≡ flat_map octets (with_child c ns)
 with-written c [] keeps = refl
-with-written c (n ∷ ns) keeps = split (is_filler (id_of n)) refl (with-written c ns keeps)
-  where
-    keep : (t : Bool) → flat_map octets (with_child c (written ns)) ≡ flat_map octets (with_child c ns)
-        → flat_map octets (cond t (c ∷ without (id_of c) (written ns)) (n ∷ with_child c (written ns))) ≡ flat_map octets (cond t (c ∷ without (id_of c) ns) (n ∷ with_child c ns))
-    keep true rest = ap (λ (o : List ℕ). octets c ++ o) (without-written (id_of c) ns)
-    keep false rest = ap (λ (o : List ℕ). octets n ++ o) rest
-
-    split : (f : Bool) → is_filler (id_of n) ≡ f → flat_map octets (with_child c (written ns)) ≡ flat_map octets (with_child c ns)
-        → flat_map octets (with_child c (cond (not f) (n ∷ written ns) (written ns))) ≡ flat_map octets (with_child c (n ∷ ns))
-    split true is rest =
-        rest ∙ ap (λ (o : List ℕ). o ++ flat_map octets (with_child c ns)) (sym (octets-filler n is))
-        ∙ sym (ap (flat_map octets) (with-first c n ns
-        ∙ ap (λ (t : Bool). cond t (c ∷ without (id_of c) ns) (n ∷ with_child c ns)) (filler-other (id_of n) (id_of c) is keeps)))
-    split false is rest =
-        ap (flat_map octets) (with-first c n (written ns)) ∙ keep (id_of n == id_of c) rest ∙ sym (ap (flat_map octets) (with-first c n ns))
+with-written c (n ∷ ns) keeps =
+    let rest = with-written c ns keeps in
+    let own = with-first c n ns in
+    elim (cases_Bool (is_filler (id_of n))) [
+      | inl filler ↦ rw (filler, own, filler-other (id_of n) (id_of c) filler keeps, octets-filler n filler) rest
+      | inr kept ↦ elim (cases_Bool (id_of n == id_of c)) [
+        | inl is ↦ rw (kept, with-first c n (written ns), own, is) (ap (λ (o : List ℕ). octets c ++ o) (without-written (id_of c) ns))
+        | inr is ↦ rw (kept, with-first c n (written ns), own, is) (ap (λ (o : List ℕ). octets n ++ o) rest)
+      ]
+    ]
 
 -- the children of an ID that is kept
 pub part-written : (id : ℕ) (ns : List Node) → is_filler id ≡ false → part id (written ns) ≡ part id ns
@@ -104,13 +99,10 @@ without-map id (n ∷ ns) =
 -- a child that is read as itself is set before or after
 with-map : (c : Node) (ns : List Node) → as_read c ≡ c → with_child c (map as_read ns) ≡ map as_read (with_child c ns)
 with-map c [] same = with-alone c ∙ ap (λ k. k ∷ []) (sym same) ∙ sym (ap (map as_read) (with-alone c))
-with-map c (n ∷ ns) same =
-    with-first c (as_read n) (map as_read ns) ∙ split (id_of n == id_of c) (with-map c ns same) ∙ sym (ap (map as_read) (with-first c n ns))
-  where
-    split : (t : Bool) → with_child c (map as_read ns) ≡ map as_read (with_child c ns)
-        → cond t (c ∷ without (id_of c) (map as_read ns)) (as_read n ∷ with_child c (map as_read ns)) ≡ map as_read (cond t (c ∷ without (id_of c) ns) (n ∷ with_child c ns))
-    split true rest = ap₂ (λ (k : Node) l. k ∷ l) (sym same) (without-map (id_of c) ns)
-    split false rest = ap (λ l. as_read n ∷ l) rest
+with-map c (n ∷ ns) same = elim (cases_Bool (id_of n == id_of c)) [
+  | inl is ↦ rw (with-first c (as_read n) (map as_read ns), with-first c n ns, is) (ap₂ (λ (k : Node) l. k ∷ l) (sym same) (without-map (id_of c) ns))
+  | inr is ↦ rw (with-first c (as_read n) (map as_read ns), with-first c n ns, is) (ap (λ l. as_read n ∷ l) (with-map c ns same))
+]
 
 -- ---- where there is one FileData
 

@@ -36,17 +36,19 @@ pub map_or-is : {A B : Type 0} (f : A → B) (o : Option A) (d : B) → option_m
 map_or-is f None d = refl
 map_or-is f (Some x) d = refl
 
+pub text-same : (id : ℕ) (n : Node) (p : ℕ) → is_filler id ≡ false → text_in id (placed p n) ≡ text_in id n
+text-same id n p keeps =
+    let value : Node → Option (List ℕ) = λ m. Some (text_of (body_of m)) in
+    map_or-is value (first_child id (placed p n)) (text_default id)
+    ∙ ap (λ o. unwrap_or o (text_default id)) (first-placed value (λ m q. ap (λ b. Some (text_of b)) (body-placed m q)) id keeps n p)
+    ∙ sym (map_or-is value (first_child id n) (text_default id))
+
 -- What a record says it says where it was written.
 pub say-same : RecordsSayTheSame
 say-same = record {
   integers = λ id n m keeps stands.
       ap (integer_in id) stands.1 ∙ first-placed integer_of integer-placed id keeps n stands.0;
-  texts = λ id n m keeps stands.
-      let value : Node → Option (List ℕ) = λ k. Some (text_of (body_of k)) in
-      ap (text_in id) stands.1
-      ∙ map_or-is value (first_child id (placed stands.0 n)) (text_default id)
-      ∙ ap (λ o. unwrap_or o (text_default id)) (first-placed value (λ k p. ap (λ b. Some (text_of b)) (body-placed k p)) id keeps n stands.0)
-      ∙ sym (map_or-is value (first_child id n) (text_default id));
+  texts = λ id n m keeps stands. ap (text_in id) stands.1 ∙ text-same id n stands.0 keeps;
 }
 
 -- ---- all of an ID

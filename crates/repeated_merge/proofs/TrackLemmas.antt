@@ -5,13 +5,12 @@ use Rattle.std.specs.Option.{option_map, is_some}
 use Rattle.std.proofs.lemmas.List.Elements.{All-nil, All-cons, All-head, All-tail, length_all_zip}
 use Rattle.mkv_io.specs.declared.damage.Damage.{Damage}
 use Rattle.mkv_schema.specs.declared.ids.TheConstants.{TRACK_ENTRY, TRACK_NUMBER, TRACK_UID, TRACK_TYPE, CODEC_ID, LANGUAGE, LANGUAGE_BCP47, DEFAULT_DURATION}
-use Rattle.mkv_schema.specs.Schema.{uint_default, text_default}
-use Rattle.mkv_schema.specs.Value.{text_of}
+use Rattle.mkv_schema.specs.Schema.{uint_default}
 use Rattle.mkv_io.specs.Results.{unless}
 use Rattle.tree_format.specs.Node.{Node, leaf, master, body_of}
 use Rattle.tree_format.specs.NormalForm.{header_octets, is_filler, octets_all}
 use Rattle.tree_format.specs.Standing.{placed}
-use Rattle.tree_format.specs.Values.{first_child, integer_of, integer_in, uint_in, text_in}
+use Rattle.tree_format.specs.Values.{first_child, integer_of, integer_in, uint_in}
 use Rattle.file_format.specs.Entry.{entries_of, number_of, language_of}
 use Rattle.file_format.specs.Refusal.{refusal_of, too_long}
 use Rattle.file_format.specs.Tracks.{IsTrack, AreTracks}
@@ -19,7 +18,7 @@ use Rattle.file_format.proofs.TracksLemmas.{refusal-none}
 use Rattle.track_records.specs.Track.{track_of}
 use Rattle.repeated_merge.specs.Placed.{StandsAs}
 use Rattle.repeated_merge.specs.Tracks.{IsTrackOf, TracksAreRead}
-use Rattle.repeated_merge.proofs.PlacedLemmas.{body-placed, integer-placed, first-placed, map_or-is, part-placed}
+use Rattle.repeated_merge.proofs.PlacedLemmas.{body-placed, integer-placed, first-placed, part-placed, text-same}
 
 -- ---- what an entry says
 
@@ -28,13 +27,6 @@ integer-same id n p keeps = first-placed integer_of integer-placed id keeps n p
 
 uint-same : (id : ℕ) (n : Node) (p : ℕ) → is_filler id ≡ false → uint_in id (placed p n) ≡ uint_in id n
 uint-same id n p keeps = ap (λ o. unwrap_or o (unwrap_or (uint_default id) 0)) (integer-same id n p keeps)
-
-text-same : (id : ℕ) (n : Node) (p : ℕ) → is_filler id ≡ false → text_in id (placed p n) ≡ text_in id n
-text-same id n p keeps =
-    let value : Node → Option (List ℕ) = λ m. Some (text_of (body_of m)) in
-    map_or-is value (first_child id (placed p n)) (text_default id)
-    ∙ ap (λ o. unwrap_or o (text_default id)) (first-placed value (λ m q. ap (λ b. Some (text_of b)) (body-placed m q)) id keeps n p)
-    ∙ sym (map_or-is value (first_child id n) (text_default id))
 
 mapped-some : {A B : Type 0} (f : A → B) (o : Option A) → is_some (option_map f o) ≡ is_some o
 mapped-some f None = refl
