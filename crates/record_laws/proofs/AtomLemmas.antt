@@ -39,17 +39,17 @@ filler-none n filler = atoms-none n (filler-other (id_of n) CHAPTER_ATOM filler 
 
 -- ---- where they stand
 
-pub map-or : {A : Type 0} (f : A → ℕ) (o : Option A) → option_map_or f o 0 ≡ unwrap_or (option_map f o) 0
-map-or f None = refl
-map-or f (Some x) = refl
+pub map-or : {A B : Type 0} (f : A → B) (o : Option A) (d : B) → option_map_or f o d ≡ unwrap_or (option_map f o) d
+map-or f None d = refl
+map-or f (Some x) d = refl
 
 pub value-placed : (id : ℕ) (n : Node) (p : ℕ) → is_filler id ≡ false → value_in id (placed p n) ≡ value_in id n
 value-placed id (leaf i at body) p kept = refl
 value-placed id (master i at kids) p kept =
     let q : ℕ = p + length (header_octets i (length (octets_all kids))) in
-    map-or integer_of (find (λ n. id_of n == id) (list_of (placed_all q kids)))
+    map-or integer_of (find (λ n. id_of n == id) (list_of (placed_all q kids))) 0
     ∙ ap (λ (o : Option ℕ). unwrap_or o 0) (placed-integer id kids q kept)
-    ∙ sym (map-or integer_of (find (λ n. id_of n == id) (list_of kids)))
+    ∙ sym (map-or integer_of (find (λ n. id_of n == id) (list_of kids)) 0)
 
 -- one Element, and then the others
 placed-step : (p : ℕ) (n there : Node) (ns : Nodes) → uids_at there ≡ uids_at n → ((q : ℕ) → uids_among (placed_all q ns) ≡ uids_among ns) → (f : Bool) → is_filler (id_of n) ≡ f

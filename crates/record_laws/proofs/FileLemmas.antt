@@ -40,7 +40,7 @@ unfolding entry_of table
 no-default = refl
 
 uint-value : (n : Node) → uint_in FILE_UID n ≡ value_in FILE_UID n
-uint-value n = ap (λ (o : Option ℕ). unwrap_or (integer_in FILE_UID n) (unwrap_or o 0)) no-default ∙ sym (map-or integer_of (first_child FILE_UID n))
+uint-value n = ap (λ (o : Option ℕ). unwrap_or (integer_in FILE_UID n) (unwrap_or o 0)) no-default ∙ sym (map-or integer_of (first_child FILE_UID n) 0)
 
 uid-again : (uid p : ℕ) (n : Node) → IsMaster n → uid < 2 ^ 64 → uint_in FILE_UID (placed p (set_in (uint_leaf FILE_UID uid) n)) ≡ uid
 uid-again uid p (leaf id at body) is small = absurd (cc)

@@ -3,7 +3,7 @@ pub mod EntryLemmas
 pub mod TrackLemmas
 pub mod WholeLemmas
 pub mod DifferenceLemmas
-mod AtomLemmas
+pub mod AtomLemmas
 mod NumberLemmas
 pub mod StayLemmas
 mod EditionLemmas

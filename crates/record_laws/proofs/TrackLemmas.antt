@@ -1,6 +1,5 @@
 -- Tracks that were written and read are written as they were.
-use Rattle.std.proofs.Common.{◌≡◌, ℕ, ◌+◌, ◌<◌, ◌^◌, ◌==◌, Bool, false, List, [], ◌∷◌, length, map, filter, find, All, Option, None, Some, refl, sym, ap, ap₂, ◌∙◌, arith, unwrap_or}
-use Rattle.std.specs.Option.{option_map}
+use Rattle.std.proofs.Common.{◌≡◌, ℕ, ◌+◌, ◌<◌, ◌^◌, ◌==◌, Bool, false, List, [], ◌∷◌, length, map, filter, find, All, Option, None, Some, refl, sym, ap, ap₂, ◌∙◌, arith, unwrap_or, option_map}
 use Rattle.std.proofs.lemmas.List.{length-map}
 use Rattle.std.proofs.lemmas.List.Elements.{All-head, All-tail}
 use Rattle.ebml_numbers.specs.Number.{uint_octets}

@@ -1,8 +1,8 @@
 -- The Tags of an output are merged again as they were.
-use Rattle.std.proofs.Common.{◌≡◌, ◌≤◌, ◌<◌, ℕ, ◌+◌, ◌==◌, nat_eq, Bool, true, false, cond, if◌then◌else◌, List, [], ◌∷◌, ◌++◌, length, map, flat_map, take, zip, All, Contains, Option, None, Some, inl, inr, refl, sym, ap, ap₂, subst, ◌∙◌, append-nil, length-append, arith, zero, suc, is_some}
+use Rattle.std.proofs.Common.{◌≡◌, ◌≤◌, ◌<◌, ℕ, ◌+◌, ◌==◌, nat_eq, Bool, true, false, if◌then◌else◌, List, [], ◌∷◌, ◌++◌, length, map, flat_map, take, zip, All, Contains, Option, None, Some, inl, inr, refl, sym, ap, ap₂, subst, ◌∙◌, append-nil, length-append, arith, zero, suc, is_some}
 use Rattle.std.specs.Map.{lookup}
 use Rattle.std.specs.Option.{option_map}
-use Rattle.std.proofs.lemmas.Bool.{eqb-false, eqb-true}
+use Rattle.std.proofs.lemmas.Bool.{eqb-false, eqb-true, cases_Bool}
 use Rattle.std.proofs.lemmas.List.{length-map, take_all}
 use Rattle.std.proofs.lemmas.List.Elements.{All-head, All-weaker, Contains-append_cases}
 use Rattle.mkv_schema.specs.declared.ids.TheConstants.{CHAPTERS, TAG, TAGS, TAG_TRACK_UID, TAG_EDITION_UID, TAG_CHAPTER_UID, TAG_ATTACHMENT_UID}
@@ -45,19 +45,17 @@ use Rattle.repeated_merge.proofs.StandLemmas.{children-decide}
 
 itself-there : (xs : List ℕ) (v : ℕ) → Contains xs v → lookup (nat_eq v) (zip xs xs) ≡ Some v
 itself-there [] v among = absurd (omega (arith, among.1))
-itself-there (x ∷ xs) v among = split (nat_eq v x) refl (λ rest. itself-there xs v rest)
+itself-there (x ∷ xs) v among = elim (cases_Bool (nat_eq v x)) [
+  | inl is ↦ rw is (ap (λ (k : ℕ). Some k) (sym (eqb-true v x is)))
+  | inr is ↦ elim (Contains-append_cases (x ∷ []) xs v among) [
+    | inl first ↦ absurd (eqb-false v x is (sym (only first)))
+    | inr rest ↦ rw is (itself-there xs v rest)
+  ]
+]
   where
-    split : (t : Bool) → nat_eq v x ≡ t → (Contains xs v → lookup (nat_eq v) (zip xs xs) ≡ Some v) → cond t (Some x) (lookup (nat_eq v) (zip xs xs)) ≡ Some v
-    split true is behind = ap (λ (k : ℕ). Some k) (sym (eqb-true v x is))
-    split false is behind =
-        elim (Contains-append_cases (x ∷ []) xs v among) [
-          | inl first ↦ (let same : x ≡ v = only first in absurd (eqb-false v x is (sym same)))
-          | inr rest ↦ behind rest
-        ]
-      where
-        only : Contains (x ∷ []) v → x ≡ v
-        only (zero, below, at) = at
-        only (suc k, below, at) = absurd (omega (arith, below))
+    only : Contains (x ∷ []) v → x ≡ v
+    only (zero, below, at) = at
+    only (suc k, below, at) = absurd (omega (arith, below))
 
 -- ---- an input with the identifiers of a merge
 

@@ -1,7 +1,6 @@
 -- The attached files of an output stay.
-use Rattle.std.proofs.Common.{◌≡◌, ℕ, ◌==◌, List, [], ◌∷◌, map, find, All, Option, Some, refl, sym, ap, ap₂, ◌∙◌, unwrap_or}
+use Rattle.std.proofs.Common.{◌≡◌, ℕ, ◌==◌, List, [], ◌∷◌, map, find, All, Option, Some, refl, sym, ap, ap₂, ◌∙◌, unwrap_or, option_map}
 use Rattle.std.specs.List.{AllZip}
-use Rattle.std.specs.Option.{option_map}
 use Rattle.std.proofs.lemmas.List.Elements.{All-head, All-tail}
 use Rattle.ebml_numbers.specs.Number.{uint_octets}
 use Rattle.mkv_schema.specs.declared.ids.TheConstants.{FILE_UID}

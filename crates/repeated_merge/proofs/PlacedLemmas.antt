@@ -1,7 +1,7 @@
 -- What is found in a tree is found in it where it was written.
-use Rattle.std.proofs.Common.{◌≡◌, ℕ, ◌+◌, ◌==◌, false, List, length, filter, find, Option, None, Some, refl, sym, ap, ◌∙◌, inl, inr, unwrap_or}
+use Rattle.std.proofs.Common.{◌≡◌, ℕ, ◌+◌, ◌==◌, false, List, length, filter, find, Option, Some, refl, sym, ap, ◌∙◌, inl, inr, unwrap_or}
 use Rattle.std.specs.List.{AllZip}
-use Rattle.std.specs.Option.{option_map, option_map_or}
+use Rattle.std.specs.Option.{option_map}
 use Rattle.std.proofs.lemmas.Bool.{cases_Bool}
 use Rattle.tree_format.specs.Node.{Node, Nodes, leaf, master, none, node, list_of, id_of, body_of}
 use Rattle.tree_format.specs.NormalForm.{is_filler, header_octets, octets, octets_all}
@@ -9,6 +9,7 @@ use Rattle.tree_format.specs.Standing.{placed, placed_all}
 use Rattle.mkv_schema.specs.Schema.{text_default}
 use Rattle.mkv_schema.specs.Value.{text_of}
 use Rattle.tree_format.specs.Values.{first_child, integer_in, integer_of, text_in}
+pub use Rattle.record_laws.proofs.AtomLemmas.{map-or as map_or-is}
 pub use Rattle.record_laws.proofs.SameLemmas.{integer-placed, placed-id as id-placed}
 use Rattle.record_laws.proofs.SameLemmas.{filler-other, part-placed as parts-placed}
 use Rattle.record_laws.proofs.TrackLemmas.{find-map, first_in}
@@ -31,10 +32,6 @@ module _ {A : Type 0} (f : Node → A) (same : (n : Node) (p : ℕ) → f (place
   pub first-placed : (n : Node) (p : ℕ) → option_map f (first_child id (placed p n)) ≡ option_map f (first_child id n)
   first-placed (leaf i at body) p = refl
   first-placed (master i at kids) p = find-placed kids (p + length (header_octets i (length (octets_all kids))))
-
-pub map_or-is : {A B : Type 0} (f : A → B) (o : Option A) (d : B) → option_map_or f o d ≡ unwrap_or (option_map f o) d
-map_or-is f None d = refl
-map_or-is f (Some x) d = refl
 
 pub text-same : (id : ℕ) (n : Node) (p : ℕ) → is_filler id ≡ false → text_in id (placed p n) ≡ text_in id n
 text-same id n p keeps =

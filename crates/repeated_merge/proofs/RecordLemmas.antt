@@ -1,6 +1,5 @@
 -- The records of an output are read with limits, and so is the output.
-use Rattle.std.proofs.Common.{◌≡◌, ℕ, ◌+◌, ◌≤◌, ◌==◌, not, Bool, false, List, length, map, IfSome, Option, Some, None, Result, Ok, refl, sym, ap, ◌∙◌, subst, arith, unwrap_or}
-use Rattle.std.specs.Option.{option_map, option_and_then}
+use Rattle.std.proofs.Common.{◌≡◌, ℕ, ◌+◌, ◌≤◌, ◌==◌, not, Bool, false, List, length, map, IfSome, Option, Some, None, Result, Ok, refl, sym, ap, ◌∙◌, subst, arith, unwrap_or, option_map, option_and_then}
 use Rattle.std.proofs.lemmas.Bool.Decides.{nat_tests}
 use Rattle.mkv_io.specs.declared.damage.Damage.{Damage}
 use Rattle.mkv_io.specs.declared.damage.Kind.TheVariants.{BadValue}

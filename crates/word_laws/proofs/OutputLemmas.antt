@@ -1,6 +1,5 @@
 -- The options for the whole output are read back.
-use Rattle.std.proofs.Common.{ℕ, ◌/◌, ◌%◌, Bool, true, false, if◌then◌else◌, List, [], ◌∷◌, ◌++◌, codes, map, All, ◌<◌, ◌^◌, ◌≡◌, Option, Some, None, IfSome, refl, subst, arith, ◌==◌, option_map, inl, inr}
-use Rattle.std.specs.List.{flat_map}
+use Rattle.std.proofs.Common.{ℕ, ◌/◌, ◌%◌, Bool, true, false, if◌then◌else◌, List, [], ◌∷◌, ◌++◌, codes, map, All, ◌<◌, ◌^◌, ◌≡◌, Option, Some, None, IfSome, refl, subst, arith, ◌==◌, option_map, inl, inr, flat_map}
 use Rattle.std.specs.Fmt.{decimal}
 use Rattle.std.proofs.lemmas.Bool.{cases_Bool}
 use Rattle.word_values.specs.declared.values.Value.{Value}

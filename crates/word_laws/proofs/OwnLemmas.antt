@@ -1,7 +1,6 @@
 -- What is read of the options for a file is what they were spelled from.
-use Rattle.std.proofs.Common.{◌≡◌, ℕ, not, List, [], ◌∷◌, ◌++◌, codes, refl, sym, ◌∙◌, option_and_then, unwrap_or}
+use Rattle.std.proofs.Common.{◌≡◌, ℕ, not, List, [], ◌∷◌, ◌++◌, codes, refl, sym, ◌∙◌, option_and_then, unwrap_or, flat_map}
 use Rattle.std.proofs.lemmas.List.{append-nil}
-use Rattle.std.specs.List.{flat_map}
 use Rattle.word_values.specs.declared.lists.Select.{Select}
 use Rattle.word_values.specs.declared.lists.Select.TheVariants as select
 use Rattle.word_values.specs.declared.values.Value.TheVariants.{Flag, File, TrackDelay, TrackText, TrackLanguage, TrackFlag, TrackCues, TrackFile}

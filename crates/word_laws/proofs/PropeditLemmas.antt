@@ -1,10 +1,9 @@
 -- The words of `propedit` are read back.
-use Rattle.std.proofs.Common.{◌≡◌, ◌≤◌, inl, inr, ℕ, ◌+◌, Bool, true, false, List, [], ◌∷◌, length, codes, Some, Ok, refl, sym, ap, ◌∙◌, subst, arith, All, slice_index, ◌==◌, le-leb}
+use Rattle.std.proofs.Common.{◌≡◌, ◌≤◌, inl, inr, ℕ, ◌+◌, Bool, true, false, List, [], ◌∷◌, length, codes, Some, Ok, refl, sym, ap, ◌∙◌, subst, arith, All, slice_index, ◌==◌, le-leb, flat_map}
 use Rattle.std.proofs.lemmas.Bool.Decides.{nat_tests}
 use Rattle.std.proofs.lemmas.Fmt.{decimal_nonempty}
 use Rattle.std.proofs.lemmas.List.{append-nil}
 use Rattle.std.proofs.lemmas.List.Elements.{All-head, All-tail}
-use Rattle.std.specs.List.{flat_map}
 use Rattle.std.specs.Char.{is_ascii_digit}
 use Rattle.std.specs.Fmt.{decimal}
 use Rattle.word_values.specs.declared.edit.Edit.{Edit}
