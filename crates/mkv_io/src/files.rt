@@ -62,7 +62,7 @@ pub trait Files: Reads {
         ensures cause { HasCause is_make_failure (writing_faults self.old) (writing_faults self.new) result }
         ensures unread { ReadsNothing Self.Reads self.old self.new };
 
-    /// AddsOctets octets at the end of a live file. After `Failed` a first part of them is there.
+    /// Adds octets at the end of a live file. After `Failed` a first part of them is there.
     fn append(&mut self, file: FileId, bytes: &[u8]) -> Result<(), MakeFault>
         requires { IsLive Self.Reads self.old file }
         ensures ok { OnOk result (AddsOctets Self.Reads names holder self.old self.new file bytes.now) }
