@@ -29,7 +29,7 @@ in_room e room = unwrap_or (fitted e room) (octets_of e)
 abbrev pub IsSeekHead : List ℕ → FileOutline → List Part → Option SeekHead → List ℕ → Type 0
 IsSeekHead ids o ps head body = element SEEK_HEAD body ≡ spec.seek_head ids o (map shown ps) (option_map found head)
 
--- These writes are those of a Segment's size, where it has eight octets at most and ends there.
+-- These writes make a Segment end there, where the field of its size has eight octets at most.
 abbrev pub WritesSize : {E : Type 0} → Header → ℕ → Result (Vec Write Global) E → Type 0
 WritesSize segment end result = spec.size_width segment ≤ 8 → IfOk result (λ writes. map written writes.items ≡ spec.size_writes segment end)
 

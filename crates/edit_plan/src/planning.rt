@@ -8,7 +8,7 @@ ghost use Rattle.element_reader.specs.Outline.{outline_in};
 ghost use Rattle.edit_changes.specs.Change as change;
 ghost use Rattle.edit_changes.specs.Plan.{if_editable, plan_of};
 ghost use Rattle.edit_changes.specs.Trees.{AreSound};
-ghost use Rattle.edit_plan.specs.Answer.{Answers, Gives, GivesTrees, is_plan_fault};
+ghost use Rattle.edit_plan.specs.Answer.{Answers, Gives, AnswersTrees, is_plan_fault};
 ghost use Rattle.edit_plan.specs.Opening.{opening};
 
 use crate::building::parts;
@@ -61,7 +61,7 @@ fn open_trees<R: Reads>(
 ) -> Result<Trees, PlanEnd>
     requires live { IsLive R.Reads src.old file }
     requires whole { outline.now.total ≡ file_size R.Reads src.old file }
-    ensures exact { GivesTrees R.Reads src.old file outline.now result }
+    ensures exact { AnswersTrees R.Reads src.old file outline.now result }
     ensures sound { IfOk result AreSound }
     ensures standing { R.standing src.new ≡ R.standing src.old }
     ensures cause { HasCause is_plan_fault (R.reading_faults src.old) (R.reading_faults src.new) result }

@@ -115,10 +115,10 @@ abbrev pub generate_verdict : ℕ → List ℕ → Verdict
 generate_verdict n prefix = verdict_of n (names_of prefix)
 
 -- Where the names are told, making the files of these names has reached its verdict, or stopped on the way.
-abbrev pub MakesAll : {F P : Type 0} → ReadsGhosts F → FilesGhosts F → ReportGhosts P → F → F → P → P → Result Status Stop → ℕ → Names → Type 0
-MakesAll r f p files files' report report' result n names =
+abbrev pub MakesNamed : {F P : Type 0} → ReadsGhosts F → FilesGhosts F → ReportGhosts P → F → F → P → P → Result Status Stop → ℕ → Names → Type 0
+MakesNamed r f p files files' report report' result n names =
     Told (f.names files) (λ world. ComesTo r f p files files' report report' result (verdict_of n names))
 
 -- The same of `generate N PREFIX`.
 abbrev pub Generates : {F P : Type 0} → ReadsGhosts F → FilesGhosts F → ReportGhosts P → F → F → P → P → Result Status Stop → ℕ → List ℕ → Type 0
-Generates r f p files files' report report' result n prefix = MakesAll r f p files files' report report' result n (names_of prefix)
+Generates r f p files files' report report' result n prefix = MakesNamed r f p files files' report report' result n (names_of prefix)

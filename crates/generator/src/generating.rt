@@ -8,7 +8,7 @@ ghost use Rattle.mkv_lines.specs.Ordinary.{IsOrdinary};
 ghost use Rattle.mkv_lines.specs.Said.{HasSayCause, Says};
 ghost use Rattle.generator.specs.Asked.{AsksToGenerate};
 ghost use Rattle.generator.specs.Bound.{most_made, most_to_generate};
-ghost use Rattle.generator.specs.Generate.{Generates, MakesAll, first_written, line_for, names_of};
+ghost use Rattle.generator.specs.Generate.{Generates, MakesNamed, first_written, line_for, names_of};
 ghost use Rattle.generator.specs.Outcome.{lines_of, status_for};
 
 use crate::making::{Done, Outcome, make};
@@ -101,7 +101,7 @@ fn generate<F: Files, P: Report>(
 ) -> Result<Status, Stop>
     requires most { n ≤ 100000 }
     requires apart { names.now.pictures ≢ names.now.sounds }
-    ensures verdict { MakesAll F.Reads F.Files.own P.Report files.old files.new report.old report.new result n names.now }
+    ensures verdict { MakesNamed F.Reads F.Files.own P.Report files.old files.new report.old report.new result n names.now }
     ensures ended { HasEnded F.Reads F.Files.own P.Report files.old files.new report.old report.new result }
     ensures asks { AsksToGenerate names.now (F.asked files.old) (F.asked files.new) }
     ensures octets { ReadsByNames F.Reads F.Files.own files.old files.new (λ _. most_made n names.now) }

@@ -38,7 +38,7 @@ most_with job (Some bytes) = with_sidecar_head (most_of_file job) (length bytes)
 abbrev pub most_to_extract : (List ℕ → Option (List ℕ)) → List ℕ → Job → ℕ
 most_to_extract world name job = most_with job (world name)
 
--- No more octets were read than may be of a name, where the names are told.
+-- No more octets were read than this job may read of the file of a name, where the names are told.
 abbrev pub ReadsToExtract : {S : Type 0} → Ghosts S → writing.Ghosts S → S → S → List ℕ → Job → Type 0
 ReadsToExtract r f old new name job = ReadsByNames r f old new (λ world. most_to_extract world name job)
 

@@ -43,7 +43,7 @@ abbrev pub unplanned : PlanEnd → MergeEnd
 unplanned (plan_end.Refused why) = Refused (Plan why)
 unplanned plan_end.Memory = Stopped stop.Memory
 
--- how a merge ends that has written, and told of it; and one that has written, and of which nothing is said
+-- how a merge ends whose writing and telling ended so; and one of which nothing is said, whose writing ended so
 abbrev pub as_written : Result Status Stop → Result Status MergeEnd
 as_written (Ok s) = Ok s
 as_written (Err why) = Err (Stopped why)

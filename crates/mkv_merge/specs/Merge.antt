@@ -6,6 +6,10 @@ use Rattle.std.specs.Result.{result_err}
 use Rattle.mkv_io.specs.declared.damage.Damage.{Damage}
 use Rattle.mkv_io.specs.Faults.{counted}
 use Rattle.mkv_io.specs.Lists.{is_some_of}
+use Rattle.mkv_io.specs.Told.{Told}
+use Rattle.mkv_io.specs.declared.files.Files as writing
+use Rattle.mkv_io.specs.declared.reads.Reads.{Ghosts}
+use Rattle.mkv_io.specs.declared.report.Report.{Ghosts as ReportGhosts}
 use Rattle.cluster_reader.specs.ToldDamages.{told_damages}
 use Rattle.output_model.specs.OutputBlock.{OutputBlock}
 use Rattle.tree_format.specs.Node.{Node}
@@ -31,6 +35,8 @@ use Rattle.merge_plan.specs.Front.{front_of, reads_of}
 use Rattle.merge_plan.specs.Places.{in_place}
 use Rattle.merge_plan.specs.Records.{chapters_of, tags_of}
 use Rattle.merge_plan.specs.Refusal.{plan_refusal}
+use Rattle.mkv_lines.specs.Command.{ComesTo}
+use Rattle.mkv_lines.specs.declared.status.Stop.{Stop}
 use Rattle.mkv_lines.specs.Line.{damage_lines, no_track_line, uuid_count_line, wrote_blocks_line}
 use Rattle.mkv_lines.specs.Verdict.{Verdict, in_turn, refused}
 use Rattle.mkv_lines.specs.declared.status.Status.{Status}
@@ -145,7 +151,7 @@ abbrev pub first_met : ℕ → List (ℕ × List Damage) → List Damage
 first_met k links = option_map_or (λ (link : ℕ × List Damage). link.1) (find (λ (link : ℕ × List Damage). link.0 == k) links) []
 
 -- The damages of the events of the source of this number: none where no track of it is taken, so that it has no link, or where a file before it in
--- its chain stopped. The same are met in all of its links.
+-- its chain stopped.
 abbrev pub damages_met : List Source → ℕ → List Damage
 damages_met sources k = first_met k (links_met (inputs_given 0 (reads_of sources)) (lanes_given sources))
 
@@ -205,3 +211,8 @@ verdict_of words (Err why) = refused (line_of words why)
 -- what `merge` comes to in a world of names
 abbrev pub merge_verdict : (List ℕ → Option (List ℕ)) → MergeWords → Verdict
 merge_verdict world words = verdict_of words (sources_of world words)
+
+-- A merge of the files of the inputs' names has come to its verdict, or has stopped on the way; its refusal is told, too.
+abbrev pub ComesToMerge : {F P : Type 0} → Ghosts F → writing.Ghosts F → ReportGhosts P → F → F → P → P → Result Status Stop → MergeWords → Type 0
+ComesToMerge r f p files files' report report' result words =
+    Told (f.names files) (λ world. ComesTo r f p files files' report report' result (merge_verdict world words))

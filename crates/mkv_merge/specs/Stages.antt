@@ -21,7 +21,7 @@ use Rattle.mkv_lines.specs.declared.status.Status.TheVariants as status
 use Rattle.mkv_lines.specs.declared.status.Stop.{Stop}
 use Rattle.mkv_merge.specs.Bound.{live_size, most_looked, most_of, most_planned, most_read}
 use Rattle.mkv_merge.specs.Ends.{end_as}
-use Rattle.mkv_merge.specs.Merge.{merge_verdict, merged_verdict, sources_of, sources_unless, verdict_of}
+use Rattle.mkv_merge.specs.Merge.{merged_verdict, sources_of, sources_unless, verdict_of}
 use Rattle.mkv_merge.specs.Prepared.{IfAllTold, sources_from}
 use Rattle.mkv_merge.specs.Read.{pending_of}
 use Rattle.mkv_merge.specs.Records.{AreShort, EndsReadable}
@@ -81,8 +81,3 @@ MergesThere r f p files files' report report' words texts list result = Told (f.
 abbrev pub MergesNamed : {F P : Type 0} → Ghosts F → writing.Ghosts F → ReportGhosts P → F → F → P → P → MergeWords → Result Status MergeEnd → Type 0
 MergesNamed r f p files files' report report' words result = Told (f.names files) (λ world.
     MergesTo r f p files files' report report' words (sources_of world words) (most_read world words) result)
-
--- A merge of the files of the inputs' names has come to its verdict, or has stopped on the way; its refusal is told, too.
-abbrev pub ComesToMerge : {F P : Type 0} → Ghosts F → writing.Ghosts F → ReportGhosts P → F → F → P → P → Result Status Stop → MergeWords → Type 0
-ComesToMerge r f p files files' report report' result words =
-    Told (f.names files) (λ world. ComesTo r f p files files' report report' result (merge_verdict world words))

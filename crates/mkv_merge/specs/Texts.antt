@@ -16,12 +16,12 @@ use Rattle.mkv_merge.specs.declared.refusal.Refusal.TheVariants.{MissingTimes, T
 
 -- ---- what refuses a merge
 
--- of files of times the first that refuses a merge so, and why it does
+-- of files of times the first that refuses a merge for this cause, and why it does
 abbrev pub first_refusing : (TimesFile → Option Refusal) → List TimesFile → Option TimesFile
 first_refusing why files = find (λ (f : TimesFile). is_some (why f)) files
 
-abbrev pub first_refusal : (TimesFile → Option Refusal) → List TimesFile → Option Refusal
-first_refusal why files = option_and_then why (first_refusing why files)
+abbrev pub refusal_of_first : (TimesFile → Option Refusal) → List TimesFile → Option Refusal
+refusal_of_first why files = option_and_then why (first_refusing why files)
 
 -- a file of times of this name isn't there
 abbrev pub missing_given : List ℕ → TimesGiven → Option Refusal
@@ -29,12 +29,12 @@ missing_given name given.Missing = Some (MissingTimes name)
 missing_given name (given.Refused why) = None
 missing_given name (given.Read times) = None
 
--- of these files the first that isn't there
+-- why a file of times refuses a merge, where it isn't there; and of these files the first that does
 abbrev pub missing_by : TimesFile → Option Refusal
 missing_by f = missing_given f.named.name f.given
 
 abbrev pub missing_times : List TimesFile → Option Refusal
-missing_times files = first_refusal missing_by files
+missing_times files = refusal_of_first missing_by files
 
 -- the chapter file isn't there, or a file of times
 abbrev pub missing_text : TextFiles → Option Refusal
@@ -46,12 +46,12 @@ given_refusal name given.Missing = None
 given_refusal name (given.Refused why) = Some (Times name why)
 given_refusal name (given.Read times) = None
 
--- of these files the first that isn't taken
+-- why a file of times refuses a merge, where it isn't taken; and of these files the first that does
 abbrev pub refusal_by : TimesFile → Option Refusal
 refusal_by f = given_refusal f.named.name f.given
 
 abbrev pub times_refusal : List TimesFile → Option Refusal
-times_refusal files = first_refusal refusal_by files
+times_refusal files = refusal_of_first refusal_by files
 
 -- ---- what they give
 

@@ -8,10 +8,10 @@ ghost use Rattle.mkv_lines.specs.Command.{HasEnded};
 ghost use Rattle.mkv_io.specs.Bounds.{ReadsUpTo};
 ghost use Rattle.mkv_merge.specs.Asked.{AsksToMerge, opened_by, sidecars_of};
 ghost use Rattle.mkv_merge.specs.Bound.{most_read};
-ghost use Rattle.mkv_merge.specs.Merge.{sources_of};
+ghost use Rattle.mkv_merge.specs.Merge.{ComesToMerge, sources_of};
 ghost use Rattle.mkv_merge.specs.Read.{IsApartMerge};
 ghost use Rattle.mkv_merge.specs.Records.{EndsReadable};
-ghost use Rattle.mkv_merge.specs.Stages.{ComesToMerge, MergesNamed, MergesThere, as_command};
+ghost use Rattle.mkv_merge.specs.Stages.{MergesNamed, MergesThere, as_command};
 
 use crate::names::first_written;
 use crate::pending::begun_refusal;

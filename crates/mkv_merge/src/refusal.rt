@@ -49,7 +49,7 @@ pub enum MergeEnd {
     Stopped(Stop),
 }
 
-/// How a merge ends that has written, and told of it.
+/// How a merge ends whose writing and telling ended so.
 pub fn written(ended: Result<Status, Stop>) -> Result<Status, MergeEnd>
     ensures { result ≡ as_written ended }
 {
@@ -59,7 +59,7 @@ pub fn written(ended: Result<Status, Stop>) -> Result<Status, MergeEnd>
     }
 }
 
-/// How one ends that has written, and of which nothing is said.
+/// How a merge of which nothing is said ends, whose writing ended so.
 pub fn remuxed(ended: Result<Summary, RemuxEnd>) -> Result<Summary, MergeEnd>
     ensures { result ≡ as_remuxed ended }
 {
@@ -74,14 +74,6 @@ impl From<AllocError> for MergeEnd {
 
     fn from(_error: AllocError) -> MergeEnd {
         MergeEnd::Stopped(Stop::Memory)
-    }
-}
-
-impl From<Stop> for MergeEnd {
-    ghost from_gives = { λ why end. end ≡ merge_end.Stopped why };
-
-    fn from(why: Stop) -> MergeEnd {
-        MergeEnd::Stopped(why)
     }
 }
 

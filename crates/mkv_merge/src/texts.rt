@@ -38,7 +38,7 @@ fn first_missing(files: &[TimesFile]) -> Option<&TimesFile>
         .find(|file| matches!(&file.given, TimesGiven::Missing))
 }
 
-/// Why that one refuses a merge.
+/// Why the first file of times that isn't there refuses a merge.
 fn missing_times(files: &[TimesFile]) -> Result<Option<Refusal>, AllocError>
     ensures { IfOk result (λ why. why ≡ missing_times files.now) }
 {
@@ -80,7 +80,7 @@ fn first_refused(files: &[TimesFile]) -> Option<&TimesFile>
         .find(|file| matches!(&file.given, TimesGiven::Refused(_)))
 }
 
-/// Why that one refuses a merge.
+/// Why the first file of times that isn't taken refuses a merge.
 fn times_refusal(files: &[TimesFile]) -> Result<Option<Refusal>, AllocError>
     ensures { IfOk result (λ why. why ≡ times_refusal files.now) }
 {

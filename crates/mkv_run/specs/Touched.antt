@@ -58,9 +58,9 @@ Touches r d (recovered file) old new disk disk_now s = (new ≡ old) × IsRecove
 Touches r d (edited file edits) old new disk disk_now s = (new ≡ old) × IsEditOf r d file (writes_of_edits edits) disk disk_now s × EditKeepsRest d edits disk disk_now s
 Touches r d (indexed file) old new disk disk_now s = (new ≡ old) × IsEditOf r d file writes_of_index disk disk_now s × IndexKeepsRest d disk disk_now s
 
--- the same of what ended so, by the status with which the run then ends
-abbrev pub Affects : {F D : Type 0} → reads.Ghosts D → disks.Ghosts D → Reach → F → F → D → D → Result Status Stop → Type 0
-Affects r d reach old new disk disk_now result = Touches r d reach old new disk disk_now (status_of result)
+-- what a command touches that ended so, by the status with which the run then ends
+abbrev pub Touched : {F D : Type 0} → reads.Ghosts D → disks.Ghosts D → Reach → F → F → D → D → Result Status Stop → Type 0
+Touched r d reach old new disk disk_now result = Touches r d reach old new disk disk_now (status_of result)
 
 -- What a crash at any moment of it may leave of a file M beside a sidecar S.
 abbrev pub LeftOnTheWay : Reach → List ℕ → List ℕ → List ℕ → List ℕ → Type 0

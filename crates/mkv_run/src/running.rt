@@ -15,7 +15,7 @@ ghost use Rattle.mkv_run.specs.Asked.{AsksByWords, AsksToObey, LeavesFiles};
 ghost use Rattle.mkv_run.specs.ByWords.{CrashLeaves, EndsFor, HasCauseFor, ReadsFor, ReadsToObey, reach_for, verdict_for};
 ghost use Rattle.mkv_run.specs.Run.{MergesReadable, MergesReadableIn, WritesMerge, verdict_of};
 ghost use Rattle.mkv_run.specs.RunSeen.{HasObeyed};
-ghost use Rattle.mkv_run.specs.Touched.{Affects, IsInPlace, Touches, reach_of};
+ghost use Rattle.mkv_run.specs.Touched.{IsInPlace, Touched, Touches, reach_of};
 
 use crate::help::{help, version};
 use edit_laws::{edits_change_nothing_else, new_index_is_whole};
@@ -103,7 +103,7 @@ fn carry_out<F: Files, D: Disk, R: Report>(
     ensures readable { MergesReadableIn (F.names files.old) (texts words.now.items) result }
     ensures asks { AsksByWords F.Files.own files.old files.new words.now.items }
     ensures octets { ReadsFor F.Reads F.Files.own D.Reads D.Disk.own files.old files.new disk.old disk.new words.now.items }
-    ensures touches { Affects D.Reads D.Disk.own (reach_for words.now.items) files.old files.new disk.old disk.new result }
+    ensures touches { Touched D.Reads D.Disk.own (reach_for words.now.items) files.old files.new disk.old disk.new result }
 {
     match read_words(alloc, words) {
         Ok(command) => obey(alloc, &command, files, disk, report),
@@ -129,7 +129,7 @@ fn obey<F: Files, D: Disk, R: Report>(
     ensures readable { MergesReadable (F.names files.old) command.now result }
     ensures asks { AsksToObey F.Files.own files.old files.new command.now }
     ensures octets { ReadsToObey F.Reads F.Files.own D.Reads D.Disk.own files.old files.new disk.old disk.new command.now }
-    ensures touches { Affects D.Reads D.Disk.own (reach_of command.now) files.old files.new disk.old disk.new result }
+    ensures touches { Touched D.Reads D.Disk.own (reach_of command.now) files.old files.new disk.old disk.new result }
 {
     match command {
         Command::Help { about } => help(alloc, *about, report),

@@ -43,7 +43,7 @@ pub record HasComeTo (bytes : List ℕ) (list : List Header) (c : Clusters) : Ty
   pub ascends : AscendFrom 0 (due bytes c)
   pub before : (at : ℕ) → c.reached ≤ at → cluster_before at list ≡ option_or (cluster_before at (due bytes c)) c.last
 
--- It stands where it begins in a file with this outline, whatever that holds.
+-- No Element of level 1 was passed yet, in any content as long as this outline says.
 abbrev pub StandsAtStart : FileOutline → Clusters → Type 0
 StandsAtStart outline c = (bytes : List ℕ) → outline.total ≡ length bytes → HasComeTo bytes (segment_run bytes outline.segment).list c
 

@@ -120,7 +120,7 @@ turns b = turns_with (way b.merge) b.ahead
 
 -- ---- what holds on the way
 
--- No block has been placed, and no part was begun.
+-- No block has been placed, and the start that is kept is 0.
 pub record IsFresh (b : PlacedBlocks) : Type 0 where
   pub placed : b.cuts.start ≡ None
   pub start : b.start ≡ 0

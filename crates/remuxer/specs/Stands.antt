@@ -64,7 +64,7 @@ pub record HasAll {S : Type 0} (r : Ghosts S) (f : writing.Ghosts S) (before : N
   pub stands : StandsOpen r f before name d.front (joined (clusters_elements d.clusters)) files o
 
 -- A block at this tick, whose Element has so many octets, joins the Cluster that is held, and no memory was given back.
-pub record HasRoom (tick len : ℕ) (old new : Gathered) : Type 0 where
+pub record JoinsHeld (tick len : ℕ) (old new : Gathered) : Type 0 where
   pub joins : has_place new tick len ≡ true
   pub spare : old.spare ≤ new.spare
 

@@ -7,7 +7,7 @@ ghost use Rattle.cluster_writer.specs.Gathered.{HoldsSmall};
 ghost use Rattle.cluster_writer.specs.Lengths.{octets_taken};
 ghost use Rattle.cluster_writer.specs.Lent.{CanBePut, block_of};
 ghost use Rattle.cues_seekhead.specs.OpenOutput.{IsOpen};
-ghost use Rattle.remuxer.specs.Stands.{Adds, Ends, HasRoom, MakesRoom};
+ghost use Rattle.remuxer.specs.Stands.{Adds, Ends, JoinsHeld, MakesRoom};
 
 use cluster_writer::{ClusterBuf, LentBlock};
 use cues_seekhead::OutFile;
@@ -25,7 +25,7 @@ fn make_room<F: Files>(
     requires open { IsOpen F.Reads files.old out.old }
     requires len { len ≡ octets_taken (block_of block.now) }
     ensures makes { MakesRoom F.Reads F.Files.own (block_of block.now) files.old files.new out.old out.new buffer.old buffer.new result }
-    ensures room { OnOk result (HasRoom block.now.tick len buffer.old buffer.new) }
+    ensures room { OnOk result (JoinsHeld block.now.tick len buffer.old buffer.new) }
     ensures limits { buffer.new.limits ≡ buffer.old.limits }
     ensures file { out.new.file ≡ out.old.file }
     ensures open { OnOk result (IsOpen F.Reads files.new out.new) }

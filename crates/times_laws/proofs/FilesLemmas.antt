@@ -18,7 +18,7 @@ use Rattle.input_files.specs.declared.times_file.TimesFile.{TimesFile}
 use Rattle.input_files.specs.declared.times_file.TimesGiven.{TimesGiven}
 use Rattle.input_files.specs.declared.times_file.TimesGiven.TheVariants.{Missing, Read, Refused}
 use Rattle.input_files.specs.declared.times_file.TimesName.{TimesName}
-use Rattle.mkv_merge.specs.Texts.{first_refusal, given_listing, listings_at, missing_by, missing_times, refusal_by, times_refusal}
+use Rattle.mkv_merge.specs.Texts.{given_listing, listings_at, missing_by, missing_times, refusal_by, refusal_of_first, times_refusal}
 use Rattle.mkv_merge.specs.declared.refusal.Refusal.{Refusal}
 use Rattle.merge_inputs.specs.Taken.{value_for}
 use Rattle.times_laws.specs.GivenBack.{HasOption, World, is_timed, is_too_long, set_input}
@@ -297,7 +297,7 @@ module _ (n : TimesName) (times : Listing) where
   file = record { named = n; given = Read times }
 
   -- it refuses nothing
-  passed : (why : TimesFile → Option Refusal) → why file ≡ None → (before behind : List TimesFile) → first_refusal why (before ++ file ∷ behind) ≡ first_refusal why (before ++ behind)
+  passed : (why : TimesFile → Option Refusal) → why file ≡ None → (before behind : List TimesFile) → refusal_of_first why (before ++ file ∷ behind) ≡ refusal_of_first why (before ++ behind)
   passed why none before behind =
       let p : TimesFile → Bool = λ f. is_some (why f) in
       ap (option_and_then why)
