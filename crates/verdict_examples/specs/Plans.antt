@@ -7,6 +7,7 @@ use Rattle.mkv_io.specs.declared.entry.Entry.{Entry}
 use Rattle.word_values.specs.declared.values.CueWord.{CueWord}
 use Rattle.word_values.specs.declared.values.CueWord.TheVariants as cue_word
 use Rattle.output_model.specs.declared.rule.CueRule.TheVariants.{Never, Key, All}
+use Rattle.merge_words.specs.Plain.{plain_words}
 use Rattle.merge_words.specs.declared.output.MergeWords.{MergeWords}
 use Rattle.merge_inputs.specs.Input.{Entries, InputRead}
 use Rattle.merge_inputs.specs.declared.taken.TakenTrack.{TakenTrack}
@@ -21,19 +22,7 @@ use Rattle.merge_plan.specs.Refusal.{lanes_refusal}
 
 -- words that say nothing of an output but its title
 abbrev pub words : Option (List ℕ) → MergeWords
-words title = record {
-  output = codes "out.mkv";
-  webm = false;
-  title = title;
-  chapters = None;
-  scale = 1000000;
-  blocks = 65535;
-  span = 5000000000;
-  split = None;
-  files = [];
-  uuids = [];
-  link = false;
-}
+words title = record (plain_words (codes "out.mkv") None []) { title = title }
 
 -- a track of this TrackUID, TrackType and CodecID, which has the number 3 in its file
 abbrev pub entry : ℕ → ℕ → List ℕ → Node
