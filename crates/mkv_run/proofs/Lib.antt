@@ -1,3 +1,4 @@
 pub mod RunLemmas
 pub mod MergedLemmas
 pub mod KeptLemmas
+pub mod SeenLemmas

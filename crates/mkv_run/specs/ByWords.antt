@@ -1,5 +1,5 @@
 -- What a run does with its files, its disk and its report, by what the words of its command line ask for.
-use Rattle.std.specs.Prelude.{◌≡◌, ℕ, ◌+◌, List, Option, IfOk, Result}
+use Rattle.std.specs.Prelude.{◌+◌, List, Option}
 use Rattle.std.specs.declared.alloc.Global.{Global}
 use Rattle.std.specs.declared.string.String.{String}
 use Rattle.mkv_io.specs.Told.{Told}
@@ -15,11 +15,9 @@ use Rattle.mkv_lines.specs.declared.status.Status.{Status}
 use Rattle.mkv_propedit.specs.Recover.{disk_world}
 use Rattle.word_values.specs.Place.{texts}
 use Rattle.mkv_run.specs.Ends.{Ends}
-use Rattle.mkv_run.specs.Exit.{HasExited}
 use Rattle.mkv_run.specs.Run.{ReadsWithin, ReadsWithinIn, verdict_in}
 use Rattle.mkv_run.specs.RunSeen.{HasStatusCause, run_seen}
-use Rattle.mkv_run.specs.Touched.{LeftOnTheWay, Reach, Touches, reach_in}
-use Rattle.std.specs.declared.vec.Vec.{Vec}
+use Rattle.mkv_run.specs.Touched.{LeftOnTheWay, Reach, reach_in}
 
 -- what is reached
 abbrev pub reach_for : List (String Global) → Reach
@@ -39,26 +37,10 @@ abbrev pub HasCauseFor : {F D R : Type 0} → ReadsGhosts F → FilesGhosts F �
 HasCauseFor r f s d p files files' disk disk' report report' words status =
     HasStatusCause (reach_for words) (run_seen r f s d p files disk report) (run_seen r f s d p files' disk' report') status
 
--- The program ends with the number of such a status.
-abbrev pub ExitsFor : {F D R : Type 0} → ReadsGhosts F → FilesGhosts F → ReadsGhosts D → DiskGhosts D → ReportGhosts R → F → F → D → D → R → R → List (String Global) → ℕ → Type 0
-ExitsFor r f s d p files files' disk disk' report report' words code =
-    HasExited (reach_for words) (run_seen r f s d p files disk report) (run_seen r f s d p files' disk' report')
-    (Touches s d (reach_for words) files files' disk disk') (verdict_for f d files disk words) code
-
--- Nothing was done: what is seen is as it was, and so are the files and the disk.
-pub record IsIdle {F D R : Type 0} (r : ReadsGhosts F) (f : FilesGhosts F) (s : ReadsGhosts D) (d : DiskGhosts D) (p : ReportGhosts R) (files files' : F) (disk disk' : D) (report report' : R) : Type 0 where
-  pub seen : run_seen r f s d p files' disk' report' ≡ run_seen r f s d p files disk report
-  pub unused : files' ≡ files
-  pub still : disk' ≡ disk
-
 -- It reads no more than they may, of the files and of the disk together.
 abbrev pub ReadsFor : {F D : Type 0} → ReadsGhosts F → FilesGhosts F → ReadsGhosts D → DiskGhosts D → F → F → D → D → List (String Global) → Type 0
 ReadsFor r f s d files files' disk disk' words =
     ReadsWithinIn (f.names files) (disk_world d disk) (texts words) (r.octets_read files + s.octets_read disk) (r.octets_read files' + s.octets_read disk')
-
--- the same where there are words, and not a status in their place
-abbrev pub ReadsIfGiven : {F D : Type 0} → ReadsGhosts F → FilesGhosts F → ReadsGhosts D → DiskGhosts D → F → F → D → D → Result (Vec (String Global) Global) Status → Type 0
-ReadsIfGiven r f s d files files' disk disk' words = IfOk words (λ given. ReadsFor r f s d files files' disk disk' given.items)
 
 -- the same of a command
 abbrev pub ReadsToObey : {F D : Type 0} → ReadsGhosts F → FilesGhosts F → ReadsGhosts D → DiskGhosts D → F → F → D → D → Command → Type 0

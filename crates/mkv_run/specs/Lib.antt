@@ -6,3 +6,5 @@ pub mod Run
 pub mod RunSeen
 pub mod Touched
 pub mod Asked
+pub mod Outside
+pub mod Runs

@@ -4,8 +4,10 @@ ghost use Rattle.std.specs.Prelude.{◌≡◌, ◌⊎◌, IfOk, IfErr, IsOkAnd, 
 ghost use Rattle.std.specs.Process.{exit_status};
 ghost use Rattle.mkv_disk.specs.Calls.{AtRest};
 ghost use Rattle.mkv_lines.specs.Code.{code_of};
-ghost use Rattle.mkv_run.specs.Asked.{LeavesFiles};
-ghost use Rattle.mkv_run.specs.ByWords.{CrashLeaves, ExitsFor, IsIdle, reach_for, ReadsIfGiven};
+ghost use Rattle.word_values.specs.Place.{texts};
+ghost use Rattle.mkv_run.specs.ByWords.{reach_for};
+ghost use Rattle.mkv_run.specs.Outside.{outside};
+ghost use Rattle.mkv_run.specs.Runs.{Exits, IsIdle};
 ghost use Rattle.mkv_run.specs.Touched.{IsInPlace};
 ghost use Rattle.mkv_run.specs.Exit.{ExitsMerged};
 
@@ -43,17 +45,15 @@ pub fn program<F: Files, D: Disk, R: Report>(
     report: &mut R,
 ) -> ExitCode
     requires { IsOkAnd words.now (λ words. IsInPlace (reach_for words.items)) → AtRest D.Disk.own disk.old }
-    ensures ok { IfOk words.now (λ words. ExitsFor F.Reads F.Files.own D.Reads D.Disk.own R.Report files.old files.new disk.old disk.new
-        report.old report.new words.items (exit_status result)) }
+    ensures ok { let seen = outside F.Reads F.Files.own D.Reads D.Disk.own R.Report in
+        IfOk words.now (λ words. Exits (texts words.items) (seen files.old disk.old report.old) (seen files.new disk.new report.new)
+        (exit_status result)) }
 
     // Where it ends with 0 or 1, the merge that the words ask for was written.
     ensures merged { IfOk words.now (ExitsMerged (F.names files.old) (F.names files.new) (exit_status result)) }
     ensures unread { IfErr words.now (λ status. exit_status result ≡ code_of status) }
-    ensures idle { OnErr words.now (IsIdle F.Reads F.Files.own D.Reads D.Disk.own R.Report files.old files.new disk.old disk.new
-        report.old report.new) }
-    ensures any_moment { IfOk words.now (λ words. CrashLeaves D.Disk.own disk.old disk.new (reach_for words.items)) }
-    ensures files { IfOk words.now (λ words. LeavesFiles F.Reads F.Files.own files.old files.new words.items) }
-    ensures octets { ReadsIfGiven F.Reads F.Files.own D.Reads D.Disk.own files.old files.new disk.old disk.new words.now }
+    ensures idle { let seen = outside F.Reads F.Files.own D.Reads D.Disk.own R.Report in
+        OnErr words.now (IsIdle (seen files.old disk.old report.old) (seen files.new disk.new report.new)) }
 {
     match words {
         Ok(words) => ExitCode::from(run(alloc, words, files, disk, report).code()),

@@ -14,7 +14,9 @@ ghost use Rattle.word_values.specs.Place.{texts};
 ghost use Rattle.mkv_run.specs.Asked.{AsksByWords, AsksToObey, LeavesFiles};
 ghost use Rattle.mkv_run.specs.ByWords.{CrashLeaves, EndsFor, HasCauseFor, ReadsFor, ReadsToObey, reach_for, verdict_for};
 ghost use Rattle.mkv_run.specs.Run.{MergesReadable, MergesReadableIn, WritesMerge, verdict_of};
+ghost use Rattle.mkv_run.specs.Outside.{outside};
 ghost use Rattle.mkv_run.specs.RunSeen.{HasObeyed};
+ghost use Rattle.mkv_run.specs.Runs.{Runs};
 ghost use Rattle.mkv_run.specs.Touched.{IsInPlace, Touched, Touches, reach_of};
 
 use crate::help::{help, version};
@@ -34,6 +36,21 @@ use std::alloc::Global;
 /// Does what the words of a command line ask for, and says its lines. Where they recover or edit a file in place, nothing
 /// is pending on the disk.
 pub fn run<F: Files, D: Disk, R: Report>(
+    alloc: Global,
+    words: &Vec<String>,
+    files: &mut F,
+    disk: &mut D,
+    report: &mut R,
+) -> Status
+    requires { IsInPlace (reach_for words.now.items) → AtRest D.Disk.own disk.old }
+    ensures { let seen = outside F.Reads F.Files.own D.Reads D.Disk.own R.Report in
+        Runs (texts words.now.items) (seen files.old disk.old report.old) (seen files.new disk.new report.new) result }
+{
+    run_to_end(alloc, words, files, disk, report)
+}
+
+// Does what the words ask for, and says the line of a fault.
+fn run_to_end<F: Files, D: Disk, R: Report>(
     alloc: Global,
     words: &Vec<String>,
     files: &mut F,

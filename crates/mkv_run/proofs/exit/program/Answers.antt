@@ -6,7 +6,12 @@ use Rattle.mkv_run.proofs.exit.program.Goals as goal
 -- the exit status is that of the run, which has written its merge
 pub returns-in-Ok-clause-merged : goal.returns-in-Ok-clause-merged
 returns-in-Ok-clause-merged g c =
-    rw c.in-Ok.is (λ below. code-merged _ _ _ c.run.result (exit_status c.from.result) (c.from.ensures ∙ c.code.ensures) below c.run.ensures.merged.well)
+    rw c.in-Ok.is (λ below. code-merged _ _ _ c.run.result (exit_status c.from.result) (c.from.ensures ∙ c.code.ensures) below c.run.ensures.merge_holds)
+
+-- the exit status is that of the run
+pub returns-in-Ok-clause-ok : goal.returns-in-Ok-clause-ok
+returns-in-Ok-clause-ok g c =
+    rw c.in-Ok.is (record { status = c.run.result; number = c.from.ensures ∙ c.code.ensures; runs = c.run.ensures })
 
 -- the words were read
 pub run-requires : goal.run-requires

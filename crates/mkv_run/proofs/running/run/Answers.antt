@@ -1,105 +1,24 @@
-use Rattle.std.proofs.Common.{inl, inr, ap, subst}
-use Rattle.mkv_io.specs.Faults.{HasRisen}
-use Rattle.mkv_io.specs.Told.{Told}
-use Rattle.mkv_lines.specs.Code.{status_of}
-use Rattle.mkv_lines.specs.Faults.{Counts}
-use Rattle.mkv_lines.specs.Line.{disk_fault_line, files_fault_line}
-use Rattle.mkv_lines.specs.Said.{SaysPart}
-use Rattle.mkv_propedit.specs.Recover.{disk_world}
-use Rattle.word_values.specs.Place.{texts}
 use Rattle.mkv_run.specs.ByWords.{reach_for}
-use Rattle.mkv_run.specs.Ends.{Ends, EndsOutside}
-use Rattle.mkv_run.specs.Run.{verdict_in}
-use Rattle.mkv_run.specs.RunSeen.{RunSeen, run_seen}
-use Rattle.mkv_run.proofs.MergedLemmas.{merges-again, merges-well}
-use Rattle.mkv_run.proofs.RunLemmas.{ends-done, fault-alone, fault-told, stops-saying, touches-moment}
+use Rattle.mkv_run.specs.Touched.{LeftOnTheWay}
+use Rattle.mkv_run.proofs.SeenLemmas.{crash-seen, leaves-seen}
 use Rattle.mkv_run.proofs.running.run.Goals as goal
 
--- ---- the lines and the outputs
-
--- the files failed, and the line of the fault follows
-pub returns-in-Err-Files-clause-verdict : goal.returns-in-Err-Files-clause-verdict
-returns-in-Err-Files-clause-verdict g c = λ verdict told.
-    let faults = g.R.Report.faults in let lines = g.R.Report.lines in let names = g.F.Files.names in
-    let was = run_seen g.F.Reads g.F.Files g.D.Reads g.D.Disk g.R.Report c.args.files.now c.args.disk.now c.args.report.now in
-    let now = run_seen g.F.Reads g.F.Files g.D.Reads g.D.Disk g.R.Report c.carry_out.new.files c.carry_out.new.disk c.say_files_fault.new.report in
-    let cause = rw c.in-Err-Files.field-0-is at c.in-Err-Files.ensures.ended.cause in
-    let stopped = c.in-Err-Files.ensures.verdict verdict told in
-    stops-saying (SaysPart (lines c.args.report.now) (lines c.carry_out.new.report)) (EndsOutside was now) (names c.args.files.now) (names c.carry_out.new.files) verdict
-    (λ all part.
-    let ends = fault-told files_fault_line (faults c.carry_out.new.report) (faults c.say_files_fault.new.report) (lines c.args.report.now) (lines c.carry_out.new.report) (lines c.say_files_fault.new.report) all c.say_files_fault.result
-    part c.say_files_fault.ensures.said c.say_files_fault.ensures.cause c.say_files_fault.ensures.memory in
-    elim ends [
-      | inl says ↦ inl (cause.0, says)
-      | inr report ↦ inr (inr (subst (λ n. HasRisen n (faults c.say_files_fault.new.report)) cause.1 report.0, report.1))
-    ])
-    stopped
-
--- the disk failed, and the line of the fault stands alone
-pub returns-in-Err-Disk-clause-verdict : goal.returns-in-Err-Disk-clause-verdict
-returns-in-Err-Disk-clause-verdict g c = λ verdict told.
-    let faults = g.R.Report.faults in let lines = g.R.Report.lines in let names = g.F.Files.names in
-    let was = run_seen g.F.Reads g.F.Files g.D.Reads g.D.Disk g.R.Report c.args.files.now c.args.disk.now c.args.report.now in
-    let now = run_seen g.F.Reads g.F.Files g.D.Reads g.D.Disk g.R.Report c.carry_out.new.files c.carry_out.new.disk c.say_disk_fault.new.report in
-    let cause = rw c.in-Err-Disk.field-0-is at c.in-Err-Disk.ensures.ended.cause in
-    let stopped = c.in-Err-Disk.ensures.verdict verdict told in
-    stops-saying (SaysPart (lines c.args.report.now) (lines c.carry_out.new.report)) (EndsOutside was now) (names c.args.files.now) (names c.carry_out.new.files) verdict
-    (λ all part.
-    let ends = fault-alone disk_fault_line (faults c.carry_out.new.report) (faults c.say_disk_fault.new.report) (lines c.args.report.now) (lines c.carry_out.new.report) (lines c.say_disk_fault.new.report) all c.say_disk_fault.result
-    cause.2 c.say_disk_fault.ensures.said c.say_disk_fault.ensures.cause c.say_disk_fault.ensures.memory in
-    elim ends [
-      | inl says ↦ inr (inl (cause.0, says))
-      | inr report ↦ inr (inr (subst (λ n. HasRisen n (faults c.say_disk_fault.new.report)) (ap (λ (counts : Counts). counts.report) cause.1) report.0, report.1))
-    ])
-    stopped
-
--- the report failed
-pub returns-in-Err-Report-clause-verdict : goal.returns-in-Err-Report-clause-verdict
-returns-in-Err-Report-clause-verdict g c = λ verdict told.
-    let lines = g.R.Report.lines in let names = g.F.Files.names in
-    let was = run_seen g.F.Reads g.F.Files g.D.Reads g.D.Disk g.R.Report c.args.files.now c.args.disk.now c.args.report.now in
-    let now = run_seen g.F.Reads g.F.Files g.D.Reads g.D.Disk g.R.Report c.carry_out.new.files c.carry_out.new.disk c.carry_out.new.report in
-    let cause = rw c.in-Err-Report.field-0-is at c.in-Err-Report.ensures.ended.cause in
-    let stopped = c.in-Err-Report.ensures.verdict verdict told in
-    stops-saying (SaysPart (lines c.args.report.now) (lines c.carry_out.new.report)) (EndsOutside was now) (names c.args.files.now) (names c.carry_out.new.files) verdict
-    (λ all part. inr (inr (cause.0, part)))
-    stopped
-
--- a command that ended well has written the merge that was asked for; and what a merge wrote as it was
-pub returns-in-Ok-clause-merged : goal.returns-in-Ok-clause-merged
-returns-in-Ok-clause-merged g c =
-    let before : RunSeen = run_seen g.F.Reads g.F.Files g.D.Reads g.D.Disk g.R.Report c.args.files.now c.args.disk.now c.args.report.now in
-    let now : RunSeen = run_seen g.F.Reads g.F.Files g.D.Reads g.D.Disk g.R.Report c.carry_out.new.files c.carry_out.new.disk c.carry_out.new.report in
-    let words = c.args.words.now.items in
-    let disk = disk_world g.D.Disk c.args.disk.now in
-    let status = c.in-Ok.status in
-    let ended : Told (verdict_in before.seen.names disk (texts words)) (Ends before now status) = λ verdict told. ends-done before now status verdict c.in-Ok.ensures.ended.ordinary (c.in-Ok.ensures.verdict verdict told) in
-    let well = merges-well before now disk words status c.in-Ok.ensures.readable ended in
-    record { well = well; again = merges-again c.outputs_are_written_again.ensures before now disk words status well ended }
-
--- ---- what a crash leaves
-
-pub returns-in-Ok-clause-any_moment : goal.returns-in-Ok-clause-any_moment
-returns-in-Ok-clause-any_moment g c = λ rest.
-    touches-moment g.D.Reads g.D.Disk (reach_for c.args.words.now.items) c.args.files.now c.carry_out.new.files c.args.disk.now c.carry_out.new.disk (status_of c.carry_out.result)
-    rest (g.met.D.Disk.only_now c.args.disk.now) c.carry_out.ensures.touches
-
-pub returns-in-Err-Memory-clause-any_moment : goal.returns-in-Err-Memory-clause-any_moment
-returns-in-Err-Memory-clause-any_moment g c = λ rest.
-    touches-moment g.D.Reads g.D.Disk (reach_for c.args.words.now.items) c.args.files.now c.carry_out.new.files c.args.disk.now c.carry_out.new.disk (status_of c.carry_out.result)
-    rest (g.met.D.Disk.only_now c.args.disk.now) c.carry_out.ensures.touches
-
-pub returns-in-Err-Report-clause-any_moment : goal.returns-in-Err-Report-clause-any_moment
-returns-in-Err-Report-clause-any_moment g c = λ rest.
-    touches-moment g.D.Reads g.D.Disk (reach_for c.args.words.now.items) c.args.files.now c.carry_out.new.files c.args.disk.now c.carry_out.new.disk (status_of c.carry_out.result)
-    rest (g.met.D.Disk.only_now c.args.disk.now) c.carry_out.ensures.touches
-
-pub returns-in-Err-Files-clause-any_moment : goal.returns-in-Err-Files-clause-any_moment
-returns-in-Err-Files-clause-any_moment g c = λ rest.
-    touches-moment g.D.Reads g.D.Disk (reach_for c.args.words.now.items) c.args.files.now c.carry_out.new.files c.args.disk.now c.carry_out.new.disk (status_of c.carry_out.result)
-    rest (g.met.D.Disk.only_now c.args.disk.now) c.carry_out.ensures.touches
-
-pub returns-in-Err-Disk-clause-any_moment : goal.returns-in-Err-Disk-clause-any_moment
-returns-in-Err-Disk-clause-any_moment g c = λ rest.
-    touches-moment g.D.Reads g.D.Disk (reach_for c.args.words.now.items) c.args.files.now c.carry_out.new.files c.args.disk.now c.carry_out.new.disk (status_of c.carry_out.result)
-    rest (g.met.D.Disk.only_now c.args.disk.now) c.carry_out.ensures.touches
+-- all that is promised, of what is seen
+pub returns : goal.returns
+returns g c =
+    let did = c.run_to_end.ensures in
+    let reach = reach_for c.args.words.now.items in
+    let pair = g.D.Disk.pair c.args.disk.now in
+    record {
+      does_what_is_defined = did.verdict;
+      blames_rightly = did.cause;
+      closes_its_files = did.files.live;
+      asks_for_no_more = did.files.asks;
+      reads_at_most = did.octets;
+      leaves_the_rest = leaves-seen g.F.Reads g.F.Files g.D.Reads g.D.Disk g.R.Report c.args.files.now c.run_to_end.new.files c.args.disk.now c.run_to_end.new.disk
+          c.args.report.now c.run_to_end.new.report g.met.D.Disk.pair_stands g.met.D.Disk.opened_stands reach c.run_to_end.result did.touches;
+      merge_holds = did.merged.well;
+      merge_repeats = did.merged.again;
+      survives_crashes = λ told synced. crash-seen g.F.Reads g.F.Files g.D.Reads g.D.Disk g.R.Report c.args.files.now c.run_to_end.new.files c.args.disk.now c.run_to_end.new.disk
+          c.args.report.now c.run_to_end.new.report g.met.D.Disk.pair_stands g.met.D.Disk.opened_stands (LeftOnTheWay reach pair.media.reads pair.sidecar.reads) (did.any_moment (λ is. synced) told);
+    }

@@ -1,0 +1,80 @@
+-- What a run promises of its files, its disk and its report, said of what is seen of them.
+use Rattle.std.proofs.Common.{◌≡◌, ◌⊎◌, ℕ, List, Some, inl, inr, ap}
+use Rattle.mkv_io.specs.Sources.{live_files}
+use Rattle.mkv_io.specs.declared.files.Files.{Ghosts as FilesGhosts}
+use Rattle.mkv_io.specs.declared.reads.Reads.{Ghosts as ReadsGhosts}
+use Rattle.mkv_io.specs.declared.report.Report.{Ghosts as ReportGhosts}
+use Rattle.mkv_disk.specs.Moments.{LeavesOnly}
+use Rattle.mkv_disk.specs.declared.disk.Disk.{Ghosts as DiskGhosts}
+use Rattle.mkv_lines.specs.declared.status.Status.{Status}
+use Rattle.mkv_lines.specs.declared.status.Status.TheVariants as status
+use Rattle.mkv_propedit.specs.Recovery.{IsUnopened}
+use Rattle.mkv_run.specs.Kept.{EditKeepsRest, IndexKeepsRest}
+use Rattle.word_values.specs.declared.edit.Edit.{Edit}
+use Rattle.mkv_run.specs.Outside.{Outside, outside}
+use Rattle.mkv_run.specs.Runs.{CrashLeavesOnly, DiskStays, FilesStay, IndexesAll, KeepsRestOf, Leaves, OpensOrLeaves}
+use Rattle.mkv_run.specs.Touched.{Reach, Touches, edited, files, indexed, nothing, recovered}
+
+module _ {F D R : Type 0} (r : ReadsGhosts F) (f : FilesGhosts F) (s : ReadsGhosts D) (d : DiskGhosts D) (p : ReportGhosts R)
+    (was now : F) (old new : D) (report report' : R)
+    (pairs : (a b : D) → s.standing a ≡ s.standing b → d.pair a ≡ d.pair b)
+    (names : (a b : D) → s.standing a ≡ s.standing b → d.opened a ≡ d.opened b) where
+  abbrev before : Outside
+  before = outside r f s d p was old report
+
+  abbrev after : Outside
+  after = outside r f s d p now new report'
+
+  -- files that are as they were are seen as they were
+  files-stay : now ≡ was → FilesStay before after
+  files-stay same = record {
+    names = ap f.names same;
+    live = ap (λ (x : F). (live_files r x).live) same;
+    asked = ap f.asked same;
+    reading = ap r.reading_faults same;
+    writing = ap f.writing_faults same;
+  }
+
+  -- so is a disk
+  disk-stays : new ≡ old → DiskStays before after
+  disk-stays same = record {
+    disk = λ i. record { pair = d.pair (same i); opened = d.opened (same i) };
+    faults = λ i. record { reading = s.reading_faults (same i); writing = d.writing_faults (same i) };
+  }
+
+  -- a pair that wasn't opened is as it was
+  unopened : (name : List ℕ) (e : Status) → IsUnopened s d name old new e → OpensOrLeaves name before after e
+  unopened name e is =
+      let pair = pairs new old is.standing in
+      let opened = names new old is.standing in
+      inr (λ i. record { pair = pair i; opened = opened i }, is.not_done, is.missing)
+
+  opens : (name : List ℕ) (e : Status) → (d.opened new ≡ Some name) ⊎ IsUnopened s d name old new e → OpensOrLeaves name before after e
+  opens name e (inl is) = inl is
+  opens name e (inr is) = unopened name e is
+
+  rest-kept : (edits : List Edit) (e : Status) → EditKeepsRest d edits old new e → KeepsRestOf edits before after e
+  rest-kept edits status.Done kept = kept
+  rest-kept edits status.Warned kept = tt
+  rest-kept edits status.Refused kept = tt
+  rest-kept edits status.NoMemory kept = tt
+  rest-kept edits status.Outside kept = tt
+
+  all-indexed : (e : Status) → IndexKeepsRest d old new e → IndexesAll before after e
+  all-indexed status.Done kept = kept
+  all-indexed status.Warned kept = tt
+  all-indexed status.Refused kept = tt
+  all-indexed status.NoMemory kept = tt
+  all-indexed status.Outside kept = tt
+
+  -- what isn't reached is seen as it was
+  pub leaves-seen : (reach : Reach) (e : Status) → Touches s d reach was now old new e → Leaves reach before after e
+  leaves-seen nothing e touches = (files-stay touches.0, disk-stays touches.1)
+  leaves-seen files e touches = disk-stays touches
+  leaves-seen (recovered file) e touches = (files-stay touches.0, opens file e touches.1.opened, touches.1.leaves.pair)
+  leaves-seen (edited file edits) e touches = (files-stay touches.0, opens file e touches.1.opened, touches.1.leaves.pair, rest-kept edits e touches.2)
+  leaves-seen (indexed file) e touches = (files-stay touches.0, opens file e touches.1.opened, touches.1.leaves.pair, all-indexed e touches.2)
+
+  -- what a crash leaves
+  pub crash-seen : (P : List ℕ → List ℕ → Type 0) → LeavesOnly d.moment d.left_since old new P → CrashLeavesOnly before after P
+  crash-seen P leaves = record { later = leaves.later; each = leaves.each; earlier = leaves.before }
