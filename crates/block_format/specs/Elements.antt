@@ -13,7 +13,7 @@ use Rattle.mkv_schema.specs.Elements.{Run, children_in}
 use Rattle.mkv_schema.specs.Value.{body_of, first_of}
 use Rattle.mkv_schema.specs.Outline.{first_damage, where_it, bad_value}
 use Rattle.mkv_io.specs.Results.{unless, and_then}
-use Rattle.block_format.specs.declared.limits.TheConstants.{SLICES, MOST_OF_BLOCK, MOST_REFERENCES}
+use Rattle.block_format.specs.declared.limits.TheConstants.{SLICES, MAX_BLOCK_LEN, MAX_REFERENCES}
 use Rattle.block_format.specs.Content.{Content, content_in, is_invisible, lace_of}
 use Rattle.block_format.specs.Block.{Block, nanoseconds, time_of, has_too_large_time, simple_block_with}
 
@@ -33,7 +33,7 @@ without_limits scale = record { limits = false; scale = scale }
 
 -- its body is longer than a reader takes
 abbrev pub too_long : Rules → Header → Option Damage
-too_long r h = where_it (r.limits && nat_lt MOST_OF_BLOCK (known h.size)) (damage BlockTooLarge h.id h.offset)
+too_long r h = where_it (r.limits && nat_lt MAX_BLOCK_LEN (known h.size)) (damage BlockTooLarge h.id h.offset)
 
 -- the Timestamp that stands before it
 abbrev pub timestamp_or : Header → Option ℕ → Result ℕ Damage
@@ -86,7 +86,7 @@ references_among children = filter (λ c. c.id == REFERENCE_BLOCK) children
 -- the first ReferenceBlock that is one too many for a reader
 abbrev pub too_many_references : Rules → List Header → Option Damage
 too_many_references r children =
-    if r.limits then option_map (λ (c : Header). damage TooMany c.id c.offset) (slice_get (references_among children) MOST_REFERENCES) else None
+    if r.limits then option_map (λ (c : Header). damage TooMany c.id c.offset) (slice_get (references_among children) MAX_REFERENCES) else None
 
 -- the BlockDuration, of several the first
 abbrev pub duration_of : ℕ → List ℕ → List Header → Option ℕ

@@ -9,7 +9,7 @@ use Rattle.mkv_schema.specs.Element.{in_master, is_unknown, known, stated_end, e
 use Rattle.mkv_schema.specs.Elements.{Run, children_in, open_cluster}
 use Rattle.mkv_schema.specs.Value.{body_of}
 use Rattle.mkv_schema.specs.Outline.{segment_bound, segment_run}
-use Rattle.block_format.specs.declared.limits.TheConstants.{MOST_TIMESTAMP}
+use Rattle.block_format.specs.declared.limits.TheConstants.{MAX_TIMESTAMP_LEN}
 use Rattle.block_format.specs.Block.{Block}
 use Rattle.block_format.specs.Elements.{Rules, simple_block, block_group}
 
@@ -21,7 +21,7 @@ Found = Result Block Damage
 
 -- a Timestamp of more octets than an integer has
 abbrev pub found_in_timestamp : Header → List Found
-found_in_timestamp h = if nat_lt MOST_TIMESTAMP (known h.size) then Err (damage BadValue h.id h.offset) ∷ [] else []
+found_in_timestamp h = if nat_lt MAX_TIMESTAMP_LEN (known h.size) then Err (damage BadValue h.id h.offset) ∷ [] else []
 
 -- what a child of a Cluster gives, where this Timestamp stands before it
 abbrev pub found_at : Rules → List ℕ → Option ℕ → Header → List Found

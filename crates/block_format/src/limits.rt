@@ -4,13 +4,13 @@
 pub const SLICES: u32 = 0x8E;
 
 /// The most octets of a SimpleBlock's or a BlockGroup's body.
-pub const MOST_OF_BLOCK: u64 = 32 * 1024 * 1024;
+pub const MAX_BLOCK_LEN: u64 = 32 * 1024 * 1024;
 
 /// The most ReferenceBlocks of a BlockGroup.
-pub const MOST_REFERENCES: usize = 64;
+pub const MAX_REFERENCES: usize = 64;
 
 /// The most octets of a Cluster's Timestamp.
-pub const MOST_TIMESTAMP: u64 = 8;
+pub const MAX_TIMESTAMP_LEN: u64 = 8;
 
 /// The least number of nanoseconds that is too large for a time, a duration or a reference, before
 /// the start or behind it.

@@ -11,7 +11,7 @@ use Rattle.mkv_schema.specs.declared.element.Header.{Header}
 use Rattle.mkv_schema.specs.Element.{known, damage, stated_end}
 use Rattle.mkv_schema.specs.Value.{body_of}
 use Rattle.mkv_io.specs.Results.{unless, and_then}
-use Rattle.block_format.specs.declared.limits.TheConstants.{MOST_TIMESTAMP}
+use Rattle.block_format.specs.declared.limits.TheConstants.{MAX_TIMESTAMP_LEN}
 use Rattle.block_format.specs.Block.{Block}
 use Rattle.block_format.specs.Elements.{Rules, too_long, timestamp_or, timestamp_for, simple_block, block_group}
 use Rattle.block_format.specs.Events.{found_at}
@@ -56,7 +56,7 @@ block_found-group r bytes timestamp h other = cond-false (h.id == SIMPLE_BLOCK) 
 -- what gives a block is no Timestamp
 pub block-no_timestamp : (r : Rules) (bytes : List ℕ) (timestamp : Option ℕ) (h : Header) (b : Block) → found_at r bytes timestamp h ≡ Ok b ∷ [] → h.id ≡ TIMESTAMP → ⊥
 block-no_timestamp r bytes timestamp h b gives is =
-    split (nat_lt MOST_TIMESTAMP (known h.size)) (sym (cond-true (h.id == TIMESTAMP) _ _ (grind (arith, nat_tests))) ∙ gives)
+    split (nat_lt MAX_TIMESTAMP_LEN (known h.size)) (sym (cond-true (h.id == TIMESTAMP) _ _ (grind (arith, nat_tests))) ∙ gives)
   where
     split : (long : Bool) → (if long then Err (damage BadValue h.id h.offset) ∷ [] else []) ≡ Ok b ∷ [] → ⊥
     split true gives = cc

@@ -14,7 +14,7 @@ use Rattle.block_format.specs.Elements.{Rules}
 use Rattle.block_format.specs.Events.{Event, Found, block, damaged, stopped, found_at, found_among, found_in_run, found_behind, timestamp_behind, is_closed, events_then, events_in_run}
 use Rattle.cluster_reader.specs.Left.{left, left_in, left_inside, left_at_level_1, place_behind, ends_children, children_from}
 use Rattle.cluster_reader.specs.declared.place.Place.{Place}
-use Rattle.cluster_reader.specs.declared.place.Inside.{Inside}
+use Rattle.cluster_reader.specs.declared.place.OpenCluster.{OpenCluster}
 
 -- what is left outside of Clusters, by the Elements that follow
 outside_is : (r : Rules) (bytes : List ℕ) (p : Place) (run : Run) → p.cluster ≡ None → level_1 bytes p.size p.at p.end ≡ run → left r bytes p ≡ events_in_run r bytes p.end run
@@ -22,7 +22,7 @@ unfolding left
 outside_is r bytes p run outside is = ap (left_in r bytes p) outside ∙ ap (events_in_run r bytes p.end) is
 
 -- what is left inside a Cluster, by the children that follow
-inside_is : (r : Rules) (bytes : List ℕ) (p : Place) (c : Inside) (run : Run) → p.cluster ≡ Some c → children_from bytes p.at c ≡ run → left r bytes p ≡ left_inside r bytes p.size p.end c run
+inside_is : (r : Rules) (bytes : List ℕ) (p : Place) (c : OpenCluster) (run : Run) → p.cluster ≡ Some c → children_from bytes p.at c ≡ run → left r bytes p ≡ left_inside r bytes p.size p.end c run
 unfolding left
 inside_is r bytes p c run inside is = ap (left_in r bytes p) inside ∙ ap (left_inside r bytes p.size p.end c) is
 
@@ -51,7 +51,7 @@ left-skips r bytes p q h outside inside is goes other known moves =
     ∙ sym (ap (left r bytes) moves ∙ ap (left_in r bytes (record p { at = end_in p.end h })) outside)
 
 -- a Cluster that is entered, in a file of `total` octets
-abbrev entered_cluster : Place → Header → ℕ → Bool → Inside
+abbrev entered_cluster : Place → Header → ℕ → Bool → OpenCluster
 entered_cluster p h total unknown = record {
   end = if unknown then p.end else end_in p.end h;
   closed = not unknown && nat_le (stated_end h) total;
@@ -121,36 +121,36 @@ left-enters r bytes p q h total whole outside inside is goes cluster moves =
 -- ---- inside a Cluster
 
 -- at its end it has no more children
-children-end : (bytes : List ℕ) (at : ℕ) (c : Inside) → c.end ≤ at → children_from bytes at c ≡ ends_at at
+children-end : (bytes : List ℕ) (at : ℕ) (c : OpenCluster) → c.end ≤ at → children_from bytes at c ≡ ends_at at
 children-end bytes at c past = elements-end in_master (ends_children c.unknown) (λ h. Ok (end_in c.end h)) bytes at c.end past
 
 -- before it, what is found there
-at_place : List ℕ → ℕ → Inside → Result Header Damage → Run
+at_place : List ℕ → ℕ → OpenCluster → Result Header Damage → Run
 at_place bytes at c found = if ends_children c.unknown (id_of found) then ends_at at else step at (λ h. Ok (end_in c.end h)) found (λ q. children_from bytes q c)
 
-children-step : (bytes : List ℕ) (at : ℕ) (c : Inside) (found : Result Header Damage) → at < c.end → found ≡ element_at in_master bytes at c.end → children_from bytes at c ≡ at_place bytes at c found
+children-step : (bytes : List ℕ) (at : ℕ) (c : OpenCluster) (found : Result Header Damage) → at < c.end → found ≡ element_at in_master bytes at c.end → children_from bytes at c ≡ at_place bytes at c found
 unfolding at_place
 children-step bytes at c found earlier is =
     elements-more in_master (ends_children c.unknown) (λ h. Ok (end_in c.end h)) bytes at c.end (Advances-known in_master bytes c.end) earlier
     ∙ ap (at_place bytes at c) (sym is)
 
 -- an ID that ends the children
-children-stops : (bytes : List ℕ) (at : ℕ) (c : Inside) (found : Result Header Damage) → at < c.end → found ≡ element_at in_master bytes at c.end → ends_children c.unknown (id_of found) ≡ true → children_from bytes at c ≡ ends_at at
+children-stops : (bytes : List ℕ) (at : ℕ) (c : OpenCluster) (found : Result Header Damage) → at < c.end → found ≡ element_at in_master bytes at c.end → ends_children c.unknown (id_of found) ≡ true → children_from bytes at c ≡ ends_at at
 unfolding at_place
 children-stops bytes at c found earlier is stops = children-step bytes at c found earlier is ∙ cond-true (ends_children c.unknown (id_of found)) _ _ stops
 
 -- a damage
-children-breaks : (bytes : List ℕ) (at : ℕ) (c : Inside) (d : Damage) → at < c.end → Err d ≡ element_at in_master bytes at c.end → ends_children c.unknown (id_of (Err d)) ≡ false → children_from bytes at c ≡ breaks_at at d
+children-breaks : (bytes : List ℕ) (at : ℕ) (c : OpenCluster) (d : Damage) → at < c.end → Err d ≡ element_at in_master bytes at c.end → ends_children c.unknown (id_of (Err d)) ≡ false → children_from bytes at c ≡ breaks_at at d
 unfolding at_place
 children-breaks bytes at c d earlier is goes = children-step bytes at c (Err d) earlier is ∙ cond-false (ends_children c.unknown d.id) _ _ goes
 
 -- a child
-children-goes_on : (bytes : List ℕ) (at : ℕ) (c : Inside) (h : Header) → at < c.end → Ok h ≡ element_at in_master bytes at c.end → ends_children c.unknown (id_of (Ok h)) ≡ false → children_from bytes at c ≡ in_front h (children_from bytes (end_in c.end h) c)
+children-goes_on : (bytes : List ℕ) (at : ℕ) (c : OpenCluster) (h : Header) → at < c.end → Ok h ≡ element_at in_master bytes at c.end → ends_children c.unknown (id_of (Ok h)) ≡ false → children_from bytes at c ≡ in_front h (children_from bytes (end_in c.end h) c)
 unfolding at_place
 children-goes_on bytes at c h earlier is goes = children-step bytes at c (Ok h) earlier is ∙ cond-false (ends_children c.unknown h.id) _ _ goes
 
 -- what is left where a child gives this
-abbrev after_child : Rules → List ℕ → Place → Inside → Header → List Found → List Event
+abbrev after_child : Rules → List ℕ → Place → OpenCluster → Header → List Found → List Event
 after_child r bytes p c h found =
     let run = children_from bytes (end_in c.end h) c in
     events_then c.closed ((found ++ found_among r bytes (timestamp_behind bytes c.timestamp h) run.list) ++ found_behind run.damage)
@@ -164,7 +164,7 @@ timestamp-same bytes None h other =
     cond-false (h.id == TIMESTAMP) _ _ test
 
 -- behind a damage reading goes on where the Cluster ends
-breaks_closed : (r : Rules) (bytes : List ℕ) (p q : Place) (c : Inside) (d : Damage) (found : List Found) (end : ℕ) → c.closed ≡ true → c.unknown ≡ false → q ≡ record p { at = c.end; cluster = None } → events_then c.closed (Err d ∷ found) (left_at_level_1 r bytes p.size (if c.unknown then end else c.end) p.end) ≡ damaged d ∷ left r bytes q
+breaks_closed : (r : Rules) (bytes : List ℕ) (p q : Place) (c : OpenCluster) (d : Damage) (found : List Found) (end : ℕ) → c.closed ≡ true → c.unknown ≡ false → q ≡ record p { at = c.end; cluster = None } → events_then c.closed (Err d ∷ found) (left_at_level_1 r bytes p.size (if c.unknown then end else c.end) p.end) ≡ damaged d ∷ left r bytes q
 unfolding left
 breaks_closed r bytes p q c d found end closed known moves =
     cond-true c.closed _ _ closed
@@ -172,7 +172,7 @@ breaks_closed r bytes p q c d found end closed known moves =
     ∙ sym (ap (λ l. damaged d ∷ left r bytes l) moves)
 
 -- at its end it is left
-pub left-leaves : (r : Rules) (bytes : List ℕ) (p q : Place) (c : Inside) → p.cluster ≡ Some c → p.at ≡ c.end → q ≡ record p { at = c.end; cluster = None } → left r bytes p ≡ left r bytes q
+pub left-leaves : (r : Rules) (bytes : List ℕ) (p q : Place) (c : OpenCluster) → p.cluster ≡ Some c → p.at ≡ c.end → q ≡ record p { at = c.end; cluster = None } → left r bytes p ≡ left r bytes q
 unfolding left
 left-leaves r bytes p q c inside past moves =
     inside_is r bytes p c (ends_at p.at) inside (children-end bytes p.at c (omega arith))
@@ -184,7 +184,7 @@ left-leaves r bytes p q c inside past moves =
     behind false = refl
 
 -- so it is before an ID of level 1 or 0, where its size is unknown
-pub left-gives_way : (r : Rules) (bytes : List ℕ) (p q : Place) (c : Inside) (found : Result Header Damage) → p.cluster ≡ Some c → p.at < c.end → found ≡ element_at in_master bytes p.at c.end → c.unknown ≡ true → ends_cluster (id_of found) ≡ true → q ≡ record p { cluster = None } → left r bytes p ≡ left r bytes q
+pub left-gives_way : (r : Rules) (bytes : List ℕ) (p q : Place) (c : OpenCluster) (found : Result Header Damage) → p.cluster ≡ Some c → p.at < c.end → found ≡ element_at in_master bytes p.at c.end → c.unknown ≡ true → ends_cluster (id_of found) ≡ true → q ≡ record p { cluster = None } → left r bytes p ≡ left r bytes q
 unfolding left
 left-gives_way r bytes p q c found inside earlier is unknown stops moves =
     let ends : ends_children c.unknown (id_of found) ≡ true = ap (λ u. ends_children u (id_of found)) unknown ∙ stops in
@@ -193,20 +193,20 @@ left-gives_way r bytes p q c found inside earlier is unknown stops moves =
     ∙ sym (ap (left r bytes) moves)
 
 -- a damage among the children: reading goes on behind a closed Cluster
-pub left-child_breaks : (r : Rules) (bytes : List ℕ) (p q : Place) (c : Inside) (d : Damage) → p.cluster ≡ Some c → p.at < c.end → Err d ≡ element_at in_master bytes p.at c.end → ends_children c.unknown (id_of (Err d)) ≡ false → c.closed ≡ true → c.unknown ≡ false → q ≡ record p { at = c.end; cluster = None } → left r bytes p ≡ damaged d ∷ left r bytes q
+pub left-child_breaks : (r : Rules) (bytes : List ℕ) (p q : Place) (c : OpenCluster) (d : Damage) → p.cluster ≡ Some c → p.at < c.end → Err d ≡ element_at in_master bytes p.at c.end → ends_children c.unknown (id_of (Err d)) ≡ false → c.closed ≡ true → c.unknown ≡ false → q ≡ record p { at = c.end; cluster = None } → left r bytes p ≡ damaged d ∷ left r bytes q
 unfolding left
 left-child_breaks r bytes p q c d inside earlier is goes closed known moves =
     inside_is r bytes p c (breaks_at p.at d) inside (children-breaks bytes p.at c d earlier is goes)
     ∙ breaks_closed r bytes p q c d [] p.at closed known moves
 
 -- and ends behind another
-pub left-child_stops : (r : Rules) (bytes : List ℕ) (p : Place) (c : Inside) (d : Damage) → p.cluster ≡ Some c → p.at < c.end → Err d ≡ element_at in_master bytes p.at c.end → ends_children c.unknown (id_of (Err d)) ≡ false → c.closed ≡ false → left r bytes p ≡ stopped d ∷ []
+pub left-child_stops : (r : Rules) (bytes : List ℕ) (p : Place) (c : OpenCluster) (d : Damage) → p.cluster ≡ Some c → p.at < c.end → Err d ≡ element_at in_master bytes p.at c.end → ends_children c.unknown (id_of (Err d)) ≡ false → c.closed ≡ false → left r bytes p ≡ stopped d ∷ []
 left-child_stops r bytes p c d inside earlier is goes open_cluster =
     inside_is r bytes p c (breaks_at p.at d) inside (children-breaks bytes p.at c d earlier is goes)
     ∙ cond-false c.closed _ _ open_cluster
 
 -- a child that gives nothing is passed; it may be the first Timestamp
-pub left-passes : (r : Rules) (bytes : List ℕ) (p q : Place) (c : Inside) (h : Header) → p.cluster ≡ Some c → p.at < c.end → Ok h ≡ element_at in_master bytes p.at c.end → ends_children c.unknown (id_of (Ok h)) ≡ false → found_at r bytes c.timestamp h ≡ [] → q ≡ record p { at = end_in c.end h; cluster = Some (record c { timestamp = timestamp_behind bytes c.timestamp h }) } → left r bytes p ≡ left r bytes q
+pub left-passes : (r : Rules) (bytes : List ℕ) (p q : Place) (c : OpenCluster) (h : Header) → p.cluster ≡ Some c → p.at < c.end → Ok h ≡ element_at in_master bytes p.at c.end → ends_children c.unknown (id_of (Ok h)) ≡ false → found_at r bytes c.timestamp h ≡ [] → q ≡ record p { at = end_in c.end h; cluster = Some (record c { timestamp = timestamp_behind bytes c.timestamp h }) } → left r bytes p ≡ left r bytes q
 unfolding left
 left-passes r bytes p q c h inside earlier is goes nothing moves =
     inside_is r bytes p c _ inside (children-goes_on bytes p.at c h earlier is goes)
@@ -214,7 +214,7 @@ left-passes r bytes p q c h inside earlier is goes nothing moves =
     ∙ sym (ap (left r bytes) moves)
 
 -- a block is given
-pub left-block : (r : Rules) (bytes : List ℕ) (p q : Place) (c : Inside) (h : Header) (b : Block) → p.cluster ≡ Some c → p.at < c.end → Ok h ≡ element_at in_master bytes p.at c.end → ends_children c.unknown (id_of (Ok h)) ≡ false → (h.id ≡ TIMESTAMP → ⊥) → found_at r bytes c.timestamp h ≡ Ok b ∷ [] → q ≡ record p { at = end_in c.end h } → left r bytes p ≡ block b ∷ left r bytes q
+pub left-block : (r : Rules) (bytes : List ℕ) (p q : Place) (c : OpenCluster) (h : Header) (b : Block) → p.cluster ≡ Some c → p.at < c.end → Ok h ≡ element_at in_master bytes p.at c.end → ends_children c.unknown (id_of (Ok h)) ≡ false → (h.id ≡ TIMESTAMP → ⊥) → found_at r bytes c.timestamp h ≡ Ok b ∷ [] → q ≡ record p { at = end_in c.end h } → left r bytes p ≡ block b ∷ left r bytes q
 unfolding left
 left-block r bytes p q c h b inside earlier is goes other gives moves =
     inside_is r bytes p c _ inside (children-goes_on bytes p.at c h earlier is goes)
@@ -223,7 +223,7 @@ left-block r bytes p q c h b inside earlier is goes other gives moves =
     ∙ sym (ap (λ l. block b ∷ left r bytes l) moves ∙ ap (λ i. block b ∷ left_in r bytes (record p { at = end_in c.end h }) i) inside)
 
 -- something is wrong with a child: reading goes on behind a closed Cluster
-pub left-bad : (r : Rules) (bytes : List ℕ) (p q : Place) (c : Inside) (h : Header) (d : Damage) → p.cluster ≡ Some c → p.at < c.end → Ok h ≡ element_at in_master bytes p.at c.end → ends_children c.unknown (id_of (Ok h)) ≡ false → found_at r bytes c.timestamp h ≡ Err d ∷ [] → c.closed ≡ true → c.unknown ≡ false → q ≡ record p { at = c.end; cluster = None } → left r bytes p ≡ damaged d ∷ left r bytes q
+pub left-bad : (r : Rules) (bytes : List ℕ) (p q : Place) (c : OpenCluster) (h : Header) (d : Damage) → p.cluster ≡ Some c → p.at < c.end → Ok h ≡ element_at in_master bytes p.at c.end → ends_children c.unknown (id_of (Ok h)) ≡ false → found_at r bytes c.timestamp h ≡ Err d ∷ [] → c.closed ≡ true → c.unknown ≡ false → q ≡ record p { at = c.end; cluster = None } → left r bytes p ≡ damaged d ∷ left r bytes q
 unfolding left
 left-bad r bytes p q c h d inside earlier is goes gives closed known moves =
     let run = children_from bytes (end_in c.end h) c in
@@ -232,7 +232,7 @@ left-bad r bytes p q c h d inside earlier is goes gives closed known moves =
     ∙ breaks_closed r bytes p q c d (found_among r bytes (timestamp_behind bytes c.timestamp h) run.list ++ found_behind run.damage) run.end closed known moves
 
 -- and ends behind another
-pub left-bad_stops : (r : Rules) (bytes : List ℕ) (p : Place) (c : Inside) (h : Header) (d : Damage) → p.cluster ≡ Some c → p.at < c.end → Ok h ≡ element_at in_master bytes p.at c.end → ends_children c.unknown (id_of (Ok h)) ≡ false → found_at r bytes c.timestamp h ≡ Err d ∷ [] → c.closed ≡ false → left r bytes p ≡ stopped d ∷ []
+pub left-bad_stops : (r : Rules) (bytes : List ℕ) (p : Place) (c : OpenCluster) (h : Header) (d : Damage) → p.cluster ≡ Some c → p.at < c.end → Ok h ≡ element_at in_master bytes p.at c.end → ends_children c.unknown (id_of (Ok h)) ≡ false → found_at r bytes c.timestamp h ≡ Err d ∷ [] → c.closed ≡ false → left r bytes p ≡ stopped d ∷ []
 left-bad_stops r bytes p c h d inside earlier is goes gives open_cluster =
     inside_is r bytes p c _ inside (children-goes_on bytes p.at c h earlier is goes)
     ∙ ap (λ found. after_child r bytes p c h found) gives

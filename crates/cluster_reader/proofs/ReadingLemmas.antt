@@ -1,7 +1,7 @@
 -- A reading among the files, and at the end.
 use Rattle.std.proofs.Common.{◌≡◌, ◌≤◌, ℕ, List, [], Option, sym, ◌∙◌, subst}
 use Rattle.mkv_io.specs.LiveFiles.{LiveFiles, IsSameFile}
-use Rattle.mkv_io.specs.Told.{Told}
+use Rattle.mkv_io.specs.Told.{IfVisible}
 use Rattle.elements.specs.Window.{Holds, HasNotPassed}
 use Rattle.block_format.specs.Elements.{with_limits}
 use Rattle.cluster_reader.specs.Reading.{Reading, CanRead, IsAtEnd, left_of}
@@ -18,6 +18,6 @@ CanRead-kept old new c same can =
     record {
       live = same.alive ∙ can.live;
       inside = subst (λ (n : ℕ). c.place.end ≤ n) size can.inside;
-      holds = subst (λ (o : Option (List ℕ)). Told o (λ bytes. Holds bytes c.ahead)) (sym (same.content can.live)) can.holds;
+      holds = subst (λ (o : Option (List ℕ)). IfVisible o (λ bytes. Holds bytes c.ahead)) (sym (same.content can.live)) can.holds;
       before = subst (λ (n : ℕ). HasNotPassed c.ahead c.place.at n) size can.before;
     }

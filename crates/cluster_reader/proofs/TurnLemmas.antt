@@ -11,7 +11,7 @@ use Rattle.cluster_reader.specs.Left.{left, left_in, ends_children}
 use Rattle.cluster_reader.specs.Places.{first_place, IsInCluster, behind_damage}
 use Rattle.cluster_reader.specs.Reading.{damage_event}
 use Rattle.cluster_reader.specs.declared.place.Place.{Place}
-use Rattle.cluster_reader.specs.declared.place.Inside.{Inside}
+use Rattle.cluster_reader.specs.declared.place.OpenCluster.{OpenCluster}
 use Rattle.cluster_reader.proofs.LeftLemmas.{left-end, left-gives_way, left-child_breaks, left-child_stops, left-bad, left-bad_stops}
 
 -- at the first place of a Segment all blocks and damages are left
@@ -24,13 +24,13 @@ ended : (unknown : Bool) (id : ℕ) → ends_children unknown id ≡ true → (u
 ended true id ends = (refl, ends)
 ended false id ends = absurd (cc)
 
-pub left-child_ends : (r : Rules) (bytes : List ℕ) (p q : Place) (c : Inside) (found : Result Header Damage) → p.cluster ≡ Some c → p.at < c.end → found ≡ element_at in_master bytes p.at c.end → ends_children c.unknown (id_of found) ≡ true → q ≡ record p { cluster = None } → left r bytes p ≡ left r bytes q
+pub left-child_ends : (r : Rules) (bytes : List ℕ) (p q : Place) (c : OpenCluster) (found : Result Header Damage) → p.cluster ≡ Some c → p.at < c.end → found ≡ element_at in_master bytes p.at c.end → ends_children c.unknown (id_of found) ≡ true → q ≡ record p { cluster = None } → left r bytes p ≡ left r bytes q
 left-child_ends r bytes p q c found inside before is ends moves =
     let both = ended c.unknown (id_of found) ends in
     left-gives_way r bytes p q c found inside before is both.0 both.1 moves
 
 -- Behind a damage the next Cluster follows, where this one is closed, else nothing.
-broken : (r : Rules) (bytes : List ℕ) (p : Place) (c : Inside) (d : Damage) → ((q : Place) → c.closed ≡ true → q ≡ record p { at = c.end; cluster = None } → left r bytes p ≡ damaged d ∷ left r bytes q) → (c.closed ≡ false → left r bytes p ≡ stopped d ∷ []) → left r bytes p ≡ damage_event (not c.closed) d ∷ left r bytes (behind_damage p c)
+broken : (r : Rules) (bytes : List ℕ) (p : Place) (c : OpenCluster) (d : Damage) → ((q : Place) → c.closed ≡ true → q ≡ record p { at = c.end; cluster = None } → left r bytes p ≡ damaged d ∷ left r bytes q) → (c.closed ≡ false → left r bytes p ≡ stopped d ∷ []) → left r bytes p ≡ damage_event (not c.closed) d ∷ left r bytes (behind_damage p c)
 broken r bytes p c d goes_on ends = split c.closed refl
   where
     q : Place
@@ -48,14 +48,14 @@ broken r bytes p c d goes_on ends = split c.closed refl
         ∙ ap (λ b. damage_event (not b) d ∷ left r bytes q) (sym is)
 
 -- a damage among the children
-pub left-child_damaged : (r : Rules) (bytes : List ℕ) (p : Place) (c : Inside) (d : Damage) → p.cluster ≡ Some c → IsInCluster p.at p.end c → p.at < c.end → Err d ≡ element_at in_master bytes p.at c.end → ends_children c.unknown (id_of (Err d)) ≡ false → left r bytes p ≡ damage_event (not c.closed) d ∷ left r bytes (behind_damage p c)
+pub left-child_damaged : (r : Rules) (bytes : List ℕ) (p : Place) (c : OpenCluster) (d : Damage) → p.cluster ≡ Some c → IsInCluster p.at p.end c → p.at < c.end → Err d ≡ element_at in_master bytes p.at c.end → ends_children c.unknown (id_of (Err d)) ≡ false → left r bytes p ≡ damage_event (not c.closed) d ∷ left r bytes (behind_damage p c)
 left-child_damaged r bytes p c d inside place before is goes =
     broken r bytes p c d
     (λ q closed moves. left-child_breaks r bytes p q c d inside before is goes closed (place.closed closed) moves)
     (λ cut. left-child_stops r bytes p c d inside before is goes cut)
 
 -- something is wrong with a child
-pub left-bad_child : (r : Rules) (bytes : List ℕ) (p : Place) (c : Inside) (h : Header) (d : Damage) → p.cluster ≡ Some c → IsInCluster p.at p.end c → p.at < c.end → Ok h ≡ element_at in_master bytes p.at c.end → ends_children c.unknown (id_of (Ok h)) ≡ false → found_at r bytes c.timestamp h ≡ Err d ∷ [] → left r bytes p ≡ damage_event (not c.closed) d ∷ left r bytes (behind_damage p c)
+pub left-bad_child : (r : Rules) (bytes : List ℕ) (p : Place) (c : OpenCluster) (h : Header) (d : Damage) → p.cluster ≡ Some c → IsInCluster p.at p.end c → p.at < c.end → Ok h ≡ element_at in_master bytes p.at c.end → ends_children c.unknown (id_of (Ok h)) ≡ false → found_at r bytes c.timestamp h ≡ Err d ∷ [] → left r bytes p ≡ damage_event (not c.closed) d ∷ left r bytes (behind_damage p c)
 left-bad_child r bytes p c h d inside place before is goes gives =
     broken r bytes p c d
     (λ q closed moves. left-bad r bytes p q c h d inside before is goes gives closed (place.closed closed) moves)

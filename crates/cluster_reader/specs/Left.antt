@@ -6,7 +6,7 @@ use Rattle.mkv_schema.specs.Elements.{Run, elements, never, ends_cluster, level_
 use Rattle.block_format.specs.Elements.{Rules}
 use Rattle.block_format.specs.Events.{Event, found_in_run, events_then, events_in_run}
 use Rattle.cluster_reader.specs.declared.place.Place.{Place}
-use Rattle.cluster_reader.specs.declared.place.Inside.{Inside}
+use Rattle.cluster_reader.specs.declared.place.OpenCluster.{OpenCluster}
 
 -- the IDs that end the children of a Cluster: those of level 1 and 0 where its size is unknown, else none
 abbrev pub ends_children : Bool → ℕ → Bool
@@ -14,7 +14,7 @@ ends_children true = ends_cluster
 ends_children false = never
 
 -- the children of a Cluster, from a place on
-abbrev pub children_from : List ℕ → ℕ → Inside → Run
+abbrev pub children_from : List ℕ → ℕ → OpenCluster → Run
 children_from bytes at c = elements in_master (ends_children c.unknown) (λ h. Ok (end_in c.end h)) bytes at c.end
 
 -- what is left from an Element of level 1 on
@@ -22,14 +22,14 @@ abbrev pub left_at_level_1 : Rules → List ℕ → Size → ℕ → ℕ → Lis
 left_at_level_1 r bytes size at end = events_in_run r bytes end (level_1 bytes size at end)
 
 -- where the Element behind a Cluster stands: one of unknown size ends with its children
-abbrev pub place_behind : Inside → Run → ℕ
+abbrev pub place_behind : OpenCluster → Run → ℕ
 place_behind c children = if c.unknown then children.end else c.end
 
-abbrev pub left_inside : Rules → List ℕ → Size → ℕ → Inside → Run → List Event
+abbrev pub left_inside : Rules → List ℕ → Size → ℕ → OpenCluster → Run → List Event
 left_inside r bytes size end c children =
     events_then c.closed (found_in_run r bytes c.timestamp children) (left_at_level_1 r bytes size (place_behind c children) end)
 
-abbrev pub left_in : Rules → List ℕ → Place → Option Inside → List Event
+abbrev pub left_in : Rules → List ℕ → Place → Option OpenCluster → List Event
 left_in r bytes p None = left_at_level_1 r bytes p.size p.at p.end
 left_in r bytes p (Some c) = left_inside r bytes p.size p.end c (children_from bytes p.at c)
 

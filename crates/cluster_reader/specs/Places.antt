@@ -4,7 +4,7 @@ use Rattle.mkv_schema.specs.declared.element.Header.{Header}
 use Rattle.mkv_schema.specs.Element.{end_in, is_unknown}
 use Rattle.block_format.specs.Events.{is_closed}
 use Rattle.cluster_reader.specs.declared.place.Place.{Place}
-use Rattle.cluster_reader.specs.declared.place.Inside.{Inside}
+use Rattle.cluster_reader.specs.declared.place.OpenCluster.{OpenCluster}
 
 -- up to where a Segment or a Cluster may reach, whose parent ends at e
 abbrev pub bound_in : ℕ → Header → ℕ
@@ -20,7 +20,7 @@ first_place segment total = record {
 }
 
 -- a Cluster whose children are read, in a file of `total` octets and a Segment that reaches up to e
-abbrev pub cluster_in : ℕ → ℕ → Header → Inside
+abbrev pub cluster_in : ℕ → ℕ → Header → OpenCluster
 cluster_in total e h = record {
   end = bound_in e h;
   closed = is_closed total h;
@@ -29,18 +29,18 @@ cluster_in total e h = record {
 }
 
 -- where a walk goes on behind a damage in a Cluster: behind it where it is closed, else at the end
-abbrev pub behind_damage : Place → Inside → Place
+abbrev pub behind_damage : Place → OpenCluster → Place
 behind_damage p c = record p { at = if c.closed then c.end else p.end; cluster = None }
 
 -- ---- which places there are
 
 -- A place is before a Cluster's end, which is within the Segment; one that is closed has a known size.
-pub record IsInCluster (p e : ℕ) (c : Inside) : Type 0 where
+pub record IsInCluster (p e : ℕ) (c : OpenCluster) : Type 0 where
   pub here : p ≤ c.end
   pub within : c.end ≤ e
   pub closed : c.closed ≡ true → c.unknown ≡ false
 
-abbrev pub IsInAny : ℕ → ℕ → Option Inside → Type 0
+abbrev pub IsInAny : ℕ → ℕ → Option OpenCluster → Type 0
 IsInAny p e None = ⊤
 IsInAny p e (Some c) = IsInCluster p e c
 
@@ -51,7 +51,7 @@ pub record IsPlace (p : Place) : Type 0 where
 
 -- ---- how far a walk can go on
 
-abbrev pub turns_to_leave : Option Inside → ℕ
+abbrev pub turns_to_leave : Option OpenCluster → ℕ
 turns_to_leave None = 0
 turns_to_leave (Some c) = 1
 
@@ -64,5 +64,5 @@ abbrev pub at_end : Place → Place
 at_end p = record p { at = p.end; cluster = None }
 
 -- the place behind a child of a Cluster, whose Timestamp is known or not
-abbrev pub behind_child : Place → Inside → Header → Option ℕ → Place
+abbrev pub behind_child : Place → OpenCluster → Header → Option ℕ → Place
 behind_child p c child timestamp = record p { at = end_in c.end child; cluster = Some (record c { timestamp = timestamp }) }

@@ -6,22 +6,22 @@ use Rattle.mkv_io.specs.declared.damage.Damage.{Damage}
 use Rattle.mkv_io.specs.Faults.{counted}
 use Rattle.mkv_io.specs.LiveFiles.{LiveFiles}
 use Rattle.mkv_io.specs.Sources.{file_size}
-use Rattle.mkv_io.specs.Told.{Told}
+use Rattle.mkv_io.specs.Told.{IfVisible}
 use Rattle.mkv_io.specs.declared.reads.Reads.{Ghosts}
 use Rattle.mkv_schema.specs.declared.element.Header.{Header}
 use Rattle.elements.specs.Window.{ReadAhead, Holds, HasNotPassed, end_ahead}
 use Rattle.block_format.specs.Block.{Block as AnyBlock}
 use Rattle.block_format.specs.Elements.{with_limits}
 use Rattle.block_format.specs.Events.{Event, block, damaged, events_of, stopped}
-use Rattle.block_records.specs.Buffered.{Buffered, block_of}
-use Rattle.block_records.specs.Lendable.{IsLendable, LendsNothing}
+use Rattle.block_reader.specs.Buffered.{Buffered, block_of}
+use Rattle.block_reader.specs.Lendable.{IsLendable, LendsNothing}
 use Rattle.cluster_reader.specs.Left.{left}
 use Rattle.cluster_reader.specs.Places.{first_place}
 use Rattle.cluster_reader.specs.Takes.{IsKnown}
 use Rattle.cluster_reader.specs.declared.place.Place.{Place}
 use Rattle.cluster_reader.specs.declared.step.Step.{Step}
-use Rattle.cluster_reader.specs.declared.takes.Takes.{Takes}
-use Rattle.cluster_reader.specs.declared.takes.Takes.TheVariants.{All, Track, Heads}
+use Rattle.cluster_reader.specs.declared.filter.BlockFilter.{BlockFilter}
+use Rattle.cluster_reader.specs.declared.filter.BlockFilter.TheVariants.{All, Track, Heads}
 use Rattle.cluster_reader.specs.declared.step.Step.TheVariants.{Block, Damaged, End}
 
 -- The file and its scale; the place of what is looked at next; what is held of the file; the block that was
@@ -57,13 +57,13 @@ Gives bytes old new (Ok End) = (left_of bytes old ≡ []) × (left_of bytes new 
 Gives bytes old new (Err end) = left_of bytes new ≡ left_of bytes old
 
 -- The first of what was left is a block, of which is known what is wanted.
-pub record GivesBlock (takes : Takes) (bytes : List ℕ) (old new : Reading) : Type 0 where
+pub record GivesBlock (takes : BlockFilter) (bytes : List ℕ) (old new : Reading) : Type 0 where
   pub given : AnyBlock
   pub left : left_of bytes old ≡ block given ∷ left_of bytes new
   pub known : IsKnown takes given new.block
 
 -- The same is given whichever blocks are wanted; what others hold isn't known.
-abbrev pub GivesWanted : Takes → List ℕ → Reading → Reading → Result Step ReadEnd → Type 0
+abbrev pub GivesWanted : BlockFilter → List ℕ → Reading → Reading → Result Step ReadEnd → Type 0
 GivesWanted takes bytes old new (Ok Block) = GivesBlock takes bytes old new
 GivesWanted takes bytes old new (Ok (Damaged d)) = Gives bytes old new (Ok (Damaged d))
 GivesWanted takes bytes old new (Ok End) = Gives bytes old new (Ok End)
@@ -94,7 +94,7 @@ LendsFor (Damaged d) b = ⊤
 LendsFor End b = ⊤
 
 -- One that is wanted can be.
-abbrev pub LendsWanted : Takes → Step → Buffered → Type 0
+abbrev pub LendsWanted : BlockFilter → Step → Buffered → Type 0
 LendsWanted All step b = LendsFor step b
 LendsWanted (Track track) step b = b.head.track ≡ track → LendsFor step b
 LendsWanted Heads step b = ⊤
@@ -133,7 +133,7 @@ pub record IsSameSegment (old new : Reading) : Type 0 where
   pub forwards : old.place.at ≤ new.place.at
 
 -- A call goes on in the same Segment, and not past its end. A wanted block that it gives can be written.
-pub record MovesWanted (takes : Takes) (old new : Reading) (result : Result Step ReadEnd) : Type 0 where
+pub record MovesWanted (takes : BlockFilter) (old new : Reading) (result : Result Step ReadEnd) : Type 0 where
   pub same : IsSameSegment old new
   pub on : IfOk result (λ step. GoesOn step old.place.at new.place.at)
   pub inside : new.place.at ≤ new.place.end
@@ -147,7 +147,7 @@ Moves old new result = MovesWanted All old new result
 pub record CanRead (files : LiveFiles) (c : Reading) : Type 0 where
   pub live : files.live c.file.n ≡ true
   pub inside : c.place.end ≤ files.size c.file.n
-  pub holds : Told (files.content c.file.n) (λ bytes. Holds bytes c.ahead)
+  pub holds : IfVisible (files.content c.file.n) (λ bytes. Holds bytes c.ahead)
   pub before : HasNotPassed c.ahead c.place.at (files.size c.file.n)
 
 -- Nothing was given yet, nothing is held, and nothing is lent.

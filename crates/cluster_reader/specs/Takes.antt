@@ -7,15 +7,15 @@ use Rattle.mkv_schema.specs.Element.{known}
 use Rattle.elements.specs.Window.{ReadAhead, front_from}
 use Rattle.block_format.specs.Block.{Block}
 use Rattle.block_format.specs.Events.{Found}
-use Rattle.block_records.specs.Buffered.{Buffered, block_of}
-use Rattle.block_records.specs.Front.{front_head, head_of}
-use Rattle.block_records.specs.declared.front.FrontHead.{FrontHead}
-use Rattle.cluster_reader.specs.declared.child.TheConstants.{MOST_OF_FRONT}
-use Rattle.cluster_reader.specs.declared.takes.Takes.{Takes}
-use Rattle.cluster_reader.specs.declared.takes.Takes.TheVariants.{All, Track, Heads}
+use Rattle.block_reader.specs.Buffered.{Buffered, block_of}
+use Rattle.block_reader.specs.Front.{front_head, head_of}
+use Rattle.block_reader.specs.declared.front.BlockPreview.{BlockPreview}
+use Rattle.cluster_reader.specs.declared.child.TheConstants.{MAX_PREVIEW_LEN}
+use Rattle.cluster_reader.specs.declared.filter.BlockFilter.{BlockFilter}
+use Rattle.cluster_reader.specs.declared.filter.BlockFilter.TheVariants.{All, Track, Heads}
 
 -- the frames of a block of this track are wanted
-abbrev pub wants : Takes → ℕ → Bool
+abbrev pub wants : BlockFilter → ℕ → Bool
 wants All track = true
 wants (Track wanted) track = track == wanted
 wants Heads track = false
@@ -31,24 +31,24 @@ pub record IsKnownByHead (b : Block) (lent : Buffered) : Type 0 where
   pub frames : length b.frames ≡ lent.frames
 
 -- where all are wanted, all is known
-abbrev pub IsKnown : Takes → Block → Buffered → Type 0
+abbrev pub IsKnown : BlockFilter → Block → Buffered → Type 0
 IsKnown All b lent = b ≡ block_of lent
 IsKnown (Track track) b lent = IsKnownFor track b lent
 IsKnown Heads b lent = IsKnownByHead b lent
 
 -- A block was found that is known so.
-pub record MakesBlock (takes : Takes) (lent : Buffered) (found : Result Block Damage) : Type 0 where
+pub record MakesBlock (takes : BlockFilter) (lent : Buffered) (found : Result Block Damage) : Type 0 where
   pub given : Block
   pub is : found ≡ Ok given
   pub known : IsKnown takes given lent
 
 -- A block was found, or the damage that is answered.
-abbrev pub MakesWanted : {T : Type 0} → Takes → Result T Damage → Buffered → Result Block Damage → Type 0
+abbrev pub MakesWanted : {T : Type 0} → BlockFilter → Result T Damage → Buffered → Result Block Damage → Type 0
 MakesWanted takes (Ok done) lent found = MakesBlock takes lent found
 MakesWanted takes (Err d) lent found = found ≡ Err d
 
 -- It alone was found.
-pub record FindsBlock (takes : Takes) (lent : Buffered) (found : List Found) : Type 0 where
+pub record FindsBlock (takes : BlockFilter) (lent : Buffered) (found : List Found) : Type 0 where
   pub given : Block
   pub is : found ≡ Ok given ∷ []
   pub known : IsKnown takes given lent
@@ -56,29 +56,29 @@ pub record FindsBlock (takes : Takes) (lent : Buffered) (found : List Found) : T
 -- ---- a SimpleBlock that is passed
 
 -- what is settled, unless the block is wanted
-abbrev pub unless_wanted : Takes → Option FrontHead → Option FrontHead
+abbrev pub unless_wanted : BlockFilter → Option BlockPreview → Option BlockPreview
 unless_wanted takes None = None
 unless_wanted takes (Some front) = if wants takes front.head.track then None else Some front
 
 -- what octets in the front of a SimpleBlock's body settle of one that isn't wanted
-abbrev pub settled_by : Takes → ℕ → ℕ → Header → List ℕ → Option FrontHead
+abbrev pub settled_by : BlockFilter → ℕ → ℕ → Header → List ℕ → Option BlockPreview
 settled_by takes scale ticks h front = unless_wanted takes (front_head scale ticks h front)
 
--- what is looked at of a body: what a window holds of its first octets, MOST_OF_FRONT at most
+-- what is looked at of a body: what a window holds of its first octets, MAX_PREVIEW_LEN at most
 abbrev pub held_front : ReadAhead → Header → List ℕ
-held_front w h = take (min (known h.size) MOST_OF_FRONT) (front_from w h.body)
+held_front w h = take (min (known h.size) MAX_PREVIEW_LEN) (front_from w h.body)
 
 -- what a window's octets settle of a child of a Cluster that is a SimpleBlock and isn't wanted
-abbrev pub settled_in : Takes → ℕ → ℕ → Header → ReadAhead → Option FrontHead
+abbrev pub settled_in : BlockFilter → ℕ → ℕ → Header → ReadAhead → Option BlockPreview
 settled_in takes scale ticks h w = if h.id == SIMPLE_BLOCK then settled_by takes scale ticks h (held_front w h) else None
 
 -- A block was passed, and this is what is lent of it.
-pub record IsPassed (front : FrontHead) (lent : Buffered) (answer : Bool) : Type 0 where
+pub record IsPassed (front : BlockPreview) (lent : Buffered) (answer : Bool) : Type 0 where
   pub passed : answer ≡ true
   pub head : lent.head ≡ front.head
   pub frames : lent.frames ≡ front.frames
 
 -- A block was passed exactly where this is settled of it, and this is lent of it then.
-abbrev pub IsPassedWhere : Option FrontHead → Buffered → Bool → Type 0
+abbrev pub IsPassedWhere : Option BlockPreview → Buffered → Bool → Type 0
 IsPassedWhere None lent passed = passed ≡ false
 IsPassedWhere (Some front) lent passed = IsPassed front lent passed

@@ -8,25 +8,25 @@ use Rattle.mkv_schema.specs.Element.{Setting, element_at, in_master, known, stat
 use Rattle.mkv_schema.specs.Value.{body_of}
 use Rattle.elements.specs.Looks.{FindsAt, Goes, GoesTo}
 use Rattle.elements.specs.Window.{Holds, ReadAhead}
-use Rattle.block_records.specs.Front.{HasHead}
-use Rattle.block_records.specs.declared.front.FrontHead.{FrontHead}
+use Rattle.block_reader.specs.Front.{HasHead}
+use Rattle.block_reader.specs.declared.front.BlockPreview.{BlockPreview}
 use Rattle.mkv_schema.specs.declared.ids.TheConstants.{BLOCK_GROUP, SIMPLE_BLOCK, TIMESTAMP}
 use Rattle.mkv_io.specs.LiveFiles.{LiveFiles}
 use Rattle.mkv_schema.specs.declared.element.Header.{Header}
 use Rattle.block_format.specs.Elements.{Rules, with_limits, simple_block, block_group}
 use Rattle.block_format.specs.Events.{Found, found_at, timestamp_behind}
-use Rattle.block_records.specs.Buffered.{Buffered}
+use Rattle.block_reader.specs.Buffered.{Buffered}
 use Rattle.cluster_reader.specs.Places.{IsPlace, at_end, behind_damage, turns_left}
 use Rattle.cluster_reader.specs.Reading.{Reading, GivesWanted, GoesOn, LendsWanted, Notes, CanRead, IsSameSegment, Pays, left_of}
 use Rattle.cluster_reader.specs.Takes.{FindsBlock, IsPassedWhere, MakesBlock, MakesWanted, settled_in}
 use Rattle.cluster_reader.specs.declared.place.Place.{Place}
 use Rattle.cluster_reader.specs.declared.step.Step.{Step}
-use Rattle.cluster_reader.specs.declared.takes.Takes.{Takes}
+use Rattle.cluster_reader.specs.declared.filter.BlockFilter.{BlockFilter}
 use Rattle.cluster_reader.specs.declared.step.Step.TheVariants.{Block}
 use Rattle.cluster_reader.specs.declared.turn.Child.{Child}
 use Rattle.cluster_reader.specs.declared.turn.Child.TheVariants as child
 use Rattle.cluster_reader.specs.declared.walk.Walk.{Walk}
-use Rattle.cluster_reader.specs.declared.place.Inside.{Inside}
+use Rattle.cluster_reader.specs.declared.place.OpenCluster.{OpenCluster}
 
 -- what a cursor shows of a walk, which has given nothing yet
 abbrev pub shown : Walk → Reading
@@ -50,33 +50,33 @@ block_found r bytes timestamp h =
 
 -- It gives what is answered: nothing, and the Timestamp that stands behind it; a block, of which is known what is wanted; or
 -- a damage.
-abbrev pub Finds : Takes → List ℕ → ℕ → Option ℕ → Header → Buffered → Child → Type 0
+abbrev pub Finds : BlockFilter → List ℕ → ℕ → Option ℕ → Header → Buffered → Child → Type 0
 Finds takes bytes scale timestamp h b (child.Passed behind) =
     (found_at (with_limits scale) bytes timestamp h ≡ []) × (behind ≡ timestamp_behind bytes timestamp h)
 Finds takes bytes scale timestamp h b child.Block = FindsBlock takes b (found_at (with_limits scale) bytes timestamp h)
 Finds takes bytes scale timestamp h b (child.Damaged d) = found_at (with_limits scale) bytes timestamp h ≡ Err d ∷ []
 
 -- the same of the file of a walk, where it is told
-abbrev pub FindsIn : {S : Type 0} → Ghosts S → S → Walk → Walk → Option ℕ → Header → Takes → Child → Type 0
+abbrev pub FindsIn : {S : Type 0} → Ghosts S → S → Walk → Walk → Option ℕ → Header → BlockFilter → Child → Type 0
 FindsIn r src old new timestamp h takes found = IfTold r src old.file (λ bytes. Finds takes bytes old.scale timestamp h new.block found)
 
 -- A SimpleBlock or a BlockGroup of the file of a walk is what is answered: a block, of which is known what is wanted, or a damage.
-abbrev pub MakesIn : {S T : Type 0} → Ghosts S → S → Walk → Walk → Option ℕ → Header → Takes → Result T Damage → Type 0
+abbrev pub MakesIn : {S T : Type 0} → Ghosts S → S → Walk → Walk → Option ℕ → Header → BlockFilter → Result T Damage → Type 0
 MakesIn r src old new timestamp h takes found =
     IfTold r src old.file (λ bytes. MakesWanted takes found new.block (block_found (with_limits old.scale) bytes timestamp h))
 
 -- Where a SimpleBlock of the file of a walk was passed, it is a block of which is known what is wanted.
-abbrev pub PassesIn : {S : Type 0} → Ghosts S → S → Walk → Walk → ℕ → Header → Takes → Bool → Type 0
+abbrev pub PassesIn : {S : Type 0} → Ghosts S → S → Walk → Walk → ℕ → Header → BlockFilter → Bool → Type 0
 PassesIn r src old new ticks h takes passed =
     IsTrue passed → IfTold r src old.file (λ bytes. MakesBlock takes new.block (simple_block (with_limits old.scale) bytes (Some ticks) h))
 
 -- Octets that a window holds settle what a SimpleBlock says of itself, and how many frames it has.
-abbrev pub SettlesHeld : ℕ → ℕ → Header → ReadAhead → FrontHead → Type 0
+abbrev pub SettlesHeld : ℕ → ℕ → Header → ReadAhead → BlockPreview → Type 0
 SettlesHeld scale ticks h window front = (bytes : List ℕ) → length (body_of bytes h) ≡ known h.size → Holds bytes window
     → HasHead front (simple_block (with_limits scale) bytes (Some ticks) h)
 
 -- A wanted block that is given can be written.
-abbrev pub LendsForChild : Takes → Child → Buffered → Type 0
+abbrev pub LendsForChild : BlockFilter → Child → Buffered → Type 0
 LendsForChild takes (child.Passed behind) b = ⊤
 LendsForChild takes child.Block b = LendsWanted takes Block b
 LendsForChild takes (child.Damaged d) b = ⊤
@@ -93,21 +93,21 @@ pub record KeepsWalk (id : ℕ) (old new : Walk) : Type 0 where
 -- ---- what a turn gives
 
 -- It gives what is answered, as a cursor does; where an Element is passed the same is left.
-abbrev pub Turns : Takes → List ℕ → Walk → Walk → Result (Option Step) ReadEnd → Type 0
+abbrev pub Turns : BlockFilter → List ℕ → Walk → Walk → Result (Option Step) ReadEnd → Type 0
 Turns takes bytes old new (Ok None) = left_of bytes (shown new) ≡ left_of bytes (shown old)
 Turns takes bytes old new (Ok (Some step)) = GivesWanted takes bytes (shown old) (shown new) (Ok step)
 Turns takes bytes old new (Err end) = left_of bytes (shown new) ≡ left_of bytes (shown old)
 
 -- The same whatever blocks are wanted.
 abbrev pub TurnsForAll : List ℕ → Walk → Walk → Result (Option Step) ReadEnd → Type 0
-TurnsForAll bytes old new result = (takes : Takes) → Turns takes bytes old new result
+TurnsForAll bytes old new result = (takes : BlockFilter) → Turns takes bytes old new result
 
 -- The place goes on; where an Element is passed, fewer turns are left.
 abbrev pub TurnsOn : Place → Place → Option Step → Type 0
 TurnsOn old new None = (turns_left new < turns_left old) × (old.at ≤ new.at)
 TurnsOn old new (Some step) = GoesOn step old.at new.at
 
-abbrev pub LendsForTurn : Takes → Option Step → Buffered → Type 0
+abbrev pub LendsForTurn : BlockFilter → Option Step → Buffered → Type 0
 LendsForTurn takes None b = ⊤
 LendsForTurn takes (Some step) b = LendsWanted takes step b
 
@@ -130,14 +130,14 @@ abbrev pub IsSameWalk : Walk → Walk → Type 0
 IsSameWalk old new = IsSameSegment (shown old) (shown new)
 
 -- A turn goes on in the same Segment, and notes a damage that ends what is read.
-pub record TakesTurn (takes : Takes) (old new : Walk) (result : Result (Option Step) ReadEnd) : Type 0 where
+pub record TakesTurn (takes : BlockFilter) (old new : Walk) (result : Result (Option Step) ReadEnd) : Type 0 where
   pub same : IsSameWalk old new
   pub on : IfOk result (TurnsOn old.place new.place)
   pub notes : TurnNotes old new result
   pub lends : IfOk result (λ turn. LendsForTurn takes turn new.block)
 
 -- So does a step.
-pub record TakesStep (takes : Takes) (old new : Walk) (result : Result Step ReadEnd) : Type 0 where
+pub record TakesStep (takes : BlockFilter) (old new : Walk) (result : Result Step ReadEnd) : Type 0 where
   pub same : IsSameWalk old new
   pub on : IfOk result (λ step. GoesOn step old.place.at new.place.at)
   pub notes : Notes (shown old) (shown new) result
@@ -165,19 +165,19 @@ FindsHere r src w s end result = FindsAt r src w.file s w.place.at end result
 
 -- What a child gives is found, whatever is wanted.
 abbrev pub FindsForAll : {S : Type 0} → Ghosts S → S → Walk → Walk → Option ℕ → Header → Child → Type 0
-FindsForAll r src old new timestamp h found = (takes : Takes) → FindsIn r src old new timestamp h takes found
+FindsForAll r src old new timestamp h found = (takes : BlockFilter) → FindsIn r src old new timestamp h takes found
 
 -- What a walk gives is that of its file, where this is wanted.
-abbrev pub GivesIn : {S : Type 0} → Ghosts S → S → Takes → Walk → Walk → Result Step ReadEnd → Type 0
+abbrev pub GivesIn : {S : Type 0} → Ghosts S → S → BlockFilter → Walk → Walk → Result Step ReadEnd → Type 0
 GivesIn r src takes old new result = IfTold r src old.file (λ bytes. GivesWanted takes bytes (shown old) (shown new) result)
 
 -- a walk that went on to where a damage leaves it, and one that ended
-abbrev pub broken_off : Inside → Walk → Walk
+abbrev pub broken_off : OpenCluster → Walk → Walk
 broken_off c w = record w { place = behind_damage w.place c; stopped = not c.closed }
 
 abbrev pub ended : Walk → Walk
 ended w = record w { place = at_end w.place; stopped = true }
 
 -- A block is passed exactly where its front, as far as the window of a walk holds it, settles what is wanted of it.
-abbrev pub PassesWhereSettled : Takes → ℕ → Header → Walk → Walk → Bool → Type 0
+abbrev pub PassesWhereSettled : BlockFilter → ℕ → Header → Walk → Walk → Bool → Type 0
 PassesWhereSettled takes ticks h old new passed = IsPassedWhere (settled_in takes old.scale ticks h new.window) new.block passed

@@ -4,7 +4,7 @@ ghost use Rattle.std.specs.Prelude.{◌≡◌, None};
 ghost use Rattle.mkv_io.specs.Faults.{HasCause, is_read_fault};
 ghost use Rattle.mkv_io.specs.Sources.{IfTold, live_files};
 ghost use Rattle.cluster_reader.specs.Walks.{IsReady, PaysFor, TakesTurn, TurnsForAll};
-ghost use Rattle.cluster_reader.specs.declared.takes.Takes.{Takes};
+ghost use Rattle.cluster_reader.specs.declared.filter.BlockFilter.{BlockFilter};
 
 use crate::step::Step;
 use crate::walk::Walk;
@@ -17,7 +17,7 @@ pub fn turn_at_level_1<R: Reads>(walk: &mut Walk, src: &mut R) -> Result<Option<
     requires ready { IsReady (live_files R.Reads src.old) walk.old }
     requires outside { walk.old.place.cluster ≡ None }
     ensures gives { IfTold R.Reads src.old walk.old.file (λ bytes. TurnsForAll bytes walk.old walk.new result) }
-    ensures takes { (takes : Takes) → TakesTurn takes walk.old walk.new result }
+    ensures takes { (takes : BlockFilter) → TakesTurn takes walk.old walk.new result }
     ensures ready { IsReady (live_files R.Reads src.new) walk.new }
     ensures standing { R.standing src.new ≡ R.standing src.old }
     ensures cause { HasCause is_read_fault (R.reading_faults src.old) (R.reading_faults src.new) result }

@@ -7,19 +7,19 @@ ghost use Rattle.mkv_schema.specs.Element.{is_unknown, known, stated_end};
 ghost use Rattle.elements.specs.Looks.{Goes};
 ghost use Rattle.elements.specs.Window.{Holds};
 ghost use Rattle.block_format.specs.Elements.{timestamp_for, with_limits};
-ghost use Rattle.block_records.specs.Lendable.{HasSmallTimes};
+ghost use Rattle.block_reader.specs.Lendable.{HasSmallTimes};
 ghost use Rattle.cluster_reader.specs.Reading.{LendsWanted};
 ghost use Rattle.cluster_reader.specs.Takes.{IsPassedWhere, held_front, settled_by, settled_in, wants};
 ghost use Rattle.cluster_reader.specs.Walks.{FindsForAll, FindsIn, IsReady, KeepsWalk, LendsForChild, MakesIn, PassesIn, PassesWhereSettled, ReadsBody, SettlesHeld, StaysAtBody};
 ghost use Rattle.cluster_reader.specs.declared.step.Step.TheVariants as StepOf;
-ghost use Rattle.cluster_reader.specs.declared.takes.Takes.{Takes};
+ghost use Rattle.cluster_reader.specs.declared.filter.BlockFilter.{BlockFilter};
 
-use crate::takes::Takes;
+use crate::filter::BlockFilter;
 use crate::timestamp::read_timestamp;
 use crate::turn::Child;
 use crate::walk::Walk;
-use block_format::{MOST_OF_BLOCK, MOST_TIMESTAMP};
-use block_records::{FrontHead, front_head, front_track};
+use block_format::{MAX_BLOCK_LEN, MAX_TIMESTAMP_LEN};
+use block_reader::{BlockPreview, front_head, front_track};
 use elements::{Window, damage_at, known};
 use mkv_io::{Damage, Kind, ReadEnd, Reads};
 use mkv_schema::Header;
@@ -30,7 +30,7 @@ use mkv_schema::ids::{BLOCK_GROUP, SIMPLE_BLOCK, TIMESTAMP};
 const LEAST_OF_FRONT: u64 = 12;
 
 /// The most of them, where more are held: those of the head of a lace.
-const MOST_OF_FRONT: u64 = 1024;
+const MAX_PREVIEW_LEN: u64 = 1024;
 
 /// What a child of a Cluster gives, before which this Timestamp stands, by which blocks are wanted. The walk stays where it is.
 pub fn read_child<R: Reads>(
@@ -38,7 +38,7 @@ pub fn read_child<R: Reads>(
     src: &mut R,
     timestamp: Option<u64>,
     header: &Header,
-    takes: Takes,
+    takes: BlockFilter,
 ) -> Result<Child, ReadEnd>
     requires ready { IsReady (live_files R.Reads src.old) walk.old }
     requires whole { is_unknown header.now.size ≡ false }
@@ -75,14 +75,14 @@ fn timestamp_child<R: Reads>(
     requires inside { stated_end header.now ≤ walk.old.place.end }
     requires id { header.now.id ≡ TIMESTAMP }
     ensures ok { IfOk result (FindsForAll R.Reads src.old walk.old walk.new timestamp header.now) }
-    ensures lends { IfOk result (λ child. (takes : Takes) → LendsForChild takes child walk.new.block) }
+    ensures lends { IfOk result (λ child. (takes : BlockFilter) → LendsForChild takes child walk.new.block) }
     ensures only { walk.new ≡ record walk.old { window = walk.new.window } }
     ensures holds { IfTold R.Reads src.old walk.old.file (λ bytes. Holds bytes walk.new.window) }
     ensures standing { R.standing src.new ≡ R.standing src.old }
     ensures cause { HasCause is_read_fault (R.reading_faults src.old) (R.reading_faults src.new) result }
     ensures goes { ReadsBody R.Reads src.old src.new walk.old walk.new header.now result }
 {
-    if known(header.size) > MOST_TIMESTAMP {
+    if known(header.size) > MAX_TIMESTAMP_LEN {
         return Ok(Child::Damaged(damage_at(Kind::BadValue, header)));
     }
     match timestamp {
@@ -97,9 +97,9 @@ fn timestamp_child<R: Reads>(
 // The Timestamp for a block that isn't too long.
 fn timestamp_for(timestamp: Option<u64>, header: &Header) -> Result<u64, Damage>
     ensures exact { (scale : ℕ) → result ≡ timestamp_for (with_limits scale) timestamp header.now }
-    ensures few { IfOk result (λ _. known header.now.size ≤ MOST_OF_BLOCK) }
+    ensures few { IfOk result (λ _. known header.now.size ≤ MAX_BLOCK_LEN) }
 {
-    if known(header.size) > MOST_OF_BLOCK {
+    if known(header.size) > MAX_BLOCK_LEN {
         return Err(damage_at(Kind::BlockTooLarge, header));
     }
     match timestamp {
@@ -109,13 +109,13 @@ fn timestamp_for(timestamp: Option<u64>, header: &Header) -> Result<u64, Damage>
 }
 
 // Whether the frames of a block of this track are wanted.
-fn wants(takes: Takes, track: u64) -> bool
+fn wants(takes: BlockFilter, track: u64) -> bool
     ensures { result ≡ wants takes track }
 {
     match takes {
-        Takes::All => true,
-        Takes::Track(wanted) => track == wanted,
-        Takes::Heads => false,
+        BlockFilter::All => true,
+        BlockFilter::Track(wanted) => track == wanted,
+        BlockFilter::Heads => false,
     }
 }
 
@@ -126,15 +126,15 @@ fn settled(
     scale: u64,
     ticks: u64,
     header: &Header,
-    takes: Takes,
-) -> Option<FrontHead>
-    requires few { known header.now.size ≤ MOST_OF_BLOCK }
+    takes: BlockFilter,
+) -> Option<BlockPreview>
+    requires few { known header.now.size ≤ MAX_BLOCK_LEN }
     ensures found { IfSome result (SettlesHeld scale ticks header.now window.now) }
     ensures exact { result ≡ settled_by takes scale ticks header.now (held_front window.now header.now) }
     ensures small { IfSome result (λ front. HasSmallTimes front.head) }
     ensures few { IfSome result (λ front. front.frames ≤ 256) }
 {
-    let most = known(header.size).min(MOST_OF_FRONT) as usize;
+    let most = known(header.size).min(MAX_PREVIEW_LEN) as usize;
     let front = window.front_at(header.body, most);
     let track = front_track(front)?;
     if wants(takes, track) {
@@ -150,10 +150,10 @@ fn passes<R: Reads>(
     src: &mut R,
     ticks: u64,
     header: &Header,
-    takes: Takes,
+    takes: BlockFilter,
 ) -> Result<bool, ReadEnd>
     requires ready { IsReady (live_files R.Reads src.old) walk.old }
-    requires few { known header.now.size ≤ MOST_OF_BLOCK }
+    requires few { known header.now.size ≤ MAX_BLOCK_LEN }
     requires whole { is_unknown header.now.size ≡ false }
     requires inside { stated_end header.now ≤ walk.old.place.end }
     ensures exact { IfOk result (PassesWhereSettled takes ticks header.now walk.old walk.new) }
@@ -164,7 +164,7 @@ fn passes<R: Reads>(
     ensures cause { HasCause is_read_fault (R.reading_faults src.old) (R.reading_faults src.new) result }
     ensures goes { StaysAtBody R.Reads src.old src.new walk.old walk.new header.now result }
 {
-    if header.id != SIMPLE_BLOCK || takes == Takes::All {
+    if header.id != SIMPLE_BLOCK || takes == BlockFilter::All {
         return Ok(false);
     }
     let least = known(header.size).min(LEAST_OF_FRONT) as u16;
@@ -185,7 +185,7 @@ fn read_block<R: Reads>(
     src: &mut R,
     timestamp: Option<u64>,
     header: &Header,
-    takes: Takes,
+    takes: BlockFilter,
 ) -> Result<Result<(), Damage>, ReadEnd>
     requires ready { IsReady (live_files R.Reads src.old) walk.old }
     requires whole { is_unknown header.now.size ≡ false }

@@ -6,19 +6,19 @@ ghost use Rattle.mkv_io.specs.LiveFiles.{LiveFiles};
 ghost use Rattle.mkv_io.specs.Sources.{IfTold, live_files};
 ghost use Rattle.std.specs.List.{All};
 ghost use Rattle.lacing.specs.Writing.{FitsKind};
-ghost use Rattle.block_records.specs.Lendable.{HasSmallTimes};
-ghost use Rattle.block_records.specs.Time.{IsSmallTime};
+ghost use Rattle.block_reader.specs.Lendable.{HasSmallTimes};
+ghost use Rattle.block_reader.specs.Time.{IsSmallTime};
 ghost use Rattle.block_format.specs.Elements.{with_limits};
 ghost use Rattle.block_format.specs.Events.{events_of};
 ghost use Rattle.cluster_reader.specs.Reading.{Begins, CanRead, CanReadWhereLive, Counts, Gives, GivesWanted, HasAllLeft, Moves, MovesWanted, SpendsIn, left_of, with_given};
-ghost use Rattle.block_format.specs.declared.limits.TheConstants.{MOST_REFERENCES};
+ghost use Rattle.block_format.specs.declared.limits.TheConstants.{MAX_REFERENCES};
 
+use crate::filter::BlockFilter;
 use crate::next_step::next_step;
 use crate::place::Place;
 use crate::step::Step;
-use crate::takes::Takes;
 use crate::walk::Walk;
-use block_records::{BlockBuffer, BlockHead, MOST_OF_BLOCK};
+use block_reader::{BlockBuffer, BlockHead, MAX_BLOCK_LEN};
 use elements::{HasSegment, Window};
 use mkv_io::{FileId, ReadEnd, Reads};
 use std::alloc::{AllocError, Global};
@@ -99,13 +99,17 @@ impl Cursor {
         // No octet is read twice, but what a call that fails has read.
         ensures spends { SpendsIn R.Reads src.old src.new self.old self.new result }
     {
-        let step = next_step(&mut self.walk, src, Takes::All)?;
+        let step = next_step(&mut self.walk, src, BlockFilter::All)?;
         self.count(step);
         Ok(step)
     }
 
     /// The same where not all blocks are wanted. The frames of those that aren't needn't be read.
-    pub fn advance_for<R: Reads>(&mut self, src: &mut R, takes: Takes) -> Result<Step, ReadEnd>
+    pub fn advance_for<R: Reads>(
+        &mut self,
+        src: &mut R,
+        takes: BlockFilter,
+    ) -> Result<Step, ReadEnd>
         requires { CanRead (live_files R.Reads src.old) self.old }
         ensures gives { IfTold R.Reads src.old self.old.file (λ bytes. GivesWanted takes bytes self.old self.new result) }
         ensures counts { Counts self.old self.new result }
@@ -151,7 +155,7 @@ impl Cursor {
     pub fn body(&self) -> &[u8]
         ensures exact { result.now ≡ self.now.block.body }
         ensures cut { sum self.now.block.sizes ≡ length result.now }
-        ensures most { length result.now ≤ MOST_OF_BLOCK }
+        ensures most { length result.now ≤ MAX_BLOCK_LEN }
     {
         self.walk.block.body()
     }
@@ -169,7 +173,7 @@ impl Cursor {
     /// The octets of what else its group has, one Element behind the other, as they were found.
     pub fn extra(&self) -> &[u8]
         ensures exact { result.now ≡ self.now.block.kept }
-        ensures most { length result.now ≤ MOST_OF_BLOCK }
+        ensures most { length result.now ≤ MAX_BLOCK_LEN }
     {
         self.walk.block.kept()
     }
@@ -178,7 +182,7 @@ impl Cursor {
     pub fn refs(&self) -> &[i64]
         ensures exact { result.now ≡ self.now.block.references }
         ensures small { All IsSmallTime result.now }
-        ensures most { length result.now ≤ MOST_REFERENCES }
+        ensures most { length result.now ≤ MAX_REFERENCES }
     {
         self.walk.block.references()
     }

@@ -8,7 +8,7 @@ use std::alloc::{AllocError, Global};
 use std::marker::Model;
 
 /// How many damages of a file are told one by one.
-const MOST_TOLD: usize = 100;
+const MAX_REPORTED: usize = 100;
 
 /// The damages of a file: the first hundred, and how many others there are. Their memory is taken at the
 /// making.
@@ -26,9 +26,9 @@ impl Model for Damages {
 
     ghost view = { λ d. record { first = d.first.items; more = d.more } };
 
-    ghost use Rattle.cluster_reader.specs.declared.damages.TheConstants.{MOST_TOLD};
+    ghost use Rattle.cluster_reader.specs.declared.damages.TheConstants.{MAX_REPORTED};
 
-    ghost invariant = { λ d. MOST_TOLD ≤ vec_capacity d.first };
+    ghost invariant = { λ d. MAX_REPORTED ≤ vec_capacity d.first };
 }
 
 impl Damages {
@@ -37,7 +37,7 @@ impl Damages {
         ensures { IfOk result (λ damages. damages ≡ told_damages []) }
     {
         Ok(Damages {
-            first: Vec::with_capacity(alloc, MOST_TOLD)?,
+            first: Vec::with_capacity(alloc, MAX_REPORTED)?,
             more: 0,
         })
     }
@@ -46,7 +46,7 @@ impl Damages {
     pub fn add(&mut self, damage: Damage)
         ensures { self.new ≡ with_damage self.old damage }
     {
-        if self.first.len() < MOST_TOLD {
+        if self.first.len() < MAX_REPORTED {
             self.first.push_reserved(damage);
         } else {
             self.more = self.more.saturating_add(1);

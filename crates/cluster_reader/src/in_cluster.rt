@@ -8,9 +8,9 @@ ghost use Rattle.cluster_reader.specs.Left.{ends_children};
 ghost use Rattle.cluster_reader.specs.Walks.{IsReady, PaysFor, StandsInCluster, TakesTurn, Turns};
 
 use crate::child::read_child;
-use crate::place::Inside;
+use crate::filter::BlockFilter;
+use crate::place::OpenCluster;
 use crate::step::Step;
-use crate::takes::Takes;
 use crate::turn::Child;
 use crate::walk::Walk;
 use elements::{Parent, ends_cluster, id_of};
@@ -28,8 +28,8 @@ fn ends_children(unknown: bool, id: u32) -> bool
 pub fn turn_in_cluster<R: Reads>(
     walk: &mut Walk,
     src: &mut R,
-    cluster: Inside,
-    takes: Takes,
+    cluster: OpenCluster,
+    takes: BlockFilter,
 ) -> Result<Option<Step>, ReadEnd>
     requires ready { IsReady (live_files R.Reads src.old) walk.old }
     requires inside { walk.old.place.cluster ≡ Some cluster }
@@ -63,9 +63,9 @@ pub fn turn_in_cluster<R: Reads>(
 fn turn_child<R: Reads>(
     walk: &mut Walk,
     src: &mut R,
-    cluster: Inside,
+    cluster: OpenCluster,
     header: &Header,
-    takes: Takes,
+    takes: BlockFilter,
 ) -> Result<Option<Step>, ReadEnd>
     requires ready { IsReady (live_files R.Reads src.old) walk.old }
     requires inside { walk.old.place.cluster ≡ Some cluster }

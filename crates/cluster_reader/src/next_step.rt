@@ -7,14 +7,18 @@ ghost use Rattle.cluster_reader.specs.Reading.{GivesWanted};
 ghost use Rattle.cluster_reader.specs.Walks.{GivesIn, IsReady, PaysFor, TakesStep, TakesTurn, Turns, shown};
 
 use crate::at_level_1::turn_at_level_1;
+use crate::filter::BlockFilter;
 use crate::in_cluster::turn_in_cluster;
 use crate::step::Step;
-use crate::takes::Takes;
 use crate::walk::Walk;
 use mkv_io::{ReadEnd, Reads};
 
 /// The next block or damage, up to which a walk goes on, by which blocks are wanted.
-pub fn next_step<R: Reads>(walk: &mut Walk, src: &mut R, takes: Takes) -> Result<Step, ReadEnd>
+pub fn next_step<R: Reads>(
+    walk: &mut Walk,
+    src: &mut R,
+    takes: BlockFilter,
+) -> Result<Step, ReadEnd>
     requires { IsReady (live_files R.Reads src.old) walk.old }
     ensures gives { GivesIn R.Reads src.old takes walk.old walk.new result }
     ensures takes { TakesStep takes walk.old walk.new result }
@@ -31,7 +35,7 @@ pub fn next_step<R: Reads>(walk: &mut Walk, src: &mut R, takes: Takes) -> Result
 }
 
 // What the Element at the place makes of a walk.
-fn turn<R: Reads>(walk: &mut Walk, src: &mut R, takes: Takes) -> Result<Option<Step>, ReadEnd>
+fn turn<R: Reads>(walk: &mut Walk, src: &mut R, takes: BlockFilter) -> Result<Option<Step>, ReadEnd>
     requires { IsReady (live_files R.Reads src.old) walk.old }
     ensures gives { IfTold R.Reads src.old walk.old.file (λ bytes. Turns takes bytes walk.old walk.new result) }
     ensures takes { TakesTurn takes walk.old walk.new result }

@@ -20,12 +20,12 @@ pub struct Place {
     /// Up to where the Segment may reach.
     pub end: u64,
     /// The Cluster in which the next Element stands, if it stands in one.
-    pub cluster: Option<Inside>,
+    pub cluster: Option<OpenCluster>,
 }
 
 /// A Cluster whose children are read.
 #[derive(Clone, Copy)]
-pub struct Inside {
+pub struct OpenCluster {
     /// Where it ends, or up to where it may reach.
     pub end: u64,
     /// Its size is known, and it ends within the file.
@@ -64,7 +64,7 @@ impl Place {
         requires { total ≤ LONGEST_FILE }
         ensures { result ≡ record self { at = header.now.body; cluster = Some (cluster_in total self.end header.now) } }
     {
-        let cluster = Inside {
+        let cluster = OpenCluster {
             end: bound_in(header, self.end),
             closed: is_closed(header, total),
             unknown: header.size == Size::Unknown,
@@ -78,12 +78,12 @@ impl Place {
     }
 
     /// The place behind a child of a Cluster, where this Timestamp then stands before the next one.
-    pub fn passed(self, cluster: Inside, child: &Header, timestamp: Option<u64>) -> Place
+    pub fn passed(self, cluster: OpenCluster, child: &Header, timestamp: Option<u64>) -> Place
         ensures { result ≡ behind_child self cluster child.now timestamp }
     {
         Place {
             at: end_in(child, cluster.end),
-            cluster: Some(Inside {
+            cluster: Some(OpenCluster {
                 timestamp,
                 ..cluster
             }),

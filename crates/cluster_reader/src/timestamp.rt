@@ -9,7 +9,7 @@ ghost use Rattle.mkv_schema.specs.Value.{body_of};
 ghost use Rattle.elements.specs.Looks.{GoesOver};
 ghost use Rattle.elements.specs.Window.{Holds};
 
-use block_format::MOST_TIMESTAMP;
+use block_format::MAX_TIMESTAMP_LEN;
 use ebml_numbers::read_uint;
 use elements::{Window, known};
 use mkv_io::{Failed, FileId, Reads};
@@ -23,7 +23,7 @@ pub fn read_timestamp<R: Reads>(
     header: &Header,
 ) -> Result<u64, Failed>
     requires live { IsLive R.Reads src.old file }
-    requires few { known header.now.size ≤ MOST_TIMESTAMP }
+    requires few { known header.now.size ≤ MAX_TIMESTAMP_LEN }
     requires inside { stated_end header.now ≤ file_size R.Reads src.old file }
     requires holds { IfTold R.Reads src.old file (λ bytes. Holds bytes window.old) }
     ensures ok { IfOk result (λ ticks. IfTold R.Reads src.old file (λ bytes. ticks ≡ uint_of (body_of bytes header.now))) }

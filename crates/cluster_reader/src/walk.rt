@@ -9,8 +9,8 @@ ghost use Rattle.elements.specs.Parent.{setting_of};
 ghost use Rattle.cluster_reader.specs.Places.{behind_damage};
 ghost use Rattle.cluster_reader.specs.Walks.{FindsHere, IsReady, PaysFor, broken_off, ended};
 
-use crate::place::{Inside, Place};
-use block_records::BlockBuffer;
+use crate::place::{OpenCluster, Place};
+use block_reader::BlockBuffer;
 use elements::{Lookahead, Parent, Window};
 use mkv_io::{Damage, Failed, FileId, ReadEnd, Reads};
 use mkv_schema::Header;
@@ -61,7 +61,7 @@ impl Walk {
     }
 
     /// Goes on behind a Cluster in which something is wrong, where it is closed, else to the end.
-    pub fn break_off(&mut self, cluster: &Inside)
+    pub fn break_off(&mut self, cluster: &OpenCluster)
         ensures { self.new ≡ broken_off cluster.now self.old }
     {
         let at = if cluster.closed {

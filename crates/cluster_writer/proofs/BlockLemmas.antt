@@ -7,7 +7,7 @@ use Rattle.output_model.specs.Element.{Element, joined, octets_of}
 use Rattle.output_model.specs.OutputBlock.{IsLent, prefixed}
 use Rattle.output_model.specs.Block.{block_header, block_octets, lace_octets, reference_element}
 use Rattle.mkv_schema.specs.declared.ids.TheConstants.{SIMPLE_BLOCK, BLOCK_GROUP}
-use Rattle.cluster_writer.specs.declared.lent.LentBlock.{LentBlock}
+use Rattle.cluster_writer.specs.declared.lent.BlockRef.{BlockRef}
 use Rattle.cluster_writer.specs.declared.lent.BlockLengths.{BlockLengths}
 use Rattle.cluster_writer.specs.Lent.{AreLengths, lent_of, block_of, sizes_put}
 use Rattle.cluster_writer.specs.Lengths.{block_len, group_len, references_len, whole_len}
@@ -22,13 +22,13 @@ joined-more f xs i d within = at_drop_more (λ ys. joined (map f ys)) xs i d wit
 -- ---- a block
 
 -- the header, what stands in front of the frames, and the frames
-pub block-parts : (timestamp : ℕ) (b : LentBlock) → IsLent (lent_of b)
+pub block-parts : (timestamp : ℕ) (b : BlockRef) → IsLent (lent_of b)
     → block_octets timestamp (block_of b)
     ≡ block_header timestamp (block_of b) ++ (lace_octets b.head.now.lace (sizes_put b) ++ concat (prefixed b.prefix.now (frames_cut b.sizes.now b.body.now)))
 block-parts timestamp b is =
     ap (λ ss. block_header timestamp (block_of b) ++ (lace_octets b.head.now.lace ss ++ concat (prefixed b.prefix.now (frames_cut b.sizes.now b.body.now)))) (sizes-lent (lent_of b) is)
 
-pub length-put : (timestamp : ℕ) (b : LentBlock) → IsLent (lent_of b) → length (block_octets timestamp (block_of b)) ≡ block_len b.head.now.lace (sizes_put b)
+pub length-put : (timestamp : ℕ) (b : BlockRef) → IsLent (lent_of b) → length (block_octets timestamp (block_of b)) ≡ block_len b.head.now.lace (sizes_put b)
 length-put timestamp b is =
     let frames : List ℕ = concat (prefixed b.prefix.now (frames_cut b.sizes.now b.body.now)) in
     let front : List ℕ = lace_octets b.head.now.lace (sizes_put b) in
@@ -44,7 +44,7 @@ length-put timestamp b is =
 -- ---- its lengths
 
 -- a group is its header and what stands behind it
-pub whole-grouped : (b : LentBlock) (l : BlockLengths) → IsLent (lent_of b) → AreLengths b l → b.head.now.group ≡ true → l.whole ≡ whole_len BLOCK_GROUP l.body
+pub whole-grouped : (b : BlockRef) (l : BlockLengths) → IsLent (lent_of b) → AreLengths b l → b.head.now.group ≡ true → l.whole ≡ whole_len BLOCK_GROUP l.body
 whole-grouped b l is lengths group =
     let block : ℕ = block_len b.head.now.lace (sizes_put b) in
     let within : ℕ → ℕ = λ n. group_len b.head.now n b.references.now (length b.kept.now) in
@@ -53,7 +53,7 @@ whole-grouped b l is lengths group =
     lengths.whole ∙ length-lent b.tick b.lane b.tick (lent_of b) is ∙ ap counted group ∙ ap (whole_len BLOCK_GROUP) (sym body)
 
 -- and a SimpleBlock its header and the Block
-pub whole-alone : (b : LentBlock) (l : BlockLengths) → IsLent (lent_of b) → AreLengths b l → b.head.now.group ≡ false → l.whole ≡ whole_len SIMPLE_BLOCK l.block
+pub whole-alone : (b : BlockRef) (l : BlockLengths) → IsLent (lent_of b) → AreLengths b l → b.head.now.group ≡ false → l.whole ≡ whole_len SIMPLE_BLOCK l.block
 whole-alone b l is lengths alone =
     let block : ℕ = block_len b.head.now.lace (sizes_put b) in
     let within : ℕ → ℕ = λ n. group_len b.head.now n b.references.now (length b.kept.now) in

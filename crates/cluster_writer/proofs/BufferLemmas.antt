@@ -5,7 +5,7 @@ use Rattle.std.proofs.lemmas.List.Concat.{flat_map-append}
 use Rattle.std.proofs.lemmas.Bool.Decides.{nat_tests}
 use Rattle.output_model.specs.Element.{Element, octets_of, joined}
 use Rattle.mkv_schema.specs.declared.ids.TheConstants.{CLUSTER}
-use Rattle.output_model.specs.declared.TheConstants.{MOST_OF_CLUSTER}
+use Rattle.output_model.specs.declared.TheConstants.{MAX_CLUSTER_LEN}
 use Rattle.output_model.specs.declared.heads.ClusterLimits.{ClusterLimits}
 use Rattle.output_model.specs.OutputBlock.{OutputBlock}
 use Rattle.output_model.specs.Block.{block_element}
@@ -113,7 +113,7 @@ pub joins-small : (limits : ClusterLimits) (timestamp : Option ℕ) (elements no
     → IsSmall (Some first) (count + 1) now
 joins-small limits None elements now count tick len first empty fits few added is = inl (omega (arith, empty.0), omega (arith, ap length empty.1, few, added))
 joins-small limits (Some t) elements now count tick len first empty fits few added is =
-    let within : size_with t elements + len ≤ MOST_OF_CLUSTER = grind (arith, nat_tests, fits) in
+    let within : size_with t elements + len ≤ MAX_CLUSTER_LEN = grind (arith, nat_tests, fits) in
     inr (omega (arith, within, added, ap (λ n. length (octets_of (timestamp_element n))) is))
 
 -- and so are its octets

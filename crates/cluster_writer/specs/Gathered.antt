@@ -2,7 +2,7 @@
 use Rattle.std.specs.Prelude.{◌≡◌, ◌≤◌, ◌<◌, ◌⊎◌, ⊤, ℕ, ◌+◌, ◌^◌, Bool, true, List, [], ◌++◌, length, Option, Some, None, is_none, unwrap_or, ℤ}
 use Rattle.mkv_schema.specs.declared.ids.TheConstants.{CLUSTER}
 use Rattle.output_model.specs.Element.{element, octets_of, joined}
-use Rattle.output_model.specs.declared.TheConstants.{MOST_OF_CLUSTER}
+use Rattle.output_model.specs.declared.TheConstants.{MAX_CLUSTER_LEN}
 use Rattle.output_model.specs.declared.heads.ClusterLimits.{ClusterLimits}
 use Rattle.output_model.specs.OutputBlock.{OutputBlock, Lent, IsLent}
 use Rattle.output_model.specs.Block.{block_element}
@@ -65,14 +65,14 @@ size_with timestamp elements = length (octets_of (timestamp_element timestamp)) 
 -- A Cluster of so many blocks has one, whose Element has 128 MiB at most, or a body of 1 MiB at most.
 abbrev pub IsSmall : Option ℕ → ℕ → List ℕ → Type 0
 IsSmall None count elements = ⊤
-IsSmall (Some timestamp) count elements = ((count ≡ 1) × (length elements ≤ 2 ^ 27)) ⊎ (size_with timestamp elements ≤ MOST_OF_CLUSTER)
+IsSmall (Some timestamp) count elements = ((count ≡ 1) × (length elements ≤ 2 ^ 27)) ⊎ (size_with timestamp elements ≤ MAX_CLUSTER_LEN)
 
 abbrev pub HoldsSmall : Gathered → Type 0
 HoldsSmall g = IsSmall g.timestamp g.count g.elements
 
 -- the same of the octets of a Cluster of so many blocks, with what stands in front of them
 abbrev pub AreFew : ℕ → List ℕ → Type 0
-AreFew count octets = ((count ≡ 1) × (length octets ≤ 2 ^ 27 + 40)) ⊎ (length octets ≤ MOST_OF_CLUSTER + 16)
+AreFew count octets = ((count ≡ 1) × (length octets ≤ 2 ^ 27 + 40)) ⊎ (length octets ≤ MAX_CLUSTER_LEN + 16)
 
 -- ---- whether a block joins
 

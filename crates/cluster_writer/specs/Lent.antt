@@ -4,7 +4,7 @@ use Rattle.output_model.specs.declared.heads.OutHead.{OutHead}
 use Rattle.output_model.specs.OutputBlock.{OutputBlock, Lent, IsLent, lent_block, in_output}
 use Rattle.output_model.specs.Cluster.{is_near}
 use Rattle.cluster_writer.specs.Lengths.{prefixed_sizes, block_len, body_len, octets_taken, behind_len}
-use Rattle.cluster_writer.specs.declared.lent.LentBlock.{LentBlock}
+use Rattle.cluster_writer.specs.declared.lent.BlockRef.{BlockRef}
 use Rattle.cluster_writer.specs.declared.lent.BlockLengths.{BlockLengths}
 
 -- what a lane hands out, of these parts
@@ -12,18 +12,18 @@ abbrev pub lent : OutHead → List ℕ → List ℕ → List ℕ → List ℤ �
 lent head prefix body sizes references kept =
     record { head = head; prefix = prefix; body = body; sizes = sizes; references = references; kept = kept }
 
-abbrev pub lent_of : LentBlock → Lent
+abbrev pub lent_of : BlockRef → Lent
 lent_of b = lent b.head.now b.prefix.now b.body.now b.sizes.now b.references.now b.kept.now
 
 -- the block as it stands in the output: in a lane of this number, at this tick of its part
 abbrev pub block_put : ℕ → ℕ → Lent → OutputBlock
 block_put lane tick l = in_output lane tick (lent_block l)
 
-abbrev pub block_of : LentBlock → OutputBlock
+abbrev pub block_of : BlockRef → OutputBlock
 block_of b = block_put b.lane b.tick (lent_of b)
 
 -- It is within what a lane hands out, and one octet tells the number of its lane.
-pub record CanBePut (b : LentBlock) : Type 0 where
+pub record CanBePut (b : BlockRef) : Type 0 where
   pub lent : IsLent (lent_of b)
   pub lane : b.lane < 128
 
@@ -42,16 +42,16 @@ IsLenOf head prefix sizes references kept len =
     (l : Lent) → IsLent l → Measures head prefix sizes references kept l → len ≡ octets_taken (lent_block l)
 
 -- the sizes of its frames with their prefix
-abbrev pub sizes_put : LentBlock → List ℕ
+abbrev pub sizes_put : BlockRef → List ℕ
 sizes_put b = prefixed_sizes (length b.prefix.now) b.sizes.now
 
 -- how many octets stand behind its Block in its group
-abbrev pub behind_put : LentBlock → ℕ
+abbrev pub behind_put : BlockRef → ℕ
 behind_put b = behind_len b.head.now.duration b.references.now (length b.kept.now)
 
 -- These are the lengths of a block as it is written: of its Block, of what stands behind the header of its Element, and of
 -- the Element, which has 128 MiB at most.
-pub record AreLengths (b : LentBlock) (lengths : BlockLengths) : Type 0 where
+pub record AreLengths (b : BlockRef) (lengths : BlockLengths) : Type 0 where
   pub block : lengths.block ≡ block_len b.head.now.lace (sizes_put b)
   pub body : lengths.body ≡ body_len b.head.now lengths.block b.references.now (length b.kept.now)
   pub whole : lengths.whole ≡ octets_taken (block_of b)
@@ -60,6 +60,6 @@ pub record AreLengths (b : LentBlock) (lengths : BlockLengths) : Type 0 where
 -- ---- while it is written
 
 -- It can be put, and a Cluster of this Timestamp can tell its time.
-pub record CanStand (timestamp : ℕ) (b : LentBlock) : Type 0 where
+pub record CanStand (timestamp : ℕ) (b : BlockRef) : Type 0 where
   pub put : CanBePut b
   pub near : is_near timestamp b.tick ≡ true

@@ -15,7 +15,7 @@ ghost use Rattle.cluster_writer.specs.Lengths.{block_len, group_len, prefixed_si
 use crate::element::{add, add_header, is_short};
 use crate::group::add_behind;
 use crate::lace::{add_frames, add_lace, lace_octets_len};
-use crate::lent::{BlockLengths, LentBlock};
+use crate::lent::{BlockLengths, BlockRef};
 use lacing::Lace;
 use mkv_schema::ids::{BLOCK, BLOCK_GROUP, SIMPLE_BLOCK};
 use output_model::OutHead;
@@ -69,7 +69,7 @@ fn lace_bits(kind: Lace) -> u8
 }
 
 // Of a Block that stands in a group only two flags count.
-fn flags_of(block: &LentBlock<'_>) -> u8
+fn flags_of(block: &BlockRef<'_>) -> u8
     ensures { result ≡ flags_of (block_of block.now) }
 {
     let head = block.head;
@@ -96,7 +96,7 @@ fn relative(timestamp: u64, tick: u64) -> u16
 // ---- the Element
 
 // Adds the header of an Element of a Block of so many octets, and the header of the Block.
-fn add_headers(out: &mut Vec<u8>, id: u32, timestamp: u64, block: &LentBlock<'_>, len: u64)
+fn add_headers(out: &mut Vec<u8>, id: u32, timestamp: u64, block: &BlockRef<'_>, len: u64)
     requires id { IsTrue (is_id id) }
     requires near { is_near timestamp block.now.tick ≡ true }
     requires lane { block.now.lane < 128 }
@@ -116,7 +116,7 @@ fn add_headers(out: &mut Vec<u8>, id: u32, timestamp: u64, block: &LentBlock<'_>
 }
 
 // Adds a Block of so many octets as an Element of its own: a SimpleBlock, or the Block of a group.
-fn add_block_element(out: &mut Vec<u8>, id: u32, timestamp: u64, block: &LentBlock<'_>, len: u64)
+fn add_block_element(out: &mut Vec<u8>, id: u32, timestamp: u64, block: &BlockRef<'_>, len: u64)
     requires id { IsTrue (is_id id) }
     requires block { CanStand timestamp block.now }
     requires len { len ≡ block_len block.now.head.now.lace (sizes_put block.now) }
@@ -131,7 +131,7 @@ fn add_block_element(out: &mut Vec<u8>, id: u32, timestamp: u64, block: &LentBlo
 
 // Adds a group whose Block, and what stands behind its header, have so many octets.
 #[tactic(auto, unfolding(ebml_numbers::specs::Number::is_id))]
-fn add_group(out: &mut Vec<u8>, timestamp: u64, block: &LentBlock<'_>, len: u64, body: u64)
+fn add_group(out: &mut Vec<u8>, timestamp: u64, block: &BlockRef<'_>, len: u64, body: u64)
     requires block { CanStand timestamp block.now }
     requires len { len ≡ block_len block.now.head.now.lace (sizes_put block.now) }
     requires body { body ≡ group_len block.now.head.now len block.now.references.now (length block.now.kept.now) }
@@ -149,7 +149,7 @@ fn add_group(out: &mut Vec<u8>, timestamp: u64, block: &LentBlock<'_>, len: u64,
 pub(crate) fn add_element(
     out: &mut Vec<u8>,
     timestamp: u64,
-    block: &LentBlock<'_>,
+    block: &BlockRef<'_>,
     lengths: BlockLengths,
 )
     requires block { CanBePut block.now }

@@ -11,7 +11,7 @@ ghost use Rattle.cluster_writer.specs.Staying.{StaysAsItIs};
 use crate::block::add_element;
 use crate::front::{FRONT, put_front, timestamp_len};
 use crate::joining::may_have;
-use crate::lent::{BlockLengths, LentBlock};
+use crate::lent::{BlockLengths, BlockRef};
 use output_model::{ClusterLimits, OutHead};
 use std::alloc::{AllocError, Global};
 use std::marker::Model;
@@ -113,7 +113,7 @@ impl ClusterBuf {
         ensures place { result ≡ place_in self.old tick }
         ensures most { HoldsSmall self.new }
     {
-        self.put_block(&LentBlock {
+        self.put_block(&BlockRef {
             lane,
             tick,
             head,
@@ -126,7 +126,7 @@ impl ClusterBuf {
     }
 
     /// The same of a block whose parts stand together.
-    pub fn put_block(&mut self, block: &LentBlock<'_>) -> u64
+    pub fn put_block(&mut self, block: &BlockRef<'_>) -> u64
         requires { CanPut self.old block.now.lane block.now.tick (lent_of block.now) }
         ensures added { AddsBlock (block_of block.now) self.old self.new }
         ensures holds { HoldsNext (block_of block.now) self.old self.new }
@@ -137,7 +137,7 @@ impl ClusterBuf {
     }
 
     /// The same of a block whose lengths are known.
-    pub fn put_measured(&mut self, block: &LentBlock<'_>, lengths: BlockLengths) -> u64
+    pub fn put_measured(&mut self, block: &BlockRef<'_>, lengths: BlockLengths) -> u64
         requires can { CanPut self.old block.now.lane block.now.tick (lent_of block.now) }
         requires lengths { AreLengths block.now lengths }
         ensures added { AddsBlock (block_of block.now) self.old self.new }

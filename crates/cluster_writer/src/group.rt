@@ -8,7 +8,7 @@ ghost use Rattle.cluster_writer.specs.Lent.{block_of, behind_put};
 ghost use Rattle.cluster_writer.specs.Lengths.{duration_len, references_len, group_len, behind_octets};
 
 use crate::element::{add, add_header, add_uint, element_len, uint_len};
-use crate::lent::LentBlock;
+use crate::lent::BlockRef;
 use ebml_numbers::put_int;
 use mkv_schema::ids::{BLOCK, BLOCK_DURATION, REFERENCE_BLOCK};
 use output_model::OutHead;
@@ -37,7 +37,7 @@ fn duration_len(duration: Option<u64>) -> u64
 }
 
 /// Adds what stands behind the Block of a group.
-pub(crate) fn add_behind(out: &mut Vec<u8>, block: &LentBlock<'_>)
+pub(crate) fn add_behind(out: &mut Vec<u8>, block: &BlockRef<'_>)
     requires { HasRoom out.old (behind_put block.now) }
     ensures { Adds out.old out.new (behind_octets (block_of block.now)) }
 {

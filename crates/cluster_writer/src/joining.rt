@@ -3,7 +3,7 @@
 ghost use Rattle.std.specs.Prelude.{◌≡◌, ◌≤◌, ◌+◌, ◌^◌};
 ghost use Rattle.output_model.specs.Cluster.{is_near, may_have};
 
-use output_model::{ClusterLimits, MOST_OF_CLUSTER};
+use output_model::{ClusterLimits, MAX_CLUSTER_LEN};
 
 // Sixteen bits with a sign tell a block's time from the Timestamp.
 fn is_near(timestamp: u64, tick: u64) -> bool
@@ -36,5 +36,5 @@ pub(crate) fn may_have(
     if nanoseconds > u128::from(limits.span) {
         return false;
     }
-    len <= MOST_OF_CLUSTER && size + len <= MOST_OF_CLUSTER
+    len <= MAX_CLUSTER_LEN && size + len <= MAX_CLUSTER_LEN
 }

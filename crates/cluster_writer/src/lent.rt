@@ -15,7 +15,7 @@ use output_model::OutHead;
 /// into frames of these sizes, each of which has the prefix in front; a group has the ticks that it refers to,
 /// and the octets of what else is kept of it.
 #[derive(Clone, Copy)]
-pub struct LentBlock<'a> {
+pub struct BlockRef<'a> {
     pub lane: u8,
     pub tick: u64,
     pub head: &'a OutHead,
@@ -35,7 +35,7 @@ pub struct BlockLengths {
     pub whole: u64,
 }
 
-impl LentBlock<'_> {
+impl BlockRef<'_> {
     /// How many octets its Element and the parts of it have, the same in every Cluster.
     pub fn lengths(&self) -> BlockLengths
         requires { IsLent (lent_of self.now) }

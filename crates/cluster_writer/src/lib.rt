@@ -12,5 +12,5 @@ mod lace;
 mod lent;
 
 pub use buffer::ClusterBuf;
-pub use lent::{BlockLengths, LentBlock, element_len};
+pub use lent::{BlockLengths, BlockRef, element_len};
 pub use output_model::{ClusterLimits, Lace, OutHead};

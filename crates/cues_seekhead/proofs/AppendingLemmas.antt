@@ -7,11 +7,11 @@ use Rattle.mkv_io.specs.declared.outside.FileId.{FileId}
 use Rattle.mkv_io.specs.declared.outside.MakeFault.{MakeFault}
 use Rattle.mkv_io.specs.declared.outside.MakeFault.TheVariants as make_fault
 use Rattle.mkv_io.specs.Contents.{octets_from, with_appended}
-use Rattle.mkv_io.specs.Faults.{HasCause, HasRisen, is_make_failure}
+use Rattle.mkv_io.specs.Faults.{HasCause, HasIncreased, is_make_failure}
 use Rattle.mkv_io.specs.LiveFiles.{LiveFiles, AppendsPart}
 use Rattle.mkv_io.specs.Names.{Names, with_change}
 use Rattle.mkv_io.specs.Sources.{OnlyReads, live_files}
-use Rattle.mkv_io.specs.Told.{Told}
+use Rattle.mkv_io.specs.Told.{IfVisible}
 use Rattle.mkv_io.specs.Writing.{KeepsOthers}
 use Rattle.mkv_io.specs.declared.reads.Reads.{Ghosts}
 use Rattle.mkv_io.specs.declared.files.Files as writing
@@ -148,14 +148,14 @@ octets_told-more (Some bytes) at m n =
     ∙ take-append-drop m (take (m + n) tail)
 
 -- they are as many as were asked for
-pub length-octets_told : (content : Option (List ℕ)) (at n size : ℕ) → Told content (λ bytes. length bytes ≡ size) → at + n ≤ size → length (octets_told content at n) ≡ n
+pub length-octets_told : (content : Option (List ℕ)) (at n size : ℕ) → IfVisible content (λ bytes. length bytes ≡ size) → at + n ≤ size → length (octets_told content at n) ≡ n
 length-octets_told None at n size told inside = length-replicate n (let z : ℕ = 0 in z)
 length-octets_told (Some bytes) at n size told inside =
     let whole = told bytes refl in
     length-take-le n (drop at bytes) (omega (arith, whole, length-drop at bytes))
 
 -- where names are told, so is the content of a live file
-pub names-untold : (names : Names) (content : Option (List ℕ)) (holder : List ℕ) → Told names (λ world. content ≡ world holder) → Told names (λ world. is_some (world holder) ≡ true) → content ≡ None → names ≡ None
+pub names-untold : (names : Names) (content : Option (List ℕ)) (holder : List ℕ) → IfVisible names (λ world. content ≡ world holder) → IfVisible names (λ world. is_some (world holder) ≡ true) → content ≡ None → names ≡ None
 names-untold None content holder named there none = refl
 names-untold (Some world) content holder named there none =
     let some : is_some content ≡ true = ap is_some (named world refl) ∙ there world refl in
@@ -163,7 +163,7 @@ names-untold (Some world) content holder named there none =
     absurd (cc)
 
 -- octets that were read are those of the content
-IsAppended-told : {T E : Type 0} (result : Result T E) (content : Option (List ℕ)) (old new : Names) (name octets : List ℕ) (at n : ℕ) → Told content (λ bytes. octets ≡ octets_from bytes at n) → (content ≡ None → old ≡ None)
+IsAppended-told : {T E : Type 0} (result : Result T E) (content : Option (List ℕ)) (old new : Names) (name octets : List ℕ) (at n : ℕ) → IfVisible content (λ bytes. octets ≡ octets_from bytes at n) → (content ≡ None → old ≡ None)
     → IsAppended old new name octets result → IsAppended old new name (octets_told content at n) result
 IsAppended-told (Ok done) (Some bytes) old new name octets at n told untold added = added ∙ ap (λ w. with_change old name (with_appended w)) (told bytes refl)
 IsAppended-told (Ok done) None old new name octets at n told untold added =
@@ -175,7 +175,7 @@ IsAppended-told (Err fault) None old new name octets at n told untold some = Pas
 -- Octets are read from another file, and then appended.
 pub AppendsOnly-read : {S T : Type 0} (r : Ghosts S) (f : writing.Ghosts S) (file : FileId) (content : Option (List ℕ)) (octets : List ℕ) (at n : ℕ) (a b c : S) (result : Result T RemuxEnd)
     → OnlyReads r a b → r.reading_faults b ≡ r.reading_faults a → r.octets_read b ≤ r.octets_read a + n → f.names b ≡ f.names a → ((k : ℕ) → f.holder b k ≡ f.holder a k) → f.given b ≡ f.given a → f.writing_faults b ≡ f.writing_faults a → f.asked b ≡ f.asked a
-    → Told content (λ bytes. octets ≡ octets_from bytes at n) → (content ≡ None → f.names a ≡ None) → length octets ≡ length (octets_told content at n)
+    → IfVisible content (λ bytes. octets ≡ octets_from bytes at n) → (content ≡ None → f.names a ≡ None) → length octets ≡ length (octets_told content at n)
     → AppendsOnly r f file octets 0 b c result → AppendsOnly r f file (octets_told content at n) n a c result
 AppendsOnly-read r f file content octets at n a b c result reads faults most names holders given written asked told untold same appends =
     let holder = holders file.n in
@@ -193,7 +193,7 @@ AppendsOnly-read r f file content octets at n a b c result reads faults most nam
 
 -- the read failed
 pub AppendsOnly-unread : {S T : Type 0} (r : Ghosts S) (f : writing.Ghosts S) (file : FileId) (octets : List ℕ) (n : ℕ) (a b : S)
-    → OnlyReads r a b → HasRisen (r.reading_faults a) (r.reading_faults b) → r.octets_read b ≤ r.octets_read a + n → f.names b ≡ f.names a → ((k : ℕ) → f.holder b k ≡ f.holder a k) → f.given b ≡ f.given a → f.writing_faults b ≡ f.writing_faults a → f.asked b ≡ f.asked a
+    → OnlyReads r a b → HasIncreased (r.reading_faults a) (r.reading_faults b) → r.octets_read b ≤ r.octets_read a + n → f.names b ≡ f.names a → ((k : ℕ) → f.holder b k ≡ f.holder a k) → f.given b ≡ f.given a → f.writing_faults b ≡ f.writing_faults a → f.asked b ≡ f.asked a
     → AppendsOnly {T = T} r f file octets n a b (Err remux_end.ReadFault)
 AppendsOnly-unread r f file octets n a b reads rose most names holders given written asked = record {
   appended = PassesSome-none (f.names a) (f.names b) (f.holder a file.n) octets names;

@@ -6,7 +6,7 @@ use Rattle.std.proofs.lemmas.List.Sums.{sum_by-append}
 use Rattle.mkv_io.specs.declared.outside.FileId.{FileId}
 use Rattle.mkv_io.specs.LiveFiles.{LiveFiles}
 use Rattle.mkv_io.specs.Sources.{live_files, file_size}
-use Rattle.mkv_io.specs.Told.{Told}
+use Rattle.mkv_io.specs.Told.{IfVisible}
 use Rattle.mkv_io.specs.Writing.{KeepsOthers}
 use Rattle.mkv_io.specs.declared.reads.Reads.{Ghosts}
 use Rattle.mkv_io.specs.declared.files.Files as writing
@@ -24,7 +24,7 @@ use Rattle.cues_seekhead.proofs.AppendingLemmas.{AppendsOnly-then, AppendsOnly-m
 -- ---- one of them
 
 -- what is written of it, in three parts
-attached-is : {S : Type 0} (r : Ghosts S) (f : writing.Ghosts S) (name : List ℕ) (a : S) (it : Attachment) → CanAttach r f a name it → Told ((live_files r a).content it.file.n) (λ bytes. length bytes ≡ file_size r a it.file)
+attached-is : {S : Type 0} (r : Ghosts S) (f : writing.Ghosts S) (name : List ℕ) (a : S) (it : Attachment) → CanAttach r f a name it → IfVisible ((live_files r a).content it.file.n) (λ bytes. length bytes ≡ file_size r a it.file)
     → octets_of (tree_element (attached_file (live_files r a) it)) ≡ before_data it ++ (data_of (live_files r a) it ++ behind_data it)
 attached-is r f name a it can told =
     attached-parts it (data_of (live_files r a) it) can.master can.id (length-octets_told ((live_files r a).content it.file.n) it.at it.len (file_size r a it.file) told can.inside)
@@ -37,7 +37,7 @@ data-kept r f file a b it octets m done can before =
 
 -- its three parts are appended
 pub attached-all : {S T U : Type 0} (r : Ghosts S) (f : writing.Ghosts S) (file : FileId) (it : Attachment) (a b c d : S) (done : U) (result : Result T RemuxEnd) (front back : List ℕ) → (live_files r a).live file.n ≡ true → CanAttach r f a (f.holder a file.n) it
-    → Told ((live_files r a).content it.file.n) (λ bytes. length bytes ≡ file_size r a it.file) → front ≡ before_data it → back ≡ behind_data it
+    → IfVisible ((live_files r a).content it.file.n) (λ bytes. length bytes ≡ file_size r a it.file) → front ≡ before_data it → back ≡ behind_data it
     → AppendsOnly r f file front 0 a b (Ok done) → AppendsOnly r f file (octets_told ((live_files r b).content it.file.n) it.at it.len) it.len b c (Ok done) → AppendsOnly r f file back 0 c d result
     → AppendsOnly r f file (octets_of (tree_element (attached_file (live_files r a) it))) it.len a d result
 attached-all r f file it a b c d done result front back live can told is_front is_back first second third =
@@ -51,14 +51,14 @@ attached-all r f file it a b c d done result front back live can told is_front i
 
 -- the first part is refused
 pub attached-unbegun : {S T U : Type 0} (r : Ghosts S) (f : writing.Ghosts S) (file : FileId) (it : Attachment) (a b : S) (end : RemuxEnd) (front : List ℕ) → CanAttach r f a (f.holder a file.n) it
-    → Told ((live_files r a).content it.file.n) (λ bytes. length bytes ≡ file_size r a it.file) → front ≡ before_data it → AppendsOnly {T = T} r f file front 0 a b (Err end) → AppendsOnly {T = U} r f file (octets_of (tree_element (attached_file (live_files r a) it))) it.len a b (Err end)
+    → IfVisible ((live_files r a).content it.file.n) (λ bytes. length bytes ≡ file_size r a it.file) → front ≡ before_data it → AppendsOnly {T = T} r f file front 0 a b (Err end) → AppendsOnly {T = U} r f file (octets_of (tree_element (attached_file (live_files r a) it))) it.len a b (Err end)
 attached-unbegun r f file it a b end front can told is_front first =
     AppendsOnly-more r f file front (data_of (live_files r a) it ++ behind_data it) (octets_of (tree_element (attached_file (live_files r a) it))) 0 it.len a b end
     (ap (λ w. w ++ (data_of (live_files r a) it ++ behind_data it)) is_front ∙ sym (attached-is r f (f.holder a file.n) a it can told)) (omega arith) first
 
 -- the data are refused
 pub attached-uncopied : {S T U V : Type 0} (r : Ghosts S) (f : writing.Ghosts S) (file : FileId) (it : Attachment) (a b c : S) (done : V) (end : RemuxEnd) (front : List ℕ) → (live_files r a).live file.n ≡ true → CanAttach r f a (f.holder a file.n) it
-    → Told ((live_files r a).content it.file.n) (λ bytes. length bytes ≡ file_size r a it.file) → front ≡ before_data it → AppendsOnly r f file front 0 a b (Ok done)
+    → IfVisible ((live_files r a).content it.file.n) (λ bytes. length bytes ≡ file_size r a it.file) → front ≡ before_data it → AppendsOnly r f file front 0 a b (Ok done)
     → AppendsOnly {T = T} r f file (octets_told ((live_files r b).content it.file.n) it.at it.len) it.len b c (Err end) → AppendsOnly {T = U} r f file (octets_of (tree_element (attached_file (live_files r a) it))) it.len a c (Err end)
 attached-uncopied {S} {T} {U} r f file it a b c done end front live can told is_front first second =
     let middle = octets_told ((live_files r b).content it.file.n) it.at it.len in

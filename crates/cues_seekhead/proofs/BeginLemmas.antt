@@ -7,14 +7,14 @@ use Rattle.mkv_io.specs.LiveFiles.{LiveFiles}
 use Rattle.mkv_io.specs.Names.{Names, with_change, with_content}
 use Rattle.mkv_io.specs.Seen.{IsNewFile, ReadsNothing, SameLive, StaysAtClosing, StaysAtMaking}
 use Rattle.mkv_io.specs.Sources.{live_files, file_size}
-use Rattle.mkv_io.specs.Told.{Told}
+use Rattle.mkv_io.specs.Told.{IfVisible}
 use Rattle.mkv_io.specs.Writing.{KeepsOthers}
 use Rattle.mkv_io.specs.declared.asked.Asked.TheVariants.{Made}
 use Rattle.mkv_io.specs.declared.reads.Reads.{Ghosts}
 use Rattle.mkv_io.specs.declared.files.Files as writing
 use Rattle.mkv_io.proofs.AskedLemmas.{asks-made}
 use Rattle.mkv_outputs.specs.Sinks.{EndsOnly}
-use Rattle.mkv_outputs.specs.Starts.{StandsInPart}
+use Rattle.mkv_outputs.specs.Starts.{ArePrefixes}
 use Rattle.mkv_outputs.specs.Written.{PassesSome}
 use Rattle.tree_format.specs.Node.{id_of, IsMaster}
 use Rattle.mkv_schema.specs.declared.ids.TheConstants.{ATTACHED_FILE}
@@ -106,7 +106,7 @@ attached-all-created r f name file old new (it ∷ them) made can =
     ∙ ap (λ ns. attached_file (live_files r old) it ∷ ns) (attached-all-created r f name file old new them made (λ k d below. can (suc k) d (omega arith)))
 
 -- the data of each are as many octets as it says
-pub can-data : {S : Type 0} (r : Ghosts S) (f : writing.Ghosts S) (name : List ℕ) (a : S) (attachments : List Attachment) → ((file : ℕ) → Told ((live_files r a).content file) (λ bytes. length bytes ≡ (live_files r a).size file)) → All (CanAttach r f a name) attachments → HaveData (live_files r a) attachments
+pub can-data : {S : Type 0} (r : Ghosts S) (f : writing.Ghosts S) (name : List ℕ) (a : S) (attachments : List Attachment) → ((file : ℕ) → IfVisible ((live_files r a).content file) (λ bytes. length bytes ≡ (live_files r a).size file)) → All (CanAttach r f a name) attachments → HaveData (live_files r a) attachments
 can-data r f name a attachments told can = λ k d below.
     let it = get_or attachments k d in
     length-octets_told ((live_files r a).content it.file.n) it.at it.len (file_size r a it.file) (told it.file.n) (can k d below).inside
@@ -128,7 +128,7 @@ begun-known files front o out opening masters own have webm len seeks = record {
 }
 
 -- a first part of it is an output that is begun
-pub begun-part : (before made now : Names) (holder name octets : List ℕ) → made ≡ with_content before name [] → holder ≡ name → PassesSome made now holder octets → StandsInPart before now (record { name = name; content = octets } ∷ [])
+pub begun-part : (before made now : Names) (holder name octets : List ℕ) → made ≡ with_content before name [] → holder ≡ name → PassesSome made now holder octets → ArePrefixes before now (record { name = name; content = octets } ∷ [])
 begun-part before made now holder name octets is same some = record {
   stand = record { name = name; content = some.passed.written } ∷ [];
   begun = (record { name = refl; content = record { rest = some.left; whole = some.passed.whole } }, tt);
@@ -136,7 +136,7 @@ begun-part before made now holder name octets is same some = record {
 }
 
 -- so is one that has no octets yet, or whose name is as before
-pub begun-none : (before now : Names) (name octets : List ℕ) → (now ≡ before) ⊎ (now ≡ with_content before name []) → StandsInPart before now (record { name = name; content = octets } ∷ [])
+pub begun-none : (before now : Names) (name octets : List ℕ) → (now ≡ before) ⊎ (now ≡ with_content before name []) → ArePrefixes before now (record { name = name; content = octets } ∷ [])
 begun-none before now name octets (inl same) = record { stand = []; begun = tt; names = same }
 begun-none before now name octets (inr made) = record {
   stand = record { name = name; content = [] } ∷ [];

@@ -1,7 +1,7 @@
 -- A file that is made, written and ended.
 use Rattle.std.proofs.Common.{◌≡◌, ◌≤◌, ◌<◌, ℕ, zero, suc, List, [], ◌∷◌, true, get_or, sym, ◌∙◌, subst, arith}
 use Rattle.mkv_io.specs.declared.outside.FileId.{FileId}
-use Rattle.mkv_io.specs.Asked.{IsBesides}
+use Rattle.mkv_io.specs.Asked.{IsNotAmong}
 use Rattle.mkv_io.specs.Names.{AreOthers}
 use Rattle.mkv_io.specs.Sources.{live_files}
 use Rattle.mkv_io.specs.Writing.{KeepsOthers}
@@ -24,7 +24,7 @@ MakesFile-kept r f name file a b c numbered made kept = record {
   holders = λ other live. kept.holders other (stays other live) ∙ made.holders other live;
   others = λ other is. IsSameFile-twice (live_files r a) (live_files r b) (live_files r c) other (made.others other is)
       (kept.others other (let P : List ℕ → Type 0 = λ n. AreOthers n (name ∷ []) in subst P (sym (made.holders other is.0)) is.1));
-  asks = asks-both (IsBesides [] (name ∷ [])) (f.asked a) (f.asked b) (f.asked c) made.asks kept.asks;
+  asks = asks-both (IsNotAmong [] (name ∷ [])) (f.asked a) (f.asked b) (f.asked c) made.asks kept.asks;
 }
   where
     stays : (other : ℕ) → (live_files r a).live other ≡ true → (live_files r b).live other ≡ true

@@ -8,14 +8,14 @@ use Rattle.mkv_io.specs.declared.files.Files as writing
 use Rattle.mkv_schema.specs.declared.ids.TheConstants.{ATTACHED_FILE}
 use Rattle.tree_format.specs.Node.{id_of, IsMaster}
 use Rattle.output_model.specs.declared.attachment.Attachment.{Attachment}
-use Rattle.output_model.specs.declared.TheConstants.{AREA, MOST_CUES}
+use Rattle.output_model.specs.declared.TheConstants.{AREA, MAX_CUES}
 use Rattle.output_model.specs.declared.places.CuePoint.{CuePoint}
 use Rattle.output_model.specs.declared.places.Seek.{Seek}
 use Rattle.output_model.specs.SeekHead.{seeks_from}
 use Rattle.output_model.specs.Document.{Front, front_elements, clusters_at, opened_with}
 use Rattle.cues_seekhead.specs.Front.{body_start}
 use Rattle.cues_seekhead.specs.Places.{AreIds}
-use Rattle.mkv_outputs.specs.Starts.{StandsInPart}
+use Rattle.mkv_outputs.specs.Starts.{ArePrefixes}
 use Rattle.output_model.specs.Front.{front_with}
 use Rattle.output_model.specs.declared.front.Front.{Front as GivenFront}
 
@@ -30,7 +30,7 @@ pub record OpenOutput : Type 0 where
 
 -- what always holds of it
 pub record HasBegun (o : OpenOutput) : Type 0 where
-  pub cues : length o.cues ≤ MOST_CUES
+  pub cues : length o.cues ≤ MAX_CUES
   pub seeks : length o.seeks ≤ 3
   pub ids : AreIds o.seeks
   pub area : AREA ≤ o.len
@@ -77,9 +77,9 @@ BeginsOutput r f name front old new out = StandsOpen r f (f.names old) name (fro
 
 abbrev pub BeginsInPart : {S : Type 0} → Ghosts S → writing.Ghosts S → List ℕ → GivenFront → S → S → Type 0
 BeginsInPart r f name front old new =
-    StandsInPart (f.names old) (f.names new) (record { name = name; content = opened_with (front_with (live_files r old) front) [] } ∷ [])
+    ArePrefixes (f.names old) (f.names new) (record { name = name; content = opened_with (front_with (live_files r old) front) [] } ∷ [])
 
 -- A cue point at the next place is kept behind the others, where there may be one more.
 abbrev pub KeepsPoint : ℕ → ℕ → ℕ → OpenOutput → OpenOutput → Type 0
 KeepsPoint tick lane relative old new =
-    length old.cues < MOST_CUES → new ≡ with_cue old (record { tick = tick; lane = lane; cluster = old.len; relative = relative })
+    length old.cues < MAX_CUES → new ≡ with_cue old (record { tick = tick; lane = lane; cluster = old.len; relative = relative })

@@ -25,7 +25,7 @@ fn first_data(children: &[Tree]) -> Option<usize>
 }
 
 // The children of an AttachedFile in front of its first FileData, and those from there on.
-fn around_data(children: &[Tree]) -> (&[Tree], &[Tree])
+fn split_at_file_data(children: &[Tree]) -> (&[Tree], &[Tree])
     ensures front { result.0.now ≡ take (data_place children.now) children.now }
     ensures back { result.1.now ≡ drop (data_place children.now) children.now }
 {
@@ -99,7 +99,7 @@ pub fn octets_before_data(alloc: Global, attachment: &Attachment) -> Result<Byte
     ensures { IfOk result (λ out. out ≡ before_data attachment.now) }
 {
     let mut out = Bytes::new(alloc);
-    let (front, _) = around_data(attachment.entry.children());
+    let (front, _) = split_at_file_data(attachment.entry.children());
     put_header(&mut out, ATTACHED_FILE, body_len(attachment)?)?;
     put_children(&mut out, front)?;
     put_header(&mut out, FILE_DATA, attachment.len)?;
@@ -111,7 +111,7 @@ pub fn octets_behind_data(alloc: Global, attachment: &Attachment) -> Result<Byte
     ensures { IfOk result (λ out. out ≡ behind_data attachment.now) }
 {
     let mut out = Bytes::new(alloc);
-    let (_, back) = around_data(attachment.entry.children());
+    let (_, back) = split_at_file_data(attachment.entry.children());
     put_others(&mut out, back)?;
     Ok(out)
 }

@@ -4,7 +4,7 @@ ghost use Rattle.std.specs.Prelude.{◌≡◌, ◌≤◌, [], false, length, OnO
 ghost use Rattle.mkv_schema.specs.declared.ids.TheConstants.{CHAPTERS, TAGS};
 ghost use Rattle.tree_format.specs.Node.{id_of};
 ghost use Rattle.tree_format.specs.NormalForm.{is_filler};
-ghost use Rattle.output_model.specs.declared.TheConstants.{MOST_CUES};
+ghost use Rattle.output_model.specs.declared.TheConstants.{MAX_CUES};
 ghost use Rattle.output_model.specs.Cues.{cues_elements};
 ghost use Rattle.output_model.specs.Document.{tree_elements, back_with};
 ghost use Rattle.cues_seekhead.specs.Places.{Adds, AddsBack};
@@ -23,7 +23,7 @@ fn add_cues(
     at: u64,
     points: &[CuePoint],
 ) -> Result<(), AllocError>
-    requires { length points.now ≤ MOST_CUES }
+    requires { length points.now ≤ MAX_CUES }
     ensures { OnOk result (Adds at (cues_elements points.now) out.old out.new seeks.old.items seeks.new.items) }
 {
     if points.is_empty() {
@@ -61,7 +61,7 @@ pub fn back_octets(
     tags: &Option<Tree>,
     seeks: &mut Vec<Seek>,
 ) -> Result<Bytes, AllocError>
-    requires points { length points.now ≤ MOST_CUES }
+    requires points { length points.now ≤ MAX_CUES }
     requires chapters { IfSome chapters.now (λ n. id_of n ≡ CHAPTERS) }
     requires tags { IfSome tags.now (λ n. id_of n ≡ TAGS) }
     ensures { IfOk result (λ out. AddsBack at points.now chapters.now tags.now seeks.old.items seeks.new.items out) }

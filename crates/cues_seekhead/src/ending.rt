@@ -9,7 +9,7 @@ ghost use Rattle.mkv_schema.specs.declared.ids.TheConstants.{CHAPTERS, TAGS};
 ghost use Rattle.tree_format.specs.Node.{id_of};
 ghost use Rattle.tree_format.specs.NormalForm.{longest};
 ghost use Rattle.output_model.specs.Element.{joined};
-ghost use Rattle.output_model.specs.declared.TheConstants.{AREA, MOST_CUES};
+ghost use Rattle.output_model.specs.declared.TheConstants.{AREA, MAX_CUES};
 ghost use Rattle.output_model.specs.SeekHead.{area_elements, seeks_from};
 ghost use Rattle.output_model.specs.Document.{back_with};
 ghost use Rattle.cues_seekhead.specs.Places.{AreIds};
@@ -48,7 +48,7 @@ impl Ending {
     ) -> Result<Ending, AllocError>
         requires few { length seeks.items ≤ 3 }
         requires ids { AreIds seeks.items }
-        requires cues { length cues.now ≤ MOST_CUES }
+        requires cues { length cues.now ≤ MAX_CUES }
         requires chapters { IfSome chapters.now (λ n. id_of n ≡ CHAPTERS) }
         requires tags { IfSome tags.now (λ n. id_of n ≡ TAGS) }
         ensures { IfOk result (IsEnding len seeks.items (back_with cues.now chapters.now tags.now)) }

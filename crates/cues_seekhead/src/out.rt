@@ -5,13 +5,13 @@ ghost use Rattle.mkv_io.specs.Sources.{IsLive, live_files};
 ghost use Rattle.mkv_io.specs.Writing.{WritesOnly};
 ghost use Rattle.mkv_io.specs.Ends.{HasRemuxCause};
 ghost use Rattle.mkv_outputs.specs.Sinks.{EndsOnly};
-ghost use Rattle.mkv_outputs.specs.Starts.{StandsInPart};
+ghost use Rattle.mkv_outputs.specs.Starts.{ArePrefixes};
 ghost use Rattle.mkv_schema.specs.declared.ids.TheConstants.{INFO, TRACKS, CHAPTERS, TAGS};
 ghost use Rattle.tree_format.specs.Node.{id_of};
 ghost use Rattle.output_model.specs.declared.attachment.Attachment.{Attachment as AttachmentSeen};
 ghost use Rattle.output_model.specs.Attached.{attached_file};
 ghost use Rattle.output_model.specs.Element.{joined};
-ghost use Rattle.output_model.specs.declared.TheConstants.{MOST_CUES as MOST};
+ghost use Rattle.output_model.specs.declared.TheConstants.{MAX_CUES as MOST};
 ghost use Rattle.output_model.specs.Document.{opened_with, tree_element};
 ghost use Rattle.output_model.specs.Front.{front_with};
 ghost use Rattle.cues_seekhead.specs.Appending.{AppendsAttached, AppendsOnly, AppendsToLive, IsAppended, data_octets};
@@ -26,7 +26,7 @@ use crate::ending::Ending;
 use crate::front::{Opening, body_start, open_octets};
 use ebml_tree::Tree;
 use mkv_io::{FileId, Files, Reads, RemuxEnd as OutEnd};
-use output_model::{CuePoint, Front, MOST_CUES, Seek};
+use output_model::{CuePoint, Front, MAX_CUES, Seek};
 use std::alloc::{AllocError, Global};
 use std::marker::Model;
 
@@ -100,7 +100,7 @@ impl OutFile {
         ensures full { MOST ≤ length self.old.cues → IsOk result × (self.new ≡ self.old) }
         ensures most { length self.new.cues ≤ MOST }
     {
-        if self.cues.len() < MOST_CUES {
+        if self.cues.len() < MAX_CUES {
             self.cues.push(CuePoint {
                 tick,
                 lane,

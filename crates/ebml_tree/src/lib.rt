@@ -14,5 +14,5 @@ pub use end::TreeEnd;
 pub use leaves::{text_leaf, uint_leaf};
 pub use masters::empty;
 pub use tree::Tree;
-pub use tree_format::MOST_NODES;
+pub use tree_format::MAX_NODES;
 pub use values::{integer_in, text_in, text_of, uint_in};

@@ -19,7 +19,7 @@ use Rattle.tree_format.specs.Reading.{grove, grove_within}
 use Rattle.sidecar_edit.specs.Writes.{Write, extent}
 use Rattle.edit_changes.specs.declared.refusal.Refusal.TheVariants as refusal
 use Rattle.edit_changes.specs.declared.refusal.Room.TheVariants as room
-use Rattle.edit_changes.specs.declared.refusal.Why.TheVariants as why
+use Rattle.edit_changes.specs.declared.refusal.EditRefusal.TheVariants as why
 use Rattle.edit_changes.specs.Property.{property_of}
 use Rattle.edit_changes.specs.Plan.{write, plan_of}
 

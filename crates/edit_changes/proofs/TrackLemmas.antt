@@ -8,7 +8,7 @@ use Rattle.word_values.specs.declared.edit.Edit.{Edit}
 use Rattle.tree_format.specs.Node.{Node, id_of}
 use Rattle.tree_format.specs.Standing.{StandsIn}
 use Rattle.ebml_tree.specs.Building.{IsRead}
-use Rattle.edit_changes.specs.declared.refusal.Why.{Why}
+use Rattle.edit_changes.specs.declared.refusal.EditRefusal.{EditRefusal}
 use Rattle.edit_changes.specs.Change.{edited_node, place_of}
 use Rattle.mkv_io.specs.Results.{and_then}
 use Rattle.edit_changes.specs.declared.change.EditEnd.{EditEnd}
@@ -49,7 +49,7 @@ tracks-stand result old new k e all here made =
     let P : List Node → Type 0 = All (StandsIn TRACKS) in
     subst P (sym made.becomes) (All-set (StandsIn TRACKS) old k made.after after all)
 
-made-at : {A : Type 0} (result : Result A EditEnd) (old new : List Node) (k : ℕ) (before after : Node) (made : Result Node Why) → slice_get old k ≡ Some before
+made-at : {A : Type 0} (result : Result A EditEnd) (old new : List Node) (k : ℕ) (before after : Node) (made : Result Node EditRefusal) → slice_get old k ≡ Some before
     → new ≡ slice_set old k after → BecomesOrStays result before after made → BecomesOrStays result old new (and_then made (λ m. Ok (slice_set old k m)))
 made-at (Ok done) old new k before after made was becomes makes = ap (λ r. and_then r (λ m. Ok (slice_set old k m))) makes ∙ ap (λ l. Ok l) (sym becomes)
 made-at (Err (Refused why)) old new k before after made was becomes makes =
@@ -60,7 +60,7 @@ made-at (Err Memory) old new k before after made was becomes makes = becomes ∙
 pub tracks-made : {A : Type 0} (result : Result A EditEnd) (old new : List Node) (k : ℕ) (e : Edit) → place_of e.place old ≡ Some k
     → MakesEntry result old new k e → BecomesOrStays result old new (tracks_edited e old)
 tracks-made result old new k e meant made =
-    let P : Result (List Node) Why → Type 0 = BecomesOrStays result old new in
+    let P : Result (List Node) EditRefusal → Type 0 = BecomesOrStays result old new in
     let is : and_then (edited_node e made.before) (λ m. Ok (slice_set old k m)) ≡ tracks_edited e old =
     sym (ap (tracks_edited_at e old) meant ∙ ap (entry_edited e old k) made.was) in
     subst P is (made-at result old new k made.before made.after (edited_node e made.before) made.was made.becomes made.makes)

@@ -13,8 +13,8 @@ use Rattle.tree_format.specs.Values.{first_child}
 use Rattle.file_format.specs.Entry.{number_of, uid_of, type_of}
 use Rattle.tree_format.specs.Children.{set_in, removed_in}
 use Rattle.edit_changes.specs.declared.property.Property.{Property}
-use Rattle.edit_changes.specs.declared.refusal.Why.{Why}
-use Rattle.edit_changes.specs.declared.refusal.Why.TheVariants.{NoInfo, NoSuchTrack, NoSuchProperty, BadPropertyValue, AlreadyThere, Mandatory}
+use Rattle.edit_changes.specs.declared.refusal.EditRefusal.{EditRefusal}
+use Rattle.edit_changes.specs.declared.refusal.EditRefusal.TheVariants.{NoInfo, NoSuchTrack, NoSuchProperty, BadPropertyValue, AlreadyThere, Mandatory}
 use Rattle.edit_changes.specs.declared.refusal.Refusal.{Refusal}
 use Rattle.edit_changes.specs.declared.refusal.Refusal.TheVariants as refusal
 use Rattle.edit_changes.specs.declared.trees.Trees.{Trees}
@@ -60,51 +60,51 @@ abbrev pub has : ℕ → Node → Bool
 has id n = is_some (first_child id n)
 
 -- the property with these octets, which are asked first
-abbrev pub set : ℕ → Node → Option (List ℕ) → Result Node Why
+abbrev pub set : ℕ → Node → Option (List ℕ) → Result Node EditRefusal
 set id n None = Err BadPropertyValue
 set id n (Some value) = Ok (set_in (leaf id 0 value) n)
 
-abbrev pub added : ℕ → Node → Option (List ℕ) → Result Node Why
+abbrev pub added : ℕ → Node → Option (List ℕ) → Result Node EditRefusal
 added id n None = Err BadPropertyValue
 added id n (Some value) = if has id n then Err AlreadyThere else Ok (added_to id value n)
 
 -- a property that may go does so whether it stands there or not
-abbrev pub deleted : Property → Node → Result Node Why
+abbrev pub deleted : Property → Node → Result Node EditRefusal
 deleted p n = if p.deletable then Ok (removed_in p.id n) else Err Mandatory
 
-abbrev pub changed : Change → List ℕ → Node → Property → Result Node Why
+abbrev pub changed : Change → List ℕ → Node → Property → Result Node EditRefusal
 changed Set value n p = set p.id n (value_of p.kind value)
 changed Add value n p = added p.id n (value_of p.kind value)
 changed Delete value n p = deleted p n
 
 -- a change of a property, if the section has it
-abbrev pub named : Change → List ℕ → Node → Option Property → Result Node Why
+abbrev pub named : Change → List ℕ → Node → Option Property → Result Node EditRefusal
 named change value n None = Err NoSuchProperty
 named change value n (Some p) = changed change value n p
 
 -- what an edit makes of its Info or TrackEntry
-abbrev pub edited_node : Edit → Node → Result Node Why
+abbrev pub edited_node : Edit → Node → Result Node EditRefusal
 edited_node e n = named e.change e.value n (property_of (is_info e.place) e.name)
 
 -- ---- the edits of a file, one after the other
 
-abbrev pub in_info : Edit → Trees → Option Node → Result Trees Why
+abbrev pub in_info : Edit → Trees → Option Node → Result Trees EditRefusal
 in_info e t None = Err NoInfo
 in_info e t (Some n) = and_then (edited_node e n) (λ m. Ok (record { info = Some m; tracks = t.tracks }))
 
-abbrev pub in_entry : Edit → Trees → ℕ → Option Node → Result Trees Why
+abbrev pub in_entry : Edit → Trees → ℕ → Option Node → Result Trees EditRefusal
 in_entry e t k None = Err NoSuchTrack
 in_entry e t k (Some n) = and_then (edited_node e n) (λ m. Ok (record { info = t.info; tracks = slice_set t.tracks k m }))
 
-abbrev pub in_tracks : Edit → Trees → Option ℕ → Result Trees Why
+abbrev pub in_tracks : Edit → Trees → Option ℕ → Result Trees EditRefusal
 in_tracks e t None = Err NoSuchTrack
 in_tracks e t (Some k) = in_entry e t k (slice_get t.tracks k)
 
 -- one edit
-abbrev pub edited_once : Edit → Trees → Result Trees Why
+abbrev pub edited_once : Edit → Trees → Result Trees EditRefusal
 edited_once e t = if is_info e.place then in_info e t t.info else in_tracks e t (place_of e.place t.tracks)
 
-abbrev pub numbered : {A : Type 0} → ℕ → Result A Why → Result A Refusal
+abbrev pub numbered : {A : Type 0} → ℕ → Result A EditRefusal → Result A Refusal
 numbered k (Ok x) = Ok x
 numbered k (Err why) = Err (refusal.Edit k why)
 

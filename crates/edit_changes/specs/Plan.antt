@@ -10,7 +10,7 @@ use Rattle.mkv_schema.specs.declared.element.Header.{Header}
 use Rattle.mkv_schema.specs.Element.{is_unknown, stated_end}
 use Rattle.element_reader.specs.Outline.{FileOutline}
 use Rattle.mkv_schema.specs.Value.{first_of}
-use Rattle.tree_format.specs.declared.limits.TheConstants.{MOST_NODES}
+use Rattle.tree_format.specs.declared.limits.TheConstants.{MAX_NODES}
 use Rattle.tree_format.specs.Node.{Node, nodes_of, children}
 use Rattle.tree_format.specs.NormalForm.{octets}
 use Rattle.tree_format.specs.Standing.{kept_all}
@@ -25,7 +25,7 @@ use Rattle.edit_changes.specs.declared.refusal.Refusal.{Refusal}
 use Rattle.edit_changes.specs.declared.refusal.Refusal.TheVariants.{Damaged, EditTooLarge, NoRoom}
 use Rattle.edit_changes.specs.declared.refusal.Room.{Room}
 use Rattle.edit_changes.specs.declared.refusal.Room.TheVariants.{Tail, Twin, SeekHead, SegmentSize}
-use Rattle.edit_changes.specs.declared.refusal.TheConstants.{MOST_WRITTEN}
+use Rattle.edit_changes.specs.declared.refusal.TheConstants.{MAX_WRITTEN}
 use Rattle.edit_changes.specs.declared.trees.Trees.{Trees}
 use Rattle.edit_changes.specs.Change.{edited_trees, are_of_info, are_of_tracks}
 use Rattle.mkv_io.specs.Results.{unless, and_then}
@@ -79,8 +79,8 @@ abbrev pub moving : List Part → List Part
 moving ps = filter moves ps
 
 -- what is written where the old one stands: the new one, or the header of a Void where it moves or goes
-abbrev pub in_place : Part → List ℕ
-in_place p = unwrap_or (option_and_then (λ e. fitted e p.room) p.element) (void_header p.room)
+abbrev pub overwrite_or_void : Part → List ℕ
+overwrite_or_void p = unwrap_or (option_and_then (λ e. fitted e p.room) p.element) (void_header p.room)
 
 abbrev pub elements_moving : List Part → List Element
 elements_moving ps = filter_map (λ p. p.element) (moving ps)
@@ -190,7 +190,7 @@ ascending (w ∷ ws) = inserted w (ascending ws)
 
 -- where the old ones stand
 abbrev pub part_writes : List Part → List Write
-part_writes ps = map (λ p. write p.place (in_place p)) (filter stands ps)
+part_writes ps = map (λ p. write p.place (overwrite_or_void p)) (filter stands ps)
 
 -- the Segment's size, where it is known and the Segment then ends at a place
 abbrev pub size_writes : Header → ℕ → List Write
@@ -209,12 +209,12 @@ most_nodes (p ∷ ps) = max p.nodes (most_nodes ps)
 
 -- how many octets are written there
 abbrev pub length_in_place : List Part → ℕ
-length_in_place ps = sum_by (λ p. length (in_place p)) (filter stands ps)
+length_in_place ps = sum_by (λ p. length (overwrite_or_void p)) (filter stands ps)
 
 -- too many octets to write, or too many Elements in one
 abbrev pub too_large : ℕ → List Part → Option Refusal
 too_large length ps =
-    if nat_lt MOST_NODES (most_nodes ps) || nat_lt MOST_WRITTEN length then Some (EditTooLarge length (most_nodes ps)) else None
+    if nat_lt MAX_NODES (most_nodes ps) || nat_lt MAX_WRITTEN length then Some (EditTooLarge length (most_nodes ps)) else None
 
 -- the parts alone, each where it stands
 abbrev pub writes_in_place : List Part → Result (List Write) Refusal

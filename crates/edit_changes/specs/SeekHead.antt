@@ -7,11 +7,11 @@ use Rattle.ebml_numbers.specs.Number.{id_octets}
 use Rattle.mkv_schema.specs.declared.ids.TheConstants.{SEEK_HEAD, SEEK, SEEK_ID}
 use Rattle.mkv_io.specs.declared.damage.Damage.{Damage}
 use Rattle.mkv_schema.specs.declared.element.Header.{Header}
-use Rattle.mkv_schema.specs.declared.limits.TheConstants.{MOST_OF_ONE}
+use Rattle.mkv_schema.specs.declared.limits.TheConstants.{MAX_MASTER_LEN}
 use Rattle.mkv_schema.specs.Element.{known}
 use Rattle.mkv_schema.specs.Value.{body_of, first_of}
 use Rattle.element_reader.specs.Outline.{FileOutline}
-use Rattle.tree_format.specs.declared.limits.TheConstants.{MOST_NODES}
+use Rattle.tree_format.specs.declared.limits.TheConstants.{MAX_NODES}
 use Rattle.tree_format.specs.Node.{Node, id_of, children}
 use Rattle.tree_format.specs.Node as tree
 use Rattle.tree_format.specs.NormalForm.{octets}
@@ -32,8 +32,8 @@ if_read h (Err d) = None
 
 abbrev pub if_sound : List ℕ → Header → Option SeekHeadAt
 if_sound bytes h =
-    if nat_lt MOST_OF_ONE (known h.size) then None
-    else if_read h (tree_of h.id h.offset (body_of bytes h) h.body MOST_NODES)
+    if nat_lt MAX_MASTER_LEN (known h.size) then None
+    else if_read h (tree_of h.id h.offset (body_of bytes h) h.body MAX_NODES)
 
 -- an Element, where it stands in front of the first Cluster
 abbrev pub before_clusters : Option Header → Header → Option Header

@@ -9,8 +9,8 @@ use Rattle.ebml_tree.specs.Building.{IsRead}
 use Rattle.edit_changes.specs.declared.trees.Trees.{Trees}
 use Rattle.edit_changes.specs.declared.refusal.Refusal.{Refusal}
 use Rattle.edit_changes.specs.declared.refusal.Refusal.TheVariants.{Edit as RefusedEdit}
-use Rattle.edit_changes.specs.declared.refusal.Why.{Why}
-use Rattle.edit_changes.specs.declared.refusal.Why.TheVariants.{NoInfo, NoSuchTrack}
+use Rattle.edit_changes.specs.declared.refusal.EditRefusal.{EditRefusal}
+use Rattle.edit_changes.specs.declared.refusal.EditRefusal.TheVariants.{NoInfo, NoSuchTrack}
 use Rattle.edit_changes.specs.Change.{edited_node, place_of}
 use Rattle.mkv_io.specs.Results.{and_then}
 use Rattle.edit_changes.specs.declared.change.EditEnd.{EditEnd}
@@ -31,21 +31,21 @@ pub record IsEntryAt (ns : List Node) (k : ℕ) : Type 0 where
   pub id : id_of entry ≡ TRACK_ENTRY
 
 -- an edit of the Info
-abbrev pub info_edited : Edit → Option Node → Result (Option Node) Why
+abbrev pub info_edited : Edit → Option Node → Result (Option Node) EditRefusal
 info_edited e None = Err NoInfo
 info_edited e (Some n) = and_then (edited_node e n) (λ m. Ok (Some m))
 
 -- an edit of the TrackEntry at a place
-abbrev pub entry_edited : Edit → List Node → ℕ → Option Node → Result (List Node) Why
+abbrev pub entry_edited : Edit → List Node → ℕ → Option Node → Result (List Node) EditRefusal
 entry_edited e ns k None = Err NoSuchTrack
 entry_edited e ns k (Some n) = and_then (edited_node e n) (λ m. Ok (slice_set ns k m))
 
-abbrev pub tracks_edited_at : Edit → List Node → Option ℕ → Result (List Node) Why
+abbrev pub tracks_edited_at : Edit → List Node → Option ℕ → Result (List Node) EditRefusal
 tracks_edited_at e ns None = Err NoSuchTrack
 tracks_edited_at e ns (Some k) = entry_edited e ns k (slice_get ns k)
 
 -- an edit of the TrackEntry that is meant
-abbrev pub tracks_edited : Edit → List Node → Result (List Node) Why
+abbrev pub tracks_edited : Edit → List Node → Result (List Node) EditRefusal
 tracks_edited e ns = tracks_edited_at e ns (place_of e.place ns)
 
 -- The TrackEntry at a place is edited, and the others stay.

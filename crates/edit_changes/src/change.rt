@@ -10,7 +10,7 @@ ghost use Rattle.edit_changes.specs.Properties.{IsPropertyOf, section_of};
 ghost use Rattle.edit_changes.specs.declared.change.EditEnd.TheVariants as end;
 
 use crate::property::Property;
-use crate::refusal::Why;
+use crate::refusal::EditRefusal;
 use crate::table::property_of;
 use crate::value::leaf_of;
 use ebml_tree::Tree;
@@ -22,7 +22,7 @@ use word_values::{Change, Edit, Selector};
 #[derive(Clone, Copy, Debug, PartialEq, Eq)]
 pub enum EditEnd {
     /// The edit is refused.
-    Refused(Why),
+    Refused(EditRefusal),
     /// There is no memory.
     Memory,
 }
@@ -44,7 +44,7 @@ fn set(alloc: Global, tree: &mut Tree, property: Property, value: &Text) -> Resu
     ensures sound { Sounds tree.old tree.new }
 {
     let Some(leaf) = leaf_of(alloc, property, value)? else {
-        return Err(EditEnd::Refused(Why::BadPropertyValue));
+        return Err(EditEnd::Refused(EditRefusal::BadPropertyValue));
     };
     tree.set(leaf)?;
     Ok(())
@@ -59,10 +59,10 @@ fn add(alloc: Global, tree: &mut Tree, property: Property, value: &Text) -> Resu
     ensures sound { Sounds tree.old tree.new }
 {
     let Some(leaf) = leaf_of(alloc, property, value)? else {
-        return Err(EditEnd::Refused(Why::BadPropertyValue));
+        return Err(EditEnd::Refused(EditRefusal::BadPropertyValue));
     };
     if tree.child(property.id).is_some() {
-        return Err(EditEnd::Refused(Why::AlreadyThere));
+        return Err(EditEnd::Refused(EditRefusal::AlreadyThere));
     }
     tree.push(leaf)?;
     Ok(())
@@ -76,7 +76,7 @@ fn delete(tree: &mut Tree, property: Property) -> Result<(), EditEnd>
     ensures sound { Sounds tree.old tree.new }
 {
     if !property.deletable {
-        return Err(EditEnd::Refused(Why::Mandatory));
+        return Err(EditEnd::Refused(EditRefusal::Mandatory));
     }
     tree.remove(property.id);
     Ok(())
@@ -97,7 +97,7 @@ pub fn apply(alloc: Global, tree: &mut Tree, edit: &Edit) -> Result<(), EditEnd>
     ensures sound { Sounds tree.old tree.new }
 {
     match property_of(is_info(edit.place), edit.name.as_str()) {
-        None => Err(EditEnd::Refused(Why::NoSuchProperty)),
+        None => Err(EditEnd::Refused(EditRefusal::NoSuchProperty)),
         Some(property) => match edit.change {
             Change::Set => set(alloc, tree, property, &edit.value),
             Change::Add => add(alloc, tree, property, &edit.value),

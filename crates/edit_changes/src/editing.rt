@@ -12,7 +12,7 @@ ghost use Rattle.edit_changes.specs.Made.{BecomesOrStays};
 ghost use Rattle.edit_changes.specs.Trees.{AreSound, MakesAll, MakesEntry, info_edited, numbered, tracks_edited};
 
 use crate::change::{EditEnd, apply, is_info};
-use crate::refusal::Why;
+use crate::refusal::EditRefusal;
 use crate::select::place_of;
 use crate::trees::Trees;
 use ebml_tree::Tree;
@@ -24,7 +24,7 @@ use word_values::Edit;
 #[derive(Clone, Copy, Debug, PartialEq, Eq)]
 pub enum EditsEnd {
     /// An edit, counted from 1, is refused.
-    Refused { edit: u64, why: Why },
+    Refused { edit: u64, why: EditRefusal },
     /// There is no memory.
     Memory,
 }
@@ -37,7 +37,7 @@ fn edit_info(alloc: Global, info: &mut Option<Tree>, edit: &Edit) -> Result<(), 
     ensures info { IfSome info.new (IsRead INFO) }
 {
     match info {
-        None => Err(EditEnd::Refused(Why::NoInfo)),
+        None => Err(EditEnd::Refused(EditRefusal::NoInfo)),
         Some(tree) => apply(alloc, tree, edit),
     }
 }
@@ -61,7 +61,7 @@ fn edit_track(alloc: Global, tracks: &mut Vec<Tree>, edit: &Edit) -> Result<(), 
     ensures tracks { All (StandsIn TRACKS) tracks.new.items }
 {
     let Some(k) = place_of(edit.place, tracks.as_slice()) else {
-        return Err(EditEnd::Refused(Why::NoSuchTrack));
+        return Err(EditEnd::Refused(EditRefusal::NoSuchTrack));
     };
     edit_entry(alloc, tracks, k, edit)
 }

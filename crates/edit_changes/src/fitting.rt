@@ -98,7 +98,12 @@ pub fn fit(alloc: Global, id: u32, body: &[u8], room: u64) -> Result<Option<Vec<
 
 /// What is written in the place of an Element with this body: itself, or the header of a Void where it is longer than
 /// its room.
-pub fn in_place(alloc: Global, id: u32, body: &[u8], room: u64) -> Result<Vec<u8>, AllocError>
+pub fn overwrite_or_void(
+    alloc: Global,
+    id: u32,
+    body: &[u8],
+    room: u64,
+) -> Result<Vec<u8>, AllocError>
     requires id { IsTrue (is_id id) }
     requires short { length body.now ≤ 2 ^ 48 }
     requires most { room ≤ 2 ^ 48 }

@@ -19,8 +19,8 @@ mod value;
 
 pub use change::is_info;
 pub use editing::{EditsEnd, edited};
-pub use fitting::{fit, in_place, shortest, void_header, whole};
-pub use refusal::{MOST_WRITTEN, Refusal, Room, Why};
+pub use fitting::{fit, overwrite_or_void, shortest, void_header, whole};
+pub use refusal::{EditRefusal, MAX_WRITTEN, Refusal, Room};
 pub use refusals::{lacks, size_refusal, size_width, tail_refusal, twin_refusal};
 pub use seek_head::seek_head_body;
 pub use span::{number_of, span_of};

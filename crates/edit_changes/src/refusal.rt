@@ -3,11 +3,11 @@
 use mkv_io::Damage;
 
 /// The writes of an edit have at most so many octets together: 16 MiB.
-pub const MOST_WRITTEN: u64 = 16 << 20;
+pub const MAX_WRITTEN: u64 = 16 << 20;
 
 /// What refuses one edit, in the order in which it is asked.
 #[derive(Clone, Copy, Debug, PartialEq, Eq)]
-pub enum Why {
+pub enum EditRefusal {
     /// The file has no Info.
     NoInfo,
     /// The selector fits no TrackEntry.
@@ -41,7 +41,7 @@ pub enum Refusal {
     /// The file can't be read up to what describes it.
     Damaged(Damage),
     /// The first edit, counted from 1, that is refused, and why.
-    Edit { edit: u64, why: Why },
+    Edit { edit: u64, why: EditRefusal },
     /// There are too many octets to write, or too many Elements in a new Info or Tracks.
     EditTooLarge { length: u64, nodes: u64 },
     /// What moves has no room.

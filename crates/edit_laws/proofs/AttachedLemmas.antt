@@ -14,7 +14,7 @@ use Rattle.mkv_schema.specs.Value.{first_of, is_known_value}
 use Rattle.tree_format.specs.Node.{Node, leaf, master, nodes_of}
 use Rattle.tree_format.specs.Changes.{with_child}
 use Rattle.tree_format.specs.Values.{uint_in}
-use Rattle.meta_records.specs.Attachments.{Met, children_of, part_of, is_attached, ended, met_in, at_part, parts_in, at_child, causes, refused_from, refused_in, data_in, missing_data, attached_in, too_many_files, leaf_of, entry_of}
+use Rattle.meta_records.specs.Attachments.{ScannedElement, children_of, part_of, is_attached, ended, met_in, at_part, parts_in, at_child, causes, refused_from, refused_in, data_in, missing_data, attached_in, too_many_files, leaf_of, entry_of}
 use Rattle.meta_records.specs.Attached.{AttachedFile, file_at, files_at}
 use Rattle.edit_laws.proofs.RunLemmas.{AreAlikeRuns, runs-alike, run-inside, StandsInside}
 use Rattle.edit_laws.proofs.BlockLemmas.{AreAlike, IsHeld, alike-append, map-same, shared-body}
@@ -65,11 +65,11 @@ module _ (a b : List ℕ) where
   ended-met (Some c) None same = absurd (cc)
   ended-met (Some c) (Some d) same = tt
 
-  all-met : (f g : Header → List (Result Met Damage)) (hs : List Header) → ((h : Header) → IsHeld a b h → AreAlike (f h) (g h)) → All (IsHeld a b) hs → AreAlike (flat_map f hs) (flat_map g hs)
+  all-met : (f g : Header → List (Result ScannedElement Damage)) (hs : List Header) → ((h : Header) → IsHeld a b h → AreAlike (f h) (g h)) → All (IsHeld a b) hs → AreAlike (flat_map f hs) (flat_map g hs)
   all-met f g [] each held = tt
   all-met f g (h ∷ hs) each held = alike-append (f h) (g h) (flat_map f hs) (flat_map g hs) (each h (All-head (IsHeld a b) h hs held)) (all-met f g hs each (All-tail (IsHeld a b) h hs held))
 
-  run-met : (f g : Header → List (Result Met Damage)) (h : Header) → ((c : Header) → IsHeld a b c → AreAlike (f c) (g c)) → IsHeld a b h → AreAlike (met_in f (children_of a h)) (met_in g (children_of b h))
+  run-met : (f g : Header → List (Result ScannedElement Damage)) (h : Header) → ((c : Header) → IsHeld a b c → AreAlike (f c) (g c)) → IsHeld a b h → AreAlike (met_in f (children_of a h)) (met_in g (children_of b h))
   run-met f g h each own =
       let has = children-held h own in
       alike-append (flat_map f (children_of a h).list) (flat_map g (children_of b h).list) _ _
@@ -86,12 +86,12 @@ module _ (a b : List ℕ) where
       of true = run-met (at_part a) (at_part b) h part-met own
       of false = tt
 
-  refused-none : (octets nodes : ℕ) (xs ys : List (Result Met Damage)) → AreAlike xs ys → refused_from octets nodes xs ≡ None → refused_from octets nodes ys ≡ None
+  refused-none : (octets nodes : ℕ) (xs ys : List (Result ScannedElement Damage)) → AreAlike xs ys → refused_from octets nodes xs ≡ None → refused_from octets nodes ys ≡ None
   refused-none octets nodes [] [] met none = refl
   refused-none octets nodes [] (y ∷ ys) met none = absurd met
   refused-none octets nodes (x ∷ xs) [] met none = refl
   refused-none octets nodes (Ok m ∷ xs) (Ok n ∷ ys) met none =
-      subst (λ (k : Met). first_refusal (first_damage (causes octets nodes k)) (refused_from (octets + k.counted) (nodes + 1) ys) ≡ None) met.0
+      subst (λ (k : ScannedElement). first_refusal (first_damage (causes octets nodes k)) (refused_from (octets + k.counted) (nodes + 1) ys) ≡ None) met.0
       (of (refused-none (octets + m.counted) (nodes + 1) xs ys met.1) (first_damage (causes octets nodes m)) none)
     where
       of : (refused_from (octets + m.counted) (nodes + 1) xs ≡ None → refused_from (octets + m.counted) (nodes + 1) ys ≡ None) → (first : Option Damage) → first_refusal first (refused_from (octets + m.counted) (nodes + 1) xs) ≡ None → first_refusal first (refused_from (octets + m.counted) (nodes + 1) ys) ≡ None

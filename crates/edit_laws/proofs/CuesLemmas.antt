@@ -29,7 +29,7 @@ use Rattle.output_laws.specs.Reading.{CuesAre}
 use Rattle.meta_records.specs.Records.{first_tree}
 use Rattle.sidecar_edit.specs.Writes.{Write, applied}
 use Rattle.edit_changes.specs.Span.{fitted, span_of, void_header}
-use Rattle.edit_changes.specs.Plan.{Part, appended, elements_moving, in_place, length_in_place, length_moving, moves, number_of, part_writes, seek_for, seek_head, seek_to, seeks, stands, write, writes_of_parts}
+use Rattle.edit_changes.specs.Plan.{Part, appended, elements_moving, overwrite_or_void, length_in_place, length_moving, moves, number_of, part_writes, seek_for, seek_head, seek_to, seeks, stands, write, writes_of_parts}
 use Rattle.edit_changes.specs.SeekHead.{SeekHeadAt, seek_head_body, seek_head_of}
 use Rattle.edit_plan.specs.Laws.{ArePartsOf, IsPartOf}
 use Rattle.edit_plan.proofs.PartLemmas.{first-own}
@@ -301,7 +301,7 @@ module _ (bytes : List ℕ) (are_octets : AreOctets bytes) (short : length bytes
         let some = least in
         let test : stands part ≡ true = grind (arith, nat_tests) in
         let writes : part_writes (part ∷ []) ≡ writes_of others (item ∷ []) =
-        ap (λ (b : Bool). map (λ (q : Part). write q.place (in_place q)) (if b then part ∷ [] else [])) test
+        ap (λ (b : Bool). map (λ (q : Part). write q.place (overwrite_or_void q)) (if b then part ∷ [] else [])) test
         ∙ ap (λ (w : Option (List ℕ)). write h.offset (unwrap_or w (void_header space)) ∷ []) (sym (gone-fitted space)) in
         let rest = rest-beside bytes are_octets short o ws op undamaged order outside_all index_ids (part ∷ []) plan.0 plan.2 (item ∷ [])
         (All-cons (IsItem others) item [] (gone-item others h space found space-short) (All-nil (IsItem others))) (All-nil (λ (j : Item). (j.element.id == CUES) ≡ false), tt)

@@ -18,7 +18,7 @@ use Rattle.mkv_io.specs.declared.damage.Damage.{Damage}
 use Rattle.mkv_io.specs.declared.damage.Kind.{Kind}
 use Rattle.mkv_io.specs.declared.damage.Kind.TheVariants.{BadValue, DocType, NotEbml, ReadVersion, MaxLengths, TooLong, Truncated, UnknownSize}
 use Rattle.mkv_schema.specs.declared.element.Header.{Header}
-use Rattle.mkv_schema.specs.declared.limits.TheConstants.{MOST_OF_HEADER}
+use Rattle.mkv_schema.specs.declared.limits.TheConstants.{MAX_HEADER_LEN}
 use Rattle.mkv_schema.specs.Element.{at_level_0, in_tree, octets_between, id_in, with_size, with_id, body_damage, element_in, element_at, is_unknown, may_be_open, stated_end, end_in, damage}
 use Rattle.mkv_schema.specs.Elements.{Run, never, in_front, step, children_in}
 use Rattle.mkv_schema.specs.Outline.{first_damage, where_it, ebml_mark, header_children, header_causes, over, bad_value, wrong_doc_type, is_doc_type, above, place_of, ebml_header}
@@ -112,7 +112,7 @@ module _ (a b : List ℕ) (list : List Header) (same : All (λ h. body_of b h �
 
   causes-same : (h : Header) (damaged : Option Damage) (end : ℕ) → header_causes b h (record { list = list; damage = damaged; end = end }) ≡ header_causes a h (record { list = list; damage = damaged; end = end })
   causes-same h damaged end =
-      ap₂ (λ bad rest. over MOST_OF_HEADER h ∷ bad ∷ damaged ∷ rest) bad-same
+      ap₂ (λ bad rest. over MAX_HEADER_LEN h ∷ bad ∷ damaged ∷ rest) bad-same
       (ap₂ (λ x xs. x ∷ xs) type-same
       (ap₂ (λ x xs. x ∷ xs) (above-same EBML_READ_VERSION 1 ReadVersion)
       (ap₂ (λ x xs. x ∷ xs) (above-same DOC_TYPE_READ_VERSION 4 ReadVersion)

@@ -11,7 +11,7 @@ use Rattle.mkv_io.specs.Results.{and_then}
 use Rattle.mkv_schema.specs.Value.{first_of}
 use Rattle.output_model.specs.Element.{Element, HoldsAt, octets_of, joined, header_in_place, headers_in_place}
 use Rattle.output_model.proofs.HeldLemmas.{held-left, held-right}
-use Rattle.tree_format.specs.declared.limits.TheConstants.{MOST_NODES}
+use Rattle.tree_format.specs.declared.limits.TheConstants.{MAX_NODES}
 use Rattle.tree_format.specs.Node.{Node, master, nodes_of}
 use Rattle.tree_format.specs.NormalForm.{octets}
 use Rattle.tree_format.specs.Reading.{tree_of}
@@ -108,7 +108,7 @@ module _ (t : Edit) (listed : IsListed t t.list t.start) (was now : Header)
     tree-same : (first : Option Header) → first_of id (segment_run t.old was).list ≡ first → tree_at t.new first ≡ tree_at t.old first
     tree-same None is = refl
     tree-same (Some h) is =
-        ap (λ (o : List ℕ). and_then (tree_of h.id h.offset o h.body MOST_NODES) (λ tree. Ok (Some tree))) (shared-body t.old t.new h (first-held h is).shared)
+        ap (λ (o : List ℕ). and_then (tree_of h.id h.offset o h.body MAX_NODES) (λ tree. Ok (Some tree))) (shared-body t.old t.new h (first-held h is).shared)
 
     pub first-tree : first_tree id t.new now ≡ first_tree id t.old was
     first-tree = ap (tree_at t.new) first-same ∙ tree-same (first_of id (segment_run t.old was).list) refl

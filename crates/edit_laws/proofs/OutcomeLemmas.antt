@@ -22,14 +22,14 @@ use Rattle.element_reader.specs.Collected.{others_of}
 use Rattle.element_reader.proofs.OutlineLemmas.{first_in-others}
 use Rattle.output_model.specs.Element.{Element, IsElement, element, headers_in_place, octets_of}
 use Rattle.output_model.proofs.ReadLemmas.{length-octets_of}
-use Rattle.tree_format.specs.declared.limits.TheConstants.{MOST_NODES}
+use Rattle.tree_format.specs.declared.limits.TheConstants.{MAX_NODES}
 use Rattle.tree_format.specs.Node.{Node, children, master, nodes_of, deepest, depth_all}
 use Rattle.tree_format.specs.NormalForm.{octets}
 use Rattle.tree_format.specs.Standing.{AllStandIn, kept_all}
 use Rattle.meta_records.specs.Records.{first_tree, tree_at}
 use Rattle.sidecar_edit.specs.Writes.{Write, applied}
 use Rattle.edit_changes.specs.declared.trees.Trees.{Trees}
-use Rattle.edit_changes.specs.declared.refusal.TheConstants.{MOST_WRITTEN}
+use Rattle.edit_changes.specs.declared.refusal.TheConstants.{MAX_WRITTEN}
 use Rattle.edit_changes.specs.Change.{are_of_info, are_of_tracks, edited_from}
 use Rattle.edit_changes.specs.Records.{EditableFile}
 use Rattle.edit_changes.specs.Plan.{Part, appended, ascending, edit_ids, elements_moving, info_nodes, length_in_place, length_moving, most_nodes, moves, moving, part, part_of, part_writes, parts, seek_head, too_large}
@@ -110,10 +110,10 @@ appended-none (p ∷ ps) none = of (appended-none ps) (moves p) none
     of further false is = further is
 
 -- few nodes stand in each part
-pub nodes-none : (len : ℕ) (ps : List Part) → too_large len ps ≡ None → most_nodes ps ≤ MOST_NODES
-nodes-none len ps is = of (nat_lt MOST_NODES (most_nodes ps)) (nat_lt MOST_WRITTEN len) refl is
+pub nodes-none : (len : ℕ) (ps : List Part) → too_large len ps ≡ None → most_nodes ps ≤ MAX_NODES
+nodes-none len ps is = of (nat_lt MAX_NODES (most_nodes ps)) (nat_lt MAX_WRITTEN len) refl is
   where
-    of : (many long : Bool) → nat_lt MOST_NODES (most_nodes ps) ≡ many → (if many || long then Some (refusal.EditTooLarge len (most_nodes ps)) else None) ≡ None → most_nodes ps ≤ MOST_NODES
+    of : (many long : Bool) → nat_lt MAX_NODES (most_nodes ps) ≡ many → (if many || long then Some (refusal.EditTooLarge len (most_nodes ps)) else None) ≡ None → most_nodes ps ≤ MAX_NODES
     of true long test is = absurd (cc)
     of false true test is = absurd (cc)
     of false false test is = grind (arith, nat_tests)
@@ -187,13 +187,13 @@ module _ (bytes : List ℕ) (are_octets : AreOctets bytes) (short : length bytes
 
   -- ---- what is written can be read
 
-  module _ (few : All (λ (i : Item). length (octets_of i.element) ≤ 2 ^ 24) items) (nodes : most_nodes ps ≤ MOST_NODES) where
+  module _ (few : All (λ (i : Item). length (octets_of i.element) ≤ 2 ^ 24) items) (nodes : most_nodes ps ≤ MAX_NODES) where
     pub are : All (IsItem others) items
     are = All-append (IsItem others) infos tracks
         (items-are (are_of_info edits) INFO others (info_nodes t.info) names.info info-valid (all-left (λ (i : Item). length (octets_of i.element) ≤ 2 ^ 24) infos tracks few))
         (items-are (are_of_tracks edits) TRACKS others t.tracks names.tracks tracks-valid (all-right (λ (i : Item). length (octets_of i.element) ≤ 2 ^ 24) infos tracks few))
 
-    both-nodes : (most_nodes (part_of (are_of_info edits) INFO others (info_nodes t.info)) ≤ MOST_NODES) × (most_nodes (part_of (are_of_tracks edits) TRACKS others t.tracks) ≤ MOST_NODES)
+    both-nodes : (most_nodes (part_of (are_of_info edits) INFO others (info_nodes t.info)) ≤ MAX_NODES) × (most_nodes (part_of (are_of_tracks edits) TRACKS others t.tracks) ≤ MAX_NODES)
     both-nodes = (let all = nodes-append (part_of (are_of_info edits) INFO others (info_nodes t.info)) (part_of (are_of_tracks edits) TRACKS others t.tracks) in (omega arith, omega arith))
 
     pub can-info : (n : Node) (h : Header) → t.info ≡ Some n → infos ≡ item_at (info_nodes t.info) h ∷ [] → CanBeRead INFO (info_nodes t.info)
@@ -230,7 +230,7 @@ module _ (bytes : List ℕ) (are_octets : AreOctets bytes) (short : length bytes
       let same : None ≡ f.trees.info = cc in
       ap is_some same
   info-was (Some h) is =
-      let read = and_then-ok (tree_of h.id h.offset (body_of bytes h) h.body MOST_NODES) (λ tree. Ok (Some tree)) f.trees.info (sym (ap (tree_at bytes) is) ∙ first.info) in
+      let read = and_then-ok (tree_of h.id h.offset (body_of bytes h) h.body MAX_NODES) (λ tree. Ok (Some tree)) f.trees.info (sym (ap (tree_at bytes) is) ∙ first.info) in
       let same : Some read.0 ≡ f.trees.info = (let last = read.1.1 in cc) in
       ap is_some same
 
@@ -311,7 +311,7 @@ module _ (bytes : List ℕ) (are_octets : AreOctets bytes) (short : length bytes
 
   -- where these Elements of level 1 are written anew and these stand behind the old end, and the parts are found among them
   module _ (new : List ℕ) (all : List Item) (added : List Element) (rest : HoldsRest bytes new f.outline list all added)
-      (few : All (λ (i : Item). length (octets_of i.element) ≤ 2 ^ 24) items) (nodes : most_nodes ps ≤ MOST_NODES)
+      (few : All (λ (i : Item). length (octets_of i.element) ≤ 2 ^ 24) items) (nodes : most_nodes ps ≤ MAX_NODES)
       (untouched : (id : ℕ) → ends_cluster id ≡ true → (id == CLUSTER) ≡ false → (SEEK_HEAD == id) ≡ false → All (λ (i : Item). (i.element.id == id) ≡ false) items → IsUntouched all added id)
       (written : (id : ℕ) (nodes : List Node) (h : Header) → (id == CLUSTER) ≡ false → IsAmong items (item_at nodes h) → first_of id others ≡ Some h
       → All (λ (i : Item). i.element.id ≡ id → i.element.body ≡ flat_map octets nodes) items → IsWritten new id (flat_map octets nodes) rest.list) where
@@ -358,7 +358,7 @@ module _ (bytes : List ℕ) (are_octets : AreOctets bytes) (short : length bytes
         let most = large-none (length_in_place ps) ps large in
         All-weaker (λ (i : Item). length (octets_of i.element) ≤ length_in_place ps + length (appended ps)) (λ (i : Item). length (octets_of i.element) ≤ 2 ^ 24) (λ i is. omega arith) items (few-parts others ps items are-of)
 
-    nodes : most_nodes ps ≤ MOST_NODES
+    nodes : most_nodes ps ≤ MAX_NODES
     nodes = nodes-none (length_in_place ps) ps large
 
     rest-still : HoldsRest bytes (applied bytes ws) f.outline list items []
@@ -400,7 +400,7 @@ module _ (bytes : List ℕ) (are_octets : AreOctets bytes) (short : length bytes
     abbrev grown : List ℕ
     grown = applied bytes ws
 
-    small : length_moving f.outline ps seeks space ≤ MOST_WRITTEN
+    small : length_moving f.outline ps seeks space ≤ MAX_WRITTEN
     small = large-none (length_moving f.outline ps seeks space) ps planned.large
 
     few-moving : All (λ (i : Item). length (octets_of i.element) ≤ 2 ^ 24) items
@@ -408,7 +408,7 @@ module _ (bytes : List ℕ) (are_octets : AreOctets bytes) (short : length bytes
         let most = small in
         All-weaker (λ (i : Item). length (octets_of i.element) ≤ length_in_place ps + length (appended ps)) (λ (i : Item). length (octets_of i.element) ≤ 2 ^ 24) (λ i is. omega arith) items (few-parts others ps items are-of)
 
-    nodes-moving : most_nodes ps ≤ MOST_NODES
+    nodes-moving : most_nodes ps ≤ MAX_NODES
     nodes-moving = nodes-none (length_moving f.outline ps seeks space) ps planned.large
 
     part-items : All (IsItem others) items

@@ -15,7 +15,7 @@ use Rattle.mkv_schema.specs.Value.{body_of, first_of}
 use Rattle.element_reader.specs.Collected.{others_of}
 use Rattle.element_reader.specs.Outline.{FileOutline}
 use Rattle.element_reader.proofs.OutlineLemmas.{first_in-others}
-use Rattle.tree_format.specs.declared.limits.TheConstants.{MOST_NODES}
+use Rattle.tree_format.specs.declared.limits.TheConstants.{MAX_NODES}
 use Rattle.tree_format.specs.Node.{Node, children}
 use Rattle.tree_format.specs.Reading.{tree_of}
 use Rattle.meta_records.specs.Records.{first_tree, tree_at}
@@ -23,7 +23,7 @@ use Rattle.output_model.specs.Element.{Element, IsElement, joined, octets_of}
 use Rattle.sidecar_edit.specs.Fields.{AreInOrder}
 use Rattle.sidecar_edit.specs.Writes.{Write, applied}
 use Rattle.edit_changes.specs.declared.refusal.Room.TheVariants as room
-use Rattle.edit_changes.specs.declared.refusal.TheConstants.{MOST_WRITTEN}
+use Rattle.edit_changes.specs.declared.refusal.TheConstants.{MAX_WRITTEN}
 use Rattle.edit_changes.specs.SeekHead.{SeekHeadAt, before_clusters, if_read, if_sound, seek_head_of}
 use Rattle.edit_changes.specs.Span.{fitted, span_of, void_header}
 use Rattle.edit_changes.specs.Plan.{Part, appended, ascending, elements_moving, first_refusal, lacks, length_moving, moves, moving, moving_refusals, moving_writes, new_end, part_writes, place, seek_head, size_refusal, size_writes, tail_refusal, too_large, twin_refusal, write, writes_moving}
@@ -106,7 +106,7 @@ pub record IsHead (bytes : List ℕ) (o : FileOutline) (s : SeekHeadAt) : Type 0
 pub head-read : (bytes : List ℕ) (o : FileOutline) (s : SeekHeadAt) → IsOpened bytes o → seek_head_of bytes o ≡ Some s → IsHead bytes o s
 head-read bytes o s op is = of (first_of SEEK_HEAD o.others) refl is
   where
-    read : (h : Header) → first_of SEEK_HEAD o.others ≡ Some h → (tree : Result Node Damage) → tree_of h.id h.offset (body_of bytes h) h.body MOST_NODES ≡ tree → if_read h tree ≡ Some s → IsHead bytes o s
+    read : (h : Header) → first_of SEEK_HEAD o.others ≡ Some h → (tree : Result Node Damage) → tree_of h.id h.offset (body_of bytes h) h.body MAX_NODES ≡ tree → if_read h tree ≡ Some s → IsHead bytes o s
     read h first (Ok n) found is =
         let same : record { header = h; seeks = children n } ≡ s = cc in
         record {
@@ -118,9 +118,9 @@ head-read bytes o s op is = of (first_of SEEK_HEAD o.others) refl is
         }
     read h first (Err d) found is = absurd (cc)
 
-    sound : (h : Header) → first_of SEEK_HEAD o.others ≡ Some h → (large : Bool) → (if large then None else if_read h (tree_of h.id h.offset (body_of bytes h) h.body MOST_NODES)) ≡ Some s → IsHead bytes o s
+    sound : (h : Header) → first_of SEEK_HEAD o.others ≡ Some h → (large : Bool) → (if large then None else if_read h (tree_of h.id h.offset (body_of bytes h) h.body MAX_NODES)) ≡ Some s → IsHead bytes o s
     sound h first true is = absurd (cc)
-    sound h first false is = read h first (tree_of h.id h.offset (body_of bytes h) h.body MOST_NODES) refl is
+    sound h first false is = read h first (tree_of h.id h.offset (body_of bytes h) h.body MAX_NODES) refl is
 
     before : (h : Header) → first_of SEEK_HEAD o.others ≡ Some h → (front : Bool) → option_and_then (if_sound bytes) (if front then Some h else None) ≡ Some s → IsHead bytes o s
     before h first true is = sound h first _ is
@@ -151,7 +151,7 @@ module _ (bytes : List ℕ) (are_octets : AreOctets bytes) (short : length bytes
   abbrev pub head_item : Item
   head_item = record { header = s.header; element = seeks }
 
-  small : length_moving o ps seeks space ≤ MOST_WRITTEN
+  small : length_moving o ps seeks space ≤ MAX_WRITTEN
   small = large-none (length_moving o ps seeks space) ps planned.large
 
   seeks-few : length (octets_of seeks) ≤ 2 ^ 24

@@ -16,7 +16,7 @@ use Rattle.block_format.specs.Block.{Block, nanoseconds}
 use Rattle.block_format.specs.Elements.{with_limits, without_limits}
 use Rattle.block_format.specs.Events.{blocks_of, damages_of, events_of}
 use Rattle.merge_model.specs.Ticks.{since_start}
-use Rattle.output_model.specs.declared.TheConstants.{MOST_CUES}
+use Rattle.output_model.specs.declared.TheConstants.{MAX_CUES}
 use Rattle.output_model.specs.declared.places.CuePoint.{CuePoint}
 use Rattle.output_laws.specs.Points.{PointsAt, PointsAtBlock}
 use Rattle.output_laws.proofs.LimitLemmas.{limits-change_nothing}
@@ -139,7 +139,7 @@ each-point bytes segment (b ∷ bs) each =
 pub block-point : EachBlockHasItsPoint
 block-point bytes segment tracks =
     let S : Block → Type 0 = λ x. (cluster : Header) × StandsIn (with_limits (file_scale bytes segment)) bytes segment x cluster in
-    take-zip (IsPointOf bytes segment) MOST_CUES (indexed_blocks bytes segment tracks) _
+    take-zip (IsPointOf bytes segment) MAX_CUES (indexed_blocks bytes segment tracks) _
     (each-point bytes segment (indexed_blocks bytes segment tracks)
     (All-filter (is_indexed (indexed_tracks tracks)) S (blocks_of (file_events true bytes segment)) (blocks-stand (with_limits (file_scale bytes segment)) bytes segment)))
 
@@ -164,7 +164,7 @@ each-has P bytes f is has =
     (λ (b : Block). (t : ℕ) → since_start b.time ≡ Some t → b.time ≡ nanoseconds scale (pos (t / scale))) (IsAtTick bytes segment)
     (λ b stands time. record { cluster = stands.0; stands = stands.1; time = time }) (blocks_of unlimited)
     (blocks-stand (without_limits scale) bytes segment) (times-ticks (without_limits scale) bytes segment whole.scale) in
-    All-take P MOST_CUES (points_among scale segment.body (segment_run bytes segment).list numbers (blocks_of (file_events true bytes segment)))
+    All-take P MAX_CUES (points_among scale segment.body (segment_run bytes segment).list numbers (blocks_of (file_events true bytes segment)))
     (points-have P bytes segment numbers (blocks_of (file_events true bytes segment))
     (All-same (IsAtTick bytes segment) (blocks_of (file_events true bytes segment)) (blocks_of unlimited) (sym (ap blocks_of (hidden-none bytes f is))) at) has)
 

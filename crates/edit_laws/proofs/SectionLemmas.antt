@@ -12,7 +12,7 @@ use Rattle.mkv_schema.specs.Outline.{segment_run}
 use Rattle.mkv_io.specs.Results.{and_then}
 use Rattle.mkv_schema.specs.Value.{body_of, first_of}
 use Rattle.mkv_schema.proofs.OutlineLemmas.{and_then-ok, unless-ok}
-use Rattle.tree_format.specs.declared.limits.TheConstants.{MOST_NODES}
+use Rattle.tree_format.specs.declared.limits.TheConstants.{MAX_NODES}
 use Rattle.tree_format.specs.Node.{Node, Nodes, leaf, master, none, node, nodes_of, list_of, children, depth, depth_all, deepest}
 use Rattle.tree_format.specs.NormalForm.{octets}
 use Rattle.tree_format.specs.Reading.{tree_of}
@@ -69,13 +69,13 @@ trees-first bytes segment t is =
     })
 
 -- a tree that was read is one of its ID
-read-fit : (id : ℕ) (bytes : List ℕ) (h : Header) (n : Node) → AreOctets bytes → h.id ≡ id → tree_of h.id h.offset (body_of bytes h) h.body MOST_NODES ≡ Ok n → IsFit id deepest n
+read-fit : (id : ℕ) (bytes : List ℕ) (h : Header) (n : Node) → AreOctets bytes → h.id ≡ id → tree_of h.id h.offset (body_of bytes h) h.body MAX_NODES ≡ Ok n → IsFit id deepest n
 read-fit id bytes h n are own is =
-    let of = tree_of-deep h.id h.offset h.body MOST_NODES (body_of bytes h) n is in
+    let of = tree_of-deep h.id h.offset h.body MAX_NODES (body_of bytes h) n is in
     record {
       own = of.own ∙ own;
       master = of.master;
-      sound = tree_of-sound h.id h.offset h.body MOST_NODES (body_of bytes h) n (AreOctets-drop h.body _ (AreOctets-take (stated_end h) bytes are)) is;
+      sound = tree_of-sound h.id h.offset h.body MAX_NODES (body_of bytes h) n (AreOctets-drop h.body _ (AreOctets-take (stated_end h) bytes are)) is;
       deep = of.deep;
     }
 
@@ -85,7 +85,7 @@ first-fit id bytes segment n are is = of (first_of id (segment_run bytes segment
     of : (first : Option Header) → first_of id (segment_run bytes segment).list ≡ first → tree_at bytes first ≡ Ok n → IfSome n (IsFit id deepest)
     of None nothing is = let same : None ≡ n = cc in subst (λ (x : Option Node). IfSome x (IsFit id deepest)) same tt
     of (Some h) some is =
-        let read = and_then-ok (tree_of h.id h.offset (body_of bytes h) h.body MOST_NODES) (λ tree. Ok (Some tree)) n is in
+        let read = and_then-ok (tree_of h.id h.offset (body_of bytes h) h.body MAX_NODES) (λ tree. Ok (Some tree)) n is in
         let same : Some read.0 ≡ n = (let last = read.1.1 in cc) in
         subst (λ (x : Option Node). IfSome x (IsFit id deepest)) same (read-fit id bytes h read.0 are (first-own id (segment_run bytes segment).list h some) read.1.0)
 

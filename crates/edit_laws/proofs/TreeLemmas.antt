@@ -24,8 +24,8 @@ use Rattle.ebml_tree.proofs.LeafLemmas.{text-stands, uint-stands}
 use Rattle.edit_changes.specs.declared.property.Property.{Property}
 use Rattle.edit_changes.specs.declared.property.ValueKind.{ValueKind}
 use Rattle.edit_changes.specs.declared.property.ValueKind.TheVariants.{Words, Language, LanguageTag, Codec, Duration, Flag}
-use Rattle.edit_changes.specs.declared.refusal.Why.{Why}
-use Rattle.edit_changes.specs.declared.refusal.Why.TheVariants as why
+use Rattle.edit_changes.specs.declared.refusal.EditRefusal.{EditRefusal}
+use Rattle.edit_changes.specs.declared.refusal.EditRefusal.TheVariants as why
 use Rattle.edit_changes.specs.declared.trees.Trees.{Trees}
 use Rattle.edit_changes.specs.Property.{is_between, is_info, is_in_tag, is_language, is_lower, is_not_zero, is_printable, is_short, is_words, property_of, value_of, where_text, where_number}
 use Rattle.edit_changes.specs.Change.{are_of_info, are_of_tracks, added, added_to, changed, edited_from, edited_node, edited_once, has, in_entry, in_info, in_tracks, named, numbered, place_of, set}
@@ -219,7 +219,7 @@ fit-once e t u fit (of_tracks other k n m place at made same) =
       tracks = All-set (λ (n : Node). StandsIn TRACKS n × (depth n < deepest)) t.tracks k m (entry-stands m after.master (after.own ∙ sym own) after.sound, omega arith) fit.tracks;
     })
 
-pub numbered-ok : {A : Type 0} (k : ℕ) (r : Result A Why) (x : A) → numbered k r ≡ Ok x → r ≡ Ok x
+pub numbered-ok : {A : Type 0} (k : ℕ) (r : Result A EditRefusal) (x : A) → numbered k r ≡ Ok x → r ≡ Ok x
 numbered-ok k (Ok y) x is = let same : y ≡ x = cc in ap (λ z. Ok z) same
 numbered-ok k (Err w) x is = absurd (cc)
 

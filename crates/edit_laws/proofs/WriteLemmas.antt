@@ -18,7 +18,7 @@ use Rattle.output_model.specs.Element.{Element, octets_of, element}
 use Rattle.output_model.proofs.ReadLemmas.{length-octets_of, length-header_of}
 use Rattle.sidecar_edit.specs.Writes.{Write, end_of, extent, WritesOctet}
 use Rattle.edit_changes.specs.Span.{fitted, span_of, void_header, wider}
-use Rattle.edit_changes.specs.Plan.{Part, appended, ascending, elements_moving, in_place, inserted, length_in_place, moves, moving, part, part_of, part_writes, stands, write}
+use Rattle.edit_changes.specs.Plan.{Part, appended, ascending, elements_moving, overwrite_or_void, inserted, length_in_place, moves, moving, part, part_of, part_writes, stands, write}
 use Rattle.edit_plan.proofs.LevelLemmas.{Stand}
 use Rattle.edit_plan.proofs.VoidLemmas.{first-room}
 use Rattle.edit_plan.proofs.PartLemmas.{first-own}
@@ -189,9 +189,9 @@ of-writes list [] [] are = refl
 of-writes list [] (i ∷ is) are = absurd are
 of-writes list (p ∷ ps) [] are = absurd are
 of-writes list (p ∷ ps) (i ∷ is) are =
-    ap (λ (b : Bool). map (λ (q : Part). write q.place (in_place q)) (if b then p ∷ filter stands ps else filter stands ps)) (of-stands list p i are.0)
+    ap (λ (b : Bool). map (λ (q : Part). write q.place (overwrite_or_void q)) (if b then p ∷ filter stands ps else filter stands ps)) (of-stands list p i are.0)
     ∙ ap₂ (λ w ws. w ∷ ws)
-    (ap (λ n. write n (in_place p)) are.0.place
+    (ap (λ n. write n (overwrite_or_void p)) are.0.place
     ∙ ap (λ n. write i.header.offset (unwrap_or (option_and_then (λ e. fitted e n) p.element) (void_header n))) are.0.room
     ∙ ap (λ (new : Option Element). write i.header.offset (unwrap_or (option_and_then (λ e. fitted e (span_of i.header list)) new) (void_header (span_of i.header list)))) are.0.new)
     (of-writes list ps is are.1)
@@ -230,14 +230,14 @@ few-parts list (p ∷ ps) (i ∷ is) are =
     All-cons (λ (j : Item). length (octets_of j.element) ≤ length_in_place (p ∷ ps) + length (appended (p ∷ ps))) i is own
     (All-weaker (λ (j : Item). length (octets_of j.element) ≤ length_in_place ps + length (appended ps)) (λ (j : Item). length (octets_of j.element) ≤ length_in_place (p ∷ ps) + length (appended (p ∷ ps))) (λ j few. more j few) is (few-parts list ps is are.1))
   where
-    sum : length_in_place (p ∷ ps) ≡ length (in_place p) + length_in_place ps
-    sum = ap (λ (b : Bool). sum_by (λ (q : Part). length (in_place q)) (if b then p ∷ filter stands ps else filter stands ps)) (of-stands list p i are.0)
-        ∙ sum_by-cons (λ (q : Part). length (in_place q)) p (filter stands ps)
+    sum : length_in_place (p ∷ ps) ≡ length (overwrite_or_void p) + length_in_place ps
+    sum = ap (λ (b : Bool). sum_by (λ (q : Part). length (overwrite_or_void q)) (if b then p ∷ filter stands ps else filter stands ps)) (of-stands list p i are.0)
+        ∙ sum_by-cons (λ (q : Part). length (overwrite_or_void q)) p (filter stands ps)
 
-    placed : in_place p ≡ unwrap_or (fitted i.element p.room) (void_header p.room)
+    placed : overwrite_or_void p ≡ unwrap_or (fitted i.element p.room) (void_header p.room)
     placed = ap (λ (new : Option Element). unwrap_or (option_and_then (λ e. fitted e p.room) new) (void_header p.room)) are.0.new
 
-    moved : (b : Bool) → moves p ≡ b → (length (octets_of i.element) ≤ length (in_place p) + length (appended (p ∷ ps))) × (length (appended ps) ≤ length (appended (p ∷ ps)))
+    moved : (b : Bool) → moves p ≡ b → (length (octets_of i.element) ≤ length (overwrite_or_void p) + length (appended (p ∷ ps))) × (length (appended ps) ≤ length (appended (p ∷ ps)))
     moved true is =
         let all : appended (p ∷ ps) ≡ octets_of i.element ++ appended ps =
         ap (λ (b : Bool). flat_map octets_of (filter_map (λ (q : Part). q.element) (if b then p ∷ moving ps else moving ps))) is

@@ -17,7 +17,7 @@ use Rattle.block_format.specs.Block.{Block, nanoseconds}
 use Rattle.block_format.specs.Elements.{Rules, with_limits, without_limits}
 use Rattle.block_format.specs.Events.{blocks_of, damages_of, events_of, found_in}
 use Rattle.merge_model.specs.Ticks.{since_start}
-use Rattle.output_model.specs.declared.TheConstants.{MOST_CUES}
+use Rattle.output_model.specs.declared.TheConstants.{MAX_CUES}
 use Rattle.output_model.specs.declared.places.CuePoint.{CuePoint}
 use Rattle.output_model.specs.declared.places.Seek.{Seek}
 use Rattle.output_model.specs.Element.{joined}
@@ -76,7 +76,7 @@ pub record IsPointOf (bytes : List ℕ) (segment : Header) (b : Block) (p : CueP
 abbrev pub EachBlockHasItsPoint : Type 0
 EachBlockHasItsPoint =
     (bytes : List ℕ) (segment : Header) (tracks : List Node)
-    → AllZip (IsPointOf bytes segment) (take MOST_CUES (indexed_blocks bytes segment tracks)) (index_points bytes segment tracks)
+    → AllZip (IsPointOf bytes segment) (take MAX_CUES (indexed_blocks bytes segment tracks)) (index_points bytes segment tracks)
 
 -- Each point of a file that can be indexed points at a block of it.
 abbrev pub PointsPointAtBlocks : Type 0

@@ -25,14 +25,14 @@ use Rattle.element_reader.proofs.OutlineLemmas.{Outlines-shown}
 use Rattle.tree_format.specs.Node.{Node, children}
 use Rattle.tree_format.specs.Reading.{tree_of}
 use Rattle.output_model.specs.Element.{Element, octets_of}
-use Rattle.sidecar_edit.specs.declared.place.TheConstants.{KEPT, MOST_OCTETS, MOST_WRITES}
+use Rattle.sidecar_edit.specs.declared.place.TheConstants.{KEPT, MAX_OCTETS, MAX_WRITES}
 use Rattle.sidecar_edit.specs.Fields.{AreInOrder, IsPlan}
 use Rattle.sidecar_edit.specs.Writes.{Write}
 use Rattle.edit_changes.specs.declared.refusal.Refusal.{Refusal}
 use Rattle.edit_changes.specs.declared.refusal.Refusal.TheVariants as refusal
 use Rattle.edit_changes.specs.declared.refusal.Room.{Room}
 use Rattle.edit_changes.specs.declared.refusal.Room.TheVariants as room
-use Rattle.edit_changes.specs.declared.refusal.TheConstants.{MOST_WRITTEN}
+use Rattle.edit_changes.specs.declared.refusal.TheConstants.{MAX_WRITTEN}
 use Rattle.edit_changes.specs.declared.trees.Trees.{Trees}
 use Rattle.edit_changes.specs.Change.{edited_trees}
 use Rattle.edit_changes.specs.Records.{EditableFile, editable, trees_of}
@@ -91,10 +91,10 @@ lacks-none why need have is = of (nat_lt have need) refl is
     of true test is = absurd (cc)
     of false test is = grind (arith, nat_tests)
 
-pub large-none : (len : ℕ) (ps : List Part) → too_large len ps ≡ None → len ≤ MOST_WRITTEN
-large-none len ps is = of (nat_lt 65536 (most_nodes ps)) (nat_lt MOST_WRITTEN len) refl is
+pub large-none : (len : ℕ) (ps : List Part) → too_large len ps ≡ None → len ≤ MAX_WRITTEN
+large-none len ps is = of (nat_lt 65536 (most_nodes ps)) (nat_lt MAX_WRITTEN len) refl is
   where
-    of : (many long : Bool) → nat_lt MOST_WRITTEN len ≡ long → (if many || long then Some (refusal.EditTooLarge len (most_nodes ps)) else None) ≡ None → len ≤ MOST_WRITTEN
+    of : (many long : Bool) → nat_lt MAX_WRITTEN len ≡ long → (if many || long then Some (refusal.EditTooLarge len (most_nodes ps)) else None) ≡ None → len ≤ MAX_WRITTEN
     of true long test is = absurd (cc)
     of false true test is = absurd (cc)
     of false false test is = grind (arith, nat_tests)
@@ -160,7 +160,7 @@ bytes_in-append : (xs ys : List Write) → bytes_in (xs ++ ys) ≡ bytes_in xs +
 bytes_in-append xs ys = sum_by-append (λ (w : Write). length w.bytes) xs ys
 
 -- few writes in order, of few octets, are the plan of an edit
-planned : (bytes : List ℕ) (ws : List Write) → length bytes ≤ LONGEST_FILE → length ws ≤ MOST_WRITES → bytes_in ws ≤ MOST_OCTETS → AreInOrder (length bytes) 0 (map place ws) → IsPlan (recorded bytes ws)
+planned : (bytes : List ℕ) (ws : List Write) → length bytes ≤ LONGEST_FILE → length ws ≤ MAX_WRITES → bytes_in ws ≤ MAX_OCTETS → AreInOrder (length bytes) 0 (map place ws) → IsPlan (recorded bytes ws)
 planned bytes ws short few small order = record {
   sound = record {
     few = omega (arith, length-map ws place);
@@ -256,7 +256,7 @@ module _ (bytes : List ℕ) (o : FileOutline) (ids : List ℕ) (ps : List Part) 
         omega arith
 
     -- the SeekHead and the parts, where nothing is appended
-    stays-planned : list_any moves ps ≡ false → (ws : List Write) → ascending middle ≡ ws → length (octets_of seeks) ≤ space → length_moving o ps seeks space ≤ MOST_WRITTEN → IsPlan (recorded bytes ws)
+    stays-planned : list_any moves ps ≡ false → (ws : List Write) → ascending middle ≡ ws → length (octets_of seeks) ≤ space → length_moving o ps seeks space ≤ MAX_WRITTEN → IsPlan (recorded bytes ws)
     stays-planned still ws is reaches small =
         let before = between-append 0 o.segment.body o.total [] (ascending middle) (omega arith) (middle-between reaches) in
         let order = between-order o.total 0 (ascending middle) before in

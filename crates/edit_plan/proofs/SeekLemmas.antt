@@ -7,13 +7,13 @@ use Rattle.mkv_schema.specs.declared.ids.TheConstants.{SEEK_HEAD}
 use Rattle.mkv_io.specs.declared.damage.Damage.{Damage}
 use Rattle.mkv_io.specs.declared.damage.Kind.TheVariants.{HeaderTooLarge}
 use Rattle.mkv_schema.specs.declared.element.Header.{Header}
-use Rattle.mkv_schema.specs.declared.limits.TheConstants.{MOST_OF_ONE}
+use Rattle.mkv_schema.specs.declared.limits.TheConstants.{MAX_MASTER_LEN}
 use Rattle.mkv_schema.specs.Element.{known}
 use Rattle.mkv_schema.specs.Outline.{over}
 use Rattle.mkv_schema.specs.Value.{body_of, first_of}
 use Rattle.element_reader.specs.Load.{limit_of, too_large}
 use Rattle.element_reader.specs.Outline.{FileOutline}
-use Rattle.tree_format.specs.declared.limits.TheConstants.{MOST_NODES}
+use Rattle.tree_format.specs.declared.limits.TheConstants.{MAX_NODES}
 use Rattle.tree_format.specs.Node.{Node}
 use Rattle.tree_format.specs.Reading.{tree_of}
 use Rattle.edit_changes.specs.SeekHead.{before_clusters, if_read, if_sound, seek_head_of}
@@ -45,30 +45,30 @@ head-none bytes o is = ap (option_and_then (if_sound bytes)) (sym is)
 head-some : (bytes : List ℕ) (o : FileOutline) (h : Header) → IsHead o (Some h) → seek_head_of bytes o ≡ if_sound bytes h
 head-some bytes o h is = ap (option_and_then (if_sound bytes)) (sym is)
 
-large-is : (h : Header) → h.id ≡ SEEK_HEAD → too_large h ≡ over MOST_OF_ONE h
+large-is : (h : Header) → h.id ≡ SEEK_HEAD → too_large h ≡ over MAX_MASTER_LEN h
 large-is h own = ap (λ id. option_map_or (λ limit. over limit h) (limit_of id) None) own
 
 -- it is longer than is read
 pub head-large : (bytes : List ℕ) (o : FileOutline) (h : Header) (d : Damage) → IsHead o (Some h) → too_large h ≡ Some d → seek_head_of bytes o ≡ None
-head-large bytes o h d is large = head-some bytes o h is ∙ of (nat_lt MOST_OF_ONE (known h.size)) refl
+head-large bytes o h d is large = head-some bytes o h is ∙ of (nat_lt MAX_MASTER_LEN (known h.size)) refl
   where
-    of : (b : Bool) → nat_lt MOST_OF_ONE (known h.size) ≡ b → (if b then None else if_read h (tree_of h.id h.offset (body_of bytes h) h.body MOST_NODES)) ≡ None
+    of : (b : Bool) → nat_lt MAX_MASTER_LEN (known h.size) ≡ b → (if b then None else if_read h (tree_of h.id h.offset (body_of bytes h) h.body MAX_NODES)) ≡ None
     of true test = refl
     of false test =
-        let none : over MOST_OF_ONE h ≡ None = rw test refl in
+        let none : over MAX_MASTER_LEN h ≡ None = rw test refl in
         let both : Some d ≡ None = sym large ∙ large-is h (head-own o h is) ∙ none in
         absurd (cc)
 
 -- it is read
 pub head-read : (bytes : List ℕ) (o : FileOutline) (h : Header) (body : List ℕ) (tree : Result Node Damage) → IsHead o (Some h) → ((d : Damage) → too_large h ≡ Some d → ⊥)
-    → body ≡ body_of bytes h → tree ≡ tree_of SEEK_HEAD h.offset body h.body MOST_NODES → seek_head_of bytes o ≡ if_read h tree
-head-read bytes o h body tree is small same read = head-some bytes o h is ∙ of (nat_lt MOST_OF_ONE (known h.size)) refl
+    → body ≡ body_of bytes h → tree ≡ tree_of SEEK_HEAD h.offset body h.body MAX_NODES → seek_head_of bytes o ≡ if_read h tree
+head-read bytes o h body tree is small same read = head-some bytes o h is ∙ of (nat_lt MAX_MASTER_LEN (known h.size)) refl
   where
-    of : (b : Bool) → nat_lt MOST_OF_ONE (known h.size) ≡ b → (if b then None else if_read h (tree_of h.id h.offset (body_of bytes h) h.body MOST_NODES)) ≡ if_read h tree
+    of : (b : Bool) → nat_lt MAX_MASTER_LEN (known h.size) ≡ b → (if b then None else if_read h (tree_of h.id h.offset (body_of bytes h) h.body MAX_NODES)) ≡ if_read h tree
     of true test =
-        let some : over MOST_OF_ONE h ≡ Some (record { kind = HeaderTooLarge; id = h.id; offset = h.offset }) = rw test refl in
+        let some : over MAX_MASTER_LEN h ≡ Some (record { kind = HeaderTooLarge; id = h.id; offset = h.offset }) = rw test refl in
         absurd (small _ (large-is h (head-own o h is) ∙ some))
     of false test =
-        ap (λ id. if_read h (tree_of id h.offset (body_of bytes h) h.body MOST_NODES)) (head-own o h is)
-        ∙ ap (λ octets. if_read h (tree_of SEEK_HEAD h.offset octets h.body MOST_NODES)) (sym same)
+        ap (λ id. if_read h (tree_of id h.offset (body_of bytes h) h.body MAX_NODES)) (head-own o h is)
+        ∙ ap (λ octets. if_read h (tree_of SEEK_HEAD h.offset octets h.body MAX_NODES)) (sym same)
         ∙ ap (if_read h) (sym read)

@@ -21,7 +21,7 @@ use Rattle.sidecar_edit.specs.Writes.{Write, end_of}
 use Rattle.edit_changes.specs.declared.trees.Trees.{Trees}
 use Rattle.edit_changes.specs.Change.{are_of_info, are_of_tracks}
 use Rattle.edit_changes.specs.Span.{fitted, span_of, void_header}
-use Rattle.edit_changes.specs.Plan.{Part, info_nodes, part, part_of, part_writes, parts, in_place, stands, write, length_in_place}
+use Rattle.edit_changes.specs.Plan.{Part, info_nodes, part, part_of, part_writes, parts, overwrite_or_void, stands, write, length_in_place}
 use Rattle.edit_plan.specs.Laws.{ArePartsOf, IsPartOf}
 use Rattle.edit_plan.proofs.LevelLemmas.{Stand}
 use Rattle.edit_plan.proofs.PartLemmas.{first-own, info-valid, tracks-valid}
@@ -65,7 +65,7 @@ module _ (q e : ℕ) (list : List Header) (stand : Stand q e list) where
   place-fills id room None valid least own = fills-void room least
   place-fills id room (Some e) valid least own = fills-place e room least (octets-some e (subst (λ n. 1 ≤ uint_width n) (sym own) valid))
 
-  pub part-sits : (p : Part) → IsPartOf list p → stands p ≡ true → SitsAt list p.id (write p.place (in_place p))
+  pub part-sits : (p : Part) → IsPartOf list p → stands p ≡ true → SitsAt list p.id (write p.place (overwrite_or_void p))
   part-sits p is stood =
       let old = is.old stood in
       let space = first-room p.id q e list old.header stand old.first in
@@ -82,7 +82,7 @@ module _ (q e : ℕ) (list : List Header) (stand : Stand q e list) where
       own : IsPartOf list p
       own = All-head (IsPartOf list) p ps are
 
-      of : (stood : Bool) → stands p ≡ stood → IsApartFrom w (part_writes ps) → IsApartFrom w (map (λ (r : Part). write r.place (in_place r)) (if stood then p ∷ filter stands ps else filter stands ps))
+      of : (stood : Bool) → stands p ≡ stood → IsApartFrom w (part_writes ps) → IsApartFrom w (map (λ (r : Part). write r.place (overwrite_or_void r)) (if stood then p ∷ filter stands ps else filter stands ps))
       of true test rest = (sits-apart a p.id w _ sits (part-sits p own test) other own.void (All-head (λ (r : Part). (a == r.id) ≡ false) p ps differ), rest)
       of false test rest = rest
 
@@ -98,7 +98,7 @@ module _ (q e : ℕ) (list : List Header) (stand : Stand q e list) where
       differ : All (λ (r : Part). (p.id == r.id) ≡ false) ps
       differ = λ k d below. distinct 0 (suc k) d (omega arith) (omega arith)
 
-      of : (stood : Bool) → stands p ≡ stood → AreApart q e (part_writes ps) → AreApart q e (map (λ (r : Part). write r.place (in_place r)) (if stood then p ∷ filter stands ps else filter stands ps))
+      of : (stood : Bool) → stands p ≡ stood → AreApart q e (part_writes ps) → AreApart q e (map (λ (r : Part). write r.place (overwrite_or_void r)) (if stood then p ∷ filter stands ps else filter stands ps))
       of true test rest =
           let sits = part-sits p own test in
           let is = sits-begins p.id _ sits in
@@ -167,15 +167,15 @@ module _ (list : List Header) where
 pub parts-bytes : (ps : List Part) → bytes_in (part_writes ps) ≡ length_in_place ps
 parts-bytes ps = of (filter stands ps)
   where
-    of : (rs : List Part) → bytes_in (map (λ (p : Part). write p.place (in_place p)) rs) ≡ sum_by (λ (p : Part). length (in_place p)) rs
+    of : (rs : List Part) → bytes_in (map (λ (p : Part). write p.place (overwrite_or_void p)) rs) ≡ sum_by (λ (p : Part). length (overwrite_or_void p)) rs
     of [] = refl
     of (p ∷ rs) =
-        bytes_in-cons (write p.place (in_place p)) (map (λ (r : Part). write r.place (in_place r)) rs)
-        ∙ ap (λ n. length (in_place p) + n) (of rs)
-        ∙ sym (sum_by-cons (λ (r : Part). length (in_place r)) p rs)
+        bytes_in-cons (write p.place (overwrite_or_void p)) (map (λ (r : Part). write r.place (overwrite_or_void r)) rs)
+        ∙ ap (λ n. length (overwrite_or_void p) + n) (of rs)
+        ∙ sym (sum_by-cons (λ (r : Part). length (overwrite_or_void r)) p rs)
 
 pub parts-few : (ps : List Part) → length (part_writes ps) ≤ length ps
-parts-few ps = let some = kept ps in omega (arith, length-map (filter stands ps) (λ (p : Part). write p.place (in_place p)))
+parts-few ps = let some = kept ps in omega (arith, length-map (filter stands ps) (λ (p : Part). write p.place (overwrite_or_void p)))
   where
     kept : (rs : List Part) → length (filter stands rs) ≤ length rs
     kept [] = omega arith

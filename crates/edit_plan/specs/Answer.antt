@@ -13,7 +13,7 @@ use Rattle.mkv_io.specs.declared.reads.Reads.{Ghosts}
 use Rattle.mkv_io.specs.declared.outside.FileId.{FileId}
 use Rattle.element_reader.specs.Outline.{FileOutline}
 use Rattle.edit_plan.specs.declared.part.Part.{Part}
-use Rattle.edit_plan.specs.declared.rewriting.Rewriting.{Rewriting}
+use Rattle.edit_plan.specs.declared.seek_rule.Rewriting.{Rewriting}
 use Rattle.element_reader.specs.declared.outline_end.OutlineEnd.{OutlineEnd}
 use Rattle.meta_records.specs.Records.{IfOutlined, ReadsAs}
 use Rattle.edit_changes.specs.declared.trees.Trees.{Trees}

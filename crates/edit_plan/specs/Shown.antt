@@ -7,7 +7,7 @@ use Rattle.sidecar_edit.specs.Writes as disk
 use Rattle.edit_changes.specs.Plan as spec
 use Rattle.edit_changes.specs.declared.refusal.Refusal.{Refusal}
 use Rattle.edit_plan.specs.declared.part.Part.{Part}
-use Rattle.edit_plan.specs.declared.rewriting.Rewriting.{Rewriting}
+use Rattle.edit_plan.specs.declared.seek_rule.Rewriting.{Rewriting}
 use Rattle.edit_plan.specs.declared.write.Write.{Write}
 
 -- an Element that is written anew

@@ -3,32 +3,32 @@
 //! The plan of edits of a file's properties: what can be edited is read, and what is written over the file is made of
 //! it (RFC 9559, sections 5.1.1, SeekHead Element, 5.1.2, Info Element, and 5.1.4, Tracks Element).
 
+mod appended;
+mod at_seek_head;
 mod building;
 mod counting;
 mod found;
-mod heading;
+mod in_order;
 pub mod laws;
-mod moved;
-mod moving;
+mod new_seeks;
+mod old_seek_head;
 mod part;
+mod parts_writes;
 mod plan_end;
 mod planning;
 mod prepared;
 mod reading;
-mod recording;
+mod record;
 mod refusing;
-mod rewriting;
-mod seek_head;
-mod seeking;
+mod seek_rule;
+mod size_field;
 mod write;
-mod writes;
-mod writing;
 
 pub use part::Part;
+pub use parts_writes::parts_writes;
 pub use plan_end::PlanEnd;
 pub use planning::edit_writes;
 pub use reading::read_trees;
-pub use recording::{plan, recorded};
-pub use rewriting::Rewriting;
+pub use record::{plan, recorded};
+pub use seek_rule::Rewriting;
 pub use write::Write;
-pub use writing::parts_writes;

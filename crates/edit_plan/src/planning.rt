@@ -12,11 +12,11 @@ ghost use Rattle.edit_plan.specs.Answer.{Answers, Gives, AnswersTrees, is_plan_f
 ghost use Rattle.edit_plan.specs.Opening.{opening};
 
 use crate::building::parts;
+use crate::parts_writes::parts_writes;
 use crate::plan_end::PlanEnd;
 use crate::reading::read_trees;
-use crate::rewriting::Rewriting;
+use crate::seek_rule::Rewriting;
 use crate::write::Write;
-use crate::writing::parts_writes;
 use edit_changes::{EditsEnd, Refusal, Trees, edited};
 use element_reader::{Outline, OutlineEnd};
 use mkv_io::{FileId, List, Reads};

@@ -2,16 +2,16 @@
 
 ghost use Rattle.std.specs.Prelude.{◌≡◌, ◌≤◌, ◌+◌, ◌^◌, None, if◌then◌else◌, map};
 ghost use Rattle.edit_changes.specs.Plan as spec;
-ghost use Rattle.edit_changes.specs.declared.refusal.TheConstants.{MOST_WRITTEN as MOST};
+ghost use Rattle.edit_changes.specs.declared.refusal.TheConstants.{MAX_WRITTEN as MOST};
 ghost use Rattle.edit_changes.specs.Ends.{EndsFit};
 ghost use Rattle.edit_plan.specs.Moving.{refused};
 ghost use Rattle.edit_plan.specs.Shown.{shown};
 ghost use Rattle.edit_plan.specs.Made.{SizeFits, size_refused, tail_refused};
 
-use crate::moving::{any_moves, most_nodes, twins};
+use crate::appended::{any_moves, duplicates, most_nodes};
 use crate::part::Part;
-use ebml_tree::MOST_NODES;
-use edit_changes::{MOST_WRITTEN, Refusal, Room, lacks, size_refusal, tail_refusal};
+use ebml_tree::MAX_NODES;
+use edit_changes::{MAX_WRITTEN, Refusal, Room, lacks, size_refusal, tail_refusal};
 use element_reader::Outline;
 
 /// There are too many octets to write, or too many Elements in one.
@@ -20,7 +20,7 @@ pub fn too_large(length: u64, parts: &[Part]) -> Option<Refusal>
     ensures small { result ≡ None → length ≤ MOST }
 {
     let nodes = most_nodes(parts);
-    if nodes > u64::from(MOST_NODES) || length > MOST_WRITTEN {
+    if nodes > u64::from(MAX_NODES) || length > MAX_WRITTEN {
         return Some(Refusal::EditTooLarge { length, nodes });
     }
     None
@@ -70,7 +70,7 @@ pub fn moving_refusal(
     if let Some(refusal) = end_refusal(outline, parts) {
         return Some(refusal);
     }
-    if let Some(refusal) = twins(outline, parts) {
+    if let Some(refusal) = duplicates(outline, parts) {
         return Some(refusal);
     }
     if let Some(refusal) = lacks(Room::SeekHead, need, room) {

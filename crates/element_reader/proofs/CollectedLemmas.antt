@@ -11,7 +11,7 @@ use Rattle.mkv_schema.specs.declared.element.Header.{Header}
 use Rattle.mkv_schema.specs.Element.{in_segment, known}
 use Rattle.mkv_schema.specs.Placed.{IsWhole}
 use Rattle.mkv_schema.specs.Value.{first_of}
-use Rattle.mkv_schema.specs.declared.limits.TheConstants.{MOST_ELEMENTS}
+use Rattle.mkv_schema.specs.declared.limits.TheConstants.{MAX_ELEMENTS}
 use Rattle.mkv_schema.specs.Outline.{first_damage, where_it, is_described, described, others, passes_count}
 use Rattle.element_reader.specs.Collected.{IsInFile, Keeps, unless_cluster, others_of, described_octets}
 use Rattle.element_reader.specs.declared.collected.Collected.{Collected}
@@ -67,16 +67,16 @@ pub option_or-later : {X : Type 0} (first later : Option X) → is_some first �
 option_or-later None later is = refl
 option_or-later (Some x) later is = absurd (cc)
 
-pub passes_count-kept : (held : ℕ) (list : List Header) (kept : Collected) (h : Header) → Keeps held list kept → passes_count list h ≡ (not (h.id == CLUSTER) && nat_lt MOST_ELEMENTS (length kept.others.items + 1))
+pub passes_count-kept : (held : ℕ) (list : List Header) (kept : Collected) (h : Header) → Keeps held list kept → passes_count list h ≡ (not (h.id == CLUSTER) && nat_lt MAX_ELEMENTS (length kept.others.items + 1))
 passes_count-kept held list kept h keeps = by_id (not (h.id == CLUSTER)) refl
   where
-    by_id : (test : Bool) → not (h.id == CLUSTER) ≡ test → (test && nat_lt MOST_ELEMENTS (others (list ++ h ∷ []))) ≡ (test && nat_lt MOST_ELEMENTS (length kept.others.items + 1))
+    by_id : (test : Bool) → not (h.id == CLUSTER) ≡ test → (test && nat_lt MAX_ELEMENTS (others (list ++ h ∷ []))) ≡ (test && nat_lt MAX_ELEMENTS (length kept.others.items + 1))
     by_id false is = refl
     by_id true is =
         let all : others (list ++ h ∷ []) ≡ length (others_of list ++ h ∷ []) =
         sym (length-filter (λ k. not (k.id == CLUSTER)) (list ++ h ∷ []))
         ∙ ap length (others-more list h ∙ ap (λ test. others_of list ++ (if test then h ∷ [] else [])) is) in
-        ap (nat_lt MOST_ELEMENTS) (all ∙ ap (λ (l : List Header). length (l ++ h ∷ [])) (sym keeps.others) ∙ length-append kept.others.items (h ∷ []))
+        ap (nat_lt MAX_ELEMENTS) (all ∙ ap (λ (l : List Header). length (l ++ h ∷ [])) (sym keeps.others) ∙ length-append kept.others.items (h ∷ []))
 
 -- which of the two limits is told
 pub passes-count : (large many : Bool) (a b : Damage) → large ≡ false → many ≡ true → first_damage (where_it large a ∷ where_it many b ∷ []) ≡ Some b

@@ -16,7 +16,7 @@ use Rattle.mkv_io.specs.declared.damage.Damage.{Damage}
 use Rattle.mkv_io.specs.declared.damage.Kind.TheVariants.{NotEbml, TooLong, Truncated, UnknownSize}
 use Rattle.mkv_schema.specs.declared.element.Header.{Header}
 use Rattle.mkv_schema.specs.Element.{at_level_0, has_unknown_size, is_truncated, is_too_long, with_body, with_size, with_id, element_at, element_in, damage, stated_end}
-use Rattle.mkv_schema.specs.declared.limits.TheConstants.{MOST_OF_HEADER}
+use Rattle.mkv_schema.specs.declared.limits.TheConstants.{MAX_HEADER_LEN}
 use Rattle.mkv_schema.specs.Outline.{ebml_mark, first_element, ebml_header, over, first_damage, header_causes, header_children, children_causes}
 use Rattle.mkv_io.specs.Results.{and_then, unless}
 use Rattle.mkv_schema.specs.declared.ids.TheConstants.{EBML}
@@ -89,8 +89,8 @@ ebml_header-is bytes h refusal first causes =
     ∙ ap (λ (found : Result Header Damage). and_then found (λ k. unless (first_damage (header_causes bytes k (header_children bytes k))) k)) first
 
 -- its size does
-pub ebml_header-over : (bytes : List ℕ) (h : Header) (d : Damage) → Ok h ≡ first_element bytes → Some d ≡ over MOST_OF_HEADER h → Err d ≡ ebml_header bytes
-ebml_header-over bytes h d first over_is = ebml_header-is bytes h (Some d) first (rest (over MOST_OF_HEADER h) over_is)
+pub ebml_header-over : (bytes : List ℕ) (h : Header) (d : Damage) → Ok h ≡ first_element bytes → Some d ≡ over MAX_HEADER_LEN h → Err d ≡ ebml_header bytes
+ebml_header-over bytes h d first over_is = ebml_header-is bytes h (Some d) first (rest (over MAX_HEADER_LEN h) over_is)
   where
     rest : (cause : Option Damage) → Some d ≡ cause → Some d ≡ first_damage (cause ∷ children_causes bytes (header_children bytes h))
     rest None is = absurd (cc)

@@ -14,7 +14,7 @@ use Rattle.mkv_schema.specs.declared.element.Header.{Header}
 use Rattle.mkv_schema.specs.Element.{damage, known}
 use Rattle.mkv_schema.specs.Elements.{Run}
 use Rattle.mkv_schema.specs.Value.{body_of, is_known_value, first_of, uint_value, uint_in}
-use Rattle.mkv_schema.specs.declared.limits.TheConstants.{MOST_OF_HEADER}
+use Rattle.mkv_schema.specs.declared.limits.TheConstants.{MAX_HEADER_LEN}
 use Rattle.mkv_schema.specs.Outline.{first_damage, bad_value, over, where_it}
 use Rattle.element_reader.specs.EbmlChildren.{IsShortValue, child_refusal}
 
@@ -77,8 +77,8 @@ refused-by_value None None (Some x) values few is = absurd (cc)
 refused-by_value None None None values few is = refl
 
 -- a header that isn't longer than the limit
-pub over-none : (h : Header) → known h.size ≤ MOST_OF_HEADER → over MOST_OF_HEADER h ≡ None
-over-none h few = split (nat_lt MOST_OF_HEADER (known h.size)) (grind (arith, nat_tests))
+pub over-none : (h : Header) → known h.size ≤ MAX_HEADER_LEN → over MAX_HEADER_LEN h ≡ None
+over-none h few = split (nat_lt MAX_HEADER_LEN (known h.size)) (grind (arith, nat_tests))
   where
     split : (test : Bool) → test ≡ false → where_it test (damage HeaderTooLarge h.id h.offset) ≡ None
     split false is = refl

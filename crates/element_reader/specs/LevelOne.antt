@@ -3,7 +3,7 @@ use Rattle.std.specs.Prelude.{◌≡◌, true, ℕ, ◌<◌, ◌≤◌, if◌the
 use Rattle.ebml_numbers.specs.declared.number.Size.{Size}
 use Rattle.mkv_io.specs.declared.outside.FileId.{FileId}
 use Rattle.mkv_io.specs.LiveFiles.{LiveFiles}
-use Rattle.mkv_io.specs.Told.{Told}
+use Rattle.mkv_io.specs.Told.{IfVisible}
 use Rattle.mkv_io.specs.declared.reads.Reads.{Ghosts}
 use Rattle.mkv_schema.specs.declared.element.Header.{Header}
 use Rattle.mkv_schema.specs.Element.{end_in, is_unknown}
@@ -40,7 +40,7 @@ first_place segment total file = record {
 pub record CanRead (files : LiveFiles) (p : Listing) : Type 0 where
   pub live : files.live p.file.n ≡ true
   pub inside : p.end ≤ files.size p.file.n
-  pub holds : Told (files.content p.file.n) (λ bytes. Holds bytes p.ahead)
+  pub holds : IfVisible (files.content p.file.n) (λ bytes. Holds bytes p.ahead)
 
 -- the first of the Elements that were left, or none, and those that are left then
 abbrev pub Gives : Option Header → List Header → List Header → Type 0

@@ -4,7 +4,7 @@ use Rattle.std.specs.Option.{option_map_or}
 use Rattle.mkv_schema.specs.declared.ids.TheConstants.{EBML, SEEK_HEAD, CUES}
 use Rattle.mkv_io.specs.declared.damage.Damage.{Damage}
 use Rattle.mkv_schema.specs.declared.element.Header.{Header}
-use Rattle.mkv_schema.specs.declared.limits.TheConstants.{MOST_OF_HEADER, MOST_OF_ONE, MOST_OF_CUES}
+use Rattle.mkv_schema.specs.declared.limits.TheConstants.{MAX_HEADER_LEN, MAX_MASTER_LEN, MAX_CUES_LEN}
 use Rattle.mkv_schema.specs.Outline.{over, is_described}
 use Rattle.element_reader.specs.declared.loading.LoadEnd.{LoadEnd}
 use Rattle.element_reader.specs.declared.loading.LoadEnd.TheVariants as load_end
@@ -12,9 +12,9 @@ use Rattle.element_reader.specs.declared.loading.LoadEnd.TheVariants as load_end
 -- the most octets that are loaded of an Element of this ID, where there is a limit
 abbrev pub limit_of : ℕ → Option ℕ
 limit_of id =
-    if id == EBML then Some MOST_OF_HEADER else
-    if is_described id || id == SEEK_HEAD then Some MOST_OF_ONE else
-    if id == CUES then Some MOST_OF_CUES else
+    if id == EBML then Some MAX_HEADER_LEN else
+    if is_described id || id == SEEK_HEAD then Some MAX_MASTER_LEN else
+    if id == CUES then Some MAX_CUES_LEN else
     None
 
 -- the Element passes the limit of its ID

@@ -11,7 +11,7 @@ use elements::{damage_at, known};
 use mkv_io::{Damage, Kind};
 use mkv_schema::Header;
 use mkv_schema::ids::{CHAPTERS, CLUSTER, INFO, TAGS, TRACKS};
-use mkv_schema::limits::{MOST_ELEMENTS, MOST_OF_ALL, MOST_OF_ONE};
+use mkv_schema::limits::{MAX_ELEMENTS, MAX_MASTER_LEN, MAX_MASTERS_LEN};
 use std::alloc::{AllocError, Global};
 
 /// What is kept of the Elements of level 1 that were met.
@@ -107,12 +107,12 @@ impl Collected {
     {
         let size = known(header.size);
         let held = self.held.saturating_add(size);
-        is_described(header.id) && (size > MOST_OF_ONE || held > MOST_OF_ALL)
+        is_described(header.id) && (size > MAX_MASTER_LEN || held > MAX_MASTERS_LEN)
     }
 
     fn passes_count(&self, header: &Header) -> bool
         ensures { (held : ℕ) (list : List Placed) → Keeps held list self.now → result ≡ passes_count list header.now }
     {
-        header.id != CLUSTER && self.others.len() >= MOST_ELEMENTS
+        header.id != CLUSTER && self.others.len() >= MAX_ELEMENTS
     }
 }

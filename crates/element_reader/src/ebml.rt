@@ -21,7 +21,7 @@ use mkv_schema::Header;
 use mkv_schema::ids::{
     DOC_TYPE_READ_VERSION, EBML_MAX_ID_LENGTH, EBML_MAX_SIZE_LENGTH, EBML_READ_VERSION,
 };
-use mkv_schema::limits::{LONGEST_HEADER, MOST_OF_HEADER};
+use mkv_schema::limits::{MAX_ELEMENT_HEADER_LEN, MAX_HEADER_LEN};
 use std::alloc::Global;
 
 /// The octets of the EBML header's ID, with which a file begins.
@@ -55,7 +55,7 @@ fn value_refusal(body: &[u8], base: u64, total: u64) -> Option<Damage>
 pub fn header_refusal(body: &[u8], header: &Header, total: u64) -> Option<Damage>
     requires few { header.now.body + length body.now ≤ LONGEST_FILE }
     requires whole { length body.now ≡ known header.now.size }
-    requires most { known header.now.size ≤ MOST_OF_HEADER }
+    requires most { known header.now.size ≤ MAX_HEADER_LEN }
     ensures { IfBody header.now.body total body.now (λ bytes. result ≡ header_refusal bytes header.now) }
 {
     if let Some(damage) = child_refusal(body, header.body, total) {
@@ -82,7 +82,7 @@ fn first_element<R: Reads>(
     ensures cause { HasCause is_failure (R.reading_faults src.old) (R.reading_faults src.new) result }
     ensures goes { Goes R.Reads file 0 (λ _. 0) window.old window.new src.old src.new result }
 {
-    let len = total.min(LONGEST_HEADER) as u16;
+    let len = total.min(MAX_ELEMENT_HEADER_LEN) as u16;
     window.hold(src, file, 0, len)?;
     let octets = window.octets_at(0, usize::from(len));
     if !octets.starts_with(&EBML_MARK) {
@@ -113,7 +113,7 @@ pub fn ebml_header<R: Reads>(
         Ok(header) => header,
         Err(damage) => return Ok(Err(damage)),
     };
-    if let Some(damage) = over(MOST_OF_HEADER, &header) {
+    if let Some(damage) = over(MAX_HEADER_LEN, &header) {
         return Ok(Err(damage));
     }
     let mut body = vec![in alloc; 0; known(header.size) as usize]?;

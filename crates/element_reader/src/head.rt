@@ -12,11 +12,11 @@ use crate::head_end::HeadEnd;
 use elements::{Parent, read_header};
 use mkv_io::{FileId, Reads};
 use mkv_schema::Header;
-use mkv_schema::limits::LONGEST_HEADER;
+use mkv_schema::limits::MAX_ELEMENT_HEADER_LEN;
 
 /// The header of the Element at `at` octets behind the start of a file, whose parent ends at `end`, as
 /// if every Segment and every Cluster stood where it may be open. It reads at most
-/// `LONGEST_HEADER` octets.
+/// `MAX_ELEMENT_HEADER_LEN` octets.
 pub fn header_at<R: Reads>(src: &mut R, file: FileId, at: u64, end: u64) -> Result<Header, HeadEnd>
     requires live { IsLive R.Reads src.old file }
     requires place { at ≤ end }
@@ -25,10 +25,10 @@ pub fn header_at<R: Reads>(src: &mut R, file: FileId, at: u64, end: u64) -> Resu
     ensures found { IfOk result (IsFound anywhere at end) }
     ensures same { OnlyReads R.Reads src.old src.new }
     ensures cause { HasCause is_head_fault (R.reading_faults src.old) (R.reading_faults src.new) result }
-    ensures octets { ReadsUpTo R.Reads src.old src.new LONGEST_HEADER }
+    ensures octets { ReadsUpTo R.Reads src.old src.new MAX_ELEMENT_HEADER_LEN }
 {
-    let mut buffer = [0; LONGEST_HEADER as usize];
-    let len = (end - at).min(LONGEST_HEADER);
+    let mut buffer = [0; MAX_ELEMENT_HEADER_LEN as usize];
+    let len = (end - at).min(MAX_ELEMENT_HEADER_LEN);
     let octets = &mut buffer[..len as usize];
     let Ok(()) = src.read_at(file, at, octets) else {
         return Err(HeadEnd::ReadFault);

@@ -14,7 +14,7 @@ use elements::known;
 use mkv_io::{Bytes, Damage, FileId, Reads};
 use mkv_schema::Header;
 use mkv_schema::ids::{CUES, EBML, SEEK_HEAD};
-use mkv_schema::limits::{MOST_OF_CUES, MOST_OF_HEADER, MOST_OF_ONE};
+use mkv_schema::limits::{MAX_CUES_LEN, MAX_HEADER_LEN, MAX_MASTER_LEN};
 use std::alloc::Global;
 use thiserror::Error;
 
@@ -37,10 +37,10 @@ fn limit_of(id: u32) -> Option<u64>
     ensures { result ≡ limit_of id }
 {
     match id {
-        EBML => Some(MOST_OF_HEADER),
-        SEEK_HEAD => Some(MOST_OF_ONE),
-        CUES => Some(MOST_OF_CUES),
-        id if is_described(id) => Some(MOST_OF_ONE),
+        EBML => Some(MAX_HEADER_LEN),
+        SEEK_HEAD => Some(MAX_MASTER_LEN),
+        CUES => Some(MAX_CUES_LEN),
+        id if is_described(id) => Some(MAX_MASTER_LEN),
         _ => None,
     }
 }

@@ -3,43 +3,43 @@ use Rattle.std.specs.Prelude.{◌≡◌, ℕ, ◌+◌, ◌≤◌, List, length, 
 use Rattle.mkv_io.specs.declared.outside.FileId.{FileId}
 use Rattle.mkv_io.specs.Sources.{IfTold, file_size}
 use Rattle.mkv_io.specs.declared.reads.Reads.{Ghosts}
-use Rattle.elements.specs.declared.held.Held.{Held}
+use Rattle.elements.specs.declared.buffered.BufferedRange.{BufferedRange}
 use Rattle.elements.specs.Looks.{Goes, Looks}
 use Rattle.elements.specs.Window.{Holds, ReadAhead, header_room, held_from, kept_from}
 use Rattle.mkv_io.specs.Contents.{octets_from}
 
 -- the octets in its front
-abbrev pub held_in : Held → List ℕ → ReadAhead
+abbrev pub held_in : BufferedRange → List ℕ → ReadAhead
 held_in held buffer = record { at = held.at; octets = take held.len buffer }
 
 -- They are as many as it has, or fewer, and are the file's.
-pub record HoldsIn {S : Type 0} (g : Ghosts S) (file : FileId) (src : S) (held : Held) (buffer : List ℕ) : Type 0 where
+pub record HoldsIn {S : Type 0} (g : Ghosts S) (file : FileId) (src : S) (held : BufferedRange) (buffer : List ℕ) : Type 0 where
   pub fits : held.len ≤ length buffer
   pub told : IfTold g src file (λ bytes. Holds bytes (held_in held buffer))
 
 -- A call looks at octets through a buffer, and pays for what it reads, as through a window of its length.
-abbrev pub LooksIn : {S T E : Type 0} → Ghosts S → FileId → ℕ → ℕ → Held → List ℕ → Held → List ℕ → S → S → Result T E → Type 0
+abbrev pub LooksIn : {S T E : Type 0} → Ghosts S → FileId → ℕ → ℕ → BufferedRange → List ℕ → BufferedRange → List ℕ → S → S → Result T E → Type 0
 LooksIn g file at len old buffer new now_buffer before now result =
     Looks g file (length buffer) at len (held_in old buffer) (held_in new now_buffer) before now result
 
-abbrev pub GoesIn : {S T E : Type 0} → Ghosts S → FileId → ℕ → Held → List ℕ → Held → List ℕ → S → S → Result T E → Type 0
+abbrev pub GoesIn : {S T E : Type 0} → Ghosts S → FileId → ℕ → BufferedRange → List ℕ → BufferedRange → List ℕ → S → S → Result T E → Type 0
 GoesIn g file at old buffer new now_buffer before now result =
     Goes g file at (λ _. at) (held_in old buffer) (held_in new now_buffer) before now result
 
 -- A buffer stands at a place, and holds what it held from there on.
-abbrev pub KeepsFrom : ℕ → ℕ → Held → List ℕ → Held → List ℕ → Type 0
+abbrev pub KeepsFrom : ℕ → ℕ → BufferedRange → List ℕ → BufferedRange → List ℕ → Type 0
 KeepsFrom at total old buffer new now_buffer = held_in new now_buffer ≡ record { at = at; octets = kept_from (held_in old buffer) total at }
 
 -- It holds as many octets as are wanted, or those up to the file's end, and stands where it stood.
-abbrev pub HoldsWanted : ℕ → ℕ → Held → Held → Type 0
+abbrev pub HoldsWanted : ℕ → ℕ → BufferedRange → BufferedRange → Type 0
 HoldsWanted wanted size old new = (new.at ≡ old.at) × (new.len ≡ held_from wanted size old.at)
 
 -- What was read is at most what is held then and wasn't before.
-abbrev pub ReadsBehind : {S : Type 0} → Ghosts S → FileId → ℕ → Held → S → S → Type 0
+abbrev pub ReadsBehind : {S : Type 0} → Ghosts S → FileId → ℕ → BufferedRange → S → S → Type 0
 ReadsBehind g file wanted held old new = g.octets_read new + held.len ≤ g.octets_read old + held_from wanted (file_size g old file) held.at
 
 -- A header of an Element at a place is looked at, of a parent that ends somewhere.
-abbrev pub LooksHeader : {S T E : Type 0} → Ghosts S → FileId → ℕ → ℕ → Held → List ℕ → Held → List ℕ → S → S → Result T E → Type 0
+abbrev pub LooksHeader : {S T E : Type 0} → Ghosts S → FileId → ℕ → ℕ → BufferedRange → List ℕ → BufferedRange → List ℕ → S → S → Result T E → Type 0
 LooksHeader g file at end old buffer new now_buffer before now result =
     LooksIn g file at (header_room at end) old buffer new now_buffer before now result
 

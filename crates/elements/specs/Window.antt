@@ -1,7 +1,7 @@
 -- What a window holds of a file.
 use Rattle.std.specs.Prelude.{◌≡◌, ℕ, ◌+◌, ◌*◌, ◌-◌, ◌≤◌, min, max, nat_lt, ◌||◌, List, [], length, drop, if◌then◌else◌}
 use Rattle.mkv_io.specs.Contents.{octets_from}
-use Rattle.mkv_schema.specs.declared.limits.TheConstants.{LONGEST_HEADER}
+use Rattle.mkv_schema.specs.declared.limits.TheConstants.{MAX_ELEMENT_HEADER_LEN}
 use Rattle.elements.specs.declared.TheConstants.{LITTLE}
 
 -- octets, and the place of the first of them
@@ -34,7 +34,7 @@ pub record HasRange (w : ReadAhead) (at len : ℕ) : Type 0 where
 
 -- the octets that a header at a place may have, of a parent that ends somewhere
 abbrev pub header_room : ℕ → ℕ → ℕ
-header_room at end = min (end - at) LONGEST_HEADER
+header_room at end = min (end - at) MAX_ELEMENT_HEADER_LEN
 
 -- How many octets a window of so much room is to hold from a place on, of which so many are asked for: 1,024 behind these where it
 -- jumps over more than it held, as over the body of a block or of a Cluster, behind which one header may be all that is looked at; else

@@ -15,7 +15,7 @@ use mkv_schema::ids::{CHAPTER_DISPLAY, CLUSTER, SEGMENT};
 /// The header of the Element that octets begin, or what is wrong with it.
 ///
 /// The octets stand `at` octets behind the start of a file of `total` octets, and reach to `end`, the
-/// parent's end; the first `LONGEST_HEADER` of them are enough.
+/// parent's end; the first `MAX_ELEMENT_HEADER_LEN` of them are enough.
 pub fn read_header(
     octets: &[u8],
     parent: Parent,

@@ -4,9 +4,9 @@
 //! a file is read, and the way from one Element of level 1 to the next (RFC 8794, sections 5 to 7, and RFC 9559, section 5.1,
 //! Segment Element).
 
+mod buffered;
 mod child;
 mod header;
-mod held;
 mod level_one;
 mod lookahead;
 mod parent;

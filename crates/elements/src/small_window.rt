@@ -4,7 +4,7 @@ ghost use Rattle.std.specs.Prelude.{◌≡◌};
 ghost use Rattle.elements.specs.Window.{nothing_at};
 
 use crate::LITTLE;
-use crate::held::Held;
+use crate::buffered::BufferedRange;
 use crate::lookahead::Lookahead;
 use crate::parent::Parent;
 use mkv_io::{Damage, Failed, FileId, Reads};
@@ -15,7 +15,7 @@ use std::marker::Model;
 #[derive(Drop)]
 pub struct SmallWindow {
     buffer: [u8; LITTLE],
-    held: Held,
+    held: BufferedRange,
 }
 
 impl Model for SmallWindow {
@@ -38,7 +38,7 @@ impl SmallWindow {
     {
         SmallWindow {
             buffer: [0; LITTLE],
-            held: Held { at: 0, len: 0 },
+            held: BufferedRange { at: 0, len: 0 },
         }
     }
 
@@ -46,7 +46,7 @@ impl SmallWindow {
     pub fn forget(&mut self)
         ensures { self.new ≡ nothing_at 0 }
     {
-        self.held = Held { at: 0, len: 0 };
+        self.held = BufferedRange { at: 0, len: 0 };
     }
 }
 

@@ -9,7 +9,7 @@ ghost use Rattle.elements.specs.Looks.{Goes, Looks};
 ghost use Rattle.elements.specs.Window.{HasRange, Holds, front_from, kept_from, nothing_at};
 
 use crate::LITTLE;
-use crate::held::Held;
+use crate::buffered::BufferedRange;
 use crate::lookahead::Lookahead;
 use crate::parent::Parent;
 use mkv_io::{Damage, Failed, FileId, Reads};
@@ -27,7 +27,7 @@ const SHORT_BODY: usize = 4096;
 #[derive(Drop)]
 pub struct Window {
     buffer: Vec<u8>,
-    held: Held,
+    held: BufferedRange,
 }
 
 impl Model for Window {
@@ -50,7 +50,7 @@ impl Window {
     {
         Ok(Window {
             buffer: vec![in alloc; 0; WINDOW]?,
-            held: Held { at: 0, len: 0 },
+            held: BufferedRange { at: 0, len: 0 },
         })
     }
 
@@ -166,7 +166,7 @@ impl Window {
     pub fn forget(&mut self)
         ensures { self.new ≡ nothing_at 0 }
     {
-        self.held = Held { at: 0, len: 0 };
+        self.held = BufferedRange { at: 0, len: 0 };
     }
 
     /// The octets that the window holds from `at` octets behind the file's start on, but not more than so many.
@@ -200,7 +200,7 @@ impl Window {
         requires { length octets.now ≤ WINDOW }
         ensures { self.new ≡ record { at = at; octets = octets.now } }
     {
-        self.held = Held::put(at, octets, &mut self.buffer);
+        self.held = BufferedRange::put(at, octets, &mut self.buffer);
     }
 
     // Reads what isn't held of a body, and up to 1,024 octets behind it, at once.
@@ -227,7 +227,7 @@ impl Window {
         let total = src.size(file);
         let end = (total - at).min((len + LITTLE) as u64) as usize;
         let kept = self.copy_held(at, total, into);
-        self.held = Held { at, len: 0 };
+        self.held = BufferedRange { at, len: 0 };
         src.read_at(file, at + kept as u64, &mut into[kept..end])?;
         self.set(at + len as u64, &into[len..end]);
         Ok(())

@@ -10,7 +10,7 @@ use Rattle.block_format.specs.Content.{frames_cut}
 use Rattle.block_format.specs.Events.{Event, blocks_of, damages_of}
 use Rattle.cluster_reader.specs.ToldDamages.{ToldDamages, told_damages, with_damage}
 use Rattle.cluster_reader.proofs.ToldDamagesLemmas.{with_damage-told}
-use Rattle.block_records.specs.Buffered.{Buffered, block_of}
+use Rattle.block_reader.specs.Buffered.{Buffered, block_of}
 use Rattle.extractors.specs.BadFrames.{TellsMore, bad_for, bad_frame, bad_frames, bad_in, is_bad, told_of, untimed}
 use Rattle.extractors.specs.Content.{written_of}
 use Rattle.extractors.specs.Takes.{IsEnough, IsEnoughFor, IsEnoughForAll}

@@ -8,7 +8,7 @@ use Rattle.mkv_io.specs.declared.files.Files.{Ghosts}
 use Rattle.block_format.specs.Block.{Block}
 use Rattle.mkv_outputs.specs.Outputs.{Output, with_more}
 use Rattle.mkv_outputs.specs.Sinks.{HaveBeenGiven}
-use Rattle.mkv_outputs.specs.Starts.{AreBegun, StandsInPart}
+use Rattle.mkv_outputs.specs.Starts.{AreBegun, ArePrefixes}
 use Rattle.mkv_outputs.specs.declared.sink.Sink.{Sink}
 use Rattle.mkv_outputs.proofs.StartsLemmas.{IsBegun-whole}
 use Rattle.extractors.specs.Content.{counted, entries_from, output_of, outputs_of}
@@ -139,10 +139,10 @@ given_upto-begun zero (o ∷ os) blocks b = outputs_of-begun (o ∷ os) blocks (
 given_upto-begun (suc k) (o ∷ os) blocks b = (IsBegun-whole (output_of o (blocks ++ b ∷ [])), given_upto-begun k os blocks b)
 
 -- a refusal leaves a part
-pub WritesBlock-err : {S T E : Type 0} (f : Ghosts S) (list : List TrackOutput) (old new : S) (sinks later : List Sink) (before after : List ℕ) (b : Block) (result : Result T E) → IsErr result → ((since : Names) (blocks : List Block) → HaveBlocks f since list old sinks before blocks → StandsInPart since (f.names new) (outputs_of list (blocks ++ b ∷ []))) → WritesBlock f list old new sinks later before after b result
+pub WritesBlock-err : {S T E : Type 0} (f : Ghosts S) (list : List TrackOutput) (old new : S) (sinks later : List Sink) (before after : List ℕ) (b : Block) (result : Result T E) → IsErr result → ((since : Names) (blocks : List Block) → HaveBlocks f since list old sinks before blocks → ArePrefixes since (f.names new) (outputs_of list (blocks ++ b ∷ []))) → WritesBlock f list old new sinks later before after b result
 WritesBlock-err f list old new sinks later before after b (Ok done) is part = absurd (cc)
 WritesBlock-err f list old new sinks later before after b (Err fault) is part = part
 
-pub GivesBlocks-err : {S T E : Type 0} (f : Ghosts S) (list : List TrackOutput) (old new : S) (sinks later : List Sink) (all : List Block) (result : Result T E) → IsErr result → ((since : Names) → HaveBeenGiven since (f.names old) (f.holder old) sinks (outputs_of list []) → StandsInPart since (f.names new) (outputs_of list all)) → GivesBlocks f list old new sinks later all result
+pub GivesBlocks-err : {S T E : Type 0} (f : Ghosts S) (list : List TrackOutput) (old new : S) (sinks later : List Sink) (all : List Block) (result : Result T E) → IsErr result → ((since : Names) → HaveBeenGiven since (f.names old) (f.holder old) sinks (outputs_of list []) → ArePrefixes since (f.names new) (outputs_of list all)) → GivesBlocks f list old new sinks later all result
 GivesBlocks-err f list old new sinks later all (Ok done) is part = absurd (cc)
 GivesBlocks-err f list old new sinks later all (Err fault) is part = part

@@ -17,20 +17,20 @@ use Rattle.block_format.specs.Block.{Block}
 use Rattle.extractors.specs.BadFrames.{bad_frames, bad_in}
 use Rattle.extractors.specs.Codec.{CanWrite, aac_codec, aac_coding, avc_codec, avc_coding, codec_coding, coding_of, private_of, subrip_codec}
 use Rattle.extractors.specs.declared.frame_form.Coding.{Coding}
-use Rattle.extractors.specs.declared.frame_form.Unfit.{Unfit}
-use Rattle.extractors.specs.declared.frame_form.Unfit.TheVariants.{NoExtractor, BadConfig}
+use Rattle.extractors.specs.declared.frame_form.UnsupportedTrack.{UnsupportedTrack}
+use Rattle.extractors.specs.declared.frame_form.UnsupportedTrack.TheVariants.{NoExtractor, BadConfig}
 use Rattle.word_values.specs.declared.job.Form.{Form}
 use Rattle.word_values.specs.declared.job.Form.TheVariants as asked
 use Rattle.extractors.specs.declared.track_output.TrackOutput.{TrackOutput}
 
 -- a coding that is another
-same-form : (a b : Coding) → ◌≡◌ {A = Result Coding Unfit} (Ok a) (Ok b) → CanWrite a.form → CanWrite b.form
+same-form : (a b : Coding) → ◌≡◌ {A = Result Coding UnsupportedTrack} (Ok a) (Ok b) → CanWrite a.form → CanWrite b.form
 same-form a b is can =
     let same : a ≡ b = cc in
     let P : Coding → Type 0 = λ c. CanWrite c.form in
     subst P same can
 
-no-coding : (why : Unfit) (b : Coding) → ◌≡◌ {A = Result Coding Unfit} (Err why) (Ok b) → ⊥
+no-coding : (why : UnsupportedTrack) (b : Coding) → ◌≡◌ {A = Result Coding UnsupportedTrack} (Err why) (Ok b) → ⊥
 no-coding why b is = absurd (cc)
 
 avc-can : (private : List ℕ) (found : Option Avc) (coding : Coding) → avc_of private ≡ found → avc_coding found ≡ Ok coding → CanWrite coding.form

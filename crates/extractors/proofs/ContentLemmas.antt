@@ -7,7 +7,7 @@ use Rattle.mkv_outputs.specs.Starts.{AreBegun, IsBegun}
 use Rattle.extractors.specs.Content.{content_of, counted, entries_from, entries_of, entry_of, names_in, output_of, outputs_of, whole, written_of}
 use Rattle.extractors.specs.declared.frame_form.FrameForm.{FrameForm}
 use Rattle.extractors.specs.declared.frame_form.FrameForm.TheVariants as form
-use Rattle.srt_texts.specs.Writing.{put_srt}
+use Rattle.text_formats.specs.Writing.{put_srt}
 use Rattle.extractors.specs.Frames.{Frame, frames_for, frames_of}
 use Rattle.extractors.specs.declared.track_output.TrackOutput.{TrackOutput}
 

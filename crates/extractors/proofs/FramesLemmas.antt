@@ -10,16 +10,16 @@ use Rattle.block_format.specs.Block.{Block}
 use Rattle.block_format.specs.Content.{frames_cut}
 use Rattle.mkv_outputs.specs.Outputs.{Output, with_more}
 use Rattle.mkv_outputs.specs.Sinks.{Gives, HaveBeenGiven}
-use Rattle.mkv_outputs.specs.Starts.{StandsInPart}
+use Rattle.mkv_outputs.specs.Starts.{ArePrefixes}
 use Rattle.mkv_outputs.specs.declared.sink.Sink.{Sink}
 use Rattle.mkv_outputs.proofs.GivenLemmas.{HaveBeenGiven-part}
 use Rattle.mkv_outputs.proofs.OutputsLemmas.{with_more-none, with_more-twice}
-use Rattle.mkv_outputs.proofs.StartsLemmas.{StandsInPart-more}
+use Rattle.mkv_outputs.proofs.StartsLemmas.{ArePrefixes-more}
 use Rattle.cluster_reader.specs.Takes.{IsKnownByHead}
 use Rattle.extractors.specs.Content.{counted, entries_from, entry_of, whole, written_of}
-use Rattle.block_records.specs.Buffered.{Buffered, block_of}
-use Rattle.block_records.specs.declared.head.BlockHead.{BlockHead}
-use Rattle.block_records.proofs.FrontLemmas.{length-frames_cut}
+use Rattle.block_reader.specs.Buffered.{Buffered, block_of}
+use Rattle.block_reader.specs.declared.head.BlockHead.{BlockHead}
+use Rattle.block_reader.proofs.FrontLemmas.{length-frames_cut}
 use Rattle.extractors.specs.Frames.{Frame, frames_from, frames_of_block}
 use Rattle.extractors.specs.Times.{time_line}
 use Rattle.extractors.specs.declared.frame_form.FrameForm.{FrameForm}
@@ -37,7 +37,7 @@ HasGiven f old new sinks later k octets = (since : Names) (given : List Output) 
 
 -- or they stand in part
 abbrev pub HasPart : {S : Type 0} → Ghosts S → S → S → List Sink → ℕ → List ℕ → Type 0
-HasPart f old new sinks k octets = (since : Names) (given : List Output) → HaveBeenGiven since (f.names old) (f.holder old) sinks given → StandsInPart since (f.names new) (with_more k octets given)
+HasPart f old new sinks k octets = (since : Names) (given : List Output) → HaveBeenGiven since (f.names old) (f.holder old) sinks given → ArePrefixes since (f.names new) (with_more k octets given)
 
 -- a refusal leaves a part
 pub Gives-err : {S T E : Type 0} (f : Ghosts S) (old new : S) (sinks later : List Sink) (k : ℕ) (octets : List ℕ) (result : Result T E) → IsErr result → HasPart f old new sinks k octets → Gives f old new sinks later (with_more k octets) result
@@ -47,19 +47,19 @@ Gives-err f old new sinks later k octets (Err fault) is part = part
 -- the first of two calls was refused
 pub HasPart-first : {S : Type 0} (f : Ghosts S) (old new : S) (sinks : List Sink) (k : ℕ) (first next : List ℕ) → HasPart f old new sinks k first → HasPart f old new sinks k (first ++ next)
 HasPart-first f old new sinks k first next part = λ since given has.
-    subst (StandsInPart since (f.names new)) (with_more-twice k first next given) (StandsInPart-more since (f.names new) k next (with_more k first given) (part since given has))
+    subst (ArePrefixes since (f.names new)) (with_more-twice k first next given) (ArePrefixes-more since (f.names new) k next (with_more k first given) (part since given has))
 
 -- nothing was written
 pub HasPart-none : {S : Type 0} (f : Ghosts S) (files : S) (sinks : List Sink) (k : ℕ) (octets : List ℕ) → HasPart f files files sinks k octets
 HasPart-none f files sinks k octets = λ since given has.
-    StandsInPart-more since (f.names files) k octets given (HaveBeenGiven-part since (f.names files) (f.holder files) sinks given has)
+    ArePrefixes-more since (f.names files) k octets given (HaveBeenGiven-part since (f.names files) (f.holder files) sinks given has)
 
 -- the second was answered
 pub Gives-then : {S T E : Type 0} (f : Ghosts S) (old mid new : S) (sinks between later : List Sink) (k : ℕ) (first next : List ℕ) (result : Result T E) → HasGiven f old mid sinks between k first → Gives f mid new between later (with_more k next) result → Gives f old new sinks later (with_more k (first ++ next)) result
 Gives-then f old mid new sinks between later k first next (Ok done) has gives = λ since given had.
     subst (HaveBeenGiven since (f.names new) (f.holder new) later) (with_more-twice k first next given) (gives since (with_more k first given) (has since given had))
 Gives-then f old mid new sinks between later k first next (Err fault) has gives = λ since given had.
-    subst (StandsInPart since (f.names new)) (with_more-twice k first next given) (gives since (with_more k first given) (has since given had))
+    subst (ArePrefixes since (f.names new)) (with_more-twice k first next given) (gives since (with_more k first given) (has since given had))
 
 -- ---- in a loop
 
@@ -88,9 +88,9 @@ module _ {S : Type 0} {f : Ghosts S} {old mid : S} {sinks between : List Sink} {
   -- some more of them were given in part
   pub GivesUpTo-stops : {T E : Type 0} (result : Result T E) → IsErr result → HasPart f mid new between k more → Gives f old new sinks later (with_more k all) result
   GivesUpTo-stops result stopped part = Gives-err f old new sinks later k all result stopped (λ since given has.
-      subst (StandsInPart since (f.names new))
+      subst (ArePrefixes since (f.names new))
       (with_more-twice k more left (with_more k so.done given) ∙ ap (λ (rest : List ℕ). with_more k rest (with_more k so.done given)) (sym is) ∙ with_more-twice k so.done before given ∙ ap (λ (octets : List ℕ). with_more k octets given) (sym so.whole))
-      (StandsInPart-more since (f.names new) k left (with_more k more (with_more k so.done given)) (part since (with_more k so.done given) (so.has since given has))))
+      (ArePrefixes-more since (f.names new) k left (with_more k more (with_more k so.done given)) (part since (with_more k so.done given) (so.has since given has))))
 
 -- all of them were given
 pub GivesUpTo-ends : {S : Type 0} {f : Ghosts S} {old new : S} {sinks later : List Sink} {k : ℕ} {all left : List ℕ} → GivesUpTo f old new sinks later k all left → left ≡ [] → HasGiven f old new sinks later k all

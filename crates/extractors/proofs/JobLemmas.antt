@@ -19,8 +19,8 @@ use Rattle.extractors.specs.Job.{first_unfit, job_outputs, names_for, output_wit
 use Rattle.extractors.specs.Codec.{coding_of}
 use Rattle.extractors.proofs.CodecLemmas.{coding_of-can}
 use Rattle.extractors.specs.declared.frame_form.Coding.{Coding}
-use Rattle.extractors.specs.declared.frame_form.Unfit.{Unfit}
-use Rattle.extractors.specs.declared.frame_form.Unfit.TheVariants.{NoExtractor, BadConfig}
+use Rattle.extractors.specs.declared.frame_form.UnsupportedTrack.{UnsupportedTrack}
+use Rattle.extractors.specs.declared.frame_form.UnsupportedTrack.TheVariants.{NoExtractor, BadConfig}
 use Rattle.word_values.specs.declared.job.Form.{Form}
 use Rattle.extractors.specs.declared.track_output.TrackOutput.{TrackOutput}
 use Rattle.extractors.specs.Source.{AreUsableOf, IsUsable, entry_in}
@@ -77,7 +77,7 @@ pub outputs_for-others : (kind : Form) (targets : List Target) (entries : List N
 outputs_for-others kind [] entries name others = tt
 outputs_for-others kind (t ∷ ts) entries name others = step (slice_get entries t.id) (outputs_for-others kind ts entries name others.1)
   where
-    coded : (e : Node) (read : Result Coding Unfit) → AreOthers name (names_in (outputs_for kind ts entries)) → AreOthers name (names_in (track_output t.name e read ++ outputs_for kind ts entries))
+    coded : (e : Node) (read : Result Coding UnsupportedTrack) → AreOthers name (names_in (outputs_for kind ts entries)) → AreOthers name (names_in (track_output t.name e read ++ outputs_for kind ts entries))
     coded e (Err why) rest = rest
     coded e (Ok coding) rest = (others.0, rest)
 
@@ -96,7 +96,7 @@ pub outputs_for-apart : (kind : Form) (targets : List Target) (entries : List No
 outputs_for-apart kind [] entries apart = tt
 outputs_for-apart kind (t ∷ ts) entries apart = step (slice_get entries t.id) (outputs_for-others kind ts entries t.name apart.0) (outputs_for-apart kind ts entries apart.1)
   where
-    coded : (e : Node) (read : Result Coding Unfit) → AreOthers t.name (names_in (outputs_for kind ts entries)) → AreApart (names_in (outputs_for kind ts entries)) → AreApart (names_in (track_output t.name e read ++ outputs_for kind ts entries))
+    coded : (e : Node) (read : Result Coding UnsupportedTrack) → AreOthers t.name (names_in (outputs_for kind ts entries)) → AreApart (names_in (outputs_for kind ts entries)) → AreApart (names_in (track_output t.name e read ++ outputs_for kind ts entries))
     coded e (Err why) others rest = rest
     coded e (Ok coding) others rest = (others, rest)
 
@@ -124,7 +124,7 @@ outputs_for-steps kind (t ∷ ts) entries each = step (slice_get entries t.id) (
     behind o os small rest zero d below = small
     behind o os small rest (suc k) d below = rest k d (omega arith)
 
-    coded : (e : Node) (read : Result Coding Unfit) → IsTrack e → coding_of kind e ≡ read → All IsReady (outputs_for kind ts entries) → All IsReady (track_output t.name e read ++ outputs_for kind ts entries)
+    coded : (e : Node) (read : Result Coding UnsupportedTrack) → IsTrack e → coding_of kind e ≡ read → All IsReady (outputs_for kind ts entries) → All IsReady (track_output t.name e read ++ outputs_for kind ts entries)
     coded e (Err why) track is rest = rest
     coded e (Ok coding) track is rest =
         behind (output_with t.name e coding) (outputs_for kind ts entries)

@@ -8,7 +8,7 @@ use Rattle.mkv_io.specs.declared.reads.Reads.{Ghosts as ReadsGhosts}
 use Rattle.block_format.specs.Block.{Block}
 use Rattle.mkv_outputs.specs.Outputs.{Output, empty, names_of, with_empty, with_end, with_more}
 use Rattle.mkv_outputs.specs.Sinks.{HaveBeenGiven, MadeSince, holders_of, ids_of}
-use Rattle.mkv_outputs.specs.Starts.{AreBegun, StandsInPart}
+use Rattle.mkv_outputs.specs.Starts.{AreBegun, ArePrefixes}
 use Rattle.mkv_outputs.specs.declared.sink.Sink.{Sink}
 use Rattle.mkv_outputs.proofs.FilesLemmas.{MadeSince-kept}
 use Rattle.mkv_outputs.proofs.GivenLemmas.{HaveBeenGiven-apart, HaveBeenGiven-names, length_of_map}
@@ -20,7 +20,7 @@ use Rattle.extractors.specs.Walks.{MakesOutputs, WritesAndReads}
 use Rattle.extractors.specs.Whole.{AreWritten}
 
 -- a refusal leaves a part
-pub MakesOutputs-err : {S T E : Type 0} (f : Ghosts S) (old new : S) (later : List Sink) (given : List Output) (result : Result T E) → IsErr result → StandsInPart (f.names old) (f.names new) given → MakesOutputs f old new later given result
+pub MakesOutputs-err : {S T E : Type 0} (f : Ghosts S) (old new : S) (later : List Sink) (given : List Output) (result : Result T E) → IsErr result → ArePrefixes (f.names old) (f.names new) given → MakesOutputs f old new later given result
 MakesOutputs-err f old new later given (Ok done) is part = absurd (cc)
 MakesOutputs-err f old new later given (Err fault) is part = part
 
@@ -149,6 +149,6 @@ made-walked r f old a b c list sinks later numbered has made walks =
     (let P : List (List ℕ) → Type 0 = λ names. KeepsOthers r f names b c in subst P (made-names old (f.names b) (f.holder b) sinks list has) walks.kept)
 
 -- a refusal leaves a part
-pub AreWritten-err : {T E : Type 0} (old new : Names) (outputs : List Output) (result : Result T E) → IsErr result → StandsInPart old new outputs → AreWritten old new outputs result
+pub AreWritten-err : {T E : Type 0} (old new : Names) (outputs : List Output) (result : Result T E) → IsErr result → ArePrefixes old new outputs → AreWritten old new outputs result
 AreWritten-err old new outputs (Ok done) is part = absurd (cc)
 AreWritten-err old new outputs (Err fault) is part = part

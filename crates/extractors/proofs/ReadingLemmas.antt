@@ -6,7 +6,7 @@ use Rattle.mkv_schema.specs.Table.{table}
 use Rattle.mkv_schema.specs.declared.ids.TheConstants.{CUES}
 use Rattle.mkv_io.specs.declared.damage.Damage.{Damage}
 use Rattle.mkv_schema.specs.declared.element.Header.{Header}
-use Rattle.mkv_schema.specs.declared.limits.TheConstants.{MOST_OF_CUES}
+use Rattle.mkv_schema.specs.declared.limits.TheConstants.{MAX_CUES_LEN}
 use Rattle.mkv_schema.specs.Outline.{over, segment_run}
 use Rattle.mkv_io.specs.Results.{and_then, unless}
 use Rattle.mkv_schema.specs.Value.{body_of, first_of}
@@ -17,7 +17,7 @@ use Rattle.element_reader.specs.Outline.{FileOutline, first_in, outline_in}
 use Rattle.element_reader.proofs.OutlineLemmas.{Outlines-shown}
 use Rattle.meta_records.proofs.RecordsLemmas.{first_same}
 use Rattle.extractors.specs.Reading.{cues_at, first_cues}
-use Rattle.extractors.specs.declared.limits.TheConstants.{MOST_CUE_NODES}
+use Rattle.extractors.specs.declared.limits.TheConstants.{MAX_CUE_NODES}
 
 -- the table has a Cues as a master
 pub cues-master : is_master CUES ≡ true
@@ -36,7 +36,7 @@ first_of-own id (k ∷ ks) h found = split (first_of-own id ks h) (k.id == id) r
 -- The first Cues of a file whose outline was read so.
 pub record IsFirstCues (bytes : List ℕ) (v : FileOutline) (h : Header) : Type 0 where
   pub first : first_of CUES (segment_run bytes v.segment).list ≡ Some h
-  pub limit : too_large h ≡ over MOST_OF_CUES h
+  pub limit : too_large h ≡ over MAX_CUES_LEN h
 
 pub IsFirstCues-shown : (before : ℕ) (bytes : List ℕ) (v : FileOutline) (h : Header) → outline_in before bytes ≡ Ok v → first_in CUES v ≡ Some h → IsFirstCues bytes v h
 IsFirstCues-shown before bytes v h outline found =
@@ -54,14 +54,14 @@ first_cues-none before bytes v outline found = ap (cues_at bytes) (sym (first_sa
 pub first_cues-large : (bytes : List ℕ) (v : FileOutline) (h : Header) (d : Damage) → IsFirstCues bytes v h → too_large h ≡ Some d → first_cues bytes v.segment ≡ Err d
 first_cues-large bytes v h d is large =
     ap (cues_at bytes) is.first
-    ∙ ap (λ (o : Option Damage). and_then (unless o (body_of bytes h)) (λ (body : List ℕ). and_then (tree_of CUES h.offset body h.body MOST_CUE_NODES) (λ (tree : Node). Ok (Some tree)))) (sym is.limit ∙ large)
+    ∙ ap (λ (o : Option Damage). and_then (unless o (body_of bytes h)) (λ (body : List ℕ). and_then (tree_of CUES h.offset body h.body MAX_CUE_NODES) (λ (tree : Node). Ok (Some tree)))) (sym is.limit ∙ large)
 
 -- or one that is read as a tree
-pub first_cues-some : (bytes : List ℕ) (v : FileOutline) (h : Header) (body : List ℕ) → IsFirstCues bytes v h → ((d : Damage) → too_large h ≡ Some d → ⊥) → body ≡ body_of bytes h → first_cues bytes v.segment ≡ and_then (tree_of CUES h.offset body h.body MOST_CUE_NODES) (λ (tree : Node). Ok (Some tree))
+pub first_cues-some : (bytes : List ℕ) (v : FileOutline) (h : Header) (body : List ℕ) → IsFirstCues bytes v h → ((d : Damage) → too_large h ≡ Some d → ⊥) → body ≡ body_of bytes h → first_cues bytes v.segment ≡ and_then (tree_of CUES h.offset body h.body MAX_CUE_NODES) (λ (tree : Node). Ok (Some tree))
 first_cues-some bytes v h body is small same =
     ap (cues_at bytes) is.first
-    ∙ ap (λ (o : Option Damage). and_then (unless o (body_of bytes h)) (λ (octets : List ℕ). and_then (tree_of CUES h.offset octets h.body MOST_CUE_NODES) (λ (tree : Node). Ok (Some tree)))) (sym is.limit ∙ none (too_large h) refl)
-    ∙ ap (λ (octets : List ℕ). and_then (tree_of CUES h.offset octets h.body MOST_CUE_NODES) (λ (tree : Node). Ok (Some tree))) (sym same)
+    ∙ ap (λ (o : Option Damage). and_then (unless o (body_of bytes h)) (λ (octets : List ℕ). and_then (tree_of CUES h.offset octets h.body MAX_CUE_NODES) (λ (tree : Node). Ok (Some tree)))) (sym is.limit ∙ none (too_large h) refl)
+    ∙ ap (λ (octets : List ℕ). and_then (tree_of CUES h.offset octets h.body MAX_CUE_NODES) (λ (tree : Node). Ok (Some tree))) (sym same)
   where
     none : (large : Option Damage) → too_large h ≡ large → large ≡ None
     none None at = refl

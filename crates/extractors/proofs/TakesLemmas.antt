@@ -4,15 +4,15 @@ use Rattle.std.specs.List.{All, list_all}
 use Rattle.std.proofs.lemmas.Bool.{eqb-true}
 use Rattle.std.proofs.lemmas.List.Sums.{AllPass-from_list_all}
 use Rattle.block_format.specs.Block.{Block}
-use Rattle.block_records.specs.Buffered.{Buffered, block_of}
-use Rattle.block_records.specs.Lendable.{IsLendable}
-use Rattle.block_records.specs.declared.head.BlockHead.{BlockHead}
-use Rattle.block_records.proofs.FrontLemmas.{length-frames_cut}
+use Rattle.block_reader.specs.Buffered.{Buffered, block_of}
+use Rattle.block_reader.specs.Lendable.{IsLendable}
+use Rattle.block_reader.specs.declared.head.BlockHead.{BlockHead}
+use Rattle.block_reader.proofs.FrontLemmas.{length-frames_cut}
 use Rattle.cluster_reader.specs.Reading.{LendsWanted}
 use Rattle.cluster_reader.specs.Takes.{IsKnown, IsKnownByHead, IsKnownFor}
 use Rattle.cluster_reader.specs.declared.step.Step.TheVariants as StepOf
-use Rattle.cluster_reader.specs.declared.takes.Takes.{Takes}
-use Rattle.cluster_reader.specs.declared.takes.Takes.TheVariants as takes
+use Rattle.cluster_reader.specs.declared.filter.BlockFilter.{BlockFilter}
+use Rattle.cluster_reader.specs.declared.filter.BlockFilter.TheVariants as takes
 use Rattle.extractors.specs.Takes.{IsEnough, IsEnoughFor, IsEnoughForAll, is_of_times, of_one_track, takes_of}
 use Rattle.extractors.specs.declared.frame_form.FrameForm.{FrameForm}
 use Rattle.extractors.specs.declared.frame_form.FrameForm.TheVariants as form
@@ -99,6 +99,6 @@ enough-of list b lent = split (list_all (λ (o : TrackOutput). is_of_times o.for
     split true is known lends = enough-heads list b lent is known
     split false is known lends = enough-one list b lent known lends
 
-pub enough-taken : (list : List TrackOutput) (asked : Takes) (b : Block) (lent : Buffered) → asked ≡ takes_of list → IsKnown asked b lent → LendsWanted asked StepOf.Block lent → IsEnoughForAll list b lent
+pub enough-taken : (list : List TrackOutput) (asked : BlockFilter) (b : Block) (lent : Buffered) → asked ≡ takes_of list → IsKnown asked b lent → LendsWanted asked StepOf.Block lent → IsEnoughForAll list b lent
 enough-taken list asked b lent is known lends =
-    enough-of list b lent (subst (λ (t : Takes). IsKnown t b lent) is known) (subst (λ (t : Takes). LendsWanted t StepOf.Block lent) is lends)
+    enough-of list b lent (subst (λ (t : BlockFilter). IsKnown t b lent) is known) (subst (λ (t : BlockFilter). LendsWanted t StepOf.Block lent) is lends)

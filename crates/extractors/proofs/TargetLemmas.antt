@@ -11,8 +11,8 @@ use Rattle.mkv_io.specs.declared.files.Files as writing
 use Rattle.mkv_io.proofs.WritingLemmas.{KeepsOthers-more}
 use Rattle.word_values.specs.declared.job.Target.{Target}
 use Rattle.mkv_outputs.specs.Outputs.{Output, with_outputs}
-use Rattle.mkv_outputs.specs.Starts.{AreBegun, StandsInPart}
-use Rattle.mkv_outputs.proofs.StartsLemmas.{IsBegun-whole, StandsInPart-before}
+use Rattle.mkv_outputs.specs.Starts.{AreBegun, ArePrefixes}
+use Rattle.mkv_outputs.proofs.StartsLemmas.{IsBegun-whole, ArePrefixes-before}
 use Rattle.extractors.specs.Job.{names_of}
 use Rattle.extractors.specs.Whole.{AreWritten}
 
@@ -41,8 +41,8 @@ AreBegun-behind [] some all begun = begun
 AreBegun-behind (o ∷ os) some all begun = (IsBegun-whole o, AreBegun-behind os some all begun)
 
 -- some were written, and another in part
-StandsInPart-behind : (old mid new : Names) (done next : List Output) → mid ≡ with_outputs old done → StandsInPart mid new next → StandsInPart old new (done ++ next)
-StandsInPart-behind old mid new done next whole part = record {
+ArePrefixes-behind : (old mid new : Names) (done next : List Output) → mid ≡ with_outputs old done → ArePrefixes mid new next → ArePrefixes old new (done ++ next)
+ArePrefixes-behind old mid new done next whole part = record {
   stand = done ++ part.stand;
   begun = AreBegun-behind done part.stand next part.begun;
   names = part.names ∙ ap (λ (names : Names). with_outputs names part.stand) whole ∙ sym (with_outputs-both old done part.stand);
@@ -69,13 +69,13 @@ written-more outputs targets k t old mid new below is so more =
     ∙ ap (with_outputs old) (sym (outputs-next outputs targets k t below is))
 
 -- they were written in part
-pub written-part : {T E : Type 0} (outputs : Target → List Output) (targets : List Target) (k : ℕ) (t : Target) (old mid new : Names) (result : Result T E) → IsErr result → k < length targets → t ≡ get_or targets k t → mid ≡ with_outputs old (flat_map outputs (take k targets)) → StandsInPart mid new (outputs t) → AreWritten old new (flat_map outputs targets) result
+pub written-part : {T E : Type 0} (outputs : Target → List Output) (targets : List Target) (k : ℕ) (t : Target) (old mid new : Names) (result : Result T E) → IsErr result → k < length targets → t ≡ get_or targets k t → mid ≡ with_outputs old (flat_map outputs (take k targets)) → ArePrefixes mid new (outputs t) → AreWritten old new (flat_map outputs targets) result
 written-part outputs targets k t old mid new (Ok done) fails below is so part = absurd (cc)
 written-part outputs targets k t old mid new (Err fault) fails below is so part =
-    subst (StandsInPart old new) whole
-    (StandsInPart-before old new (flat_map outputs (take (k + 1) targets)) (flat_map outputs (drop (k + 1) targets))
-    (subst (StandsInPart old new) (sym (outputs-next outputs targets k t below is))
-    (StandsInPart-behind old mid new (flat_map outputs (take k targets)) (outputs t) so part)))
+    subst (ArePrefixes old new) whole
+    (ArePrefixes-before old new (flat_map outputs (take (k + 1) targets)) (flat_map outputs (drop (k + 1) targets))
+    (subst (ArePrefixes old new) (sym (outputs-next outputs targets k t below is))
+    (ArePrefixes-behind old mid new (flat_map outputs (take k targets)) (outputs t) so part)))
   where
     whole : flat_map outputs (take (k + 1) targets) ++ flat_map outputs (drop (k + 1) targets) ≡ flat_map outputs targets
     whole =

@@ -15,11 +15,11 @@ use Rattle.cluster_reader.specs.ToldDamages.{ToldDamages, told_damages, with_dam
 use Rattle.cluster_reader.proofs.ToldDamagesLemmas.{with_damage-told}
 use Rattle.mkv_outputs.specs.Outputs.{Output}
 use Rattle.mkv_outputs.specs.Sinks.{AreOpen, HaveBeenGiven, WritesOutputs, holders_of, ids_of, names_under}
-use Rattle.mkv_outputs.specs.Starts.{AreBegun, StandsInPart}
+use Rattle.mkv_outputs.specs.Starts.{AreBegun, ArePrefixes}
 use Rattle.mkv_outputs.specs.declared.sink.Sink.{Sink}
 use Rattle.mkv_outputs.proofs.FilesLemmas.{AreOpen-kept}
 use Rattle.mkv_outputs.proofs.GivenLemmas.{HaveBeenGiven-part, holders_of-kept}
-use Rattle.mkv_outputs.proofs.StartsLemmas.{StandsInPart-then}
+use Rattle.mkv_outputs.proofs.StartsLemmas.{ArePrefixes-then}
 use Rattle.extractors.specs.BadFrames.{TellsMore, bad_frames, bad_in, told_of}
 use Rattle.extractors.specs.Content.{outputs_of}
 use Rattle.extractors.specs.declared.extracted.Extracted.{Extracted}
@@ -134,16 +134,16 @@ MetSoFar-damage f list a b sinks now numbers all left behind damages bad more la
     record { passed = so.passed; has = so.has; met = MetUpTo-damage all left behind so.passed damages more last d so.met is adds; told = so.told }
 
 -- what was given so far stands in part of all
-pub MetSoFar-begun : {S : Type 0} (f : writing.Ghosts S) (list : List TrackOutput) (a b : S) (sinks now : List Sink) (numbers : List ℕ) (all left : List Event) (damages bad : ToldDamages) → MetSoFar f list a b sinks now numbers all left damages bad → (since : Names) → HaveBeenGiven since (f.names a) (f.holder a) sinks (outputs_of list []) → StandsInPart since (f.names b) (outputs_of list (blocks_of all))
+pub MetSoFar-begun : {S : Type 0} (f : writing.Ghosts S) (list : List TrackOutput) (a b : S) (sinks now : List Sink) (numbers : List ℕ) (all left : List Event) (damages bad : ToldDamages) → MetSoFar f list a b sinks now numbers all left damages bad → (since : Names) → HaveBeenGiven since (f.names a) (f.holder a) sinks (outputs_of list []) → ArePrefixes since (f.names b) (outputs_of list (blocks_of all))
 MetSoFar-begun f list a b sinks now numbers all left damages bad so = λ since has.
-    StandsInPart-then since (f.names b) (outputs_of list so.passed) (outputs_of list (blocks_of all))
+    ArePrefixes-then since (f.names b) (outputs_of list so.passed) (outputs_of list (blocks_of all))
     (HaveBeenGiven-part since (f.names b) (f.holder b) now (outputs_of list so.passed) (so.has since has).given)
     (MetUpTo-begun list all left so.passed damages so.met)
 
 -- and so does a block that was refused
-pub MetSoFar-part : {S : Type 0} (f : writing.Ghosts S) (list : List TrackOutput) (a b c : S) (sinks now : List Sink) (numbers : List ℕ) (all left behind : List Event) (damages bad : ToldDamages) (given : Block) → MetSoFar f list a b sinks now numbers all left damages bad → left ≡ block given ∷ behind → ((since : Names) (blocks : List Block) → HaveBlocks f since list b now numbers blocks → StandsInPart since (f.names c) (outputs_of list (blocks ++ given ∷ []))) → (since : Names) → HaveBeenGiven since (f.names a) (f.holder a) sinks (outputs_of list []) → StandsInPart since (f.names c) (outputs_of list (blocks_of all))
+pub MetSoFar-part : {S : Type 0} (f : writing.Ghosts S) (list : List TrackOutput) (a b c : S) (sinks now : List Sink) (numbers : List ℕ) (all left behind : List Event) (damages bad : ToldDamages) (given : Block) → MetSoFar f list a b sinks now numbers all left damages bad → left ≡ block given ∷ behind → ((since : Names) (blocks : List Block) → HaveBlocks f since list b now numbers blocks → ArePrefixes since (f.names c) (outputs_of list (blocks ++ given ∷ []))) → (since : Names) → HaveBeenGiven since (f.names a) (f.holder a) sinks (outputs_of list []) → ArePrefixes since (f.names c) (outputs_of list (blocks_of all))
 MetSoFar-part f list a b c sinks now numbers all left behind damages bad given so is part = λ since has.
-    StandsInPart-then since (f.names c) (outputs_of list (so.passed ++ given ∷ [])) (outputs_of list (blocks_of all)) (part since so.passed (so.has since has))
+    ArePrefixes-then since (f.names c) (outputs_of list (so.passed ++ given ∷ [])) (outputs_of list (blocks_of all)) (part since so.passed (so.has since has))
     (MetUpTo-begun list all behind (so.passed ++ given ∷ []) damages (MetUpTo-block all left behind so.passed damages given so.met is))
 
 -- at the end all was given

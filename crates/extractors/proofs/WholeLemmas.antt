@@ -14,7 +14,7 @@ use Rattle.mkv_io.specs.declared.remux_end.RemuxEnd.{RemuxEnd}
 use Rattle.mkv_io.specs.declared.remux_end.RemuxEnd.TheVariants as remux_end
 use Rattle.mkv_io.proofs.EndsLemmas.{HasRemuxCause-then}
 use Rattle.mkv_outputs.specs.Sinks.{EndsOnly}
-use Rattle.mkv_outputs.specs.Starts.{StandsInPart}
+use Rattle.mkv_outputs.specs.Starts.{ArePrefixes}
 use Rattle.cues_seekhead.specs.Appending.{AppendsOnly, IsAppended}
 use Rattle.cues_seekhead.specs.Made.{MakesFile}
 use Rattle.cues_seekhead.proofs.AppendingLemmas.{cause-make}
@@ -31,7 +31,7 @@ written (Err end) before made now holder name octets is same some = begun-part b
 
 written-closed : {T E : Type 0} (result : Result T E) (before now later : Names) (name octets : List ℕ) → later ≡ now → AreWritten before now (output name octets ∷ []) result → AreWritten before later (output name octets ∷ []) result
 written-closed (Ok done) before now later name octets same all = same ∙ all
-written-closed (Err end) before now later name octets same some = subst (λ (names : Names). StandsInPart before names (output name octets ∷ [])) (sym same) some
+written-closed (Err end) before now later name octets same some = subst (λ (names : Names). ArePrefixes before names (output name octets ∷ [])) (sym same) some
 
 -- it was made, written and closed
 pub WritesFile-closed : {S T : Type 0} (r : Ghosts S) (f : writing.Ghosts S) (file : FileId) (name octets : List ℕ) (most : ℕ) (old made wrote new : S) (result : Result T RemuxEnd) → ((other : ℕ) → (live_files r old).live other ≡ true → other < f.given old) → MakesFile r f name file old made → f.names made ≡ with_content (f.names old) name [] → r.reading_faults made ≡ r.reading_faults old → f.writing_faults made ≡ f.writing_faults old → r.octets_read made ≡ r.octets_read old

@@ -13,8 +13,8 @@ use Rattle.elementary.specs.Aac.{IsAac, aac_of}
 use Rattle.extractors.specs.declared.frame_form.Coding.{Coding}
 use Rattle.extractors.specs.declared.frame_form.FrameForm.{FrameForm}
 use Rattle.extractors.specs.declared.frame_form.FrameForm.TheVariants as form
-use Rattle.extractors.specs.declared.frame_form.Unfit.{Unfit}
-use Rattle.extractors.specs.declared.frame_form.Unfit.TheVariants.{NoExtractor, BadConfig}
+use Rattle.extractors.specs.declared.frame_form.UnsupportedTrack.{UnsupportedTrack}
+use Rattle.extractors.specs.declared.frame_form.UnsupportedTrack.TheVariants.{NoExtractor, BadConfig}
 use Rattle.word_values.specs.declared.job.Form.{Form}
 use Rattle.word_values.specs.declared.job.Form.TheVariants as asked
 
@@ -34,17 +34,17 @@ abbrev pub aac_codec : List ℕ
 aac_codec = codes "A_AAC"
 
 -- the parameter sets, and then the units of the frames
-abbrev pub avc_coding : Option Avc → Result Coding Unfit
+abbrev pub avc_coding : Option Avc → Result Coding UnsupportedTrack
 avc_coding None = Err BadConfig
 avc_coding (Some avc) = Ok (record { head = byte_stream avc.sets; form = form.AnnexB avc.length_size })
 
 -- each frame behind its header
-abbrev pub aac_coding : Option Aac → Result Coding Unfit
+abbrev pub aac_coding : Option Aac → Result Coding UnsupportedTrack
 aac_coding None = Err BadConfig
 aac_coding (Some aac) = Ok (record { head = []; form = form.Adts aac })
 
 -- by the CodecID and the CodecPrivate of a track
-abbrev pub codec_coding : List ℕ → List ℕ → Result Coding Unfit
+abbrev pub codec_coding : List ℕ → List ℕ → Result Coding UnsupportedTrack
 codec_coding codec private =
     if bytes_eq codec subrip_codec then Ok (record { head = []; form = form.SubRip })
     else if bytes_eq codec avc_codec then avc_coding (avc_of private)
@@ -56,7 +56,7 @@ abbrev pub private_of : Node → List ℕ
 private_of entry = option_map_or body_of (first_child CODEC_PRIVATE entry) []
 
 -- what is taken of a track
-abbrev pub coding_of : Form → Node → Result Coding Unfit
+abbrev pub coding_of : Form → Node → Result Coding UnsupportedTrack
 coding_of asked.Raw entry = Ok (record { head = []; form = form.Plain })
 coding_of asked.Full entry = Ok (record { head = private_of entry; form = form.Plain })
 coding_of asked.ByCodec entry = codec_coding (codec_of entry) (private_of entry)

@@ -2,7 +2,7 @@
 -- their own standards.
 use Rattle.std.specs.Prelude.{ℕ, ◌+◌, min, List, [], ◌∷◌, ◌++◌, map, Option, Some, unwrap_or}
 use Rattle.mkv_io.specs.Faults.{last_count}
-use Rattle.srt_texts.specs.Writing.{put_srt}
+use Rattle.text_formats.specs.Writing.{put_srt}
 use Rattle.block_format.specs.Block.{Block}
 use Rattle.mkv_outputs.specs.Outputs.{Output}
 use Rattle.extractors.specs.Frames.{Frame, frames_of}

@@ -14,8 +14,8 @@ use Rattle.file_format.specs.Encoding.{prefix_of}
 use Rattle.extractors.specs.Codec.{coding_of}
 use Rattle.extractors.specs.declared.frame_form.Coding.{Coding}
 use Rattle.extractors.specs.declared.frame_form.Refusal.{Refusal}
-use Rattle.extractors.specs.declared.frame_form.Unfit.{Unfit}
-use Rattle.extractors.specs.declared.frame_form.Unfit.TheVariants.{NoExtractor, BadConfig}
+use Rattle.extractors.specs.declared.frame_form.UnsupportedTrack.{UnsupportedTrack}
+use Rattle.extractors.specs.declared.frame_form.UnsupportedTrack.TheVariants.{NoExtractor, BadConfig}
 use Rattle.extractors.specs.declared.track_output.TrackOutput.{TrackOutput}
 
 -- what a job writes of the frames of tracks; the other jobs take something else
@@ -56,7 +56,7 @@ pub record CanBeDone (job : Job) : Type 0 where
   pub numbers : AreNumbered job
 
 -- a track isn't taken so, for this reason
-abbrev pub is_unfit : Unfit → Result Coding Unfit → Bool
+abbrev pub is_unfit : UnsupportedTrack → Result Coding UnsupportedTrack → Bool
 is_unfit why (Ok coding) = false
 is_unfit NoExtractor (Err NoExtractor) = true
 is_unfit NoExtractor (Err BadConfig) = false
@@ -64,15 +64,15 @@ is_unfit BadConfig (Err NoExtractor) = false
 is_unfit BadConfig (Err BadConfig) = true
 
 -- a target names such a track
-abbrev pub names_unfit : Unfit → Form → List Node → Target → Bool
+abbrev pub names_unfit : UnsupportedTrack → Form → List Node → Target → Bool
 names_unfit why kind entries t = option_map_or (λ entry. is_unfit why (coding_of kind entry)) (slice_get entries t.id) false
 
 -- why the track of a target isn't taken so, if it isn't; one that isn't there is passed
-abbrev pub unfit_of : Form → List Node → Target → Option Unfit
+abbrev pub unfit_of : Form → List Node → Target → Option UnsupportedTrack
 unfit_of kind entries t = option_map_or (λ entry. result_err (coding_of kind entry)) (slice_get entries t.id) None
 
 -- the number, from 0, of the track of the first target, in the order of the words, that isn't taken so, for this reason
-abbrev pub first_unfit : Unfit → Form → List Target → List Node → Option ℕ
+abbrev pub first_unfit : UnsupportedTrack → Form → List Target → List Node → Option ℕ
 first_unfit why kind targets entries = option_map (λ (t : Target). t.id) (find (names_unfit why kind entries) targets)
 
 -- A codec without a form is told before a bad configuration.
@@ -93,7 +93,7 @@ output_with name entry coding = record {
 }
 
 -- it, if the track is taken so
-abbrev pub track_output : List ℕ → Node → Result Coding Unfit → List TrackOutput
+abbrev pub track_output : List ℕ → Node → Result Coding UnsupportedTrack → List TrackOutput
 track_output name entry (Err why) = []
 track_output name entry (Ok coding) = output_with name entry coding ∷ []
 

@@ -3,7 +3,7 @@ use Rattle.std.specs.Prelude.{◌≡◌, ℕ, List, Option, Some, None, Result, 
 use Rattle.mkv_schema.specs.declared.ids.TheConstants.{CUES}
 use Rattle.mkv_io.specs.declared.damage.Damage.{Damage}
 use Rattle.mkv_schema.specs.declared.element.Header.{Header}
-use Rattle.mkv_schema.specs.declared.limits.TheConstants.{MOST_OF_CUES}
+use Rattle.mkv_schema.specs.declared.limits.TheConstants.{MAX_CUES_LEN}
 use Rattle.mkv_schema.specs.Outline.{over, segment_run}
 use Rattle.mkv_io.specs.Results.{and_then, unless}
 use Rattle.mkv_schema.specs.Value.{body_of, first_of}
@@ -12,14 +12,14 @@ use Rattle.element_reader.specs.Outline.{FileOutline, outline_in}
 use Rattle.element_reader.specs.declared.outline_end.OutlineEnd.{OutlineEnd}
 use Rattle.meta_records.specs.Records.{ReadsAs}
 use Rattle.tree_format.specs.Reading.{tree_of}
-use Rattle.extractors.specs.declared.limits.TheConstants.{MOST_CUE_NODES}
+use Rattle.extractors.specs.declared.limits.TheConstants.{MAX_CUE_NODES}
 
 -- a Cues as a tree, if there is one; or that it is too large, or what is wrong inside
 abbrev pub cues_at : List ℕ → Option Header → Result (Option Node) Damage
 cues_at bytes None = Ok None
 cues_at bytes (Some h) =
-    and_then (unless (over MOST_OF_CUES h) (body_of bytes h)) (λ body.
-    and_then (tree_of CUES h.offset body h.body MOST_CUE_NODES) (λ tree. Ok (Some tree)))
+    and_then (unless (over MAX_CUES_LEN h) (body_of bytes h)) (λ body.
+    and_then (tree_of CUES h.offset body h.body MAX_CUE_NODES) (λ tree. Ok (Some tree)))
 
 -- the first Cues of level 1
 abbrev pub first_cues : List ℕ → Header → Result (Option Node) Damage

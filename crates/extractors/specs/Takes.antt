@@ -2,10 +2,10 @@
 use Rattle.std.specs.Prelude.{◌≡◌, ◌==◌, Bool, true, false, if◌then◌else◌, List, [], ◌∷◌}
 use Rattle.std.specs.List.{All, list_all}
 use Rattle.block_format.specs.Block.{Block}
-use Rattle.block_records.specs.Buffered.{Buffered, block_of}
+use Rattle.block_reader.specs.Buffered.{Buffered, block_of}
 use Rattle.cluster_reader.specs.Takes.{IsKnownByHead}
-use Rattle.cluster_reader.specs.declared.takes.Takes.{Takes}
-use Rattle.cluster_reader.specs.declared.takes.Takes.TheVariants as takes
+use Rattle.cluster_reader.specs.declared.filter.BlockFilter.{BlockFilter}
+use Rattle.cluster_reader.specs.declared.filter.BlockFilter.TheVariants as takes
 use Rattle.extractors.specs.declared.frame_form.FrameForm.{FrameForm}
 use Rattle.extractors.specs.declared.frame_form.FrameForm.TheVariants as form
 use Rattle.extractors.specs.declared.track_output.TrackOutput.{TrackOutput}
@@ -21,12 +21,12 @@ is_of_times (form.Adts aac) = false
 is_of_times form.Time = true
 
 -- the blocks of the track that all outputs take; where they take more than one all blocks
-abbrev pub of_one_track : List TrackOutput → Takes
+abbrev pub of_one_track : List TrackOutput → BlockFilter
 of_one_track [] = takes.All
 of_one_track (o ∷ others) = if list_all (λ (other : TrackOutput). other.track == o.track) others then takes.Track o.track else takes.All
 
 -- the blocks that outputs take: no frames, where each output has times alone
-abbrev pub takes_of : List TrackOutput → Takes
+abbrev pub takes_of : List TrackOutput → BlockFilter
 takes_of list = if list_all (λ (o : TrackOutput). is_of_times o.form) list then takes.Heads else of_one_track list
 
 -- ---- what is known of a block

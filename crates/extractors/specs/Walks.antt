@@ -1,6 +1,6 @@
 -- What is written on a walk over the blocks of a file.
 use Rattle.std.specs.Prelude.{◌≡◌, ◌≤◌, ◌<◌, ℕ, ◌+◌, ◌*◌, ◌^◌, List, [], ◌∷◌, ◌++◌, length, map, unwrap_or, Result, Ok, Err, IfOk}
-use Rattle.srt_texts.specs.Writing.{put_srt}
+use Rattle.text_formats.specs.Writing.{put_srt}
 use Rattle.mkv_io.specs.Names.{Names}
 use Rattle.mkv_io.specs.Sources.{IfTold, file_size}
 use Rattle.mkv_io.specs.declared.outside.FileId.{FileId}
@@ -13,13 +13,13 @@ use Rattle.elementary.specs.Aac.{adts}
 use Rattle.elementary.specs.declared.audio.Aac.{Aac}
 use Rattle.block_format.specs.Block.{Block}
 use Rattle.block_format.specs.Events.{blocks_of}
-use Rattle.block_records.specs.Buffered.{block_of}
+use Rattle.block_reader.specs.Buffered.{block_of}
 use Rattle.cluster_reader.specs.Reading.{Reading, left_of}
 use Rattle.cluster_reader.specs.Takes.{IsKnownByHead}
 use Rattle.cluster_reader.specs.ToldDamages.{ToldDamages}
 use Rattle.mkv_outputs.specs.Outputs.{Output, with_more}
 use Rattle.mkv_outputs.specs.Sinks.{AreOpen, Gives, HaveBeenGiven, ids_of, names_under}
-use Rattle.mkv_outputs.specs.Starts.{StandsInPart}
+use Rattle.mkv_outputs.specs.Starts.{ArePrefixes}
 use Rattle.mkv_outputs.specs.declared.sink.Sink.{Sink}
 use Rattle.extractors.specs.BadFrames.{TellsMore, bad_in, told_of}
 use Rattle.extractors.specs.Content.{counted, entries_from, entry_of, outputs_of}
@@ -118,7 +118,7 @@ pub record HaveBlocks {S : Type 0} (f : writing.Ghosts S) (since : Names) (list 
 -- in part.
 abbrev pub WritesBlock : {S T E : Type 0} → writing.Ghosts S → List TrackOutput → S → S → List Sink → List Sink → List ℕ → List ℕ → Block → Result T E → Type 0
 WritesBlock f list old new sinks later before after b (Ok _) = (since : Names) (blocks : List Block) → HaveBlocks f since list old sinks before blocks → HaveBlocks f since list new later after (blocks ++ b ∷ [])
-WritesBlock f list old new sinks later before after b (Err _) = (since : Names) (blocks : List Block) → HaveBlocks f since list old sinks before blocks → StandsInPart since (f.names new) (outputs_of list (blocks ++ b ∷ []))
+WritesBlock f list old new sinks later before after b (Err _) = (since : Names) (blocks : List Block) → HaveBlocks f since list old sinks before blocks → ArePrefixes since (f.names new) (outputs_of list (blocks ++ b ∷ []))
 
 -- All outputs have been given a block of which a cursor lends enough.
 abbrev pub GivesLent : {S T E : Type 0} → writing.Ghosts S → List TrackOutput → Reading → S → S → List Sink → List Sink → List ℕ → List ℕ → Result T E → Type 0
@@ -127,12 +127,12 @@ GivesLent f list c old new sinks later before after result = (b : Block) → IsE
 -- Outputs that were given no block yet have then been given all these. After a refusal that stands in part.
 abbrev pub GivesBlocks : {S T E : Type 0} → writing.Ghosts S → List TrackOutput → S → S → List Sink → List Sink → List Block → Result T E → Type 0
 GivesBlocks f list old new sinks later all (Ok _) = (since : Names) → HaveBeenGiven since (f.names old) (f.holder old) sinks (outputs_of list []) → HaveBeenGiven since (f.names new) (f.holder new) later (outputs_of list all)
-GivesBlocks f list old new sinks later all (Err _) = (since : Names) → HaveBeenGiven since (f.names old) (f.holder old) sinks (outputs_of list []) → StandsInPart since (f.names new) (outputs_of list all)
+GivesBlocks f list old new sinks later all (Err _) = (since : Names) → HaveBeenGiven since (f.names old) (f.holder old) sinks (outputs_of list []) → ArePrefixes since (f.names new) (outputs_of list all)
 
 -- Outputs were made and given these octets, or after a refusal stand in part.
 abbrev pub MakesOutputs : {S T E : Type 0} → writing.Ghosts S → S → S → List Sink → List Output → Result T E → Type 0
 MakesOutputs f old new later given (Ok _) = HaveBeenGiven (f.names old) (f.names new) (f.holder new) later given
-MakesOutputs f old new later given (Err _) = StandsInPart (f.names old) (f.names new) given
+MakesOutputs f old new later given (Err _) = ArePrefixes (f.names old) (f.names new) given
 
 -- Outputs are written while another file is read: their files are the same and stay open, and the live files of all
 -- other names stay.

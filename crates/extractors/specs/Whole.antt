@@ -10,7 +10,7 @@ use Rattle.mkv_io.specs.declared.files.Files as writing
 use Rattle.mkv_io.specs.Ends.{HasRemuxCause}
 use Rattle.mkv_io.specs.declared.remux_end.RemuxEnd.{RemuxEnd}
 use Rattle.mkv_outputs.specs.Outputs.{Output, with_outputs}
-use Rattle.mkv_outputs.specs.Starts.{StandsInPart}
+use Rattle.mkv_outputs.specs.Starts.{ArePrefixes}
 
 -- an output of a name, with these octets
 abbrev pub output : List ℕ → List ℕ → Output
@@ -23,7 +23,7 @@ octets_in r files file at len = octets_told ((live_files r files).content file.n
 -- Outputs stand whole, or after a refusal in part, and no other name has changed.
 abbrev pub AreWritten : {T E : Type 0} → Names → Names → List Output → Result T E → Type 0
 AreWritten old new outputs (Ok _) = new ≡ with_outputs old outputs
-AreWritten old new outputs (Err _) = StandsInPart old new outputs
+AreWritten old new outputs (Err _) = ArePrefixes old new outputs
 
 -- A file of this name was made with these octets, and closed: no other name is written, and which files are live is as
 -- before. At most so many octets are read.

@@ -3,7 +3,7 @@
 ghost use Rattle.std.specs.Prelude.{◌≡◌, ◌++◌, ◌==◌, if◌then◌else◌, IfOk, OnOk, Some, is_none};
 ghost use Rattle.std.specs.List.{All, find};
 ghost use Rattle.std.specs.Option.{option_copied};
-ghost use Rattle.block_records.specs.Buffered.{block_of};
+ghost use Rattle.block_reader.specs.Buffered.{block_of};
 ghost use Rattle.cluster_reader.specs.ToldDamages.{with_damage};
 ghost use Rattle.elementary.specs.Avc.{IsLengthSize, annex_b};
 ghost use Rattle.extractors.specs.BadFrames.{TellsMore, bad_for, bad_frame, is_bad};

@@ -7,7 +7,7 @@ ghost use Rattle.elementary.specs.Avc.{avc_of};
 ghost use Rattle.elementary.specs.Aac.{aac_of};
 ghost use Rattle.extractors.specs.Codec.{aac_coding, avc_coding, codec_coding, coding_of, private_of};
 
-use crate::frame_form::{Coding, FrameForm, Unfit};
+use crate::frame_form::{Coding, FrameForm, UnsupportedTrack};
 use elementary::{ConfigEnd, put_sets, read_aac, read_avc};
 use mkv_io::Bytes;
 use mkv_schema::ids::CODEC_PRIVATE;
@@ -23,7 +23,7 @@ pub fn coding_of(
     alloc: Global,
     form: Form,
     track: &Track,
-) -> Result<Result<Coding, Unfit>, AllocError>
+) -> Result<Result<Coding, UnsupportedTrack>, AllocError>
     requires { track.now ≡ track_of track.now.entry }
     ensures { IfOk result (λ read. read ≡ coding_of form track.now.entry) }
 {
@@ -37,7 +37,10 @@ pub fn coding_of(
 }
 
 /// What its codec has.
-fn codec_coding(alloc: Global, track: &Track) -> Result<Result<Coding, Unfit>, AllocError>
+fn codec_coding(
+    alloc: Global,
+    track: &Track,
+) -> Result<Result<Coding, UnsupportedTrack>, AllocError>
     requires { track.now ≡ track_of track.now.entry }
     ensures { IfOk result (λ read. read ≡ codec_coding (codec_of track.now.entry) (private_of track.now.entry)) }
 {
@@ -53,17 +56,17 @@ fn codec_coding(alloc: Global, track: &Track) -> Result<Result<Coding, Unfit>, A
     } else if codec == "A_AAC" {
         Ok(aac_coding(alloc, private_of(track)))
     } else {
-        Ok(Err(Unfit::NoExtractor))
+        Ok(Err(UnsupportedTrack::NoExtractor))
     }
 }
 
 /// The parameter sets, and then the units of the frames.
-fn avc_coding(alloc: Global, private: &[u8]) -> Result<Result<Coding, Unfit>, AllocError>
+fn avc_coding(alloc: Global, private: &[u8]) -> Result<Result<Coding, UnsupportedTrack>, AllocError>
     ensures { IfOk result (λ read. read ≡ avc_coding (avc_of private.now)) }
 {
     let avc = match read_avc(alloc, private) {
         Ok(avc) => avc,
-        Err(ConfigEnd::Bad) => return Ok(Err(Unfit::BadConfig)),
+        Err(ConfigEnd::Bad) => return Ok(Err(UnsupportedTrack::BadConfig)),
         Err(ConfigEnd::Memory) => return Err(AllocError),
     };
     let mut head = Bytes::new(alloc);
@@ -77,7 +80,7 @@ fn avc_coding(alloc: Global, private: &[u8]) -> Result<Result<Coding, Unfit>, Al
 }
 
 /// Each frame behind its header.
-fn aac_coding(alloc: Global, private: &[u8]) -> Result<Coding, Unfit>
+fn aac_coding(alloc: Global, private: &[u8]) -> Result<Coding, UnsupportedTrack>
     ensures { result ≡ aac_coding (aac_of private.now) }
 {
     match read_aac(private) {
@@ -85,7 +88,7 @@ fn aac_coding(alloc: Global, private: &[u8]) -> Result<Coding, Unfit>
             head: Bytes::new(alloc),
             form: FrameForm::Adts { aac },
         }),
-        None => Err(Unfit::BadConfig),
+        None => Err(UnsupportedTrack::BadConfig),
     }
 }
 

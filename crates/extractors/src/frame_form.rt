@@ -27,7 +27,7 @@ pub struct Coding {
 
 /// Why the frames of a track aren't taken in the form of its codec.
 #[derive(Clone, Copy, Debug, PartialEq, Eq)]
-pub enum Unfit {
+pub enum UnsupportedTrack {
     /// No form is known for the codec.
     NoExtractor,
     /// The codec's form needs a configuration, and the track has none or a bad one.
@@ -37,6 +37,6 @@ pub enum Unfit {
 /// Why a job is refused for the track of this number, from 0.
 #[derive(Clone, Copy, Debug, PartialEq, Eq)]
 pub struct Refusal {
-    pub why: Unfit,
+    pub why: UnsupportedTrack,
     pub track: u64,
 }

@@ -17,8 +17,8 @@ use cluster_reader::Cursor;
 use elementary::{Aac, LONGEST_FRAME, START_CODE, adts_header, is_join, unit_at};
 use mkv_io::{Bytes, Files, MakeFault};
 use mkv_outputs::Outputs;
-use srt_texts::put_srt;
 use std::alloc::{AllocError, Global};
+use text_formats::put_srt;
 
 /// A frame that is given to an output.
 #[derive(Clone, Copy)]

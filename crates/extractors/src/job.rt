@@ -8,7 +8,7 @@ ghost use Rattle.meta_records.specs.Records.{AreRead};
 ghost use Rattle.extractors.specs.Source.{AreUsableOf, IsUsable, entry_in};
 
 use crate::coding::{bytes_of, coding_of};
-use crate::frame_form::{Coding, Refusal, Unfit};
+use crate::frame_form::{Coding, Refusal, UnsupportedTrack};
 use crate::track_output::TrackOutput;
 use mkv_io::{List, Text};
 use std::alloc::{AllocError, Global};
@@ -116,8 +116,8 @@ fn first_refusal(
         let unfit = unfit_of(alloc, form, target, tracks)?;
         match unfit {
             None => {}
-            Some(Unfit::BadConfig) => bad_config = bad_config.or(Some(target.id)),
-            Some(Unfit::NoExtractor) => return Ok(refusal_of(Some(target.id), None)),
+            Some(UnsupportedTrack::BadConfig) => bad_config = bad_config.or(Some(target.id)),
+            Some(UnsupportedTrack::NoExtractor) => return Ok(refusal_of(Some(target.id), None)),
         }
     }
     Ok(refusal_of(None, bad_config))
@@ -129,11 +129,11 @@ fn refusal_of(no_extractor: Option<u64>, bad_config: Option<u64>) -> Option<Refu
 {
     match (no_extractor, bad_config) {
         (Some(track), _) => Some(Refusal {
-            why: Unfit::NoExtractor,
+            why: UnsupportedTrack::NoExtractor,
             track,
         }),
         (None, Some(track)) => Some(Refusal {
-            why: Unfit::BadConfig,
+            why: UnsupportedTrack::BadConfig,
             track,
         }),
         (None, None) => None,
@@ -146,7 +146,7 @@ fn unfit_of(
     form: Form,
     target: &Target,
     tracks: &[Track],
-) -> Result<Option<Unfit>, AllocError>
+) -> Result<Option<UnsupportedTrack>, AllocError>
     requires { AreRead tracks.now }
     ensures { IfOk result (λ unfit. unfit ≡ unfit_of form (map entry_in tracks.now) target.now) }
 {

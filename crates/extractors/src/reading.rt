@@ -9,7 +9,7 @@ ghost use Rattle.tree_format.specs.Standing.{IsSoundOf};
 ghost use Rattle.element_reader.specs.Outline.{is_outline_fault};
 ghost use Rattle.extractors.specs.Reading.{ReadsFirstCues};
 
-use crate::limits::MOST_CUE_NODES;
+use crate::limits::MAX_CUE_NODES;
 use ebml_tree::{Tree, TreeEnd};
 use element_reader::{LoadEnd, Outline, OutlineEnd, load};
 use mkv_io::{FileId, Reads};
@@ -47,7 +47,7 @@ pub fn first_cues<R: Reads>(
         header.offset,
         body.as_slice(),
         header.body,
-        MOST_CUE_NODES,
+        MAX_CUE_NODES,
     ) {
         Ok(tree) => Ok(Some(tree)),
         Err(TreeEnd::Damage(damage)) => Err(OutlineEnd::Refused(damage)),

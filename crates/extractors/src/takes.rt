@@ -7,7 +7,7 @@ ghost use Rattle.extractors.specs.declared.track_output.TrackOutput.{TrackOutput
 
 use crate::frame_form::FrameForm;
 use crate::track_output::TrackOutput;
-use cluster_reader::Takes;
+use cluster_reader::BlockFilter;
 
 /// Whether times alone are written of frames, and not their octets.
 fn is_of_times(form: &FrameForm) -> bool
@@ -35,25 +35,25 @@ fn are_of_track(list: &[TrackOutput], track: u64) -> bool
 }
 
 /// The blocks of the track that all outputs take; where they take more than one, all blocks.
-fn of_one_track(list: &[TrackOutput]) -> Takes
+fn of_one_track(list: &[TrackOutput]) -> BlockFilter
     ensures { result ≡ of_one_track list.now }
 {
     let Some((first, others)) = list.split_first() else {
-        return Takes::All;
+        return BlockFilter::All;
     };
     if are_of_track(others, first.track) {
-        Takes::Track(first.track)
+        BlockFilter::Track(first.track)
     } else {
-        Takes::All
+        BlockFilter::All
     }
 }
 
 /// The blocks that outputs take: no frames, where each output has times alone.
-pub fn takes_of(list: &[TrackOutput]) -> Takes
+pub fn takes_of(list: &[TrackOutput]) -> BlockFilter
     ensures { result ≡ takes_of list.now }
 {
     if are_of_times(list) {
-        Takes::Heads
+        BlockFilter::Heads
     } else {
         of_one_track(list)
     }

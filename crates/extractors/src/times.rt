@@ -2,7 +2,7 @@
 
 ghost use Rattle.std.specs.Prelude.{◌≡◌, ◌++◌, ◌<◌, ◌*◌, ◌^◌, pos, ◌+ℤ◌, OnOk};
 ghost use Rattle.std.specs.String.{string_bytes};
-ghost use Rattle.block_records.specs.Time.{IsSmallTime};
+ghost use Rattle.block_reader.specs.Time.{IsSmallTime};
 ghost use Rattle.extractors.specs.Times.{time_line};
 
 use cluster_reader::BlockHead;

@@ -11,7 +11,7 @@ use Rattle.mkv_schema.specs.declared.element.Header.{Header}
 use Rattle.mkv_schema.specs.Element.{damage}
 use Rattle.mkv_schema.specs.Outline.{where_it}
 use Rattle.mkv_schema.specs.Value.{body_of}
-use Rattle.tree_format.specs.declared.limits.TheConstants.{MOST_NODES}
+use Rattle.tree_format.specs.declared.limits.TheConstants.{MAX_NODES}
 use Rattle.tree_format.specs.Node.{Node, offset_of}
 use Rattle.tree_format.specs.Values.{first_child, integer_of, HasUint}
 use Rattle.tree_format.proofs.OrderLemmas.{tree_of-without_limits}
@@ -61,7 +61,7 @@ file_scale-some bytes segment h info first tree = rw first (ap scale_in tree)
 -- ---- without a reader's limits
 
 tree-same : (bytes : List ℕ) (h : Header) (read : Result Node Damage) → info_tree bytes h ≡ read → IsOk read → scale_in (info_without_limits bytes h) ≡ scale_in read
-tree-same bytes h (Ok info) is ok = ap scale_in (tree_of-without_limits h.id h.offset (body_of bytes h) h.body MOST_NODES info is)
+tree-same bytes h (Ok info) is ok = ap scale_in (tree_of-without_limits h.id h.offset (body_of bytes h) h.body MAX_NODES info is)
 tree-same bytes h (Err d) is ok = absurd (cc)
 
 scale-same : (bytes : List ℕ) (first : Option Header) → IfSome first (λ h. IsOk (info_tree bytes h)) → scale_at (info_without_limits bytes) first ≡ scale_at (info_tree bytes) first

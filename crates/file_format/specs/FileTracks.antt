@@ -6,7 +6,7 @@ use Rattle.mkv_schema.specs.declared.element.Header.{Header}
 use Rattle.mkv_schema.specs.Outline.{segment_run}
 use Rattle.mkv_io.specs.Results.{and_then, unless}
 use Rattle.mkv_schema.specs.Value.{body_of, first_of}
-use Rattle.tree_format.specs.declared.limits.TheConstants.{MOST_NODES}
+use Rattle.tree_format.specs.declared.limits.TheConstants.{MAX_NODES}
 use Rattle.tree_format.specs.Node.{Node}
 use Rattle.tree_format.specs.Reading.{tree_of}
 use Rattle.tree_format.specs.Order.{tree_without_limits}
@@ -15,7 +15,7 @@ use Rattle.file_format.specs.Refusal.{refusal_of}
 
 -- a Tracks Element of a content as a tree, or the first damage inside: with a reader's limits, and without them
 abbrev pub tracks_tree : List ℕ → Header → Result Node Damage
-tracks_tree bytes h = tree_of h.id h.offset (body_of bytes h) h.body MOST_NODES
+tracks_tree bytes h = tree_of h.id h.offset (body_of bytes h) h.body MAX_NODES
 
 abbrev pub tracks_without_limits : List ℕ → Header → Result Node Damage
 tracks_without_limits bytes h = tree_without_limits h.id h.offset (body_of bytes h) h.body

@@ -7,7 +7,7 @@ use Rattle.mkv_schema.specs.declared.element.Header.{Header}
 use Rattle.mkv_schema.specs.Outline.{segment_run}
 use Rattle.mkv_schema.specs.Value.{body_of, first_of}
 use Rattle.tree_format.specs.Node.{Node}
-use Rattle.tree_format.specs.declared.limits.TheConstants.{MOST_NODES}
+use Rattle.tree_format.specs.declared.limits.TheConstants.{MAX_NODES}
 use Rattle.tree_format.specs.Reading.{tree_of}
 use Rattle.tree_format.specs.Order.{tree_without_limits}
 use Rattle.tree_format.specs.Values.{integer_of, uint_in, failing_child}
@@ -31,7 +31,7 @@ first_info bytes segment = first_of INFO (segment_run bytes segment).list
 
 -- an Info of a content as a tree, or the first damage inside: with a reader's limits, and without them
 abbrev pub info_tree : List ℕ → Header → Result Node Damage
-info_tree bytes h = tree_of h.id h.offset (body_of bytes h) h.body MOST_NODES
+info_tree bytes h = tree_of h.id h.offset (body_of bytes h) h.body MAX_NODES
 
 abbrev pub info_without_limits : List ℕ → Header → Result Node Damage
 info_without_limits bytes h = tree_without_limits h.id h.offset (body_of bytes h) h.body

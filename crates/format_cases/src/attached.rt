@@ -5,7 +5,7 @@ ghost use Rattle.mkv_io.specs.Sources.{IsLive};
 use crate::{tell_damage, tell_octets};
 use ebml_numbers::Size;
 use ebml_tree::Tree;
-use meta_records::{AttachmentsEnd, read_attachments};
+use meta_records::{MetaEnd, read_attachments};
 use mkv_io::{Bytes, FileId, Reads};
 use mkv_schema::Header;
 use mkv_schema::ids::ATTACHMENTS;
@@ -38,11 +38,11 @@ pub fn tell<R: Reads>(
     }
 }
 
-fn tell_end(end: AttachmentsEnd, text: &mut String) -> Result<(), AllocError> {
+fn tell_end(end: MetaEnd, text: &mut String) -> Result<(), AllocError> {
     match end {
-        AttachmentsEnd::Refused(damage) => tell_damage(damage, text),
-        AttachmentsEnd::ReadFault => text.push_str("  fault\n"),
-        AttachmentsEnd::Memory => text.push_str("  memory\n"),
+        MetaEnd::Refused(damage) => tell_damage(damage, text),
+        MetaEnd::ReadFault => text.push_str("  fault\n"),
+        MetaEnd::Memory => text.push_str("  memory\n"),
     }
 }
 

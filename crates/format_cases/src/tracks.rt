@@ -18,13 +18,13 @@ use std::fmt::Write;
 use track_records::{Track, read_tracks, usable};
 
 /// The most octets of a body here.
-const MOST: usize = 1000;
+const MAX_ITEMS: usize = 1000;
 
 /// The tree of a master of an ID.
 fn master_of(alloc: Global, id: u32, body: &[u8]) -> Result<Tree, TreeEnd>
     ensures { IfOk result (IsSoundOf id) }
 {
-    if !is_master(id) || body.len() > MOST {
+    if !is_master(id) || body.len() > MAX_ITEMS {
         return Err(TreeEnd::Memory);
     }
     Tree::parse(alloc, id, 21, body, 26, 99)

@@ -13,13 +13,13 @@ use std::alloc::{AllocError, Global};
 use std::fmt::Write;
 
 /// The most octets of a body here.
-const MOST: usize = 1000;
+const MAX_ITEMS: usize = 1000;
 
 /// The tree of a master whose header stands at 95, and its body at the place `base`.
 fn master_of(alloc: Global, id: u32, base: u8, body: &[u8], nodes: u32) -> Result<Tree, TreeEnd>
     ensures { IfOk result IsMaster }
 {
-    if !is_master(id) || body.len() > MOST {
+    if !is_master(id) || body.len() > MAX_ITEMS {
         return Err(TreeEnd::Memory);
     }
     Tree::parse(alloc, id, 95, body, u64::from(base), nodes)

@@ -3,7 +3,7 @@ use Rattle.std.proofs.Common.{◌≡◌, ◌≢◌, ℕ, suc, zero, ◌<◌, ◌
 use Rattle.std.proofs.lemmas.List.Elements.{All-push}
 use Rattle.std.proofs.lemmas.List.Quantifiers.{all_pairs_push}
 use Rattle.mkv_io.specs.declared.outside.FileId.{FileId}
-use Rattle.mkv_io.specs.Asked.{AsksOnly, IsBesides}
+use Rattle.mkv_io.specs.Asked.{AsksOnly, IsNotAmong}
 use Rattle.mkv_io.specs.LiveFiles.{IsSameFile, KeepsFiles, KeepsHolders}
 use Rattle.mkv_io.specs.Names.{AreOthers}
 use Rattle.mkv_io.specs.Sources.{live_files}
@@ -17,7 +17,7 @@ use Rattle.mkv_outputs.specs.Sinks.{IsNoneOf, holders_of}
 use Rattle.mkv_outputs.proofs.FilesLemmas.{AreLive-below, AreLive-on, IsNoneOf-below, is_ended}
 use Rattle.mkv_outputs.proofs.GivenLemmas.{holders_of-kept}
 use Rattle.input_files.specs.Inputs.{OpensInputs}
-use Rattle.input_files.specs.Laws.{EndAsBegun, StandOverWrites}
+use Rattle.input_files.specs.Laws.{EndAsBegun, AreUnaffectedByWrites}
 
 -- The numbers of live files were given to them.
 abbrev pub AreNumbered : {S : Type 0} → Ghosts S → writing.Ghosts S → Type 0
@@ -71,7 +71,7 @@ OpensInputs-more r f names name a b c ids file numbered first next = record {
   holders = λ other live. next.holders other (stays other live) ∙ first.holders other live;
   others = λ other live. IsSameFile-twice (live_files r a) (live_files r b) (live_files r c) other (first.others other live)
       (next.others other (numbered b other (stays other live)));
-  asks = asks-both (IsBesides (names ++ name ∷ []) []) (f.asked a) (f.asked b) (f.asked c)
+  asks = asks-both (IsNotAmong (names ++ name ∷ []) []) (f.asked a) (f.asked b) (f.asked c)
       (asks-more names [] (names ++ name ∷ []) [] (f.asked a) (f.asked b) (λ other others. others-front other names (name ∷ []) others) (λ other others. others) first.asks)
       (asks-more (name ∷ []) [] (names ++ name ∷ []) [] (f.asked b) (f.asked c) (λ other others. others-behind other names (name ∷ []) others) (λ other others. others) next.asks);
 }
@@ -96,7 +96,7 @@ UsesOnly-unopened r f name old new stands given holders asks = record {
 
 -- ---- they stand over what is written
 
-pub stand-over : {S : Type 0} (r : Ghosts S) (f : writing.Ghosts S) → StandOverWrites r f
+pub stand-over : {S : Type 0} (r : Ghosts S) (f : writing.Ghosts S) → AreUnaffectedByWrites r f
 stand-over r f names written old new ids are kept = record {
   inputs = record {
     live = AreLive-on (live_files r old).live (live_files r new).live ids are.live kept.live;
@@ -118,11 +118,11 @@ end-as-begun r f numbered names uses written start opened done end ids opens kep
     size = λ live. (same file other live).size live;
     content = λ live. (same file other live).content live;
   };
-  asks = asks-both (IsBesides (names ++ uses) written) (f.asked start) (f.asked opened) (f.asked end)
+  asks = asks-both (IsNotAmong (names ++ uses) written) (f.asked start) (f.asked opened) (f.asked end)
       (asks-more names [] (names ++ uses) written (f.asked start) (f.asked opened) (λ name others. others-front name names uses others) (λ name others. tt) opens.asks)
-      (asks-both (IsBesides (names ++ uses) written) (f.asked opened) (f.asked done) (f.asked end)
+      (asks-both (IsNotAmong (names ++ uses) written) (f.asked opened) (f.asked done) (f.asked end)
       (asks-more uses written (names ++ uses) written (f.asked opened) (f.asked done) (λ name others. others-behind name names uses others) (λ name others. others) kept.asks)
-      (asks-none (IsBesides (names ++ uses) written) (f.asked done) (f.asked end) ends.asked));
+      (asks-none (IsNotAmong (names ++ uses) written) (f.asked done) (f.asked end) ends.asked));
 }
   where
     -- a file that was live before is none of them

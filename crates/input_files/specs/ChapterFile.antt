@@ -4,7 +4,7 @@ use Rattle.mkv_schema.specs.declared.ids.TheConstants.{CHAPTERS}
 use Rattle.tree_format.specs.Node.{Node}
 use Rattle.ebml_tree.specs.Building.{IsRead}
 use Rattle.input_files.specs.TextFile.{chapter_text, octets_within}
-use Rattle.input_files.specs.declared.limits.TheConstants.{MOST_OF_CHAPTERS}
+use Rattle.input_files.specs.declared.limits.TheConstants.{MAX_CHAPTERS_LEN}
 use Rattle.input_files.specs.declared.refusal.TextRefusal.{TextRefusal}
 use Rattle.input_files.specs.declared.chapter_file.ChapterFile.{ChapterFile}
 use Rattle.input_files.specs.declared.chapter_file.ChapterFile.TheVariants.{Absent, Missing, Refused, Read}
@@ -27,7 +27,7 @@ chapter_file world (Some name) = file_with (world name)
 -- how many octets are read of it
 abbrev pub octets_with : Option (List ℕ) → ℕ
 octets_with None = 0
-octets_with (Some bytes) = octets_within MOST_OF_CHAPTERS (length bytes)
+octets_with (Some bytes) = octets_within MAX_CHAPTERS_LEN (length bytes)
 
 abbrev pub chapter_octets : (List ℕ → Option (List ℕ)) → Option (List ℕ) → ℕ
 chapter_octets world None = 0

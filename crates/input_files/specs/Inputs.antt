@@ -14,7 +14,7 @@ use Rattle.merge_words.specs.declared.files.FileWords.{FileWords}
 use Rattle.mkv_outputs.specs.Sinks.{AreLive, AreRising, IsNoneOf, holders_of}
 use Rattle.input_files.specs.declared.inputs_end.InputsEnd.{InputsEnd}
 use Rattle.input_files.specs.declared.inputs_end.InputsEnd.TheVariants as inputs_end
-use Rattle.mkv_io.specs.Told.{Told}
+use Rattle.mkv_io.specs.Told.{IfVisible}
 use Rattle.mkv_io.specs.Writing.{IfByNames}
 
 -- the names of the inputs, in the order of the words
@@ -85,4 +85,4 @@ is_inputs_fault inputs_end.Memory = false
 
 -- Where contents are told, these files have those of the inputs' names.
 abbrev pub HaveContents : {S : Type 0} → Ghosts S → writing.Ghosts S → List FileWords → S → S → List FileId → Type 0
-HaveContents r f words old new ids = Told (f.names old) (λ world. contents_of (live_files r new).content ids ≡ map world (file_names words))
+HaveContents r f words old new ids = IfVisible (f.names old) (λ world. contents_of (live_files r new).content ids ≡ map world (file_names words))

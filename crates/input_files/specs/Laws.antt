@@ -18,8 +18,8 @@ pub record StandsOver {S : Type 0} (r : Ghosts S) (f : writing.Ghosts S) (names 
   pub same : All (λ (s : FileId). AreOthers (f.holder old s.n) written → IsSameFile (live_files r old) (live_files r new) s.n) ids
 
 -- Input files stand over what is written under other names.
-abbrev pub StandOverWrites : {S : Type 0} → Ghosts S → writing.Ghosts S → Type 0
-StandOverWrites {S} r f = (names written : List (List ℕ)) (old new : S) (ids : List FileId)
+abbrev pub AreUnaffectedByWrites : {S : Type 0} → Ghosts S → writing.Ghosts S → Type 0
+AreUnaffectedByWrites {S} r f = (names written : List (List ℕ)) (old new : S) (ids : List FileId)
     → AreInputs r f names old ids → KeepsOthers r f written old new → StandsOver r f names written old new ids
 
 -- Where input files were opened, only names among these were then opened or written, and the input files were closed at

@@ -2,11 +2,11 @@
 use Rattle.std.specs.Prelude.{◌≡◌, ⊤, ℕ, nat_lt, Bool, true, false, if◌then◌else◌, List, length, Result, Ok, Err}
 use Rattle.tree_format.specs.Node.{Node}
 use Rattle.mkv_io.specs.declared.entry.Entry.{Entry}
-use Rattle.srt_texts.specs.declared.end.TextEnd.{TextEnd}
-use Rattle.srt_texts.specs.declared.end.TextEnd.TheVariants as text_end
-use Rattle.srt_texts.specs.Srt.{srt}
+use Rattle.text_formats.specs.declared.end.TextEnd.{TextEnd}
+use Rattle.text_formats.specs.declared.end.TextEnd.TheVariants as text_end
+use Rattle.text_formats.specs.Srt.{srt}
 use Rattle.srt_chapters.specs.Chapters.{simple_chapters}
-use Rattle.input_files.specs.declared.limits.TheConstants.{MOST_OF_CHAPTERS, MOST_OF_SRT}
+use Rattle.input_files.specs.declared.limits.TheConstants.{MAX_CHAPTERS_LEN, MAX_SRT_LEN}
 use Rattle.input_files.specs.declared.refusal.TextFileEnd.{TextFileEnd}
 use Rattle.input_files.specs.declared.refusal.TextFileEnd.TheVariants.{Refused, ReadFault, Memory}
 use Rattle.input_files.specs.declared.refusal.TextRefusal.{TextRefusal}
@@ -25,10 +25,10 @@ text_file most grammar bytes = if nat_lt most (length bytes) then Err TooLarge e
 
 -- a file of SubRip, and one of simple chapters
 abbrev pub srt_text : List ℕ → Result (List Entry) TextRefusal
-srt_text bytes = text_file MOST_OF_SRT srt bytes
+srt_text bytes = text_file MAX_SRT_LEN srt bytes
 
 abbrev pub chapter_text : List ℕ → Result Node TextRefusal
-chapter_text bytes = text_file MOST_OF_CHAPTERS simple_chapters bytes
+chapter_text bytes = text_file MAX_CHAPTERS_LEN simple_chapters bytes
 
 -- ---- what a reader answers
 

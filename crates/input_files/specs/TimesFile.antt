@@ -3,7 +3,7 @@ use Rattle.std.specs.Prelude.{ℕ, suc, ◌-◌, min, List, [], ◌∷◌, ◌++
 use Rattle.ext_times.specs.Listing.{Listing, listing}
 use Rattle.merge_words.specs.declared.files.FileWords.{FileWords}
 use Rattle.input_files.specs.TextFile.{octets_within, text_file}
-use Rattle.input_files.specs.declared.limits.TheConstants.{MOST_OF_ALL_TIMES, MOST_OF_TIMES}
+use Rattle.input_files.specs.declared.limits.TheConstants.{MAX_ALL_TIMES_LEN, MAX_TIMES_LEN}
 use Rattle.input_files.specs.declared.refusal.TextRefusal.{TextRefusal}
 use Rattle.input_files.specs.declared.times_file.TimesFile.{TimesFile}
 use Rattle.input_files.specs.declared.times_file.TimesGiven.{TimesGiven}
@@ -39,7 +39,7 @@ given_by (Err why) = Refused why
 -- what the file of a name gives, by its content, if it has one, where the file and those behind it may have so many octets
 abbrev pub given_with : ℕ → Option (List ℕ) → TimesGiven
 given_with room None = Missing
-given_with room (Some bytes) = given_by (text_file (min room MOST_OF_TIMES) listing bytes)
+given_with room (Some bytes) = given_by (text_file (min room MAX_TIMES_LEN) listing bytes)
 
 abbrev pub size_with : Option (List ℕ) → ℕ
 size_with None = 0
@@ -53,14 +53,14 @@ times_from world room (n ∷ ns) =
 
 -- what those give in a world of names that the words of a merge name
 abbrev pub times_files : (List ℕ → Option (List ℕ)) → List FileWords → List TimesFile
-times_files world words = times_from world MOST_OF_ALL_TIMES (times_named words)
+times_files world words = times_from world MAX_ALL_TIMES_LEN (times_named words)
 
 -- ---- how much is read
 
 -- at most so many octets of a file
 abbrev pub octets_with : Option (List ℕ) → ℕ
 octets_with None = 0
-octets_with (Some bytes) = octets_within MOST_OF_TIMES (length bytes)
+octets_with (Some bytes) = octets_within MAX_TIMES_LEN (length bytes)
 
 abbrev pub times_octets : (List ℕ → Option (List ℕ)) → List FileWords → ℕ
 times_octets world words = sum_by (λ (n : TimesName). octets_with (world n.name)) (times_named words)

@@ -3,7 +3,7 @@
 ghost use Rattle.std.specs.Prelude.{◌≡◌, ◌+◌, ◌≤◌, [], ◌∷◌, IfOk};
 ghost use Rattle.std.specs.Option.{option_to_list};
 ghost use Rattle.mkv_io.specs.Faults.{HasCause, is_read_fault};
-ghost use Rattle.mkv_io.specs.Told.{Told};
+ghost use Rattle.mkv_io.specs.Told.{IfVisible};
 ghost use Rattle.sidecar_edit.specs.Pending.{LooksOnly};
 ghost use Rattle.input_files.specs.ChapterFile.{CanBeWritten, chapter_file, chapter_octets, file_with, octets_with};
 ghost use Rattle.mkv_io.specs.Bounds.{ReadsByNames};
@@ -29,7 +29,7 @@ pub enum ChapterFile {
 
 // The same of the file of a name.
 fn read_named<F: Files>(alloc: Global, name: &str, files: &mut F) -> Result<ChapterFile, ReadEnd>
-    ensures exact { Told (F.names files.old) (λ world. IfOk result (λ given. given ≡ file_with (world name.now))) }
+    ensures exact { IfVisible (F.names files.old) (λ world. IfOk result (λ given. given ≡ file_with (world name.now))) }
     ensures written { IfOk result CanBeWritten }
     ensures looks { LooksOnly F.Reads F.Files.own (name.now ∷ []) files.old files.new }
     ensures cause { HasCause is_read_fault (F.reading_faults files.old) (F.reading_faults files.new) result }
@@ -57,7 +57,7 @@ pub fn read_chapter_file<F: Files>(
     name: &Option<Text>,
     files: &mut F,
 ) -> Result<ChapterFile, ReadEnd>
-    ensures exact { Told (F.names files.old) (λ world. IfOk result (λ given. given ≡ chapter_file world name.now)) }
+    ensures exact { IfVisible (F.names files.old) (λ world. IfOk result (λ given. given ≡ chapter_file world name.now)) }
 
     // Whatever the names tell, Chapters that were read can be written.
     ensures written { IfOk result CanBeWritten }

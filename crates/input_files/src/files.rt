@@ -3,7 +3,7 @@
 ghost use Rattle.std.specs.Prelude.{◌≡◌, IfOk, OnErr, []};
 ghost use Rattle.mkv_io.specs.Faults.{HasCause};
 ghost use Rattle.mkv_io.specs.Sources.{live_files};
-ghost use Rattle.mkv_io.specs.Told.{Told};
+ghost use Rattle.mkv_io.specs.Told.{IfVisible};
 ghost use Rattle.mkv_io.specs.Writing.{UsesOnly};
 ghost use Rattle.mkv_outputs.specs.Sinks.{AreLive, AreRising, EndsOnly};
 ghost use Rattle.input_files.specs.Inputs.{HaveContents, LeavesContents, OpensInputs, TellsMissing, end_of, file_names, is_inputs_fault};
@@ -21,7 +21,7 @@ pub fn open_all<F: Files>(
 ) -> Result<List<FileId>, InputsEnd>
     ensures opens { IfOk result (OpensInputs F.Reads F.Files.own (file_names words.now) files.old files.new) }
     ensures contents { IfOk result (HaveContents F.Reads F.Files.own words.now files.old files.new) }
-    ensures missing { Told (F.names files.old) (λ world. TellsMissing world (file_names words.now) result) }
+    ensures missing { IfVisible (F.names files.old) (λ world. TellsMissing world (file_names words.now) result) }
 
     // A refusal leaves which files are live, and each as it was.
     ensures refused { OnErr result (UsesOnly F.Reads F.Files.own (file_names words.now) [] files.old files.new) }

@@ -20,7 +20,7 @@ mod track;
 pub use chapter_file::{ChapterFile, read_chapter_file};
 pub use files::{close_all, open_all};
 pub use inputs_end::InputsEnd;
-pub use limits::{MOST_OF_ALL_TIMES, MOST_OF_CHAPTERS, MOST_OF_SRT, MOST_OF_TIMES};
+pub use limits::{MAX_ALL_TIMES_LEN, MAX_CHAPTERS_LEN, MAX_SRT_LEN, MAX_TIMES_LEN};
 pub use names::{begins_ebml, is_srt_name};
 pub use pending::first_pending;
 pub use reading::{read_chapters, read_entries, read_track_times};

@@ -3,7 +3,7 @@
 ghost use Rattle.std.specs.Prelude.{◌*◌, length, map, IfOk};
 ghost use Rattle.mkv_io.specs.Bounds.{ReadsUpTo};
 ghost use Rattle.mkv_io.specs.Faults.{HasCause, is_read_fault};
-ghost use Rattle.mkv_io.specs.Told.{Told};
+ghost use Rattle.mkv_io.specs.Told.{IfVisible};
 ghost use Rattle.sidecar_edit.specs.declared.place.TheConstants.{HEAD};
 ghost use Rattle.sidecar_edit.specs.Name.{sidecar_of};
 ghost use Rattle.sidecar_edit.specs.Pending.{LooksOnly};

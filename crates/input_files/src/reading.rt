@@ -5,12 +5,12 @@ ghost use Rattle.mkv_schema.specs.declared.ids.TheConstants.{CHAPTERS};
 ghost use Rattle.mkv_io.specs.Faults.{HasCause, counted};
 ghost use Rattle.mkv_io.specs.Sources.{IfTold, IsLive, OnlyReads, file_size};
 ghost use Rattle.ebml_tree.specs.Building.{IsRead};
-ghost use Rattle.srt_texts.specs.Reading.{AreWithin};
+ghost use Rattle.text_formats.specs.Reading.{AreWithin};
 ghost use Rattle.ext_times.specs.Listing.{listing};
 ghost use Rattle.input_files.specs.TextFile.{ReadsText, chapter_text, is_text_fault, octets_within, srt_text, text_file, too_large};
 ghost use Rattle.mkv_io.specs.Bounds.{ReadsOf};
 
-use crate::limits::{MOST_OF_CHAPTERS, MOST_OF_SRT};
+use crate::limits::{MAX_CHAPTERS_LEN, MAX_SRT_LEN};
 use crate::refusal::{TextFileEnd, TextRefusal};
 use ebml_tree::Tree;
 use ext_times::{Times, read_times};
@@ -55,13 +55,13 @@ pub fn read_entries<R: Reads>(
     ensures exact { IfTold R.Reads src.old file (λ bytes. ReadsText (srt_text bytes) result) }
 
     // Whatever the file tells, so many octets refuse it, and what is read keeps the limits of a lane.
-    ensures large { IsErrOf result too_large ↔ (MOST_OF_SRT < file_size R.Reads src.old file) }
-    ensures within { IfOk result (AreWithin MOST_OF_SRT) }
+    ensures large { IsErrOf result too_large ↔ (MAX_SRT_LEN < file_size R.Reads src.old file) }
+    ensures within { IfOk result (AreWithin MAX_SRT_LEN) }
     ensures only { OnlyReads R.Reads src.old src.new }
     ensures cause { HasCause is_text_fault (R.reading_faults src.old) (R.reading_faults src.new) result }
-    ensures octets { ReadsOf R.Reads src.old src.new file (octets_within MOST_OF_SRT) }
+    ensures octets { ReadsOf R.Reads src.old src.new file (octets_within MAX_SRT_LEN) }
 {
-    let octets = read_whole(alloc, src, file, MOST_OF_SRT)?;
+    let octets = read_whole(alloc, src, file, MAX_SRT_LEN)?;
     Ok(read_srt(alloc, octets.as_slice())?)
 }
 
@@ -76,13 +76,13 @@ pub fn read_chapters<R: Reads>(
     ensures exact { IfTold R.Reads src.old file (λ bytes. ReadsText (chapter_text bytes) result) }
 
     // Whatever the file tells, so many octets refuse it, and what is read can be written.
-    ensures large { IsErrOf result too_large ↔ (MOST_OF_CHAPTERS < file_size R.Reads src.old file) }
+    ensures large { IsErrOf result too_large ↔ (MAX_CHAPTERS_LEN < file_size R.Reads src.old file) }
     ensures read { IfOk result (IsRead CHAPTERS) }
     ensures only { OnlyReads R.Reads src.old src.new }
     ensures cause { HasCause is_text_fault (R.reading_faults src.old) (R.reading_faults src.new) result }
-    ensures octets { ReadsOf R.Reads src.old src.new file (octets_within MOST_OF_CHAPTERS) }
+    ensures octets { ReadsOf R.Reads src.old src.new file (octets_within MAX_CHAPTERS_LEN) }
 {
-    let octets = read_whole(alloc, src, file, MOST_OF_CHAPTERS)?;
+    let octets = read_whole(alloc, src, file, MAX_CHAPTERS_LEN)?;
     Ok(read_simple(alloc, octets.as_slice())?)
 }
 

@@ -3,8 +3,8 @@
 ghost use Rattle.std.specs.Prelude.{◌≡◌};
 ghost use Rattle.input_files.specs.declared.refusal.TextFileEnd.TheVariants as file_end;
 
-use srt_texts::TextEnd;
 use std::alloc::AllocError;
+use text_formats::TextEnd;
 
 /// What refuses a text file.
 #[derive(Clone, Copy, Debug, PartialEq, Eq)]

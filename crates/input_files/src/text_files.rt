@@ -2,7 +2,7 @@
 
 ghost use Rattle.std.specs.Prelude.{◌+◌, ◌≤◌, IfOk};
 ghost use Rattle.mkv_io.specs.Faults.{HasCause, is_read_fault};
-ghost use Rattle.mkv_io.specs.Told.{Told};
+ghost use Rattle.mkv_io.specs.Told.{IfVisible};
 ghost use Rattle.sidecar_edit.specs.Pending.{LooksOnly};
 ghost use Rattle.input_files.specs.ChapterFile.{CanBeWritten};
 ghost use Rattle.input_files.specs.TextFiles.{GivesTexts, ReadsTexts, text_names};

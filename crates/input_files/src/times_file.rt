@@ -2,13 +2,13 @@
 
 ghost use Rattle.std.specs.Prelude.{◌≡◌, ◌++◌, ◌+◌, ◌≤◌, [], ◌∷◌, map, IfOk, OnOk};
 ghost use Rattle.mkv_io.specs.Faults.{HasCause, is_read_fault};
-ghost use Rattle.mkv_io.specs.Told.{Told};
+ghost use Rattle.mkv_io.specs.Told.{IfVisible};
 ghost use Rattle.sidecar_edit.specs.Pending.{LooksOnly};
 ghost use Rattle.input_files.specs.TimesFile.{given_with, named_of, octets_with, size_with, times_files, times_named, times_names, times_octets};
 ghost use Rattle.mkv_io.specs.Bounds.{ReadsByNames};
 ghost use Rattle.mkv_io.specs.Writing.{IfByNames};
 
-use crate::limits::{MOST_OF_ALL_TIMES, MOST_OF_TIMES};
+use crate::limits::{MAX_ALL_TIMES_LEN, MAX_TIMES_LEN};
 use crate::reading::read_track_times;
 use crate::refusal::{TextFileEnd, TextRefusal};
 use ext_times::Times;
@@ -75,7 +75,7 @@ pub fn times_named(alloc: Global, words: &[FileWords]) -> Result<List<TimesName>
 
 /// What the file of a name gives, and how many octets it has.
 #[derive(Drop)]
-struct Found {
+struct ReadTimes {
     given: TimesGiven,
     size: u64,
 }
@@ -86,7 +86,7 @@ fn read_named<F: Files>(
     name: &str,
     room: u64,
     files: &mut F,
-) -> Result<Found, ReadEnd>
+) -> Result<ReadTimes, ReadEnd>
     ensures exact { IfByNames F.Files.own files.old result (λ world found. found.given ≡ given_with room (world name.now)) }
     ensures size { IfByNames F.Files.own files.old result (λ world found. found.size ≡ size_with (world name.now)) }
     ensures looks { LooksOnly F.Reads F.Files.own (name.now ∷ []) files.old files.new }
@@ -97,13 +97,13 @@ fn read_named<F: Files>(
         Ok(file) => file,
         Err(OpenFault::Missing) => {
             let given = TimesGiven::Missing;
-            return Ok(Found { given, size: 0 });
+            return Ok(ReadTimes { given, size: 0 });
         }
         Err(OpenFault::Failed) => return Err(ReadEnd::ReadFault),
         Err(OpenFault::Memory) => return Err(ReadEnd::Memory),
     };
     let size = files.size(file);
-    let read = read_track_times(alloc, files, file, room.min(MOST_OF_TIMES));
+    let read = read_track_times(alloc, files, file, room.min(MAX_TIMES_LEN));
     files.close(file);
     let given = match read {
         Ok(times) => TimesGiven::Read(times),
@@ -111,7 +111,7 @@ fn read_named<F: Files>(
         Err(TextFileEnd::ReadFault) => return Err(ReadEnd::ReadFault),
         Err(TextFileEnd::Memory) => return Err(ReadEnd::Memory),
     };
-    Ok(Found { given, size })
+    Ok(ReadTimes { given, size })
 }
 
 /// What the files of times give that the words of a merge name, input after input. Each is looked for and read, whatever becomes
@@ -128,7 +128,7 @@ pub fn read_times_files<F: Files>(
 {
     let named = times_named(alloc, words)?;
     let mut list = List::new(alloc);
-    let mut room = MOST_OF_ALL_TIMES;
+    let mut room = MAX_ALL_TIMES_LEN;
     for named in named.into_vec() {
         let found = read_named(alloc, named.name.as_str(), room, files)?;
         room = room.saturating_sub(found.size);

@@ -18,7 +18,7 @@ use Rattle.ebml_numbers.specs.Number.{AreOctets, announced, vint_data, all_ones,
 use Rattle.ebml_numbers.proofs.NumberLemmas.{size_at-reads, size_at-read, size_at-front, size_at-alone}
 use Rattle.lacing.specs.declared.kind.Lace.{Lace}
 use Rattle.lacing.specs.declared.kind.Lace.TheVariants as lace
-use Rattle.lacing.specs.Lace.{xiph_octets, IsFirstSize, bias, IsDifference, IsSpelling, Spells, but_last, AreEqual, IsLaceHead, IsLace, FindsLace, HasNoLace}
+use Rattle.lacing.specs.Lace.{xiph_octets, IsFirstSize, bias, IsDifference, IsSpelling, Spells, explicit_sizes, AreEqual, IsLaceHead, IsLace, FindsLace, HasNoLace}
 use Rattle.lacing.specs.Reading.{xiph_size, known_size, first_size, data_of, next_size, any_size, fitting, size_in, with_size, size_then, sizes_in, with_last, frame_sizes_in, is_frame_count, lace_in}
 use Rattle.ebml_numbers.proofs.SpelledLemmas.{AreOctets-drop}
 
@@ -296,21 +296,21 @@ sizes_in-found kind (suc n) before o sizes head octets is =
 -- ---- whole laces
 
 -- sizes are all but the last, and the last
-but_last-push : (sizes : List ℕ) (last : ℕ) → but_last (sizes ++ last ∷ []) ≡ sizes
-but_last-push [] last = refl
-but_last-push (size ∷ []) last = refl
-but_last-push (size ∷ (next ∷ sizes)) last = ap (λ (x : List ℕ). size ∷ x) (but_last-push (next ∷ sizes) last)
+explicit_sizes-push : (sizes : List ℕ) (last : ℕ) → explicit_sizes (sizes ++ last ∷ []) ≡ sizes
+explicit_sizes-push [] last = refl
+explicit_sizes-push (size ∷ []) last = refl
+explicit_sizes-push (size ∷ (next ∷ sizes)) last = ap (λ (x : List ℕ). size ∷ x) (explicit_sizes-push (next ∷ sizes) last)
 
 pub last_of : List ℕ → ℕ
 last_of [] = 0
 last_of (size ∷ []) = size
 last_of (size ∷ (next ∷ sizes)) = last_of (next ∷ sizes)
 
-pub but_last-split : (sizes : List ℕ) → 1 ≤ length sizes → sizes ≡ but_last sizes ++ last_of sizes ∷ []
+pub explicit_sizes-split : (sizes : List ℕ) → 1 ≤ length sizes → sizes ≡ explicit_sizes sizes ++ last_of sizes ∷ []
 unfolding last_of
-but_last-split [] some = absurd (omega arith)
-but_last-split (size ∷ []) some = refl
-but_last-split (size ∷ (next ∷ sizes)) some = ap (λ (x : List ℕ). size ∷ x) (but_last-split (next ∷ sizes) (omega arith))
+explicit_sizes-split [] some = absurd (omega arith)
+explicit_sizes-split (size ∷ []) some = refl
+explicit_sizes-split (size ∷ (next ∷ sizes)) some = ap (λ (x : List ℕ). size ∷ x) (explicit_sizes-split (next ∷ sizes) (omega arith))
 
 -- equal sizes are as many times the first
 AreEqual-replicate : (size : ℕ) (sizes : List ℕ) → All (λ other. other ≡ size) sizes → sizes ≡ replicate (length sizes) size
@@ -329,27 +329,27 @@ sum-replicate zero size = omega arith
 sum-replicate (suc n) size = sum_by-cons (λ (x : ℕ). x) size (replicate n size) ∙ ap (λ (x : ℕ). size + x) (sum-replicate n size) ∙ (let more = suc-mul n size in omega arith)
 
 -- the sizes of a spelled lace are read
-spelled-again : (kind : Lace) (head sizes rest : List ℕ) → 1 ≤ length sizes → Spells kind None (but_last sizes) head → sum sizes ≡ length rest
+spelled-again : (kind : Lace) (head sizes rest : List ℕ) → 1 ≤ length sizes → Spells kind None (explicit_sizes sizes) head → sum sizes ≡ length rest
     → with_last (length (head ++ rest)) (sizes_in kind (length sizes - 1) None (head ++ rest)) ≡ Some (sizes, length head)
 spelled-again kind head sizes rest some spells fits =
-    let split = but_last-split sizes some in
-    let count : length sizes ≡ length (but_last sizes) + 1 = ap length split ∙ length-append (but_last sizes) (last_of sizes ∷ []) in
-    let total : sum sizes ≡ sum (but_last sizes) + last_of sizes = ap sum split ∙ sum_by_push (λ (x : ℕ). x) (but_last sizes) (last_of sizes) in
+    let split = explicit_sizes-split sizes some in
+    let count : length sizes ≡ length (explicit_sizes sizes) + 1 = ap length split ∙ length-append (explicit_sizes sizes) (last_of sizes ∷ []) in
+    let total : sum sizes ≡ sum (explicit_sizes sizes) + last_of sizes = ap sum split ∙ sum_by_push (λ (x : ℕ). x) (explicit_sizes sizes) (last_of sizes) in
     let whole = length-append head rest in
-    let fewer : length sizes - 1 ≡ length (but_last sizes) = omega arith in
-    let read = sizes_in-again kind None (but_last sizes) head rest spells (omega arith) in
-    let last : length (head ++ rest) - length head - sum (but_last sizes) ≡ last_of sizes = omega arith in
-    let joined : but_last sizes ++ (length (head ++ rest) - length head - sum (but_last sizes)) ∷ [] ≡ sizes = rw last (sym split) in
-    rw (fewer, read) (cond-true (nat_le (length head + sum (but_last sizes)) (length (head ++ rest))) _ _ (le-leb _ _ (omega arith))
+    let fewer : length sizes - 1 ≡ length (explicit_sizes sizes) = omega arith in
+    let read = sizes_in-again kind None (explicit_sizes sizes) head rest spells (omega arith) in
+    let last : length (head ++ rest) - length head - sum (explicit_sizes sizes) ≡ last_of sizes = omega arith in
+    let joined : explicit_sizes sizes ++ (length (head ++ rest) - length head - sum (explicit_sizes sizes)) ∷ [] ≡ sizes = rw last (sym split) in
+    rw (fewer, read) (cond-true (nat_le (length head + sum (explicit_sizes sizes)) (length (head ++ rest))) _ _ (le-leb _ _ (omega arith))
     ∙ ap (λ (ss : List ℕ). Some (ss, length head)) joined)
 
 -- and what is read is spelled
 spelled-found : (kind : Lace) (n : ℕ) (o sizes : List ℕ) (head : ℕ) → AreOctets o → 1 ≤ n → with_last (length o) (sizes_in kind (n - 1) None o) ≡ Some (sizes, head)
-    → (length sizes ≡ n) × (head ≤ length o) × Spells kind None (but_last sizes) (take head o) × (head + sum sizes ≡ length o)
+    → (length sizes ≡ n) × (head ≤ length o) × Spells kind None (explicit_sizes sizes) (take head o) × (head + sum sizes ≡ length o)
 spelled-found kind n o sizes head octets some is = go (sizes_in kind (n - 1) None o) refl is
   where
     go : (found : Option (List ℕ × ℕ)) → sizes_in kind (n - 1) None o ≡ found → with_last (length o) found ≡ Some (sizes, head)
-        → (length sizes ≡ n) × (head ≤ length o) × Spells kind None (but_last sizes) (take head o) × (head + sum sizes ≡ length o)
+        → (length sizes ≡ n) × (head ≤ length o) × Spells kind None (explicit_sizes sizes) (take head o) × (head + sum sizes ≡ length o)
     go None there e = absurd (cc)
     go (Some (ss, h)) there e =
         let last = length o - h - sum ss in
@@ -358,8 +358,8 @@ spelled-found kind n o sizes head octets some is = go (sizes_in kind (n - 1) Non
         let found = sizes_in-found kind (n - 1) None o ss h octets there in
         let count = length-append ss (last ∷ []) in
         let total = sum_by_push (λ (x : ℕ). x) ss last in
-        let P : List ℕ → ℕ → Type 0 = λ all x. (length all ≡ n) × (x ≤ length o) × Spells kind None (but_last all) (take x o) × (x + sum all ≡ length o) in
-        let whole : P (ss ++ last ∷ []) h = (omega (arith, found.0), found.1, rw (but_last-push ss last) found.2, omega arith) in
+        let P : List ℕ → ℕ → Type 0 = λ all x. (length all ≡ n) × (x ≤ length o) × Spells kind None (explicit_sizes all) (take x o) × (x + sum all ≡ length o) in
+        let whole : P (ss ++ last ∷ []) h = (omega (arith, found.0), found.1, rw (explicit_sizes-push ss last) found.2, omega arith) in
         subst (λ (x : ℕ). P sizes x) both.2 (subst (λ (all : List ℕ). P all h) both.1 whole)
 
 -- ---- all kinds

@@ -14,10 +14,10 @@ use Rattle.ebml_numbers.proofs.WidthLemmas.{least_width-IsLeast, least_size_widt
 use Rattle.ebml_numbers.proofs.NumberLemmas.{size_at-reads, size_at-octets, length-size_octets}
 use Rattle.lacing.specs.declared.kind.Lace.{Lace}
 use Rattle.lacing.specs.declared.kind.Lace.TheVariants as lace
-use Rattle.lacing.specs.Lace.{IsFirstSize, bias, IsDifference, IsSpelling, Spells, but_last, IsLaceHead, IsLace}
+use Rattle.lacing.specs.Lace.{IsFirstSize, bias, IsDifference, IsSpelling, Spells, explicit_sizes, IsLaceHead, IsLace}
 use Rattle.lacing.specs.Reading.{data_of, lace_in}
 use Rattle.lacing.specs.Writing.{distance, difference_width, difference_octets, ebml_octets, octets_of_size, octets_of_sizes, lace_head, CanLace}
-use Rattle.lacing.proofs.LaceLemmas.{data_of-size, lace_in-again, last_of, but_last-split}
+use Rattle.lacing.proofs.LaceLemmas.{data_of-size, lace_in-again, last_of, explicit_sizes-split}
 
 -- the kinds whose head spells sizes
 abbrev SpellsSizes : Lace → Type 0
@@ -97,10 +97,10 @@ unfolding octets_of_sizes
 octets_of_sizes-none kind before [] none = refl
 octets_of_sizes-none kind before (size ∷ sizes) none = rw (none before size) (octets_of_sizes-none kind (Some size) sizes none)
 
-All-but_last : (P : ℕ → Type 0) (sizes : List ℕ) → All P sizes → All P (but_last sizes)
-All-but_last P [] all = all
-All-but_last P (size ∷ []) all = All-nil P
-All-but_last P (size ∷ (next ∷ sizes)) all = All-cons P size (but_last (next ∷ sizes)) (All-head P size (next ∷ sizes) all) (All-but_last P (next ∷ sizes) (All-tail P size (next ∷ sizes) all))
+All-explicit_sizes : (P : ℕ → Type 0) (sizes : List ℕ) → All P sizes → All P (explicit_sizes sizes)
+All-explicit_sizes P [] all = all
+All-explicit_sizes P (size ∷ []) all = All-nil P
+All-explicit_sizes P (size ∷ (next ∷ sizes)) all = All-cons P size (explicit_sizes (next ∷ sizes)) (All-head P size (next ∷ sizes) all) (All-explicit_sizes P (next ∷ sizes) (All-tail P size (next ∷ sizes) all))
 
 -- sizes of a small sum are small
 All-sum : (sizes : List ℕ) (n : ℕ) → sum sizes ≤ n → All (λ s. s ≤ n) sizes
@@ -110,12 +110,12 @@ All-sum (size ∷ sizes) n small =
     All-cons (λ s. s ≤ n) size sizes (omega arith) (All-sum sizes n (omega arith))
 
 pub IsLaceHead-octets : (kind : Lace) (sizes : List ℕ) → CanLace kind sizes → IsLaceHead kind (lace_head kind sizes) sizes
-IsLaceHead-octets lace.None sizes can = (can.fits, octets_of_sizes-none lace.None None (but_last sizes) (λ b size. refl))
+IsLaceHead-octets lace.None sizes can = (can.fits, octets_of_sizes-none lace.None None (explicit_sizes sizes) (λ b size. refl))
 IsLaceHead-octets lace.Xiph sizes can =
-    Spells-octets lace.Xiph None (but_last sizes) tt tt (All-but_last (λ s. s < 2 ^ 32) sizes (All-weaker (λ s. s ≤ 2 ^ 26) (λ s. s < 2 ^ 32) (λ s h. omega arith) sizes (All-sum sizes (2 ^ 26) can.total)))
-IsLaceHead-octets lace.Fixed sizes can = (can.fits, octets_of_sizes-none lace.Fixed None (but_last sizes) (λ b size. refl))
+    Spells-octets lace.Xiph None (explicit_sizes sizes) tt tt (All-explicit_sizes (λ s. s < 2 ^ 32) sizes (All-weaker (λ s. s ≤ 2 ^ 26) (λ s. s < 2 ^ 32) (λ s h. omega arith) sizes (All-sum sizes (2 ^ 26) can.total)))
+IsLaceHead-octets lace.Fixed sizes can = (can.fits, octets_of_sizes-none lace.Fixed None (explicit_sizes sizes) (λ b size. refl))
 IsLaceHead-octets lace.Ebml sizes can =
-    Spells-octets lace.Ebml None (but_last sizes) tt tt (All-but_last (λ s. s < 2 ^ 32) sizes (All-weaker (λ s. s ≤ 2 ^ 26) (λ s. s < 2 ^ 32) (λ s h. omega arith) sizes (All-sum sizes (2 ^ 26) can.total)))
+    Spells-octets lace.Ebml None (explicit_sizes sizes) tt tt (All-explicit_sizes (λ s. s < 2 ^ 32) sizes (All-weaker (λ s. s ≤ 2 ^ 26) (λ s. s < 2 ^ 32) (λ s h. omega arith) sizes (All-sum sizes (2 ^ 26) can.total)))
 
 -- What is written is a lace.
 pub IsLace-octets : (kind : Lace) (sizes : List ℕ) → CanLace kind sizes → IsLace kind (lace_head kind sizes) sizes (length (lace_head kind sizes) + sum sizes)
@@ -159,12 +159,12 @@ length-octets_of_sizes kind before (size ∷ sizes) small low =
 
 -- ---- writing in steps
 
-pub but_last-take : (sizes : List ℕ) → 1 ≤ length sizes → take (length sizes - 1) sizes ≡ but_last sizes
-but_last-take [] some = absurd (omega arith)
-but_last-take (size ∷ []) some = refl
-but_last-take (size ∷ (next ∷ sizes)) some =
+pub explicit_sizes-take : (sizes : List ℕ) → 1 ≤ length sizes → take (length sizes - 1) sizes ≡ explicit_sizes sizes
+explicit_sizes-take [] some = absurd (omega arith)
+explicit_sizes-take (size ∷ []) some = refl
+explicit_sizes-take (size ∷ (next ∷ sizes)) some =
     let count : length (size ∷ (next ∷ sizes)) - 1 ≡ suc (length (next ∷ sizes) - 1) = omega arith in
-    rw count (ap (λ (x : List ℕ). size ∷ x) (but_last-take (next ∷ sizes) (omega arith)))
+    rw count (ap (λ (x : List ℕ). size ∷ x) (explicit_sizes-take (next ∷ sizes) (omega arith)))
 
 -- the octets from one size on are its own and those from the next on
 pub octets_of_sizes-more : (kind : Lace) (before : Option ℕ) (sizes : List ℕ) (i size : ℕ) → i < length sizes → size ≡ slice_index sizes i
@@ -177,11 +177,11 @@ unfolding octets_of_sizes
 octets_of_sizes-end kind before sizes i outside = rw (drop_all i sizes outside) refl
 
 -- a lace's head has 2^19 octets at most
-pub length-lace_head : (kind : Lace) (sizes : List ℕ) → CanLace kind sizes → length (octets_of_sizes kind None (but_last sizes)) ≤ 2 ^ 19
+pub length-lace_head : (kind : Lace) (sizes : List ℕ) → CanLace kind sizes → length (octets_of_sizes kind None (explicit_sizes sizes)) ≤ 2 ^ 19
 length-lace_head kind sizes can =
-    let low = All-but_last (λ s. s < 2 ^ 32) sizes (All-weaker (λ s. s ≤ 2 ^ 26) (λ s. s < 2 ^ 32) (λ s h. omega arith) sizes (All-sum sizes (2 ^ 26) can.total)) in
-    let most = length-octets_of_sizes kind None (but_last sizes) tt low in
-    let split = but_last-split sizes can.some in
-    let count : length sizes ≡ length (but_last sizes) + 1 = ap length split ∙ length-append (but_last sizes) (last_of sizes ∷ []) in
-    let total : sum sizes ≡ sum (but_last sizes) + last_of sizes = ap sum split ∙ sum_by_push (λ (x : ℕ). x) (but_last sizes) (last_of sizes) in
+    let low = All-explicit_sizes (λ s. s < 2 ^ 32) sizes (All-weaker (λ s. s ≤ 2 ^ 26) (λ s. s < 2 ^ 32) (λ s h. omega arith) sizes (All-sum sizes (2 ^ 26) can.total)) in
+    let most = length-octets_of_sizes kind None (explicit_sizes sizes) tt low in
+    let split = explicit_sizes-split sizes can.some in
+    let count : length sizes ≡ length (explicit_sizes sizes) + 1 = ap length split ∙ length-append (explicit_sizes sizes) (last_of sizes ∷ []) in
+    let total : sum sizes ≡ sum (explicit_sizes sizes) + last_of sizes = ap sum split ∙ sum_by_push (λ (x : ℕ). x) (explicit_sizes sizes) (last_of sizes) in
     omega (arith, can.most, can.total)

@@ -42,10 +42,10 @@ Spells kind before (size ∷ sizes) octets =
 -- ---- what a lace is
 
 -- the sizes that a head spells: the last is what the others leave
-abbrev pub but_last : List ℕ → List ℕ
-but_last [] = []
-but_last (size ∷ []) = []
-but_last (size ∷ (next ∷ sizes)) = size ∷ but_last (next ∷ sizes)
+abbrev pub explicit_sizes : List ℕ → List ℕ
+explicit_sizes [] = []
+explicit_sizes (size ∷ []) = []
+explicit_sizes (size ∷ (next ∷ sizes)) = size ∷ explicit_sizes (next ∷ sizes)
 
 -- each size is the first
 abbrev pub AreEqual : List ℕ → Type 0
@@ -55,9 +55,9 @@ AreEqual (size ∷ sizes) = All (λ other. other ≡ size) sizes
 -- the head of a lace of these sizes
 abbrev pub IsLaceHead : Lace → List ℕ → List ℕ → Type 0
 IsLaceHead lace.None head sizes = (length sizes ≡ 1) × (head ≡ [])
-IsLaceHead lace.Xiph head sizes = Spells lace.Xiph None (but_last sizes) head
+IsLaceHead lace.Xiph head sizes = Spells lace.Xiph None (explicit_sizes sizes) head
 IsLaceHead lace.Fixed head sizes = AreEqual sizes × (head ≡ [])
-IsLaceHead lace.Ebml head sizes = Spells lace.Ebml None (but_last sizes) head
+IsLaceHead lace.Ebml head sizes = Spells lace.Ebml None (explicit_sizes sizes) head
 
 -- 1 to 256 sizes, whose head and frames make so many octets
 pub record IsLace (kind : Lace) (head sizes : List ℕ) (total : ℕ) : Type 0 where

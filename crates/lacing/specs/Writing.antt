@@ -3,7 +3,7 @@ use Rattle.std.specs.Prelude.{◌≡◌, ℕ, ◌+◌, ◌-◌, ◌^◌, ◌≤�
 use Rattle.ebml_numbers.specs.Number.{size_octets, least_size_width, least_width}
 use Rattle.lacing.specs.declared.kind.Lace.{Lace}
 use Rattle.lacing.specs.declared.kind.Lace.TheVariants as lace
-use Rattle.lacing.specs.Lace.{xiph_octets, bias, but_last, AreEqual}
+use Rattle.lacing.specs.Lace.{xiph_octets, bias, explicit_sizes, AreEqual}
 
 -- ---- one size
 
@@ -41,7 +41,7 @@ octets_of_sizes kind before (size ∷ sizes) = octets_of_size kind before size +
 
 -- the head of a lace: all sizes but the last, where its kind spells sizes
 abbrev pub lace_head : Lace → List ℕ → List ℕ
-lace_head kind sizes = octets_of_sizes kind None (but_last sizes)
+lace_head kind sizes = octets_of_sizes kind None (explicit_sizes sizes)
 
 -- the sizes that a kind can lace
 abbrev pub FitsKind : Lace → List ℕ → Type 0

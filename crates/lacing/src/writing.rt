@@ -1,7 +1,7 @@
 //! A lace written: RFC 9559, section 10.3 (Block Lacing).
 ghost use Rattle.std.specs.Prelude.{◌≡◌, ◌+◌, ◌^◌, ◌<◌, ◌≤◌, ◌++◌, None, length, take, drop, sum};
 ghost use Rattle.ebml_numbers.specs.Octets.{octets_of};
-ghost use Rattle.lacing.specs.Lace.{but_last, IsLace};
+ghost use Rattle.lacing.specs.Lace.{explicit_sizes, IsLace};
 ghost use Rattle.lacing.specs.Reading.{IsReadBack};
 ghost use Rattle.lacing.specs.Writing.{CanLace, difference_octets, ebml_octets, octets_of_size, octets_of_sizes, lace_head};
 
@@ -15,7 +15,7 @@ pub fn lace_len(kind: Lace, sizes: &[u32]) -> u32
     ensures exact { result ≡ length (lace_head kind sizes.now) }
     ensures most { result ≤ 2 ^ 19 }
 {
-    spelled_len(kind, but_last(sizes))
+    spelled_len(kind, explicit_sizes(sizes))
 }
 
 /// Writes the head of a lace of these sizes, in octets, each spelled as short as can be.
@@ -28,13 +28,13 @@ pub fn put_lace(kind: Lace, sizes: &[u32], out: &mut [u8])
     ensures lace { IsLace kind out.new sizes.now (length out.new + sum sizes.now) }
     ensures read { IsReadBack kind sizes.now out.new }
 {
-    put_spelled(kind, but_last(sizes), out);
+    put_spelled(kind, explicit_sizes(sizes), out);
 }
 
 // The sizes that a head spells.
-fn but_last(sizes: &[u32]) -> &[u32]
+fn explicit_sizes(sizes: &[u32]) -> &[u32]
     requires { 1 ≤ length sizes.now }
-    ensures { result.now ≡ but_last sizes.now }
+    ensures { result.now ≡ explicit_sizes sizes.now }
 {
     &sizes[..sizes.len() - 1]
 }

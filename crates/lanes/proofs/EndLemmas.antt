@@ -9,14 +9,14 @@ use Rattle.mkv_io.specs.declared.damage.Damage.{Damage}
 use Rattle.block_format.specs.Block.{Block}
 use Rattle.block_format.specs.Events.{Event, block, blocks_of, last_of}
 use Rattle.block_format.specs.Content.{frames_cut}
-use Rattle.block_records.specs.Buffered.{Buffered, block_of}
-use Rattle.block_records.specs.Lendable.{IsLendable}
-use Rattle.block_records.specs.Front.{head_of}
-use Rattle.block_records.specs.Made.{block_with}
-use Rattle.block_records.specs.declared.head.BlockHead.{BlockHead}
+use Rattle.block_reader.specs.Buffered.{Buffered, block_of}
+use Rattle.block_reader.specs.Lendable.{IsLendable}
+use Rattle.block_reader.specs.Front.{head_of}
+use Rattle.block_reader.specs.Made.{block_with}
+use Rattle.block_reader.specs.declared.head.BlockHead.{BlockHead}
 use Rattle.cluster_reader.specs.Reading.{damage_event}
 use Rattle.cluster_reader.specs.Takes.{IsKnown}
-use Rattle.cluster_reader.specs.declared.takes.Takes.TheVariants as takes
+use Rattle.cluster_reader.specs.declared.filter.BlockFilter.TheVariants as takes
 use Rattle.ext_times.specs.Listing.{Listing}
 use Rattle.merge_model.specs.Links.{Placing, delayed}
 use Rattle.merge_model.specs.Ends.{block_end, end_at, last_end}

@@ -6,11 +6,11 @@ use Rattle.lacing.specs.Writing.{FitsKind}
 use Rattle.lacing.specs.declared.kind.Lace.{Lace}
 use Rattle.lacing.specs.declared.kind.Lace.TheVariants as lace
 use Rattle.block_format.specs.Content.{frames_cut}
-use Rattle.block_format.specs.declared.limits.TheConstants.{MOST_OF_BLOCK, MOST_REFERENCES}
-use Rattle.block_records.specs.Buffered.{Buffered}
-use Rattle.block_records.specs.Lendable.{IsLendable}
+use Rattle.block_format.specs.declared.limits.TheConstants.{MAX_BLOCK_LEN, MAX_REFERENCES}
+use Rattle.block_reader.specs.Buffered.{Buffered}
+use Rattle.block_reader.specs.Lendable.{IsLendable}
 use Rattle.output_model.specs.OutputBlock.{IsLent}
-use Rattle.output_model.specs.declared.TheConstants.{MOST_OF_PREFIX}
+use Rattle.output_model.specs.declared.TheConstants.{MAX_PREFIX_LEN}
 use Rattle.output_model.specs.declared.heads.OutHead.{OutHead}
 use Rattle.merge_model.specs.Ticks.{ticks_to}
 use Rattle.merge_model.specs.Links.{lace_for}
@@ -37,16 +37,16 @@ fits-alone [] body kind fits some = absurd (omega arith)
 fits-alone (s ∷ []) body kind fits some = refl
 fits-alone (s ∷ r ∷ sizes) body kind fits some = fits
 
-pub track-written : (scale time : ℕ) (t : TrackLink) (b : Buffered) (head : OutHead) (references : List ℤ) → length t.prefix ≤ MOST_OF_PREFIX → IsLendable b → head.lace ≡ lace_for (frames_cut b.sizes b.body) b.head.lace → references ≡ map (ticks_to scale time) b.references
+pub track-written : (scale time : ℕ) (t : TrackLink) (b : Buffered) (head : OutHead) (references : List ℤ) → length t.prefix ≤ MAX_PREFIX_LEN → IsLendable b → head.lace ≡ lace_for (frames_cut b.sizes b.body) b.head.lace → references ≡ map (ticks_to scale time) b.references
     → IsLent (record { head = head; prefix = t.prefix; body = b.body; sizes = b.sizes; references = references; kept = b.kept })
 track-written scale time t b head references prefix lends lace are = record {
   limits = record {
     some = lends.some;
     most = lends.few.sizes;
     fits = subst (λ (kind : Lace). FitsKind kind b.sizes) (sym lace) (fits-alone b.sizes b.body b.head.lace lends.fits lends.some);
-    total = subst (λ (n : ℕ). n ≤ MOST_OF_BLOCK) (sym lends.few.cut) lends.few.body;
+    total = subst (λ (n : ℕ). n ≤ MAX_BLOCK_LEN) (sym lends.few.cut) lends.few.body;
     prefix_most = prefix;
-    references_most = subst (λ (rs : List ℤ). length rs ≤ MOST_REFERENCES) (sym are) (subst (λ (n : ℕ). n ≤ MOST_REFERENCES) (sym (length-map b.references (ticks_to scale time))) lends.few.most_references);
+    references_most = subst (λ (rs : List ℤ). length rs ≤ MAX_REFERENCES) (sym are) (subst (λ (n : ℕ). n ≤ MAX_REFERENCES) (sym (length-map b.references (ticks_to scale time))) lends.few.most_references);
     kept_most = lends.few.kept;
   };
   whole = sym lends.few.cut;

@@ -14,7 +14,7 @@ use Rattle.merge_model.specs.declared.link.TrackLink.{TrackLink}
 use Rattle.lanes.specs.Ends.{given_by, texts_end}
 use Rattle.lanes.specs.Survey.{AreOfOneFile, IsOfFile, IsSameFile, IsSurvey, first_track, stops_any}
 use Rattle.lanes.specs.Walked.{IsWalked}
-use Rattle.lanes.specs.declared.found.Survey.{Survey}
+use Rattle.lanes.specs.declared.survey_result.Survey.{Survey}
 
 -- the same file has the same blocks and damages
 same-events : (f : LiveFiles) (t other : TrackLink) → IsSameFile t other → track_events f other ≡ track_events f t

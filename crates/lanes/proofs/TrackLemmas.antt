@@ -11,10 +11,10 @@ use Rattle.std.proofs.lemmas.Option.{slice_get_within}
 use Rattle.mkv_io.specs.declared.damage.Damage.{Damage}
 use Rattle.mkv_io.specs.declared.outside.ReadEnd.{ReadEnd}
 use Rattle.mkv_io.specs.LiveFiles.{LiveFiles}
-use Rattle.mkv_io.specs.Told.{Told}
+use Rattle.mkv_io.specs.Told.{IfVisible}
 use Rattle.block_format.specs.Block.{Block}
-use Rattle.block_records.specs.Buffered.{Buffered, block_of}
-use Rattle.block_records.specs.Lendable.{IsLendable}
+use Rattle.block_reader.specs.Buffered.{Buffered, block_of}
+use Rattle.block_reader.specs.Lendable.{IsLendable}
 use Rattle.block_format.specs.Events.{Event, block, events_of}
 use Rattle.block_format.specs.Elements.{with_limits}
 use Rattle.mkv_schema.specs.declared.element.Header.{Header}
@@ -22,7 +22,7 @@ use Rattle.cluster_reader.specs.Reading.{CanRead, GivesWanted, Reading, damage_e
 use Rattle.cluster_reader.specs.Takes.{IsKnown}
 use Rattle.cluster_reader.specs.ToldDamages.{ToldDamages, with_damage}
 use Rattle.cluster_reader.specs.declared.step.Step.{Step}
-use Rattle.cluster_reader.specs.declared.takes.Takes.TheVariants as takes
+use Rattle.cluster_reader.specs.declared.filter.BlockFilter.TheVariants as takes
 use Rattle.output_model.specs.OutputBlock.{IsLent, Lent}
 use Rattle.merge_model.specs.Links.{given_blocks}
 use Rattle.mkv_io.specs.declared.entry.Entry.{Entry}
@@ -67,7 +67,7 @@ at-track f links w t c ready is cursor =
     subst (IsAt f (Some c)) is here
 
 -- what the cursor gives, of the octets that are told
-pub cursor-gives : (f : LiveFiles) (links : List Link) (k : ℕ) (t : TrackLink) (c d : Reading) (result : Result Step ReadEnd) → All (IsToldLink f) links → slice_get links k ≡ Some (Track t) → c.file ≡ t.file → Told (f.content c.file.n) (λ bytes. GivesWanted (takes.Track t.number) bytes c d result) → GivesWanted (takes.Track t.number) (octets_in f t.file.n) c d result
+pub cursor-gives : (f : LiveFiles) (links : List Link) (k : ℕ) (t : TrackLink) (c d : Reading) (result : Result Step ReadEnd) → All (IsToldLink f) links → slice_get links k ≡ Some (Track t) → c.file ≡ t.file → IfVisible (f.content c.file.n) (λ bytes. GivesWanted (takes.Track t.number) bytes c d result) → GivesWanted (takes.Track t.number) (octets_in f t.file.n) c d result
 cursor-gives f links k t c d result all is file gives =
     gives (octets_in f t.file.n) (ap (λ each. f.content each.n) file ∙ all-at (IsToldLink f) links k (Track t) all is)
 

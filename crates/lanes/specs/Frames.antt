@@ -1,8 +1,8 @@
 -- The frames of a track, which count from 0.
 use Rattle.std.specs.Prelude.{ℕ, ◌+◌, ◌==◌, if◌then◌else◌, List, [], ◌∷◌, length, replicate}
 use Rattle.block_format.specs.Block.{Block}
-use Rattle.block_records.specs.Buffered.{Buffered}
-use Rattle.block_records.specs.Made.{block_with}
+use Rattle.block_reader.specs.Buffered.{Buffered}
+use Rattle.block_reader.specs.Made.{block_with}
 use Rattle.merge_model.specs.declared.link.Link.{Link}
 use Rattle.merge_model.specs.declared.link.Link.TheVariants.{Track, Entries}
 use Rattle.merge_model.specs.declared.link.TrackLink.{TrackLink}

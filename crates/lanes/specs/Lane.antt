@@ -1,9 +1,9 @@
 -- A lane: its links, and the walk over them.
 use Rattle.std.specs.Prelude.{◌≡◌, ℕ, ◌+◌, ◌<◌, ◌≤◌, ⊤, List, [], ◌∷◌, length, map, Result, Ok, Err}
 use Rattle.std.specs.List.{All}
-use Rattle.block_format.specs.declared.limits.TheConstants.{MOST_OF_BLOCK, MOST_REFERENCES}
+use Rattle.block_format.specs.declared.limits.TheConstants.{MAX_BLOCK_LEN, MAX_REFERENCES}
 use Rattle.mkv_io.specs.declared.outside.ReadEnd.{ReadEnd}
-use Rattle.output_model.specs.declared.TheConstants.{MOST_OF_PREFIX}
+use Rattle.output_model.specs.declared.TheConstants.{MAX_PREFIX_LEN}
 use Rattle.mkv_io.specs.Faults.{counted}
 use Rattle.mkv_io.specs.LiveFiles.{LiveFiles}
 use Rattle.mkv_io.specs.Sources.{live_files}
@@ -43,11 +43,11 @@ as_lent b = record { head = b.head.now; prefix = b.prefix.now; body = b.body.now
 
 -- It has no more than a block may have.
 pub record HasFew (b : LaneBlock) : Type 0 where
-  pub prefix : length b.prefix.now ≤ MOST_OF_PREFIX
-  pub body : length b.body.now ≤ MOST_OF_BLOCK
+  pub prefix : length b.prefix.now ≤ MAX_PREFIX_LEN
+  pub body : length b.body.now ≤ MAX_BLOCK_LEN
   pub sizes : length b.sizes.now ≤ 256
-  pub references : length b.references.now ≤ MOST_REFERENCES
-  pub kept : length b.kept.now ≤ MOST_OF_BLOCK
+  pub references : length b.references.now ≤ MAX_REFERENCES
+  pub kept : length b.kept.now ≤ MAX_BLOCK_LEN
 
 -- what it lends
 abbrev pub lent : LaneSeen → Lent

@@ -14,8 +14,8 @@ pub record StandsAmong (old new : LiveFiles) (l : LaneSeen) : Type 0 where
   pub length : files_length new l ≡ files_length old l
 
 -- A lane stands over what is written to files that aren't its links'.
-abbrev pub StandOverWrites : Type 0
-StandOverWrites = (old new : LiveFiles) (l : LaneSeen) → KeepsLane old new l → IsReady old l → StandsAmong old new l
+abbrev pub AreUnaffectedByWrites : Type 0
+AreUnaffectedByWrites = (old new : LiveFiles) (l : LaneSeen) → KeepsLane old new l → IsReady old l → StandsAmong old new l
 
 -- Where a lane has ended, the damages that will have been told in the end are those that were reached.
 abbrev pub EndedHaveToldAll : Type 0

@@ -3,8 +3,8 @@ use Rattle.std.specs.Prelude.{◌≡◌, ◌<◌, ◌≤◌, ◌+◌, ◌*◌, �
 use Rattle.std.specs.List.{All}
 use Rattle.std.specs.Option.{IfSome}
 use Rattle.block_format.specs.declared.limits.TheConstants.{TOO_LARGE_TIME}
-use Rattle.block_records.specs.Time.{IsSmallTime}
-use Rattle.block_records.specs.Buffered.{Buffered, block_of}
+use Rattle.block_reader.specs.Time.{IsSmallTime}
+use Rattle.block_reader.specs.Buffered.{Buffered, block_of}
 use Rattle.mkv_io.specs.declared.entry.Entry.{Entry}
 use Rattle.output_model.specs.OutputBlock.{Lent, OutputBlock, lent_block}
 use Rattle.merge_model.specs.Merged.{Ordered}

@@ -1,7 +1,7 @@
 -- A block of an input, placed in the output.
 use Rattle.std.specs.Prelude.{ℕ, ◌==◌, if◌then◌else◌, List, []}
 use Rattle.block_format.specs.Block.{Block}
-use Rattle.block_records.specs.Buffered.{Buffered}
+use Rattle.block_reader.specs.Buffered.{Buffered}
 use Rattle.mkv_io.specs.declared.entry.Entry.{Entry}
 use Rattle.output_model.specs.OutputBlock.{Lent, OutputBlock}
 use Rattle.merge_model.specs.Links.{entry_block, placed}

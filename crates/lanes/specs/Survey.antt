@@ -9,7 +9,7 @@ use Rattle.merge_model.specs.FileLinks.{IsToldLink, given_in}
 use Rattle.merge_model.specs.declared.link.Link.{Link}
 use Rattle.merge_model.specs.declared.link.Link.TheVariants.{Track, Entries}
 use Rattle.merge_model.specs.declared.link.TrackLink.{TrackLink}
-use Rattle.lanes.specs.declared.found.Survey.{Survey}
+use Rattle.lanes.specs.declared.survey_result.Survey.{Survey}
 
 -- the first link to a track of a file
 abbrev pub first_track : List Link → Option TrackLink

@@ -3,7 +3,7 @@ use Rattle.std.specs.Prelude.{ℕ, suc, List, [], ◌∷◌, ◌++◌, map, Opti
 use Rattle.std.specs.List.{slice_get}
 use Rattle.mkv_io.specs.declared.damage.Damage.{Damage}
 use Rattle.cluster_reader.specs.ToldDamages.{ToldDamages, with_damage}
-use Rattle.lanes.specs.declared.told.LinkDamage.{LinkDamage}
+use Rattle.lanes.specs.declared.damages.LinkDamage.{LinkDamage}
 
 -- with these damages more
 abbrev pub with_damages : ToldDamages → List Damage → ToldDamages

@@ -7,7 +7,7 @@ use Rattle.block_format.specs.Events.{Event, last_of}
 use Rattle.cluster_reader.specs.Reading.{Reading, left_of}
 use Rattle.merge_model.specs.declared.link.Link.{Link}
 use Rattle.lanes.specs.Ends.{end_of}
-use Rattle.lanes.specs.declared.found.Survey.{Survey}
+use Rattle.lanes.specs.declared.survey_result.Survey.{Survey}
 
 -- The greatest end of these blocks in the links, and whether a damage ends what is read.
 pub record IsWalked (events : List Event) (links : List Link) (s : Survey) : Type 0 where

@@ -8,7 +8,7 @@ ghost use Rattle.merge_model.specs.Ends.{block_end};
 ghost use Rattle.merge_model.specs.FileLinks.{CanMove, IsSmallEntry, text_with};
 ghost use Rattle.lanes.specs.Ends.{IsTimed, IsTimedTrack, ends_of, lasting_for, link_end, text_end, texts_end, track_end};
 ghost use Rattle.lanes.specs.Frames.{by_head, counted_for, link_frames};
-ghost use Rattle.lanes.specs.declared.found.TheConstants.{MOST_END};
+ghost use Rattle.lanes.specs.declared.survey_result.TheConstants.{MAX_END};
 
 use crate::frames::{frames_of, time_of};
 use crate::tick::delayed;
@@ -38,7 +38,7 @@ fn lasting(duration: Option<u64>, default_duration: Option<u64>, frames: u16) ->
 fn track_end(track: &TrackLink, before: u64, cursor: &Cursor) -> u64
     requires { IsTimedTrack track.now }
     ensures exact { result ≡ track_end track.now before (by_head cursor.now.block) }
-    ensures small { result ≤ MOST_END }
+    ensures small { result ≤ MAX_END }
 {
     let block = cursor.head();
     if block.track != track.number {
@@ -55,7 +55,7 @@ fn track_end(track: &TrackLink, before: u64, cursor: &Cursor) -> u64
 fn link_end(link: &Link, before: u64, cursor: &Cursor) -> u64
     requires { IsTimed link.now }
     ensures exact { result ≡ link_end (by_head cursor.now.block) before link.now }
-    ensures small { result ≤ MOST_END }
+    ensures small { result ≤ MAX_END }
 {
     match link {
         Link::Track(track) => track_end(track, before, cursor),
@@ -78,9 +78,9 @@ fn link_frames(link: &Link, cursor: &Cursor) -> u64
 pub fn greatest_end(links: &[Link], before: &[u64], cursor: &Cursor, end: u64) -> u64
     requires links { All IsTimed links.now }
     requires each { length before.now ≡ length links.now }
-    requires end { end ≤ MOST_END }
+    requires end { end ≤ MAX_END }
     ensures exact { result ≡ max end (ends_of (by_head cursor.now.block) before.now links.now) }
-    ensures small { result ≤ MOST_END }
+    ensures small { result ≤ MAX_END }
 {
     let mut end = end;
     for (k, link) in links.iter().enumerate() {
@@ -106,7 +106,7 @@ fn entry_end(text: &TextLink, entry: &Entry) -> u64
     requires moves { CanMove text.now.delay text.now.shift }
     requires small { IsSmallEntry entry.now }
     ensures exact { result ≡ block_end (text_with text.now []).placing (entry_block entry.now) }
-    ensures small { result ≤ MOST_END }
+    ensures small { result ≤ MAX_END }
 {
     match delayed(entry.start as i64, text.delay) {
         Some(t) => t + entry.duration,
@@ -118,9 +118,9 @@ fn entry_end(text: &TextLink, entry: &Entry) -> u64
 fn text_end(text: &TextLink, end: u64) -> u64
     requires moves { CanMove text.now.delay text.now.shift }
     requires small { All IsSmallEntry text.now.entries }
-    requires end { end ≤ MOST_END }
+    requires end { end ≤ MAX_END }
     ensures exact { result ≡ max end (text_end text.now) }
-    ensures small { result ≤ MOST_END }
+    ensures small { result ≤ MAX_END }
 {
     let mut end = end;
     for entry in text.entries.as_slice() {
@@ -133,7 +133,7 @@ fn text_end(text: &TextLink, end: u64) -> u64
 pub fn texts_end(links: &[Link]) -> u64
     requires { All IsTimed links.now }
     ensures exact { result ≡ texts_end links.now }
-    ensures small { result ≤ MOST_END }
+    ensures small { result ≤ MAX_END }
 {
     let mut end = 0;
     for link in links {

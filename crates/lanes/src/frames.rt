@@ -1,7 +1,7 @@
 //! The frames of a track, which count from 0, and the times that they have.
 
 ghost use Rattle.std.specs.Prelude.{◌≡◌, ◌≤◌};
-ghost use Rattle.block_records.specs.Time.{IsSmallTime};
+ghost use Rattle.block_reader.specs.Time.{IsSmallTime};
 ghost use Rattle.merge_model.specs.FileLinks.{listing_of};
 ghost use Rattle.merge_model.specs.Timed.{time_for};
 ghost use Rattle.lanes.specs.Frames.{by_head, frames_of};

@@ -6,14 +6,14 @@ ghost use Rattle.std.specs.Option.{option_copied};
 ghost use Rattle.mkv_io.specs.Faults.{HasCause, is_read_fault};
 ghost use Rattle.mkv_io.specs.LiveFiles.{LiveFiles};
 ghost use Rattle.mkv_io.specs.Sources.{live_files};
-ghost use Rattle.block_format.specs.declared.limits.TheConstants.{MOST_OF_BLOCK};
-ghost use Rattle.merge_model.specs.declared.limits.TheConstants.{MOST_LINKS};
+ghost use Rattle.block_format.specs.declared.limits.TheConstants.{MAX_BLOCK_LEN};
+ghost use Rattle.merge_model.specs.declared.limits.TheConstants.{MAX_LINKS};
 ghost use Rattle.merge_model.specs.FileLinks.{IsSmallEntry, IsSmallLink};
 ghost use Rattle.lanes.specs.Lane.{Begins, GivesIfTold, HasFew, IsReady, Moves, PaysFor, Starts, as_lent, lent};
 ghost use Rattle.lanes.specs.Told.{link_damages, more_of};
 ghost use Rattle.lanes.specs.Walks.{text_of};
 
-use crate::told::{LinkDamage, damage_at, more_of};
+use crate::damages::{LinkDamage, damage_at, more_of};
 use crate::turn::take_turn;
 use crate::walk::Walk;
 use cluster_reader::Damages;
@@ -35,7 +35,7 @@ pub enum LaneStep {
 // The text of the entry before this one, from 0.
 fn text_before(text: &TextLink, next: usize) -> &[u8]
     ensures exact { result.now ≡ text_of (slice_get text.now.entries (next - 1)) }
-    ensures most { All IsSmallEntry text.now.entries → length result.now ≤ MOST_OF_BLOCK }
+    ensures most { All IsSmallEntry text.now.entries → length result.now ≤ MAX_BLOCK_LEN }
 {
     match text.entries.get(next.saturating_sub(1)) {
         Some(entry) => entry.text.as_str().as_bytes(),
@@ -84,7 +84,7 @@ impl Lane {
     /// are told, and reads nothing.
     pub fn start(alloc: Global, spec: LaneSpec, scale: u64) -> Result<Lane, AllocError>
         requires scale { 1 ≤ scale }
-        requires most { length spec.links ≤ MOST_LINKS }
+        requires most { length spec.links ≤ MAX_LINKS }
         requires small { All IsSmallLink spec.links }
         ensures starts { (f : LiveFiles) → IfOk result (Starts f scale spec.links) }
         ensures begins { IfOk result (Begins scale spec.links) }

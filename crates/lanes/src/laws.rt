@@ -1,10 +1,10 @@
 //! What holds of every lane.
 
-ghost use Rattle.lanes.specs.Laws.{EndedHaveToldAll, StandOverWrites};
+ghost use Rattle.lanes.specs.Laws.{EndedHaveToldAll, AreUnaffectedByWrites};
 
 /// A lane stands as before where the files of its links are the same, whatever was written elsewhere.
 pub fn lanes_stand_over_writes()
-    ensures { StandOverWrites }
+    ensures { AreUnaffectedByWrites }
 {}
 
 /// A lane that has ended has told all damages of its links.

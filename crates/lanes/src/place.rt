@@ -4,9 +4,9 @@ ghost use Rattle.std.specs.Prelude.{◌≡◌, ◌<◌, ◌≤◌, ℕ, List as 
 ghost use Rattle.std.specs.Bool.{OnTrue};
 ghost use Rattle.std.specs.List.{All};
 ghost use Rattle.block_format.specs.Content.{frames_cut};
-ghost use Rattle.block_format.specs.declared.limits.TheConstants.{MOST_REFERENCES, TOO_LARGE_TIME};
-ghost use Rattle.block_records.specs.Lendable.{IsLendable};
-ghost use Rattle.block_records.specs.Time.{IsSmallTime};
+ghost use Rattle.block_format.specs.declared.limits.TheConstants.{MAX_REFERENCES, TOO_LARGE_TIME};
+ghost use Rattle.block_reader.specs.Lendable.{IsLendable};
+ghost use Rattle.block_reader.specs.Time.{IsSmallTime};
 ghost use Rattle.output_model.specs.OutputBlock.{IsLent};
 ghost use Rattle.merge_model.specs.Ticks.{ticks_for, ticks_to};
 ghost use Rattle.merge_model.specs.Links.{lace_for};
@@ -59,7 +59,7 @@ impl Placed {
 fn put_references(scale: u64, t: u64, references: &[i64], into: &mut ArrayVec<i64, 64>)
     requires scale { 1 ≤ scale }
     requires early { t < most_time }
-    requires most { length references.now ≤ MOST_REFERENCES }
+    requires most { length references.now ≤ MAX_REFERENCES }
     requires small { All IsSmallTime references.now }
     ensures exact { into.new.items ≡ map (ticks_to scale t) references.now }
     ensures small { All IsSmallTime into.new.items }

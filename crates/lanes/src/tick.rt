@@ -1,9 +1,9 @@
 //! Times of blocks in an output, in nanoseconds and in ticks.
 
 ghost use Rattle.std.specs.Prelude.{◌≡◌, ◌+◌, ◌+ℤ◌, ◌*◌, ◌<◌, ◌≤◌, ◌^◌, nat_abs, IfSome};
-ghost use Rattle.block_records.specs.Time.{IsSmallTime};
+ghost use Rattle.block_reader.specs.Time.{IsSmallTime};
 ghost use Rattle.merge_model.specs.Ticks.{since_start, tick_of, ticks_for, ticks_to};
-ghost use Rattle.merge_model.specs.declared.limits.TheConstants.{MOST_SHIFT, TOO_LARGE_DELAY};
+ghost use Rattle.merge_model.specs.declared.limits.TheConstants.{MAX_SHIFT, TOO_LARGE_DELAY};
 ghost use Rattle.lanes.specs.Times.{output_time, most_time, ticks_back};
 
 /// A time with a delay, nothing where that stands before the start.
@@ -24,7 +24,7 @@ pub fn delayed(time: i64, delay: i64) -> Option<u64>
 pub fn output_time(time: i64, delay: i64, shift: u64) -> Option<u64>
     requires time { IsSmallTime time }
     requires delay { nat_abs delay < TOO_LARGE_DELAY }
-    requires shift { shift ≤ MOST_SHIFT }
+    requires shift { shift ≤ MAX_SHIFT }
     ensures exact { result ≡ output_time delay shift time }
     ensures small { IfSome result (λ t. t < most_time) }
 {

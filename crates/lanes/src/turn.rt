@@ -14,7 +14,7 @@ use crate::frames::frames_of;
 use crate::lane::LaneStep;
 use crate::place::{place_block, place_entry};
 use crate::walk::Walk;
-use cluster_reader::{Cursor, Step, Takes};
+use cluster_reader::{BlockFilter, Cursor, Step};
 use merge_model::{Link, TextLink, TrackLink};
 use mkv_io::{ReadEnd, Reads};
 use std::alloc::Global;
@@ -44,7 +44,7 @@ fn turn_track<R: Reads>(
         walk.cursor = Some(cursor);
         return Ok(None);
     };
-    match cursor.advance_for(src, Takes::Track(track.number))? {
+    match cursor.advance_for(src, BlockFilter::Track(track.number))? {
         Step::Block => {
             let before = walk.frames;
             walk.frames += frames_of(track, cursor);

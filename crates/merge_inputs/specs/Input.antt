@@ -16,9 +16,9 @@ use Rattle.meta_records.specs.Walk.{IsAttachedIn}
 use Rattle.record_changes.specs.declared.uid_map.TagKeep.{TagKeep}
 use Rattle.element_reader.specs.Outline.{FileOutline}
 use Rattle.mkv_io.specs.declared.entry.Entry.{Entry}
-use Rattle.srt_texts.specs.Reading.{AreWithin}
+use Rattle.text_formats.specs.Reading.{AreWithin}
 use Rattle.input_files.specs.TextFile.{srt_text}
-use Rattle.input_files.specs.declared.limits.TheConstants.{MOST_OF_SRT}
+use Rattle.input_files.specs.declared.limits.TheConstants.{MAX_SRT_LEN}
 use Rattle.input_files.specs.declared.refusal.TextRefusal.{TextRefusal}
 use Rattle.ext_times.specs.Listing.{Listing}
 use Rattle.input_files.specs.Names.{is_srt}
@@ -198,7 +198,7 @@ pub record AreClusters (octets : ℕ) (outline : FileOutline) (nanoseconds : ℕ
 -- Blocks stand in a file of this length; the entries of a text are those of one that isn't too long.
 abbrev pub CanBeGiven : ℕ → Blocks → Type 0
 CanBeGiven size (held_by.Clusters outline scale) = AreClusters size outline.value scale
-CanBeGiven size (held_by.Entries entries) = AreWithin MOST_OF_SRT entries
+CanBeGiven size (held_by.Entries entries) = AreWithin MAX_SRT_LEN entries
 
 -- The file is live and its blocks can be given, and the tracks are such as can be taken; the
 -- data of its attached files stand in it, and its Chapters and Tags can be read again.

@@ -7,13 +7,13 @@ use Rattle.block_format.specs.declared.limits.TheConstants.{TOO_LARGE_TIME}
 use Rattle.block_format.specs.Elements.{with_limits}
 use Rattle.block_format.specs.Events.{Event, events_of}
 use Rattle.mkv_io.specs.declared.entry.Entry.{Entry}
-use Rattle.output_model.specs.declared.TheConstants.{MOST_OF_PREFIX}
+use Rattle.output_model.specs.declared.TheConstants.{MAX_PREFIX_LEN}
 use Rattle.output_model.specs.OutputBlock.{OutputBlock}
 use Rattle.ext_times.specs.Listing.{Listing}
 use Rattle.merge_model.specs.Lanes.{lane_blocks}
 use Rattle.merge_model.specs.Links.{Given, Placing, text_given, track_given}
 use Rattle.merge_model.specs.Timed.{timed}
-use Rattle.merge_model.specs.declared.limits.TheConstants.{MOST_SHIFT, TOO_LARGE_DELAY}
+use Rattle.merge_model.specs.declared.limits.TheConstants.{MAX_SHIFT, TOO_LARGE_DELAY}
 use Rattle.merge_model.specs.declared.link.Link.{Link}
 use Rattle.merge_model.specs.declared.link.Link.TheVariants.{Track, Entries}
 use Rattle.merge_model.specs.declared.link.TrackLink.{TrackLink}
@@ -84,7 +84,7 @@ KeepsLink old new (Entries e) = ⊤
 -- A delay and a shift keep their limits.
 pub record CanMove (delay : ℤ) (shift : ℕ) : Type 0 where
   pub near : nat_abs delay < TOO_LARGE_DELAY
-  pub within : shift ≤ MOST_SHIFT
+  pub within : shift ≤ MAX_SHIFT
 
 -- An entry's times aren't too large, and it has at most 16 MiB of text.
 pub record IsSmallEntry (e : Entry) : Type 0 where
@@ -94,7 +94,7 @@ pub record IsSmallEntry (e : Entry) : Type 0 where
 
 pub record IsSmallTrack (t : TrackLink) : Type 0 where
   pub moves : CanMove t.delay t.shift
-  pub prefix : length t.prefix ≤ MOST_OF_PREFIX
+  pub prefix : length t.prefix ≤ MAX_PREFIX_LEN
 
 -- At most 2^24 entries, all of which are small.
 pub record IsSmallText (e : TextLink) : Type 0 where

@@ -7,5 +7,5 @@
 mod limits;
 mod link;
 
-pub use limits::{MOST_LINKS, MOST_SHIFT, TOO_LARGE_DELAY};
+pub use limits::{MAX_LINKS, MAX_SHIFT, TOO_LARGE_DELAY};
 pub use link::{LaneSpec, Link, TextLink, TrackLink};

@@ -17,19 +17,19 @@ use Rattle.meta_records.specs.Attached.{AttachedFile, in_file}
 use Rattle.record_changes.specs.Atoms.{edition_uids, chapter_uids}
 use Rattle.record_changes.specs.ChapterIdentifiers.{with_identifiers}
 use Rattle.record_changes.specs.Tags.{written_tags}
-use Rattle.merged_records.specs.Attachments as merged
-use Rattle.merged_records.specs.Attachments.{files_of, merged_attachments, with_uid, with_uids}
-use Rattle.merged_records.specs.Chapters.{chapter_numbers, chapters_in, edition_numbers, merged_chapters}
-use Rattle.merged_records.specs.Inputs.{children_in, uids_in, with_some}
-use Rattle.merged_records.specs.Tags.{all_uids, behind, joined_tags, merged_tags, number_of, numbers_of, tags_from, tags_in}
-use Rattle.merged_records.specs.declared.inputs.InputRecords.{InputRecords}
+use Rattle.output_records.specs.Attachments as merged
+use Rattle.output_records.specs.Attachments.{files_of, merged_attachments, with_uid, with_uids}
+use Rattle.output_records.specs.Chapters.{chapter_numbers, chapters_in, edition_numbers, merged_chapters}
+use Rattle.output_records.specs.Inputs.{children_in, uids_in, with_some}
+use Rattle.output_records.specs.Tags.{all_uids, behind, joined_tags, merged_tags, number_of, numbers_of, tags_from, tags_in}
+use Rattle.output_records.specs.declared.inputs.InputRecords.{InputRecords}
 use Rattle.merge_model.specs.FileLinks.{octets_in}
 use Rattle.merge_inputs.specs.Input.{InputRead, read_in, total_in}
 use Rattle.merge_inputs.specs.declared.input.Input.{Input}
 use Rattle.merge_plan.specs.Front.{attached_from, attachments_of, attached_length, files_in, reads_of}
 use Rattle.merge_plan.specs.Planned.{StandsInInput, IsToldInput, source_in}
 use Rattle.merge_plan.specs.Records.{anywhere, kept_anywhere, kept_in, records_from, records_in, uids_at, uids_behind}
-use Rattle.merge_plan.specs.Spots.{HasRecords}
+use Rattle.merge_plan.specs.TakenTracks.{HasRecords}
 
 -- what inputs give, in their files
 abbrev pub records_at : List ℕ → List ℕ → List Input → List InputRecords

@@ -17,7 +17,7 @@ use Rattle.remux_plan.specs.Parts.{drivers_of}
 use Rattle.remux_plan.specs.declared.plan.PlannedLane.{PlannedLane}
 use Rattle.merge_plan.specs.Chains.{at_place, columns_from}
 use Rattle.merge_plan.specs.Records.{tracks_begun}
-use Rattle.merge_plan.specs.Spots.{AreDriven, GoesOn, HasTaken, IsLaneOf, IsLink, IsLinkAt, Spot, goes_on, spot, spots_at, spots_behind, spots_from, spots_in}
+use Rattle.merge_plan.specs.TakenTracks.{AreDriven, GoesOn, HasTaken, IsLaneOf, IsLink, IsLinkAt, Spot, goes_on, spot, spots_at, spots_behind, spots_from, spots_in}
 use Rattle.merge_plan.proofs.ChainLemmas.{enumerate-push, while-enumerate}
 use Rattle.merge_plan.proofs.RecordLemmas.{begun-taken}
 use Rattle.merge_plan.proofs.ListLemmas.{drop-next, take-next}

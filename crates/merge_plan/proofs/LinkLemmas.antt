@@ -20,9 +20,9 @@ use Rattle.merge_inputs.specs.declared.input.Blocks.{Blocks}
 use Rattle.merge_inputs.specs.declared.input.Blocks.TheVariants as held_by
 use Rattle.merge_inputs.specs.declared.input.Input.{Input}
 use Rattle.merge_inputs.specs.declared.taken.TakenTrack.{TakenTrack}
-use Rattle.merge_plan.specs.Plan.{given_from, given_of, later_by}
+use Rattle.merge_plan.specs.Plan.{given_from, given_of, append_offset}
 use Rattle.merge_plan.specs.Planned.{IsToldInput, source_in}
-use Rattle.merge_plan.specs.Spots.{AreLinksOf, HasPlace, HasTaken, IsLink, IsLinkBy, IsShortText}
+use Rattle.merge_plan.specs.TakenTracks.{AreLinksOf, HasPlace, HasTaken, IsLink, IsLinkBy, IsShortText}
 use Rattle.merge_plan.proofs.PlanLemmas.{link-given, link-open, link-small, link-told, zip-all, zip-map}
 use Rattle.merge_plan.specs.Behind.{walked_in, walked_of}
 
@@ -105,4 +105,4 @@ module _ (i : Input) (links : List Link) (are : AreLinksOf i links) (has : HasTa
 
   -- what they give is what the input gives
   pub links-given : (f : LiveFiles) → map (given_in f) links ≡ given_of (source_in f i)
-  links-given f = zip-map (IsLink i) (given_in f) (given_from (read_in i).times (later_by (read_in i)) (blocks_in i.blocks) (octets_in f i.file.n)) (λ t link is. link-given i t f i.blocks link is) i.taken links are
+  links-given f = zip-map (IsLink i) (given_in f) (given_from (read_in i).times (append_offset (read_in i)) (blocks_in i.blocks) (octets_in f i.file.n)) (λ t link is. link-given i t f i.blocks link is) i.taken links are

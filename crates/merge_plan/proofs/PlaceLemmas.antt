@@ -8,16 +8,16 @@ use Rattle.std.proofs.lemmas.List.Elements.{All-head, All-push, All-tail}
 use Rattle.std.proofs.lemmas.List.Sums.{sum_by-cons}
 use Rattle.mkv_io.specs.declared.outside.FileId.{FileId}
 use Rattle.mkv_io.specs.LiveFiles.{LiveFiles}
-use Rattle.merge_model.specs.declared.limits.TheConstants.{MOST_LINKS}
-use Rattle.lanes.specs.declared.found.TheConstants.{MOST_END}
+use Rattle.merge_model.specs.declared.limits.TheConstants.{MAX_LINKS}
+use Rattle.lanes.specs.declared.survey_result.TheConstants.{MAX_END}
 use Rattle.merge_inputs.specs.Input.{IsInput, read_in}
 use Rattle.merge_inputs.specs.declared.input.Blocks.{Blocks}
 use Rattle.merge_inputs.specs.declared.input.Blocks.TheVariants as held_by
 use Rattle.merge_inputs.specs.declared.input.Input.{Input}
 use Rattle.merge_plan.specs.Places.{begun_at, end_of, in_place, in_place_from}
-use Rattle.merge_plan.specs.Plan.{Source, later_by}
+use Rattle.merge_plan.specs.Plan.{Source, append_offset}
 use Rattle.merge_plan.specs.Planned.{IsToldInput, source_in}
-use Rattle.merge_plan.specs.Spots.{HasPlace}
+use Rattle.merge_plan.specs.TakenTracks.{HasPlace}
 use Rattle.merge_plan.specs.Behind.{end_behind, last_in, most_behind, size_behind, walked_for, walked_in, walked_of}
 use Rattle.merge_plan.specs.Placed.{walked_behind}
 
@@ -62,13 +62,13 @@ pub record GoesOn (f : LiveFiles) (inputs placed left : List Input) : Type 0 whe
   pub files : map (λ (i : Input). i.file) placed ++ map (λ (i : Input). i.file) left ≡ map (λ (i : Input). i.file) inputs
   pub many : length placed + length left ≡ length inputs
   pub places : All HasPlace placed
-  pub near : most_behind placed ≤ length placed * MOST_END
+  pub near : most_behind placed ≤ length placed * MAX_END
   pub told : All (IsToldInput f) inputs → All (IsToldInput f) placed × All (IsToldInput f) left
   pub exact : All (IsToldInput f) inputs → map (source_in f) placed ++ in_place_from (end_behind f placed) (map (source_in f) left) ≡ in_place (map (source_in f) inputs)
 
 module _ (f : LiveFiles) (inputs placed new left rest : List Input) (i : Input) (shift : Option ℕ) (goes : GoesOn f inputs placed left) (next : left ≡ i ∷ rest)
     (near : unwrap_or shift 0 ≤ most_behind placed) (behind : All (IsToldInput f) placed → shift ≡ option_map (λ _. end_behind f placed) i.shift) (put : new ≡ placed ++ moved shift i ∷ []) where
-  pub goes-more : length inputs ≤ MOST_LINKS → GoesOn f inputs new rest
+  pub goes-more : length inputs ≤ MAX_LINKS → GoesOn f inputs new rest
   goes-more few = subst (λ (ps : List Input). GoesOn f inputs ps rest) (sym put) (record {
     good = All-push (IsInput f) placed (moved shift i) goes.good (moved-good f shift i (All-head (IsInput f) i rest (subst (All (IsInput f)) next goes.rest)));
     rest = All-tail (IsInput f) i rest (subst (All (IsInput f)) next goes.rest);
@@ -79,7 +79,7 @@ module _ (f : LiveFiles) (inputs placed new left rest : List Input) (i : Input) 
         ∙ goes.files;
     many = omega (arith, length-append placed (moved shift i ∷ []), ap length next, goes.many);
     places = All-push HasPlace placed (moved shift i) goes.places place;
-    near = omega (arith, length-append placed (moved shift i ∷ []), behind-push (λ (each : Input). later_by (read_in each) + MOST_END) placed (moved shift i), near, goes.near);
+    near = omega (arith, length-append placed (moved shift i ∷ []), behind-push (λ (each : Input). append_offset (read_in each) + MAX_END) placed (moved shift i), near, goes.near);
     told = λ told.
         let before = goes.told told in
         let after = subst (All (IsToldInput f)) next before.1 in

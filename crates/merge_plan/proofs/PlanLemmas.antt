@@ -12,8 +12,8 @@ use Rattle.element_reader.specs.Outline.{FileOutline}
 use Rattle.block_format.specs.Elements.{with_limits}
 use Rattle.block_format.specs.Events.{events_of}
 use Rattle.mkv_io.specs.declared.entry.Entry.{Entry}
-use Rattle.srt_texts.specs.Reading.{AreWithin, IsEntryWithin}
-use Rattle.input_files.specs.declared.limits.TheConstants.{MOST_OF_SRT}
+use Rattle.text_formats.specs.Reading.{AreWithin, IsEntryWithin}
+use Rattle.input_files.specs.declared.limits.TheConstants.{MAX_SRT_LEN}
 use Rattle.merge_model.specs.Links.{Given, Placing, text_given, track_given}
 use Rattle.ext_times.specs.Listing.{Listing}
 use Rattle.merge_model.specs.FileLinks.{listing_of, octets_in, placing_of, given_in, timed_given, IsOpenLink, IsOpenTrack, IsToldLink, IsSmallEntry, IsSmallLink, IsSmallText, IsSmallTrack}
@@ -26,7 +26,7 @@ use Rattle.splitter.specs.Split.{is_driver}
 use Rattle.remux_plan.specs.Parts.{drivers_of}
 use Rattle.remux_plan.specs.Plan.{links_of, rules_of}
 use Rattle.remux_plan.specs.declared.plan.PlannedLane.{PlannedLane}
-use Rattle.output_model.specs.declared.TheConstants.{MOST_LANES}
+use Rattle.output_model.specs.declared.TheConstants.{MAX_LANES}
 use Rattle.merge_words.specs.declared.output.MergeWords.{MergeWords}
 use Rattle.merge_inputs.specs.Input.{AreClusters, CanBeGiven, InputRead, IsInput, blocks_in, read_in}
 use Rattle.merge_inputs.specs.Taken.{IsTaken}
@@ -35,12 +35,12 @@ use Rattle.merge_inputs.specs.declared.input.Blocks.TheVariants as held_by
 use Rattle.merge_inputs.specs.declared.input.Input.{Input}
 use Rattle.merge_inputs.specs.declared.taken.TakenTrack.{TakenTrack}
 use Rattle.merge_plan.specs.Chains.{lanes_by}
-use Rattle.merge_plan.specs.Plan.{Source, drives_given, given_for, given_from, given_of, inputs_given, is_video, lanes_given, later_by, numbers_of, placing_for, rule_of, rules_given}
+use Rattle.merge_plan.specs.Plan.{Source, drives_given, given_for, given_from, given_of, inputs_given, is_video, lanes_given, append_offset, numbers_of, placing_for, rule_of, rules_given}
 use Rattle.merge_plan.specs.Planned.{IsLinked, IsSparedLink, IsToldInput, source_in}
 use Rattle.merge_plan.specs.Records.{is_appended, tracks_begun, tracks_taken}
 use Rattle.merge_plan.specs.Refusal.{lanes_refusal, plan_refusal, records_refusal}
 use Rattle.merge_plan.specs.declared.refusal.PlanRefusal.{PlanRefusal}
-use Rattle.merge_plan.specs.Spots.{AreDriven, Spot, HasPlace, HasTaken, IsLaneOf, IsLink, IsLinkAt, IsLinkBy, IsLinkOf, IsShortText, IsTextOf, goes_on, rule_at, spot, spots_in, spots_from}
+use Rattle.merge_plan.specs.TakenTracks.{AreDriven, Spot, HasPlace, HasTaken, IsLaneOf, IsLink, IsLinkAt, IsLinkBy, IsLinkOf, IsShortText, IsTextOf, goes_on, rule_at, spot, spots_in, spots_from}
 use Rattle.merge_plan.proofs.ChainLemmas.{begins, enumerate-all, enumerate-map, enumerate-sum, lanes-all, lanes-few, lanes-first, lanes-light, lanes-map, unnumbered}
 use Rattle.merge_plan.proofs.RefusalLemmas.{unrefused-few}
 
@@ -99,14 +99,14 @@ spots-rules n inputs =
 
 -- what a track gives, among these files
 abbrev pub given_at : LiveFiles → Spot → Given
-given_at f s = given_from (read_in s.input).times (later_by (read_in s.input)) (blocks_in s.input.blocks) (octets_in f s.input.file.n) s.track
+given_at f s = given_from (read_in s.input).times (append_offset (read_in s.input)) (blocks_in s.input.blocks) (octets_in f s.input.file.n) s.track
 
 spots-given : (f : LiveFiles) (n : ℕ) (inputs : List Input) → map (map (given_at f)) (spots_from n inputs) ≡ lanes_given (map (source_in f) inputs)
 spots-given f n inputs =
     sym (lanes-map (λ (s : Source). is_appended s.1) given_of (λ (each : ℕ × Input). source_in f each.1) spots_in (given_at f) (λ each. of each.0 each.1 each.1.taken) (enumerate_from n inputs))
     ∙ ap lanes_given (unnumbered (source_in f) n inputs)
   where
-    of : (n : ℕ) (i : Input) (ts : List TakenTrack) → map (given_from (read_in i).times (later_by (read_in i)) (blocks_in i.blocks) (octets_in f i.file.n)) ts ≡ map (given_at f) (map (spot n i) ts)
+    of : (n : ℕ) (i : Input) (ts : List TakenTrack) → map (given_from (read_in i).times (append_offset (read_in i)) (blocks_in i.blocks) (octets_in f i.file.n)) ts ≡ map (given_at f) (map (spot n i) ts)
     of n i [] = refl
     of n i (t ∷ ts) = ap (λ l. given_at f (spot n i t) ∷ l) (of n i ts)
 
@@ -142,22 +142,22 @@ made : LiveFiles → Placing → ℕ → ℕ → ℕ → FileOutline → Given
 made f p number scale file outline = track_given p number (events_of (with_limits scale) (octets_in f file) outline.segment)
 
 module _ (i : Input) (read : FileOutline) (nanoseconds : ℕ) (t : TakenTrack) (link : TrackLink) (is : IsLinkOf i read nanoseconds t link) where
-  placing-is : placing_of link ≡ placing_for (later_by (read_in i)) t
+  placing-is : placing_of link ≡ placing_for (append_offset (read_in i)) t
   placing-is = λ j. record { delay = is.delay j; shift = is.shift j; default_duration = is.default_duration j; prefix = is.prefix j }
 
-  made-same : (f : LiveFiles) → made f (placing_of link) link.number link.scale link.file.n link.outline.value ≡ made f (placing_for (later_by (read_in i)) t) t.track.number nanoseconds i.file.n read
+  made-same : (f : LiveFiles) → made f (placing_of link) link.number link.scale link.file.n link.outline.value ≡ made f (placing_for (append_offset (read_in i)) t) t.track.number nanoseconds i.file.n read
   made-same f =
       ap (λ p. made f p link.number link.scale link.file.n link.outline.value) placing-is
-      ∙ ap (λ n. made f (placing_for (later_by (read_in i)) t) n link.scale link.file.n link.outline.value) is.number
-      ∙ ap (λ s. made f (placing_for (later_by (read_in i)) t) t.track.number s link.file.n link.outline.value) is.scale
-      ∙ ap (λ (file : FileId). made f (placing_for (later_by (read_in i)) t) t.track.number nanoseconds file.n link.outline.value) is.file
-      ∙ ap (made f (placing_for (later_by (read_in i)) t) t.track.number nanoseconds i.file.n) is.outline
+      ∙ ap (λ n. made f (placing_for (append_offset (read_in i)) t) n link.scale link.file.n link.outline.value) is.number
+      ∙ ap (λ s. made f (placing_for (append_offset (read_in i)) t) t.track.number s link.file.n link.outline.value) is.scale
+      ∙ ap (λ (file : FileId). made f (placing_for (append_offset (read_in i)) t) t.track.number nanoseconds file.n link.outline.value) is.file
+      ∙ ap (made f (placing_for (append_offset (read_in i)) t) t.track.number nanoseconds i.file.n) is.outline
 
-  track-given : (f : LiveFiles) → given_in f (Track link) ≡ given_for (read_in i).times (later_by (read_in i)) (events_of (with_limits nanoseconds) (octets_in f i.file.n) read.segment) t
+  track-given : (f : LiveFiles) → given_in f (Track link) ≡ given_for (read_in i).times (append_offset (read_in i)) (events_of (with_limits nanoseconds) (octets_in f i.file.n) read.segment) t
   unfolding made
   track-given f =
       ap (timed_given (listing_of link) 0) (made-same f)
-      ∙ ap (λ (times : Option Listing). timed_given times 0 (track_given (placing_for (later_by (read_in i)) t) t.track.number (events_of (with_limits nanoseconds) (octets_in f i.file.n) read.segment))) is.times
+      ∙ ap (λ (times : Option Listing). timed_given times 0 (track_given (placing_for (append_offset (read_in i)) t) t.track.number (events_of (with_limits nanoseconds) (octets_in f i.file.n) read.segment))) is.times
 
   track-small : IsTaken t → HasPlace i → IsSmallTrack link
   track-small taken place =
@@ -178,21 +178,21 @@ module _ (i : Input) (read : FileOutline) (nanoseconds : ℕ) (t : TakenTrack) (
 
 -- ---- a link to a text
 
-small-entry : (e : Entry) → IsEntryWithin MOST_OF_SRT e → IsSmallEntry e
+small-entry : (e : Entry) → IsEntryWithin MAX_SRT_LEN e → IsSmallEntry e
 small-entry e within = let ends = within.0 in let few = within.1 in record { start = omega arith; duration = omega arith; text = omega arith }
 
 module _ (i : Input) (read : List Entry) (t : TakenTrack) (link : TextLink) (is : IsTextOf i read t link) where
-  text-given : (f : LiveFiles) → given_in f (Entries link) ≡ text_given t.delay (later_by (read_in i)) read
+  text-given : (f : LiveFiles) → given_in f (Entries link) ≡ text_given t.delay (append_offset (read_in i)) read
   text-given f = λ j. text_given (is.delay j) (is.shift j) (is.entries j)
 
-  text-small : IsTaken t → HasPlace i → AreWithin MOST_OF_SRT read → IsSmallText link
+  text-small : IsTaken t → HasPlace i → AreWithin MAX_SRT_LEN read → IsSmallText link
   text-small taken place within =
       let near = taken.near in
       let few = within.0 in
       record {
         moves = record { near = omega (arith, ap nat_abs is.delay); within = omega (arith, is.shift) };
         few = omega (arith, ap length is.entries);
-        entries = subst (All IsSmallEntry) (sym is.entries) (All-weaker (IsEntryWithin MOST_OF_SRT) IsSmallEntry small-entry read within.1);
+        entries = subst (All IsSmallEntry) (sym is.entries) (All-weaker (IsEntryWithin MAX_SRT_LEN) IsSmallEntry small-entry read within.1);
       }
 
 -- ---- a link, by what holds the blocks of its input
@@ -206,7 +206,7 @@ input-taken f i good = record { taken = good.taken; text = short i.blocks good.b
     short (held_by.Entries entries) are = are
 
 module _ (i : Input) (t : TakenTrack) where
-  pub link-given : (f : LiveFiles) (blocks : Blocks) (link : Link) → IsLinkBy i blocks t link → given_in f link ≡ given_from (read_in i).times (later_by (read_in i)) (blocks_in blocks) (octets_in f i.file.n) t
+  pub link-given : (f : LiveFiles) (blocks : Blocks) (link : Link) → IsLinkBy i blocks t link → given_in f link ≡ given_from (read_in i).times (append_offset (read_in i)) (blocks_in blocks) (octets_in f i.file.n) t
   link-given f (held_by.Clusters outline scale) (Track link) is = track-given i outline.value scale t link is f
   link-given f (held_by.Clusters outline scale) (Entries text) is = absurd is
   link-given f (held_by.Entries entries) (Track link) is = absurd is
@@ -340,7 +340,7 @@ module _ (inputs : List Input) (lanes : List PlannedLane) (are : AllZip IsLaneOf
 -- ---- the plan
 
 -- what isn't refused has few lanes
-pub plan-few : (words : MergeWords) (reads : List InputRead) → plan_refusal words reads ≡ None → length (tracks_taken reads) ≤ MOST_LANES
+pub plan-few : (words : MergeWords) (reads : List InputRead) → plan_refusal words reads ≡ None → length (tracks_taken reads) ≤ MAX_LANES
 plan-few words reads none = unrefused-few words.webm (tracks_taken reads) (first-none (lanes_refusal words.webm (tracks_taken reads)) (records_refusal reads) none)
   where
     first-none : (o p : Option PlanRefusal) → option_or o p ≡ None → o ≡ None

@@ -16,7 +16,7 @@ use Rattle.merge_inputs.specs.declared.input.Input.{Input}
 use Rattle.merge_inputs.specs.declared.taken.TakenTrack.{TakenTrack}
 use Rattle.merge_plan.specs.Lent.{lent}
 use Rattle.merge_plan.specs.Records.{entries_from, entry_of, first_title, is_appended, title_or, tracks_begun, tracks_taken, uids_of}
-use Rattle.merge_plan.specs.Spots.{HasTaken}
+use Rattle.merge_plan.specs.TakenTracks.{HasTaken}
 use Rattle.merge_plan.proofs.ListLemmas.{take-next, drop-next, lent-next}
 
 -- ---- titles

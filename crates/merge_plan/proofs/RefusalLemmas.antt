@@ -4,7 +4,7 @@ use Rattle.std.specs.Option.{option_or}
 use Rattle.std.proofs.lemmas.Bool.Decides.{nat_tests}
 use Rattle.std.proofs.lemmas.List.{drop_all}
 use denote.Ref.{Bor}
-use Rattle.output_model.specs.declared.TheConstants.{MOST_LANES}
+use Rattle.output_model.specs.declared.TheConstants.{MAX_LANES}
 use Rattle.merge_inputs.specs.declared.taken.TakenTrack.{TakenTrack}
 use Rattle.merge_plan.specs.Lent.{lent}
 use Rattle.merge_plan.specs.Webm.{is_webm_codec}
@@ -41,16 +41,16 @@ module _ (webm : Bool) (taken : List TakenTrack) where
     past-none : lanes_refusal webm taken ≡ option_or (too_many_lanes taken) (not_webm webm taken)
     past-none = ap (λ b. option_or (where_so b NoLane) (option_or (too_many_lanes taken) (not_webm webm taken))) some
 
-    pub refused-many : MOST_LANES < length taken → lanes_refusal webm taken ≡ Some TooManyLanes
+    pub refused-many : MAX_LANES < length taken → lanes_refusal webm taken ≡ Some TooManyLanes
     refused-many many =
-        let is : nat_lt MOST_LANES (length taken) ≡ true = grind (arith, nat_tests) in
+        let is : nat_lt MAX_LANES (length taken) ≡ true = grind (arith, nat_tests) in
         past-none ∙ ap (λ b. option_or (where_so b TooManyLanes) (not_webm webm taken)) is
 
 -- what isn't refused are some lanes, and not too many
-pub unrefused-few : (webm : Bool) (taken : List TakenTrack) → lanes_refusal webm taken ≡ None → length taken ≤ MOST_LANES
-unrefused-few webm taken none = of (length taken == 0) refl (nat_lt MOST_LANES (length taken)) refl
+pub unrefused-few : (webm : Bool) (taken : List TakenTrack) → lanes_refusal webm taken ≡ None → length taken ≤ MAX_LANES
+unrefused-few webm taken none = of (length taken == 0) refl (nat_lt MAX_LANES (length taken)) refl
   where
-    of : (b : Bool) → (length taken == 0) ≡ b → (m : Bool) → nat_lt MOST_LANES (length taken) ≡ m → length taken ≤ MOST_LANES
+    of : (b : Bool) → (length taken == 0) ≡ b → (m : Bool) → nat_lt MAX_LANES (length taken) ≡ m → length taken ≤ MAX_LANES
     of true is m many = let never = sym (refused-none webm taken is) ∙ none in absurd (cc)
     of false is true many = let never = sym (refused-many webm taken is (grind (arith, nat_tests))) ∙ none in absurd (cc)
     of false is false many = grind (arith, nat_tests)

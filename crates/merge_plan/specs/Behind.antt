@@ -3,13 +3,13 @@ use Rattle.std.specs.Prelude.{◌≡◌, ℕ, ◌+◌, ◌-◌, List, length, Op
 use Rattle.std.specs.List.{All}
 use Rattle.std.specs.Option.{option_map, option_map_or}
 use Rattle.mkv_io.specs.LiveFiles.{LiveFiles}
-use Rattle.lanes.specs.declared.found.TheConstants.{MOST_END}
+use Rattle.lanes.specs.declared.survey_result.TheConstants.{MAX_END}
 use Rattle.merge_inputs.specs.Input.{read_in}
 use Rattle.merge_inputs.specs.declared.input.Blocks.{Blocks}
 use Rattle.merge_inputs.specs.declared.input.Blocks.TheVariants.{Clusters, Entries}
 use Rattle.merge_inputs.specs.declared.input.Input.{Input}
 use Rattle.merge_plan.specs.Places.{end_of}
-use Rattle.merge_plan.specs.Plan.{later_by}
+use Rattle.merge_plan.specs.Plan.{append_offset}
 use Rattle.merge_plan.specs.Planned.{IsToldInput, source_in}
 use Rattle.mkv_io.specs.Bounds.{ReadsUpTo}
 use Rattle.mkv_io.specs.Sources.{live_files}
@@ -29,7 +29,7 @@ end_behind f inputs = option_map_or (λ (i : Input). end_of (source_in f i)) (la
 
 -- the most nanoseconds at which it ends
 abbrev pub most_behind : List Input → ℕ
-most_behind inputs = option_map_or (λ (i : Input). later_by (read_in i) + MOST_END) (last_in inputs) 0
+most_behind inputs = option_map_or (λ (i : Input). append_offset (read_in i) + MAX_END) (last_in inputs) 0
 
 -- how much of a file of this length is walked over to find where it ends: of a text nothing, since its entries tell that
 abbrev pub walked_in : Blocks → ℕ → ℕ

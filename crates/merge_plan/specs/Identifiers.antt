@@ -1,8 +1,8 @@
 -- The identifiers of an output: RFC 9559, sections 5.1.4.1.2 (TrackUID Element), 5.1.6.1.5 (FileUID Element), 5.1.7.1.1 (EditionUID Element) and 5.1.7.1.4.1 (ChapterUID Element). Which they are is this project's.
 use Rattle.std.specs.Prelude.{◌<◌, ◌^◌, ℕ, List}
 use Rattle.std.specs.List.{All}
-use Rattle.merged_records.specs.Attachments.{file_numbers}
-use Rattle.merged_records.specs.Chapters.{chapter_numbers, edition_numbers}
+use Rattle.output_records.specs.Attachments.{file_numbers}
+use Rattle.output_records.specs.Chapters.{chapter_numbers, edition_numbers}
 use Rattle.merge_inputs.specs.Input.{InputRead}
 use Rattle.merge_plan.specs.Records.{records_of, tracks_taken, uids_of}
 

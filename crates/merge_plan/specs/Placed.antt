@@ -6,7 +6,7 @@ use Rattle.merge_inputs.specs.Input.{IsInput}
 use Rattle.merge_inputs.specs.declared.input.Input.{Input}
 use Rattle.merge_plan.specs.Places.{in_place}
 use Rattle.merge_plan.specs.Planned.{IsToldInput, source_in}
-use Rattle.merge_plan.specs.Spots.{HasPlace}
+use Rattle.merge_plan.specs.TakenTracks.{HasPlace}
 use Rattle.merge_plan.specs.Behind.{walked_for, walked_of}
 
 -- Each that is appended begins where the one before it ends, where their files tell their contents.

@@ -2,11 +2,11 @@
 use Rattle.std.specs.Prelude.{ℕ, ◌+◌, List, [], ◌∷◌}
 use Rattle.std.specs.Option.{option_map}
 use Rattle.merge_model.specs.Ends.{file_end}
-use Rattle.merge_plan.specs.Plan.{Source, given_of, later_by}
+use Rattle.merge_plan.specs.Plan.{Source, given_of, append_offset}
 
 -- where a source ends in the output: at the end of its blocks, so much later as it begins
 abbrev pub end_of : Source → ℕ
-end_of s = later_by s.1 + file_end (given_of s)
+end_of s = append_offset s.1 + file_end (given_of s)
 
 -- a source that begins at this time, where it is appended to another
 abbrev pub begun_at : ℕ → Source → Source

@@ -32,8 +32,8 @@ abbrev pub Source : Type 0
 Source = List ℕ × InputRead
 
 -- by how many nanoseconds an input is later; one that isn't appended is at its own time
-abbrev pub later_by : InputRead → ℕ
-later_by i = unwrap_or i.shift 0
+abbrev pub append_offset : InputRead → ℕ
+append_offset i = unwrap_or i.shift 0
 
 -- how the blocks of a track are placed: with the word's delay, later by so much, and with what header stripping took from the
 -- front of each frame
@@ -52,7 +52,7 @@ given_from times shift (Entries entries) bytes t = text_given t.delay shift entr
 
 -- what the tracks of a source give to its lanes
 abbrev pub given_of : Source → List Given
-given_of s = map (given_from s.1.times (later_by s.1) s.1.blocks s.0) s.1.taken
+given_of s = map (given_from s.1.times (append_offset s.1) s.1.blocks s.0) s.1.taken
 
 -- Each lane, by what its links give: a track of a source that isn't appended begins one, and the tracks at its place of those that are
 -- appended to that source go on in it.
@@ -73,14 +73,14 @@ abbrev pub limits_of : MergeWords → ClusterLimits
 limits_of words = record { blocks = words.blocks; span = words.span; scale = words.scale }
 
 -- where the words say nothing, blocks that can be decoded without another get a cue point, but for those of audio
-abbrev pub usual_rule : ℕ → CueRule
-usual_rule type = if type == VIDEO_TRACK || type == SUBTITLE_TRACK then rule.Key else rule.Never
+abbrev pub default_rule : ℕ → CueRule
+default_rule type = if type == VIDEO_TRACK || type == SUBTITLE_TRACK then rule.Key else rule.Never
 
 abbrev pub rule_for : Option CueWord → ℕ → CueRule
 rule_for (Some Never) type = rule.Never
 rule_for (Some Key) type = rule.Key
 rule_for (Some All) type = rule.All
-rule_for None type = usual_rule type
+rule_for None type = default_rule type
 
 abbrev pub rule_of : TakenTrack → CueRule
 rule_of t = rule_for t.cues t.track.kind

@@ -3,11 +3,11 @@ use Rattle.std.specs.Prelude.{◌≡◌, ◌<◌, ◌≤◌, ⊤, ℕ, ◌+◌, 
 use Rattle.std.specs.List.{All}
 use Rattle.mkv_io.specs.LiveFiles.{LiveFiles}
 use Rattle.mkv_schema.specs.declared.ids.TheConstants.{INFO, TRACKS, CHAPTERS, TAGS}
-use Rattle.output_model.specs.declared.TheConstants.{MOST_LANES}
+use Rattle.output_model.specs.declared.TheConstants.{MAX_LANES}
 use Rattle.output_model.specs.Attached.{attached_file}
 use Rattle.output_model.specs.declared.attachment.Attachment.{Attachment}
 use Rattle.output_model.specs.Sound.{IsRecord}
-use Rattle.merged_records.specs.Inputs.{IsAttached}
+use Rattle.output_records.specs.Inputs.{IsAttached}
 use Rattle.output_model.specs.Front.{front_with}
 use Rattle.merge_model.specs.FileLinks.{octets_in, given_in, IsOpenLink, IsToldLink, IsSmallLink}
 use Rattle.merge_model.specs.declared.link.Link.{Link}
@@ -120,7 +120,7 @@ pub record IsLinked (inputs : List Input) (l : PlannedLane) : Type 0 where
 -- are small, and tracks of the inputs, so that a test which spares the files of all inputs spares theirs; its records are read again, its
 -- attached files stand in those of the inputs, and its identifiers have 64 bits.
 pub record CanBeWritten (inputs : List Input) (p : MergePlan) : Type 0 where
-  pub few : length p.lanes ≤ MOST_LANES
+  pub few : length p.lanes ≤ MAX_LANES
   pub linked : All (IsLinked inputs) p.lanes
   pub once : (f : LiveFiles) → All (λ (l : PlannedLane). files_length f l.spec.links ≤ sum_by (λ (i : Input). f.size i.file.n) inputs) p.lanes
   pub small : AllLinks IsSmallLink p

@@ -10,11 +10,11 @@ use Rattle.merge_words.specs.declared.output.MergeWords.{MergeWords}
 use Rattle.merge_inputs.specs.Input.{InputRead, read_in}
 use Rattle.merge_inputs.specs.declared.input.Input.{Input}
 use Rattle.merge_inputs.specs.declared.taken.TakenTrack.{TakenTrack}
-use Rattle.merged_records.specs.Chapters.{merged_chapters}
-use Rattle.merged_records.specs.Tags.{merged_tags}
-use Rattle.merged_records.specs.declared.inputs.InputRecords.{InputRecords}
-use Rattle.merged_records.specs.Info.{output_info}
-use Rattle.merged_records.specs.Tracks.{output_tracks}
+use Rattle.output_records.specs.Chapters.{merged_chapters}
+use Rattle.output_records.specs.Tags.{merged_tags}
+use Rattle.output_records.specs.declared.inputs.InputRecords.{InputRecords}
+use Rattle.output_records.specs.Info.{output_info}
+use Rattle.output_records.specs.Tracks.{output_tracks}
 
 -- an input goes on where the one before it ends
 abbrev pub is_appended : InputRead → Bool

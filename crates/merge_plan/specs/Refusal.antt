@@ -1,8 +1,8 @@
 -- What refuses a merge whose inputs were read. The causes, their order and the limits are this project's.
 use Rattle.std.specs.Prelude.{ℕ, ◌==◌, nat_lt, Bool, true, false, not, if◌then◌else◌, List, length, find, Option, Some, None, option_map}
 use Rattle.std.specs.Option.{option_or}
-use Rattle.output_model.specs.declared.TheConstants.{MOST_LANES}
-use Rattle.merged_records.specs.Limits.{first_too_large}
+use Rattle.output_model.specs.declared.TheConstants.{MAX_LANES}
+use Rattle.output_records.specs.Limits.{first_too_large}
 use Rattle.merge_words.specs.declared.output.MergeWords.{MergeWords}
 use Rattle.merge_inputs.specs.Input.{InputRead}
 use Rattle.merge_inputs.specs.declared.taken.TakenTrack.{TakenTrack}
@@ -22,7 +22,7 @@ no_lane taken = where_so (length taken == 0) NoLane
 
 -- more tracks are taken than an output has lanes
 abbrev pub too_many_lanes : List TakenTrack → Option PlanRefusal
-too_many_lanes taken = where_so (nat_lt MOST_LANES (length taken)) TooManyLanes
+too_many_lanes taken = where_so (nat_lt MAX_LANES (length taken)) TooManyLanes
 
 -- the CodecID of the first track that a WebM output can't have
 abbrev pub other_codec : List TakenTrack → Option (List ℕ)

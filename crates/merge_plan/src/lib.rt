@@ -16,7 +16,7 @@ mod title;
 mod webm;
 
 pub use appending::{AppendDiffers, append_refusal};
-pub use placing::set_in_place;
+pub use placing::assign_append_offsets;
 pub use plan::plan_of;
 pub use planned_lanes::links_of;
 pub use refusal::{PlanEnd, PlanRefusal};

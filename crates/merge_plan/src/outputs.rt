@@ -6,15 +6,15 @@ ghost use Rattle.merge_inputs.specs.Input.{read_in};
 ghost use Rattle.merge_plan.specs.Lent.{lent};
 ghost use Rattle.merge_plan.specs.Planned.{AreRecordsOf, AreSound};
 ghost use Rattle.merge_plan.specs.Records.{tracks_taken};
-ghost use Rattle.merge_plan.specs.Spots.{HasRecords, HasTaken};
+ghost use Rattle.merge_plan.specs.TakenTracks.{HasRecords, HasTaken};
 
 use crate::entries::{entries_of, uids_of};
 use crate::records::records_of;
 use ebml_tree::Tree;
 use merge_inputs::{Input, TakenTrack};
-use merged_records::{MergedRecords, merge_records, tracks_of};
 use mkv_io::List;
 use output_model::Attachment;
+use output_records::{MergedRecords, merge_records, tracks_of};
 use std::alloc::{AllocError, Global};
 
 /// What stands around the Clusters of an output, but for its Info.

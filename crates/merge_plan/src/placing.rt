@@ -6,11 +6,11 @@ ghost use Rattle.std.specs.Option.{unwrap_or};
 ghost use Rattle.mkv_io.specs.Bounds.{ReadsUpTo};
 ghost use Rattle.mkv_io.specs.Faults.{HasCause, is_read_fault};
 ghost use Rattle.mkv_io.specs.Sources.{live_files};
-ghost use Rattle.merge_model.specs.declared.limits.TheConstants.{MOST_LINKS};
-ghost use Rattle.lanes.specs.declared.found.TheConstants.{MOST_END};
+ghost use Rattle.merge_model.specs.declared.limits.TheConstants.{MAX_LINKS};
+ghost use Rattle.lanes.specs.declared.survey_result.TheConstants.{MAX_END};
 ghost use Rattle.merge_inputs.specs.Input.{IsInput, read_in};
-ghost use Rattle.merge_plan.specs.Plan.{later_by};
-ghost use Rattle.merge_plan.specs.Spots.{HasPlace};
+ghost use Rattle.merge_plan.specs.Plan.{append_offset};
+ghost use Rattle.merge_plan.specs.TakenTracks.{HasPlace};
 ghost use Rattle.merge_plan.specs.Behind.{EndsAt, IsBehind, ReadsToPlace, most_behind, walked_of};
 ghost use Rattle.merge_plan.specs.Placed.{ArePlaced, StandInPlace, walked_length};
 
@@ -25,7 +25,7 @@ fn end_of<R: Reads>(alloc: Global, input: &Input, src: &mut R) -> Result<u64, Re
     requires input { IsInput (live_files R.Reads src.old) input.now }
     requires place { HasPlace input.now }
     ensures exact { IfOk result (EndsAt (live_files R.Reads src.old) input.now) }
-    ensures near { IfOk result (λ end. end ≤ later_by (read_in input.now) + MOST_END) }
+    ensures near { IfOk result (λ end. end ≤ append_offset (read_in input.now) + MAX_END) }
     ensures standing { R.standing src.new ≡ R.standing src.old }
     ensures cause { HasCause is_read_fault (R.reading_faults src.old) (R.reading_faults src.new) result }
     ensures octets { ReadsUpTo R.Reads src.old src.new (2 * walked_of (live_files R.Reads src.old) input.now) }
@@ -61,13 +61,13 @@ fn shift_behind<R: Reads>(
 
 /// Sets each input that is appended to where the one before it ends. The file of that one is walked over, unless it is a text,
 /// and no other.
-pub fn set_in_place<R: Reads>(
+pub fn assign_append_offsets<R: Reads>(
     alloc: Global,
     inputs: List<Input>,
     src: &mut R,
 ) -> Result<List<Input>, ReadEnd>
     requires inputs { All (IsInput (live_files R.Reads src.old)) inputs }
-    requires few { length inputs ≤ MOST_LINKS }
+    requires few { length inputs ≤ MAX_LINKS }
     ensures exact { IfOk result (StandInPlace (live_files R.Reads src.old) inputs) }
     ensures placed { IfOk result (ArePlaced (live_files R.Reads src.new) inputs) }
     ensures standing { R.standing src.new ≡ R.standing src.old }

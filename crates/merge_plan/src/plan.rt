@@ -6,7 +6,7 @@ ghost use Rattle.std.specs.Option.{option_copied};
 ghost use Rattle.merge_plan.specs.Lent.{lent};
 ghost use Rattle.merge_plan.specs.Planned.{AreSound, CanBeWritten, GivesRecords, Plans};
 ghost use Rattle.merge_plan.specs.Refusal.{lanes_refusal, other_codec};
-ghost use Rattle.merge_plan.specs.Spots.{HasPlace, HasRecords, HasTaken};
+ghost use Rattle.merge_plan.specs.TakenTracks.{HasPlace, HasRecords, HasTaken};
 
 use crate::entries::tracks_taken;
 use crate::outputs::{OutputRecords, output_of};
@@ -17,9 +17,9 @@ use crate::title::title_of;
 use crate::webm::is_webm_codec;
 use merge_inputs::{Input, TakenTrack};
 use merge_words::MergeWords;
-use merged_records::{first_too_large, info_of};
 use mkv_io::{List, Text};
-use output_model::{ClusterLimits, Front, MOST_LANES};
+use output_model::{ClusterLimits, Front, MAX_LANES};
+use output_records::{first_too_large, info_of};
 use remux_plan::MergePlan;
 use splitter::split_size;
 use std::alloc::{AllocError, Global};
@@ -43,7 +43,7 @@ fn lanes_refusal(webm: bool, taken: &[&TakenTrack]) -> Result<Option<PlanRefusal
     if taken.is_empty() {
         return Ok(Some(PlanRefusal::NoLane));
     }
-    if taken.len() > MOST_LANES {
+    if taken.len() > MAX_LANES {
         return Ok(Some(PlanRefusal::TooManyLanes));
     }
     if webm {

@@ -3,11 +3,11 @@
 ghost use Rattle.std.specs.Prelude.{◌≡◌, ◌≤◌, ◌<◌, ◌+◌, ◌^◌, ◌∷◌, length, option_map, IfOk, OnOk};
 ghost use Rattle.std.specs.List.{All, take_while};
 ghost use Rattle.file_format.specs.Encoding.{prefix_of};
-ghost use Rattle.output_model.specs.declared.TheConstants.{MOST_OF_PREFIX};
+ghost use Rattle.output_model.specs.declared.TheConstants.{MAX_PREFIX_LEN};
 ghost use Rattle.merge_inputs.specs.Input.{read_in};
 ghost use Rattle.merge_inputs.specs.Taken.{IsTaken};
-ghost use Rattle.merge_plan.specs.Plan.{later_by, rule_of, usual_rule};
-ghost use Rattle.merge_plan.specs.Spots.{AreDriven, AreLanesOf, AreLinksOf, GoesOn, HasTaken, IsLaneOf, IsLink, IsLinkOf, IsTextOf, goes_on, spot, spots_at, spots_behind, times_listed};
+ghost use Rattle.merge_plan.specs.Plan.{append_offset, rule_of, default_rule};
+ghost use Rattle.merge_plan.specs.TakenTracks.{AreDriven, AreLanesOf, AreLinksOf, GoesOn, HasTaken, IsLaneOf, IsLink, IsLinkOf, IsTextOf, goes_on, spot, spots_at, spots_behind, times_listed};
 
 use crate::entries::tracks_begun;
 use element_reader::Outline;
@@ -25,8 +25,8 @@ use track_records::usable;
 use word_values::CueWord;
 
 /// Where the words say nothing, blocks that can be decoded without another get a cue point, but for those of audio.
-fn usual_rule(kind: u64) -> CueRule
-    ensures { result ≡ usual_rule kind }
+fn default_rule(kind: u64) -> CueRule
+    ensures { result ≡ default_rule kind }
 {
     match kind {
         VIDEO_TRACK | SUBTITLE_TRACK => CueRule::Key,
@@ -42,7 +42,7 @@ fn rule_of(taken: &TakenTrack) -> CueRule
         Some(CueWord::Never) => CueRule::Never,
         Some(CueWord::Key) => CueRule::Key,
         Some(CueWord::All) => CueRule::All,
-        None => usual_rule(taken.track.kind),
+        None => default_rule(taken.track.kind),
     }
 }
 
@@ -50,7 +50,7 @@ fn rule_of(taken: &TakenTrack) -> CueRule
 fn prefix_of(alloc: Global, taken: &TakenTrack) -> Result<Bytes, AllocError>
     requires { IsTaken taken.now }
     ensures exact { IfOk result (λ prefix. prefix ≡ prefix_of taken.now.track.entry) }
-    ensures most { IfOk result (λ prefix. length prefix ≤ MOST_OF_PREFIX) }
+    ensures most { IfOk result (λ prefix. length prefix ≤ MAX_PREFIX_LEN) }
 {
     let mut prefix = Bytes::new(alloc);
     match usable(&taken.track) {
@@ -61,8 +61,8 @@ fn prefix_of(alloc: Global, taken: &TakenTrack) -> Result<Bytes, AllocError>
 }
 
 /// By how many nanoseconds an input is later.
-fn later_by(input: &Input) -> u64
-    ensures { result ≡ later_by (read_in input.now) }
+fn append_offset(input: &Input) -> u64
+    ensures { result ≡ append_offset (read_in input.now) }
 {
     input.shift.unwrap_or(0)
 }
@@ -97,7 +97,7 @@ fn track_of(
         scale,
         default_duration: taken.track.default_duration,
         delay: taken.delay,
-        shift: later_by(input),
+        shift: append_offset(input),
         prefix: prefix_of(alloc, taken)?,
         times: times_of(input, taken)?,
     })
@@ -130,7 +130,7 @@ fn text_of(
     Ok(TextLink {
         entries: copies(alloc, entries.as_slice())?,
         delay: taken.delay,
-        shift: later_by(input),
+        shift: append_offset(input),
     })
 }
 

@@ -2,16 +2,16 @@
 
 ghost use Rattle.std.specs.Prelude.{◌≡◌, [], drop, map, take, IfOk};
 ghost use Rattle.std.specs.List.{All};
-ghost use Rattle.merged_records.specs.Inputs.{IsInput};
+ghost use Rattle.output_records.specs.Inputs.{IsInput};
 ghost use Rattle.merge_inputs.specs.Input.{read_in};
 ghost use Rattle.merge_plan.specs.Records.{kept_in, records_from, records_in, uids_at, uids_behind};
-ghost use Rattle.merge_plan.specs.Spots.{HasRecords};
+ghost use Rattle.merge_plan.specs.TakenTracks.{HasRecords};
 
 use ebml_tree::Tree;
 use merge_inputs::Input;
-use merged_records::InputRecords;
 use mkv_io::List;
 use output_model::Attachment;
+use output_records::InputRecords;
 use std::alloc::{AllocError, Global};
 
 // Attached files again.

@@ -14,7 +14,7 @@ use Rattle.merge_words.specs.declared.options.Meaning.{Meaning}
 use Rattle.word_values.specs.declared.values.Value.{Value}
 use Rattle.word_values.specs.declared.values.Value.TheVariants.{Flag, File, TrackDelay, TrackText, TrackLanguage, TrackFlag, TrackCues, TrackFile}
 use Rattle.merge_words.specs.declared.item.Item.{Item}
-use Rattle.merge_words.specs.declared.item.TheConstants.{MOST_FILES}
+use Rattle.merge_words.specs.declared.item.TheConstants.{MAX_FILES}
 use Rattle.word_values.specs.Answers.{wrong, ◌>>=◌}
 use Rattle.merge_words.specs.Options.{same}
 use Rattle.word_values.specs.Place.{due, is_option}
@@ -105,7 +105,7 @@ append_at before at =
 -- the name of a file, of which there may be only so many
 unfoldable pub file_at : List Item → ℕ → List ℕ → Result Item Usage
 file_at before at word =
-    if nat_le MOST_FILES (files_in before) then wrong at TooManyInputs
+    if nat_le MAX_FILES (files_in before) then wrong at TooManyInputs
     else Ok (record { at = at; subject = subject.File; scope = scope.Output; value = File word })
 
 -- the item of a word that looks like an option, with what it means

@@ -12,7 +12,7 @@ use word_values::{
 };
 
 /// The most files that a merge takes.
-const MOST_FILES: usize = 64;
+const MAX_FILES: usize = 64;
 
 /// What one option, `+` or one file's name says.
 #[derive(Drop)]
@@ -73,7 +73,7 @@ fn append_at(at: usize, before: &[Item]) -> Result<Item, ArgsEnd>
 fn file_at(alloc: Global, at: usize, word: &str, before: &[Item]) -> Result<Item, ArgsEnd>
     ensures { Tells result (spec.file_at before.now at word.now) }
 {
-    if files_in(before) >= MOST_FILES {
+    if files_in(before) >= MAX_FILES {
         return refused(at, Why::TooManyInputs);
     }
     Ok(Item {

@@ -18,21 +18,21 @@ use Rattle.tree_format.specs.Node.{offset_of}
 use Rattle.output_model.specs.declared.attachment.Attachment.{Attachment}
 use Rattle.meta_records.specs.Attachments.{at_child, attached_in, attachment_of, attachments_in, children_of, is_attached, met_in, missing_data, refused_from, refused_in, too_many_files}
 use Rattle.meta_records.specs.Walk.{HasAll, Meets, ReadsAs, ReadsChild, WalksAll, good_files, one_over}
-use Rattle.meta_records.specs.declared.attachments.Found.{Found}
+use Rattle.meta_records.specs.declared.attachments.AttachmentScan.{AttachmentScan}
 use Rattle.meta_records.specs.declared.counts.Counts.{Counts}
-use Rattle.meta_records.specs.declared.end.AttachmentsEnd.{AttachmentsEnd}
-use Rattle.meta_records.specs.declared.end.AttachmentsEnd.TheVariants.{Refused, ReadFault, Memory}
-use Rattle.meta_records.specs.declared.limits.TheConstants.{MOST_ATTACHED}
+use Rattle.meta_records.specs.declared.end.MetaEnd.{MetaEnd}
+use Rattle.meta_records.specs.declared.end.MetaEnd.TheVariants.{Refused, ReadFault, Memory}
+use Rattle.meta_records.specs.declared.limits.TheConstants.{MAX_ATTACHMENTS}
 use Rattle.meta_records.proofs.MetLemmas.{run_at, run_at-step}
 
 -- ---- on the way
 
 -- Of the Elements from a place on those up to another gave what was found.
-pub record AreFound (bytes : List ℕ) (file : FileId) (from p e : ℕ) (found : Found) : Type 0 where
+pub record AreFound (bytes : List ℕ) (file : FileId) (from p e : ℕ) (found : AttachmentScan) : Type 0 where
   pub attachments : map (attachment_of bytes file) (filter is_attached (run_at bytes from e).list) ≡ found.attachments ++ map (attachment_of bytes file) (filter is_attached (run_at bytes p e).list)
   pub missing : first_damage (map (missing_data bytes) (filter is_attached (run_at bytes from e).list)) ≡ option_or found.missing (first_damage (map (missing_data bytes) (filter is_attached (run_at bytes p e).list)))
 
-pub AreFound-none : (bytes : List ℕ) (file : FileId) (p e : ℕ) (found : Found) → found.attachments ≡ [] → found.missing ≡ None → AreFound bytes file p p e found
+pub AreFound-none : (bytes : List ℕ) (file : FileId) (p e : ℕ) (found : AttachmentScan) → found.attachments ≡ [] → found.missing ≡ None → AreFound bytes file p p e found
 AreFound-none bytes file p e found none good =
     let list = filter is_attached (run_at bytes p e).list in
     record {
@@ -56,7 +56,7 @@ option_or-assoc : (a b c : Option Damage) → option_or a (option_or b c) ≡ op
 option_or-assoc (Some d) b c = refl
 option_or-assoc None b c = refl
 
-pub AreFound-more : (bytes : List ℕ) (file : FileId) (from p e next : ℕ) (old new : Found) → AreFound bytes file from p e old → p < e → ReadsChild bytes file p e next old new → AreFound bytes file from next e new
+pub AreFound-more : (bytes : List ℕ) (file : FileId) (from p e next : ℕ) (old new : AttachmentScan) → AreFound bytes file from p e old → p < e → ReadsChild bytes file p e next old new → AreFound bytes file from next e new
 AreFound-more bytes file from p e next old new are inside reads =
     let h = reads.child in
     let rest = (run_at bytes next e).list in
@@ -83,7 +83,7 @@ AreFound-more bytes file from p e next old new are inside reads =
     }
 
 -- all were found
-pub AreFound-all : (bytes : List ℕ) (file : FileId) (h : Header) (p : ℕ) (found : Found) → AreFound bytes file h.body p (stated_end h) found → stated_end h ≤ p → refused_in bytes h ≡ None → HasAll bytes file h found
+pub AreFound-all : (bytes : List ℕ) (file : FileId) (h : Header) (p : ℕ) (found : AttachmentScan) → AreFound bytes file h.body p (stated_end h) found → stated_end h ≤ p → refused_in bytes h ≡ None → HasAll bytes file h found
 AreFound-all bytes file h p found are past good =
     let none : filter is_attached (run_at bytes p (stated_end h)).list ≡ [] =
     ap (λ (r : Run). filter is_attached r.list) (elements-end in_master never (λ k. Ok (end_in (stated_end h) k)) bytes p (stated_end h) past) in
@@ -110,7 +110,7 @@ module _ (bytes : List ℕ) (h : Header) (old : Counts) (none : old.octets ≡ 0
   pub walk-good : {T : Type 0} (new : Counts) (x : T) → Meets (met_in (at_child bytes) (children_of bytes h)) old new (Ok x) → refused_in bytes h ≡ None
   walk-good new x meets = sym from-start ∙ meets []
 
-  pub walk-refused : (T : Type 0) (file : FileId) (new : Counts) (end : AttachmentsEnd) → Meets {T = T} (met_in (at_child bytes) (children_of bytes h)) old new (Err end) → WalksAll bytes file h (Err end)
+  pub walk-refused : (T : Type 0) (file : FileId) (new : Counts) (end : MetaEnd) → Meets {T = T} (met_in (at_child bytes) (children_of bytes h)) old new (Err end) → WalksAll bytes file h (Err end)
   walk-refused T file new (Refused d) meets = sym from-start ∙ meets []
   walk-refused T file new ReadFault meets = tt
   walk-refused T file new Memory meets = tt
@@ -124,15 +124,15 @@ first-of_rest None None = refl
 
 one_over-is : (bytes : List ℕ) (file : FileId) (files : List Header) → one_over (map (attachment_of bytes file) files) ≡ too_many_files files
 one_over-is bytes file files =
-    ap (option_map (λ (a : Attachment). damage TooMany ATTACHED_FILE (offset_of a.entry))) (slice_get-map (attachment_of bytes file) files MOST_ATTACHED)
-    ∙ twice (slice_get files MOST_ATTACHED)
+    ap (option_map (λ (a : Attachment). damage TooMany ATTACHED_FILE (offset_of a.entry))) (slice_get-map (attachment_of bytes file) files MAX_ATTACHMENTS)
+    ∙ twice (slice_get files MAX_ATTACHMENTS)
   where
     twice : (o : Option Header) → option_map (λ (a : Attachment). damage TooMany ATTACHED_FILE (offset_of a.entry)) (option_map (attachment_of bytes file) o) ≡ option_map (λ (h : Header). damage TooMany ATTACHED_FILE h.offset) o
     twice None = refl
     twice (Some h) = refl
 
 -- what was found, unless something refuses it, is the definition's
-pub good_files-is : (bytes : List ℕ) (file : FileId) (h : Header) (found : Found) → HasAll bytes file h found → attachments_in bytes file h ≡ good_files found
+pub good_files-is : (bytes : List ℕ) (file : FileId) (h : Header) (found : AttachmentScan) → HasAll bytes file h found → attachments_in bytes file h ≡ good_files found
 good_files-is bytes file h found has =
     let files = attached_in bytes h in
     let A = map (attachment_of bytes file) files in
@@ -144,7 +144,7 @@ good_files-is bytes file h found has =
     ∙ ap (λ (l : List Attachment). unless (first_refusal found.missing (one_over l)) l) (sym has.attachments)
 
 -- something among the Elements refuses it
-pub refused-is : (bytes : List ℕ) (file : FileId) (h : Header) (end : AttachmentsEnd) → WalksAll bytes file h (Err end) → ReadsAs (attachments_in bytes file h) (Err end)
+pub refused-is : (bytes : List ℕ) (file : FileId) (h : Header) (end : MetaEnd) → WalksAll bytes file h (Err end) → ReadsAs (attachments_in bytes file h) (Err end)
 refused-is bytes file h (Refused d) is =
     let files = attached_in bytes h in
     ap (λ (r : Option Damage). unless (first_damage (r ∷ first_damage (map (missing_data bytes) files) ∷ too_many_files files ∷ [])) (map (attachment_of bytes file) files)) is

@@ -9,7 +9,7 @@ use Rattle.ebml_numbers.specs.Number.{AreOctets, is_id, size_at}
 use Rattle.ebml_numbers.proofs.NumberLemmas.{id_at-within}
 use Rattle.mkv_io.specs.declared.damage.Kind.{Kind}
 use Rattle.mkv_schema.specs.declared.element.Header.{Header}
-use Rattle.mkv_schema.specs.declared.limits.TheConstants.{LONGEST_HEADER}
+use Rattle.mkv_schema.specs.declared.limits.TheConstants.{MAX_ELEMENT_HEADER_LEN}
 use Rattle.mkv_schema.specs.Element.{Setting, in_master, id_in, with_body, with_size, with_id, body_damage, element_in, element_at}
 use Rattle.mkv_schema.proofs.ElementLemmas.{element_at-front, element_in-placed, element_in-whole}
 use Rattle.meta_records.specs.Walk.{IsChild}
@@ -40,7 +40,7 @@ element_in-id octets total p e h bytes is = id-of-id octets total p e h (id_in i
 
 -- ---- what was read is enough
 
-pub header-read : (bytes octets : List ℕ) (total at end len n : ℕ) → octets ≡ octets_from bytes at n → n ≡ len → total ≡ length bytes → at ≤ end → len ≡ min (end - at) LONGEST_HEADER → element_in in_master octets total at end ≡ element_at in_master bytes at end
+pub header-read : (bytes octets : List ℕ) (total at end len n : ℕ) → octets ≡ octets_from bytes at n → n ≡ len → total ≡ length bytes → at ≤ end → len ≡ min (end - at) MAX_ELEMENT_HEADER_LEN → element_in in_master octets total at end ≡ element_at in_master bytes at end
 header-read bytes octets total at end len n read count is place most =
     ap (λ o. element_in in_master o total at end) (read ∙ ap (octets_from bytes at) count)
     ∙ ap (λ t. element_in in_master (octets_from bytes at len) t at end) is

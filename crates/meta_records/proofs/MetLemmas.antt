@@ -9,11 +9,11 @@ use Rattle.mkv_io.specs.Results.{unless}
 use Rattle.mkv_schema.proofs.ElementLemmas.{element_in-whole}
 use Rattle.mkv_schema.proofs.ElementsLemmas.{elements-end, elements-more, Advances-known}
 use Rattle.tree_format.specs.Node.{Node}
-use Rattle.meta_records.specs.Attachments.{Met, at_child, at_part, child_of, children_of, counted_of, ended, is_attached, leaf_of, limits_passed, met_in, no_value, one_too_many, part_of, refused_from, too_large}
+use Rattle.meta_records.specs.Attachments.{ScannedElement, at_child, at_part, child_of, children_of, counted_of, ended, is_attached, leaf_of, limits_passed, met_in, no_value, one_too_many, part_of, refused_from, too_large}
 use Rattle.meta_records.specs.Walk.{Meets, ReadsAs, leaf_in, met_at}
 use Rattle.meta_records.specs.declared.counts.Counts.{Counts}
-use Rattle.meta_records.specs.declared.end.AttachmentsEnd.{AttachmentsEnd}
-use Rattle.meta_records.specs.declared.end.AttachmentsEnd.TheVariants.{Refused, ReadFault, Memory}
+use Rattle.meta_records.specs.declared.end.MetaEnd.{MetaEnd}
+use Rattle.meta_records.specs.declared.end.MetaEnd.TheVariants.{Refused, ReadFault, Memory}
 
 -- ---- the Elements from a place on
 
@@ -41,12 +41,12 @@ run_at-step bytes p e (Ok h) inside is =
 
 -- ---- what is met of them
 
-abbrev pub later : (Header → List (Result Met Damage)) → List ℕ → ℕ → Result Header Damage → List (Result Met Damage)
+abbrev pub later : (Header → List (Result ScannedElement Damage)) → List ℕ → ℕ → Result Header Damage → List (Result ScannedElement Damage)
 later at bytes e (Ok h) = met_in at (run_at bytes (stated_end h) e)
 later at bytes e (Err d) = []
 
 -- what stands at a place, and what stands behind it
-pub met_in-step : (at : Header → List (Result Met Damage)) (bytes : List ℕ) (p e : ℕ) (found : Result Header Damage) → p < e → element_at in_master bytes p e ≡ found → met_in at (run_at bytes p e) ≡ met_at at found ++ later at bytes e found
+pub met_in-step : (at : Header → List (Result ScannedElement Damage)) (bytes : List ℕ) (p e : ℕ) (found : Result Header Damage) → p < e → element_at in_master bytes p e ≡ found → met_in at (run_at bytes p e) ≡ met_at at found ++ later at bytes e found
 met_in-step at bytes p e (Err d) inside is = ap (met_in at) (run_at-step bytes p e (Err d) inside is)
 met_in-step at bytes p e (Ok h) inside is =
     let rest = run_at bytes (stated_end h) e in
@@ -54,30 +54,30 @@ met_in-step at bytes p e (Ok h) inside is =
     ∙ append_assoc (at h) (flat_map at rest.list) (ended rest.damage)
 
 -- nothing is met at the end
-pub met_in-end : (at : Header → List (Result Met Damage)) (bytes : List ℕ) (p e : ℕ) → e ≤ p → met_in at (run_at bytes p e) ≡ []
+pub met_in-end : (at : Header → List (Result ScannedElement Damage)) (bytes : List ℕ) (p e : ℕ) → e ≤ p → met_in at (run_at bytes p e) ≡ []
 met_in-end at bytes p e past = ap (met_in at) (elements-end in_master never (λ h. Ok (end_in e h)) bytes p e past)
 
 -- ---- on the way
 
 -- Some Elements from a place on were met up to another, and behind them so much is counted.
-pub record IsMet (at : Header → List (Result Met Damage)) (bytes : List ℕ) (from p e : ℕ) (old new : Counts) : Type 0 where
-  pub on : (more : List (Result Met Damage)) → refused_from old.octets old.nodes (met_in at (run_at bytes from e) ++ more) ≡ refused_from new.octets new.nodes (met_in at (run_at bytes p e) ++ more)
+pub record IsMet (at : Header → List (Result ScannedElement Damage)) (bytes : List ℕ) (from p e : ℕ) (old new : Counts) : Type 0 where
+  pub on : (more : List (Result ScannedElement Damage)) → refused_from old.octets old.nodes (met_in at (run_at bytes from e) ++ more) ≡ refused_from new.octets new.nodes (met_in at (run_at bytes p e) ++ more)
 
-pub IsMet-none : (at : Header → List (Result Met Damage)) (bytes : List ℕ) (p e : ℕ) (c : Counts) → IsMet at bytes p p e c c
+pub IsMet-none : (at : Header → List (Result ScannedElement Damage)) (bytes : List ℕ) (p e : ℕ) (c : Counts) → IsMet at bytes p p e c c
 IsMet-none at bytes p e c = record { on = λ more. refl }
 
 -- up to a place, and then what stands there
-IsMet-at : (at : Header → List (Result Met Damage)) (bytes : List ℕ) (from p e : ℕ) (old mid : Counts) (more : List (Result Met Damage)) → IsMet at bytes from p e old mid → p < e
+IsMet-at : (at : Header → List (Result ScannedElement Damage)) (bytes : List ℕ) (from p e : ℕ) (old mid : Counts) (more : List (Result ScannedElement Damage)) → IsMet at bytes from p e old mid → p < e
     → refused_from old.octets old.nodes (met_in at (run_at bytes from e) ++ more)
     ≡ refused_from mid.octets mid.nodes (met_at at (element_at in_master bytes p e) ++ (later at bytes e (element_at in_master bytes p e) ++ more))
 IsMet-at at bytes from p e old mid more is inside =
     let found = element_at in_master bytes p e in
     is.on more
-    ∙ ap (λ (l : List (Result Met Damage)). refused_from mid.octets mid.nodes (l ++ more)) (met_in-step at bytes p e found inside refl)
+    ∙ ap (λ (l : List (Result ScannedElement Damage)). refused_from mid.octets mid.nodes (l ++ more)) (met_in-step at bytes p e found inside refl)
     ∙ ap (refused_from mid.octets mid.nodes) (append_assoc (met_at at found) (later at bytes e found) more)
 
 -- one Element more
-pub IsMet-more : {T : Type 0} (at : Header → List (Result Met Damage)) (bytes : List ℕ) (from p e next : ℕ) (old mid new : Counts) (h : Header) (x : T) → IsMet at bytes from p e old mid → p < e
+pub IsMet-more : {T : Type 0} (at : Header → List (Result ScannedElement Damage)) (bytes : List ℕ) (from p e next : ℕ) (old mid new : Counts) (h : Header) (x : T) → IsMet at bytes from p e old mid → p < e
     → element_at in_master bytes p e ≡ Ok h → next ≡ stated_end h → Meets (met_at at (element_at in_master bytes p e)) mid new (Ok x) → IsMet at bytes from next e old new
 IsMet-more at bytes from p e next old mid new h x is inside found behind meets = record {
   on = λ more.
@@ -88,7 +88,7 @@ IsMet-more at bytes from p e next old mid new h x is inside found behind meets =
 }
 
 -- what stands at the place is refused, or it isn't known
-pub IsMet-stops : (T U : Type 0) (at : Header → List (Result Met Damage)) (bytes : List ℕ) (from p e : ℕ) (old mid new final : Counts) (end : AttachmentsEnd) → IsMet at bytes from p e old mid → p < e
+pub IsMet-stops : (T U : Type 0) (at : Header → List (Result ScannedElement Damage)) (bytes : List ℕ) (from p e : ℕ) (old mid new final : Counts) (end : MetaEnd) → IsMet at bytes from p e old mid → p < e
     → Meets {T = T} (met_at at (element_at in_master bytes p e)) mid new (Err end) → Meets {T = U} (met_in at (run_at bytes from e)) old final (Err end)
 IsMet-stops T U at bytes from p e old mid new final (Refused d) is inside meets =
     λ more. IsMet-at at bytes from p e old mid more is inside ∙ meets (later at bytes e (element_at in_master bytes p e) ++ more)
@@ -96,21 +96,21 @@ IsMet-stops T U at bytes from p e old mid new final ReadFault is inside meets = 
 IsMet-stops T U at bytes from p e old mid new final Memory is inside meets = tt
 
 -- all were met
-pub IsMet-all : {T : Type 0} (at : Header → List (Result Met Damage)) (bytes : List ℕ) (from p e : ℕ) (old new : Counts) (x : T) → IsMet at bytes from p e old new → e ≤ p → Meets (met_in at (run_at bytes from e)) old new (Ok x)
+pub IsMet-all : {T : Type 0} (at : Header → List (Result ScannedElement Damage)) (bytes : List ℕ) (from p e : ℕ) (old new : Counts) (x : T) → IsMet at bytes from p e old new → e ≤ p → Meets (met_in at (run_at bytes from e)) old new (Ok x)
 IsMet-all at bytes from p e old new x is past =
-    λ more. is.on more ∙ ap (λ (l : List (Result Met Damage)). refused_from new.octets new.nodes (l ++ more)) (met_in-end at bytes p e past)
+    λ more. is.on more ∙ ap (λ (l : List (Result ScannedElement Damage)). refused_from new.octets new.nodes (l ++ more)) (met_in-end at bytes p e past)
 
 -- ---- what stands at one place
 
 -- a damage is met
-pub Meets-damage : (T : Type 0) (at : Header → List (Result Met Damage)) (found : Result Header Damage) (old new : Counts) (end : AttachmentsEnd) → ReadsAs found (Err end) → Meets {T = T} (met_at at found) old new (Err end)
+pub Meets-damage : (T : Type 0) (at : Header → List (Result ScannedElement Damage)) (found : Result Header Damage) (old new : Counts) (end : MetaEnd) → ReadsAs found (Err end) → Meets {T = T} (met_at at found) old new (Err end)
 Meets-damage T at found old new (Refused d) is =
     λ more. ap (λ (r : Result Header Damage). refused_from old.octets old.nodes (met_at at r ++ more)) is
 Meets-damage T at found old new ReadFault is = tt
 Meets-damage T at found old new Memory is = tt
 
 -- an Element is met
-pub Meets-at : {T : Type 0} (at : Header → List (Result Met Damage)) (found : Result Header Damage) (h : Header) (old new : Counts) (r : Result T AttachmentsEnd) → found ≡ Ok h → Meets (at h) old new r → Meets (met_at at found) old new r
+pub Meets-at : {T : Type 0} (at : Header → List (Result ScannedElement Damage)) (found : Result Header Damage) (h : Header) (old new : Counts) (r : Result T MetaEnd) → found ≡ Ok h → Meets (at h) old new r → Meets (met_at at found) old new r
 Meets-at at found h old new r is meets = subst (λ (f : Result Header Damage). Meets (met_at at f) old new r) (sym is) meets
 
 -- ---- the first of three causes
@@ -126,7 +126,7 @@ last-of_three None (Some e) c is = absurd (cc)
 last-of_three None None (Some d) is = refl
 last-of_three None None None is = refl
 
-module _ (octets nodes : ℕ) (m : Met) (more : List (Result Met Damage)) where
+module _ (octets nodes : ℕ) (m : ScannedElement) (more : List (Result ScannedElement Damage)) where
   -- it passes a limit
   pub refused_from-over : (d : Damage) → first_damage (limits_passed (octets + m.counted) nodes m.header) ≡ Some d → refused_from octets nodes (Ok m ∷ more) ≡ Some d
   refused_from-over d over = ap (λ (r : Option Damage). first_refusal r (refused_from (octets + m.counted) (nodes + 1) more)) (first-of_three (too_large (octets + m.counted) m.header) (one_too_many nodes m.header) (no_value m) d over)
@@ -136,7 +136,7 @@ module _ (octets nodes : ℕ) (m : Met) (more : List (Result Met Damage)) where
   refused_from-within within = ap (λ (r : Option Damage). first_refusal r (refused_from (octets + m.counted) (nodes + 1) more)) (last-of_three (too_large (octets + m.counted) m.header) (one_too_many nodes m.header) (no_value m) within)
 
 -- so much is counted behind it
-pub refused_from-counted : (octets nodes : ℕ) (m : Met) (new : Counts) (more : List (Result Met Damage)) → first_damage (limits_passed (octets + m.counted) nodes m.header) ≡ None → no_value m ≡ None → new.octets ≡ octets + m.counted → new.nodes ≡ nodes + 1
+pub refused_from-counted : (octets nodes : ℕ) (m : ScannedElement) (new : Counts) (more : List (Result ScannedElement Damage)) → first_damage (limits_passed (octets + m.counted) nodes m.header) ≡ None → no_value m ≡ None → new.octets ≡ octets + m.counted → new.nodes ≡ nodes + 1
     → refused_from octets nodes (Ok m ∷ more) ≡ refused_from new.octets new.nodes more
 refused_from-counted octets nodes m new more within good counted one =
     refused_from-within octets nodes m more within
@@ -161,7 +161,7 @@ leaf-is (Some d) n made is = absurd (cc)
 pub part-over : (T : Type 0) (bytes : List ℕ) (h : Header) (old new : Counts) (d : Damage) → first_damage (limits_passed (old.octets + counted_of h) old.nodes h) ≡ Some d → Meets {T = T} (at_part bytes h) old new (Err (Refused d))
 part-over T bytes h old new d over = λ more. refused_from-over old.octets old.nodes (part_of bytes h) more d over
 
-pub part-bad : (T : Type 0) (bytes : List ℕ) (h : Header) (old new : Counts) (end : AttachmentsEnd) → first_damage (limits_passed (old.octets + counted_of h) old.nodes h) ≡ None → ReadsAs (leaf_in bytes h) (Err end) → Meets {T = T} (at_part bytes h) old new (Err end)
+pub part-bad : (T : Type 0) (bytes : List ℕ) (h : Header) (old new : Counts) (end : MetaEnd) → first_damage (limits_passed (old.octets + counted_of h) old.nodes h) ≡ None → ReadsAs (leaf_in bytes h) (Err end) → Meets {T = T} (at_part bytes h) old new (Err end)
 part-bad T bytes h old new (Refused d) within is = λ more.
     let m = part_of bytes h in
     refused_from-within old.octets old.nodes m more within
@@ -182,7 +182,7 @@ child-over T bytes h old new d over = λ more. refused_from-over old.octets old.
 -- inside an AttachedFile its children are
 module _ (bytes : List ℕ) (h : Header) (old mid : Counts) (file : is_attached h ≡ true) (within : first_damage (limits_passed (old.octets + (child_of h).counted) old.nodes h) ≡ None)
     (counted : mid.octets ≡ old.octets + (child_of h).counted) (one : mid.nodes ≡ old.nodes + 1) where
-  pub file-front : (more : List (Result Met Damage)) → refused_from old.octets old.nodes (at_child bytes h ++ more) ≡ refused_from mid.octets mid.nodes (met_in (at_part bytes) (children_of bytes h) ++ more)
+  pub file-front : (more : List (Result ScannedElement Damage)) → refused_from old.octets old.nodes (at_child bytes h ++ more) ≡ refused_from mid.octets mid.nodes (met_in (at_part bytes) (children_of bytes h) ++ more)
   file-front more =
       refused_from-counted old.octets old.nodes (child_of h) mid _ within refl counted one
       ∙ ap (λ (b : Bool). refused_from mid.octets mid.nodes ((if b then met_in (at_part bytes) (children_of bytes h) else []) ++ more)) file
@@ -190,13 +190,13 @@ module _ (bytes : List ℕ) (h : Header) (old mid : Counts) (file : is_attached 
   pub file-good : {T U : Type 0} (new : Counts) (x : T) (y : U) → Meets (met_in (at_part bytes) (children_of bytes h)) mid new (Ok x) → Meets (at_child bytes h) old new (Ok y)
   file-good new x y meets = λ more. file-front more ∙ meets more
 
-  pub file-bad : (T U : Type 0) (new : Counts) (end : AttachmentsEnd) → Meets {T = T} (met_in (at_part bytes) (children_of bytes h)) mid new (Err end) → Meets {T = U} (at_child bytes h) old new (Err end)
+  pub file-bad : (T U : Type 0) (new : Counts) (end : MetaEnd) → Meets {T = T} (met_in (at_part bytes) (children_of bytes h)) mid new (Err end) → Meets {T = U} (at_child bytes h) old new (Err end)
   file-bad T U new (Refused d) meets = λ more. file-front more ∙ meets more
   file-bad T U new ReadFault meets = tt
   file-bad T U new Memory meets = tt
 
 -- what is said of a refusal doesn't hang on what would have been answered
-pub Meets-passed : (T U : Type 0) (list : List (Result Met Damage)) (old new : Counts) (end : AttachmentsEnd) → Meets {T = T} list old new (Err end) → Meets {T = U} list old new (Err end)
+pub Meets-passed : (T U : Type 0) (list : List (Result ScannedElement Damage)) (old new : Counts) (end : MetaEnd) → Meets {T = T} list old new (Err end) → Meets {T = U} list old new (Err end)
 Meets-passed T U list old new (Refused d) meets = meets
 Meets-passed T U list old new ReadFault meets = tt
 Meets-passed T U list old new Memory meets = tt

@@ -1,10 +1,10 @@
 -- What is read is paid by what is counted.
 use Rattle.std.proofs.Common.{◌≡◌, ℕ, ◌+◌, ◌-◌, ◌*◌, ◌≤◌, min, sym, subst, arith}
-use Rattle.mkv_schema.specs.declared.limits.TheConstants.{LONGEST_HEADER}
-use Rattle.tree_format.specs.declared.limits.TheConstants.{MOST_NODES}
+use Rattle.mkv_schema.specs.declared.limits.TheConstants.{MAX_ELEMENT_HEADER_LEN}
+use Rattle.tree_format.specs.declared.limits.TheConstants.{MAX_NODES}
 use Rattle.meta_records.specs.Walk.{IsPaid, IsSpent}
 use Rattle.meta_records.specs.declared.counts.Counts.{Counts}
-use Rattle.meta_records.specs.declared.limits.TheConstants.{MOST_OF_ATTACHMENTS}
+use Rattle.meta_records.specs.declared.limits.TheConstants.{MAX_ATTACHMENTS_LEN}
 
 -- nothing was read
 pub IsPaid-none : (c : Counts) (n : ℕ) → IsPaid 0 c c n n
@@ -31,29 +31,29 @@ IsPaid-longer way whole a b x y within paid = record { reads = paid.reads; way =
 -- ---- one Element
 
 -- a header was read and counted with some octets, of which some were read
-pub IsPaid-one : (way len some : ℕ) (a b : Counts) (x y z : ℕ) → y ≤ x + LONGEST_HEADER → z ≤ y + some → b.octets ≡ a.octets + len → b.nodes ≡ a.nodes + 1 → some ≤ len → 1 ≤ way → len ≤ way → IsPaid way a b x z
+pub IsPaid-one : (way len some : ℕ) (a b : Counts) (x y z : ℕ) → y ≤ x + MAX_ELEMENT_HEADER_LEN → z ≤ y + some → b.octets ≡ a.octets + len → b.nodes ≡ a.nodes + 1 → some ≤ len → 1 ≤ way → len ≤ way → IsPaid way a b x z
 IsPaid-one way len some a b x y z header body counted one within more all = record {
   reads = omega arith;
   way = omega arith;
 }
 
 -- a header was read, and nothing counted
-pub IsSpent-header : (whole : ℕ) (a b : Counts) (x y : ℕ) → b ≡ a → y ≤ x + min whole LONGEST_HEADER → IsSpent whole a b x y
+pub IsSpent-header : (whole : ℕ) (a b : Counts) (x y : ℕ) → b ≡ a → y ≤ x + min whole MAX_ELEMENT_HEADER_LEN → IsSpent whole a b x y
 IsSpent-header whole a b x y same read =
     let P : Counts → Type 0 = λ c. IsSpent whole a c x y in
     subst P (sym same) (record { reads = omega arith; way = omega arith })
 
 -- a header was read and counted, and then some octets were read
-pub IsSpent-one : (whole len some : ℕ) (a b : Counts) (x y z : ℕ) → y ≤ x + min whole LONGEST_HEADER → z ≤ y + some → b.octets ≡ a.octets + len → b.nodes ≡ a.nodes + 1 → some ≤ len → len ≤ whole → IsSpent whole a b x z
+pub IsSpent-one : (whole len some : ℕ) (a b : Counts) (x y z : ℕ) → y ≤ x + min whole MAX_ELEMENT_HEADER_LEN → z ≤ y + some → b.octets ≡ a.octets + len → b.nodes ≡ a.nodes + 1 → some ≤ len → len ≤ whole → IsSpent whole a b x z
 IsSpent-one whole len some a b x y z header body counted one within all = record { reads = omega arith; way = omega arith }
 
 -- ---- the whole
 
 -- from the start on, by the limits of what is counted
-pub few-paid : (way : ℕ) (a b : Counts) (x y : ℕ) → a.nodes ≡ 1 → a.octets ≡ 0 → b.octets ≤ MOST_OF_ATTACHMENTS → b.nodes ≤ MOST_NODES → IsPaid way a b x y → y ≤ x + 2 * MOST_OF_ATTACHMENTS
+pub few-paid : (way : ℕ) (a b : Counts) (x y : ℕ) → a.nodes ≡ 1 → a.octets ≡ 0 → b.octets ≤ MAX_ATTACHMENTS_LEN → b.nodes ≤ MAX_NODES → IsPaid way a b x y → y ≤ x + 2 * MAX_ATTACHMENTS_LEN
 few-paid way a b x y one none octets nodes paid = omega (arith, paid.reads)
 
-pub few-spent : (way : ℕ) (a b : Counts) (x y : ℕ) → a.nodes ≡ 1 → a.octets ≡ 0 → b.octets ≤ MOST_OF_ATTACHMENTS → b.nodes ≤ MOST_NODES → IsSpent way a b x y → y ≤ x + 2 * MOST_OF_ATTACHMENTS
+pub few-spent : (way : ℕ) (a b : Counts) (x y : ℕ) → a.nodes ≡ 1 → a.octets ≡ 0 → b.octets ≤ MAX_ATTACHMENTS_LEN → b.nodes ≤ MAX_NODES → IsSpent way a b x y → y ≤ x + 2 * MAX_ATTACHMENTS_LEN
 few-spent way a b x y one none octets nodes spent = omega (arith, spent.reads)
 
 -- by the way alone

@@ -11,11 +11,11 @@ use Rattle.mkv_io.specs.declared.damage.Damage.{Damage}
 use Rattle.mkv_io.specs.declared.damage.Kind.TheVariants.{HeaderTooLarge}
 use Rattle.mkv_schema.specs.declared.element.Header.{Header}
 use Rattle.mkv_schema.specs.Element.{damage, known}
-use Rattle.mkv_schema.specs.declared.limits.TheConstants.{MOST_OF_ALL, MOST_OF_ONE}
+use Rattle.mkv_schema.specs.declared.limits.TheConstants.{MAX_MASTERS_LEN, MAX_MASTER_LEN}
 use Rattle.mkv_schema.specs.Outline.{described, first_damage, first_refusal, is_described, limits_from, over, passes_count, passes_size, segment_run, where_it}
 use Rattle.mkv_io.specs.Results.{and_then, unless}
 use Rattle.mkv_schema.specs.Value.{body_of, first_of}
-use Rattle.tree_format.specs.declared.limits.TheConstants.{MOST_NODES}
+use Rattle.tree_format.specs.declared.limits.TheConstants.{MAX_NODES}
 use Rattle.tree_format.specs.Node.{HasRoom, Node}
 use Rattle.tree_format.specs.Reading.{tree_of}
 use Rattle.element_reader.specs.Collected.{others_of}
@@ -66,25 +66,25 @@ test_fails true more d e none = absurd (cc)
 test_fails false more d e none = refl
 
 -- an Element within the limits is small
-small_where : (held : ℕ) (before : List Header) (h : Header) → is_described h.id ≡ true → passes_size held before h ≡ false → known h.size ≤ MOST_OF_ONE
+small_where : (held : ℕ) (before : List Header) (h : Header) → is_described h.id ≡ true → passes_size held before h ≡ false → known h.size ≤ MAX_MASTER_LEN
 small_where held before h is passes =
-    small (nat_lt MOST_OF_ONE (known h.size)) (nat_lt MOST_OF_ALL (held + described (before ++ h ∷ []))) refl
-    (sym (ap (λ test. test && (nat_lt MOST_OF_ONE (known h.size) || nat_lt MOST_OF_ALL (held + described (before ++ h ∷ [])))) is) ∙ passes)
+    small (nat_lt MAX_MASTER_LEN (known h.size)) (nat_lt MAX_MASTERS_LEN (held + described (before ++ h ∷ []))) refl
+    (sym (ap (λ test. test && (nat_lt MAX_MASTER_LEN (known h.size) || nat_lt MAX_MASTERS_LEN (held + described (before ++ h ∷ [])))) is) ∙ passes)
   where
-    small : (large more : Bool) → nat_lt MOST_OF_ONE (known h.size) ≡ large → (large || more) ≡ false → known h.size ≤ MOST_OF_ONE
+    small : (large more : Bool) → nat_lt MAX_MASTER_LEN (known h.size) ≡ large → (large || more) ≡ false → known h.size ≤ MAX_MASTER_LEN
     small true more large_is none = absurd (cc)
     small false more large_is none = grind arith
 
-small_first : (id held : ℕ) (before list : List Header) (h : Header) → is_described id ≡ true → limits_from held before list ≡ None → first_of id list ≡ Some h → (h.id ≡ id) × (known h.size ≤ MOST_OF_ONE)
+small_first : (id held : ℕ) (before list : List Header) (h : Header) → is_described id ≡ true → limits_from held before list ≡ None → first_of id list ≡ Some h → (h.id ≡ id) × (known h.size ≤ MAX_MASTER_LEN)
 small_first id held before [] h is limits found = absurd (cc)
 small_first id held before (k ∷ ks) h is limits found = here (small_first id held (before ++ k ∷ []) ks h is (no_second _ _ limits)) (k.id == id) refl found
   where
-    here : (first_of id ks ≡ Some h → (h.id ≡ id) × (known h.size ≤ MOST_OF_ONE)) → (test : Bool) → (k.id == id) ≡ test → (if test then Some k else first_of id ks) ≡ Some h → (h.id ≡ id) × (known h.size ≤ MOST_OF_ONE)
+    here : (first_of id ks ≡ Some h → (h.id ≡ id) × (known h.size ≤ MAX_MASTER_LEN)) → (test : Bool) → (k.id == id) ≡ test → (if test then Some k else first_of id ks) ≡ Some h → (h.id ≡ id) × (known h.size ≤ MAX_MASTER_LEN)
     here later true test_is some =
         let same : k ≡ h = cc in
         let named : k.id ≡ id = grind (arith, nat_tests) in
         let within = small_where held before k (ap is_described named ∙ is) (test_fails (passes_size held before k) (passes_count before k) _ _ (no_first _ _ limits)) in
-        subst (λ (e : Header). (e.id ≡ id) × (known e.size ≤ MOST_OF_ONE)) same (named, within)
+        subst (λ (e : Header). (e.id ≡ id) × (known e.size ≤ MAX_MASTER_LEN)) same (named, within)
     here later false test_is some = later some
 
 -- The first Element of an ID in a file whose outline was read so: it has that ID, and isn't too large to be read.
@@ -118,10 +118,10 @@ IsFirst-shown id before bytes v h held outline found =
       small = limited h small.0 small.1;
     }
   where
-    none_over : (n : ℕ) (d : Damage) → n ≤ MOST_OF_ONE → where_it (nat_lt MOST_OF_ONE n) d ≡ None
-    none_over n d within = let test : nat_lt MOST_OF_ONE n ≡ false = grind arith in rw test refl
+    none_over : (n : ℕ) (d : Damage) → n ≤ MAX_MASTER_LEN → where_it (nat_lt MAX_MASTER_LEN n) d ≡ None
+    none_over n d within = let test : nat_lt MAX_MASTER_LEN n ≡ false = grind arith in rw test refl
 
-    limited : (k : Header) → k.id ≡ id → known k.size ≤ MOST_OF_ONE → too_large k ≡ None
+    limited : (k : Header) → k.id ≡ id → known k.size ≤ MAX_MASTER_LEN → too_large k ≡ None
     limited k is within =
         ap (λ (limit : Option ℕ). option_map_or (λ (most : ℕ). over most k) limit None) (ap limit_of is ∙ held.limit)
         ∙ none_over (known k.size) (damage HeaderTooLarge k.id k.offset) within
@@ -133,11 +133,11 @@ pub first_tree-none : (id before : ℕ) (bytes : List ℕ) (v : FileOutline) →
 first_tree-none id before bytes v held outline found = ap (tree_at bytes) (sym (first_same id before bytes v held.other (Outlines-shown before bytes v outline)) ∙ found)
 
 -- there is one
-pub first_tree-some : (id : ℕ) (bytes : List ℕ) (v : FileOutline) (h : Header) (body : List ℕ) → IsFirst id bytes v h → body ≡ body_of bytes h → first_tree id bytes v.segment ≡ and_then (tree_of id h.offset body h.body MOST_NODES) (λ (tree : Node). Ok (Some tree))
+pub first_tree-some : (id : ℕ) (bytes : List ℕ) (v : FileOutline) (h : Header) (body : List ℕ) → IsFirst id bytes v h → body ≡ body_of bytes h → first_tree id bytes v.segment ≡ and_then (tree_of id h.offset body h.body MAX_NODES) (λ (tree : Node). Ok (Some tree))
 first_tree-some id bytes v h body is same =
     ap (tree_at bytes) is.first
-    ∙ ap (λ (own : ℕ). and_then (tree_of own h.offset (body_of bytes h) h.body MOST_NODES) (λ (tree : Node). Ok (Some tree))) is.own
-    ∙ ap (λ (octets : List ℕ). and_then (tree_of id h.offset octets h.body MOST_NODES) (λ (tree : Node). Ok (Some tree))) (sym same)
+    ∙ ap (λ (own : ℕ). and_then (tree_of own h.offset (body_of bytes h) h.body MAX_NODES) (λ (tree : Node). Ok (Some tree))) is.own
+    ∙ ap (λ (octets : List ℕ). and_then (tree_of id h.offset octets h.body MAX_NODES) (λ (tree : Node). Ok (Some tree))) (sym same)
 
 -- ---- the scale
 

@@ -12,12 +12,12 @@ use Rattle.mkv_schema.specs.Elements.{Run, children_in}
 use Rattle.mkv_schema.specs.Outline.{first_damage, first_refusal, where_it}
 use Rattle.mkv_io.specs.Results.{unless}
 use Rattle.mkv_schema.specs.Value.{body_of, first_of, is_known_value}
-use Rattle.tree_format.specs.declared.limits.TheConstants.{MOST_NODES}
+use Rattle.tree_format.specs.declared.limits.TheConstants.{MAX_NODES}
 use Rattle.tree_format.specs.Node.{Node, leaf, master, nodes_of}
 use Rattle.tree_format.specs.Changes.{with_child}
 use Rattle.tree_format.specs.Values.{uint_in}
 use Rattle.output_model.specs.declared.attachment.Attachment.{Attachment}
-use Rattle.meta_records.specs.declared.limits.TheConstants.{MOST_OF_ATTACHMENTS, MOST_ATTACHED}
+use Rattle.meta_records.specs.declared.limits.TheConstants.{MAX_ATTACHMENTS_LEN, MAX_ATTACHMENTS}
 
 -- ---- what stands in an Attachments Element
 
@@ -26,7 +26,7 @@ abbrev pub children_of : List ℕ → Header → Run
 children_of bytes h = children_in in_master bytes h.body (stated_end h)
 
 -- An Element that is met, how many of its octets are counted, and whether what it holds is a value of its kind.
-pub record Met : Type 0 where
+pub record ScannedElement : Type 0 where
   pub header : Header
   pub counted : ℕ
   pub fits : Bool
@@ -40,35 +40,35 @@ abbrev pub counted_of : Header → ℕ
 counted_of h = if h.id == FILE_DATA then header_len h else header_len h + known h.size
 
 -- a child of an AttachedFile
-abbrev pub part_of : List ℕ → Header → Met
+abbrev pub part_of : List ℕ → Header → ScannedElement
 part_of bytes h = record { header = h; counted = counted_of h; fits = is_known_value ATTACHED_FILE h.id (body_of bytes h) }
 
 abbrev pub is_attached : Header → Bool
 is_attached h = h.id == ATTACHED_FILE
 
 -- A child of Attachments: of an AttachedFile the header is counted, of another nothing.
-abbrev pub child_of : Header → Met
+abbrev pub child_of : Header → ScannedElement
 child_of h = record { header = h; counted = if is_attached h then header_len h else 0; fits = true }
 
 -- the damage that ends some Elements, if one does
-abbrev pub ended : Option Damage → List (Result Met Damage)
+abbrev pub ended : Option Damage → List (Result ScannedElement Damage)
 ended None = []
 ended (Some d) = Err d ∷ []
 
 -- what is met of some Elements, in order: at each what stands there, and then the damage that ends them
-abbrev pub met_in : (Header → List (Result Met Damage)) → Run → List (Result Met Damage)
+abbrev pub met_in : (Header → List (Result ScannedElement Damage)) → Run → List (Result ScannedElement Damage)
 met_in at run = flat_map at run.list ++ ended run.damage
 
 -- what is met at a child of an AttachedFile
-abbrev pub at_part : List ℕ → Header → List (Result Met Damage)
+abbrev pub at_part : List ℕ → Header → List (Result ScannedElement Damage)
 at_part bytes h = Ok (part_of bytes h) ∷ []
 
 -- what is met in an AttachedFile: its children
-abbrev pub parts_in : List ℕ → Header → List (Result Met Damage)
+abbrev pub parts_in : List ℕ → Header → List (Result ScannedElement Damage)
 parts_in bytes h = met_in (at_part bytes) (children_of bytes h)
 
 -- what is met at a child of Attachments: itself and, in an AttachedFile, the children
-abbrev pub at_child : List ℕ → Header → List (Result Met Damage)
+abbrev pub at_child : List ℕ → Header → List (Result ScannedElement Damage)
 at_child bytes h = Ok (child_of h) ∷ (if is_attached h then parts_in bytes h else [])
 
 -- ---- what refuses it
@@ -79,11 +79,11 @@ told_at kind h = damage kind h.id h.offset
 
 -- with this Element so many octets are counted: too many
 abbrev pub too_large : ℕ → Header → Option Damage
-too_large octets h = where_it (nat_lt MOST_OF_ATTACHMENTS octets) (told_at HeaderTooLarge h)
+too_large octets h = where_it (nat_lt MAX_ATTACHMENTS_LEN octets) (told_at HeaderTooLarge h)
 
 -- one node too many: as many stand before it as there may be
 abbrev pub one_too_many : ℕ → Header → Option Damage
-one_too_many nodes h = where_it (nat_le MOST_NODES nodes) (told_at TooMany h)
+one_too_many nodes h = where_it (nat_le MAX_NODES nodes) (told_at TooMany h)
 
 -- the limits that an Element passes with which so many octets are counted, and before which so many nodes stand
 abbrev pub limits_passed : ℕ → ℕ → Header → List (Option Damage)
@@ -94,15 +94,15 @@ abbrev pub limit_passed : ℕ → ℕ → Header → Option Damage
 limit_passed octets nodes h = first_damage (limits_passed octets nodes h)
 
 -- what it holds isn't a value of its kind
-abbrev pub no_value : Met → Option Damage
+abbrev pub no_value : ScannedElement → Option Damage
 no_value m = where_it (not m.fits) (told_at BadValue m.header)
 
 -- what refuses an Element behind so many counted octets and so many nodes, in the order in which it is told
-abbrev pub causes : ℕ → ℕ → Met → List (Option Damage)
+abbrev pub causes : ℕ → ℕ → ScannedElement → List (Option Damage)
 causes octets nodes m = limits_passed (octets + m.counted) nodes m.header ++ no_value m ∷ []
 
 -- the first refusal among these, behind so many counted octets and so many nodes
-abbrev pub refused_from : ℕ → ℕ → List (Result Met Damage) → Option Damage
+abbrev pub refused_from : ℕ → ℕ → List (Result ScannedElement Damage) → Option Damage
 refused_from octets nodes [] = None
 refused_from octets nodes (Err d ∷ rest) = Some d
 refused_from octets nodes (Ok m ∷ rest) =
@@ -126,7 +126,7 @@ attached_in bytes h = filter is_attached (children_of bytes h).list
 
 -- the AttachedFile that is one too many
 abbrev pub too_many_files : List Header → Option Damage
-too_many_files files = option_map (λ (h : Header). damage TooMany ATTACHED_FILE h.offset) (slice_get files MOST_ATTACHED)
+too_many_files files = option_map (λ (h : Header). damage TooMany ATTACHED_FILE h.offset) (slice_get files MAX_ATTACHMENTS)
 
 -- what refuses an Attachments Element, in the order in which it is told
 abbrev pub attachments_causes : List ℕ → Header → List (Option Damage)

@@ -1,9 +1,9 @@
 -- Why a call that reads a file ends early, as the answer of one that reads attached files.
 use Rattle.mkv_io.specs.declared.outside.ReadEnd.{ReadEnd}
 use Rattle.mkv_io.specs.declared.outside.ReadEnd.TheVariants as read_end
-use Rattle.meta_records.specs.declared.end.AttachmentsEnd.{AttachmentsEnd}
-use Rattle.meta_records.specs.declared.end.AttachmentsEnd.TheVariants as attachments_end
+use Rattle.meta_records.specs.declared.end.MetaEnd.{MetaEnd}
+use Rattle.meta_records.specs.declared.end.MetaEnd.TheVariants as attachments_end
 
-abbrev pub end_of : ReadEnd → AttachmentsEnd
+abbrev pub end_of : ReadEnd → MetaEnd
 end_of read_end.ReadFault = attachments_end.ReadFault
 end_of read_end.Memory = attachments_end.Memory

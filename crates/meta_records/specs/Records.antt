@@ -8,14 +8,14 @@ use Rattle.mkv_io.specs.declared.outside.FileId.{FileId}
 use Rattle.mkv_schema.specs.declared.element.Header.{Header}
 use Rattle.mkv_schema.specs.Element.{damage}
 use Rattle.mkv_schema.specs.Schema.{is_master}
-use Rattle.mkv_schema.specs.declared.limits.TheConstants.{MOST_OF_ONE}
+use Rattle.mkv_schema.specs.declared.limits.TheConstants.{MAX_MASTER_LEN}
 use Rattle.mkv_schema.specs.Outline.{is_described, segment_run}
 use Rattle.mkv_io.specs.Results.{and_then, unless}
 use Rattle.mkv_schema.specs.Value.{body_of, first_of}
 use Rattle.element_reader.specs.Load.{limit_of}
 use Rattle.element_reader.specs.declared.outline_end.OutlineEnd.{OutlineEnd}
 use Rattle.element_reader.specs.declared.outline_end.OutlineEnd.TheVariants as outline_end
-use Rattle.tree_format.specs.declared.limits.TheConstants.{MOST_NODES}
+use Rattle.tree_format.specs.declared.limits.TheConstants.{MAX_NODES}
 use Rattle.tree_format.specs.Node.{HasRoom, Node}
 use Rattle.tree_format.specs.Reading.{tree_of}
 use Rattle.tree_format.specs.Standing.{IsSoundOf}
@@ -37,13 +37,13 @@ use Rattle.element_reader.specs.Outline.{FileOutline, outline_in}
 pub record IsHeld (id : ℕ) : Type 0 where
   pub master : is_master id ≡ true
   pub described : is_described id ≡ true
-  pub limit : limit_of id ≡ Some MOST_OF_ONE
+  pub limit : limit_of id ≡ Some MAX_MASTER_LEN
   pub other : (id == CLUSTER) ≡ false
 
 -- an Element as a tree, if there is one, or what is wrong inside
 abbrev pub tree_at : List ℕ → Option Header → Result (Option Node) Damage
 tree_at bytes None = Ok None
-tree_at bytes (Some h) = and_then (tree_of h.id h.offset (body_of bytes h) h.body MOST_NODES) (λ tree. Ok (Some tree))
+tree_at bytes (Some h) = and_then (tree_of h.id h.offset (body_of bytes h) h.body MAX_NODES) (λ tree. Ok (Some tree))
 
 -- the first Element of level 1 of an ID
 abbrev pub first_tree : ℕ → List ℕ → Header → Result (Option Node) Damage

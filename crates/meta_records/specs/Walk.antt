@@ -7,7 +7,7 @@ use Rattle.mkv_io.specs.declared.damage.Damage.{Damage}
 use Rattle.mkv_io.specs.declared.damage.Kind.TheVariants.{TooMany}
 use Rattle.mkv_io.specs.declared.outside.FileId.{FileId}
 use Rattle.mkv_schema.specs.declared.element.Header.{Header}
-use Rattle.mkv_schema.specs.declared.limits.TheConstants.{LONGEST_HEADER}
+use Rattle.mkv_schema.specs.declared.limits.TheConstants.{MAX_ELEMENT_HEADER_LEN}
 use Rattle.mkv_schema.specs.Element.{in_master, element_at, damage, is_unknown, known, stated_end}
 use Rattle.mkv_schema.specs.Outline.{first_damage, first_refusal}
 use Rattle.mkv_io.specs.Results.{unless}
@@ -16,26 +16,26 @@ use Rattle.tree_format.specs.Node.{Node, depth, offset_of}
 use Rattle.tree_format.specs.Standing.{StandsIn}
 use Rattle.output_model.specs.Sound.{IsAttachment}
 use Rattle.output_model.specs.declared.attachment.Attachment.{Attachment}
-use Rattle.meta_records.specs.Attachments.{Met, at_child, at_part, attached_in, attachment_of, data_in, entry_of, is_attached, leaf_of, missing_data, no_value, part_of, refused_from, refused_in}
+use Rattle.meta_records.specs.Attachments.{ScannedElement, at_child, at_part, attached_in, attachment_of, data_in, entry_of, is_attached, leaf_of, missing_data, no_value, part_of, refused_from, refused_in}
 use Rattle.meta_records.specs.declared.attached.Parts.{Parts}
-use Rattle.meta_records.specs.declared.attachments.Found.{Found}
+use Rattle.meta_records.specs.declared.attachments.AttachmentScan.{AttachmentScan}
 use Rattle.meta_records.specs.declared.counts.Counts.{Counts}
-use Rattle.meta_records.specs.declared.end.AttachmentsEnd.{AttachmentsEnd}
-use Rattle.meta_records.specs.declared.end.AttachmentsEnd.TheVariants.{Refused, ReadFault, Memory}
-use Rattle.meta_records.specs.declared.limits.TheConstants.{MOST_ATTACHED}
+use Rattle.meta_records.specs.declared.end.MetaEnd.{MetaEnd}
+use Rattle.meta_records.specs.declared.end.MetaEnd.TheVariants.{Refused, ReadFault, Memory}
+use Rattle.meta_records.specs.declared.limits.TheConstants.{MAX_ATTACHMENTS}
 use Rattle.meta_records.specs.declared.part.Part.{Part}
 
 -- ---- answers
 
 -- What is read is this, or what refuses it; a read may fail, and there may be no memory.
-abbrev pub ReadsAs : {A : Type 0} → Result A Damage → Result A AttachmentsEnd → Type 0
+abbrev pub ReadsAs : {A : Type 0} → Result A Damage → Result A MetaEnd → Type 0
 ReadsAs found (Ok x) = found ≡ Ok x
 ReadsAs found (Err (Refused d)) = found ≡ Err d
 ReadsAs found (Err ReadFault) = ⊤
 ReadsAs found (Err Memory) = ⊤
 
 -- a read failed
-abbrev pub is_attachments_fault : AttachmentsEnd → Bool
+abbrev pub is_attachments_fault : MetaEnd → Bool
 is_attachments_fault (Refused d) = false
 is_attachments_fault ReadFault = true
 is_attachments_fault Memory = false
@@ -51,22 +51,22 @@ pub record IsChild (at end : ℕ) (h : Header) : Type 0 where
 
 -- These were met: none refuses, and behind them so much is counted; or one refuses. Nothing is said where a
 -- read failed or there is no memory.
-abbrev pub Meets : {T : Type 0} → List (Result Met Damage) → Counts → Counts → Result T AttachmentsEnd → Type 0
-Meets list old new (Ok x) = (more : List (Result Met Damage)) → refused_from old.octets old.nodes (list ++ more) ≡ refused_from new.octets new.nodes more
-Meets list old new (Err (Refused d)) = (more : List (Result Met Damage)) → refused_from old.octets old.nodes (list ++ more) ≡ Some d
+abbrev pub Meets : {T : Type 0} → List (Result ScannedElement Damage) → Counts → Counts → Result T MetaEnd → Type 0
+Meets list old new (Ok x) = (more : List (Result ScannedElement Damage)) → refused_from old.octets old.nodes (list ++ more) ≡ refused_from new.octets new.nodes more
+Meets list old new (Err (Refused d)) = (more : List (Result ScannedElement Damage)) → refused_from old.octets old.nodes (list ++ more) ≡ Some d
 Meets list old new (Err ReadFault) = ⊤
 Meets list old new (Err Memory) = ⊤
 
 -- what is met at a place: an Element, with what else is met there, or a damage
-abbrev pub met_at : (Header → List (Result Met Damage)) → Result Header Damage → List (Result Met Damage)
+abbrev pub met_at : (Header → List (Result ScannedElement Damage)) → Result Header Damage → List (Result ScannedElement Damage)
 met_at at (Ok h) = at h
 met_at at (Err d) = Err d ∷ []
 
 -- what is met at a place of an AttachedFile, and of an Attachments Element, that ends at a place
-abbrev pub part_met : List ℕ → ℕ → ℕ → List (Result Met Damage)
+abbrev pub part_met : List ℕ → ℕ → ℕ → List (Result ScannedElement Damage)
 part_met bytes at end = met_at (at_part bytes) (element_at in_master bytes at end)
 
-abbrev pub child_met : List ℕ → ℕ → ℕ → List (Result Met Damage)
+abbrev pub child_met : List ℕ → ℕ → ℕ → List (Result ScannedElement Damage)
 child_met bytes at end = met_at (at_child bytes) (element_at in_master bytes at end)
 
 -- a child of an AttachedFile as a leaf, unless it isn't a value of its kind
@@ -94,12 +94,12 @@ pub record IsPartLeaf (n : Node) : Type 0 where
 -- ---- what was found
 
 -- These children of Attachments are read besides: the AttachedFiles among them.
-pub record Adds (bytes : List ℕ) (file : FileId) (children : List Header) (old new : Found) : Type 0 where
+pub record Adds (bytes : List ℕ) (file : FileId) (children : List Header) (old new : AttachmentScan) : Type 0 where
   pub attachments : new.attachments ≡ old.attachments ++ map (attachment_of bytes file) (filter is_attached children)
   pub missing : new.missing ≡ option_or old.missing (first_damage (map (missing_data bytes) (filter is_attached children)))
 
 -- A child of Attachments was read at a place; behind it is the next.
-pub record ReadsChild (bytes : List ℕ) (file : FileId) (at end next : ℕ) (old new : Found) : Type 0 where
+pub record ReadsChild (bytes : List ℕ) (file : FileId) (at end next : ℕ) (old new : AttachmentScan) : Type 0 where
   pub child : Header
   pub found : element_at in_master bytes at end ≡ Ok child
   pub behind : next ≡ stated_end child
@@ -112,7 +112,7 @@ pub record IsAttachedIn (file : FileId) (end : ℕ) (a : Attachment) : Type 0 wh
   pub inside : a.at + a.len ≤ end
 
 -- All that were found are such.
-abbrev pub AreAttachedIn : FileId → ℕ → Found → Type 0
+abbrev pub AreAttachedIn : FileId → ℕ → AttachmentScan → Type 0
 AreAttachedIn file end found = All (IsAttachedIn file end) found.attachments
 
 -- What an AttachedFile says in a content, and what is told of it there where it has no data.
@@ -138,13 +138,13 @@ pub record AreSoundParts (end : ℕ) (parts : Parts) : Type 0 where
 
 -- All children of an Attachments Element were met, and none refuses: its attached files, and what is told of the
 -- first that has no data.
-pub record HasAll (bytes : List ℕ) (file : FileId) (h : Header) (found : Found) : Type 0 where
+pub record HasAll (bytes : List ℕ) (file : FileId) (h : Header) (found : AttachmentScan) : Type 0 where
   pub good : refused_in bytes h ≡ None
   pub attachments : found.attachments ≡ map (attachment_of bytes file) (attached_in bytes h)
   pub missing : found.missing ≡ first_damage (map (missing_data bytes) (attached_in bytes h))
 
 -- They were met, or one of them refuses.
-abbrev pub WalksAll : List ℕ → FileId → Header → Result Found AttachmentsEnd → Type 0
+abbrev pub WalksAll : List ℕ → FileId → Header → Result AttachmentScan MetaEnd → Type 0
 WalksAll bytes file h (Ok found) = HasAll bytes file h found
 WalksAll bytes file h (Err (Refused d)) = refused_in bytes h ≡ Some d
 WalksAll bytes file h (Err ReadFault) = ⊤
@@ -152,17 +152,17 @@ WalksAll bytes file h (Err Memory) = ⊤
 
 -- the attached file that is one too many
 abbrev pub one_over : List Attachment → Option Damage
-one_over attachments = option_map (λ (a : Attachment). damage TooMany ATTACHED_FILE (offset_of a.entry)) (slice_get attachments MOST_ATTACHED)
+one_over attachments = option_map (λ (a : Attachment). damage TooMany ATTACHED_FILE (offset_of a.entry)) (slice_get attachments MAX_ATTACHMENTS)
 
 -- the attached files, unless one has no data or there are too many
-abbrev pub good_files : Found → Result (List Attachment) Damage
+abbrev pub good_files : AttachmentScan → Result (List Attachment) Damage
 good_files found = unless (first_refusal found.missing (one_over found.attachments)) found.attachments
 
 -- ---- what was read
 
 -- the most octets that are read for what is counted: a header for each node, and the octets
 abbrev pub cost : Counts → ℕ
-cost c = LONGEST_HEADER * c.nodes + c.octets
+cost c = MAX_ELEMENT_HEADER_LEN * c.nodes + c.octets
 
 -- What was read is paid by what was counted, and that by the way.
 pub record IsPaid (far : ℕ) (old new : Counts) (before now : ℕ) : Type 0 where
@@ -171,19 +171,19 @@ pub record IsPaid (far : ℕ) (old new : Counts) (before now : ℕ) : Type 0 whe
 
 -- The same but for a last header.
 pub record IsSpent (far : ℕ) (old new : Counts) (before now : ℕ) : Type 0 where
-  pub reads : now + cost old ≤ before + cost new + LONGEST_HEADER
+  pub reads : now + cost old ≤ before + cost new + MAX_ELEMENT_HEADER_LEN
   pub way : now ≤ before + 16 * far
 
 -- The one of a call that has gone on from a place to where its answer says, the other of one that ended on the way to the end.
-abbrev pub Pays : {T : Type 0} → ℕ → (T → ℕ) → ℕ → Counts → Counts → ℕ → ℕ → Result T AttachmentsEnd → Type 0
+abbrev pub Pays : {T : Type 0} → ℕ → (T → ℕ) → ℕ → Counts → Counts → ℕ → ℕ → Result T MetaEnd → Type 0
 Pays from to end old new before now (Ok x) = IsPaid (to x - from) old new before now
 Pays from to end old new before now (Err e) = IsSpent (end - from) old new before now
 
 -- The same of a call that goes on to the place that it answers, or to the end; and of one that reads all that is inside.
-abbrev pub PaysUpTo : ℕ → ℕ → Counts → Counts → ℕ → ℕ → Result ℕ AttachmentsEnd → Type 0
+abbrev pub PaysUpTo : ℕ → ℕ → Counts → Counts → ℕ → ℕ → Result ℕ MetaEnd → Type 0
 PaysUpTo from end = Pays from (λ next. next) end
 
-abbrev pub PaysInside : {T : Type 0} → Header → Counts → Counts → ℕ → ℕ → Result T AttachmentsEnd → Type 0
+abbrev pub PaysInside : {T : Type 0} → Header → Counts → Counts → ℕ → ℕ → Result T MetaEnd → Type 0
 PaysInside h = Pays h.body (λ _. stated_end h) (stated_end h)
 
 -- the place behind a child of an AttachedFile

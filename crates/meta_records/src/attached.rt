@@ -14,7 +14,7 @@ ghost use Rattle.meta_records.specs.Attachments.{parts_in};
 ghost use Rattle.meta_records.specs.Walk.{ArePartsOf, AreSoundParts, IfPartsOf, IsAttachedIn, IsAttachedOf, IsChild, IsMissingOf, Meets, PaysInside, data_at, is_attachments_fault};
 
 use crate::counts::Counts;
-use crate::end::AttachmentsEnd;
+use crate::end::MetaEnd;
 use crate::part::{Part, read_part};
 use ebml_tree::{Tree, empty};
 use elements::{damage, known};
@@ -38,7 +38,7 @@ fn read_parts<R: Reads>(
     file: FileId,
     counts: &mut Counts,
     attached: &Header,
-) -> Result<Parts, AttachmentsEnd>
+) -> Result<Parts, MetaEnd>
     requires live { IsLive R.Reads src.old file }
     requires child { IsChild attached.now.offset (file_size R.Reads src.old file) attached.now }
     ensures meets { IfTold R.Reads src.old file (λ b. Meets (parts_in b attached.now) counts.old counts.new result) }
@@ -149,7 +149,7 @@ pub(crate) fn read_attached<R: Reads>(
     file: FileId,
     counts: &mut Counts,
     attached: &Header,
-) -> Result<Attached, AttachmentsEnd>
+) -> Result<Attached, MetaEnd>
     requires live { IsLive R.Reads src.old file }
     requires child { IsChild attached.now.offset (file_size R.Reads src.old file) attached.now }
     ensures meets { IfTold R.Reads src.old file (λ b. Meets (parts_in b attached.now) counts.old counts.new result) }

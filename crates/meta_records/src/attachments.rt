@@ -5,15 +5,15 @@ ghost use Rattle.mkv_io.specs.Bounds.{ReadsUpTo};
 ghost use Rattle.mkv_io.specs.Faults.{HasCause};
 ghost use Rattle.mkv_io.specs.Sources.{IfTold, IsLive, file_size};
 ghost use Rattle.mkv_schema.specs.Element.{is_unknown, known, stated_end};
-ghost use Rattle.meta_records.specs.declared.limits.TheConstants.{MOST_OF_ATTACHMENTS};
+ghost use Rattle.meta_records.specs.declared.limits.TheConstants.{MAX_ATTACHMENTS_LEN};
 ghost use Rattle.meta_records.specs.Attachments.{attachments_in, child_of};
 ghost use Rattle.meta_records.specs.Walk.{AreAttachedIn, IsAttachedIn, Meets, PaysUpTo, ReadsAs, ReadsChild, WalksAll, child_met, good_files, is_attachments_fault};
 
 use crate::attached::{Attached, read_attached};
 use crate::counts::Counts;
-use crate::end::AttachmentsEnd;
+use crate::end::MetaEnd;
 use crate::header::child_header;
-use crate::limits::MOST_ATTACHED;
+use crate::limits::MAX_ATTACHMENTS;
 use elements::{damage, known};
 use mkv_io::{Damage, FileId, Kind, List, Reads};
 use mkv_schema::Header;
@@ -23,7 +23,7 @@ use std::alloc::Global;
 
 /// The attached files so far, and what is told of the first that has no data.
 #[derive(Drop)]
-pub(crate) struct Found {
+pub(crate) struct AttachmentScan {
     pub attachments: List<Attachment>,
     pub missing: Option<Damage>,
 }
@@ -47,10 +47,10 @@ fn read_child<R: Reads>(
     src: &mut R,
     file: FileId,
     counts: &mut Counts,
-    found: &mut Found,
+    found: &mut AttachmentScan,
     at: u64,
     end: u64,
-) -> Result<u64, AttachmentsEnd>
+) -> Result<u64, MetaEnd>
     requires live { IsLive R.Reads src.old file }
     requires place { at < end }
     requires inside { end ≤ file_size R.Reads src.old file }
@@ -83,7 +83,7 @@ fn read_children<R: Reads>(
     src: &mut R,
     file: FileId,
     header: &Header,
-) -> Result<Found, AttachmentsEnd>
+) -> Result<AttachmentScan, MetaEnd>
     requires live { IsLive R.Reads src.old file }
     requires known { is_unknown header.now.size ≡ false }
     requires inside { stated_end header.now ≤ file_size R.Reads src.old file }
@@ -92,11 +92,11 @@ fn read_children<R: Reads>(
     ensures standing { R.standing src.new ≡ R.standing src.old }
     ensures cause { HasCause is_attachments_fault (R.reading_faults src.old) (R.reading_faults src.new) result }
     ensures octets { ReadsUpTo R.Reads src.old src.new (16 * known header.now.size) }
-    ensures few { ReadsUpTo R.Reads src.old src.new (2 * MOST_OF_ATTACHMENTS) }
+    ensures few { ReadsUpTo R.Reads src.old src.new (2 * MAX_ATTACHMENTS_LEN) }
 {
     let end = header.body + known(header.size);
     let mut counts = Counts::new();
-    let mut found = Found {
+    let mut found = AttachmentScan {
         attachments: List::new(alloc),
         missing: None,
     };
@@ -108,18 +108,18 @@ fn read_children<R: Reads>(
 }
 
 // The attached files that were found, unless one has no data or there are too many.
-fn good_files(found: Found) -> Result<List<Attachment>, Damage>
+fn good_files(found: AttachmentScan) -> Result<List<Attachment>, Damage>
     ensures exact { result ≡ good_files found }
     ensures same { IfOk result (λ files. files ≡ found.attachments) }
 {
-    let Found {
+    let AttachmentScan {
         attachments,
         missing,
     } = found;
     if let Some(missing) = missing {
         return Err(missing);
     }
-    match attachments.get(MOST_ATTACHED) {
+    match attachments.get(MAX_ATTACHMENTS) {
         Some(one) => Err(damage(Kind::TooMany, ATTACHED_FILE, one.entry.offset())),
         None => Ok(attachments),
     }
@@ -127,14 +127,14 @@ fn good_files(found: Found) -> Result<List<Attachment>, Damage>
 
 /// The attached files of an Attachments Element, RFC 9559, section 5.1.6 (Attachments Element), or the first thing that
 /// refuses it. Their data aren't read. It is refused where it isn't made of valid Elements; where
-/// `MOST_OF_ATTACHMENTS` octets are passed, counted without data, 65,536 Elements or 1,024 attached files; and where an
+/// `MAX_ATTACHMENTS_LEN` octets are passed, counted without data, 65,536 Elements or 1,024 attached files; and where an
 /// AttachedFile has no FileData. What is wrong among the Elements is told first.
 pub fn read_attachments<R: Reads>(
     alloc: Global,
     src: &mut R,
     file: FileId,
     header: &Header,
-) -> Result<List<Attachment>, AttachmentsEnd>
+) -> Result<List<Attachment>, MetaEnd>
     requires live { IsLive R.Reads src.old file }
     requires known { is_unknown header.now.size ≡ false }
     requires inside { stated_end header.now ≤ file_size R.Reads src.old file }
@@ -147,7 +147,7 @@ pub fn read_attachments<R: Reads>(
 
     // Of a long Element no more is read than of one whose data are empty.
     ensures octets { ReadsUpTo R.Reads src.old src.new (16 * known header.now.size) }
-    ensures few { ReadsUpTo R.Reads src.old src.new (2 * MOST_OF_ATTACHMENTS) }
+    ensures few { ReadsUpTo R.Reads src.old src.new (2 * MAX_ATTACHMENTS_LEN) }
 {
     let found = read_children(alloc, src, file, header)?;
     let attachments = good_files(found)?;

@@ -1,12 +1,12 @@
 //! What is counted on the way through an Attachments Element.
 
 ghost use Rattle.std.specs.Prelude.{◌≡◌, ◌+◌, ◌≤◌, IfErr, OnErr, OnOk};
-ghost use Rattle.tree_format.specs.declared.limits.TheConstants.{MOST_NODES};
-ghost use Rattle.meta_records.specs.declared.limits.TheConstants.{MOST_OF_ATTACHMENTS};
+ghost use Rattle.tree_format.specs.declared.limits.TheConstants.{MAX_NODES};
+ghost use Rattle.meta_records.specs.declared.limits.TheConstants.{MAX_ATTACHMENTS_LEN};
 ghost use Rattle.meta_records.specs.Attachments.{limit_passed};
 
-use crate::limits::MOST_OF_ATTACHMENTS;
-use ebml_tree::MOST_NODES;
+use crate::limits::MAX_ATTACHMENTS_LEN;
+use ebml_tree::MAX_NODES;
 use elements::damage_at;
 use mkv_io::{Damage, Kind};
 use mkv_schema::Header;
@@ -16,8 +16,8 @@ use mkv_schema::Header;
 pub(crate) struct Counts {
     pub octets: u64,
     pub nodes: u32,
-    ghost few_octets: { octets ≤ MOST_OF_ATTACHMENTS },
-    ghost few_nodes: { nodes ≤ MOST_NODES },
+    ghost few_octets: { octets ≤ MAX_ATTACHMENTS_LEN },
+    ghost few_nodes: { nodes ≤ MAX_NODES },
 }
 
 impl Counts {
@@ -41,10 +41,10 @@ impl Counts {
         ensures nodes { OnOk result (self.new.nodes ≡ self.old.nodes + 1) }
         ensures refused { OnErr result (self.new ≡ self.old) }
     {
-        if octets > MOST_OF_ATTACHMENTS - self.octets {
+        if octets > MAX_ATTACHMENTS_LEN - self.octets {
             return Err(damage_at(Kind::HeaderTooLarge, header));
         }
-        if self.nodes >= MOST_NODES {
+        if self.nodes >= MAX_NODES {
             return Err(damage_at(Kind::TooMany, header));
         }
         *self = Counts {

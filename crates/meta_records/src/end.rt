@@ -1,14 +1,14 @@
 //! Why attached files aren't read.
 
 ghost use Rattle.std.specs.Prelude.{◌≡◌};
-ghost use Rattle.meta_records.specs.declared.end.AttachmentsEnd.TheVariants as attachments_end;
+ghost use Rattle.meta_records.specs.declared.end.MetaEnd.TheVariants as attachments_end;
 
 use mkv_io::{Damage, Failed, ReadEnd};
 use std::alloc::AllocError;
 
 /// Why attached files aren't read.
 #[derive(Debug, Drop)]
-pub enum AttachmentsEnd {
+pub enum MetaEnd {
     /// They aren't made of valid Elements, pass a limit, or one has no data.
     Refused(Damage),
     /// A read failed.
@@ -17,39 +17,39 @@ pub enum AttachmentsEnd {
     Memory,
 }
 
-impl From<Damage> for AttachmentsEnd {
+impl From<Damage> for MetaEnd {
     ghost from_gives = { λ damage end. end ≡ attachments_end.Refused damage };
 
-    fn from(damage: Damage) -> AttachmentsEnd {
-        AttachmentsEnd::Refused(damage)
+    fn from(damage: Damage) -> MetaEnd {
+        MetaEnd::Refused(damage)
     }
 }
 
-impl From<Failed> for AttachmentsEnd {
+impl From<Failed> for MetaEnd {
     ghost from_gives = { λ _ end. end ≡ attachments_end.ReadFault };
 
-    fn from(_failed: Failed) -> AttachmentsEnd {
-        AttachmentsEnd::ReadFault
+    fn from(_failed: Failed) -> MetaEnd {
+        MetaEnd::ReadFault
     }
 }
 
-impl From<AllocError> for AttachmentsEnd {
+impl From<AllocError> for MetaEnd {
     ghost from_gives = { λ _ end. end ≡ attachments_end.Memory };
 
-    fn from(_error: AllocError) -> AttachmentsEnd {
-        AttachmentsEnd::Memory
+    fn from(_error: AllocError) -> MetaEnd {
+        MetaEnd::Memory
     }
 }
 
-impl From<ReadEnd> for AttachmentsEnd {
+impl From<ReadEnd> for MetaEnd {
     ghost use Rattle.meta_records.specs.End.{end_of};
 
     ghost from_gives = { λ why end. end ≡ end_of why };
 
-    fn from(why: ReadEnd) -> AttachmentsEnd {
+    fn from(why: ReadEnd) -> MetaEnd {
         match why {
-            ReadEnd::ReadFault => AttachmentsEnd::ReadFault,
-            ReadEnd::Memory => AttachmentsEnd::Memory,
+            ReadEnd::ReadFault => MetaEnd::ReadFault,
+            ReadEnd::Memory => MetaEnd::Memory,
         }
     }
 }

@@ -9,7 +9,7 @@ ghost use Rattle.ebml_tree.specs.Building.{IsRead};
 ghost use Rattle.element_reader.specs.Outline.{is_outline_fault, outline_in};
 ghost use Rattle.meta_records.specs.Records.{IfOutlinedAs, IsHeld, ReadsAs, first_tree};
 
-use ebml_tree::{MOST_NODES, Tree, TreeEnd};
+use ebml_tree::{MAX_NODES, Tree, TreeEnd};
 use element_reader::{LoadEnd, Outline, OutlineEnd, load};
 use mkv_io::{FileId, Reads};
 use std::alloc::Global;
@@ -47,7 +47,7 @@ pub fn first_tree<R: Reads>(
         header.offset,
         body.as_slice(),
         header.body,
-        MOST_NODES,
+        MAX_NODES,
     ) {
         Ok(tree) => Ok(Some(tree)),
         Err(TreeEnd::Damage(damage)) => Err(OutlineEnd::Refused(damage)),

@@ -6,13 +6,13 @@ ghost use Rattle.mkv_io.specs.Bounds.{ReadsUpTo};
 ghost use Rattle.mkv_io.specs.Faults.{HasCause};
 ghost use Rattle.mkv_io.specs.Sources.{IfTold, IsLive, file_size};
 ghost use Rattle.element_reader.specs.Outline.{is_outline_fault, outline_in};
-ghost use Rattle.meta_records.specs.declared.limits.TheConstants.{MOST_OF_ATTACHMENTS};
+ghost use Rattle.meta_records.specs.declared.limits.TheConstants.{MAX_ATTACHMENTS_LEN};
 ghost use Rattle.meta_records.specs.Walk.{IsAttachedIn};
 ghost use Rattle.meta_records.specs.Attached.{ReadsAttached, first_attached};
 ghost use Rattle.meta_records.specs.Records.{IfOutlinedAs};
 
 use crate::attachments::read_attachments;
-use crate::end::AttachmentsEnd;
+use crate::end::MetaEnd;
 use element_reader::{Outline, OutlineEnd};
 use mkv_io::{FileId, List, Reads};
 use mkv_schema::ids::ATTACHMENTS;
@@ -34,15 +34,15 @@ pub fn first_attachments<R: Reads>(
     ensures standing { R.standing src.new ≡ R.standing src.old }
     ensures cause { HasCause is_outline_fault (R.reading_faults src.old) (R.reading_faults src.new) result }
     ensures octets { ReadsUpTo R.Reads src.old src.new (16 * file_size R.Reads src.old file) }
-    ensures few { ReadsUpTo R.Reads src.old src.new (2 * MOST_OF_ATTACHMENTS) }
+    ensures few { ReadsUpTo R.Reads src.old src.new (2 * MAX_ATTACHMENTS_LEN) }
 {
     let Some(header) = outline.first(ATTACHMENTS) else {
         return Ok(List::new(alloc));
     };
     match read_attachments(alloc, src, file, &header) {
         Ok(attachments) => Ok(attachments),
-        Err(AttachmentsEnd::Refused(damage)) => Err(OutlineEnd::Refused(damage)),
-        Err(AttachmentsEnd::ReadFault) => Err(OutlineEnd::ReadFault),
-        Err(AttachmentsEnd::Memory) => Err(OutlineEnd::Memory),
+        Err(MetaEnd::Refused(damage)) => Err(OutlineEnd::Refused(damage)),
+        Err(MetaEnd::ReadFault) => Err(OutlineEnd::ReadFault),
+        Err(MetaEnd::Memory) => Err(OutlineEnd::Memory),
     }
 }

@@ -8,11 +8,11 @@ ghost use Rattle.mkv_io.specs.Sources.{IfTold, IsLive, file_size};
 ghost use Rattle.mkv_schema.specs.Element.{element_at, element_in, in_master};
 ghost use Rattle.meta_records.specs.Walk.{IsChild, ReadsAs, is_attachments_fault};
 
-use crate::end::AttachmentsEnd;
+use crate::end::MetaEnd;
 use elements::{Parent, read_header};
 use mkv_io::{Damage, FileId, Reads};
 use mkv_schema::Header;
-use mkv_schema::limits::LONGEST_HEADER;
+use mkv_schema::limits::MAX_ELEMENT_HEADER_LEN;
 
 /// The child at `at` octets behind the start of a file, of a master that isn't read whole and ends at `end`. No
 /// octet behind that end is read.
@@ -21,7 +21,7 @@ pub(crate) fn child_header<R: Reads>(
     file: FileId,
     at: u64,
     end: u64,
-) -> Result<Header, AttachmentsEnd>
+) -> Result<Header, MetaEnd>
     requires live { IsLive R.Reads src.old file }
     requires place { at ≤ end }
     requires inside { end ≤ file_size R.Reads src.old file }
@@ -29,10 +29,10 @@ pub(crate) fn child_header<R: Reads>(
     ensures child { IfOk result (IsChild at end) }
     ensures standing { R.standing src.new ≡ R.standing src.old }
     ensures cause { HasCause is_attachments_fault (R.reading_faults src.old) (R.reading_faults src.new) result }
-    ensures octets { ReadsUpTo R.Reads src.old src.new (min (end - at) LONGEST_HEADER) }
+    ensures octets { ReadsUpTo R.Reads src.old src.new (min (end - at) MAX_ELEMENT_HEADER_LEN) }
 {
-    let mut buffer = [0; LONGEST_HEADER as usize];
-    let len = (end - at).min(LONGEST_HEADER);
+    let mut buffer = [0; MAX_ELEMENT_HEADER_LEN as usize];
+    let len = (end - at).min(MAX_ELEMENT_HEADER_LEN);
     let octets = &mut buffer[..len as usize];
     src.read_at(file, at, octets)?;
     let total = src.size(file);

@@ -17,10 +17,10 @@ mod part;
 mod records;
 
 pub use attachments::read_attachments;
-pub use end::AttachmentsEnd;
+pub use end::MetaEnd;
 pub use file_format::DEFAULT_SCALE;
 pub use first::first_tree;
 pub use first_attached::first_attachments;
 pub use info::{Info, read_info};
-pub use limits::{MOST_ATTACHED, MOST_OF_ATTACHMENTS};
+pub use limits::{MAX_ATTACHMENTS, MAX_ATTACHMENTS_LEN};
 pub use records::{Records, good_info, read_records, scale_of};

@@ -2,7 +2,7 @@
 
 /// The most octets of an Attachments Element that are counted: of each AttachedFile its header, of what is
 /// inside one headers and bodies, other than the bodies of FileData.
-pub const MOST_OF_ATTACHMENTS: u64 = 1 << 20;
+pub const MAX_ATTACHMENTS_LEN: u64 = 1 << 20;
 
 /// The most attached files.
-pub const MOST_ATTACHED: usize = 1024;
+pub const MAX_ATTACHMENTS: usize = 1024;

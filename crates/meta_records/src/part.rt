@@ -10,7 +10,7 @@ ghost use Rattle.meta_records.specs.Attachments.{counted_of};
 ghost use Rattle.meta_records.specs.Walk.{IsChild, IsPart, IsPartLeaf, Meets, Pays, ReadsAs, behind_part, is_attachments_fault, leaf_in, octets_of, part_met};
 
 use crate::counts::Counts;
-use crate::end::AttachmentsEnd;
+use crate::end::MetaEnd;
 use crate::header::child_header;
 use ebml_tree::Tree;
 use elements::{damage_at, is_known_value, known};
@@ -66,7 +66,7 @@ fn leaf_of<R: Reads>(
     src: &mut R,
     file: FileId,
     part: &Header,
-) -> Result<Tree, AttachmentsEnd>
+) -> Result<Tree, MetaEnd>
     requires live { IsLive R.Reads src.old file }
     requires child { IsChild part.now.offset (file_size R.Reads src.old file) part.now }
     ensures exact { IfTold R.Reads src.old file (λ bytes. ReadsAs (leaf_in bytes part.now) result) }
@@ -80,7 +80,7 @@ fn leaf_of<R: Reads>(
     }
     let body = body_of(alloc, src, file, part)?;
     if !is_known_value(ATTACHED_FILE, part.id, body.as_slice()) {
-        return Err(AttachmentsEnd::Refused(damage_at(Kind::BadValue, part)));
+        return Err(MetaEnd::Refused(damage_at(Kind::BadValue, part)));
     }
     Ok(Tree::leaf(alloc, part.id, body.as_slice())?)
 }
@@ -93,7 +93,7 @@ pub(crate) fn read_part<R: Reads>(
     counts: &mut Counts,
     at: u64,
     end: u64,
-) -> Result<Part, AttachmentsEnd>
+) -> Result<Part, MetaEnd>
     requires live { IsLive R.Reads src.old file }
     requires place { at < end }
     requires inside { end ≤ file_size R.Reads src.old file }

@@ -5,7 +5,7 @@ ghost use Rattle.mkv_schema.specs.declared.ids.TheConstants.{INFO as INFO_ID, TR
 ghost use Rattle.mkv_io.specs.Faults.{HasCause};
 ghost use Rattle.mkv_io.specs.Sources.{IfTold, IsLive, file_size};
 ghost use Rattle.tree_format.specs.Standing.{IsSoundOf};
-ghost use Rattle.meta_records.specs.declared.limits.TheConstants.{MOST_OF_ATTACHMENTS};
+ghost use Rattle.meta_records.specs.declared.limits.TheConstants.{MAX_ATTACHMENTS_LEN};
 ghost use Rattle.element_reader.specs.Outline.{is_outline_fault, outline_in};
 ghost use Rattle.meta_records.specs.Records.{AreGood, AreRead, IfOutlinedAs, IsGoodInfo, ReadsAs, ReadsRecords, file_records, good_info, good_tracks, scale_of_info};
 ghost use Rattle.mkv_io.specs.Bounds.{ReadsOf, ReadsUpTo};
@@ -56,7 +56,7 @@ pub fn read_records<R: Reads>(
 
     // Info, Tracks, Chapters and Tags are each read once, and of Attachments no data.
     ensures octets { ReadsUpTo R.Reads src.old src.new (20 * file_size R.Reads src.old file) }
-    ensures few { ReadsOf R.Reads src.old src.new file (λ size. 4 * size + 2 * MOST_OF_ATTACHMENTS) }
+    ensures few { ReadsOf R.Reads src.old src.new file (λ size. 4 * size + 2 * MAX_ATTACHMENTS_LEN) }
 {
     let info = first_tree(alloc, outline, src, file, INFO)?;
     let info = good_info(info)?;

@@ -6,8 +6,8 @@ use Rattle.word_values.specs.declared.edit.Edit.{Edit}
 use Rattle.word_values.specs.declared.edit.Change.{Change}
 use Rattle.word_values.specs.declared.edit.Selector.{Selector}
 use Rattle.word_values.specs.declared.usage.Usage.{Usage}
-use Rattle.mkv_args.specs.declared.propedit.Saying.{Saying}
-use Rattle.mkv_args.specs.declared.propedit.Saying.TheVariants as says
+use Rattle.mkv_args.specs.declared.propedit.EditOption.{EditOption}
+use Rattle.mkv_args.specs.declared.propedit.EditOption.TheVariants as says
 use Rattle.word_values.specs.declared.usage.ArgsEnd.{ArgsEnd}
 use Rattle.word_values.specs.declared.usage.ArgsEnd.TheVariants as args_end
 use Rattle.word_values.specs.Answers.{Tells, ◌>>=◌}
@@ -33,12 +33,12 @@ two_on at ws = drop-drop 1 (at + 1) ws ∙ (let e : at + 1 + 1 ≡ at + 2 = omeg
 pairs_at : (at : ℕ) (w : List ℕ) (ws : List (List ℕ)) → drop at ws ≡ w ∷ drop (at + 1) ws → pairs at (drop at ws) ≡ pair at w (slice_get ws (at + 1)) ∷ pairs (at + 2) (drop (at + 2) ws)
 pairs_at at w ws here = rw (here, pairs_more at w (drop (at + 1) ws), two_on at ws, next_is ws at) refl
 
-section_first : (list : List Edit) (place next : Selector) (r : Result (List Saying) Usage) →
+section_first : (list : List Edit) (place next : Selector) (r : Result (List EditOption) Usage) →
     ((r >>= (λ more. Ok (says.Section next ∷ more))) >>= (λ all. Ok (list ++ edits_in place all))) ≡ (r >>= (λ all. Ok (list ++ edits_in next all)))
 section_first list place next (Ok more) = refl
 section_first list place next (Err e) = refl
 
-change_first : (list : List Edit) (place : Selector) (change : Change) (name value : List ℕ) (r : Result (List Saying) Usage) →
+change_first : (list : List Edit) (place : Selector) (change : Change) (name value : List ℕ) (r : Result (List EditOption) Usage) →
     ((r >>= (λ more. Ok (says.Change change name value ∷ more))) >>= (λ all. Ok (list ++ edits_in place all)))
     ≡ (r >>= (λ all. Ok ((list ++ record { place = place; change = change; name = name; value = value } ∷ []) ++ edits_in place all)))
 change_first list place change name value (Ok more) = ap Ok (sym (append_assoc list (record { place = place; change = change; name = name; value = value } ∷ []) (edits_in place more)))
@@ -55,6 +55,6 @@ module _ (count : ℕ) (list : List Edit) (place : Selector) (edited : Bool) (at
   change_next change name value is = rw (pairs_at at w ws here, is) (change_first list place change name value (all_said count true (pairs (at + 2) (drop (at + 2) ws))))
 
   -- what is wrong
-  pub edits_fail : (end : ArgsEnd) → Tells {X = Saying} (Err end) (said count edited (pair at w (slice_get ws (at + 1)))) → Tells {X = List Edit} (Err end) (edits_from count list place edited at ws)
+  pub edits_fail : (end : ArgsEnd) → Tells {X = EditOption} (Err end) (said count edited (pair at w (slice_get ws (at + 1)))) → Tells {X = List Edit} (Err end) (edits_from count list place edited at ws)
   edits_fail (args_end.Usage usage) is = rw (pairs_at at w ws here, is) refl
   edits_fail args_end.Memory is = tt

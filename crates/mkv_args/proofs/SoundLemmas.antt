@@ -36,12 +36,12 @@ use Rattle.mkv_args.specs.declared.commands.Verb.{Verb}
 use Rattle.mkv_args.specs.declared.commands.Verb.TheVariants as verb
 use Rattle.mkv_args.specs.declared.extract.Mode.{Mode}
 use Rattle.mkv_args.specs.declared.extract.Mode.TheVariants as mode
-use Rattle.mkv_args.specs.declared.propedit.Step.{Step}
-use Rattle.mkv_args.specs.declared.propedit.Step.TheVariants as step
+use Rattle.mkv_args.specs.declared.propedit.EditOptionKind.{EditOptionKind}
+use Rattle.mkv_args.specs.declared.propedit.EditOptionKind.TheVariants as step
 use Rattle.mkv_args.specs.declared.propedit.TheConstants.{VIDEO_TRACK, AUDIO_TRACK, SUBTITLE_TRACK}
 use Rattle.mkv_io.specs.Characters.{EQUALS}
-use Rattle.mkv_args.specs.declared.propedit.Saying.{Saying}
-use Rattle.mkv_args.specs.declared.propedit.Saying.TheVariants as says
+use Rattle.mkv_args.specs.declared.propedit.EditOption.{EditOption}
+use Rattle.mkv_args.specs.declared.propedit.EditOption.TheVariants as says
 use Rattle.mkv_args.specs.Entry.{meant}
 use Rattle.mkv_args.specs.Commands.{commands}
 use Rattle.mkv_args.specs.Extract.{is_taken, target_of, target, targets_from, targets, tracks_by, tracks, simple, chapters, listed, modes, job_of, job, extract}
@@ -184,20 +184,20 @@ selector-sound word s is =
     either (IsSoundPlace s) (begins (codes "track:") word) _ _ _ other (track-sound (drop 6 word) s) (λ never. absurd (cc)))
 
 -- a section that is said is sound
-abbrev IsSoundSaying : Saying → Type 0
+abbrev IsSoundSaying : EditOption → Type 0
 IsSoundSaying (says.Section place) = IsSoundPlace place
 IsSoundSaying (says.Change change name value) = Unit {0}
 
-changed-sound : (change : Change) (word : List ℕ) (y : Saying) → changed change word ≡ Some y → IsSoundSaying y
+changed-sound : (change : Change) (word : List ℕ) (y : EditOption) → changed change word ≡ Some y → IsSoundSaying y
 changed-sound change word y is = mapped IsSoundSaying (λ (p : List ℕ × List ℕ). says.Change change p.0 p.1) (cut EQUALS word) y is (λ p here. tt)
 
-meaning-sound : (s : Step) (word : List ℕ) (y : Saying) → meaning s word ≡ Some y → IsSoundSaying y
+meaning-sound : (s : EditOptionKind) (word : List ℕ) (y : EditOption) → meaning s word ≡ Some y → IsSoundSaying y
 meaning-sound step.Section word y is = mapped IsSoundSaying says.Section (selector word) y is (selector-sound word)
 meaning-sound (step.Edit Delete) word y is = let same : says.Change Delete word [] ≡ y = cc in subst IsSoundSaying same tt
 meaning-sound (step.Edit Set) word y is = changed-sound Set word y is
 meaning-sound (step.Edit Add) word y is = changed-sound Add word y is
 
-pair-sound : (count : ℕ) (edited : Bool) (p : Pair) (y : Saying) → said count edited p ≡ Ok y → IsSoundSaying y
+pair-sound : (count : ℕ) (edited : Bool) (p : Pair) (y : EditOption) → said count edited p ≡ Ok y → IsSoundSaying y
 pair-sound count edited p y is =
     ok-then (IsSoundSaying y) (following p.at edited (step_of p.option)) _ y is (λ s here more.
     ok-then (IsSoundSaying y) (due count p.value) _ y more (λ word there last. meaning-sound s word y (read_value-is (p.at + 1) (meaning s word) y last)))
@@ -206,11 +206,11 @@ abbrev HavePlaces : List Edit → Type 0
 HavePlaces list = All (λ (e : Edit). IsSoundPlace e.place) list
 
 -- the edits are sound, and there is one where none was said before
-record AreKept (place : Selector) (edited : Bool) (all : List Saying) : Type 0 where
+record AreKept (place : Selector) (edited : Bool) (all : List EditOption) : Type 0 where
   places : HavePlaces (edits_in place all)
   some : edited ≡ false → 0 < length (edits_in place all)
 
-all_said-kept : (count : ℕ) (edited : Bool) (ps : List Pair) (place : Selector) (all : List Saying) → IsSoundPlace place → all_said count edited ps ≡ Ok all → AreKept place edited all
+all_said-kept : (count : ℕ) (edited : Bool) (ps : List Pair) (place : Selector) (all : List EditOption) → IsSoundPlace place → all_said count edited ps ≡ Ok all → AreKept place edited all
 all_said-kept count true [] place all sound is =
     ok-made (AreKept place true) [] all is (record { places = All-nil (λ (e : Edit). IsSoundPlace e.place); some = λ never. absurd (cc) })
 all_said-kept count false [] place all sound is = absurd (cc)
@@ -219,14 +219,14 @@ all_said-kept count edited (p ∷ ps) place all sound is =
     ok-then (AreKept place edited all) (all_said count (is_edit y) ps) _ all more (λ rest there last.
     ok-made (AreKept place edited) (y ∷ rest) all last (joined y rest (pair-sound count edited p y here) (λ next own. all_said-kept count (is_edit y) ps next rest own there))))
   where
-    joined : (y : Saying) (rest : List Saying) → IsSoundSaying y → ((next : Selector) → IsSoundPlace next → AreKept next (is_edit y) rest) → AreKept place edited (y ∷ rest)
+    joined : (y : EditOption) (rest : List EditOption) → IsSoundSaying y → ((next : Selector) → IsSoundPlace next → AreKept next (is_edit y) rest) → AreKept place edited (y ∷ rest)
     joined (says.Section next) rest own behind = let kept = behind next own in record { places = kept.places; some = λ _. kept.some refl }
     joined (says.Change change name value) rest own behind = record {
       places = All-cons (λ (e : Edit). IsSoundPlace e.place) (record { place = place; change = change; name = name; value = value }) (edits_in place rest) sound (behind place sound).places;
       some = λ _. omega arith;
     }
 
-section_behind-sound : (o : Option Step) (words : List (List ℕ)) (s : Selector) → section_behind o words ≡ Ok s → IsSoundPlace s
+section_behind-sound : (o : Option EditOptionKind) (words : List (List ℕ)) (s : Selector) → section_behind o words ≡ Ok s → IsSoundPlace s
 section_behind-sound (Some step.Section) words s is =
     ok-then (IsSoundPlace s) (due_at words 3) _ s is (λ word here more. selector-sound word s (read_value-is 3 (selector word) s more))
 section_behind-sound _ words s is = absurd (cc)

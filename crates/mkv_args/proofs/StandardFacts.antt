@@ -26,7 +26,7 @@ use Rattle.mkv_args.specs.declared.command.Command.TheVariants as commands
 use Rattle.mkv_args.specs.declared.commands.Verb.TheVariants as verb
 use Rattle.word_values.specs.Answers.{wrong}
 use Rattle.mkv_io.specs.Octets.{cut}
-use Rattle.word_values.specs.Numbers.{amount, clock, delay, delay_size, fraction, number, seconds, sixtieth, size, time, uuid, whole}
+use Rattle.word_values.specs.Numbers.{amount, clock, delay, delay_size, fraction, number, seconds, minutes_or_seconds, size, time, uuid, whole}
 use Rattle.word_values.specs.Lists.{chapters as chapters_split, duration, ids, numbers, span, spans, split, split_of, times, uuids}
 use Rattle.word_values.specs.Values.{cluster_length, cue_word, language, scale, text, track_and_rest, track_flag, track_value, value_of}
 use Rattle.merge_words.specs.Options.{meaning_of, table}
@@ -181,7 +181,7 @@ pub splits-of-merges : Hold (
     asks_split (codes "merge -o o --split size:17179869184g f") (splits.Size 18446744073709551615) ∷
     asks_split (codes "merge -o o --split size:999999999999g f") (splits.Size 18446744073709551615) ∷
     [])
-unfolding command first_command command_named verbs merge merged items complete meaning_of table item_at option_at append_at file_at since_file merge_words file named_in value_of split split_of duration chapters_split spans span times numbers size amount time clock seconds fraction sixtieth cut number whole
+unfolding command first_command command_named verbs merge merged items complete meaning_of table item_at option_at append_at file_at since_file merge_words file named_in value_of split split_of duration chapters_split spans span times numbers size amount time clock seconds fraction minutes_or_seconds cut number whole
 splits-of-merges = refl
 
 -- `merge` with `--segment-uid`, `--link` and `-J`

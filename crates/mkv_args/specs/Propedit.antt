@@ -10,10 +10,10 @@ use Rattle.word_values.specs.declared.edit.Change.TheVariants.{Set, Add, Delete}
 use Rattle.word_values.specs.declared.usage.Usage.{Usage}
 use Rattle.word_values.specs.declared.usage.Why.TheVariants.{MissingValue, UnknownOption}
 use Rattle.mkv_args.specs.declared.propedit.TheConstants.{VIDEO_TRACK, AUDIO_TRACK, SUBTITLE_TRACK}
-use Rattle.mkv_args.specs.declared.propedit.Step.{Step}
-use Rattle.mkv_args.specs.declared.propedit.Step.TheVariants as step
-use Rattle.mkv_args.specs.declared.propedit.Saying.{Saying}
-use Rattle.mkv_args.specs.declared.propedit.Saying.TheVariants as says
+use Rattle.mkv_args.specs.declared.propedit.EditOptionKind.{EditOptionKind}
+use Rattle.mkv_args.specs.declared.propedit.EditOptionKind.TheVariants as step
+use Rattle.mkv_args.specs.declared.propedit.EditOption.{EditOption}
+use Rattle.mkv_args.specs.declared.propedit.EditOption.TheVariants as says
 use Rattle.mkv_args.specs.declared.command.Command.{Command}
 use Rattle.mkv_args.specs.declared.command.Command.TheVariants as command
 use Rattle.mkv_args.specs.Entry.{Entry, entry, meant}
@@ -54,7 +54,7 @@ selector word =
     else None
 
 -- the options, with what `--help` says of them
-unfoldable pub steps : List (Entry Step)
+unfoldable pub steps : List (Entry EditOptionKind)
 steps =
     entry (codes "-e") (codes "--edit") step.Section (codes "SECTION") (codes "the edits behind it are for this section") ∷
     entry (codes "-s") (codes "--set") (step.Edit Set) (codes "NAME=VALUE") (codes "set a property, whatever it was") ∷
@@ -62,7 +62,7 @@ steps =
     entry (codes "-d") (codes "--delete") (step.Edit Delete) (codes "NAME") (codes "delete a property") ∷ []
 
 -- what an option begins
-unfoldable pub step_of : List ℕ → Option Step
+unfoldable pub step_of : List ℕ → Option EditOptionKind
 step_of word = meant steps word
 
 -- an option, its value where one stands behind it, and the number of the option's word
@@ -82,45 +82,45 @@ pairs at (o ∷ []) = record { at = at; option = o; value = None } ∷ []
 pairs at (o ∷ v ∷ ws) = record { at = at; option = o; value = Some v } ∷ pairs (at + 2) ws
 
 -- a section has edits: an edit may stand behind it, and another section behind those
-abbrev pub may_follow : Bool → Step → Bool
+abbrev pub may_follow : Bool → EditOptionKind → Bool
 may_follow edited step.Section = edited
 may_follow edited (step.Edit change) = true
 
 -- the option at a number, where it may stand there
-abbrev pub following : ℕ → Bool → Option Step → Result Step Usage
+abbrev pub following : ℕ → Bool → Option EditOptionKind → Result EditOptionKind Usage
 following at edited None = wrong at UnknownOption
 following at edited (Some step) = if may_follow edited step then Ok step else wrong at UnknownOption
 
 -- `NAME=VALUE`, where the name ends at the first `=`
-abbrev pub changed : Change → List ℕ → Option Saying
+abbrev pub changed : Change → List ℕ → Option EditOption
 changed change word = option_map (λ (p : List ℕ × List ℕ). says.Change change p.0 p.1) (cut EQUALS word)
 
 -- what an option says with its value
-abbrev pub meaning : Step → List ℕ → Option Saying
+abbrev pub meaning : EditOptionKind → List ℕ → Option EditOption
 meaning step.Section word = option_map says.Section (selector word)
 meaning (step.Edit Delete) word = Some (says.Change Delete word [])
 meaning (step.Edit Set) word = changed Set word
 meaning (step.Edit Add) word = changed Add word
 
 -- what an option says with the value at a number, of so many words
-abbrev pub saying_at : ℕ → Step → Option (List ℕ) → ℕ → Result Saying Usage
+abbrev pub saying_at : ℕ → EditOptionKind → Option (List ℕ) → ℕ → Result EditOption Usage
 saying_at at step value count = do
   word ← due count value
   read_value at (meaning step word)
 
 -- what a pair says behind a section, of which an edit was said or not
-abbrev pub said : ℕ → Bool → Pair → Result Saying Usage
+abbrev pub said : ℕ → Bool → Pair → Result EditOption Usage
 said count edited pair = do
   step ← following pair.at edited (step_of pair.option)
   saying_at (pair.at + 1) step pair.value count
 
 -- an edit was said, and not a section
-abbrev pub is_edit : Saying → Bool
+abbrev pub is_edit : EditOption → Bool
 is_edit (says.Section place) = false
 is_edit (says.Change change name value) = true
 
 -- what the pairs behind a section say, each read behind the one before it: the first that is wrong is told
-abbrev pub all_said : ℕ → Bool → List Pair → Result (List Saying) Usage
+abbrev pub all_said : ℕ → Bool → List Pair → Result (List EditOption) Usage
 all_said count edited [] = if edited then Ok [] else wrong count MissingValue
 all_said count edited (p ∷ ps) = do
   here ← said count edited p
@@ -128,7 +128,7 @@ all_said count edited (p ∷ ps) = do
   Ok (here ∷ more)
 
 -- the edits, each of the last section before it
-abbrev pub edits_in : Selector → List Saying → List Edit
+abbrev pub edits_in : Selector → List EditOption → List Edit
 edits_in place [] = []
 edits_in place (says.Section next ∷ more) = edits_in next more
 edits_in place (says.Change change name value ∷ more) = record { place = place; change = change; name = name; value = value } ∷ edits_in place more
@@ -139,7 +139,7 @@ section_at words at = do
   word ← due_at words at
   read_value at (selector word)
 
-abbrev pub section_behind : Option Step → List (List ℕ) → Result Selector Usage
+abbrev pub section_behind : Option EditOptionKind → List (List ℕ) → Result Selector Usage
 section_behind (Some step.Section) words = section_at words 3
 section_behind _ words = wrong 2 UnknownOption
 

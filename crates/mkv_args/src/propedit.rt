@@ -26,14 +26,14 @@ pub const SUBTITLE_TRACK: u64 = 17;
 
 /// What an option of `propedit` begins.
 #[derive(Clone, Copy, PartialEq, Eq)]
-pub enum Step {
+pub enum EditOptionKind {
     Section,
     Edit(Change),
 }
 
 /// What an option of `propedit` says with its value.
 #[derive(Drop)]
-pub enum Saying {
+pub enum EditOption {
     /// The edits behind it are for this section.
     Section(Selector),
     /// A property of the last section before it changes.
@@ -68,11 +68,11 @@ fn edits(alloc: Global, words: &[String]) -> Result<List<Edit>, ArgsEnd>
     let mut at = 4;
     while let Some(word) = word_at(words, at) {
         match said(alloc, words, at, word, edited)? {
-            Saying::Section(next) => {
+            EditOption::Section(next) => {
                 place = next;
                 edited = false;
             }
-            Saying::Change {
+            EditOption::Change {
                 change,
                 name,
                 value,
@@ -99,7 +99,7 @@ fn edits(alloc: Global, words: &[String]) -> Result<List<Edit>, ArgsEnd>
 fn first_section(words: &[String]) -> Result<Selector, ArgsEnd>
     ensures { Tells result (spec.first_section (texts words.now)) }
 {
-    let Some(Step::Section) = step_of(due_at(words, 2)?) else {
+    let Some(EditOptionKind::Section) = step_of(due_at(words, 2)?) else {
         return refused(2, Why::UnknownOption);
     };
     match selector(due_at(words, 3)?.as_bytes()) {
@@ -115,7 +115,7 @@ fn said(
     at: usize,
     word: &str,
     edited: bool,
-) -> Result<Saying, ArgsEnd>
+) -> Result<EditOption, ArgsEnd>
     requires { at < length words.now }
     ensures { Tells result (spec.said (length words.now) edited (spec.pair_at (texts words.now) at word.now)) }
 {
@@ -126,26 +126,26 @@ fn said(
 }
 
 /// Whether this may stand there. A section has edits before the next.
-fn may_follow(edited: bool, step: Step) -> bool
+fn may_follow(edited: bool, step: EditOptionKind) -> bool
     ensures { result ≡ spec.may_follow edited step }
 {
     match step {
-        Step::Section => edited,
-        Step::Edit(_) => true,
+        EditOptionKind::Section => edited,
+        EditOptionKind::Edit(_) => true,
     }
 }
 
 #[rattlefmt::skip]
-static STEPS: [Entry<Step>; 4] = [
-    Entry("-e", "--edit", Step::Section, "SECTION", "the edits behind it are for this section"),
-    Entry("-s", "--set", Step::Edit(Change::Set), "NAME=VALUE", "set a property, whatever it was"),
-    Entry("-a", "--add", Step::Edit(Change::Add), "NAME=VALUE", "add a property that is not there"),
-    Entry("-d", "--delete", Step::Edit(Change::Delete), "NAME", "delete a property"),
+static STEPS: [Entry<EditOptionKind>; 4] = [
+    Entry("-e", "--edit", EditOptionKind::Section, "SECTION", "the edits behind it are for this section"),
+    Entry("-s", "--set", EditOptionKind::Edit(Change::Set), "NAME=VALUE", "set a property, whatever it was"),
+    Entry("-a", "--add", EditOptionKind::Edit(Change::Add), "NAME=VALUE", "add a property that is not there"),
+    Entry("-d", "--delete", EditOptionKind::Edit(Change::Delete), "NAME", "delete a property"),
 ];
 
 /// The options of `propedit`.
 #[tactic(auto, unfolding(crate::specs::Propedit::steps))]
-pub(crate) fn steps() -> &'static [Entry<Step>]
+pub(crate) fn steps() -> &'static [Entry<EditOptionKind>]
     ensures { map entry.shown result.now ≡ spec.steps }
 {
     &STEPS
@@ -153,14 +153,19 @@ pub(crate) fn steps() -> &'static [Entry<Step>]
 
 /// What an option begins.
 #[tactic(auto, unfolding(crate::specs::Propedit::step_of))]
-fn step_of(word: &str) -> Option<Step>
+fn step_of(word: &str) -> Option<EditOptionKind>
     ensures { result ≡ spec.step_of word.now }
 {
     meant(steps(), word)
 }
 
 /// What an option says with the value at a word.
-fn saying_at(alloc: Global, words: &[String], at: usize, step: Step) -> Result<Saying, ArgsEnd>
+fn saying_at(
+    alloc: Global,
+    words: &[String],
+    at: usize,
+    step: EditOptionKind,
+) -> Result<EditOption, ArgsEnd>
     ensures { Tells result (spec.saying_at at step (slice_get (texts words.now) at) (length words.now)) }
 {
     match meaning(alloc, step, due_at(words, at)?) {
@@ -171,31 +176,31 @@ fn saying_at(alloc: Global, words: &[String], at: usize, step: Step) -> Result<S
 }
 
 /// What an option says with its value.
-fn meaning(alloc: Global, step: Step, word: &str) -> Result<Saying, ValueEnd>
+fn meaning(alloc: Global, step: EditOptionKind, word: &str) -> Result<EditOption, ValueEnd>
     ensures { ReadsValue result (spec.meaning step word.now) }
 {
     match step {
-        Step::Section => match selector(word.as_bytes()) {
-            Some(place) => Ok(Saying::Section(place)),
+        EditOptionKind::Section => match selector(word.as_bytes()) {
+            Some(place) => Ok(EditOption::Section(place)),
             None => Err(ValueEnd::Bad),
         },
-        Step::Edit(Change::Delete) => Ok(Saying::Change {
+        EditOptionKind::Edit(Change::Delete) => Ok(EditOption::Change {
             change: Change::Delete,
             name: name(alloc, word)?,
             value: Text::new(alloc),
         }),
-        Step::Edit(change) => changed(alloc, change, word),
+        EditOptionKind::Edit(change) => changed(alloc, change, word),
     }
 }
 
 /// `NAME=VALUE`, where the name ends at the first `=`.
-fn changed(alloc: Global, change: Change, word: &str) -> Result<Saying, ValueEnd>
+fn changed(alloc: Global, change: Change, word: &str) -> Result<EditOption, ValueEnd>
     ensures { ReadsValue result (spec.changed change word.now) }
 {
     let Some((property, value)) = cut_text(word, '=') else {
         return Err(ValueEnd::Bad);
     };
-    Ok(Saying::Change {
+    Ok(EditOption::Change {
         change,
         name: name(alloc, property)?,
         value: name(alloc, value)?,

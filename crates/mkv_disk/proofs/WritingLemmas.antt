@@ -1,6 +1,6 @@
 -- How calls join that read and write the two files of a disk, by what they leave and why they fail.
 use Rattle.std.proofs.Common.{◌≡◌, inl, inr, ℕ, ◌+◌, ◌≤◌, Bool, true, false, IsTrue, List, ap, sym, ◌∙◌, subst, arith, MatchBool, Result, Ok, Err}
-use Rattle.mkv_io.specs.Faults.{HasRisen}
+use Rattle.mkv_io.specs.Faults.{HasIncreased}
 use Rattle.mkv_io.specs.declared.reads.Reads as reads
 use Rattle.mkv_disk.specs.Calls.{IsReady}
 use Rattle.mkv_disk.specs.Moments.{LeavesOnly}
@@ -50,8 +50,8 @@ module _ {S : Type 0} (r : reads.Ghosts S) (d : Ghosts S) where
   }
 
   pub one-then : (old mid new : S) → HasNoFault r d old mid → HasOneFault r d mid new → HasOneFault r d old new
-  one-then old mid new none (inl reads) = inl (subst (λ n. HasRisen n (r.reading_faults new)) none.reading reads.0, reads.1 ∙ none.writing)
-  one-then old mid new none (inr writes) = inr (writes.0 ∙ none.reading, subst (λ n. HasRisen n (d.writing_faults new)) none.writing writes.1)
+  one-then old mid new none (inl reads) = inl (subst (λ n. HasIncreased n (r.reading_faults new)) none.reading reads.0, reads.1 ∙ none.writing)
+  one-then old mid new none (inr writes) = inr (writes.0 ∙ none.reading, subst (λ n. HasIncreased n (d.writing_faults new)) none.writing writes.1)
 
   pub none-then : (old mid new : S) → HasNoFault r d old mid → HasNoFault r d mid new → HasNoFault r d old new
   none-then old mid new first second = record { reading = second.reading ∙ first.reading; writing = second.writing ∙ first.writing }

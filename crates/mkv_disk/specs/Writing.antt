@@ -1,6 +1,6 @@
 -- What a call leaves that writes to the two files of a disk, and why it fails.
 use Rattle.std.specs.Prelude.{◌≡◌, ◌⊎◌, ◌≤◌, ◌+◌, ℕ, Bool, MatchBool, Result, Ok, Err}
-use Rattle.mkv_io.specs.Faults.{HasRisen}
+use Rattle.mkv_io.specs.Faults.{HasIncreased}
 use Rattle.mkv_io.specs.Sources.{live_files}
 use Rattle.mkv_io.specs.declared.reads.Reads as reads
 use Rattle.mkv_disk.specs.declared.disk.Disk.{Ghosts}
@@ -30,8 +30,8 @@ pub record HasNoFault {S : Type 0} (r : reads.Ghosts S) (d : Ghosts S) (old new 
 -- One of the two counts of faults rose, and the other stands.
 abbrev pub HasOneFault : {S : Type 0} → reads.Ghosts S → Ghosts S → S → S → Type 0
 HasOneFault r d old new =
-    (HasRisen (r.reading_faults old) (r.reading_faults new) × (d.writing_faults new ≡ d.writing_faults old))
-    ⊎ ((r.reading_faults new ≡ r.reading_faults old) × HasRisen (d.writing_faults old) (d.writing_faults new))
+    (HasIncreased (r.reading_faults old) (r.reading_faults new) × (d.writing_faults new ≡ d.writing_faults old))
+    ⊎ ((r.reading_faults new ≡ r.reading_faults old) × HasIncreased (d.writing_faults old) (d.writing_faults new))
 
 -- A call that tells a fault has counted one, of reading or of writing, and a call that ends in any other way has counted
 -- none. The test says which refusals tell a fault.

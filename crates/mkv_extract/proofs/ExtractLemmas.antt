@@ -5,7 +5,7 @@ use Rattle.std.specs.Str.{bytes_eq}
 use Rattle.std.proofs.lemmas.Bool.{le-ltb, lt-ltb}
 use Rattle.std.proofs.lemmas.List.{length-map}
 use Rattle.std.proofs.lemmas.Slice.Eq.{bytes_eq-Decides}
-use Rattle.mkv_io.specs.Asked.{AsksFor, AsksOnly, IsBesides}
+use Rattle.mkv_io.specs.Asked.{AsksFor, AsksOnly, IsNotAmong}
 use Rattle.mkv_io.specs.Lines.{with_lines}
 use Rattle.mkv_io.specs.Names.{AreOthers}
 use Rattle.mkv_io.specs.declared.asked.Asked.{Asked}
@@ -17,7 +17,7 @@ use Rattle.word_values.specs.declared.job.Form.{Form}
 use Rattle.word_values.specs.declared.job.Target.{Target}
 use Rattle.sidecar_edit.specs.Name.{sidecar_of, with_sidecar}
 use Rattle.mkv_outputs.specs.Outputs.{Output, names_of, with_outputs}
-use Rattle.mkv_outputs.specs.Starts.{StandsInPart}
+use Rattle.mkv_outputs.specs.Starts.{ArePrefixes}
 use Rattle.meta_records.specs.Attached.{AttachedFile}
 use Rattle.extractors.specs.Attached.{attached_at, attached_output, attached_outputs}
 use Rattle.extractors.specs.Cues.{cues_output, cues_outputs}
@@ -29,7 +29,7 @@ use Rattle.cluster_reader.specs.ToldDamages.{told_damages}
 use Rattle.meta_records.specs.Records.{scale_of_info}
 use Rattle.extractors.specs.Content.{names_in}
 use Rattle.extractors.specs.Job.{first_unfit, form_of, job_outputs, job_refusal, names_for, outputs_taken, refusal_of, refusal_taken, targets_of}
-use Rattle.extractors.specs.declared.frame_form.Unfit.TheVariants.{NoExtractor, BadConfig}
+use Rattle.extractors.specs.declared.frame_form.UnsupportedTrack.TheVariants.{NoExtractor, BadConfig}
 use Rattle.extractors.specs.Job as jobs
 use Rattle.extractors.proofs.ContentLemmas.{names_of-outputs}
 use Rattle.extractors.proofs.JobLemmas.{job_outputs-others}
@@ -39,7 +39,7 @@ use Rattle.mkv_lines.specs.Said.{ReportLines, Says, SaysPart}
 use Rattle.mkv_lines.specs.Seen.{Seen}
 use Rattle.mkv_lines.specs.Verdict.{Reaches, at_once}
 use Rattle.mkv_lines.specs.declared.status.Status.{Status}
-use Rattle.mkv_lines.specs.declared.status.Stop.{Stop}
+use Rattle.mkv_lines.specs.declared.status.CommandEnd.{CommandEnd}
 use Rattle.mkv_lines.proofs.SaidLemmas.{SaysPart-all}
 use Rattle.mkv_lines.proofs.VerdictLemmas.{Leaves-same, Reaches-behind}
 use Rattle.mkv_extract.specs.Extract.{Taken, absent, attached_taken, cues_taken, done_verdict, entries_of, frames_taken, status_of, taken_by, taken_whole, told_bad, told_lines, warned}
@@ -113,18 +113,18 @@ asks-taken job entries old new asks = asks-more [] (names_in (job_outputs job en
 -- a sidecar is looked into, and the outputs are made
 pub asks-settled : (name : List ℕ) (made : List (List ℕ)) (a b c : List Asked) → AsksOnly (sidecar_of name ∷ []) [] a b → AsksOnly [] made b c → AsksOnly (sidecar_of name ∷ []) made a c
 asks-settled name made a b c looks makes =
-    asks-both (IsBesides (sidecar_of name ∷ []) made) a b c
+    asks-both (IsNotAmong (sidecar_of name ∷ []) made) a b c
     (asks-more (sidecar_of name ∷ []) [] (sidecar_of name ∷ []) made a b (λ other others. others) (λ other others. tt) looks)
     (asks-more [] made (sidecar_of name ∷ []) made b c (λ other others. tt) (λ other others. others) makes)
 
 -- a file is opened, what stands beside it is looked into, outputs are made, and the file is closed
 pub asks-extracted : {T E : Type 0} (name : List ℕ) (made : List (List ℕ)) (a b c d : List Asked) (result : Result T E) → AsksFor (Opened name) a b result → AsksOnly (sidecar_of name ∷ []) made b c → d ≡ c → AsksOnly (with_sidecar name) made a d
 asks-extracted name made a b c d result opens makes closed =
-    asks-both (IsBesides (with_sidecar name) made) a b d
-    (asks-one (IsBesides (with_sidecar name) made) (Opened name) a b result (λ others. others.0 refl) opens)
-    (asks-both (IsBesides (with_sidecar name) made) b c d
+    asks-both (IsNotAmong (with_sidecar name) made) a b d
+    (asks-one (IsNotAmong (with_sidecar name) made) (Opened name) a b result (λ others. others.0 refl) opens)
+    (asks-both (IsNotAmong (with_sidecar name) made) b c d
     (asks-more (sidecar_of name ∷ []) made (with_sidecar name) made b c (λ other others. others.1) (λ other others. others) makes)
-    (asks-none (IsBesides (with_sidecar name) made) c d closed))
+    (asks-none (IsNotAmong (with_sidecar name) made) c d closed))
 
 -- ---- attached files
 
@@ -190,7 +190,7 @@ attached-told name bytes file count targets counted numbers = record {
 }
 
 -- the outputs stand whole, and what is wrong was told
-reaches : (old new : Seen) (mid : ReportLines) (r : Result Status Stop) (name : List ℕ) (t : Taken) → mid ≡ with_lines old.lines t.missing → Says mid new.lines (map wrote_line (names_of t.outputs) ++ warned name t) r → IfOk r (λ s. s ≡ status_of (is_some_of t.missing) (t.damages ++ t.bad_frames)) → new.names ≡ with_outputs old.names t.outputs → Reaches old new r (done_verdict name t)
+reaches : (old new : Seen) (mid : ReportLines) (r : Result Status CommandEnd) (name : List ℕ) (t : Taken) → mid ≡ with_lines old.lines t.missing → Says mid new.lines (map wrote_line (names_of t.outputs) ++ warned name t) r → IfOk r (λ s. s ≡ status_of (is_some_of t.missing) (t.damages ++ t.bad_frames)) → new.names ≡ with_outputs old.names t.outputs → Reaches old new r (done_verdict name t)
 reaches old new mid r name t = Reaches-behind old new mid r (done_verdict name t) (map wrote_line (names_of t.outputs) ++ warned name t) refl
 
 -- of what isn't frames the damage of level 1
@@ -198,7 +198,7 @@ outline-told : (name : List ℕ) (d : Option Damage) → outline_lines name d �
 outline-told name None = refl
 outline-told name (Some d) = refl
 
-pub reaches-whole : (old new : Seen) (mid : ReportLines) (r : Result Status Stop) (name : List ℕ) (file : FileRead) (missing : List (List ℕ)) (outputs : List Output) (d : Option Damage) → d ≡ file.damage → mid ≡ with_lines old.lines missing → Says mid new.lines (map wrote_line (names_of outputs) ++ outline_lines name d) r → IfOk r (λ s. s ≡ status_of (is_some_of missing) (option_to_list d)) → new.names ≡ with_outputs old.names outputs → Reaches old new r (done_verdict name (taken_whole file missing outputs))
+pub reaches-whole : (old new : Seen) (mid : ReportLines) (r : Result Status CommandEnd) (name : List ℕ) (file : FileRead) (missing : List (List ℕ)) (outputs : List Output) (d : Option Damage) → d ≡ file.damage → mid ≡ with_lines old.lines missing → Says mid new.lines (map wrote_line (names_of outputs) ++ outline_lines name d) r → IfOk r (λ s. s ≡ status_of (is_some_of missing) (option_to_list d)) → new.names ≡ with_outputs old.names outputs → Reaches old new r (done_verdict name (taken_whole file missing outputs))
 reaches-whole old new mid r name file missing outputs d same said says status names =
     reaches old new mid r name (taken_whole file missing outputs) said
     (subst (λ (lines : List (List ℕ)). Says mid new.lines (map wrote_line (names_of outputs) ++ lines) r) (ap (outline_lines name) same ∙ outline-told name file.damage) says)
@@ -209,28 +209,28 @@ module _ {name : List ℕ} {t : Taken} {what : Missing} {count : ℕ} {targets :
   missing-said : (old mid : ReportLines) → mid ≡ with_lines old (absent_lines what name count targets) → mid ≡ with_lines old t.missing
   missing-said old mid said = said ∙ ap (with_lines old) (sym is.missing)
 
-  outputs-said : (mid new : ReportLines) (r : Result Status Stop) (more : List (List ℕ)) → Says mid new (wrote_lines count targets ++ more) r → Says mid new (map wrote_line (names_of t.outputs) ++ more) r
+  outputs-said : (mid new : ReportLines) (r : Result Status CommandEnd) (more : List (List ℕ)) → Says mid new (wrote_lines count targets ++ more) r → Says mid new (map wrote_line (names_of t.outputs) ++ more) r
   outputs-said mid new r more = subst (λ (ns : List (List ℕ)). Says mid new (map wrote_line ns ++ more) r) (sym is.named)
 
-  status-told : (r : Result Status Stop) (ds : List Damage) → IfOk r (λ s. s ≡ status_of (has_absent count targets) ds) → IfOk r (λ s. s ≡ status_of (is_some_of t.missing) ds)
+  status-told : (r : Result Status CommandEnd) (ds : List Damage) → IfOk r (λ s. s ≡ status_of (has_absent count targets) ds) → IfOk r (λ s. s ≡ status_of (is_some_of t.missing) ds)
   status-told r ds = subst (λ (a : Bool). IfOk r (λ s. s ≡ status_of a ds)) (sym (ap is_some_of is.missing ∙ any-absent (line_of what name) count targets))
 
   -- a warning of it couldn't be said
-  pub begun : (old new : Seen) (why : Stop) → SaysPart old.lines new.lines (absent_lines what name count targets) → new.names ≡ old.names → Reaches old new (Err why) (done_verdict name t)
+  pub begun : (old new : Seen) (why : CommandEnd) → SaysPart old.lines new.lines (absent_lines what name count targets) → new.names ≡ old.names → Reaches old new (Err why) (done_verdict name t)
   begun old new why part names = inl (subst (SaysPart old.lines new.lines) (sym is.missing) part, Leaves-same old.names new.names (at_once t.outputs) names)
 
   -- an output wasn't written
-  pub stopped : (old new : Seen) (why : Stop) → new.lines ≡ with_lines old.lines (absent_lines what name count targets) → StandsInPart old.names new.names t.outputs → Reaches old new (Err why) (done_verdict name t)
+  pub stopped : (old new : Seen) (why : CommandEnd) → new.lines ≡ with_lines old.lines (absent_lines what name count targets) → ArePrefixes old.names new.names t.outputs → Reaches old new (Err why) (done_verdict name t)
   stopped old new why said part = inl (SaysPart-all old.lines new.lines t.missing (missing-said old.lines new.lines said), part)
 
   -- the outputs stand whole
-  pub told : (old new : Seen) (mid : ReportLines) (r : Result Status Stop) (more : List (List ℕ)) → more ≡ warned name t → mid ≡ with_lines old.lines (absent_lines what name count targets) → Says mid new.lines (wrote_lines count targets ++ more) r → IfOk r (λ s. s ≡ status_of (has_absent count targets) (t.damages ++ t.bad_frames)) → new.names ≡ with_outputs old.names t.outputs → Reaches old new r (done_verdict name t)
+  pub told : (old new : Seen) (mid : ReportLines) (r : Result Status CommandEnd) (more : List (List ℕ)) → more ≡ warned name t → mid ≡ with_lines old.lines (absent_lines what name count targets) → Says mid new.lines (wrote_lines count targets ++ more) r → IfOk r (λ s. s ≡ status_of (has_absent count targets) (t.damages ++ t.bad_frames)) → new.names ≡ with_outputs old.names t.outputs → Reaches old new r (done_verdict name t)
   told old new mid r more all said says status names =
       reaches old new mid r name t (missing-said old.lines mid said)
       (outputs-said mid new.lines r (warned name t) (subst (λ (lines : List (List ℕ)). Says mid new.lines (wrote_lines count targets ++ lines) r) all says))
       (status-told r (t.damages ++ t.bad_frames) status) names
 
-pub told-whole : (file : FileRead) {name : List ℕ} {missing : List (List ℕ)} {outputs : List Output} {what : Missing} {count : ℕ} {targets : List Target} (is : IsToldBy name (taken_whole file missing outputs) what count targets) (old new : Seen) (mid : ReportLines) (r : Result Status Stop) (d : Option Damage) → d ≡ file.damage → mid ≡ with_lines old.lines (absent_lines what name count targets) → Says mid new.lines (wrote_lines count targets ++ outline_lines name d) r → IfOk r (λ s. s ≡ status_of (has_absent count targets) (option_to_list d)) → new.names ≡ with_outputs old.names outputs → Reaches old new r (done_verdict name (taken_whole file missing outputs))
+pub told-whole : (file : FileRead) {name : List ℕ} {missing : List (List ℕ)} {outputs : List Output} {what : Missing} {count : ℕ} {targets : List Target} (is : IsToldBy name (taken_whole file missing outputs) what count targets) (old new : Seen) (mid : ReportLines) (r : Result Status CommandEnd) (d : Option Damage) → d ≡ file.damage → mid ≡ with_lines old.lines (absent_lines what name count targets) → Says mid new.lines (wrote_lines count targets ++ outline_lines name d) r → IfOk r (λ s. s ≡ status_of (has_absent count targets) (option_to_list d)) → new.names ≡ with_outputs old.names outputs → Reaches old new r (done_verdict name (taken_whole file missing outputs))
 told-whole file {name = name} {missing = missing} {outputs = outputs} is old new mid r d same said says status names =
     reaches-whole old new mid r name file missing outputs d same (missing-said is old.lines mid said)
     (outputs-said is mid new.lines r (outline_lines name d) says) (status-told is r (option_to_list d) status) names

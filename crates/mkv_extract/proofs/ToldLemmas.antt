@@ -16,8 +16,8 @@ use Rattle.word_values.specs.declared.job.Form.{Form}
 use Rattle.extractors.specs.Codec.{coding_of}
 use Rattle.extractors.specs.Job.{first_unfit, is_unfit, names_unfit, output_for, outputs_for, track_output}
 use Rattle.extractors.specs.declared.frame_form.Coding.{Coding}
-use Rattle.extractors.specs.declared.frame_form.Unfit.{Unfit}
-use Rattle.extractors.specs.declared.frame_form.Unfit.TheVariants.{NoExtractor, BadConfig}
+use Rattle.extractors.specs.declared.frame_form.UnsupportedTrack.{UnsupportedTrack}
+use Rattle.extractors.specs.declared.frame_form.UnsupportedTrack.TheVariants.{NoExtractor, BadConfig}
 use Rattle.mkv_extract.specs.Extract.{absent, once}
 use Rattle.mkv_extract.specs.Read.{is_named}
 use Rattle.mkv_extract.specs.Told.{has_absent, written}
@@ -174,7 +174,7 @@ slice_get-within (first ∷ xs) zero x found = omega arith
 slice_get-within (first ∷ xs) (suc k) x found = let rest = slice_get-within xs k x found in omega arith
 
 -- where none is unfit, the first isn't
-unfit-first : (why : Unfit) (kind : Form) (t : Target) (ts : List Target) (entries : List Node) → first_unfit why kind (t ∷ ts) entries ≡ None → (names_unfit why kind entries t ≡ false) × (first_unfit why kind ts entries ≡ None)
+unfit-first : (why : UnsupportedTrack) (kind : Form) (t : Target) (ts : List Target) (entries : List Node) → first_unfit why kind (t ∷ ts) entries ≡ None → (names_unfit why kind entries t ≡ false) × (first_unfit why kind ts entries ≡ None)
 unfit-first why kind t ts entries none = split (names_unfit why kind entries t) (find (names_unfit why kind entries) ts) none
   where
     split : (unfit : Bool) (rest : Option Target) → option_map (λ (each : Target). each.id) (if unfit then Some t else rest) ≡ None → (unfit ≡ false) × (option_map (λ (each : Target). each.id) rest ≡ None)
@@ -182,12 +182,12 @@ unfit-first why kind t ts entries none = split (names_unfit why kind entries t) 
     split false rest is = (refl, is)
 
 -- a target whose track isn't taken so is unfit
-unfit-named : (why : Unfit) (kind : Form) (t : Target) (entries : List Node) (e : Node) → slice_get entries t.id ≡ Some e → coding_of kind e ≡ Err why → names_unfit why kind entries t ≡ true
+unfit-named : (why : UnsupportedTrack) (kind : Form) (t : Target) (entries : List Node) (e : Node) → slice_get entries t.id ≡ Some e → coding_of kind e ≡ Err why → names_unfit why kind entries t ≡ true
 unfit-named why kind t entries e found read =
     ap (λ (entry : Option Node). option_map_or (λ (each : Node). is_unfit why (coding_of kind each)) entry false) found
     ∙ ap (is_unfit why) read ∙ same why
   where
-    same : (w : Unfit) → is_unfit w (Err w) ≡ true
+    same : (w : UnsupportedTrack) → is_unfit w (Err w) ≡ true
     same NoExtractor = refl
     same BadConfig = refl
 
@@ -197,7 +197,7 @@ written-names kind [] entries known good = refl
 written-names kind (t ∷ ts) entries known good =
     step (written-names kind ts entries (unfit-first NoExtractor kind t ts entries known).1 (unfit-first BadConfig kind t ts entries good).1) (slice_get entries t.id) refl
   where
-    told : names_in (outputs_for kind ts entries) ≡ written (length entries) ts → (e : Node) → slice_get entries t.id ≡ Some e → (read : Result Coding Unfit) → coding_of kind e ≡ read → names_in (track_output t.name e read ++ outputs_for kind ts entries) ≡ (if nat_lt t.id (length entries) then t.name ∷ [] else []) ++ written (length entries) ts
+    told : names_in (outputs_for kind ts entries) ≡ written (length entries) ts → (e : Node) → slice_get entries t.id ≡ Some e → (read : Result Coding UnsupportedTrack) → coding_of kind e ≡ read → names_in (track_output t.name e read ++ outputs_for kind ts entries) ≡ (if nat_lt t.id (length entries) then t.name ∷ [] else []) ++ written (length entries) ts
     told rest e found (Ok coding) read =
         ap (λ (names : List (List ℕ)). t.name ∷ names) rest
         ∙ ap (λ (a : Bool). (if a then t.name ∷ [] else []) ++ written (length entries) ts) (sym (lt-ltb _ _ (slice_get-within entries t.id e found)))

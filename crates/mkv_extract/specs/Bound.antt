@@ -3,7 +3,7 @@ use Rattle.std.specs.Prelude.{◌≡◌, ℕ, ◌+◌, ◌*◌, min, List, lengt
 use Rattle.mkv_io.specs.declared.reads.Reads.{Ghosts}
 use Rattle.word_values.specs.declared.job.Job.{Job}
 use Rattle.word_values.specs.declared.job.Job.TheVariants as jobs
-use Rattle.meta_records.specs.declared.limits.TheConstants.{MOST_OF_ATTACHMENTS}
+use Rattle.meta_records.specs.declared.limits.TheConstants.{MAX_ATTACHMENTS_LEN}
 use Rattle.mkv_lines.specs.Command.{with_sidecar_head}
 use Rattle.mkv_io.specs.Bounds.{ReadsByNames, ReadsUpTo}
 use Rattle.mkv_io.specs.declared.files.Files as writing
@@ -16,7 +16,7 @@ most_of_cues job octets = 0
 -- what may be read of it before its blocks: besides, its outline twice, Info, Tracks, Chapters and Tags once each, and
 -- what names its attached files, but none of their data
 abbrev pub most_before : Job → ℕ → ℕ
-most_before job octets = 6 * octets + min (16 * octets) (2 * MOST_OF_ATTACHMENTS) + most_of_cues job octets
+most_before job octets = 6 * octets + min (16 * octets) (2 * MAX_ATTACHMENTS_LEN) + most_of_cues job octets
 
 -- what may be read of its blocks and of the data of its attached files: twice the file for tracks, however many, and the file
 -- for each attached file that is taken

@@ -20,8 +20,8 @@ use Rattle.extractors.specs.Cues.{cues_outputs}
 use Rattle.extractors.specs.Job.{job_outputs, job_refusal, targets_of}
 use Rattle.extractors.specs.Source.{entry_in}
 use Rattle.extractors.specs.declared.frame_form.Refusal.{Refusal}
-use Rattle.extractors.specs.declared.frame_form.Unfit.{Unfit}
-use Rattle.extractors.specs.declared.frame_form.Unfit.TheVariants as unfit
+use Rattle.extractors.specs.declared.frame_form.UnsupportedTrack.{UnsupportedTrack}
+use Rattle.extractors.specs.declared.frame_form.UnsupportedTrack.TheVariants as unfit
 use Rattle.mkv_lines.specs.Line.{bad_config_line, bad_frame_lines, damage_lines, missing_line, no_attachment_line, no_extractor_line, no_track_line, output_is_input_line, pending_edit_line, refusal_line, wrote_line}
 use Rattle.mkv_lines.specs.Verdict.{Verdict, at_once, refused}
 use Rattle.mkv_lines.specs.declared.status.Status.{Status}
@@ -97,7 +97,7 @@ taken_by name job bytes file events = frames_taken name job file events
 -- ---- why nothing is taken
 
 -- a track that can't be taken so, for this reason
-abbrev pub unfit_line : List ℕ → Unfit → ℕ → List ℕ
+abbrev pub unfit_line : List ℕ → UnsupportedTrack → ℕ → List ℕ
 unfit_line name unfit.NoExtractor number = no_extractor_line name number
 unfit_line name unfit.BadConfig number = bad_config_line name number
 

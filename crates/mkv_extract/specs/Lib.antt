@@ -3,5 +3,5 @@ pub mod Extract
 pub mod Names
 pub mod Read
 pub mod Steps
-pub mod Takes
+pub mod Extractions
 pub mod Told

@@ -3,7 +3,7 @@
 use Rattle.std.specs.Prelude.{ℕ, Bool, true, if◌then◌else◌, List, Some, None, Result}
 use Rattle.mkv_io.specs.Results.{and_then, unless}
 use Rattle.mkv_io.specs.Sources.{IfTold}
-use Rattle.mkv_io.specs.Told.{Told}
+use Rattle.mkv_io.specs.Told.{IfVisible}
 use Rattle.mkv_io.specs.declared.damage.Damage.{Damage}
 use Rattle.mkv_io.specs.declared.outside.FileId.{FileId}
 use Rattle.mkv_io.specs.declared.reads.Reads.{Ghosts as ReadsGhosts}
@@ -12,13 +12,13 @@ use Rattle.mkv_io.specs.declared.report.Report.{Ghosts as ReportGhosts}
 use Rattle.word_values.specs.declared.job.Job.{Job}
 use Rattle.block_format.specs.Events.{Event}
 use Rattle.file_format.specs.FileBlocks.{file_events}
-use Rattle.mkv_lines.specs.Command.{ComesTo}
+use Rattle.mkv_lines.specs.Command.{Fulfils}
 use Rattle.mkv_lines.specs.Line.{pending_edit_line}
 use Rattle.sidecar_edit.specs.Pending.{is_pending}
 use Rattle.extractors.specs.Source.{events_in}
 use Rattle.extractors.specs.declared.source.Source.{Source}
 use Rattle.mkv_lines.specs.declared.status.Status.{Status}
-use Rattle.mkv_lines.specs.declared.status.Stop.{Stop}
+use Rattle.mkv_lines.specs.declared.status.CommandEnd.{CommandEnd}
 use Rattle.mkv_extract.specs.Extract.{Taken, attached_taken, done_verdict, frames_taken, or_line, taken_by, unfit_track, verdict_of}
 use Rattle.mkv_extract.specs.Read.{FileRead, read_in, read_of}
 use Rattle.word_values.specs.declared.job.Target.{Target}
@@ -44,36 +44,36 @@ settled_taken name job pending bytes =
 -- ---- what the calls come to
 
 -- A call has come to what is taken of the content of a live file, where that is told.
-abbrev pub ComesToTaken : {F P : Type 0} → ReadsGhosts F → FilesGhosts F → ReportGhosts P → FileId → F → F → P → P → Result Status Stop → List ℕ → (List ℕ → Result Taken (List ℕ)) → Type 0
+abbrev pub ComesToTaken : {F P : Type 0} → ReadsGhosts F → FilesGhosts F → ReportGhosts P → FileId → F → F → P → P → Result Status CommandEnd → List ℕ → (List ℕ → Result Taken (List ℕ)) → Type 0
 ComesToTaken r f p file files files' report report' result name taken =
-    IfTold r files file (λ bytes. ComesTo r f p files files' report report' result (verdict_of name (taken bytes)))
+    IfTold r files file (λ bytes. Fulfils r f p files files' report report' result (verdict_of name (taken bytes)))
 
 -- A job has taken what it asks for of a file whose name may have an edit that is pending.
-abbrev pub TakesSettled : {F P : Type 0} → ReadsGhosts F → FilesGhosts F → ReportGhosts P → FileId → F → F → P → P → Result Status Stop → List ℕ → Job → Type 0
+abbrev pub TakesSettled : {F P : Type 0} → ReadsGhosts F → FilesGhosts F → ReportGhosts P → FileId → F → F → P → P → Result Status CommandEnd → List ℕ → Job → Type 0
 TakesSettled r f p file files files' report report' result name job =
-    Told (f.names files) (λ world. ComesToTaken r f p file files files' report report' result name (settled_taken name job (is_pending world name)))
+    IfVisible (f.names files) (λ world. ComesToTaken r f p file files files' report report' result name (settled_taken name job (is_pending world name)))
 
 -- A job has taken what it asks for of a file.
-abbrev pub TakesFile : {F P : Type 0} → ReadsGhosts F → FilesGhosts F → ReportGhosts P → FileId → F → F → P → P → Result Status Stop → List ℕ → Job → Type 0
+abbrev pub TakesFile : {F P : Type 0} → ReadsGhosts F → FilesGhosts F → ReportGhosts P → FileId → F → F → P → P → Result Status CommandEnd → List ℕ → Job → Type 0
 TakesFile r f p file files files' report report' result name job = ComesToTaken r f p file files files' report report' result name (file_taken name job)
 
 -- A job has taken what it asks for of a source, unless a track can't be taken so.
-abbrev pub TakesSource : {F P : Type 0} → ReadsGhosts F → FilesGhosts F → ReportGhosts P → Source → F → F → P → P → Result Status Stop → List ℕ → Job → Type 0
+abbrev pub TakesSource : {F P : Type 0} → ReadsGhosts F → FilesGhosts F → ReportGhosts P → Source → F → F → P → P → Result Status CommandEnd → List ℕ → Job → Type 0
 TakesSource r f p source files files' report report' result name job =
     ComesToTaken r f p source.file files files' report report' result name (λ bytes. fit_taken name job bytes (read_in source) (events_in source bytes))
 
 -- A job has taken frames of a source, unless a track can't be taken so.
-abbrev pub TakesFrames : {F P : Type 0} → ReadsGhosts F → FilesGhosts F → ReportGhosts P → Source → F → F → P → P → Result Status Stop → List ℕ → Job → Type 0
+abbrev pub TakesFrames : {F P : Type 0} → ReadsGhosts F → FilesGhosts F → ReportGhosts P → Source → F → F → P → P → Result Status CommandEnd → List ℕ → Job → Type 0
 TakesFrames r f p source files files' report report' result name job =
     ComesToTaken r f p source.file files files' report report' result name (λ bytes.
     unless (unfit_track name job (read_in source)) (frames_taken name job (read_in source) (events_in source bytes)))
 
 -- A job has taken frames of a source whose tracks can all be taken so.
-abbrev pub TakesFit : {F P : Type 0} → ReadsGhosts F → FilesGhosts F → ReportGhosts P → Source → F → F → P → P → Result Status Stop → List ℕ → Job → Type 0
+abbrev pub TakesFit : {F P : Type 0} → ReadsGhosts F → FilesGhosts F → ReportGhosts P → Source → F → F → P → P → Result Status CommandEnd → List ℕ → Job → Type 0
 TakesFit r f p source files files' report report' result name job = IfTold r files source.file (λ bytes.
-    ComesTo r f p files files' report report' result (done_verdict name (frames_taken name job (read_in source) (events_in source bytes))))
+    Fulfils r f p files files' report report' result (done_verdict name (frames_taken name job (read_in source) (events_in source bytes))))
 
 -- Attached files were taken of a source.
-abbrev pub TakesAttached : {F P : Type 0} → ReadsGhosts F → FilesGhosts F → ReportGhosts P → Source → F → F → P → P → Result Status Stop → List ℕ → List Target → Type 0
+abbrev pub TakesAttached : {F P : Type 0} → ReadsGhosts F → FilesGhosts F → ReportGhosts P → Source → F → F → P → P → Result Status CommandEnd → List ℕ → List Target → Type 0
 TakesAttached r f p source files files' report report' result name targets = IfTold r files source.file (λ bytes.
-    ComesTo r f p files files' report report' result (done_verdict name (attached_taken name targets bytes (read_in source))))
+    Fulfils r f p files files' report report' result (done_verdict name (attached_taken name targets bytes (read_in source))))

@@ -7,12 +7,12 @@ use Rattle.cluster_reader.specs.ToldDamages.{ToldDamages, told_damages}
 use Rattle.extractors.specs.declared.extracted.Extracted.{Extracted}
 use Rattle.mkv_lines.specs.Line.{more_bad_frames_line, more_damages_line, no_attachment_line, no_track_line, warning_line, wrote_line}
 use Rattle.mkv_lines.specs.declared.status.Status.{Status}
-use Rattle.mkv_lines.specs.declared.status.Stop.{Stop}
+use Rattle.mkv_lines.specs.declared.status.CommandEnd.{CommandEnd}
 use Rattle.mkv_extract.specs.Extract.{absent, status_of, told_bad, told_lines}
 use Rattle.mkv_extract.specs.declared.telling.Missing.{Missing}
 use Rattle.mkv_extract.specs.declared.telling.Missing.TheVariants as missing
-use Rattle.mkv_extract.specs.declared.telling.Wrong.{Wrong}
-use Rattle.mkv_extract.specs.declared.telling.Wrong.TheVariants as wrong
+use Rattle.mkv_extract.specs.declared.telling.WarningKind.{WarningKind}
+use Rattle.mkv_extract.specs.declared.telling.WarningKind.TheVariants as wrong
 
 -- a target names a thing that a file hasn't: one with this number, or a higher one
 abbrev pub has_absent : ℕ → List Target → Bool
@@ -29,16 +29,16 @@ line_of missing.Track name = no_track_line name
 line_of missing.Attachment name = no_attachment_line name
 
 -- the line of how many more damages there are than are told one by one
-abbrev pub more_line : Wrong → List ℕ → ℕ → List ℕ
+abbrev pub more_line : WarningKind → List ℕ → ℕ → List ℕ
 more_line wrong.File name more = more_damages_line name more
 more_line wrong.Frames name more = more_bad_frames_line name more
 
 -- that line, if there are more
-abbrev pub others : Wrong → List ℕ → ℕ → List (List ℕ)
+abbrev pub others : WarningKind → List ℕ → ℕ → List (List ℕ)
 others what name more = if more == 0 then [] else more_line what name more ∷ []
 
 -- a warning for each of the first, and the number of the others
-abbrev pub warnings : Wrong → List ℕ → ToldDamages → List (List ℕ)
+abbrev pub warnings : WarningKind → List ℕ → ToldDamages → List (List ℕ)
 warnings what name d = map (warning_line name) d.first ++ others what name d.more
 
 -- the names of the targets whose numbers are below this one
@@ -69,6 +69,6 @@ abbrev pub extracted_lines : List ℕ → ℕ → List Target → Extracted → 
 extracted_lines name count targets e = wrote_lines count targets ++ wrong_lines name e
 
 -- The status is that of the damages of which an extraction tells, whatever they are, and of whether something isn't there.
-abbrev pub HasStatusOf : Extracted → Bool → Result Status Stop → Type 0
+abbrev pub HasStatusOf : Extracted → Bool → Result Status CommandEnd → Type 0
 HasStatusOf e is_missing result =
     (damages bad : List Damage) → e.damages ≡ told_damages damages → e.bad_frames ≡ told_damages bad → IfOk result (λ s. s ≡ status_of is_missing (damages ++ bad))

@@ -13,7 +13,7 @@ ghost use Rattle.mkv_extract.specs.Steps.{TakesAttached};
 use crate::telling::{Missing, say_absent, tell_held};
 use extractors::{Source, write_attachments};
 use mkv_io::{Files, Report};
-use mkv_lines::{Status, Stop, stop_of};
+use mkv_lines::{CommandEnd, Status, stop_of};
 use std::alloc::Global;
 use word_values::Target;
 
@@ -25,7 +25,7 @@ pub fn extract_attachments<F: Files, P: Report>(
     source: &Source,
     files: &mut F,
     report: &mut P,
-) -> Result<Status, Stop>
+) -> Result<Status, CommandEnd>
     requires source { IsSource F.Reads files.old source.now }
     requires numbers { All (λ (t : TargetSeen). 1 ≤ t.id) targets.now }
     requires other { AreOthers (F.holder files.old source.now.file.n) (names_of targets.now) }

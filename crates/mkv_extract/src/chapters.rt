@@ -4,7 +4,7 @@ ghost use Rattle.std.specs.Prelude.{◌≡◌, ◌≤◌, [], ◌∷◌, false, 
 ghost use Rattle.mkv_io.specs.Asked.{AsksOnly};
 ghost use Rattle.mkv_schema.specs.declared.ids.TheConstants.{CHAPTERS};
 ghost use Rattle.tree_format.specs.Standing.{IsSoundOf};
-ghost use Rattle.mkv_lines.specs.Command.{ComesTo, HasEnded, SaysTo};
+ghost use Rattle.mkv_lines.specs.Command.{Fulfils, HasEnded, SaysTo};
 ghost use Rattle.mkv_lines.specs.Line.{wrote_line};
 ghost use Rattle.mkv_lines.specs.Ordinary.{IsOrdinary};
 ghost use Rattle.mkv_lines.specs.Said.{HasSayCause};
@@ -15,7 +15,7 @@ ghost use Rattle.mkv_extract.specs.Told.{outline_lines};
 use crate::telling::warn_outline;
 use extractors::{Source, write_chapters};
 use mkv_io::{Damage, Files, Report};
-use mkv_lines::{Line, Status, Stop, say, stop_of};
+use mkv_lines::{CommandEnd, Line, Status, say, stop_of};
 use std::alloc::Global;
 
 /// Takes the chapters of a source out as text, into a file of their own, and tells of it.
@@ -26,9 +26,9 @@ pub fn extract_chapters<F: Files, P: Report>(
     source: &Source,
     files: &mut F,
     report: &mut P,
-) -> Result<Status, Stop>
+) -> Result<Status, CommandEnd>
     requires { IfSome source.now.chapters (IsSoundOf CHAPTERS) }
-    ensures verdict { ComesTo F.Reads F.Files.own P.Report files.old files.new report.old report.new result
+    ensures verdict { Fulfils F.Reads F.Files.own P.Report files.old files.new report.old report.new result
         (done_verdict name.now (chapters_taken out.now (read_in source.now))) }
     ensures ended { HasEnded F.Reads F.Files.own P.Report files.old files.new report.old report.new result }
     ensures asks { AsksOnly [] (out.now ∷ []) (F.asked files.old) (F.asked files.new) }
@@ -47,7 +47,7 @@ fn tell_output<P: Report>(
     out: &str,
     damage: Option<Damage>,
     report: &mut P,
-) -> Result<Status, Stop>
+) -> Result<Status, CommandEnd>
     ensures said { SaysTo P.Report report.old report.new (wrote_line out.now ∷ outline_lines name.now damage) result }
     ensures status { IfOk result (λ status. status ≡ status_of false (option_to_list damage)) }
     ensures ordinary { IfOk result IsOrdinary }

@@ -4,14 +4,14 @@ ghost use Rattle.std.specs.Prelude.{◌≤◌, []};
 ghost use Rattle.mkv_io.specs.Asked.{AsksOnly};
 ghost use Rattle.extractors.specs.Job.{names_of};
 ghost use Rattle.extractors.specs.Source.{IsSource};
-ghost use Rattle.mkv_lines.specs.Command.{ComesTo, HasEnded};
+ghost use Rattle.mkv_lines.specs.Command.{Fulfils, HasEnded};
 ghost use Rattle.mkv_extract.specs.Extract.{cues_taken, done_verdict};
 ghost use Rattle.mkv_extract.specs.Read.{read_in};
 
 use crate::telling::{Missing, say_absent, tell_held};
 use extractors::{Source, write_cues};
 use mkv_io::{Files, Report};
-use mkv_lines::{Status, Stop, stop_of};
+use mkv_lines::{CommandEnd, Status, stop_of};
 use std::alloc::Global;
 use word_values::Target;
 
@@ -23,9 +23,9 @@ pub fn extract_cues<F: Files, P: Report>(
     source: &Source,
     files: &mut F,
     report: &mut P,
-) -> Result<Status, Stop>
+) -> Result<Status, CommandEnd>
     requires { IsSource F.Reads files.old source.now }
-    ensures verdict { ComesTo F.Reads F.Files.own P.Report files.old files.new report.old report.new result
+    ensures verdict { Fulfils F.Reads F.Files.own P.Report files.old files.new report.old report.new result
         (done_verdict name.now (cues_taken name.now targets.now (read_in source.now))) }
     ensures ended { HasEnded F.Reads F.Files.own P.Report files.old files.new report.old report.new result }
     ensures asks { AsksOnly [] (names_of targets.now) (F.asked files.old) (F.asked files.new) }

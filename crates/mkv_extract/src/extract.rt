@@ -11,7 +11,7 @@ ghost use Rattle.mkv_lines.specs.Line.{text_of};
 ghost use Rattle.mkv_extract.specs.Bound.{ReadsToExtract, most_of_content, most_of_file};
 ghost use Rattle.mkv_extract.specs.Extract.{unfit_line};
 ghost use Rattle.mkv_extract.specs.Steps.{TakesFile, TakesFit, TakesFrames, TakesSettled, TakesSource};
-ghost use Rattle.mkv_extract.specs.Takes.{CanTake, CanTakeFrom, Takes};
+ghost use Rattle.mkv_extract.specs.Extractions.{CanTake, CanTakeFrom, Takes};
 
 use crate::attachments::extract_attachments;
 use crate::chapters::extract_chapters;
@@ -20,9 +20,9 @@ use crate::names::first_written;
 use crate::reading::read_source;
 use crate::telling::{Missing, say_absent, tell};
 use element_reader::OutlineEnd;
-use extractors::{Refusal, Source, Unfit, extract, job_refusal, targets_of};
+use extractors::{Refusal, Source, UnsupportedTrack, extract, job_refusal, targets_of};
 use mkv_io::{FileId, Files, OpenFault, Report};
-use mkv_lines::{Line, Status, Stop, refuse, stop_of};
+use mkv_lines::{CommandEnd, Line, Status, refuse, stop_of};
 use sidecar_edit::is_pending;
 use std::alloc::{AllocError, Global};
 use word_values::Job;
@@ -34,7 +34,7 @@ pub fn extract_of<F: Files, P: Report>(
     job: &Job,
     files: &mut F,
     report: &mut P,
-) -> Result<Status, Stop>
+) -> Result<Status, CommandEnd>
     requires job { CanBeDone job.now }
     ensures verdict { Takes F.Reads F.Files.own P.Report files.old files.new report.old report.new result name.now job.now }
     ensures ended { HasEnded F.Reads F.Files.own P.Report files.old files.new report.old report.new result }
@@ -47,13 +47,13 @@ pub fn extract_of<F: Files, P: Report>(
             let name = out.as_str();
             return refuse(alloc, &Line::OutputIsInput { name }, report);
         }
-        Err(AllocError) => return Err(Stop::Memory),
+        Err(AllocError) => return Err(CommandEnd::Memory),
     }
     let file = match files.open_file(name) {
         Ok(file) => file,
         Err(OpenFault::Missing) => return refuse(alloc, &Line::Missing { name }, report),
-        Err(OpenFault::Failed) => return Err(Stop::Files),
-        Err(OpenFault::Memory) => return Err(Stop::Memory),
+        Err(OpenFault::Failed) => return Err(CommandEnd::Files),
+        Err(OpenFault::Memory) => return Err(CommandEnd::Memory),
     };
     let ended = extract_settled(alloc, name, job, files, file, report);
     files.close(file);
@@ -69,7 +69,7 @@ fn extract_settled<F: Files, P: Report>(
     files: &mut F,
     file: FileId,
     report: &mut P,
-) -> Result<Status, Stop>
+) -> Result<Status, CommandEnd>
     requires { CanTake F.Reads F.Files.own files.old file job.now }
     ensures verdict { TakesSettled F.Reads F.Files.own P.Report file files.old files.new report.old report.new result name.now job.now }
     ensures ended { HasEnded F.Reads F.Files.own P.Report files.old files.new report.old report.new result }
@@ -90,7 +90,7 @@ fn extract_file<F: Files, P: Report>(
     files: &mut F,
     file: FileId,
     report: &mut P,
-) -> Result<Status, Stop>
+) -> Result<Status, CommandEnd>
     requires { CanTake F.Reads F.Files.own files.old file job.now }
     ensures verdict { TakesFile F.Reads F.Files.own P.Report file files.old files.new report.old report.new result name.now job.now }
     ensures ended { HasEnded F.Reads F.Files.own P.Report files.old files.new report.old report.new result }
@@ -102,8 +102,8 @@ fn extract_file<F: Files, P: Report>(
         Err(OutlineEnd::Refused(damage)) => {
             refuse(alloc, &Line::Refused { name, damage }, report)
         }
-        Err(OutlineEnd::ReadFault) => Err(Stop::Files),
-        Err(OutlineEnd::Memory) => Err(Stop::Memory),
+        Err(OutlineEnd::ReadFault) => Err(CommandEnd::Files),
+        Err(OutlineEnd::Memory) => Err(CommandEnd::Memory),
     }
 }
 
@@ -115,7 +115,7 @@ fn extract_job<F: Files, P: Report>(
     source: &Source,
     files: &mut F,
     report: &mut P,
-) -> Result<Status, Stop>
+) -> Result<Status, CommandEnd>
     requires { CanTakeFrom F.Reads F.Files.own files.old source.now job.now }
     ensures verdict { TakesSource F.Reads F.Files.own P.Report source.now files.old files.new report.old report.new result name.now job.now }
     ensures ended { HasEnded F.Reads F.Files.own P.Report files.old files.new report.old report.new result }
@@ -147,7 +147,7 @@ fn extract_fit<F: Files, P: Report>(
     source: &Source,
     files: &mut F,
     report: &mut P,
-) -> Result<Status, Stop>
+) -> Result<Status, CommandEnd>
     requires takes { IsSome (form_of job.now) }
     requires can { CanTakeFrom F.Reads F.Files.own files.old source.now job.now }
     ensures verdict { TakesFrames F.Reads F.Files.own P.Report source.now files.old files.new report.old report.new result name.now job.now }
@@ -158,7 +158,7 @@ fn extract_fit<F: Files, P: Report>(
     match job_refusal(alloc, job, source.tracks.as_slice()) {
         Ok(None) => extract_source(alloc, name, job, source, files, report),
         Ok(Some(refusal)) => refuse(alloc, &line_of(name, refusal), report),
-        Err(AllocError) => Err(Stop::Memory),
+        Err(AllocError) => Err(CommandEnd::Memory),
     }
 }
 
@@ -168,8 +168,8 @@ fn line_of(name: &str, refusal: Refusal) -> Line<'_>
 {
     let number = refusal.track;
     match refusal.why {
-        Unfit::NoExtractor => Line::NoExtractor { name, number },
-        Unfit::BadConfig => Line::BadConfig { name, number },
+        UnsupportedTrack::NoExtractor => Line::NoExtractor { name, number },
+        UnsupportedTrack::BadConfig => Line::BadConfig { name, number },
     }
 }
 
@@ -181,7 +181,7 @@ fn extract_source<F: Files, P: Report>(
     source: &Source,
     files: &mut F,
     report: &mut P,
-) -> Result<Status, Stop>
+) -> Result<Status, CommandEnd>
     requires takes { IsSome (form_of job.now) }
     requires fit { job_refusal job.now (entries_in source.now) ≡ None }
     requires can { CanTakeFrom F.Reads F.Files.own files.old source.now job.now }

@@ -15,7 +15,7 @@ use crate::reading::is_named;
 use cluster_reader::Damages;
 use extractors::Extracted;
 use mkv_io::{Damage, Report};
-use mkv_lines::{Line, Status, Stop, say};
+use mkv_lines::{CommandEnd, Line, Status, say};
 use std::alloc::Global;
 use word_values::Target;
 
@@ -28,7 +28,7 @@ pub enum Missing {
 
 /// What is warned of in a list.
 #[derive(Clone, Copy)]
-pub enum Wrong {
+pub enum WarningKind {
     /// The damages of the file.
     File,
     /// The frames that aren't written.
@@ -43,7 +43,7 @@ pub fn say_absent<P: Report>(
     targets: &[Target],
     count: u64,
     report: &mut P,
-) -> Result<(), Stop>
+) -> Result<(), CommandEnd>
     ensures said { SaysTo P.Report report.old report.new (absent_lines missing name.now count targets.now) result }
     ensures cause { HasSayCause (P.faults report.old) (P.faults report.new) result }
 {
@@ -64,7 +64,7 @@ fn say_missing<P: Report>(
     name: &str,
     number: u64,
     report: &mut P,
-) -> Result<(), Stop>
+) -> Result<(), CommandEnd>
     ensures said { SaysTo P.Report report.old report.new (line_of missing name.now number ∷ []) result }
     ensures cause { HasSayCause (P.faults report.old) (P.faults report.new) result }
 {
@@ -89,7 +89,7 @@ pub fn tell<P: Report>(
     count: u64,
     extracted: &Extracted,
     report: &mut P,
-) -> Result<Status, Stop>
+) -> Result<Status, CommandEnd>
     ensures said { SaysTo P.Report report.old report.new (extracted_lines name.now count targets.now extracted.now) result }
     ensures status { HasStatusOf extracted.now (has_absent count targets.now) result }
     ensures ordinary { IfOk result IsOrdinary }
@@ -106,12 +106,18 @@ fn warn_all<P: Report>(
     name: &str,
     extracted: &Extracted,
     report: &mut P,
-) -> Result<(), Stop>
+) -> Result<(), CommandEnd>
     ensures said { SaysTo P.Report report.old report.new (wrong_lines name.now extracted.now) result }
     ensures cause { HasSayCause (P.faults report.old) (P.faults report.new) result }
 {
-    warn(alloc, Wrong::File, name, &extracted.damages, report)?;
-    warn(alloc, Wrong::Frames, name, &extracted.bad_frames, report)
+    warn(alloc, WarningKind::File, name, &extracted.damages, report)?;
+    warn(
+        alloc,
+        WarningKind::Frames,
+        name,
+        &extracted.bad_frames,
+        report,
+    )
 }
 
 /// A line for each output: of the targets whose numbers are below `count`.
@@ -120,7 +126,7 @@ pub fn say_wrote<P: Report>(
     targets: &[Target],
     count: u64,
     report: &mut P,
-) -> Result<(), Stop>
+) -> Result<(), CommandEnd>
     ensures said { SaysTo P.Report report.old report.new (wrote_lines count targets.now) result }
     ensures cause { HasSayCause (P.faults report.old) (P.faults report.new) result }
 {
@@ -137,11 +143,11 @@ pub fn say_wrote<P: Report>(
 /// A warning for each of the first damages, and the number of the others.
 fn warn<P: Report>(
     alloc: Global,
-    what: Wrong,
+    what: WarningKind,
     name: &str,
     damages: &Damages,
     report: &mut P,
-) -> Result<(), Stop>
+) -> Result<(), CommandEnd>
     ensures said { SaysTo P.Report report.old report.new (warnings what name.now damages.now) result }
     ensures cause { HasSayCause (P.faults report.old) (P.faults report.new) result }
 {
@@ -159,17 +165,17 @@ fn warn<P: Report>(
 /// The number of the others.
 fn say_more<P: Report>(
     alloc: Global,
-    what: Wrong,
+    what: WarningKind,
     name: &str,
     more: u64,
     report: &mut P,
-) -> Result<(), Stop>
+) -> Result<(), CommandEnd>
     ensures said { SaysTo P.Report report.old report.new (more_line what name.now more ∷ []) result }
     ensures cause { HasSayCause (P.faults report.old) (P.faults report.new) result }
 {
     match what {
-        Wrong::File => say(alloc, report, &Line::MoreDamages { name, more }),
-        Wrong::Frames => say(alloc, report, &Line::MoreBadFrames { name, more }),
+        WarningKind::File => say(alloc, report, &Line::MoreDamages { name, more }),
+        WarningKind::Frames => say(alloc, report, &Line::MoreBadFrames { name, more }),
     }
 }
 
@@ -181,7 +187,7 @@ pub fn tell_held<P: Report>(
     count: u64,
     damage: Option<Damage>,
     report: &mut P,
-) -> Result<Status, Stop>
+) -> Result<Status, CommandEnd>
     ensures said { SaysTo P.Report report.old report.new (held_lines name.now count targets.now damage) result }
     ensures status { IfOk result (λ status. status ≡ status_of (has_absent count targets.now) (option_to_list damage)) }
     ensures ordinary { IfOk result IsOrdinary }
@@ -202,7 +208,7 @@ pub fn warn_outline<P: Report>(
     name: &str,
     damage: Option<Damage>,
     report: &mut P,
-) -> Result<Status, Stop>
+) -> Result<Status, CommandEnd>
     ensures said { SaysTo P.Report report.old report.new (outline_lines name.now damage) result }
     ensures status { IfOk result (λ status. status ≡ status_of false (option_to_list damage)) }
     ensures ordinary { IfOk result IsOrdinary }
@@ -221,7 +227,7 @@ fn warn_of<P: Report>(
     name: &str,
     damage: &Damage,
     report: &mut P,
-) -> Result<(), Stop>
+) -> Result<(), CommandEnd>
     ensures said { SaysTo P.Report report.old report.new (warning_line name.now damage.now ∷ []) result }
     ensures cause { HasSayCause (P.faults report.old) (P.faults report.new) result }
 {

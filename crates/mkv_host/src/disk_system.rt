@@ -105,7 +105,7 @@ fn only_name(found: &Metadata) -> io::Result<Node> {
 }
 
 /// Makes sure of a file as it is read.
-pub fn settle(file: &File) -> io::Result<()> {
+pub fn sync_on_open(file: &File) -> io::Result<()> {
     file.sync_all()
 }
 

@@ -11,7 +11,7 @@ use std::os::unix::fs::{MetadataExt, OpenOptionsExt, PermissionsExt, fchown};
 use std::{fs, io};
 
 /// How many names are tried for a file that is to be put in the place of another.
-const MOST_TRIES: u32 = 100;
+const MAX_TRIES: u32 = 100;
 
 /// An empty file that is to be written, and whether this run has made it.
 #[derive(Drop)]
@@ -74,7 +74,7 @@ pub fn replaced<R: fs::Files<File = File>>(
     if node_of(&fs::symlink_metadata(system, place)?)? != node_of(was)? {
         return Err(ErrorKind::ResourceBusy.into());
     }
-    for number in 0..MOST_TRIES {
+    for number in 0..MAX_TRIES {
         let beside = format!(in alloc; "{}/.mkvsuite-{number}.new", folder_of(place))?;
         match make_beside(system, beside.as_str()) {
             Ok(file) => return put_in_place(system, file, beside.as_str(), place, was),
@@ -121,7 +121,7 @@ fn put_in_place<R: fs::Files<File = File>>(
 ) -> io::Result<Output>
     ensures { IfOk result (λ made. made.is_new ≡ true) }
 {
-    let outcome = dressed(file, was);
+    let outcome = copy_permissions(file, was);
     let moved = match outcome {
         Ok(output) => fs::rename(system, beside, place).map(|()| output),
         Err(error) => Err(error),
@@ -133,7 +133,7 @@ fn put_in_place<R: fs::Files<File = File>>(
 }
 
 /// Gives a new file the mode and the owner of another.
-fn dressed(file: File, was: &Metadata) -> io::Result<Output>
+fn copy_permissions(file: File, was: &Metadata) -> io::Result<Output>
     ensures { IfOk result (λ made. made.is_new ≡ true) }
 {
     let file = above_streams(file)?;

@@ -1,12 +1,12 @@
 //! A file of the system and its sidecar.
 
 ghost use Rattle.std.specs.Prelude.{◌≡◌, ◌≢◌, ◌≤◌, ℕ, ◌+◌, max, Option, Some, None, IsTrue, IfOk};
-ghost use Rattle.mkv_io.specs.Faults.{HasRisen, counted};
+ghost use Rattle.mkv_io.specs.Faults.{HasIncreased, counted};
 ghost use Rattle.mkv_host.specs.OpenedPair.{is_live, name_in, size_in};
 ghost use Rattle.mkv_io.specs.declared.outside.TheConstants.{LONGEST_FILE};
 ghost use Rattle.sidecar_edit.specs.Name.{sidecar_of};
 
-use crate::disk_system::{open_media, open_sidecar, settle, settle_folder};
+use crate::disk_system::{open_media, open_sidecar, settle_folder, sync_on_open};
 use crate::pair::{OpenFile, OpenPair};
 use crate::system::is_missing;
 use crate::writer::write_from;
@@ -49,7 +49,7 @@ impl<'a, R: fs::Files<File = File>> RealDisk<'a, R> {
 /// Counts a failure.
 fn note_failure(count: &mut u64)
     ensures exact { count.new ≡ counted count.old 1 }
-    ensures risen { HasRisen count.old count.new }
+    ensures risen { HasIncreased count.old count.new }
 {
     *count = count.saturating_add(1);
 }
@@ -123,8 +123,8 @@ fn open_both<R: fs::Files<File = File>>(
     let Ok(sidecar) = open_sidecar(system, sidecar, &found) else {
         return Err(OpenFault::Failed);
     };
-    let is_sure = settle(&media.file).is_ok()
-        && settle(&sidecar.file).is_ok()
+    let is_sure = sync_on_open(&media.file).is_ok()
+        && sync_on_open(&sidecar.file).is_ok()
         && settle_folder(system, media.name.as_str()).is_ok();
     if !is_sure {
         return Err(OpenFault::Failed);

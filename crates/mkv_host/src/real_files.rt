@@ -1,7 +1,7 @@
 //! The files of the system.
 
 ghost use Rattle.std.specs.Prelude.{◌≡◌, ◌≢◌, ◌↔◌, ℕ, ◌+◌, ◌-◌, ◌<◌, ◌≤◌, ◌^◌, List, [], ◌∷◌, ◌++◌, length, Option, Some, None, is_some, false, vec_capacity, IfOk, OnOk, IsTrue};
-ghost use Rattle.mkv_io.specs.Faults.{HasRisen, counted, last_count};
+ghost use Rattle.mkv_io.specs.Faults.{HasIncreased, counted, last_count};
 ghost use Rattle.mkv_host.specs.Opened.{holder_in, is_node, opened_at, size_at};
 ghost use Rattle.std.specs.List.{list_any};
 
@@ -88,7 +88,7 @@ impl<'a, R: fs::Files<File = File>> RealFiles<'a, R> {
 /// Counts a failure.
 fn note_failure(count: &mut u64)
     ensures exact { count.new ≡ counted count.old 1 }
-    ensures risen { HasRisen count.old count.new }
+    ensures risen { HasIncreased count.old count.new }
 {
     *count = count.saturating_add(1);
 }

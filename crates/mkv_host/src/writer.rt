@@ -2,7 +2,7 @@
 
 ghost use Rattle.std.specs.Prelude.{◌≡◌, ℕ, ◌≤◌, List, length, take, Option, unwrap_or, IfOk, IfSome, OnErr};
 ghost use Rattle.mkv_io.specs.Contents.{with_overwritten};
-ghost use Rattle.mkv_io.specs.Told.{Told};
+ghost use Rattle.mkv_io.specs.Told.{IfVisible};
 ghost use Rattle.mkv_host.specs.Written.{IsOverwritten};
 ghost use Rattle.mkv_io.specs.declared.outside.TheConstants.{LONGEST_FILE};
 
@@ -52,7 +52,7 @@ fn write_some<W: WriteAt>(file: &mut W, at: u64, bytes: &[u8]) -> Option<usize>
 pub fn write_from<W: WriteAt>(file: &mut W, at: u64, bytes: &[u8]) -> usize
     requires { at ≤ LONGEST_FILE }
     ensures most { result ≤ length bytes.now }
-    ensures first { Told (W.content file.old) (λ was. IsOverwritten was at (take result bytes.now) (W.content file.new)) }
+    ensures first { IfVisible (W.content file.old) (λ was. IsOverwritten was at (take result bytes.now) (W.content file.new)) }
 {
     let mut written = 0;
     for _ in 0..u64::MAX {

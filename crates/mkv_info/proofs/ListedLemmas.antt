@@ -10,7 +10,7 @@ use Rattle.mkv_lines.specs.Line.{level_0_line, level_1_line, refusal_line}
 use Rattle.mkv_lines.specs.Said.{ReportLines, Says, SaysPart}
 use Rattle.mkv_lines.specs.Verdict.{SaysVerdict, Verdict, nothing, refused}
 use Rattle.mkv_lines.specs.declared.status.Status.{Status}
-use Rattle.mkv_lines.specs.declared.status.Stop.{Stop}
+use Rattle.mkv_lines.specs.declared.status.CommandEnd.{CommandEnd}
 use Rattle.mkv_lines.proofs.SaidLemmas.{SaysPart-before, SaysPart-behind, Says-then}
 use Rattle.track_records.specs.declared.track.Track.{Track}
 use Rattle.mkv_info.specs.Listed.{element_lines, listed, listed_or_refused, listed_verdict, shown_lines, status_with, warnings, with_tracks}
@@ -33,7 +33,7 @@ elements-second old mid new bytes o ebml segment first second said part =
     (subst (λ (h : Header). SaysPart mid new (level_0_line h ∷ [])) second part))
 
 -- both were said, and then the Elements of level 1
-pub elements-all : {T : Type 0} (old mid late new : ReportLines) (bytes : List ℕ) (o : FileOutline) (ebml segment : Header) (list : List Header) (r : Result T Stop) → ebml ≡ o.ebml → segment ≡ o.segment → list ≡ (segment_run bytes o.segment).list → mid ≡ with_lines old (level_0_line ebml ∷ []) → late ≡ with_lines mid (level_0_line segment ∷ []) → Says late new (map level_1_line list) r → Says old new (shown_lines bytes o) r
+pub elements-all : {T : Type 0} (old mid late new : ReportLines) (bytes : List ℕ) (o : FileOutline) (ebml segment : Header) (list : List Header) (r : Result T CommandEnd) → ebml ≡ o.ebml → segment ≡ o.segment → list ≡ (segment_run bytes o.segment).list → mid ≡ with_lines old (level_0_line ebml ∷ []) → late ≡ with_lines mid (level_0_line segment ∷ []) → Says late new (map level_1_line list) r → Says old new (shown_lines bytes o) r
 elements-all old mid late new bytes o ebml segment list r first second third said then says =
     Says-then old mid new (level_0_line o.ebml ∷ []) (level_0_line o.segment ∷ map level_1_line (segment_run bytes o.segment).list) r
     (said ∙ ap (λ (h : Header). with_lines old (level_0_line h ∷ [])) first)
@@ -56,13 +56,13 @@ verdict-is name bytes v of found tracks =
     ∙ ap (with_tracks name of.outlined) (sym (tracks ∙ ap (λ (w : FileOutline). file_tracks bytes w.segment) of.shows))
 
 -- the tracks refuse the file
-pub reaches-refused : (old new : ReportLines) (name bytes : List ℕ) (v : FileOutline) (found : Result (List Track) Damage) (d : Damage) (r : Result Status Stop) → outline_in 0 bytes ≡ Ok v → found ≡ file_tracks bytes v.segment → found ≡ Err d → SaysVerdict old new r (refused (refusal_line name d)) → SaysVerdict old new r (listed_verdict name bytes)
+pub reaches-refused : (old new : ReportLines) (name bytes : List ℕ) (v : FileOutline) (found : Result (List Track) Damage) (d : Damage) (r : Result Status CommandEnd) → outline_in 0 bytes ≡ Ok v → found ≡ file_tracks bytes v.segment → found ≡ Err d → SaysVerdict old new r (refused (refusal_line name d)) → SaysVerdict old new r (listed_verdict name bytes)
 reaches-refused old new name bytes v found d r outline tracks is reaches =
     let of = Outlines-shown 0 bytes v outline in
     subst (λ (w : Verdict). SaysVerdict old new r w) (sym (verdict-is name bytes v of found tracks ∙ ap (with_tracks name of.outlined) is)) reaches
 
 -- the list was begun
-pub reaches-part : (old new : ReportLines) (name bytes : List ℕ) (v : FileOutline) (found : Result (List Track) Damage) (list : List Track) (why : Stop) → outline_in 0 bytes ≡ Ok v → found ≡ file_tracks bytes v.segment → found ≡ Ok list → SaysPart old new (shown_lines bytes v) → SaysVerdict old new (Err why) (listed_verdict name bytes)
+pub reaches-part : (old new : ReportLines) (name bytes : List ℕ) (v : FileOutline) (found : Result (List Track) Damage) (list : List Track) (why : CommandEnd) → outline_in 0 bytes ≡ Ok v → found ≡ file_tracks bytes v.segment → found ≡ Ok list → SaysPart old new (shown_lines bytes v) → SaysVerdict old new (Err why) (listed_verdict name bytes)
 reaches-part old new name bytes v found list why outline tracks is part =
     let of = Outlines-shown 0 bytes v outline in
     let o = of.outlined in
@@ -71,7 +71,7 @@ reaches-part old new name bytes v found list why outline tracks is part =
     (SaysPart-before old new (element_lines o) (track_lines 0 list ++ warnings name o.damage) lines)
 
 -- the Elements were said, and the tracks begun
-pub reaches-second : (old mid new : ReportLines) (name bytes : List ℕ) (v : FileOutline) (found : Result (List Track) Damage) (list : List Track) (why : Stop) → outline_in 0 bytes ≡ Ok v → found ≡ file_tracks bytes v.segment → found ≡ Ok list → mid ≡ with_lines old (shown_lines bytes v) → SaysPart mid new (track_lines 0 list) → SaysVerdict old new (Err why) (listed_verdict name bytes)
+pub reaches-second : (old mid new : ReportLines) (name bytes : List ℕ) (v : FileOutline) (found : Result (List Track) Damage) (list : List Track) (why : CommandEnd) → outline_in 0 bytes ≡ Ok v → found ≡ file_tracks bytes v.segment → found ≡ Ok list → mid ≡ with_lines old (shown_lines bytes v) → SaysPart mid new (track_lines 0 list) → SaysVerdict old new (Err why) (listed_verdict name bytes)
 reaches-second old mid new name bytes v found list why outline tracks is said part =
     let of = Outlines-shown 0 bytes v outline in
     let o = of.outlined in
@@ -81,11 +81,11 @@ reaches-second old mid new name bytes v found list why outline tracks is said pa
     (SaysPart-before mid new (track_lines 0 list) (warnings name o.damage) part))
 
 -- both were said, and then the warning
-reaches-listed : (old new : ReportLines) (name : List ℕ) (o : Outlined) (list : List Track) (r : Result Status Stop) → Says old new (element_lines o ++ (track_lines 0 list ++ warnings name o.damage)) r → IfOk r (λ s. s ≡ status_with o.damage) → SaysVerdict old new r (listed name o list)
+reaches-listed : (old new : ReportLines) (name : List ℕ) (o : Outlined) (list : List Track) (r : Result Status CommandEnd) → Says old new (element_lines o ++ (track_lines 0 list ++ warnings name o.damage)) r → IfOk r (λ s. s ≡ status_with o.damage) → SaysVerdict old new r (listed name o list)
 reaches-listed old new name o list (Ok s) says status = (status, says)
 reaches-listed old new name o list (Err why) says status = says
 
-pub reaches-warned : (old mid late new : ReportLines) (name bytes : List ℕ) (v : FileOutline) (found : Result (List Track) Damage) (list : List Track) (damage : Option Damage) (r : Result Status Stop) → outline_in 0 bytes ≡ Ok v → found ≡ file_tracks bytes v.segment → found ≡ Ok list → damage ≡ v.damage → mid ≡ with_lines old (shown_lines bytes v) → late ≡ with_lines mid (track_lines 0 list) → Says late new (warnings name damage) r → IfOk r (λ s. s ≡ status_with damage) → SaysVerdict old new r (listed_verdict name bytes)
+pub reaches-warned : (old mid late new : ReportLines) (name bytes : List ℕ) (v : FileOutline) (found : Result (List Track) Damage) (list : List Track) (damage : Option Damage) (r : Result Status CommandEnd) → outline_in 0 bytes ≡ Ok v → found ≡ file_tracks bytes v.segment → found ≡ Ok list → damage ≡ v.damage → mid ≡ with_lines old (shown_lines bytes v) → late ≡ with_lines mid (track_lines 0 list) → Says late new (warnings name damage) r → IfOk r (λ s. s ≡ status_with damage) → SaysVerdict old new r (listed_verdict name bytes)
 reaches-warned old mid late new name bytes v found list damage r outline tracks is same said then says status =
     let of = Outlines-shown 0 bytes v outline in
     let o = of.outlined in

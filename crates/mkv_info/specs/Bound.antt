@@ -1,6 +1,6 @@
 -- How many octets `info` and `merge -J` may read. The bounds are this project's.
 use Rattle.std.specs.Prelude.{ℕ, ◌+◌, ◌*◌, min, List, length, Option, Some, None}
-use Rattle.meta_records.specs.declared.limits.TheConstants.{MOST_OF_ATTACHMENTS}
+use Rattle.meta_records.specs.declared.limits.TheConstants.{MAX_ATTACHMENTS_LEN}
 use Rattle.mkv_lines.specs.Command.{with_sidecar_head}
 use Rattle.mkv_info.specs.declared.info.Form.{Form}
 use Rattle.mkv_info.specs.declared.info.Form.TheVariants.{Lines, Json}
@@ -12,7 +12,7 @@ most_to_list octets = 4 * octets
 -- what may be read of it to identify it: its outline twice, Info, Tracks, Chapters and Tags once each, and what names its
 -- attached files, but none of their data
 abbrev pub most_to_identify : ℕ → ℕ
-most_to_identify octets = 6 * octets + min (16 * octets) (2 * MOST_OF_ATTACHMENTS)
+most_to_identify octets = 6 * octets + min (16 * octets) (2 * MAX_ATTACHMENTS_LEN)
 
 abbrev pub most_of_form : Form → ℕ → ℕ
 most_of_form Lines octets = most_to_list octets

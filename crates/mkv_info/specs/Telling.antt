@@ -5,46 +5,46 @@ use Rattle.mkv_io.specs.declared.outside.FileId.{FileId}
 use Rattle.mkv_io.specs.declared.reads.Reads.{Ghosts as ReadsGhosts}
 use Rattle.mkv_io.specs.declared.report.Report.{Ghosts as ReportGhosts}
 use Rattle.element_reader.specs.Outline.{FileOutline, outline_in}
-use Rattle.mkv_lines.specs.Command.{ComesTo, SaysTo}
+use Rattle.mkv_lines.specs.Command.{Fulfils, SaysTo}
 use Rattle.mkv_lines.specs.Faults.{HasReadStop}
 use Rattle.mkv_lines.specs.Verdict.{SaysVerdict, Verdict}
 use Rattle.mkv_lines.specs.declared.status.Status.{Status}
-use Rattle.mkv_lines.specs.declared.status.Stop.{Stop}
+use Rattle.mkv_lines.specs.declared.status.CommandEnd.{CommandEnd}
 use Rattle.mkv_info.specs.Listed.{listed_verdict, shown_lines}
-use Rattle.mkv_io.specs.Told.{Told}
+use Rattle.mkv_io.specs.Told.{IfVisible}
 use Rattle.mkv_io.specs.declared.files.Files.{Ghosts as FilesGhosts}
 use Rattle.mkv_info.specs.Info.{info_verdict, settled_verdict}
 use Rattle.mkv_info.specs.declared.info.Form.{Form}
 
 -- It has said the lines of the verdict on the file's content, where that is told, or a first part of them.
-abbrev pub Informs : {S P : Type 0} → ReadsGhosts S → ReportGhosts P → S → FileId → P → P → Result Status Stop → (List ℕ → Verdict) → Type 0
+abbrev pub Informs : {S P : Type 0} → ReadsGhosts S → ReportGhosts P → S → FileId → P → P → Result Status CommandEnd → (List ℕ → Verdict) → Type 0
 Informs r p src file old new result verdict = IfTold r src file (λ bytes. SaysVerdict (p.lines old) (p.lines new) result (verdict bytes))
 
 -- the same of lines alone
-abbrev pub SaysOf : {S P T : Type 0} → ReadsGhosts S → ReportGhosts P → S → FileId → P → P → Result T Stop → (List ℕ → List (List ℕ)) → Type 0
+abbrev pub SaysOf : {S P T : Type 0} → ReadsGhosts S → ReportGhosts P → S → FileId → P → P → Result T CommandEnd → (List ℕ → List (List ℕ)) → Type 0
 SaysOf r p src file old new result lines = IfTold r src file (λ bytes. SaysTo p old new (lines bytes) result)
 
 -- It has listed the content of a name that has this outline.
-abbrev pub ListsOutline : {S P : Type 0} → ReadsGhosts S → ReportGhosts P → S → FileId → FileOutline → List ℕ → P → P → Result Status Stop → Type 0
+abbrev pub ListsOutline : {S P : Type 0} → ReadsGhosts S → ReportGhosts P → S → FileId → FileOutline → List ℕ → P → P → Result Status CommandEnd → Type 0
 ListsOutline r p src file outline name old new result =
     IfTold r src file (λ bytes. outline_in 0 bytes ≡ Ok outline → SaysVerdict (p.lines old) (p.lines new) result (listed_verdict name bytes))
 
 -- It has said a line for the EBML header, for the Segment, and for each Element of level 1, of a file with this outline.
-abbrev pub SaysElements : {S P T : Type 0} → ReadsGhosts S → ReportGhosts P → S → FileId → FileOutline → P → P → Result T Stop → Type 0
+abbrev pub SaysElements : {S P T : Type 0} → ReadsGhosts S → ReportGhosts P → S → FileId → FileOutline → P → P → Result T CommandEnd → Type 0
 SaysElements r p src file outline old new result = SaysOf r p src file old new result (λ bytes. shown_lines bytes outline)
 
 -- why it stops
-abbrev pub HasTellStop : {S P T : Type 0} → ReadsGhosts S → ReportGhosts P → S → S → P → P → Result T Stop → Type 0
+abbrev pub HasTellStop : {S P T : Type 0} → ReadsGhosts S → ReportGhosts P → S → S → P → P → Result T CommandEnd → Type 0
 HasTellStop r p src src_now old new result = HasReadStop (r.reading_faults src) (r.reading_faults src_now) (p.faults old) (p.faults new) result
 
 -- ---- by the names, where they are told
 
 -- It has come to what is told in this form of the file of a name.
-abbrev pub Presents : {S P : Type 0} → ReadsGhosts S → FilesGhosts S → ReportGhosts P → S → S → P → P → Result Status Stop → Form → List ℕ → Type 0
+abbrev pub Presents : {S P : Type 0} → ReadsGhosts S → FilesGhosts S → ReportGhosts P → S → S → P → P → Result Status CommandEnd → Form → List ℕ → Type 0
 Presents r f p files files' report report' result form name =
-    Told (f.names files) (λ world. ComesTo r f p files files' report report' result (info_verdict form world name))
+    IfVisible (f.names files) (λ world. Fulfils r f p files files' report report' result (info_verdict form world name))
 
 -- It has told in this form what a live file of a name is, unless an edit of that is pending.
-abbrev pub TellsSettled : {S P : Type 0} → ReadsGhosts S → FilesGhosts S → ReportGhosts P → S → FileId → P → P → Result Status Stop → Form → List ℕ → Type 0
+abbrev pub TellsSettled : {S P : Type 0} → ReadsGhosts S → FilesGhosts S → ReportGhosts P → S → FileId → P → P → Result Status CommandEnd → Form → List ℕ → Type 0
 TellsSettled r f p files file old new result form name =
-    Told (f.names files) (λ world. Informs r p files file old new result (settled_verdict form world name))
+    IfVisible (f.names files) (λ world. Informs r p files file old new result (settled_verdict form world name))

@@ -16,7 +16,7 @@ use crate::list::warn;
 use crate::reading::{FileRead, read_file};
 use element_reader::OutlineEnd;
 use mkv_io::{FileId, Reads, Report};
-use mkv_lines::{Line, Status, Stop, refuse, say_text};
+use mkv_lines::{CommandEnd, Line, Status, refuse, say_text};
 use std::alloc::Global;
 
 /// Tells what a live file is, and warns of the damage that ends its outline; or says what refuses it.
@@ -26,7 +26,7 @@ pub fn identify_file<R: Reads, P: Report>(
     src: &mut R,
     file: FileId,
     report: &mut P,
-) -> Result<Status, Stop>
+) -> Result<Status, CommandEnd>
     requires { IsLive R.Reads src.old file }
     ensures verdict { Informs R.Reads P.Report src.old file report.old report.new result (identified_verdict name.now) }
     ensures ordinary { IfOk result IsOrdinary }
@@ -39,8 +39,8 @@ pub fn identify_file<R: Reads, P: Report>(
         Err(OutlineEnd::Refused(damage)) => {
             refuse(alloc, &Line::Refused { name, damage }, report)
         }
-        Err(OutlineEnd::ReadFault) => Err(Stop::Files),
-        Err(OutlineEnd::Memory) => Err(Stop::Memory),
+        Err(OutlineEnd::ReadFault) => Err(CommandEnd::Files),
+        Err(OutlineEnd::Memory) => Err(CommandEnd::Memory),
     }
 }
 
@@ -50,14 +50,14 @@ fn tell<P: Report>(
     name: &str,
     read: &FileRead,
     report: &mut P,
-) -> Result<Status, Stop>
+) -> Result<Status, CommandEnd>
     requires { CanBeTold read.now.records }
     ensures verdict { SaysVerdict (P.lines report.old) (P.lines report.new) result (identified_of name.now read.now) }
     ensures ordinary { IfOk result IsOrdinary }
     ensures cause { HasSayCause (P.faults report.old) (P.faults report.new) result }
 {
     let Ok(line) = identify(alloc, name, &read.records) else {
-        return Err(Stop::Memory);
+        return Err(CommandEnd::Memory);
     };
     say_text(report, line.as_str())?;
     warn(alloc, name, read.damage, report)

@@ -14,7 +14,7 @@ ghost use Rattle.mkv_info.specs.Telling.{HasTellStop, Presents, TellsSettled};
 use crate::identified::identify_file;
 use crate::list::list_file;
 use mkv_io::{FileId, Files, OpenFault, Report};
-use mkv_lines::{Line, Status, Stop, refuse};
+use mkv_lines::{CommandEnd, Line, Status, refuse};
 use sidecar_edit::is_pending;
 use std::alloc::Global;
 
@@ -34,7 +34,7 @@ pub fn info_of<F: Files, P: Report>(
     name: &str,
     files: &mut F,
     report: &mut P,
-) -> Result<Status, Stop>
+) -> Result<Status, CommandEnd>
     ensures verdict { Presents F.Reads F.Files.own P.Report files.old files.new report.old report.new result form name.now }
     ensures ended { HasEnded F.Reads F.Files.own P.Report files.old files.new report.old report.new result }
     ensures names { F.names files.new ≡ F.names files.old }
@@ -44,23 +44,23 @@ pub fn info_of<F: Files, P: Report>(
     let file = match files.open_file(name) {
         Ok(file) => file,
         Err(OpenFault::Missing) => return refuse(alloc, &Line::Missing { name }, report),
-        Err(OpenFault::Failed) => return Err(Stop::Files),
-        Err(OpenFault::Memory) => return Err(Stop::Memory),
+        Err(OpenFault::Failed) => return Err(CommandEnd::Files),
+        Err(OpenFault::Memory) => return Err(CommandEnd::Memory),
     };
-    let ended = tell_settled(alloc, form, name, files, file, report);
+    let ended = report_unless_pending(alloc, form, name, files, file, report);
     files.close(file);
     ended
 }
 
 /// Tells what a live file is, unless an edit of the file of this name is pending.
-fn tell_settled<F: Files, P: Report>(
+fn report_unless_pending<F: Files, P: Report>(
     alloc: Global,
     form: Form,
     name: &str,
     files: &mut F,
     file: FileId,
     report: &mut P,
-) -> Result<Status, Stop>
+) -> Result<Status, CommandEnd>
     requires { IsLive F.Reads files.old file }
     ensures verdict { TellsSettled F.Reads F.Files.own P.Report files.old file report.old report.new result form name.now }
     ensures ordinary { IfOk result IsOrdinary }

@@ -14,7 +14,7 @@ use crate::tracks::{say_tracks, tracks_of};
 use element_reader::{Outline, OutlineEnd, Window, segment_bound};
 use elements::{Level1Step, next_of_segment};
 use mkv_io::{Damage, FileId, Reads, Report};
-use mkv_lines::{Line, Status, Stop, refuse, say};
+use mkv_lines::{CommandEnd, Line, Status, refuse, say};
 use std::alloc::Global;
 
 /// Lists a live file's Elements and tracks, and warns of the damage that ends them. A file whose outline or
@@ -25,7 +25,7 @@ pub fn list_file<R: Reads, P: Report>(
     src: &mut R,
     file: FileId,
     report: &mut P,
-) -> Result<Status, Stop>
+) -> Result<Status, CommandEnd>
     requires { IsLive R.Reads src.old file }
     ensures verdict { Informs R.Reads P.Report src.old file report.old report.new result (listed_verdict name.now) }
     ensures ordinary { IfOk result IsOrdinary }
@@ -38,8 +38,8 @@ pub fn list_file<R: Reads, P: Report>(
         Err(OutlineEnd::Refused(damage)) => {
             refuse(alloc, &Line::Refused { name, damage }, report)
         }
-        Err(OutlineEnd::ReadFault) => Err(Stop::Files),
-        Err(OutlineEnd::Memory) => Err(Stop::Memory),
+        Err(OutlineEnd::ReadFault) => Err(CommandEnd::Files),
+        Err(OutlineEnd::Memory) => Err(CommandEnd::Memory),
     }
 }
 
@@ -51,7 +51,7 @@ fn list_outline<R: Reads, P: Report>(
     src: &mut R,
     file: FileId,
     report: &mut P,
-) -> Result<Status, Stop>
+) -> Result<Status, CommandEnd>
     requires live { IsLive R.Reads src.old file }
     requires whole { outline.now.total ≡ file_size R.Reads src.old file }
     ensures verdict { ListsOutline R.Reads P.Report src.old file outline.now name.now report.old report.new result }
@@ -77,7 +77,7 @@ fn say_elements<R: Reads, P: Report>(
     src: &mut R,
     file: FileId,
     report: &mut P,
-) -> Result<(), Stop>
+) -> Result<(), CommandEnd>
     requires live { IsLive R.Reads src.old file }
     requires whole { outline.now.total ≡ file_size R.Reads src.old file }
     ensures said { SaysElements R.Reads P.Report src.old file outline.now report.old report.new result }
@@ -86,7 +86,7 @@ fn say_elements<R: Reads, P: Report>(
     ensures octets { ReadsUpTo R.Reads src.old src.new (file_size R.Reads src.old file) }
 {
     let Ok(mut window) = Window::new(alloc) else {
-        return Err(Stop::Memory);
+        return Err(CommandEnd::Memory);
     };
     say(alloc, report, &Line::Level0(outline.ebml()))?;
     say(alloc, report, &Line::Level0(outline.segment()))?;
@@ -101,7 +101,7 @@ fn say_level_1<R: Reads, P: Report>(
     src: &mut R,
     file: FileId,
     report: &mut P,
-) -> Result<(), Stop>
+) -> Result<(), CommandEnd>
     requires live { IsLive R.Reads src.old file }
     requires whole { outline.now.total ≡ file_size R.Reads src.old file }
     requires empty { window.old ≡ nothing_at 0 }
@@ -120,7 +120,7 @@ fn say_level_1<R: Reads, P: Report>(
                 at = next.unwrap_or(end);
             }
             Ok(Level1Step::Damaged(_) | Level1Step::End) => return Ok(()),
-            Err(_) => return Err(Stop::Files),
+            Err(_) => return Err(CommandEnd::Files),
         }
     }
 }
@@ -131,7 +131,7 @@ pub(crate) fn warn<P: Report>(
     name: &str,
     damage: Option<Damage>,
     report: &mut P,
-) -> Result<Status, Stop>
+) -> Result<Status, CommandEnd>
     ensures said { Says (P.lines report.old) (P.lines report.new) (warnings name.now damage) result }
     ensures status { IfOk result (λ status. status ≡ status_with damage) }
     ensures cause { HasSayCause (P.faults report.old) (P.faults report.new) result }

@@ -15,7 +15,7 @@ use ebml_tree::{Tree, TreeEnd};
 use element_reader::{Outline, OutlineEnd};
 use meta_records::first_tree;
 use mkv_io::{Damage, FileId, List, ReadEnd, Reads, Report};
-use mkv_lines::{Line, ShownTrack, Stop, say};
+use mkv_lines::{CommandEnd, Line, ShownTrack, say};
 use mkv_schema::ids::TRACKS;
 use std::alloc::Global;
 use track_records::{Track, read_tracks};
@@ -77,7 +77,7 @@ pub fn say_tracks<P: Report>(
     alloc: Global,
     tracks: &List<Track>,
     report: &mut P,
-) -> Result<(), Stop>
+) -> Result<(), CommandEnd>
     ensures said { Says (P.lines report.old) (P.lines report.new) (track_lines 0 tracks.now) result }
     ensures cause { HasSayCause (P.faults report.old) (P.faults report.new) result }
 {

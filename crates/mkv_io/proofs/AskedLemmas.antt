@@ -1,7 +1,7 @@
 -- What is asked for by calls one after the other: laws for whoever opens and makes files.
 use Rattle.std.proofs.Common.{◌≡◌, ◌≢◌, ℕ, List, [], ◌∷◌, ◌++◌, inl, inr, Result, Ok, Err, refl, sym, subst}
 use Rattle.std.proofs.lemmas.List.Elements.{All-nil, All-cons, All-append}
-use Rattle.mkv_io.specs.Asked.{AsksFor, AsksNone, AsksOnly, IsBesides, IsUnasked}
+use Rattle.mkv_io.specs.Asked.{AsksFor, AsksNone, AsksOnly, IsNotAmong, IsUnasked}
 use Rattle.mkv_io.specs.Names.{AreOthers}
 use Rattle.mkv_io.specs.declared.asked.Asked.{Asked}
 use Rattle.mkv_io.specs.declared.asked.Asked.TheVariants.{Made, Opened}
@@ -32,16 +32,16 @@ asks-fewer Are Fewer old new all asks = λ name fewer unasked. asks name (all na
 
 -- only names among these were, so only names among more
 pub asks-more : (opened made more_opened more_made : List (List ℕ)) (old new : List Asked) → ((name : List ℕ) → AreOthers name more_opened → AreOthers name opened) → ((name : List ℕ) → AreOthers name more_made → AreOthers name made) → AsksOnly opened made old new → AsksOnly more_opened more_made old new
-asks-more opened made more_opened more_made old new open_among made_among asks = asks-fewer (IsBesides opened made) (IsBesides more_opened more_made) old new each asks
+asks-more opened made more_opened more_made old new open_among made_among asks = asks-fewer (IsNotAmong opened made) (IsNotAmong more_opened more_made) old new each asks
   where
-    each : (name : Asked) → IsBesides more_opened more_made name → IsBesides opened made name
+    each : (name : Asked) → IsNotAmong more_opened more_made name → IsNotAmong opened made name
     each (Opened name) others = open_among name others
     each (Made name) others = made_among name others
 
 -- a file is opened
 pub asks-opened : {T E : Type 0} (name : List ℕ) (made : List (List ℕ)) (old new : List Asked) (result : Result T E) → AsksFor (Opened name) old new result → AsksOnly (name ∷ []) made old new
-asks-opened name made old new result asks = asks-one (IsBesides (name ∷ []) made) (Opened name) old new result (λ others. others.0 refl) asks
+asks-opened name made old new result asks = asks-one (IsNotAmong (name ∷ []) made) (Opened name) old new result (λ others. others.0 refl) asks
 
 -- a file is made, or isn't
 pub asks-made : {T E : Type 0} (opened : List (List ℕ)) (name : List ℕ) (old new : List Asked) (result : Result T E) → AsksFor (Made name) old new result → AsksOnly opened (name ∷ []) old new
-asks-made opened name old new result asks = asks-one (IsBesides opened (name ∷ [])) (Made name) old new result (λ others. others.0 refl) asks
+asks-made opened name old new result asks = asks-one (IsNotAmong opened (name ∷ [])) (Made name) old new result (λ others. others.0 refl) asks

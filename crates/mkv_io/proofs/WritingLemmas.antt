@@ -1,7 +1,7 @@
 -- Calls that only write to live files, one after the other: laws for whoever writes files.
 use Rattle.std.proofs.Common.{◌≡◌, ◌≤◌, ℕ, Bool, true, false, MatchBool, List, [], ◌∷◌, Result, Ok, Err, refl, sym, ◌∙◌, ap, subst, arith}
-use Rattle.mkv_io.specs.Asked.{IsBesides}
-use Rattle.mkv_io.specs.Faults.{HasCause, HasRisen}
+use Rattle.mkv_io.specs.Asked.{IsNotAmong}
+use Rattle.mkv_io.specs.Faults.{HasCause, HasIncreased}
 use Rattle.mkv_io.specs.LiveFiles.{IsSameFile, KeepsHolders, LiveFiles}
 use Rattle.mkv_io.specs.Names.{AreOthers}
 use Rattle.mkv_io.specs.Seen.{ReadsNothing, StaysAtWriting}
@@ -72,7 +72,7 @@ UsesOnly-standing r f opened written old new stands given holders asked = record
     size = λ live. ap (λ standing. (r.files standing).size file) stands;
     content = λ live. ap (λ standing. (r.files standing).content file) stands;
   };
-  asks = asks-none (IsBesides opened written) (f.asked old) (f.asked new) asked;
+  asks = asks-none (IsNotAmong opened written) (f.asked old) (f.asked new) asked;
 }
 
 -- ---- calls that open none
@@ -122,7 +122,7 @@ pub HasCause-later : {T E : Type 0} (is_fault : E → Bool) (before now : ℕ) (
 HasCause-later is_fault before now (Ok value) is = omega (arith, is)
 HasCause-later is_fault before now (Err fault) cause = step (is_fault fault) cause
   where
-    step : (told : Bool) → MatchBool told (HasRisen before now) (now ≡ before) → before ≤ now
+    step : (told : Bool) → MatchBool told (HasIncreased before now) (now ≡ before) → before ≤ now
     step true rose = rose.later
     step false same = omega (arith, same)
 
@@ -138,7 +138,7 @@ WritesOnly-one r f old new file is_fault result stays cause unread = record {
     given = let given = stays.given in omega (arith, given);
     holders = stays.holders;
     others = λ other differs. stays.others other (λ same. differs.0 (sym same));
-    asks = asks-none (IsBesides [] (f.holder old file.n ∷ [])) (f.asked old) (f.asked new) stays.asks;
+    asks = asks-none (IsNotAmong [] (f.holder old file.n ∷ [])) (f.asked old) (f.asked new) stays.asks;
   };
   given = stays.given;
   reading = unread.reading;

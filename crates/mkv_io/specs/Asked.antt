@@ -20,10 +20,10 @@ abbrev pub AsksNone : (Asked → Type 0) → List Asked → List Asked → Type 
 AsksNone Are old new = (name : Asked) → Are name → IsUnasked name old → IsUnasked name new
 
 -- An opening of none of the first names, or a making of none of the second.
-abbrev pub IsBesides : List (List ℕ) → List (List ℕ) → Asked → Type 0
-IsBesides opened made (Opened name) = AreOthers name opened
-IsBesides opened made (Made name) = AreOthers name made
+abbrev pub IsNotAmong : List (List ℕ) → List (List ℕ) → Asked → Type 0
+IsNotAmong opened made (Opened name) = AreOthers name opened
+IsNotAmong opened made (Made name) = AreOthers name made
 
 -- Of what wasn't asked for before only the first names were opened since, and only the second were made.
 abbrev pub AsksOnly : List (List ℕ) → List (List ℕ) → List Asked → List Asked → Type 0
-AsksOnly opened made old new = AsksNone (IsBesides opened made) old new
+AsksOnly opened made old new = AsksNone (IsNotAmong opened made) old new

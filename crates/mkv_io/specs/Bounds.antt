@@ -1,7 +1,7 @@
 -- How many octets a call may read.
 use Rattle.std.specs.Prelude.{◌≤◌, ℕ, ◌+◌, List, Option}
 use Rattle.mkv_io.specs.Sources.{file_size}
-use Rattle.mkv_io.specs.Told.{Told}
+use Rattle.mkv_io.specs.Told.{IfVisible}
 use Rattle.mkv_io.specs.declared.outside.FileId.{FileId}
 use Rattle.mkv_io.specs.declared.reads.Reads.{Ghosts}
 use Rattle.mkv_io.specs.declared.files.Files as writing
@@ -16,4 +16,4 @@ ReadsOf r old new file most = ReadsUpTo r old new (most (file_size r old file))
 
 -- At most as many octets more were read as a bound allows that is reckoned from the world of names, where that is told.
 abbrev pub ReadsByNames : {S : Type 0} → Ghosts S → writing.Ghosts S → S → S → ((List ℕ → Option (List ℕ)) → ℕ) → Type 0
-ReadsByNames r f old new most = Told (f.names old) (λ world. ReadsUpTo r old new (most world))
+ReadsByNames r f old new most = IfVisible (f.names old) (λ world. ReadsUpTo r old new (most world))

@@ -17,19 +17,19 @@ abbrev pub counted : ℕ → ℕ → ℕ
 counted count n = min (count + n) last_count
 
 -- The count rose, or stands at its last value.
-abbrev pub Rose : ℕ → ℕ → Type 0
-Rose before now = counted before 1 ≤ now
+abbrev pub Increased : ℕ → ℕ → Type 0
+Increased before now = counted before 1 ≤ now
 
 -- The count has not fallen, and it rose.
-pub record HasRisen (before now : ℕ) : Type 0 where
+pub record HasIncreased (before now : ℕ) : Type 0 where
   pub later : before ≤ now
-  pub rose : Rose before now
+  pub rose : Increased before now
 
 -- A call that tells a fault has counted it, and a call that ends in any other way leaves the count. The test says
 -- which refusals tell a fault of this count.
 abbrev pub HasCause : {T E : Type 0} → (E → Bool) → ℕ → ℕ → Result T E → Type 0
 HasCause is_fault before now (Ok _) = now ≡ before
-HasCause is_fault before now (Err e) = MatchBool (is_fault e) (HasRisen before now) (now ≡ before)
+HasCause is_fault before now (Err e) = MatchBool (is_fault e) (HasIncreased before now) (now ≡ before)
 
 -- ---- the refusals that tell a fault
 

@@ -3,7 +3,7 @@ use Rattle.std.specs.Prelude.{◌≡◌, ◌≢◌, ◌<◌, ◌≤◌, ℕ, Lis
 use Rattle.mkv_io.specs.LiveFiles.{Appends, AppendsPart, KeepsFiles, KeepsHolders, Overwrites, OverwritesWithin}
 use Rattle.mkv_io.specs.Names.{MayEmpty, Names, with_content}
 use Rattle.mkv_io.specs.Sources.{IsLive, content_of, file_size, live_files}
-use Rattle.mkv_io.specs.Told.{Told}
+use Rattle.mkv_io.specs.Told.{IfVisible}
 use Rattle.mkv_io.specs.declared.asked.Asked.{Asked}
 use Rattle.mkv_io.specs.declared.outside.FileId.{FileId}
 use Rattle.mkv_io.specs.declared.outside.MakeFault.{MakeFault}
@@ -66,7 +66,7 @@ pub record IsNewFile {S : Type 0} (r : Ghosts S) (held : S → ℕ → List ℕ)
 -- A new file has the content that its name had, where contents are told.
 pub record IsOpenedFile {S : Type 0} (r : Ghosts S) (contents : S → Names) (held : S → ℕ → List ℕ) (numbers : S → ℕ) (old new : S) (name : List ℕ) (file : FileId) : Type 0 where
   pub is_new : IsNewFile r held numbers old new name file
-  pub content : Told (contents old) (λ world. content_of r new file ≡ world name)
+  pub content : IfVisible (contents old) (λ world. content_of r new file ≡ world name)
 
 -- A new file is empty, and so is the content of its name, whatever it was.
 pub record IsMadeFile {S : Type 0} (r : Ghosts S) (contents : S → Names) (held : S → ℕ → List ℕ) (numbers : S → ℕ) (old new : S) (name : List ℕ) (file : FileId) : Type 0 where

@@ -2,7 +2,7 @@
 use Rattle.std.specs.Prelude.{◌≡◌, ◌≤◌, ℕ, List, Option, Result, IfOk, IsTrue}
 use Rattle.mkv_io.specs.declared.outside.FileId.{FileId}
 use Rattle.mkv_io.specs.LiveFiles.{LiveFiles}
-use Rattle.mkv_io.specs.Told.{Told}
+use Rattle.mkv_io.specs.Told.{IfVisible}
 use Rattle.mkv_io.specs.declared.reads.Reads.{Ghosts}
 
 -- the live files
@@ -23,7 +23,7 @@ content_of g s file = (live_files g s).content file.n
 
 -- a fact of it
 abbrev pub IfTold : {S : Type 0} → Ghosts S → S → FileId → (List ℕ → Type 0) → Type 0
-IfTold g s file P = Told (content_of g s file) P
+IfTold g s file P = IfVisible (content_of g s file) P
 
 -- A call that only reads leaves all that stands. Its counts don't fall.
 pub record OnlyReads {S : Type 0} (g : Ghosts S) (old new : S) : Type 0 where

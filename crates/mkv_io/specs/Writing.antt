@@ -6,7 +6,7 @@ use Rattle.mkv_io.specs.Names.{AreOthers}
 use Rattle.mkv_io.specs.Sources.{live_files}
 use Rattle.mkv_io.specs.declared.reads.Reads.{Ghosts}
 use Rattle.mkv_io.specs.declared.files.Files as writing
-use Rattle.mkv_io.specs.Told.{Told}
+use Rattle.mkv_io.specs.Told.{IfVisible}
 
 -- A call opens files of the first names alone, and makes or writes those of the second alone. Which files are live stays, and
 -- under which names; what stands under no name of the second stays the same. A number that was given stays so.
@@ -32,4 +32,4 @@ pub record WritesOnly {S : Type 0} (r : Ghosts S) (f : writing.Ghosts S) (names 
 
 -- a fact of an answer and of the contents of names, where there are both
 abbrev pub IfByNames : {S T E : Type 0} → writing.Ghosts S → S → Result T E → ((List ℕ → Option (List ℕ)) → T → Type 0) → Type 0
-IfByNames f old result P = Told (f.names old) (λ world. IfOk result (P world))
+IfByNames f old result P = IfVisible (f.names old) (λ world. IfOk result (P world))

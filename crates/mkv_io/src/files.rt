@@ -8,7 +8,7 @@ ghost use Rattle.mkv_io.specs.Faults.{HasCause, is_failure, is_make_failure, is_
 ghost use Rattle.mkv_io.specs.Names.{Names};
 ghost use Rattle.mkv_io.specs.Seen.{AddsOctets, AddsFirst, IsMadeFile, IsOpenedFile, LeavesUnmade, Puts, PutsSome, ReadsNothing, StaysAtClosing, StaysAtMaking, StaysAtOpening, StaysAtWriting};
 ghost use Rattle.mkv_io.specs.Sources.{IsLive, file_size, live_files};
-ghost use Rattle.mkv_io.specs.Told.{Told};
+ghost use Rattle.mkv_io.specs.Told.{IfVisible};
 ghost use Rattle.mkv_io.specs.declared.outside.TheConstants.{LONGEST_FILE};
 
 use crate::outside::{Failed, FileId, MakeFault, OpenFault};
@@ -34,7 +34,7 @@ pub trait Files: Reads {
 
     /// Opens the file of a name.
     fn open_file(&mut self, name: &str) -> Result<FileId, OpenFault>
-        ensures missing { Told (names self.old) (λ world. IsErrOf result OpenFault.Missing ↔ (world name.now ≡ None)) }
+        ensures missing { IfVisible (names self.old) (λ world. IsErrOf result OpenFault.Missing ↔ (world name.now ≡ None)) }
         ensures opened { IfOk result (IsOpenedFile Self.Reads names holder given self.old self.new name.now) }
 
         // At the last number no file is opened.
@@ -96,10 +96,10 @@ pub trait Files: Reads {
         ensures unread { ReadsNothing Self.Reads self.old self.new };
 
     /// Where the names are told, a live file's content is that of the name under which it was opened.
-    ghost named: { (x : Self) (file : ℕ) → (Self.Reads.files (Self.Reads.standing x)).live file ≡ true → Told (names x) (λ world. (Self.Reads.files (Self.Reads.standing x)).content file ≡ world (holder x file)) };
+    ghost named: { (x : Self) (file : ℕ) → (Self.Reads.files (Self.Reads.standing x)).live file ≡ true → IfVisible (names x) (λ world. (Self.Reads.files (Self.Reads.standing x)).content file ≡ world (holder x file)) };
 
     /// Where the names are told, the name of a live file has a content.
-    ghost there: { (x : Self) (file : ℕ) → (Self.Reads.files (Self.Reads.standing x)).live file ≡ true → Told (names x) (λ world. is_some (world (holder x file)) ≡ true) };
+    ghost there: { (x : Self) (file : ℕ) → (Self.Reads.files (Self.Reads.standing x)).live file ≡ true → IfVisible (names x) (λ world. is_some (world (holder x file)) ≡ true) };
 
     /// A live file's number was given to it.
     ghost numbered: { (x : Self) (file : ℕ) → (Self.Reads.files (Self.Reads.standing x)).live file ≡ true → file < given x };

@@ -3,7 +3,7 @@
 ghost use Rattle.std.specs.Prelude.{◌≡◌, ℕ, ◌+◌, ◌≤◌, Bool, true, List, length, Option, OnOk, IsTrue};
 ghost use Rattle.mkv_io.specs.Faults.{HasCause, is_failure};
 ghost use Rattle.mkv_io.specs.LiveFiles.{LiveFiles};
-ghost use Rattle.mkv_io.specs.Told.{AreOctetsFrom, Counts, Told};
+ghost use Rattle.mkv_io.specs.Told.{AreOctetsFrom, Counts, IfVisible};
 ghost use Rattle.mkv_io.specs.declared.outside.TheConstants.{LONGEST_FILE};
 
 use crate::outside::{Failed, FileId};
@@ -48,7 +48,7 @@ pub trait Reads {
         ensures octets { OnOk result (Counts (files (standing self.old)) file octets_read self.old self.new into.old) };
 
     /// A content that is told has the file's length.
-    ghost told_size: { (s : Standing) (file : ℕ) → Told ((files s).content file) (λ bytes. length bytes ≡ (files s).size file) };
+    ghost told_size: { (s : Standing) (file : ℕ) → IfVisible ((files s).content file) (λ bytes. length bytes ≡ (files s).size file) };
 
     /// No live file is longer than 2^48 octets.
     ghost short: { (x : Self) (file : ℕ) → (files (standing x)).live file ≡ true → (files (standing x)).size file ≤ LONGEST_FILE };

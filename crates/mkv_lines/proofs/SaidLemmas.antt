@@ -2,7 +2,7 @@
 use Rattle.std.proofs.Common.{◌≡◌, ℕ, List, [], ◌++◌, append_assoc, append-nil, Some, None, Result, Ok, Err, refl, sym, ◌∙◌, ap}
 use Rattle.mkv_io.specs.Lines.{with_lines}
 use Rattle.mkv_lines.specs.Said.{ReportLines, Says, SaysPart, SaysUpTo}
-use Rattle.mkv_lines.specs.declared.status.Stop.{Stop}
+use Rattle.mkv_lines.specs.declared.status.CommandEnd.{CommandEnd}
 
 -- no line adds nothing
 pub with_lines-none : (old : ReportLines) → with_lines old [] ≡ old
@@ -42,7 +42,7 @@ SaysPart-behind old mid new xs ys first part = record {
 -- ---- one call after the other
 
 -- the first call has said its lines, and the second says its own
-pub Says-then : {T : Type 0} (old mid new : ReportLines) (xs ys : List (List ℕ)) (r : Result T Stop) → mid ≡ with_lines old xs → Says mid new ys r → Says old new (xs ++ ys) r
+pub Says-then : {T : Type 0} (old mid new : ReportLines) (xs ys : List (List ℕ)) (r : Result T CommandEnd) → mid ≡ with_lines old xs → Says mid new ys r → Says old new (xs ++ ys) r
 Says-then old mid new xs ys (Ok done) first second = second ∙ ap (λ (held : ReportLines). with_lines held ys) first ∙ with_lines-both old xs ys
 Says-then old mid new xs ys (Err why) first second = SaysPart-behind old mid new xs ys first second
 

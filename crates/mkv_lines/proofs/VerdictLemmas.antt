@@ -7,7 +7,7 @@ use Rattle.mkv_lines.specs.Said.{ReportLines, Says, SaysPart}
 use Rattle.mkv_lines.specs.Seen.{Seen}
 use Rattle.mkv_lines.specs.Verdict.{IsStopped, Leaves, WrittenOutputs, Reaches, SaysVerdict, Verdict, at_once, in_turn, list_of, nothing}
 use Rattle.mkv_lines.specs.declared.status.Status.{Status}
-use Rattle.mkv_lines.specs.declared.status.Stop.{Stop}
+use Rattle.mkv_lines.specs.declared.status.CommandEnd.{CommandEnd}
 use Rattle.mkv_lines.proofs.SaidLemmas.{SaysPart-behind, SaysPart-none, Says-then}
 
 -- nothing was written yet
@@ -27,7 +27,7 @@ IsStopped-before old new v lines names = inl (
 )
 
 -- a command whose outputs stand whole, and that says the lines behind them, reaches its verdict or stops there
-pub Reaches-behind : (old new : Seen) (mid : ReportLines) (r : Result Status Stop) (v : Verdict) (behind : List (List ℕ)) → v.lines ≡ v.before ++ behind → mid ≡ with_lines old.lines v.before → Says mid new.lines behind r → IfOk r (λ s. s ≡ v.status) → new.names ≡ with_outputs old.names (list_of v.outputs) → Reaches old new r v
+pub Reaches-behind : (old new : Seen) (mid : ReportLines) (r : Result Status CommandEnd) (v : Verdict) (behind : List (List ℕ)) → v.lines ≡ v.before ++ behind → mid ≡ with_lines old.lines v.before → Says mid new.lines behind r → IfOk r (λ s. s ≡ v.status) → new.names ≡ with_outputs old.names (list_of v.outputs) → Reaches old new r v
 Reaches-behind old new mid (Ok s) v behind whole said says status names = (
   status,
   record { lines = Says-then old.lines mid new.lines v.before behind (Ok s) said says ∙ ap (with_lines old.lines) (sym whole); names = names },
@@ -36,7 +36,7 @@ Reaches-behind old new mid (Err why) v behind whole said says status names =
     inr (subst (SaysPart old.lines new.lines) (sym whole) (SaysPart-behind old.lines mid new.lines v.before behind said says), names)
 
 -- a command that has said its verdict and writes nothing has reached it
-pub Reaches-lines : (old new : Seen) (r : Result Status Stop) (v : Verdict) → SaysVerdict old.lines new.lines r v → v.outputs ≡ nothing → new.names ≡ old.names → Reaches old new r v
+pub Reaches-lines : (old new : Seen) (r : Result Status CommandEnd) (v : Verdict) → SaysVerdict old.lines new.lines r v → v.outputs ≡ nothing → new.names ≡ old.names → Reaches old new r v
 Reaches-lines old new (Ok s) v says none same =
     (says.0, record { lines = says.1; names = same ∙ sym (ap (λ (outputs : WrittenOutputs). with_outputs old.names (list_of outputs)) none) })
 Reaches-lines old new (Err e) v says none same =

@@ -6,8 +6,8 @@ use Rattle.mkv_io.specs.declared.outside.ReadEnd.{ReadEnd}
 use Rattle.mkv_io.specs.declared.outside.ReadEnd.TheVariants as read_end
 use Rattle.mkv_io.specs.declared.remux_end.RemuxEnd.{RemuxEnd}
 use Rattle.mkv_io.specs.declared.remux_end.RemuxEnd.TheVariants as remux_end
-use Rattle.mkv_lines.specs.declared.status.Stop.{Stop}
-use Rattle.mkv_lines.specs.declared.status.Stop.TheVariants as stop
+use Rattle.mkv_lines.specs.declared.status.CommandEnd.{CommandEnd}
+use Rattle.mkv_lines.specs.declared.status.CommandEnd.TheVariants as stop
 
 -- the number with which the program ends
 abbrev pub code_of : Status → ℕ
@@ -18,17 +18,17 @@ code_of NoMemory = 3
 code_of Outside = 4
 
 -- why a command stops where a call that read a file ended early, and where one did that wrote files, too
-abbrev pub read_stop : ReadEnd → Stop
+abbrev pub read_stop : ReadEnd → CommandEnd
 read_stop read_end.ReadFault = stop.Files
 read_stop read_end.Memory = stop.Memory
 
-abbrev pub stop_of : RemuxEnd → Stop
+abbrev pub stop_of : RemuxEnd → CommandEnd
 stop_of remux_end.ReadFault = stop.Files
 stop_of remux_end.WriteFault = stop.Files
 stop_of remux_end.Memory = stop.Memory
 
 -- the status with which a run ends whose command ended so
-abbrev pub status_of : Result Status Stop → Status
+abbrev pub status_of : Result Status CommandEnd → Status
 status_of (Ok s) = s
 status_of (Err stop.Memory) = NoMemory
 status_of (Err _) = Outside

@@ -1,8 +1,8 @@
 -- The counts of faults of what a run is given, and which of them rose.
 use Rattle.std.specs.Prelude.{◌≡◌, ℕ, ◌⊎◌, Result, Ok, Err}
-use Rattle.mkv_io.specs.Faults.{HasRisen}
-use Rattle.mkv_lines.specs.declared.status.Stop.{Stop}
-use Rattle.mkv_lines.specs.declared.status.Stop.TheVariants as stop
+use Rattle.mkv_io.specs.Faults.{HasIncreased}
+use Rattle.mkv_lines.specs.declared.status.CommandEnd.{CommandEnd}
+use Rattle.mkv_lines.specs.declared.status.CommandEnd.TheVariants as stop
 
 -- how often opening or reading failed, making or writing, and saying a line
 pub record Counts : Type 0 where
@@ -12,14 +12,14 @@ pub record Counts : Type 0 where
 
 -- The files failed.
 abbrev pub FilesRose : Counts → Counts → Type 0
-FilesRose old new = HasRisen old.reading new.reading ⊎ HasRisen old.writing new.writing
+FilesRose old new = HasIncreased old.reading new.reading ⊎ HasIncreased old.writing new.writing
 
 -- The report failed.
 abbrev pub ReportRose : Counts → Counts → Type 0
-ReportRose old new = HasRisen old.report new.report
+ReportRose old new = HasIncreased old.report new.report
 
 -- why a command over the files stops: a fault is told only where its count rose, and no other count does
-abbrev pub HasStopCause : {T : Type 0} → Counts → Counts → Result T Stop → Type 0
+abbrev pub HasStopCause : {T : Type 0} → Counts → Counts → Result T CommandEnd → Type 0
 HasStopCause old new (Ok _) = new ≡ old
 HasStopCause old new (Err stop.Memory) = new ≡ old
 HasStopCause old new (Err stop.Files) = FilesRose old new × (new.report ≡ old.report)
@@ -27,9 +27,9 @@ HasStopCause old new (Err stop.Disk) = ⊥
 HasStopCause old new (Err stop.Report) = ReportRose old new × (new ≡ record old { report = new.report })
 
 -- the same of a call that only reads and says lines, by the counts of reading and of the report
-abbrev pub HasReadStop : {T : Type 0} → ℕ → ℕ → ℕ → ℕ → Result T Stop → Type 0
+abbrev pub HasReadStop : {T : Type 0} → ℕ → ℕ → ℕ → ℕ → Result T CommandEnd → Type 0
 HasReadStop reading now report_was report (Ok _) = (now ≡ reading) × (report ≡ report_was)
 HasReadStop reading now report_was report (Err stop.Memory) = (now ≡ reading) × (report ≡ report_was)
-HasReadStop reading now report_was report (Err stop.Files) = HasRisen reading now × (report ≡ report_was)
+HasReadStop reading now report_was report (Err stop.Files) = HasIncreased reading now × (report ≡ report_was)
 HasReadStop reading now report_was report (Err stop.Disk) = ⊥
-HasReadStop reading now report_was report (Err stop.Report) = (now ≡ reading) × HasRisen report_was report
+HasReadStop reading now report_was report (Err stop.Report) = (now ≡ reading) × HasIncreased report_was report

@@ -2,15 +2,15 @@
 use Rattle.std.specs.Prelude.{◌≡◌, ◌⊎◌, ℕ, Bool, true, false, List, [], ◌∷◌, Result, Ok, Err}
 use Rattle.mkv_io.specs.Lines.{with_lines}
 use Rattle.mkv_io.specs.Names.{Names}
-use Rattle.mkv_outputs.specs.Drafts.{Draft, StandsInTurn, outputs_of}
+use Rattle.mkv_outputs.specs.Drafts.{Draft, AreWrittenInOrder, outputs_of}
 use Rattle.mkv_outputs.specs.Outputs.{Output, with_outputs}
-use Rattle.mkv_outputs.specs.Starts.{StandsInPart}
+use Rattle.mkv_outputs.specs.Starts.{ArePrefixes}
 use Rattle.mkv_lines.specs.Line.{pending_edit_line}
 use Rattle.mkv_lines.specs.Said.{ReportLines, SaysPart}
 use Rattle.mkv_lines.specs.Seen.{Seen}
 use Rattle.mkv_lines.specs.declared.status.Status.{Status}
 use Rattle.mkv_lines.specs.declared.status.Status.TheVariants as status
-use Rattle.mkv_lines.specs.declared.status.Stop.{Stop}
+use Rattle.mkv_lines.specs.declared.status.CommandEnd.{CommandEnd}
 
 -- Outputs are written side by side, as an extraction's, or one after the other, as a merge's parts.
 pub data WrittenOutputs : Type 0 where
@@ -52,7 +52,7 @@ unless_pending name false v = v
 
 -- A command that writes nothing has said the lines of its verdict, and then its status is the verdict's; or it
 -- has stopped on the way.
-abbrev pub SaysVerdict : ReportLines → ReportLines → Result Status Stop → Verdict → Type 0
+abbrev pub SaysVerdict : ReportLines → ReportLines → Result Status CommandEnd → Verdict → Type 0
 SaysVerdict old new (Ok s) v = (s ≡ v.status) × (new ≡ with_lines old v.lines)
 SaysVerdict old new (Err e) v = SaysPart old new v.lines
 
@@ -63,8 +63,8 @@ pub record IsDone (old new : Seen) (v : Verdict) : Type 0 where
 
 -- What stands of outputs that aren't whole.
 abbrev pub Leaves : Names → Names → WrittenOutputs → Type 0
-Leaves old new (at_once all) = StandsInPart old new all
-Leaves old new (in_turn all) = StandsInTurn old new all
+Leaves old new (at_once all) = ArePrefixes old new all
+Leaves old new (in_turn all) = AreWrittenInOrder old new all
 
 -- A command stops before its outputs stand whole, and has said so much of the lines before them; or behind, and so much of all its lines.
 abbrev pub StopsSaying : (List (List ℕ) → Type 0) → Names → Names → Verdict → Type 0
@@ -75,6 +75,6 @@ abbrev pub IsStopped : Seen → Seen → Verdict → Type 0
 IsStopped old new v = StopsSaying (SaysPart old.lines new.lines) old.names new.names v
 
 -- A command has reached its verdict, or it has stopped on the way.
-abbrev pub Reaches : Seen → Seen → Result Status Stop → Verdict → Type 0
+abbrev pub Reaches : Seen → Seen → Result Status CommandEnd → Verdict → Type 0
 Reaches old new (Ok s) v = (s ≡ v.status) × IsDone old new v
 Reaches old new (Err e) v = IsStopped old new v

@@ -11,4 +11,4 @@ mod status;
 pub use line::Line;
 pub use saying::{refuse, say, say_disk_fault, say_files_fault, say_text};
 pub use shown::ShownTrack;
-pub use status::{Status, Stop, stop_of};
+pub use status::{CommandEnd, Status, stop_of};

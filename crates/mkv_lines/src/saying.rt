@@ -7,39 +7,39 @@ ghost use Rattle.mkv_lines.specs.Said.{HasSayCause, Says, SaysLast};
 ghost use Rattle.mkv_lines.specs.Verdict.{SaysVerdict, refused};
 
 use crate::line::Line;
-use crate::status::{Status, Stop};
+use crate::status::{CommandEnd, Status};
 use mkv_io::{Failed, Report};
 use std::alloc::Global;
 
 /// Says a line. Where the report fails it is there or not.
-pub fn say<R: Report>(alloc: Global, report: &mut R, line: &Line) -> Result<(), Stop>
+pub fn say<R: Report>(alloc: Global, report: &mut R, line: &Line) -> Result<(), CommandEnd>
     ensures said { Says (R.lines report.old) (R.lines report.new) (text_of line.now ∷ []) result }
     ensures cause { HasSayCause (R.faults report.old) (R.faults report.new) result }
     ensures last { SaysLast (R.lines report.old) (R.lines report.new) result }
 {
     let Ok(text) = format!(in alloc; "{line}") else {
-        return Err(Stop::Memory);
+        return Err(CommandEnd::Memory);
     };
     match report.say(&text) {
         Ok(()) => Ok(()),
-        Err(_) => Err(Stop::Report),
+        Err(_) => Err(CommandEnd::Report),
     }
 }
 
 /// Says a text as a line, which takes no memory.
-pub fn say_text<R: Report>(report: &mut R, text: &str) -> Result<(), Stop>
+pub fn say_text<R: Report>(report: &mut R, text: &str) -> Result<(), CommandEnd>
     ensures said { Says (R.lines report.old) (R.lines report.new) (text.now ∷ []) result }
-    ensures memory { result ≡ Err Stop.Memory → ⊥ }
+    ensures memory { result ≡ Err CommandEnd.Memory → ⊥ }
     ensures cause { HasSayCause (R.faults report.old) (R.faults report.new) result }
 {
     match report.say(text) {
         Ok(()) => Ok(()),
-        Err(Failed) => Err(Stop::Report),
+        Err(Failed) => Err(CommandEnd::Report),
     }
 }
 
 /// Says why a command does nothing.
-pub fn refuse<R: Report>(alloc: Global, why: &Line, report: &mut R) -> Result<Status, Stop>
+pub fn refuse<R: Report>(alloc: Global, why: &Line, report: &mut R) -> Result<Status, CommandEnd>
     ensures verdict { SaysVerdict (R.lines report.old) (R.lines report.new) result (refused (text_of why.now)) }
     ensures ordinary { IfOk result IsOrdinary }
     ensures cause { HasSayCause (R.faults report.old) (R.faults report.new) result }
@@ -50,18 +50,18 @@ pub fn refuse<R: Report>(alloc: Global, why: &Line, report: &mut R) -> Result<St
 }
 
 /// Says that the files failed, which takes no memory.
-pub fn say_files_fault<R: Report>(report: &mut R) -> Result<(), Stop>
+pub fn say_files_fault<R: Report>(report: &mut R) -> Result<(), CommandEnd>
     ensures said { Says (R.lines report.old) (R.lines report.new) (files_fault_line ∷ []) result }
-    ensures memory { result ≡ Err Stop.Memory → ⊥ }
+    ensures memory { result ≡ Err CommandEnd.Memory → ⊥ }
     ensures cause { HasSayCause (R.faults report.old) (R.faults report.new) result }
 {
     say_text(report, "fault: files")
 }
 
 /// Says that the disk failed, which takes no memory.
-pub fn say_disk_fault<R: Report>(report: &mut R) -> Result<(), Stop>
+pub fn say_disk_fault<R: Report>(report: &mut R) -> Result<(), CommandEnd>
     ensures said { Says (R.lines report.old) (R.lines report.new) (disk_fault_line ∷ []) result }
-    ensures memory { result ≡ Err Stop.Memory → ⊥ }
+    ensures memory { result ≡ Err CommandEnd.Memory → ⊥ }
     ensures cause { HasSayCause (R.faults report.old) (R.faults report.new) result }
 {
     say_text(report, "fault: disk")

@@ -37,7 +37,7 @@ impl Status {
 
 /// Why a command stops before its end.
 #[derive(Clone, Copy, Debug, PartialEq, Eq)]
-pub enum Stop {
+pub enum CommandEnd {
     /// There is no memory.
     Memory,
     /// The files failed.
@@ -48,25 +48,25 @@ pub enum Stop {
     Report,
 }
 
-impl From<ReadEnd> for Stop {
+impl From<ReadEnd> for CommandEnd {
     ghost use Rattle.mkv_lines.specs.Code.{read_stop};
 
     ghost from_gives = { λ why stop. stop ≡ read_stop why };
 
-    fn from(why: ReadEnd) -> Stop {
+    fn from(why: ReadEnd) -> CommandEnd {
         match why {
-            ReadEnd::ReadFault => Stop::Files,
-            ReadEnd::Memory => Stop::Memory,
+            ReadEnd::ReadFault => CommandEnd::Files,
+            ReadEnd::Memory => CommandEnd::Memory,
         }
     }
 }
 
 /// Why a command stops where a call that reads and writes files ended early.
-pub fn stop_of(end: RemuxEnd) -> Stop
+pub fn stop_of(end: RemuxEnd) -> CommandEnd
     ensures { result ≡ stop_of end }
 {
     match end {
-        RemuxEnd::ReadFault | RemuxEnd::WriteFault => Stop::Files,
-        RemuxEnd::Memory => Stop::Memory,
+        RemuxEnd::ReadFault | RemuxEnd::WriteFault => CommandEnd::Files,
+        RemuxEnd::Memory => CommandEnd::Memory,
     }
 }

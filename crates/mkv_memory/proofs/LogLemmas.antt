@@ -11,7 +11,7 @@ use Rattle.mkv_disk.specs.Pair.{Pair, both, file_of, on}
 use Rattle.mkv_memory.specs.Changes.{CanChange, CanReplay, Change, Made, changed_by, cut, first_pair, octets_in, octets_of, pair_of, reads_by, replay, step, synced, written}
 use Rattle.mkv_memory.specs.LogIn.{IsLogOf, change_of, is_same, logged, made_by, made_in, octets_by, octets_done}
 use Rattle.mkv_memory.specs.Logged.{Logged, and_then, has_room}
-use Rattle.mkv_memory.specs.declared.logged_pair.Room.{Room}
+use Rattle.mkv_memory.specs.declared.logged_pair.CallBudget.{CallBudget}
 use Rattle.mkv_memory.specs.declared.done.Call.{Call}
 use Rattle.mkv_memory.specs.declared.done.Done.{Done}
 use Rattle.mkv_memory.specs.declared.done.Done.TheVariants.{Wrote, Cut, Synced}
@@ -98,7 +98,7 @@ can-sidecar n c p reads isnt same can = subst (CanChange c) (ap (λ (f : DiskFil
 
 -- ---- a pair that is logged
 
-module _ (fm fs : List ℕ) (room : Room) (calls : List Call) (octets : List ℕ) (count : length octets ≡ octets_by calls) where
+module _ (fm fs : List ℕ) (room : CallBudget) (calls : List Call) (octets : List ℕ) (count : length octets ≡ octets_by calls) where
   -- what is kept
   abbrev pub kept : Logged
   kept = logged fm fs calls octets room
@@ -121,7 +121,7 @@ module _ (fm fs : List ℕ) (room : Room) (calls : List Call) (octets : List ℕ
   pub pair-more : (call : Call) (bytes : List ℕ) → pair_of (and_then kept call.file.n (change_of call.done bytes)).history ≡ on call.file.n (changed_by (change_of call.done bytes)) (pair_of kept.history)
   pair-more call bytes = replay-append (made_in calls octets) (made_by call bytes) (first_pair kept.history)
 
-module _ (fm fs : List ℕ) (room : Room) (media sidecar octets octets' : Vec ℕ Global) (calls calls' : Vec Call Global)
+module _ (fm fs : List ℕ) (room : CallBudget) (media sidecar octets octets' : Vec ℕ Global) (calls calls' : Vec Call Global)
     (was : IsLogOf (logged fm fs calls.items octets.items room) media sidecar octets calls)
     (call : Call) (bytes : List ℕ) (count : length bytes ≡ octets_done call.done) (fits : length octets.items + length bytes ≤ room.octets)
     (octets_are : octets'.items ≡ octets.items ++ bytes) (calls_are : calls'.items ≡ calls.items ++ call ∷ [])

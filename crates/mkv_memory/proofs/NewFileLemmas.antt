@@ -3,7 +3,7 @@ use Rattle.std.proofs.Common.{◌≡◌, ◌≢◌, ◌≤◌, ◌<◌, ℕ, Lis
 use Rattle.mkv_io.specs.Names.{Names, with_content}
 use Rattle.mkv_io.specs.Seen.{IsMadeFile, IsOpenedFile, StayLive}
 use Rattle.mkv_io.specs.Sources.{IsLive, content_of, file_size}
-use Rattle.mkv_io.specs.Told.{Told}
+use Rattle.mkv_io.specs.Told.{IfVisible}
 use Rattle.mkv_io.specs.declared.outside.FileId.{FileId}
 use Rattle.mkv_io.specs.declared.reads.Reads.{Ghosts}
 
@@ -12,7 +12,7 @@ pub opened : {S E : Type 0} (r : Ghosts S) (names : S → Names) (holder : S →
     → IfOk result (λ file. IsLive r new file)
     → IfOk result (λ file. StayLive r old new (λ other. other ≢ file.n))
     → IfOk result (λ file. holder new file.n ≡ name)
-    → IfOk result (λ file. Told (names old) (λ world. content_of r new file ≡ world name))
+    → IfOk result (λ file. IfVisible (names old) (λ world. content_of r new file ≡ world name))
     → IfOk result (IsOpenedFile r names holder given old new name)
 opened r names holder given old new name (Ok file) number live alone held content = record {
   is_new = record { number = number; live = live; alone = alone; holder = held };

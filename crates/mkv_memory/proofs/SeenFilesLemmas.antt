@@ -7,7 +7,7 @@ use Rattle.mkv_io.specs.declared.outside.MakeFault.{MakeFault}
 use Rattle.mkv_io.specs.declared.outside.MakeFault.TheVariants as make_fault
 use Rattle.mkv_io.specs.Contents.{with_appended, with_overwritten}
 use Rattle.mkv_io.specs.LiveFiles.{Appends, AppendsPart, KeepsFiles, Overwrites, OverwritesWithin}
-use Rattle.mkv_io.specs.Told.{Told}
+use Rattle.mkv_io.specs.Told.{IfVisible}
 use Rattle.mkv_memory.specs.Stored.{Stored, content_of_file, files_of, holder_of, name_of_file, with_changed_file}
 use Rattle.mkv_memory.specs.SeenFiles.{SeenFiles, AppendsTo, CreatesName, OpensName, OverwritesIn, kept_by, is_too_much}
 use Rattle.mkv_memory.proofs.StoredLemmas.{ChangesStored, IsSound, ChangesStored-appended, ChangesStored-overwritten, IsSameFile-created, OverwritesWithin-nothing, content_of_file-told, size-created}
@@ -28,7 +28,7 @@ holder-live (Some name) live = refl
 -- ---- opening and making
 
 -- a file that is opened has the content that the name had
-pub OpensName-content : (old new : SeenFiles) (name : List ℕ) (result : Result FileId OpenFault) → OpensName old name result new → IfOk result (λ file. Told (Some old.stored.world) (λ world. content_of_file new.stored file.n ≡ world name))
+pub OpensName-content : (old new : SeenFiles) (name : List ℕ) (result : Result FileId OpenFault) → OpensName old name result new → IfOk result (λ file. IfVisible (Some old.stored.world) (λ world. content_of_file new.stored file.n ≡ world name))
 OpensName-content old new name (Ok file) opens =
     λ world told. content_of_file-told old.stored new.stored world name file.n (ap (λ (seen : SeenFiles). seen.stored) opens.3) opens.2 told
 OpensName-content old new name (Err fault) opens = tt

@@ -12,8 +12,8 @@ use Rattle.mkv_memory.specs.Changes.{BeginsWithin, CanChange, Change, changed_by
 use Rattle.mkv_memory.specs.Images.{blotted, image_of, is_written, mixed}
 use Rattle.mkv_memory.specs.SeenDisk.{is_too_long}
 use Rattle.mkv_memory.specs.Sound.{IsSound}
-use Rattle.mkv_memory.specs.declared.pending.Left.{Left}
-use Rattle.mkv_memory.specs.declared.pending.Left.TheVariants.{AsRead, AsSynced, Blotted, Mixed}
+use Rattle.mkv_memory.specs.declared.pending.CrashImage.{CrashImage}
+use Rattle.mkv_memory.specs.declared.pending.CrashImage.TheVariants.{AsRead, AsSynced, Blotted, Mixed}
 
 -- ---- what stays sound
 
@@ -153,7 +153,7 @@ mixed-at f k low least inside =
     ∙ ap (λ (q : ℕ × ℕ). (k, q)) (get_or-take f.least (zip f.reads f.synced) k (0, 0) inside ∙ get_or-zip f.reads f.synced k (0, 0) (omega arith) (omega arith)))
 
 -- each of them is one that a crash may leave
-pub picked : (left : Left) (f : DiskFile) → IsSound f → IsImage f (image_of left f)
+pub picked : (left : CrashImage) (f : DiskFile) → IsSound f → IsImage f (image_of left f)
 picked AsRead f sound = sound.reads
 picked AsSynced f sound = sound.synced
 picked Blotted f sound =
@@ -179,7 +179,7 @@ picked Mixed f sound =
     by_place k false same = same
 
 -- and no longer than a file may be
-pub picked-short : (left : Left) (f : DiskFile) → IsSound f → length (image_of left f) ≤ LONGEST_FILE
+pub picked-short : (left : CrashImage) (f : DiskFile) → IsSound f → length (image_of left f) ≤ LONGEST_FILE
 picked-short AsRead f sound = sound.short
 picked-short AsSynced f sound = sound.short_synced
 picked-short Blotted f sound = let size = length-blotted f in let short = sound.short in omega arith

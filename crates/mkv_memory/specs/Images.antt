@@ -2,16 +2,16 @@
 use Rattle.std.specs.Prelude.{ℕ, ◌%◌, ◌==◌, ◌&&◌, nat_le, nat_lt, Bool, if◌then◌else◌, List, map, take}
 use Rattle.std.specs.List.{enumerate_from, list_any, zip}
 use Rattle.mkv_disk.specs.Image.{DiskFile, Range}
-use Rattle.mkv_memory.specs.declared.pending.Left.{Left}
-use Rattle.mkv_memory.specs.declared.pending.Left.TheVariants.{AsRead, AsSynced, Blotted, Mixed}
+use Rattle.mkv_memory.specs.declared.pending.CrashImage.{CrashImage}
+use Rattle.mkv_memory.specs.declared.pending.CrashImage.TheVariants.{AsRead, AsSynced, Blotted, Mixed}
 
 -- the octet at a place was written since the file's last sync
 abbrev pub is_written : List Range → ℕ → Bool
 is_written written k = list_any (λ (r : Range). nat_le r.from k && nat_lt k r.to) written
 
 -- octets, with FF at the places that pass a test
-abbrev pub blot : (ℕ → Bool) → List ℕ → List ℕ
-blot test octets = map (λ (p : ℕ × ℕ). if test p.0 then 255 else p.1) (enumerate_from 0 octets)
+abbrev pub ff_where : (ℕ → Bool) → List ℕ → List ℕ
+ff_where test octets = map (λ (p : ℕ × ℕ). if test p.0 then 255 else p.1) (enumerate_from 0 octets)
 
 -- the first octets, so many: those at odd places from the second list, the others from the first
 abbrev pub mix : ℕ → List ℕ → List ℕ → List ℕ
@@ -19,20 +19,20 @@ mix n even odd = map (λ (p : ℕ × (ℕ × ℕ)). if p.0 % 2 == 1 then p.1.1 e
 
 -- what is read, with FF in each octet that was written since the last sync
 abbrev pub blotted : DiskFile → List ℕ
-blotted f = blot (is_written f.written) f.reads
+blotted f = ff_where (is_written f.written) f.reads
 
 -- the least length since the last sync: octets at odd places as at that sync, the others as read
 abbrev pub mixed : DiskFile → List ℕ
 mixed f = mix f.least f.reads f.synced
 
-abbrev pub image_of : Left → DiskFile → List ℕ
+abbrev pub image_of : CrashImage → DiskFile → List ℕ
 image_of AsRead f = f.reads
 image_of AsSynced f = f.synced
 image_of Blotted f = blotted f
 image_of Mixed f = mixed f
 
 -- What is left of the medium and of the sidecar, by the number of the pick.
-abbrev pub left_by : ℕ → Left × Left
+abbrev pub left_by : ℕ → CrashImage × CrashImage
 left_by pick =
     if pick == 0 then (AsRead, AsRead)
     else if pick == 1 then (AsSynced, AsSynced)

@@ -10,7 +10,7 @@ use Rattle.mkv_memory.specs.Logged.{Logged}
 use Rattle.mkv_memory.specs.declared.done.Call.{Call}
 use Rattle.mkv_memory.specs.declared.done.Done.{Done}
 use Rattle.mkv_memory.specs.declared.done.Done.TheVariants.{Wrote, Cut, Synced}
-use Rattle.mkv_memory.specs.declared.logged_pair.Room.{Room}
+use Rattle.mkv_memory.specs.declared.logged_pair.CallBudget.{CallBudget}
 
 -- how many octets a call wrote
 abbrev pub octets_done : Done → ℕ
@@ -52,7 +52,7 @@ is_same zero (suc m) = false
 is_same (suc n) zero = false
 is_same (suc n) (suc m) = true
 
-abbrev pub logged : List ℕ → List ℕ → List Call → List ℕ → Room → Logged
+abbrev pub logged : List ℕ → List ℕ → List Call → List ℕ → CallBudget → Logged
 logged media sidecar calls octets room = record {
   history = record { media = media; sidecar = sidecar; made = made_in calls octets };
   room = room;

@@ -14,7 +14,7 @@ use Rattle.mkv_memory.specs.Failing.{Failures, is_to_fail, no_failures, with_fai
 use Rattle.mkv_memory.specs.Failing as failing
 use Rattle.mkv_memory.specs.Images.{image_of, left_by}
 use Rattle.mkv_memory.specs.Logged.{Logged, and_then, has_room, unchanged}
-use Rattle.mkv_memory.specs.declared.logged_pair.Room.{Room}
+use Rattle.mkv_memory.specs.declared.logged_pair.CallBudget.{CallBudget}
 
 -- What was done to the two files, the name under which they were opened, which calls are to fail, and the counts.
 pub record SeenDisk : Type 0 where
@@ -33,11 +33,11 @@ pair_in d = pair_of d.logged.history
 abbrev pub reads_in : SeenDisk → ℕ → List ℕ
 reads_in d n = (file_of n (pair_in d)).reads
 
-abbrev pub room_for : ℕ → ℕ → Room
+abbrev pub room_for : ℕ → ℕ → CallBudget
 room_for calls octets = record { calls = calls; octets = octets }
 
 -- two files of which nothing is pending, and room for so much; no pair is open, and no call is to fail
-abbrev pub fresh : List ℕ → List ℕ → Room → SeenDisk
+abbrev pub fresh : List ℕ → List ℕ → CallBudget → SeenDisk
 fresh media sidecar room = record {
   logged = unchanged media sidecar room;
   opened = None;

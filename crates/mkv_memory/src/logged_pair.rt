@@ -16,7 +16,7 @@ use std::marker::Model;
 
 /// For how many calls that change a file there is room, and for how many octets that they write.
 #[derive(Clone, Copy)]
-pub struct Room {
+pub struct CallBudget {
     pub calls: u32,
     pub octets: u64,
 }
@@ -32,7 +32,7 @@ pub struct LoggedPair {
     calls: Vec<Call>,
     /// What the calls wrote, one's octets behind the other's.
     octets: Vec<u8>,
-    room: Room,
+    room: CallBudget,
 }
 
 impl Model for LoggedPair {
@@ -52,7 +52,7 @@ impl LoggedPair {
         alloc: Global,
         media: &[u8],
         sidecar: &[u8],
-        room: Room,
+        room: CallBudget,
     ) -> Result<LoggedPair, AllocError>
         ensures { IfOk result (λ pair. pair ≡ unchanged media.now sidecar.now room) }
     {
@@ -68,7 +68,7 @@ impl LoggedPair {
     }
 
     /// The room that was made at first.
-    pub fn room(&self) -> Room
+    pub fn room(&self) -> CallBudget
         ensures { result ≡ self.now.room }
     {
         self.room

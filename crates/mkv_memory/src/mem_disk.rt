@@ -11,8 +11,8 @@ ghost use Rattle.mkv_io.specs.declared.outside.TheConstants.{LONGEST_FILE};
 
 use crate::done::Done;
 use crate::failing::Failing;
-use crate::logged_pair::{LoggedPair, Room};
-use crate::pending::Left;
+use crate::logged_pair::{CallBudget, LoggedPair};
+use crate::pending::CrashImage;
 use mkv_disk::{Disk, MEDIA, SIDECAR};
 use mkv_io::{Failed, FileId, LONGEST_FILE, OpenFault, Reads, Text};
 use std::alloc::{AllocError, Global};
@@ -35,16 +35,16 @@ pub struct MemDisk {
 }
 
 /// What a crash leaves of the medium and of the sidecar, by the number of the pick.
-fn left_by(pick: u64) -> (Left, Left)
+fn left_by(pick: u64) -> (CrashImage, CrashImage)
     ensures { result ≡ left_by pick }
 {
     match pick {
-        0 => (Left::AsRead, Left::AsRead),
-        1 => (Left::AsSynced, Left::AsSynced),
-        2 => (Left::AsRead, Left::AsSynced),
-        3 => (Left::AsSynced, Left::AsRead),
-        4 => (Left::Blotted, Left::Blotted),
-        _ => (Left::Mixed, Left::Mixed),
+        0 => (CrashImage::AsRead, CrashImage::AsRead),
+        1 => (CrashImage::AsSynced, CrashImage::AsSynced),
+        2 => (CrashImage::AsRead, CrashImage::AsSynced),
+        3 => (CrashImage::AsSynced, CrashImage::AsRead),
+        4 => (CrashImage::Blotted, CrashImage::Blotted),
+        _ => (CrashImage::Mixed, CrashImage::Mixed),
     }
 }
 
@@ -79,7 +79,7 @@ impl MemDisk {
     {
         Ok(MemDisk {
             alloc,
-            files: LoggedPair::new(alloc, media, sidecar, Room { calls, octets })?,
+            files: LoggedPair::new(alloc, media, sidecar, CallBudget { calls, octets })?,
             opened: None,
             failing: Failing::new(alloc),
             reading_faults: 0,

@@ -10,7 +10,7 @@ use std::alloc::{AllocError, Global};
 
 /// What a crash leaves of a file.
 #[derive(Clone, Copy)]
-pub enum Left {
+pub enum CrashImage {
     /// What is read of it.
     AsRead,
     /// What it held at its last sync.
@@ -38,7 +38,7 @@ pub struct Pending {
 }
 
 impl Pending {
-    ghost use Rattle.mkv_memory.specs.Images.{blot, image_of, mix};
+    ghost use Rattle.mkv_memory.specs.Images.{ff_where, image_of, mix};
     ghost use Rattle.mkv_memory.specs.Shows.{IsChanged, Shows, is_noted};
 
     /// A file of which nothing is pending.
@@ -77,14 +77,14 @@ impl Pending {
     }
 
     /// What a crash leaves of it.
-    pub fn image(&self, alloc: Global, left: Left) -> Result<Vec<u8>, AllocError>
+    pub fn image(&self, alloc: Global, left: CrashImage) -> Result<Vec<u8>, AllocError>
         ensures { IfOk result (λ octets. (f : DiskFile) → Shows self.now f → octets.items ≡ image_of left f) }
     {
         match left {
-            Left::AsRead => self.reads.to_vec(alloc),
-            Left::AsSynced => self.synced.to_vec(alloc),
-            Left::Blotted => self.blotted(alloc),
-            Left::Mixed => self.mixed(alloc),
+            CrashImage::AsRead => self.reads.to_vec(alloc),
+            CrashImage::AsSynced => self.synced.to_vec(alloc),
+            CrashImage::Blotted => self.blotted(alloc),
+            CrashImage::Mixed => self.mixed(alloc),
         }
     }
 
@@ -98,7 +98,7 @@ impl Pending {
     }
 
     fn blotted(&self, alloc: Global) -> Result<Vec<u8>, AllocError>
-        ensures { IfOk result (λ octets. octets.items ≡ blot (is_noted self.now.written.items) self.now.reads.items) }
+        ensures { IfOk result (λ octets. octets.items ≡ ff_where (is_noted self.now.written.items) self.now.reads.items) }
     {
         self.reads
             .iter()

@@ -1,7 +1,7 @@
 -- What a merge asks for, one call after the other.
 use Rattle.std.proofs.Common.{◌≡◌, ℕ, Bool, false, if◌then◌else◌, List, [], ◌∷◌, ◌++◌, map, Option, Some, None, ◌∙◌, ap₂, subst}
 use Rattle.std.specs.Prelude.{is_some}
-use Rattle.mkv_io.specs.Asked.{AsksOnly, IsBesides}
+use Rattle.mkv_io.specs.Asked.{AsksOnly, IsNotAmong}
 use Rattle.mkv_io.specs.Names.{AreOthers}
 use Rattle.mkv_io.specs.declared.asked.Asked.{Asked}
 use Rattle.mkv_io.specs.declared.asked.Asked.TheVariants.{Made, Opened}
@@ -40,9 +40,9 @@ merge-asks-both opened words a b c first next = asks-both (IsBesidesMerge opened
 
 -- files of these names are opened alone, and none is made
 pub merge-asks-opened : (names opened : List (List ℕ)) (words : MergeWords) (old new : List Asked) → ((name : List ℕ) → AreOthers name opened → AreOthers name names) → AsksOnly names [] old new → AsksToMerge opened words old new
-merge-asks-opened names opened words old new among asks = asks-fewer (IsBesides names []) (IsBesidesMerge opened words) old new each asks
+merge-asks-opened names opened words old new among asks = asks-fewer (IsNotAmong names []) (IsBesidesMerge opened words) old new each asks
   where
-    each : (name : Asked) → IsBesidesMerge opened words name → IsBesides names [] name
+    each : (name : Asked) → IsBesidesMerge opened words name → IsNotAmong names [] name
     each (Opened name) others = among name others
     each (Made name) isnt = tt
 

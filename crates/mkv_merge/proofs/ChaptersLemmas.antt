@@ -14,7 +14,7 @@ use Rattle.input_files.specs.declared.chapter_file.ChapterFile.TheVariants as fi
 use Rattle.merge_inputs.specs.Input.{InputRead, IsInput, read_in}
 use Rattle.merge_inputs.specs.Select.{kept_one}
 use Rattle.merge_inputs.specs.declared.input.Input.{Input}
-use Rattle.merge_plan.specs.Spots.{HasPlace}
+use Rattle.merge_plan.specs.TakenTracks.{HasPlace}
 use Rattle.mkv_merge.specs.Chapters.{chaptered, first_with, with_chapters, with_tree}
 use Rattle.mkv_merge.specs.Prepared.{AreInputsOf, reads_in}
 use Rattle.mkv_io.specs.Results.{unless}

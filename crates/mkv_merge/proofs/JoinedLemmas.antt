@@ -3,8 +3,8 @@ use Rattle.std.proofs.Common.{◌≡◌, List, map, Result, Ok, Err, IfOk, sym, 
 use Rattle.mkv_io.specs.LiveFiles.{LiveFiles}
 use Rattle.mkv_io.specs.Names.{Names}
 use Rattle.mkv_io.specs.declared.remux_end.RemuxEnd.{RemuxEnd}
-use Rattle.mkv_outputs.specs.Drafts.{StandsInTurn}
-use Rattle.mkv_outputs.proofs.DraftsLemmas.{StandsInTurn-none}
+use Rattle.mkv_outputs.specs.Drafts.{AreWrittenInOrder}
+use Rattle.mkv_outputs.proofs.DraftsLemmas.{AreWrittenInOrder-none}
 use Rattle.merge_words.specs.declared.output.MergeWords.{MergeWords}
 use Rattle.merge_inputs.specs.declared.input.Input.{Input}
 use Rattle.merge_plan.specs.Plan.{Source}
@@ -13,7 +13,7 @@ use Rattle.remux_plan.specs.Summary.{IsSummary, damages_of, written_of}
 use Rattle.remux_plan.specs.declared.plan.MergePlan.{MergePlan}
 use Rattle.remux_plan.specs.declared.summary.Summary.{Summary}
 use Rattle.remuxer.specs.Output.{WritesAll, WritesOutputs, drafts_of}
-use Rattle.mkv_lines.specs.declared.status.Stop.{Stop}
+use Rattle.mkv_lines.specs.declared.status.CommandEnd.{CommandEnd}
 use Rattle.mkv_merge.specs.Ends.{as_remuxed}
 use Rattle.mkv_merge.specs.Joined.{IsSummaryOf, Merges, as_merged, outputs_found}
 use Rattle.mkv_merge.specs.Prepared.{ReadsAs}
@@ -43,12 +43,12 @@ merges-remuxed old new words found f inputs p sources (Ok s) are is sums writes 
   summary = summary-of f words inputs p sources s is sums;
 }
 merges-remuxed old new words found f inputs p sources (Err end) are is sums stands =
-    subst (λ (r : Result (List Source) Refusal). StandsInTurn old new (drafts_of (outputs_found words r))) (sym are)
-    (subst (λ (os : List PlannedOutput). StandsInTurn old new (drafts_of os)) (outputs-are f words inputs p sources is) stands)
+    subst (λ (r : Result (List Source) Refusal). AreWrittenInOrder old new (drafts_of (outputs_found words r))) (sym are)
+    (subst (λ (os : List PlannedOutput). AreWrittenInOrder old new (drafts_of os)) (outputs-are f words inputs p sources is) stands)
 
 -- nothing was written before
-merges-begun : (old new : Names) (words : MergeWords) (found : Result (List Source) Refusal) (why : Stop) → new ≡ old → Merges old new words found (Err why)
-merges-begun old new words found why same = subst (λ (names : Names). StandsInTurn old names (drafts_of (outputs_found words found))) (sym same) (StandsInTurn-none old _)
+merges-begun : (old new : Names) (words : MergeWords) (found : Result (List Source) Refusal) (why : CommandEnd) → new ≡ old → Merges old new words found (Err why)
+merges-begun old new words found why same = subst (λ (names : Names). AreWrittenInOrder old names (drafts_of (outputs_found words found))) (sym same) (AreWrittenInOrder-none old _)
 
 -- it is refused, or was stopped before
 pub merges-ended : (old new : Names) (words : MergeWords) (found : Result (List Source) Refusal) (end : MergeEnd) → ReadsAs {B = List Source} (λ (s : List Source). s) found (Err end) → new ≡ old → Merges old new words found (as_merged (Err end))

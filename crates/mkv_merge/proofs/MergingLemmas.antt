@@ -12,7 +12,7 @@ use Rattle.mkv_io.specs.Faults.{HasCause, is_read_fault}
 use Rattle.mkv_io.specs.LiveFiles.{IsSameFile, LiveFiles}
 use Rattle.mkv_io.specs.Results.{unless}
 use Rattle.mkv_io.specs.Sources.{live_files}
-use Rattle.mkv_io.specs.Told.{Told}
+use Rattle.mkv_io.specs.Told.{IfVisible}
 use Rattle.mkv_io.specs.Writing.{UsesOnly}
 use Rattle.mkv_io.specs.declared.reads.Reads.{Ghosts}
 use Rattle.mkv_io.specs.declared.files.Files as writing
@@ -33,7 +33,7 @@ use Rattle.merge_plan.specs.Front.{attached_length, reads_of}
 use Rattle.merge_plan.specs.Plan.{Source, lanes_given}
 use Rattle.remux_plan.specs.declared.summary.Summary.{Summary}
 use Rattle.mkv_lines.specs.Code.{read_stop}
-use Rattle.mkv_lines.specs.Command.{ComesTo, HasEnded, HasFilesCause, files_counts, seen_in}
+use Rattle.mkv_lines.specs.Command.{Fulfils, HasEnded, HasFilesCause, files_counts, seen_in}
 use Rattle.mkv_io.specs.Bounds.{ReadsUpTo}
 use Rattle.mkv_lines.specs.Faults.{Counts, HasStopCause}
 use Rattle.mkv_lines.specs.Ordinary.{IsOrdinary}
@@ -42,8 +42,8 @@ use Rattle.mkv_lines.specs.Said.{ReportLines}
 use Rattle.mkv_lines.specs.Verdict.{IsStopped, Reaches, SaysVerdict, refused}
 use Rattle.mkv_lines.specs.declared.status.Status.{Status}
 use Rattle.mkv_lines.specs.declared.status.Status.TheVariants as status
-use Rattle.mkv_lines.specs.declared.status.Stop.{Stop}
-use Rattle.mkv_lines.specs.declared.status.Stop.TheVariants as stop
+use Rattle.mkv_lines.specs.declared.status.CommandEnd.{CommandEnd}
+use Rattle.mkv_lines.specs.declared.status.CommandEnd.TheVariants as stop
 use Rattle.mkv_lines.proofs.VerdictLemmas.{IsStopped-before, Reaches-lines}
 use Rattle.mkv_merge.specs.Bound.{contents_length, files_size, most_of}
 use Rattle.mkv_merge.specs.Ends.{HasReadCause, as_remuxed, as_written, end_as, unopened}
@@ -137,7 +137,7 @@ opened-told f world words files list ids same of there told =
 -- ---- how much is read
 
 -- live files that are told have the lengths of their contents
-pub size-told : (f : LiveFiles) → ((file : ℕ) → Told (f.content file) (λ bytes. length bytes ≡ f.size file)) → (world : List ℕ → Option (List ℕ)) (files : List FileWords) (ids : List FileId) → AreTold f ids (map (λ name. unwrap_or (world name) []) (file_names files)) → files_size f ids ≡ contents_length world files
+pub size-told : (f : LiveFiles) → ((file : ℕ) → IfVisible (f.content file) (λ bytes. length bytes ≡ f.size file)) → (world : List ℕ → Option (List ℕ)) (files : List FileWords) (ids : List FileId) → AreTold f ids (map (λ name. unwrap_or (world name) []) (file_names files)) → files_size f ids ≡ contents_length world files
 size-told f sized world [] [] told = refl
 size-told f sized world [] (id ∷ ids) told = absurd (cc)
 size-told f sized world (w ∷ files) [] told = absurd (cc)
@@ -278,11 +278,11 @@ module _ {F P : Type 0} (r : Ghosts F) (f : writing.Ghosts F) (p : ReportGhosts 
       ordinary (Stopped why) = tt
 
   -- what was found is written, and told
-  pub merges-written : (old mid new : F) (report report' : P) (words : MergeWords) (found : Result (List Source) Refusal) (sources : List Source) (most : ℕ) (result : Result Status Stop) → seen_in r f p mid report ≡ seen_in r f p old report → found ≡ Ok sources
-      → HaveRecords sources → IfOk result (λ (s : Status). AreShort words sources) → ComesTo r f p mid new report report' result (merged_verdict words sources) → ReadsUpTo r old new most → MergesTo r f p old new report report' words found most (as_written result)
+  pub merges-written : (old mid new : F) (report report' : P) (words : MergeWords) (found : Result (List Source) Refusal) (sources : List Source) (most : ℕ) (result : Result Status CommandEnd) → seen_in r f p mid report ≡ seen_in r f p old report → found ≡ Ok sources
+      → HaveRecords sources → IfOk result (λ (s : Status). AreShort words sources) → Fulfils r f p mid new report report' result (merged_verdict words sources) → ReadsUpTo r old new most → MergesTo r f p old new report report' words found most (as_written result)
   merges-written old mid new report report' words found sources most result begun is have short comes paid = by_end result short comes
     where
-      by_end : (result : Result Status Stop) → IfOk result (λ (s : Status). AreShort words sources) → ComesTo r f p mid new report report' result (merged_verdict words sources) → MergesTo r f p old new report report' words found most (as_written result)
+      by_end : (result : Result Status CommandEnd) → IfOk result (λ (s : Status). AreShort words sources) → Fulfils r f p mid new report report' result (merged_verdict words sources) → MergesTo r f p old new report report' words found most (as_written result)
       by_end (Ok s) short comes = record {
         verdict = subst (λ (o : Result (List Source) Refusal). Reaches (seen_in r f p old report) (seen_in r f p new report') (Ok s) (verdict_of words o)) (sym is)
             (subst (λ (seen : Seen). Reaches seen (seen_in r f p new report') (Ok s) (merged_verdict words sources)) begun comes);
@@ -296,11 +296,11 @@ module _ {F P : Type 0} (r : Ghosts F) (f : writing.Ghosts F) (p : ReportGhosts 
         octets = paid;
       }
 
-  pub ended-written : (old mid new : F) (report report' : P) (result : Result Status Stop) → seen_in r f p mid report ≡ seen_in r f p old report → ((file : ℕ) → (live_files r mid).live file ≡ (live_files r old).live file) → HasEnded r f p mid new report report' result
+  pub ended-written : (old mid new : F) (report report' : P) (result : Result Status CommandEnd) → seen_in r f p mid report ≡ seen_in r f p old report → ((file : ℕ) → (live_files r mid).live file ≡ (live_files r old).live file) → HasEnded r f p mid new report report' result
       → HasEnded r f p old new report report' (as_command (as_written result))
   ended-written old mid new report report' result begun live ended = by_end result ended
     where
-      by_end : (result : Result Status Stop) → HasEnded r f p mid new report report' result → HasEnded r f p old new report report' (as_command (as_written result))
+      by_end : (result : Result Status CommandEnd) → HasEnded r f p mid new report report' result → HasEnded r f p old new report report' (as_command (as_written result))
       by_end (Ok s) ended = record {
         ordinary = ended.ordinary;
         live = λ file. ended.live file ∙ live file;
@@ -323,7 +323,7 @@ module _ {F P : Type 0} (r : Ghosts F) (f : writing.Ghosts F) (p : ReportGhosts 
     octets = paid;
   }
 
-  pub ended-within : (old mid done new : F) (report report' : P) (result : Result Status Stop) → seen_in r f p mid report ≡ seen_in r f p old report → seen_in r f p new report' ≡ seen_in r f p done report' → ((file : ℕ) → (live_files r new).live file ≡ (live_files r old).live file)
+  pub ended-within : (old mid done new : F) (report report' : P) (result : Result Status CommandEnd) → seen_in r f p mid report ≡ seen_in r f p old report → seen_in r f p new report' ≡ seen_in r f p done report' → ((file : ℕ) → (live_files r new).live file ≡ (live_files r old).live file)
       → HasEnded r f p mid done report report' result → HasEnded r f p old new report report' result
   ended-within old mid done new report report' result begun ended live was = record {
     ordinary = was.ordinary;
@@ -333,9 +333,9 @@ module _ {F P : Type 0} (r : Ghosts F) (f : writing.Ghosts F) (p : ReportGhosts 
   }
 
   -- what refuses a merge is told
-  pub refusal-told : (old new : F) (report mid report' : P) (words : MergeWords) (found : Result (List Source) Refusal) (most : ℕ) (why : Refusal) (result : Result Status Stop) → MergesTo r f p old new report mid words found most (Err (Refused why))
-      → SaysVerdict (p.lines mid) (p.lines report') result (refused (line_of words why)) → ComesTo r f p old new report report' result (verdict_of words found)
+  pub refusal-told : (old new : F) (report mid report' : P) (words : MergeWords) (found : Result (List Source) Refusal) (most : ℕ) (why : Refusal) (result : Result Status CommandEnd) → MergesTo r f p old new report mid words found most (Err (Refused why))
+      → SaysVerdict (p.lines mid) (p.lines report') result (refused (line_of words why)) → Fulfils r f p old new report report' result (verdict_of words found)
   refusal-told old new report mid report' words found most why result merges says =
-      subst (λ (o : Result (List Source) Refusal). ComesTo r f p old new report report' result (verdict_of words o)) (sym merges.verdict.0)
+      subst (λ (o : Result (List Source) Refusal). Fulfils r f p old new report report' result (verdict_of words o)) (sym merges.verdict.0)
       (Reaches-lines (seen_in r f p old report) (seen_in r f p new report') result (refused (line_of words why))
       (subst (λ (lines : ReportLines). SaysVerdict lines (p.lines report') result (refused (line_of words why))) merges.verdict.1 says) refl merges.verdict.2)

@@ -10,7 +10,7 @@ use Rattle.std.proofs.lemmas.List.Sums.{sum_by-cons, sum_by-take-le, sum_by_more
 use Rattle.mkv_io.specs.declared.outside.FileId.{FileId}
 use Rattle.mkv_io.specs.Faults.{counted}
 use Rattle.mkv_io.specs.LiveFiles.{LiveFiles}
-use Rattle.mkv_io.specs.Told.{Told}
+use Rattle.mkv_io.specs.Told.{IfVisible}
 use Rattle.input_files.specs.ChapterFile.{CanBeWritten}
 use Rattle.input_files.specs.Inputs as files
 use Rattle.input_files.specs.declared.chapter_file.ChapterFile.{ChapterFile}
@@ -23,10 +23,10 @@ use Rattle.merge_inputs.specs.declared.input.Input.{Input}
 use Rattle.merge_plan.specs.Appending.{append_refusal}
 use Rattle.merge_plan.specs.Front.{reads_of}
 use Rattle.merge_plan.specs.Places.{in_place}
-use Rattle.merge_plan.specs.Plan.{Source, later_by}
+use Rattle.merge_plan.specs.Plan.{Source, append_offset}
 use Rattle.merge_plan.specs.Planned.{Plans, source_in}
 use Rattle.merge_plan.specs.Refusal.{plan_refusal}
-use Rattle.merge_plan.specs.Spots.{HasPlace}
+use Rattle.merge_plan.specs.TakenTracks.{HasPlace}
 use Rattle.merge_plan.specs.declared.appending.AppendDiffers.{AppendDiffers}
 use Rattle.merge_plan.specs.declared.refusal.PlanEnd.{PlanEnd}
 use Rattle.merge_plan.specs.declared.refusal.PlanEnd.TheVariants as plan_end
@@ -99,7 +99,7 @@ abbrev pub GoesOn : MergeWords → List (List ℕ) → ℕ → ℕ → List Inpu
 GoesOn words contents k held done = inputs_of words contents ≡ read_behind words.webm k held done (drop k (zip words.files contents))
 
 -- what is found of the k-th
-found-at : (f : LiveFiles) (words : MergeWords) (list : List FileId) (contents : List (List ℕ)) (k held : ℕ) (done : List InputRead) (w : FileWords) (file : FileId) (found : Result InputRead Refusal) → length list ≡ length words.files → k < length list → w ≡ get_or words.files k w → AreTold f list contents → Told (f.content (get_or list k file).n) (λ bytes. numbered k (input_of w words.webm held bytes) ≡ found) → GoesOn words contents k held done → inputs_of words contents ≡ found_behind words.webm k held done (drop (suc k) (zip words.files contents)) found
+found-at : (f : LiveFiles) (words : MergeWords) (list : List FileId) (contents : List (List ℕ)) (k held : ℕ) (done : List InputRead) (w : FileWords) (file : FileId) (found : Result InputRead Refusal) → length list ≡ length words.files → k < length list → w ≡ get_or words.files k w → AreTold f list contents → IfVisible (f.content (get_or list k file).n) (λ bytes. numbered k (input_of w words.webm held bytes) ≡ found) → GoesOn words contents k held done → inputs_of words contents ≡ found_behind words.webm k held done (drop (suc k) (zip words.files contents)) found
 found-at f words list contents k held done w file found each below is told finds goes =
     goes
     ∙ ap (read_behind words.webm k held done) (zip-at words.files contents k w [] (omega arith) (omega (arith, told-count f.content list contents told)))
@@ -107,13 +107,13 @@ found-at f words list contents k held done w file found each below is told finds
     ∙ ap (found_behind words.webm k held done (drop (suc k) (zip words.files contents))) (finds (get_or contents k []) (told-at f.content list contents k file told below))
 
 -- it refuses all, or isn't read for another reason
-pub refused-at : (f : LiveFiles) (words : MergeWords) (list : List FileId) (contents : List (List ℕ)) (k held : ℕ) (done : List InputRead) (w : FileWords) (file : FileId) (end : MergeEnd) → length list ≡ length words.files → k < length list → w ≡ get_or words.files k w → AreTold f list contents → Told (f.content (get_or list k file).n) (λ bytes. ReadsAs {B = Input} read_in (numbered k (input_of w words.webm held bytes)) (Err end)) → GoesOn words contents k held done → ReadsAs {B = List Input} reads_in (inputs_of words contents) (Err end)
+pub refused-at : (f : LiveFiles) (words : MergeWords) (list : List FileId) (contents : List (List ℕ)) (k held : ℕ) (done : List InputRead) (w : FileWords) (file : FileId) (end : MergeEnd) → length list ≡ length words.files → k < length list → w ≡ get_or words.files k w → AreTold f list contents → IfVisible (f.content (get_or list k file).n) (λ bytes. ReadsAs {B = Input} read_in (numbered k (input_of w words.webm held bytes)) (Err end)) → GoesOn words contents k held done → ReadsAs {B = List Input} reads_in (inputs_of words contents) (Err end)
 refused-at f words list contents k held done w file (Refused why) each below is told finds goes =
     found-at f words list contents k held done w file (Err why) each below is told finds goes
 refused-at f words list contents k held done w file (Stopped stop) each below is told finds goes = tt
 
 -- it is read
-pub read-at : (f : LiveFiles) (words : MergeWords) (list : List FileId) (contents : List (List ℕ)) (k held : ℕ) (done : List InputRead) (w : FileWords) (file : FileId) (read : InputRead) → length list ≡ length words.files → k < length list → w ≡ get_or words.files k w → AreTold f list contents → Told (f.content (get_or list k file).n) (λ bytes. numbered k (input_of w words.webm held bytes) ≡ Ok read) → GoesOn words contents k held done → GoesOn words contents (k + 1) (counted held read.held) (done ++ read ∷ [])
+pub read-at : (f : LiveFiles) (words : MergeWords) (list : List FileId) (contents : List (List ℕ)) (k held : ℕ) (done : List InputRead) (w : FileWords) (file : FileId) (read : InputRead) → length list ≡ length words.files → k < length list → w ≡ get_or words.files k w → AreTold f list contents → IfVisible (f.content (get_or list k file).n) (λ bytes. numbered k (input_of w words.webm held bytes) ≡ Ok read) → GoesOn words contents k held done → GoesOn words contents (k + 1) (counted held read.held) (done ++ read ∷ [])
 read-at f words list contents k held done w file read each below is told finds goes =
     found-at f words list contents k held done w file (Ok read) each below is told finds goes
     ∙ joined (inputs_from words.webm (suc k) (counted held read.held) (drop (suc k) (zip words.files contents)))
@@ -144,7 +144,7 @@ files-more inputs input list k file below is of =
 
 -- none is later than a lane's link may be
 pub read-place : (file : FileId) (w : FileWords) (i : Input) → IsReadOf file w i → HasPlace i
-read-place file w i is = let none : later_by (read_in i) ≡ 0 = ap (λ (o : Option ℕ). unwrap_or o 0) is.unmoved ∙ of w.appended in omega arith
+read-place file w i is = let none : append_offset (read_in i) ≡ 0 = ap (λ (o : Option ℕ). unwrap_or o 0) is.unmoved ∙ of w.appended in omega arith
   where
     of : (b : Bool) → ◌≡◌ {A = ℕ} (unwrap_or (if b then Some 0 else None) 0) 0
     of true = refl

@@ -14,7 +14,7 @@ use Rattle.input_files.specs.declared.times_file.TimesGiven.{TimesGiven}
 use Rattle.input_files.specs.declared.times_file.TimesGiven.TheVariants as given
 use Rattle.merge_inputs.specs.Input.{InputRead, IsInput, read_in}
 use Rattle.merge_inputs.specs.declared.input.Input.{Input}
-use Rattle.merge_plan.specs.Spots.{HasPlace}
+use Rattle.merge_plan.specs.TakenTracks.{HasPlace}
 use Rattle.mkv_merge.specs.Chapters.{chaptered, chapters_refusal, with_file, with_tree}
 use Rattle.mkv_merge.specs.Prepared.{AreInputsOf, reads_in}
 use Rattle.mkv_io.specs.Results.{unless}

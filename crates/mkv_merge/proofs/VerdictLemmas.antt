@@ -6,7 +6,7 @@ use mathlib.Core.List.{map-map}
 use Rattle.mkv_io.specs.Lines.{with_lines}
 use Rattle.mkv_io.specs.LiveFiles.{LiveFiles}
 use Rattle.mkv_io.specs.Names.{Names}
-use Rattle.mkv_outputs.specs.Drafts.{StandsInTurn}
+use Rattle.mkv_outputs.specs.Drafts.{AreWrittenInOrder}
 use Rattle.mkv_outputs.specs.Drafts.{outputs_of as outputs_of_drafts}
 use Rattle.mkv_outputs.specs.Outputs.{with_outputs}
 use Rattle.remux_plan.specs.Parts.{PlannedOutput, outputs_in}
@@ -26,7 +26,7 @@ use Rattle.mkv_lines.specs.Said.{ReportLines, Says, SaysPart}
 use Rattle.mkv_lines.specs.Seen.{Seen}
 use Rattle.mkv_lines.specs.Verdict.{Reaches, in_turn}
 use Rattle.mkv_lines.specs.declared.status.Status.{Status}
-use Rattle.mkv_lines.specs.declared.status.Stop.{Stop}
+use Rattle.mkv_lines.specs.declared.status.CommandEnd.{CommandEnd}
 use Rattle.mkv_lines.proofs.SaidLemmas.{SaysPart-all}
 use Rattle.mkv_lines.proofs.VerdictLemmas.{Leaves-same, Reaches-behind}
 use Rattle.mkv_merge.specs.Merge.{has_absent, has_damage, has_other_count, lines_before, lines_behind, merged_verdict, output_line, outputs_of, warned_if, uuid_lines, warnings}
@@ -63,7 +63,7 @@ warned-told f words inputs p sources s is sums absent =
 -- ---- the verdict
 
 -- a warning of a track that isn't there couldn't be said
-pub merge-begun : (old new : Seen) (why : Stop) (f : LiveFiles) (words : MergeWords) (inputs : List Input) (p : MergePlan) (sources : List Source) → IsMergeOf f words inputs p sources → SaysPart old.lines new.lines (lines_before words (reads_in inputs)) → new.names ≡ old.names → Reaches old new (Err why) (merged_verdict words sources)
+pub merge-begun : (old new : Seen) (why : CommandEnd) (f : LiveFiles) (words : MergeWords) (inputs : List Input) (p : MergePlan) (sources : List Source) → IsMergeOf f words inputs p sources → SaysPart old.lines new.lines (lines_before words (reads_in inputs)) → new.names ≡ old.names → Reaches old new (Err why) (merged_verdict words sources)
 merge-begun old new why f words inputs p sources is part names =
     inl (
       subst (λ (rs : List InputRead). SaysPart old.lines new.lines (lines_before words rs)) (sym (reads-are f words inputs p sources is)) part,
@@ -71,11 +71,11 @@ merge-begun old new why f words inputs p sources is part names =
     )
 
 -- all that isn't there was warned of, and an output couldn't be written
-pub merge-left : (old new : Seen) (why : Stop) (f : LiveFiles) (words : MergeWords) (inputs : List Input) (p : MergePlan) (sources : List Source) → IsMergeOf f words inputs p sources → new.lines ≡ with_lines old.lines (lines_before words (reads_in inputs)) → StandsInTurn old.names new.names (drafts_of (outputs_in f p)) → Reaches old new (Err why) (merged_verdict words sources)
+pub merge-left : (old new : Seen) (why : CommandEnd) (f : LiveFiles) (words : MergeWords) (inputs : List Input) (p : MergePlan) (sources : List Source) → IsMergeOf f words inputs p sources → new.lines ≡ with_lines old.lines (lines_before words (reads_in inputs)) → AreWrittenInOrder old.names new.names (drafts_of (outputs_in f p)) → Reaches old new (Err why) (merged_verdict words sources)
 merge-left old new why f words inputs p sources is said stands =
     inl (
       SaysPart-all old.lines new.lines (lines_before words (reads_of sources)) (said ∙ ap (λ (rs : List InputRead). with_lines old.lines (lines_before words rs)) (sym (reads-are f words inputs p sources is))),
-      subst (λ (os : List PlannedOutput). StandsInTurn old.names new.names (drafts_of os)) (outputs-are f words inputs p sources is) stands,
+      subst (λ (os : List PlannedOutput). AreWrittenInOrder old.names new.names (drafts_of os)) (outputs-are f words inputs p sources is) stands,
     )
 
 -- the outputs stand whole
@@ -83,18 +83,18 @@ all-whole : (old new : Names) (outputs : List PlannedOutput) → WritesAll old n
 all-whole old new outputs writes = writes.names ∙ sym (ap (with_outputs old) writes.become)
 
 -- none of them is longer than a file may be
-pub outputs-short : (old new : Names) (world : List ℕ → Option (List ℕ)) (r : Result Status Stop) (f : LiveFiles) (words : MergeWords) (inputs : List Input) (p : MergePlan) (sources : List Source) → IsMergeOf f words inputs p sources → old ≡ Some world → WritesAll old new (outputs_in f p) → IfOk r (λ (s : Status). AreShort words sources)
+pub outputs-short : (old new : Names) (world : List ℕ → Option (List ℕ)) (r : Result Status CommandEnd) (f : LiveFiles) (words : MergeWords) (inputs : List Input) (p : MergePlan) (sources : List Source) → IsMergeOf f words inputs p sources → old ≡ Some world → WritesAll old new (outputs_in f p) → IfOk r (λ (s : Status). AreShort words sources)
 outputs-short old new world r f words inputs p sources is told writes = by_end r
   where
     short : AreShort words sources
     short = subst (All (λ (o : PlannedOutput). IsShort o.document)) (outputs-are f words inputs p sources is) (writes.short world told)
 
-    by_end : (r : Result Status Stop) → IfOk r (λ (s : Status). AreShort words sources)
+    by_end : (r : Result Status CommandEnd) → IfOk r (λ (s : Status). AreShort words sources)
     by_end (Ok s) = short
     by_end (Err why) = tt
 
 -- and the rest is told
-pub merge-told : (old new : Seen) (mid : ReportLines) (r : Result Status Stop) (f : LiveFiles) (words : MergeWords) (inputs : List Input) (p : MergePlan) (sources : List Source) (s : Summary) (absent : Bool) → IsMergeOf f words inputs p sources → IsSummary f p s
+pub merge-told : (old new : Seen) (mid : ReportLines) (r : Result Status CommandEnd) (f : LiveFiles) (words : MergeWords) (inputs : List Input) (p : MergePlan) (sources : List Source) (s : Summary) (absent : Bool) → IsMergeOf f words inputs p sources → IsSummary f p s
     → absent ≡ has_absent words (reads_in inputs) → mid ≡ with_lines old.lines (lines_before words (reads_in inputs))
     → Says mid new.lines (map (λ (w : Written). wrote_blocks_line w.name w.blocks) s.outputs ++ warnings_from s 0 words.files ++ uuid_lines words (length s.outputs)) r → IfOk r (λ (status : Status). status ≡ warned_if (is_warned absent s || has_other_count words (length s.outputs)))
     → WritesAll old.names new.names (outputs_in f p) → Reaches old new r (merged_verdict words sources)

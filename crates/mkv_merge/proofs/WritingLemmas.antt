@@ -14,7 +14,7 @@ use Rattle.mkv_schema.specs.declared.ids.TheConstants.{CHAPTERS, TAGS}
 use Rattle.tree_format.specs.Node.{Node, id_of}
 use Rattle.output_model.specs.Attached.{attached_file, data_of}
 use Rattle.output_model.specs.declared.attachment.Attachment.{Attachment}
-use Rattle.merged_records.specs.Inputs.{IsAttached}
+use Rattle.output_records.specs.Inputs.{IsAttached}
 use Rattle.output_model.specs.Sound.{IsRecord}
 use Rattle.output_model.specs.Document.{Front}
 use Rattle.output_model.specs.OutputBlock.{OutputBlock}
@@ -29,7 +29,7 @@ use Rattle.merge_model.specs.FileLinks.{lanes_over}
 use Rattle.cues_seekhead.specs.OpenOutput.{CanAttach}
 use Rattle.remux_plan.specs.Plan as planned
 use Rattle.remux_plan.specs.Plan.{links_of}
-use Rattle.remux_plan.specs.declared.TheConstants.{MOST_INPUTS, MOST_SCALE}
+use Rattle.remux_plan.specs.declared.TheConstants.{MAX_INPUTS, MAX_SCALE}
 use Rattle.remux_plan.specs.declared.plan.MergePlan.{MergePlan}
 use Rattle.remux_plan.specs.declared.plan.PlannedLane.{PlannedLane}
 use Rattle.remuxer.specs.Plan.{IsPlan, IsToldPlan, data_length, inputs_length}
@@ -49,7 +49,7 @@ use Rattle.merge_plan.specs.Records.{chapters_of, is_appended, tags_of}
 use Rattle.merge_plan.proofs.ChainLemmas.{numbers-below}
 use Rattle.merge_plan.proofs.FileLemmas.{reads-in}
 use Rattle.mkv_lines.specs.declared.status.Status.{Status}
-use Rattle.mkv_lines.specs.declared.status.Stop.{Stop}
+use Rattle.mkv_lines.specs.declared.status.CommandEnd.{CommandEnd}
 use Rattle.mkv_merge.specs.Bound.{files_size}
 use Rattle.mkv_merge.specs.Merge.{blocks_of}
 use Rattle.mkv_merge.specs.Prepared.{AreTold, IsPrepared, reads_in}
@@ -90,9 +90,9 @@ many-inputs r f files words ids inputs opened of =
     ∙ length-map words.files (λ (w : FileWords). w.name)
 
 -- the numbers of the inputs are small
-numbers-small : (reads : List InputRead) → length reads ≤ MOST_INPUTS → All (All (λ (i : ℕ). i < MOST_INPUTS)) (inputs_given 0 reads)
+numbers-small : (reads : List InputRead) → length reads ≤ MAX_INPUTS → All (All (λ (i : ℕ). i < MAX_INPUTS)) (inputs_given 0 reads)
 numbers-small reads few =
-    numbers-below (λ (each : ℕ × InputRead). is_appended each.1) numbers_of (λ each. All-map (λ m. m ≡ each.0) (λ (t : TakenTrack). each.0) each.1.taken (λ k d below. refl)) 0 MOST_INPUTS reads (omega arith)
+    numbers-below (λ (each : ℕ × InputRead). is_appended each.1) numbers_of (λ each. All-map (λ m. m ≡ each.0) (λ (t : TakenTrack). each.0) each.1.taken (λ k d below. refl)) 0 MAX_INPUTS reads (omega arith)
 
 -- a record has its ID, where it is there
 pub record-id : (own : ℕ) (n : Option Node) → IfSome n (IsRecord own) → IfSome n (λ (m : Node). id_of m ≡ own)
@@ -173,7 +173,7 @@ plan-good {S = S} r f files words ids p is opened prepared =
     let others : All (λ (i : Input). test i.file.n ≡ false) p.inputs = inputs-unwritten (f.holder files) words ids p opened.under is.apart prepared.inputs.of plan in
     record {
       scale = subst (λ (l : ClusterLimits). 1 ≤ l.scale) (sym plan.limits) (omega (arith, sound.scale.least));
-      scale_most = subst (λ (l : ClusterLimits). l.scale ≤ MOST_SCALE) (sym plan.limits) (omega (arith, sound.scale.most));
+      scale_most = subst (λ (l : ClusterLimits). l.scale ≤ MAX_SCALE) (sym plan.limits) (omega (arith, sound.scale.most));
       few = written.few;
       lanes = λ k d below. record {
         few = omega (arith, (written.linked k d below).few, many, sound.files.most);
@@ -182,7 +182,7 @@ plan-good {S = S} r f files words ids p is opened prepared =
         apart = λ j e inside. unwritten (f.holder files) split p.plan.output (get_or (get_or lanes k d).spec.links j e)
             (All-unmap (All (IsSparedLink test)) (λ (l : PlannedLane). l.spec.links) lanes (written.apart test others) k d below j e inside);
         numbered = (written.linked k d below).numbered;
-        inputs = All-unmap (All (λ (i : ℕ). i < MOST_INPUTS)) (λ (l : PlannedLane). l.inputs) lanes (subst (All (All (λ (i : ℕ). i < MOST_INPUTS))) (sym plan.numbers) (numbers-small (map read_in p.inputs) (omega (arith, length-map p.inputs read_in, many, sound.files.most)))) k d below;
+        inputs = All-unmap (All (λ (i : ℕ). i < MAX_INPUTS)) (λ (l : PlannedLane). l.inputs) lanes (subst (All (All (λ (i : ℕ). i < MAX_INPUTS))) (sym plan.numbers) (numbers-small (map read_in p.inputs) (omega (arith, length-map p.inputs read_in, many, sound.files.most)))) k d below;
       };
       records = record {
         info = written.info.id;
@@ -265,18 +265,18 @@ records-are f words inputs p sources is written =
     }
 
 -- where sources were found
-pub readable-found : (words : MergeWords) (found : Result (List Source) Refusal) (sources : List Source) (r : Result Status Stop) → found ≡ Ok sources → HaveRecords sources → IfOk r (λ (s : Status). AreShort words sources) → EndsReadable words found r
+pub readable-found : (words : MergeWords) (found : Result (List Source) Refusal) (sources : List Source) (r : Result Status CommandEnd) → found ≡ Ok sources → HaveRecords sources → IfOk r (λ (s : Status). AreShort words sources) → EndsReadable words found r
 readable-found words found sources r is have short = subst (λ (o : Result (List Source) Refusal). EndsReadable words o r) (sym is) (of r short)
   where
-    of : (r : Result Status Stop) → IfOk r (λ (s : Status). AreShort words sources) → EndsReadable words (Ok sources) r
+    of : (r : Result Status CommandEnd) → IfOk r (λ (s : Status). AreShort words sources) → EndsReadable words (Ok sources) r
     of (Ok s) short = record { records = have; short = short }
     of (Err why) short = tt
 
 -- where a merge is refused there is nothing to be read
-pub readable-none : (words : MergeWords) (found : Result (List Source) Refusal) (why : Refusal) (r : Result Status Stop) → found ≡ Err why → EndsReadable words found r
+pub readable-none : (words : MergeWords) (found : Result (List Source) Refusal) (why : Refusal) (r : Result Status CommandEnd) → found ≡ Err why → EndsReadable words found r
 readable-none words found why r is = subst (λ (o : Result (List Source) Refusal). EndsReadable words o r) (sym is) (of r)
   where
-    of : (r : Result Status Stop) → EndsReadable words (Err why) r
+    of : (r : Result Status CommandEnd) → EndsReadable words (Err why) r
     of (Ok s) = tt
     of (Err stop) = tt
 

@@ -6,9 +6,9 @@ use Rattle.mkv_io.specs.declared.remux_end.RemuxEnd.{RemuxEnd}
 use Rattle.remux_plan.specs.declared.summary.Summary.{Summary}
 use Rattle.mkv_lines.specs.Code.{stop_of}
 use Rattle.mkv_lines.specs.declared.status.Status.{Status}
-use Rattle.mkv_lines.specs.declared.status.Stop.{Stop}
-use Rattle.mkv_lines.specs.declared.status.Stop.TheVariants as stop
-use Rattle.mkv_io.specs.Faults.{HasRisen}
+use Rattle.mkv_lines.specs.declared.status.CommandEnd.{CommandEnd}
+use Rattle.mkv_lines.specs.declared.status.CommandEnd.TheVariants as stop
+use Rattle.mkv_io.specs.Faults.{HasIncreased}
 use Rattle.merge_plan.specs.declared.refusal.PlanEnd.{PlanEnd}
 use Rattle.merge_plan.specs.declared.refusal.PlanEnd.TheVariants as plan_end
 use Rattle.mkv_merge.specs.declared.refusal.MergeEnd.{MergeEnd}
@@ -21,7 +21,7 @@ abbrev pub HasReadCause : {T : Type 0} → ℕ → ℕ → Result T MergeEnd →
 HasReadCause before now (Ok _) = now ≡ before
 HasReadCause before now (Err (Refused why)) = now ≡ before
 HasReadCause before now (Err (Stopped stop.Memory)) = now ≡ before
-HasReadCause before now (Err (Stopped stop.Files)) = HasRisen before now
+HasReadCause before now (Err (Stopped stop.Files)) = HasIncreased before now
 HasReadCause before now (Err (Stopped stop.Disk)) = ⊥
 HasReadCause before now (Err (Stopped stop.Report)) = ⊥
 
@@ -44,7 +44,7 @@ unplanned (plan_end.Refused why) = Refused (Plan why)
 unplanned plan_end.Memory = Stopped stop.Memory
 
 -- how a merge ends whose writing and telling ended so; and one of which nothing is said, whose writing ended so
-abbrev pub as_written : Result Status Stop → Result Status MergeEnd
+abbrev pub as_written : Result Status CommandEnd → Result Status MergeEnd
 as_written (Ok s) = Ok s
 as_written (Err why) = Err (Stopped why)
 
@@ -53,7 +53,7 @@ as_remuxed (Ok s) = Ok s
 as_remuxed (Err end) = Err (Stopped (stop_of end))
 
 -- how what merges files ends, where this is what it has done, and what it makes of a refusal
-abbrev pub end_as : {A T : Type 0} → (A → T) → (Refusal → T) → Result A MergeEnd → Result T Stop
+abbrev pub end_as : {A T : Type 0} → (A → T) → (Refusal → T) → Result A MergeEnd → Result T CommandEnd
 end_as done told (Ok x) = Ok (done x)
 end_as done told (Err (Refused why)) = Ok (told why)
 end_as done told (Err (Stopped why)) = Err why

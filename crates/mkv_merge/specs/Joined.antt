@@ -3,11 +3,11 @@ use Rattle.std.specs.Prelude.{◌≡◌, ℕ, List, [], ◌∷◌, map, flat_map
 use Rattle.std.specs.List.{enumerate_from}
 use Rattle.std.specs.Option.{option_map}
 use Rattle.mkv_io.specs.Names.{Names}
-use Rattle.mkv_io.specs.Told.{Told}
+use Rattle.mkv_io.specs.Told.{IfVisible}
 use Rattle.mkv_io.specs.declared.outside.FileId.{FileId}
 use Rattle.mkv_io.specs.declared.reads.Reads.{Ghosts}
 use Rattle.mkv_io.specs.declared.files.Files as writing
-use Rattle.mkv_outputs.specs.Drafts.{StandsInTurn}
+use Rattle.mkv_outputs.specs.Drafts.{AreWrittenInOrder}
 use Rattle.input_files.specs.Inputs.{file_names, first_missing}
 use Rattle.input_files.specs.declared.text_files.TextFiles.{TextFiles}
 use Rattle.input_files.specs.declared.chapter_file.ChapterFile.TheVariants.{Absent}
@@ -17,7 +17,7 @@ use Rattle.remux_plan.specs.Parts.{PlannedOutput}
 use Rattle.remux_plan.specs.Summary.{written_of}
 use Rattle.remux_plan.specs.declared.summary.Summary.{Summary}
 use Rattle.remuxer.specs.Output.{WritesAll, drafts_of}
-use Rattle.mkv_lines.specs.declared.status.Stop.{Stop}
+use Rattle.mkv_lines.specs.declared.status.CommandEnd.{CommandEnd}
 use Rattle.mkv_io.specs.Bounds.{ReadsUpTo}
 use Rattle.mkv_merge.specs.Bound.{contents_length, live_size, most_of}
 use Rattle.mkv_merge.specs.Ends.{end_as}
@@ -72,21 +72,21 @@ outputs_found words (Err why) = []
 
 -- The outputs stand, or the merge is refused and nothing was written. Where it is stopped some first outputs stand whole, and the next one as
 -- a draft.
-abbrev pub Merges : Names → Names → MergeWords → Result (List Source) Refusal → Result Merged Stop → Type 0
+abbrev pub Merges : Names → Names → MergeWords → Result (List Source) Refusal → Result Merged CommandEnd → Type 0
 Merges old new words found (Ok (Written s)) = HasMerged old new words found s
 Merges old new words found (Ok (Refused why)) = (found ≡ Err why) × (new ≡ old)
-Merges old new words found (Err stop) = StandsInTurn old new (drafts_of (outputs_found words found))
+Merges old new words found (Err stop) = AreWrittenInOrder old new (drafts_of (outputs_found words found))
 
 -- what came of a merge, of which nothing was said
-abbrev pub as_merged : Result Summary MergeEnd → Result Merged Stop
+abbrev pub as_merged : Result Summary MergeEnd → Result Merged CommandEnd
 as_merged result = end_as Written Refused result
 
 -- So does a merge of live files, and of names, where they tell.
-abbrev pub MergesLive : {S : Type 0} → Ghosts S → writing.Ghosts S → S → S → MergeWords → List FileId → Result Merged Stop → Type 0
+abbrev pub MergesLive : {S : Type 0} → Ghosts S → writing.Ghosts S → S → S → MergeWords → List FileId → Result Merged CommandEnd → Type 0
 MergesLive r f old new words list result = IfAllTold r old list (λ contents. Merges (f.names old) (f.names new) words (sources_unless [] words no_texts contents) result)
 
-abbrev pub MergesAlone : {S : Type 0} → writing.Ghosts S → S → S → MergeWords → Result Merged Stop → Type 0
-MergesAlone f old new words result = Told (f.names old) (λ world. Merges (f.names old) (f.names new) words (sources_alone world words) result)
+abbrev pub MergesAlone : {S : Type 0} → writing.Ghosts S → S → S → MergeWords → Result Merged CommandEnd → Type 0
+MergesAlone f old new words result = IfVisible (f.names old) (λ world. Merges (f.names old) (f.names new) words (sources_alone world words) result)
 
 -- what such a merge may read of live files
 abbrev pub ReadsLive : {S : Type 0} → Ghosts S → S → S → MergeWords → List FileId → Type 0

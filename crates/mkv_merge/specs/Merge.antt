@@ -6,7 +6,7 @@ use Rattle.std.specs.Result.{result_err}
 use Rattle.mkv_io.specs.declared.damage.Damage.{Damage}
 use Rattle.mkv_io.specs.Faults.{counted}
 use Rattle.mkv_io.specs.Lists.{is_some_of}
-use Rattle.mkv_io.specs.Told.{Told}
+use Rattle.mkv_io.specs.Told.{IfVisible}
 use Rattle.mkv_io.specs.declared.files.Files as writing
 use Rattle.mkv_io.specs.declared.reads.Reads.{Ghosts}
 use Rattle.mkv_io.specs.declared.report.Report.{Ghosts as ReportGhosts}
@@ -35,8 +35,8 @@ use Rattle.merge_plan.specs.Front.{front_of, reads_of}
 use Rattle.merge_plan.specs.Places.{in_place}
 use Rattle.merge_plan.specs.Records.{chapters_of, tags_of}
 use Rattle.merge_plan.specs.Refusal.{plan_refusal}
-use Rattle.mkv_lines.specs.Command.{ComesTo}
-use Rattle.mkv_lines.specs.declared.status.Stop.{Stop}
+use Rattle.mkv_lines.specs.Command.{Fulfils}
+use Rattle.mkv_lines.specs.declared.status.CommandEnd.{CommandEnd}
 use Rattle.mkv_lines.specs.Line.{damage_lines, no_track_line, uuid_count_line, wrote_blocks_line}
 use Rattle.mkv_lines.specs.Verdict.{Verdict, in_turn, refused}
 use Rattle.mkv_lines.specs.declared.status.Status.{Status}
@@ -213,6 +213,6 @@ abbrev pub merge_verdict : (List ℕ → Option (List ℕ)) → MergeWords → V
 merge_verdict world words = verdict_of words (sources_of world words)
 
 -- A merge of the files of the inputs' names has come to its verdict, or has stopped on the way; its refusal is told, too.
-abbrev pub ComesToMerge : {F P : Type 0} → Ghosts F → writing.Ghosts F → ReportGhosts P → F → F → P → P → Result Status Stop → MergeWords → Type 0
+abbrev pub ComesToMerge : {F P : Type 0} → Ghosts F → writing.Ghosts F → ReportGhosts P → F → F → P → P → Result Status CommandEnd → MergeWords → Type 0
 ComesToMerge r f p files files' report report' result words =
-    Told (f.names files) (λ world. ComesTo r f p files files' report report' result (merge_verdict world words))
+    IfVisible (f.names files) (λ world. Fulfils r f p files files' report report' result (merge_verdict world words))

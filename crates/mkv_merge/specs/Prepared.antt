@@ -15,7 +15,7 @@ use Rattle.merge_inputs.specs.Input.{InputRead, IsInput, input_of, read_in}
 use Rattle.merge_inputs.specs.declared.input.Input.{Input}
 use Rattle.merge_plan.specs.Plan.{Source}
 use Rattle.merge_plan.specs.Planned.{CanBeWritten, IsPlanOf}
-use Rattle.merge_plan.specs.Spots.{HasPlace}
+use Rattle.merge_plan.specs.TakenTracks.{HasPlace}
 use Rattle.mkv_merge.specs.Ends.{HasReadCause}
 use Rattle.mkv_merge.specs.Merge.{sources_unless}
 use Rattle.mkv_merge.specs.Read.{inputs_of, numbered}

@@ -13,7 +13,7 @@ use Rattle.merge_plan.specs.Identifiers.{Have64Bits, identifiers_of}
 use Rattle.merge_plan.specs.Plan.{Source}
 use Rattle.merge_plan.specs.Records.{chapters_of, tags_of}
 use Rattle.mkv_lines.specs.declared.status.Status.{Status}
-use Rattle.mkv_lines.specs.declared.status.Stop.{Stop}
+use Rattle.mkv_lines.specs.declared.status.CommandEnd.{CommandEnd}
 use Rattle.mkv_merge.specs.Merge.{outputs_of}
 use Rattle.mkv_merge.specs.declared.refusal.Refusal.{Refusal}
 
@@ -41,5 +41,5 @@ pub record CanBeReadAgain (words : MergeWords) (sources : List Source) : Type 0 
   pub short : AreShort words sources
 
 -- So can what a merge has written that ended by itself, and that nothing refused.
-abbrev pub EndsReadable : MergeWords → Result (List Source) Refusal → Result Status Stop → Type 0
+abbrev pub EndsReadable : MergeWords → Result (List Source) Refusal → Result Status CommandEnd → Type 0
 EndsReadable words found result = IfOk result (λ _. IfOk found (CanBeReadAgain words))

@@ -2,7 +2,7 @@
 -- verdict stands on these words: a lemma ties them to what `Merge` says.
 use Rattle.std.specs.Prelude.{◌≡◌, ℕ, ◌+◌, List, [], ◌∷◌, Option, IfOk, Result, Ok, Err}
 use Rattle.std.specs.Option.{option_or}
-use Rattle.mkv_io.specs.Told.{Told}
+use Rattle.mkv_io.specs.Told.{IfVisible}
 use Rattle.mkv_io.specs.declared.outside.FileId.{FileId}
 use Rattle.mkv_io.specs.declared.files.Files as writing
 use Rattle.mkv_io.specs.declared.reads.Reads.{Ghosts}
@@ -12,13 +12,13 @@ use Rattle.merge_words.specs.declared.output.MergeWords.{MergeWords}
 use Rattle.merge_inputs.specs.declared.input.Input.{Input}
 use Rattle.merge_plan.specs.Plan.{Source}
 use Rattle.remux_plan.specs.declared.plan.MergePlan.{MergePlan}
-use Rattle.mkv_lines.specs.Command.{ComesTo, seen_in}
+use Rattle.mkv_lines.specs.Command.{Fulfils, seen_in}
 use Rattle.mkv_io.specs.Bounds.{ReadsUpTo}
 use Rattle.mkv_lines.specs.Seen.{Seen}
 use Rattle.mkv_lines.specs.Verdict.{IsStopped, Reaches}
 use Rattle.mkv_lines.specs.declared.status.Status.{Status}
 use Rattle.mkv_lines.specs.declared.status.Status.TheVariants as status
-use Rattle.mkv_lines.specs.declared.status.Stop.{Stop}
+use Rattle.mkv_lines.specs.declared.status.CommandEnd.{CommandEnd}
 use Rattle.mkv_merge.specs.Bound.{live_size, most_looked, most_of, most_planned, most_read}
 use Rattle.mkv_merge.specs.Ends.{end_as}
 use Rattle.mkv_merge.specs.Merge.{merged_verdict, sources_of, sources_unless, verdict_of}
@@ -33,17 +33,17 @@ use Rattle.mkv_merge.specs.declared.refusal.Refusal.{Refusal}
 -- ---- what was planned is written
 
 -- what it comes to with these inputs, which were read of these files
-abbrev pub ReachesPlanned : {F P : Type 0} → Ghosts F → writing.Ghosts F → ReportGhosts P → F → F → P → P → MergeWords → List FileId → List Input → Result Status Stop → Type 0
+abbrev pub ReachesPlanned : {F P : Type 0} → Ghosts F → writing.Ghosts F → ReportGhosts P → F → F → P → P → MergeWords → List FileId → List Input → Result Status CommandEnd → Type 0
 ReachesPlanned r f p files files' report report' words list inputs result = IfAllTold r files list (λ contents.
-    ComesTo r f p files files' report report' result (merged_verdict words (sources_from contents inputs)))
+    Fulfils r f p files files' report report' result (merged_verdict words (sources_from contents inputs)))
 
 -- how much is read of a plan, whose inputs are these files
 abbrev pub ReadsPlanned : {S : Type 0} → Ghosts S → S → S → List FileId → MergePlan → Type 0
 ReadsPlanned r old new list plan = ReadsUpTo r old new (most_planned plan (live_size r old list))
 
 -- no output of these inputs is longer than a file may be
-abbrev pub EndsShort : {S : Type 0} → Ghosts S → writing.Ghosts S → S → MergeWords → List FileId → List Input → Result Status Stop → Type 0
-EndsShort r f files words list inputs result = Told (f.names files) (λ world. IfAllTold r files list (λ contents.
+abbrev pub EndsShort : {S : Type 0} → Ghosts S → writing.Ghosts S → S → MergeWords → List FileId → List Input → Result Status CommandEnd → Type 0
+EndsShort r f files words list inputs result = IfVisible (f.names files) (λ world. IfAllTold r files list (λ contents.
     IfOk result (λ _. AreShort words (sources_from contents inputs))))
 
 -- ---- a merge up to its verdict, where a refusal isn't told yet
@@ -56,7 +56,7 @@ abbrev pub begun_refusal : (List ℕ → Option (List ℕ)) → MergeWords → T
 begun_refusal world words texts = option_or (missing_text texts) (pending_of world words)
 
 -- how the command ends that tells a refusal
-abbrev pub as_command : Result Status MergeEnd → Result Status Stop
+abbrev pub as_command : Result Status MergeEnd → Result Status CommandEnd
 as_command result = end_as (λ s. s) (λ why. status.Refused) result
 
 -- A merge of what is found has come to its verdict; or what refuses it is found, and nothing was said or written; or it has stopped on the way.
@@ -73,11 +73,11 @@ pub record MergesTo {F P : Type 0} (r : Ghosts F) (f : writing.Ghosts F) (p : Re
 
 -- of live files
 abbrev pub MergesThere : {F P : Type 0} → Ghosts F → writing.Ghosts F → ReportGhosts P → F → F → P → P → MergeWords → TextFiles → List FileId → Result Status MergeEnd → Type 0
-MergesThere r f p files files' report report' words texts list result = Told (f.names files) (λ world. IfAllTold r files list (λ contents.
+MergesThere r f p files files' report report' words texts list result = IfVisible (f.names files) (λ world. IfAllTold r files list (λ contents.
     let found = sources_unless (refusals_begun world words texts) words texts contents in
     MergesTo r f p files files' report report' words found (most_of found (live_size r files list) + most_looked words) result))
 
 -- of the files of the inputs' names
 abbrev pub MergesNamed : {F P : Type 0} → Ghosts F → writing.Ghosts F → ReportGhosts P → F → F → P → P → MergeWords → Result Status MergeEnd → Type 0
-MergesNamed r f p files files' report report' words result = Told (f.names files) (λ world.
+MergesNamed r f p files files' report report' words result = IfVisible (f.names files) (λ world.
     MergesTo r f p files files' report report' words (sources_of world words) (most_read world words) result)

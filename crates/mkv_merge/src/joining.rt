@@ -2,7 +2,7 @@
 
 ghost use Rattle.std.specs.Prelude.{[]};
 ghost use Rattle.mkv_io.specs.Seen.{SameLive};
-ghost use Rattle.mkv_io.specs.Told.{Told};
+ghost use Rattle.mkv_io.specs.Told.{IfVisible};
 ghost use Rattle.input_files.specs.Inputs.{AreInputs, file_names};
 ghost use Rattle.merge_words.specs.Sound.{IsSoundMerge};
 ghost use Rattle.mkv_merge.specs.Asked.{AsksToMerge};
@@ -17,7 +17,7 @@ use crate::refusal::{MergeEnd, Refusal, remuxed};
 use input_files::{ChapterFile, TextFiles, close_all, open_all};
 use merge_words::MergeWords;
 use mkv_io::{FileId, Files, List, Reads};
-use mkv_lines::Stop;
+use mkv_lines::CommandEnd;
 use remux_plan::Summary;
 use remuxer::remux;
 use std::alloc::Global;
@@ -63,7 +63,7 @@ fn join_named<F: Files>(
     ensures live { SameLive F.Reads files.old files.new }
     ensures cause { HasFilesCause F.Reads F.Files.own files.old files.new (as_merged result) }
     ensures asks { AsksToMerge (file_names words.now.files) words.now (F.asked files.old) (F.asked files.new) }
-    ensures octets { Told (F.names files.old) (λ world. ReadsUpTo F.Reads files.old files.new (most_lone world words.now)) }
+    ensures octets { IfVisible (F.names files.old) (λ world. ReadsUpTo F.Reads files.old files.new (most_lone world words.now)) }
 {
     if let Some(name) = first_written(alloc, words)? {
         return Err(MergeEnd::Refused(Refusal::OutputIsInput { name }));
@@ -79,13 +79,13 @@ pub fn merge_files<F: Files>(
     alloc: Global,
     words: &MergeWords,
     files: &mut F,
-) -> Result<Merged, Stop>
+) -> Result<Merged, CommandEnd>
     requires { IsSoundMerge words.now }
     ensures merges { MergesAlone F.Files.own files.old files.new words.now result }
     ensures live { SameLive F.Reads files.old files.new }
     ensures cause { HasFilesCause F.Reads F.Files.own files.old files.new result }
     ensures asks { AsksToMerge (file_names words.now.files) words.now (F.asked files.old) (F.asked files.new) }
-    ensures octets { Told (F.names files.old) (λ world. ReadsUpTo F.Reads files.old files.new (most_lone world words.now)) }
+    ensures octets { IfVisible (F.names files.old) (λ world. ReadsUpTo F.Reads files.old files.new (most_lone world words.now)) }
 {
     match join_named(alloc, words, files) {
         Ok(summary) => Ok(Merged::Written(summary)),

@@ -1,6 +1,6 @@
 //! Files are opened, merged and closed.
 
-ghost use Rattle.mkv_io.specs.Told.{Told};
+ghost use Rattle.mkv_io.specs.Told.{IfVisible};
 ghost use Rattle.input_files.specs.ChapterFile.{CanBeWritten};
 ghost use Rattle.merge_words.specs.Sound.{IsSoundMerge};
 ghost use Rattle.input_files.specs.Inputs.{AreInputs, file_names};
@@ -22,7 +22,7 @@ use crate::writing::write;
 use input_files::{TextFiles, close_all, open_all, read_text_files};
 use merge_words::MergeWords;
 use mkv_io::{FileId, Files, Report};
-use mkv_lines::{Status, Stop};
+use mkv_lines::{CommandEnd, Status};
 use std::alloc::Global;
 
 /// Merges live files, the inputs of these words, unless a text file isn't there, or an edit of one of them or of the output is
@@ -78,16 +78,16 @@ pub fn merge_of<F: Files, P: Report>(
     words: &MergeWords,
     files: &mut F,
     report: &mut P,
-) -> Result<Status, Stop>
+) -> Result<Status, CommandEnd>
     requires { IsSoundMerge words.now }
     ensures verdict { ComesToMerge F.Reads F.Files.own P.Report files.old files.new report.old report.new result words.now }
     ensures ended { HasEnded F.Reads F.Files.own P.Report files.old files.new report.old report.new result }
 
     // What a merge that ended has written can be read again: what its inputs give besides tracks and blocks, and outputs of
     // no more octets than a file may have.
-    ensures readable { Told (F.names files.old) (λ world. EndsReadable words.now (sources_of world words.now) result) }
+    ensures readable { IfVisible (F.names files.old) (λ world. EndsReadable words.now (sources_of world words.now) result) }
     ensures asks { AsksToMerge (opened_by words.now) words.now (F.asked files.old) (F.asked files.new) }
-    ensures octets { Told (F.names files.old) (λ world. ReadsUpTo F.Reads files.old files.new (most_read world words.now)) }
+    ensures octets { IfVisible (F.names files.old) (λ world. ReadsUpTo F.Reads files.old files.new (most_read world words.now)) }
 {
     match merge_named(alloc, words, files, report) {
         Ok(status) => Ok(status),

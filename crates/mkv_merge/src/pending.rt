@@ -3,7 +3,7 @@
 ghost use Rattle.std.specs.Prelude.{◌≡◌, IfOk};
 ghost use Rattle.mkv_io.specs.Bounds.{ReadsUpTo};
 ghost use Rattle.mkv_io.specs.Faults.{HasCause, is_read_fault};
-ghost use Rattle.mkv_io.specs.Told.{Told};
+ghost use Rattle.mkv_io.specs.Told.{IfVisible};
 ghost use Rattle.sidecar_edit.specs.Pending.{LooksOnly};
 ghost use Rattle.mkv_merge.specs.Asked.{sidecars_of};
 ghost use Rattle.mkv_merge.specs.Bound.{most_looked};
@@ -25,7 +25,7 @@ fn pending_of<F: Files>(
     words: &MergeWords,
     files: &mut F,
 ) -> Result<Option<Refusal>, ReadEnd>
-    ensures exact { Told (F.names files.old) (λ world. IfOk result (λ why. why ≡ pending_of world words.now)) }
+    ensures exact { IfVisible (F.names files.old) (λ world. IfOk result (λ why. why ≡ pending_of world words.now)) }
     ensures looks { LooksOnly F.Reads F.Files.own (sidecars_of words.now) files.old files.new }
     ensures cause { HasCause is_read_fault (F.reading_faults files.old) (F.reading_faults files.new) result }
     ensures octets { ReadsUpTo F.Reads files.old files.new (most_looked words.now) }
@@ -47,7 +47,7 @@ pub fn begun_refusal<F: Files>(
     texts: &TextFiles,
     files: &mut F,
 ) -> Result<Option<Refusal>, ReadEnd>
-    ensures exact { Told (F.names files.old) (λ world. IfOk result (λ why. why ≡ begun_refusal world words.now texts.now)) }
+    ensures exact { IfVisible (F.names files.old) (λ world. IfOk result (λ why. why ≡ begun_refusal world words.now texts.now)) }
     ensures looks { LooksOnly F.Reads F.Files.own (sidecars_of words.now) files.old files.new }
     ensures cause { HasCause is_read_fault (F.reading_faults files.old) (F.reading_faults files.new) result }
     ensures octets { ReadsUpTo F.Reads files.old files.new (most_looked words.now) }

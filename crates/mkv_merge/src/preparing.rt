@@ -15,10 +15,10 @@ use crate::refusal::{MergeEnd, Refusal};
 use crate::texts::with_times;
 use input_files::TextFiles;
 use merge_inputs::{Blocks, Input, InputEnd, read_input};
-use merge_plan::{append_refusal, plan_of, set_in_place};
+use merge_plan::{append_refusal, assign_append_offsets, plan_of};
 use merge_words::{FileWords, MergeWords};
 use mkv_io::{FileId, List, Reads};
-use mkv_lines::Stop;
+use mkv_lines::CommandEnd;
 use remux_plan::MergePlan;
 use std::alloc::Global;
 
@@ -51,8 +51,8 @@ fn read_one<R: Reads>(
     match read_input(alloc, words, webm, held, src, file) {
         Ok(read) => Ok(read),
         Err(InputEnd::Refused(why)) => Err(MergeEnd::Refused(Refusal::Input { input, why })),
-        Err(InputEnd::ReadFault) => Err(MergeEnd::Stopped(Stop::Files)),
-        Err(InputEnd::Memory) => Err(MergeEnd::Stopped(Stop::Memory)),
+        Err(InputEnd::ReadFault) => Err(MergeEnd::Stopped(CommandEnd::Files)),
+        Err(InputEnd::Memory) => Err(MergeEnd::Stopped(CommandEnd::Memory)),
     }
 }
 
@@ -112,7 +112,7 @@ pub fn prepare<R: Reads>(
     if let Some(differs) = append_refusal(timed.as_slice()) {
         return Err(MergeEnd::Refused(Refusal::Differs(differs)));
     }
-    let inputs = set_in_place(alloc, timed, src)?;
+    let inputs = assign_append_offsets(alloc, timed, src)?;
     let plan = plan_of(alloc, words, inputs.as_slice())?;
     Ok(Prepared { inputs, plan })
 }

@@ -2,7 +2,7 @@
 
 ghost use Rattle.std.specs.Prelude.{◌≡◌};
 ghost use Rattle.mkv_lines.specs.Code.{read_stop};
-ghost use Rattle.mkv_lines.specs.declared.status.Stop.TheVariants as stop;
+ghost use Rattle.mkv_lines.specs.declared.status.CommandEnd.TheVariants as stop;
 ghost use Rattle.mkv_merge.specs.Ends.{as_remuxed, as_written, unopened, unplanned};
 ghost use Rattle.mkv_merge.specs.declared.refusal.MergeEnd.TheVariants as merge_end;
 
@@ -10,7 +10,7 @@ use input_files::{InputsEnd, TextRefusal};
 use merge_inputs::InputRefusal;
 use merge_plan::{AppendDiffers, PlanEnd, PlanRefusal};
 use mkv_io::{ReadEnd, RemuxEnd, Text};
-use mkv_lines::{Status, Stop, stop_of};
+use mkv_lines::{CommandEnd, Status, stop_of};
 use remux_plan::Summary;
 use std::alloc::AllocError;
 
@@ -46,11 +46,11 @@ pub enum Refusal {
 #[derive(Debug, Drop)]
 pub enum MergeEnd {
     Refused(Refusal),
-    Stopped(Stop),
+    Stopped(CommandEnd),
 }
 
 /// How a merge ends whose writing and telling ended so.
-pub fn written(ended: Result<Status, Stop>) -> Result<Status, MergeEnd>
+pub fn written(ended: Result<Status, CommandEnd>) -> Result<Status, MergeEnd>
     ensures { result ≡ as_written ended }
 {
     match ended {
@@ -73,7 +73,7 @@ impl From<AllocError> for MergeEnd {
     ghost from_gives = { λ _ end. end ≡ merge_end.Stopped stop.Memory };
 
     fn from(_error: AllocError) -> MergeEnd {
-        MergeEnd::Stopped(Stop::Memory)
+        MergeEnd::Stopped(CommandEnd::Memory)
     }
 }
 
@@ -81,7 +81,7 @@ impl From<ReadEnd> for MergeEnd {
     ghost from_gives = { λ why end. end ≡ merge_end.Stopped (read_stop why) };
 
     fn from(why: ReadEnd) -> MergeEnd {
-        MergeEnd::Stopped(Stop::from(why))
+        MergeEnd::Stopped(CommandEnd::from(why))
     }
 }
 
@@ -91,8 +91,8 @@ impl From<InputsEnd> for MergeEnd {
     fn from(why: InputsEnd) -> MergeEnd {
         match why {
             InputsEnd::Missing { input } => MergeEnd::Refused(Refusal::Missing { input }),
-            InputsEnd::Failed => MergeEnd::Stopped(Stop::Files),
-            InputsEnd::Memory => MergeEnd::Stopped(Stop::Memory),
+            InputsEnd::Failed => MergeEnd::Stopped(CommandEnd::Files),
+            InputsEnd::Memory => MergeEnd::Stopped(CommandEnd::Memory),
         }
     }
 }
@@ -103,7 +103,7 @@ impl From<PlanEnd> for MergeEnd {
     fn from(why: PlanEnd) -> MergeEnd {
         match why {
             PlanEnd::Refused(why) => MergeEnd::Refused(Refusal::Plan(why)),
-            PlanEnd::Memory => MergeEnd::Stopped(Stop::Memory),
+            PlanEnd::Memory => MergeEnd::Stopped(CommandEnd::Memory),
         }
     }
 }

@@ -17,7 +17,7 @@ use merge_inputs::{Input, InputRefusal};
 use merge_plan::PlanRefusal;
 use merge_words::{FileWords, MergeWords};
 use mkv_io::Report;
-use mkv_lines::{Line, Status, Stop, say};
+use mkv_lines::{CommandEnd, Line, Status, say};
 use remux_plan::{InputDamage, MoreDamage, Summary};
 use std::alloc::Global;
 
@@ -114,7 +114,7 @@ pub fn refuse<P: Report>(
     words: &MergeWords,
     why: &Refusal,
     report: &mut P,
-) -> Result<Status, Stop>
+) -> Result<Status, CommandEnd>
     ensures verdict { SaysVerdict (P.lines report.old) (P.lines report.new) result (refused (line_of words.now why.now)) }
     ensures ordinary { IfOk result IsOrdinary }
     ensures cause { HasSayCause (P.faults report.old) (P.faults report.new) result }
@@ -128,7 +128,7 @@ fn say_absent_of<P: Report>(
     file: &FileWords,
     count: usize,
     report: &mut P,
-) -> Result<(), Stop>
+) -> Result<(), CommandEnd>
     ensures said { Says (P.lines report.old) (P.lines report.new) (lines_absent file.now count) result }
     ensures cause { HasSayCause (P.faults report.old) (P.faults report.new) result }
 {
@@ -149,7 +149,7 @@ pub fn say_absent<P: Report>(
     words: &MergeWords,
     inputs: &[Input],
     report: &mut P,
-) -> Result<(), Stop>
+) -> Result<(), CommandEnd>
     requires { length inputs.now ≡ length words.now.files }
     ensures said { Says (P.lines report.old) (P.lines report.new) (lines_before words.now (reads_in inputs.now)) result }
     ensures cause { HasSayCause (P.faults report.old) (P.faults report.new) result }
@@ -190,7 +190,7 @@ fn warn_of<P: Report>(
     input: usize,
     damages: &[InputDamage],
     report: &mut P,
-) -> Result<(), Stop>
+) -> Result<(), CommandEnd>
     ensures said { Says (P.lines report.old) (P.lines report.new) (damage_warnings name.now input damages.now) result }
     ensures cause { HasSayCause (P.faults report.old) (P.faults report.new) result }
 {
@@ -211,7 +211,7 @@ fn warn_more<P: Report>(
     input: usize,
     more: &[MoreDamage],
     report: &mut P,
-) -> Result<(), Stop>
+) -> Result<(), CommandEnd>
     ensures said { Says (P.lines report.old) (P.lines report.new) (more_warnings name.now input more.now) result }
     ensures cause { HasSayCause (P.faults report.old) (P.faults report.new) result }
 {
@@ -231,7 +231,7 @@ pub fn warn<P: Report>(
     words: &MergeWords,
     summary: &Summary,
     report: &mut P,
-) -> Result<(), Stop>
+) -> Result<(), CommandEnd>
     ensures said { Says (P.lines report.old) (P.lines report.new) (warnings_from summary.now 0 words.now.files) result }
     ensures cause { HasSayCause (P.faults report.old) (P.faults report.new) result }
 {
@@ -256,7 +256,7 @@ pub fn say_uuids<P: Report>(
     words: &MergeWords,
     outputs: usize,
     report: &mut P,
-) -> Result<(), Stop>
+) -> Result<(), CommandEnd>
     ensures said { Says (P.lines report.old) (P.lines report.new) (uuid_lines words.now outputs) result }
     ensures cause { HasSayCause (P.faults report.old) (P.faults report.new) result }
 {

@@ -16,13 +16,17 @@ use crate::preparing::Prepared;
 use crate::telling::{has_absent, has_other_count, say_absent, say_uuids, warn};
 use merge_words::MergeWords;
 use mkv_io::{FileId, Files, Report};
-use mkv_lines::{Line, Status, Stop, say, stop_of};
+use mkv_lines::{CommandEnd, Line, Status, say, stop_of};
 use remux_plan::{Summary, Written};
 use remuxer::remux;
 use std::alloc::Global;
 
 /// Tells of the outputs, which stand whole.
-fn say_wrote<P: Report>(alloc: Global, outputs: &[Written], report: &mut P) -> Result<(), Stop>
+fn say_wrote<P: Report>(
+    alloc: Global,
+    outputs: &[Written],
+    report: &mut P,
+) -> Result<(), CommandEnd>
     ensures said { Says (P.lines report.old) (P.lines report.new) (wrote_lines outputs.now) result }
     ensures cause { HasSayCause (P.faults report.old) (P.faults report.new) result }
 {
@@ -39,7 +43,7 @@ fn tell_outputs<P: Report>(
     words: &MergeWords,
     summary: &Summary,
     report: &mut P,
-) -> Result<(), Stop>
+) -> Result<(), CommandEnd>
     ensures said { Says (P.lines report.old) (P.lines report.new) (told_outputs words.now summary.now) result }
     ensures cause { HasSayCause (P.faults report.old) (P.faults report.new) result }
 {
@@ -55,7 +59,7 @@ fn tell<P: Report>(
     absent: bool,
     summary: &Summary,
     report: &mut P,
-) -> Result<Status, Stop>
+) -> Result<Status, CommandEnd>
     ensures said { Says (P.lines report.old) (P.lines report.new) (told_summary words.now summary.now) result }
     ensures status { IfOk result (λ status. status ≡ told_status words.now absent summary.now) }
     ensures ordinary { IfOk result IsOrdinary }
@@ -79,7 +83,7 @@ pub fn write<F: Files, P: Report>(
     ids: &[FileId],
     files: &mut F,
     report: &mut P,
-) -> Result<Status, Stop>
+) -> Result<Status, CommandEnd>
     requires words { IsApartMerge words.now }
     requires inputs { AreInputs F.Reads F.Files.own (file_names words.now.files) files.old ids.now }
     requires prepared { IsPrepared (live_files F.Reads files.old) words.now ids.now prepared }

@@ -1,7 +1,7 @@
 -- Outputs that are written one after the other: laws for whoever stops in the middle.
 use Rattle.std.proofs.Common.{◌≡◌, List, [], ◌∷◌, ◌++◌, inl, inr, refl, sym, ◌∙◌, ap}
 use Rattle.mkv_io.specs.Names.{Names, with_content}
-use Rattle.mkv_outputs.specs.Drafts.{AreDrafted, Draft, IsDrafted, StandsInTurn, outputs_of}
+use Rattle.mkv_outputs.specs.Drafts.{AreDrafted, Draft, IsDrafted, AreWrittenInOrder, outputs_of}
 use Rattle.mkv_outputs.specs.Outputs.{Output, with_outputs}
 use Rattle.mkv_outputs.proofs.OutputsLemmas.{with_outputs-added}
 
@@ -18,16 +18,16 @@ AreDrafted-next (first ∷ []) rest d o is = (refl, inr is)
 AreDrafted-next (first ∷ (next ∷ done)) rest d o is = (refl, AreDrafted-next (next ∷ done) rest d o is)
 
 -- no draft stands
-pub StandsInTurn-none : (names : Names) (all : List Draft) → StandsInTurn names names all
-StandsInTurn-none names all = record { stand = []; drafted = tt; names = refl }
+pub AreWrittenInOrder-none : (names : Names) (all : List Draft) → AreWrittenInOrder names names all
+AreWrittenInOrder-none names all = record { stand = []; drafted = tt; names = refl }
 
 -- some first drafts stand whole
-pub StandsInTurn-whole : (old new : Names) (done rest : List Draft) → new ≡ with_outputs old (outputs_of done) → StandsInTurn old new (done ++ rest)
-StandsInTurn-whole old new done rest names = record { stand = outputs_of done; drafted = AreDrafted-whole done rest; names = names }
+pub AreWrittenInOrder-whole : (old new : Names) (done rest : List Draft) → new ≡ with_outputs old (outputs_of done) → AreWrittenInOrder old new (done ++ rest)
+AreWrittenInOrder-whole old new done rest names = record { stand = outputs_of done; drafted = AreDrafted-whole done rest; names = names }
 
 -- some first drafts stand whole, and behind them what was written of the next one
-pub StandsInTurn-next : (old mid new : Names) (done rest : List Draft) (d : Draft) (o : Output) → mid ≡ with_outputs old (outputs_of done) → new ≡ with_content mid o.name o.content → IsDrafted o d → StandsInTurn old new (done ++ d ∷ rest)
-StandsInTurn-next old mid new done rest d o before names is = record {
+pub AreWrittenInOrder-next : (old mid new : Names) (done rest : List Draft) (d : Draft) (o : Output) → mid ≡ with_outputs old (outputs_of done) → new ≡ with_content mid o.name o.content → IsDrafted o d → AreWrittenInOrder old new (done ++ d ∷ rest)
+AreWrittenInOrder-next old mid new done rest d o before names is = record {
   stand = outputs_of done ++ o ∷ [];
   drafted = AreDrafted-next done rest d o is;
   names = names ∙ ap (λ (n : Names). with_content n o.name o.content) before ∙ sym (with_outputs-added old (outputs_of done) o);

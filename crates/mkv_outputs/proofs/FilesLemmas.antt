@@ -7,7 +7,7 @@ use Rattle.std.proofs.lemmas.Bool.Decides.{eqb_tells}
 use Rattle.std.proofs.lemmas.List.Elements.{All-push}
 use Rattle.std.proofs.lemmas.List.Quantifiers.{all_pairs_push}
 use Rattle.mkv_io.specs.declared.outside.FileId.{FileId}
-use Rattle.mkv_io.specs.Asked.{IsBesides}
+use Rattle.mkv_io.specs.Asked.{IsNotAmong}
 use Rattle.mkv_io.specs.Names.{AreOthers}
 use Rattle.mkv_io.specs.LiveFiles.{IsSameFile}
 use Rattle.mkv_io.specs.Sources.{live_files}
@@ -186,7 +186,7 @@ MadeSince-added r f names name a b c sinks later numbered among first next = rec
   holders = λ file live. next.holders file (stays file live) ∙ first.holders file live;
   others = λ file is. IsSameFile-twice (live_files r a) (live_files r b) (live_files r c) file (first.others file is)
       (next.others file (high file is.0, λ same. among (f.holder a file) is.1 (sym (first.holders file is.0) ∙ same)));
-  asks = asks-both (IsBesides [] names) (f.asked a) (f.asked b) (f.asked c) first.asks
+  asks = asks-both (IsNotAmong [] names) (f.asked a) (f.asked b) (f.asked c) first.asks
       (asks-more [] (name ∷ []) [] names (f.asked b) (f.asked c) (λ other others. others) (λ other others. (λ same. among other others (sym same), tt)) next.asks);
 }
   where
@@ -205,7 +205,7 @@ MadeSince-kept r f names a b c sinks later numbered first same next = record {
   holders = λ file live. next.holders file (stays file live) ∙ first.holders file live;
   others = λ file is. IsSameFile-twice (live_files r a) (live_files r b) (live_files r c) file (first.others file is)
       (next.others file (let P : List ℕ → Type 0 = λ name. AreOthers name names in subst P (sym (first.holders file is.0)) is.1));
-  asks = asks-both (IsBesides [] names) (f.asked a) (f.asked b) (f.asked c) first.asks next.asks;
+  asks = asks-both (IsNotAmong [] names) (f.asked a) (f.asked b) (f.asked c) first.asks next.asks;
 }
   where
     stays : (file : ℕ) → (live_files r a).live file ≡ true → (live_files r b).live file ≡ true
@@ -222,7 +222,7 @@ KeepsOthers-ended r f names a b c sinks numbered first ends = record {
     size = λ live. (same file other live).size live;
     content = λ live. (same file other live).content live;
   };
-  asks = asks-both (IsBesides [] names) (f.asked a) (f.asked b) (f.asked c) first.asks (asks-none (IsBesides [] names) (f.asked b) (f.asked c) ends.asked);
+  asks = asks-both (IsNotAmong [] names) (f.asked a) (f.asked b) (f.asked c) first.asks (asks-none (IsNotAmong [] names) (f.asked b) (f.asked c) ends.asked);
 }
   where
     old : (file : ℕ) → (live_files r a).live file ≡ true → IsNoneOf file (ids_of sinks)

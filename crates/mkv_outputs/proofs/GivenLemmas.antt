@@ -8,12 +8,12 @@ use Rattle.mkv_io.specs.Contents.{with_appended}
 use Rattle.mkv_io.specs.Names.{Names, with_change, with_content}
 use Rattle.mkv_io.specs.Names.{AreApart, AreOthers}
 use Rattle.mkv_outputs.specs.Outputs.{Output, empty, names_of, with_empty, with_end, with_more, with_outputs}
-use Rattle.mkv_outputs.specs.Starts.{AreBegun, StandsInPart}
+use Rattle.mkv_outputs.specs.Starts.{AreBegun, ArePrefixes}
 use Rattle.mkv_outputs.specs.Sinks.{AreLive, ArePassed, Gives, HaveBeenGiven, ids_of, holders_of, with_waiting}
 use Rattle.mkv_outputs.specs.Written.{Passes, PassesOn}
 use Rattle.mkv_outputs.specs.declared.sink.Sink.{Sink}
 use Rattle.mkv_outputs.proofs.OutputsLemmas.{names_of-more, with_more-none, with_outputs-added, with_outputs-more}
-use Rattle.mkv_outputs.proofs.StartsLemmas.{StandsInPart-before}
+use Rattle.mkv_outputs.proofs.StartsLemmas.{ArePrefixes-before}
 
 -- what stands is the first part of what was given
 pub with_waiting-begun : (stand : List Output) (sinks : List Sink) → length stand ≡ length sinks → AreBegun stand (with_waiting stand sinks)
@@ -91,7 +91,7 @@ HaveBeenGiven-on old mid new live holder later sinks k d next more given has bel
     }
 
 -- what was given stands in part
-pub HaveBeenGiven-part : (old new : Names) (holder : ℕ → List ℕ) (sinks : List Sink) (given : List Output) → HaveBeenGiven old new holder sinks given → StandsInPart old new given
+pub HaveBeenGiven-part : (old new : Names) (holder : ℕ → List ℕ) (sinks : List Sink) (given : List Output) → HaveBeenGiven old new holder sinks given → ArePrefixes old new given
 HaveBeenGiven-part old new holder sinks given has = record {
   stand = has.stand;
   begun = subst (AreBegun has.stand) (sym has.whole) (with_waiting-begun has.stand sinks (HaveBeenGiven-length has));
@@ -99,22 +99,22 @@ HaveBeenGiven-part old new holder sinks given has = record {
 }
 
 -- an output is given more, or a first part of it is written
-pub HaveBeenGiven-passes : {T E : Type 0} (result : Result T E) (old mid new : Names) (live : ℕ → Bool) (holder later : ℕ → List ℕ) (sinks : List Sink) (k : ℕ) (d next : Sink) (more : List ℕ) (given : List Output) → HaveBeenGiven old mid holder sinks given → k < length sinks → next.file ≡ (get_or sinks k d).file → AreLive live (ids_of sinks) → KeepsHolders live holder later → Passes mid new (holder (get_or sinks k d).file.n) ((get_or sinks k d).waiting ++ more) next.waiting result → OnOk result (HaveBeenGiven old new later (set sinks k next) (with_more k more given)) × OnErr result (StandsInPart old new (with_more k more given))
+pub HaveBeenGiven-passes : {T E : Type 0} (result : Result T E) (old mid new : Names) (live : ℕ → Bool) (holder later : ℕ → List ℕ) (sinks : List Sink) (k : ℕ) (d next : Sink) (more : List ℕ) (given : List Output) → HaveBeenGiven old mid holder sinks given → k < length sinks → next.file ≡ (get_or sinks k d).file → AreLive live (ids_of sinks) → KeepsHolders live holder later → Passes mid new (holder (get_or sinks k d).file.n) ((get_or sinks k d).waiting ++ more) next.waiting result → OnOk result (HaveBeenGiven old new later (set sinks k next) (with_more k more given)) × OnErr result (ArePrefixes old new (with_more k more given))
 HaveBeenGiven-passes (Ok done) old mid new live holder later sinks k d next more given has below same are kept passes =
     (HaveBeenGiven-on old mid new live holder later sinks k d next more given has below same are kept passes, tt)
 HaveBeenGiven-passes (Err fault) old mid new live holder later sinks k d next more given has below same are kept passes =
     (tt, HaveBeenGiven-part old new later _ _ (HaveBeenGiven-on old mid new live holder later sinks k d (record { file = (get_or sinks k d).file; waiting = passes.left }) more given has below refl are kept passes.passed))
 
 -- the same of the k-th of the files as it was and as it is
-pub HaveBeenGiven-wrote : {T E : Type 0} (result : Result T E) (old mid new : Names) (live : ℕ → Bool) (holder later : ℕ → List ℕ) (sinks : List Sink) (k : ℕ) (was next : Sink) (more : List ℕ) (given : List Output) → was ≡ get_or sinks k was → next.file ≡ was.file → k < length sinks → AreLive live (ids_of sinks) → KeepsHolders live holder later → Passes mid new (holder was.file.n) (was.waiting ++ more) next.waiting result → HaveBeenGiven old mid holder sinks given → OnOk result (HaveBeenGiven old new later (set sinks k next) (with_more k more given)) × OnErr result (StandsInPart old new (with_more k more given))
+pub HaveBeenGiven-wrote : {T E : Type 0} (result : Result T E) (old mid new : Names) (live : ℕ → Bool) (holder later : ℕ → List ℕ) (sinks : List Sink) (k : ℕ) (was next : Sink) (more : List ℕ) (given : List Output) → was ≡ get_or sinks k was → next.file ≡ was.file → k < length sinks → AreLive live (ids_of sinks) → KeepsHolders live holder later → Passes mid new (holder was.file.n) (was.waiting ++ more) next.waiting result → HaveBeenGiven old mid holder sinks given → OnOk result (HaveBeenGiven old new later (set sinks k next) (with_more k more given)) × OnErr result (ArePrefixes old new (with_more k more given))
 HaveBeenGiven-wrote result old mid new live holder later sinks k was next more given is same below are kept passes has =
     HaveBeenGiven-passes result old mid new live holder later sinks k was next more given has below (same ∙ ap (λ (s : Sink). s.file) is) are kept
     (subst (λ (s : Sink). Passes mid new (holder s.file.n) (s.waiting ++ more) next.waiting result) is passes)
 
 -- what waits is written
-pub HaveBeenGiven-flushed : {T E : Type 0} (result : Result T E) (old mid new : Names) (live : ℕ → Bool) (holder later : ℕ → List ℕ) (sinks : List Sink) (k : ℕ) (was next : Sink) (given : List Output) → was ≡ get_or sinks k was → next.file ≡ was.file → k < length sinks → AreLive live (ids_of sinks) → KeepsHolders live holder later → Passes mid new (holder was.file.n) was.waiting next.waiting result → HaveBeenGiven old mid holder sinks given → OnOk result (HaveBeenGiven old new later (set sinks k next) given) × OnErr result (StandsInPart old new given)
+pub HaveBeenGiven-flushed : {T E : Type 0} (result : Result T E) (old mid new : Names) (live : ℕ → Bool) (holder later : ℕ → List ℕ) (sinks : List Sink) (k : ℕ) (was next : Sink) (given : List Output) → was ≡ get_or sinks k was → next.file ≡ was.file → k < length sinks → AreLive live (ids_of sinks) → KeepsHolders live holder later → Passes mid new (holder was.file.n) was.waiting next.waiting result → HaveBeenGiven old mid holder sinks given → OnOk result (HaveBeenGiven old new later (set sinks k next) given) × OnErr result (ArePrefixes old new given)
 HaveBeenGiven-flushed result old mid new live holder later sinks k was next given is same below are kept passes has =
-    subst (λ (outputs : List Output). OnOk result (HaveBeenGiven old new later (set sinks k next) outputs) × OnErr result (StandsInPart old new outputs)) (with_more-none k given)
+    subst (λ (outputs : List Output). OnOk result (HaveBeenGiven old new later (set sinks k next) outputs) × OnErr result (ArePrefixes old new outputs)) (with_more-none k given)
     (HaveBeenGiven-wrote result old mid new live holder later sinks k was next [] given is same below are kept
     (subst (λ (octets : List ℕ). Passes mid new (holder was.file.n) octets next.waiting result) (sym (append-nil was.waiting)) passes) has)
 
@@ -178,9 +178,9 @@ AreBegun-added (first ∷ os) [] o same = absurd (omega (arith, same))
 AreBegun-added (first ∷ os) (s ∷ ss) o same = (record { name = refl; content = record { rest = s.waiting; whole = refl } }, AreBegun-added os ss o (omega (arith, same)))
 
 -- a refused making
-pub HaveBeenGiven-refused : (old mid new : Names) (holder : ℕ → List ℕ) (sinks : List Sink) (given : List Output) (name : List ℕ) → HaveBeenGiven old mid holder sinks given → (new ≡ mid) ⊎ (new ≡ with_content mid name []) → StandsInPart old new (given ++ empty name ∷ [])
+pub HaveBeenGiven-refused : (old mid new : Names) (holder : ℕ → List ℕ) (sinks : List Sink) (given : List Output) (name : List ℕ) → HaveBeenGiven old mid holder sinks given → (new ≡ mid) ⊎ (new ≡ with_content mid name []) → ArePrefixes old new (given ++ empty name ∷ [])
 HaveBeenGiven-refused old mid new holder sinks given name has (inl same) =
-    subst (λ (names : Names). StandsInPart old names (given ++ empty name ∷ [])) (sym same) (StandsInPart-before old mid given (empty name ∷ []) (HaveBeenGiven-part old mid holder sinks given has))
+    subst (λ (names : Names). ArePrefixes old names (given ++ empty name ∷ [])) (sym same) (ArePrefixes-before old mid given (empty name ∷ []) (HaveBeenGiven-part old mid holder sinks given has))
 HaveBeenGiven-refused old mid new holder sinks given name has (inr made) = record {
   stand = has.stand ++ empty name ∷ [];
   begun = subst (λ (os : List Output). AreBegun (has.stand ++ empty name ∷ []) (os ++ empty name ∷ [])) (sym has.whole) (AreBegun-added has.stand sinks (empty name) (HaveBeenGiven-length has));

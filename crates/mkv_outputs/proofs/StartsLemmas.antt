@@ -2,7 +2,7 @@
 use Rattle.std.proofs.Common.{◌≡◌, ℕ, zero, suc, List, [], ◌∷◌, ◌++◌, refl, sym, ◌∙◌, ap, append_assoc, append-nil}
 use Rattle.mkv_io.specs.Names.{Names}
 use Rattle.mkv_outputs.specs.Outputs.{Output, with_more}
-use Rattle.mkv_outputs.specs.Starts.{AreBegun, IsBegun, IsStart, StandsInPart}
+use Rattle.mkv_outputs.specs.Starts.{AreBegun, IsBegun, IsStart, ArePrefixes}
 
 -- a first part of a first part
 pub IsStart-then : (a b c : List ℕ) → IsStart a b → IsStart b c → IsStart a c
@@ -35,12 +35,12 @@ AreBegun-more zero more (o ∷ os) = (record { name = refl; content = record { r
 AreBegun-more (suc k) more (o ∷ os) = (IsBegun-whole o, AreBegun-more k more os)
 
 -- what stands of some outputs stands of all that these have begun
-pub StandsInPart-then : (old new : Names) (some all : List Output) → StandsInPart old new some → AreBegun some all → StandsInPart old new all
-StandsInPart-then old new some all stands begun = record { stand = stands.stand; begun = AreBegun-then stands.stand some all stands.begun begun; names = stands.names }
+pub ArePrefixes-then : (old new : Names) (some all : List Output) → ArePrefixes old new some → AreBegun some all → ArePrefixes old new all
+ArePrefixes-then old new some all stands begun = record { stand = stands.stand; begun = AreBegun-then stands.stand some all stands.begun begun; names = stands.names }
 
 -- an output that is to be given more
-pub StandsInPart-more : (old new : Names) (k : ℕ) (more : List ℕ) (outputs : List Output) → StandsInPart old new outputs → StandsInPart old new (with_more k more outputs)
-StandsInPart-more old new k more outputs stands = StandsInPart-then old new outputs (with_more k more outputs) stands (AreBegun-more k more outputs)
+pub ArePrefixes-more : (old new : Names) (k : ℕ) (more : List ℕ) (outputs : List Output) → ArePrefixes old new outputs → ArePrefixes old new (with_more k more outputs)
+ArePrefixes-more old new k more outputs stands = ArePrefixes-then old new outputs (with_more k more outputs) stands (AreBegun-more k more outputs)
 
 -- more outputs, of which nothing stands
 pub AreBegun-before : (stand all more : List Output) → AreBegun stand all → AreBegun stand (all ++ more)
@@ -49,5 +49,5 @@ AreBegun-before (o ∷ os) [] more begun = absurd begun
 AreBegun-before (o ∷ os) (whole ∷ all) more begun = (begun.0, AreBegun-before os all more begun.1)
 
 -- further outputs, of which nothing stands
-pub StandsInPart-before : (old new : Names) (all more : List Output) → StandsInPart old new all → StandsInPart old new (all ++ more)
-StandsInPart-before old new all more stands = record { stand = stands.stand; begun = AreBegun-before stands.stand all more stands.begun; names = stands.names }
+pub ArePrefixes-before : (old new : Names) (all more : List Output) → ArePrefixes old new all → ArePrefixes old new (all ++ more)
+ArePrefixes-before old new all more stands = record { stand = stands.stand; begun = AreBegun-before stands.stand all more stands.begun; names = stands.names }

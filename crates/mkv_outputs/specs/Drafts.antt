@@ -52,7 +52,7 @@ AreDrafted (o ∷ []) (d ∷ ds) = (o ≡ output_of d) ⊎ IsDrafted o d
 AreDrafted (o ∷ (next ∷ os)) (d ∷ ds) = (o ≡ output_of d) × AreDrafted (next ∷ os) ds
 
 -- Some first drafts stand, all whole but for the last one, and no other name was changed.
-pub record StandsInTurn (old new : Names) (all : List Draft) : Type 0 where
+pub record AreWrittenInOrder (old new : Names) (all : List Draft) : Type 0 where
   pub stand : List Output
   pub drafted : AreDrafted stand all
   pub names : new ≡ with_outputs old stand

@@ -10,7 +10,7 @@ use Rattle.mkv_io.specs.Writing.{WritesOnly}
 use Rattle.mkv_io.specs.declared.reads.Reads.{Ghosts}
 use Rattle.mkv_io.specs.declared.files.Files as writing
 use Rattle.mkv_outputs.specs.Outputs.{Output, names_of, with_end, with_outputs}
-use Rattle.mkv_outputs.specs.Starts.{StandsInPart}
+use Rattle.mkv_outputs.specs.Starts.{ArePrefixes}
 use Rattle.mkv_outputs.specs.declared.sink.Sink.{Sink}
 
 -- the numbers of the files of outputs, in their order
@@ -107,12 +107,12 @@ pub record HaveBeenGiven (old new : Names) (holder : ℕ → List ℕ) (sinks : 
 -- stands in part.
 abbrev pub Gives : {S T E : Type 0} → writing.Ghosts S → S → S → List Sink → List Sink → (List Output → List Output) → Result T E → Type 0
 Gives f old new sinks later more (Ok _) = (since : Names) (given : List Output) → HaveBeenGiven since (f.names old) (f.holder old) sinks given → HaveBeenGiven since (f.names new) (f.holder new) later (more given)
-Gives f old new sinks later more (Err _) = (since : Names) (given : List Output) → HaveBeenGiven since (f.names old) (f.holder old) sinks given → StandsInPart since (f.names new) (more given)
+Gives f old new sinks later more (Err _) = (since : Names) (given : List Output) → HaveBeenGiven since (f.names old) (f.holder old) sinks given → ArePrefixes since (f.names new) (more given)
 
 -- Whatever the outputs were given, it stands whole under their names. After a refusal it stands in part.
 abbrev pub Finishes : {S T E : Type 0} → writing.Ghosts S → S → S → List Sink → Result T E → Type 0
 Finishes f old new sinks (Ok _) = (since : Names) (given : List Output) → HaveBeenGiven since (f.names old) (f.holder old) sinks given → f.names new ≡ with_outputs since given
-Finishes f old new sinks (Err _) = (since : Names) (given : List Output) → HaveBeenGiven since (f.names old) (f.holder old) sinks given → StandsInPart since (f.names new) given
+Finishes f old new sinks (Err _) = (since : Names) (given : List Output) → HaveBeenGiven since (f.names old) (f.holder old) sinks given → ArePrefixes since (f.names new) given
 
 -- nothing waits of the first, so many of them
 abbrev pub ArePassed : ℕ → List Sink → Type 0

@@ -20,7 +20,7 @@ AreBegun (o ∷ os) [] = ⊥
 AreBegun (o ∷ os) (whole ∷ all) = IsBegun o whole × AreBegun os all
 
 -- Some first outputs have been begun, and no other name was changed.
-pub record StandsInPart (old new : Names) (all : List Output) : Type 0 where
+pub record ArePrefixes (old new : Names) (all : List Output) : Type 0 where
   pub stand : List Output
   pub begun : AreBegun stand all
   pub names : new ≡ with_outputs old stand

@@ -5,7 +5,7 @@ use Rattle.std.proofs.lemmas.List.{get_or-take}
 use Rattle.std.proofs.lemmas.Bool.Decides.{nat_tests}
 use Rattle.mkv_io.specs.declared.reads.Reads as reads
 use Rattle.mkv_io.specs.Faults.{HasCause}
-use Rattle.mkv_io.specs.Told.{Told}
+use Rattle.mkv_io.specs.Told.{IfVisible}
 use Rattle.mkv_disk.specs.Calls.{AtRest, OfReads}
 use Rattle.mkv_disk.specs.Moments.{LeavesOnly}
 use Rattle.mkv_disk.specs.Pair.{Pair, IsPairImage, IsSynced, both}
@@ -18,8 +18,8 @@ use Rattle.mkv_lines.specs.Said.{ReportLines}
 use Rattle.mkv_lines.specs.Verdict.{SaysVerdict, Verdict, done, nothing, refused}
 use Rattle.mkv_lines.specs.declared.status.Status.{Status}
 use Rattle.mkv_lines.specs.declared.status.Status.TheVariants as status
-use Rattle.mkv_lines.specs.declared.status.Stop.{Stop}
-use Rattle.mkv_lines.specs.declared.status.Stop.TheVariants as stop
+use Rattle.mkv_lines.specs.declared.status.CommandEnd.{CommandEnd}
+use Rattle.mkv_lines.specs.declared.status.CommandEnd.TheVariants as stop
 use Rattle.mkv_propedit.specs.Recover.{DiskWorld, disk_world}
 use Rattle.mkv_propedit.specs.Recovery.{HasDiskStop}
 use Rattle.mkv_propedit.proofs.RecoverLemmas.{said-stop}
@@ -154,7 +154,7 @@ module _ {D : Type 0} (d : Ghosts D) (found : List ℕ → Result (List Write) R
       edit-none old old s rest leaves (λ told. refl) (λ told. stays d.moment d.left_since old (IsPairImage (d.pair old)) (λ m t left. only m t told left))
 
   -- a refusal that is told, or couldn't be
-  pub refused-left : (line : List ℕ) (old new : ReportLines) (result : Result Status Stop) → SaysVerdict old new result (refused line) → (M S : List ℕ) (p : Pair) → p ≡ both M S → LeavesEdited (status_of result) found M S p
+  pub refused-left : (line : List ℕ) (old new : ReportLines) (result : Result Status CommandEnd) → SaysVerdict old new result (refused line) → (M S : List ℕ) (p : Pair) → p ≡ both M S → LeavesEdited (status_of result) found M S p
   refused-left line old new (Ok s) says M S p same = subst (λ (t : Status). LeavesEdited t found M S p) (sym says.0) same
   refused-left line old new (Err stop.Memory) says M S p same = same
   refused-left line old new (Err stop.Files) says M S p same = tt
@@ -164,16 +164,16 @@ module _ {D : Type 0} (d : Ghosts D) (found : List ℕ → Result (List Write) R
 -- ---- what was carried out is told
 
 module _ {A E : Type 0} (before now : ℕ) where
-  pub made-left : (p : Planned) (M S : List ℕ) (q : Pair) (line : List ℕ) (old new : ReportLines) (made : Result A E) (result : Result Status Stop) → OnOk made (q ≡ both (applied M (writes_of p)) (0 ∷ []))
+  pub made-left : (p : Planned) (M S : List ℕ) (q : Pair) (line : List ℕ) (old new : ReportLines) (made : Result A E) (result : Result Status CommandEnd) → OnOk made (q ≡ both (applied M (writes_of p)) (0 ∷ []))
       → HasMadeCause made before now result → SaysVerdict old new result (done (line ∷ [])) → LeavesPlanned (status_of result) p M S q
   made-left p M S q line old new (Ok u) (Ok s) is cause says = subst (λ (t : Status). LeavesPlanned t p M S q) (sym says.0) is
   made-left p M S q line old new (Ok u) (Err stop.Memory) is cause says = absurd (cause.1 refl)
   made-left p M S q line old new (Ok u) (Err stop.Files) is cause says = tt
   made-left p M S q line old new (Ok u) (Err stop.Disk) is cause says = tt
   made-left p M S q line old new (Ok u) (Err stop.Report) is cause says = tt
-  made-left p M S q line old new (Err e) result is cause says = subst (λ (r : Result Status Stop). LeavesPlanned (status_of r) p M S q) (sym cause.0) tt
+  made-left p M S q line old new (Err e) result is cause says = subst (λ (r : Result Status CommandEnd). LeavesPlanned (status_of r) p M S q) (sym cause.0) tt
 
-  pub made-stop : {D T : Type 0} (r : reads.Ghosts D) (d : Ghosts D) (old new : D) (made : Result A E) (result : Result T Stop) → r.reading_faults new ≡ r.reading_faults old
+  pub made-stop : {D T : Type 0} (r : reads.Ghosts D) (d : Ghosts D) (old new : D) (made : Result A E) (result : Result T CommandEnd) → r.reading_faults new ≡ r.reading_faults old
       → HasCause (λ _. true) (d.writing_faults old) (d.writing_faults new) made → HasMadeCause made before now result → HasDiskStop r d old new before now result
   made-stop r d old new (Ok u) result reading disk cause = said-stop r d old new before now result (record { reading = reading; writing = disk }) cause.0
   made-stop r d old new (Err e) result reading disk cause = subst (λ x. HasDiskStop r d old new before now x) (sym cause.0) (inr (reading, disk), cause.1)
@@ -195,12 +195,12 @@ propedit-outputs true name edits M S = begun-outputs name (state S) (told name (
 propedit-outputs false name edits M S = refl
 
 -- what holds of the verdict over what is read holds of the verdict that is told
-pub edit-told : {D : Type 0} (d : Ghosts D) (disk : D) (name : List ℕ) (edits : List Edit) (Q : Verdict → Type 0) → OfReads d disk (λ M S. Q (propedit_verdict (d.is_there disk name) name edits M S)) → Told (option_map (λ world. propedit_on world name edits) (disk_world d disk)) Q
+pub edit-told : {D : Type 0} (d : Ghosts D) (disk : D) (name : List ℕ) (edits : List Edit) (Q : Verdict → Type 0) → OfReads d disk (λ M S. Q (propedit_verdict (d.is_there disk name) name edits M S)) → IfVisible (option_map (λ world. propedit_on world name edits) (disk_world d disk)) Q
 edit-told d disk name edits Q so = by_told d.told so
   where
     world : DiskWorld
     world = record { is_there = d.is_there disk; media = (d.pair disk).media.reads; sidecar = (d.pair disk).sidecar.reads }
 
-    by_told : (b : Bool) → (IsTrue b → Q (propedit_on world name edits)) → Told (option_map (λ w. propedit_on w name edits) (if b then Some world else None)) Q
+    by_told : (b : Bool) → (IsTrue b → Q (propedit_on world name edits)) → IfVisible (option_map (λ w. propedit_on w name edits) (if b then Some world else None)) Q
     by_told true so = λ v is. let same : propedit_on world name edits ≡ v = cc in subst Q same (so refl)
     by_told false so = λ v is. absurd (cc)

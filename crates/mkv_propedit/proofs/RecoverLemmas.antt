@@ -1,7 +1,7 @@
 -- What recovering leaves, and how it is told.
 use Rattle.std.proofs.Common.{◌≡◌, ◌∙◌, ℕ, IsTrue, List, [], ◌∷◌, Bool, true, false, if◌then◌else◌, Some, None, option_map, Result, Ok, Err, refl, ap, sym, subst}
 use Rattle.mkv_io.specs.declared.reads.Reads as reads
-use Rattle.mkv_io.specs.Told.{Told}
+use Rattle.mkv_io.specs.Told.{IfVisible}
 use Rattle.mkv_disk.specs.Calls.{AtRest, OfReads}
 use Rattle.mkv_disk.specs.Moments.{LeavesOnly}
 use Rattle.mkv_disk.specs.Pair.{Pair, IsPairImage, IsSynced, both}
@@ -14,8 +14,8 @@ use Rattle.mkv_lines.specs.Said.{HasSayCause, ReportLines}
 use Rattle.mkv_lines.specs.Verdict.{SaysVerdict, Verdict, nothing, refused}
 use Rattle.mkv_lines.specs.declared.status.Status.{Status}
 use Rattle.mkv_lines.specs.declared.status.Status.TheVariants as status
-use Rattle.mkv_lines.specs.declared.status.Stop.{Stop}
-use Rattle.mkv_lines.specs.declared.status.Stop.TheVariants as stop
+use Rattle.mkv_lines.specs.declared.status.CommandEnd.{CommandEnd}
+use Rattle.mkv_lines.specs.declared.status.CommandEnd.TheVariants as stop
 use Rattle.mkv_lines.proofs.SaidLemmas.{SaysPart-before}
 use Rattle.sidecar_edit.specs.declared.outcome.Recovered.{Recovered}
 use Rattle.sidecar_edit.specs.declared.outcome.Recovered.TheVariants.{Applied, Nothing}
@@ -33,15 +33,15 @@ use Rattle.mkv_propedit.specs.Recovery.{HasDiskStop, HasTellCause, IsRecovery, L
 -- ---- what is told
 
 -- what recovering comes to is told, or the disk failed before anything was
-pub told-recovered : (M S name : List ℕ) (p : Pair) (outcome : Result Recovered RecoverEnd) (result : Result Status Stop) (before now : ℕ) (old new : ReportLines) → IsRecovered M S outcome p
+pub told-recovered : (M S name : List ℕ) (p : Pair) (outcome : Result Recovered RecoverEnd) (result : Result Status CommandEnd) (before now : ℕ) (old new : ReportLines) → IsRecovered M S outcome p
     → HasTellCause outcome before now result → SaysVerdict old new result (told name outcome) → SaysVerdict old new result (told name (recovery M S))
 told-recovered M S name p (Ok Applied) result before now old new is cause says = subst (λ r. SaysVerdict old new result (told name r)) (sym is.0) says
 told-recovered M S name p (Ok Nothing) result before now old new is cause says = subst (λ r. SaysVerdict old new result (told name r)) (sym is) says
 told-recovered M S name p (Err (BadSidecar offset)) result before now old new is cause says = subst (λ r. SaysVerdict old new result (told name r)) (sym is) says
 told-recovered M S name p (Err (Foreign mark kept found)) result before now old new is cause says = subst (λ r. SaysVerdict old new result (told name r)) (sym is) says
 told-recovered M S name p (Err DiskFault) result before now old new is cause says =
-    subst (λ (r : Result Status Stop). SaysVerdict old new r (told name (recovery M S))) (sym cause.0)
-    (SaysPart-before old new [] (told name (recovery M S)).lines (subst (λ (r : Result Status Stop). SaysVerdict old new r (told name (Err DiskFault))) cause.0 says))
+    subst (λ (r : Result Status CommandEnd). SaysVerdict old new r (told name (recovery M S))) (sym cause.0)
+    (SaysPart-before old new [] (told name (recovery M S)).lines (subst (λ (r : Result Status CommandEnd). SaysVerdict old new r (told name (Err DiskFault))) cause.0 says))
 
 -- ---- what is left of the pair
 
@@ -51,7 +51,7 @@ pair-nothing M S is = sym (ap (λ r. both (when_applied r M (applied M (writes_i
 
 module _ (M S name : List ℕ) (p : Pair) (before now : ℕ) (old new : ReportLines) where
   -- where an edit was made whole
-  left-applied : (result : Result Status Stop) → recovery M S ≡ Ok Applied → p ≡ both (recovered M S) (0 ∷ []) → (result ≡ Err stop.Memory → ⊥) → SaysVerdict old new result (told name (Ok Applied)) → LeavesPair (status_of result) M S p
+  left-applied : (result : Result Status CommandEnd) → recovery M S ≡ Ok Applied → p ≡ both (recovered M S) (0 ∷ []) → (result ≡ Err stop.Memory → ⊥) → SaysVerdict old new result (told name (Ok Applied)) → LeavesPair (status_of result) M S p
   left-applied (Ok s) is pair some says =
       subst (λ (t : Status). LeavesPair t M S p) (sym says.0) (pair ∙ ap (λ r. both (recovered M S) (sidecar_after r S)) (sym is))
   left-applied (Err stop.Memory) is pair some says = absurd (some refl)
@@ -60,19 +60,19 @@ module _ (M S name : List ℕ) (p : Pair) (before now : ℕ) (old new : ReportLi
   left-applied (Err stop.Report) is pair some says = tt
 
   -- where nothing was written
-  left-same : (v : Verdict) (result : Result Status Stop) → p ≡ both M S → LeavesPair v.status M S p → SaysVerdict old new result v → LeavesPair (status_of result) M S p
+  left-same : (v : Verdict) (result : Result Status CommandEnd) → p ≡ both M S → LeavesPair v.status M S p → SaysVerdict old new result v → LeavesPair (status_of result) M S p
   left-same v (Ok s) pair leaves says = subst (λ (t : Status). LeavesPair t M S p) (sym says.0) leaves
   left-same v (Err stop.Memory) pair leaves says = pair
   left-same v (Err stop.Files) pair leaves says = tt
   left-same v (Err stop.Disk) pair leaves says = tt
   left-same v (Err stop.Report) pair leaves says = tt
 
-  pub left-recovered : (outcome : Result Recovered RecoverEnd) (result : Result Status Stop) → IsRecovered M S outcome p → KeepsUnlessApplied outcome (both M S) p → HasTellCause outcome before now result → SaysVerdict old new result (told name outcome) → LeavesPair (status_of result) M S p
+  pub left-recovered : (outcome : Result Recovered RecoverEnd) (result : Result Status CommandEnd) → IsRecovered M S outcome p → KeepsUnlessApplied outcome (both M S) p → HasTellCause outcome before now result → SaysVerdict old new result (told name outcome) → LeavesPair (status_of result) M S p
   left-recovered (Ok Applied) result is keeps cause says = left-applied result is.0 is.1 cause.1 says
   left-recovered (Ok Nothing) result is keeps cause says = left-same (told name (Ok Nothing)) result keeps (keeps ∙ pair-nothing M S is) says
   left-recovered (Err (BadSidecar offset)) result is keeps cause says = left-same (told name (Err (BadSidecar offset))) result keeps keeps says
   left-recovered (Err (Foreign mark kept found)) result is keeps cause says = left-same (told name (Err (Foreign mark kept found))) result keeps keeps says
-  left-recovered (Err DiskFault) result is keeps cause says = subst (λ (r : Result Status Stop). LeavesPair (status_of r) M S p) (sym cause.0) tt
+  left-recovered (Err DiskFault) result is keeps cause says = subst (λ (r : Result Status CommandEnd). LeavesPair (status_of r) M S p) (sym cause.0) tt
 
 -- what stands tells the pair
 pub keeps-pair : {T : Type 0} (a b : T) (p q : Pair) (outcome : Result Recovered RecoverEnd) → (b ≡ a → q ≡ p) → KeepsUnlessApplied outcome a b → KeepsUnlessApplied outcome p q
@@ -86,14 +86,14 @@ keeps-pair a b p q (Err DiskFault) so keeps = tt
 
 module _ {D : Type 0} (r : reads.Ghosts D) (d : Ghosts D) where
   -- where the disk didn't fail
-  pub said-stop : {T : Type 0} (old new : D) (before now : ℕ) (result : Result T Stop) → HasNoFault r d old new → HasSayCause before now result → HasDiskStop r d old new before now result
+  pub said-stop : {T : Type 0} (old new : D) (before now : ℕ) (result : Result T CommandEnd) → HasNoFault r d old new → HasSayCause before now result → HasDiskStop r d old new before now result
   said-stop old new before now (Ok x) none cause = (none, cause)
   said-stop old new before now (Err stop.Memory) none cause = (none, cause)
   said-stop old new before now (Err stop.Files) none cause = absurd cause
   said-stop old new before now (Err stop.Disk) none cause = absurd cause
   said-stop old new before now (Err stop.Report) none cause = (none, cause)
 
-  pub told-stop : {T : Type 0} (old new : D) (before now : ℕ) (outcome : Result Recovered RecoverEnd) (result : Result T Stop) → HasDiskCause r d is_disk_fault old new outcome → HasTellCause outcome before now result → HasDiskStop r d old new before now result
+  pub told-stop : {T : Type 0} (old new : D) (before now : ℕ) (outcome : Result Recovered RecoverEnd) (result : Result T CommandEnd) → HasDiskCause r d is_disk_fault old new outcome → HasTellCause outcome before now result → HasDiskStop r d old new before now result
   told-stop old new before now (Ok Applied) result disk cause = said-stop old new before now result disk cause.0
   told-stop old new before now (Ok Nothing) result disk cause = said-stop old new before now result disk cause
   told-stop old new before now (Err (BadSidecar offset)) result disk cause = said-stop old new before now result disk cause
@@ -101,7 +101,7 @@ module _ {D : Type 0} (r : reads.Ghosts D) (d : Ghosts D) where
   told-stop old new before now (Err DiskFault) result disk cause = subst (λ r'. HasDiskStop r d old new before now r') (sym cause.0) (disk, cause.1)
 
   -- behind a call that failed at nothing
-  pub stop-then : {T : Type 0} (old mid new : D) (before now : ℕ) (result : Result T Stop) → HasNoFault r d old mid → HasDiskStop r d mid new before now result → HasDiskStop r d old new before now result
+  pub stop-then : {T : Type 0} (old mid new : D) (before now : ℕ) (result : Result T CommandEnd) → HasNoFault r d old mid → HasDiskStop r d mid new before now result → HasDiskStop r d old new before now result
   stop-then old mid new before now (Ok x) none cause = (none-then r d old mid new none cause.0, cause.1)
   stop-then old mid new before now (Err stop.Memory) none cause = (none-then r d old mid new none cause.0, cause.1)
   stop-then old mid new before now (Err stop.Files) none cause = cause
@@ -147,14 +147,14 @@ module _ {D : Type 0} (d : Ghosts D) where
       recovery-none old old s rest leaves (λ told. refl) (λ told. stays d.moment d.left_since old (IsPairImage (d.pair old)) (λ m t left. only m t told left))
 
 -- a refusal that is told, or couldn't be
-pub refused-left : (line : List ℕ) (old new : ReportLines) (result : Result Status Stop) → SaysVerdict old new result (refused line) → (M S : List ℕ) (p : Pair) → p ≡ both M S → LeavesPair (status_of result) M S p
+pub refused-left : (line : List ℕ) (old new : ReportLines) (result : Result Status CommandEnd) → SaysVerdict old new result (refused line) → (M S : List ℕ) (p : Pair) → p ≡ both M S → LeavesPair (status_of result) M S p
 refused-left line old new (Ok s) says M S p same = subst (λ (t : Status). LeavesPair t M S p) (sym says.0) same
 refused-left line old new (Err stop.Memory) says M S p same = same
 refused-left line old new (Err stop.Files) says M S p same = tt
 refused-left line old new (Err stop.Disk) says M S p same = tt
 refused-left line old new (Err stop.Report) says M S p same = tt
 
-pub refused-status : (line : List ℕ) (old new : ReportLines) (result : Result Status Stop) → SaysVerdict old new result (refused line) → status_of result ≡ status.Done → ⊥
+pub refused-status : (line : List ℕ) (old new : ReportLines) (result : Result Status CommandEnd) → SaysVerdict old new result (refused line) → status_of result ≡ status.Done → ⊥
 refused-status line old new (Ok s) says is = let refuses : s ≡ status.Refused = says.0 in absurd (cc)
 refused-status line old new (Err stop.Memory) says is = absurd (cc)
 refused-status line old new (Err stop.Files) says is = absurd (cc)
@@ -176,13 +176,13 @@ recover-outputs true name M S = told-outputs name (recovery M S)
 recover-outputs false name M S = refl
 
 -- what holds of the verdict over what is read holds of the verdict that is told
-pub verdict-told : {D : Type 0} (d : Ghosts D) (disk : D) (name : List ℕ) (Q : Verdict → Type 0) → OfReads d disk (λ M S. Q (recover_verdict (d.is_there disk name) name M S)) → Told (option_map (λ world. verdict_on world name) (disk_world d disk)) Q
+pub verdict-told : {D : Type 0} (d : Ghosts D) (disk : D) (name : List ℕ) (Q : Verdict → Type 0) → OfReads d disk (λ M S. Q (recover_verdict (d.is_there disk name) name M S)) → IfVisible (option_map (λ world. verdict_on world name) (disk_world d disk)) Q
 verdict-told d disk name Q so = by_told d.told so
   where
     world : DiskWorld
     world = record { is_there = d.is_there disk; media = (d.pair disk).media.reads; sidecar = (d.pair disk).sidecar.reads }
 
-    by_told : (b : Bool) → (IsTrue b → Q (verdict_on world name)) → Told (option_map (λ w. verdict_on w name) (if b then Some world else None)) Q
+    by_told : (b : Bool) → (IsTrue b → Q (verdict_on world name)) → IfVisible (option_map (λ w. verdict_on w name) (if b then Some world else None)) Q
     by_told true so = λ v is. let same : verdict_on world name ≡ v = cc in subst Q same (so refl)
     by_told false so = λ v is. absurd (cc)
 

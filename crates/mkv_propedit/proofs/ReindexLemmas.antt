@@ -1,7 +1,7 @@
 -- What is planned of a new index is the record of its writes, and what is told of it.
 use Rattle.std.proofs.Common.{◌≡◌, ℕ, Bool, true, false, if◌then◌else◌, IsTrue, List, [], ◌∷◌, Some, None, Result, Ok, Err, refl, ap, subst}
 use Rattle.std.specs.Prelude.{option_map}
-use Rattle.mkv_io.specs.Told.{Told}
+use Rattle.mkv_io.specs.Told.{IfVisible}
 use Rattle.mkv_disk.specs.Calls.{OfReads}
 use Rattle.mkv_disk.specs.declared.disk.Disk.{Ghosts}
 use Rattle.mkv_lines.specs.Line.{reindexed_line}
@@ -55,13 +55,13 @@ reindex-outputs true name M S = begun-outputs name (state S) (indexed_told name 
 reindex-outputs false name M S = refl
 
 -- what holds of the verdict over what is read holds of the verdict that is told
-pub index-told_on : {D : Type 0} (d : Ghosts D) (disk : D) (name : List ℕ) (Q : Verdict → Type 0) → OfReads d disk (λ M S. Q (reindex_verdict (d.is_there disk name) name M S)) → Told (option_map (λ world. reindex_on world name) (disk_world d disk)) Q
+pub index-told_on : {D : Type 0} (d : Ghosts D) (disk : D) (name : List ℕ) (Q : Verdict → Type 0) → OfReads d disk (λ M S. Q (reindex_verdict (d.is_there disk name) name M S)) → IfVisible (option_map (λ world. reindex_on world name) (disk_world d disk)) Q
 index-told_on d disk name Q so = by_told d.told so
   where
     world : DiskWorld
     world = record { is_there = d.is_there disk; media = (d.pair disk).media.reads; sidecar = (d.pair disk).sidecar.reads }
 
-    by_told : (b : Bool) → (IsTrue b → Q (reindex_on world name)) → Told (option_map (λ w. reindex_on w name) (if b then Some world else None)) Q
+    by_told : (b : Bool) → (IsTrue b → Q (reindex_on world name)) → IfVisible (option_map (λ w. reindex_on w name) (if b then Some world else None)) Q
     by_told true so = λ v is.
         let same : reindex_on world name ≡ v = cc in
         subst Q same (so refl)

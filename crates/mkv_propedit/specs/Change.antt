@@ -21,7 +21,7 @@ use Rattle.mkv_propedit.specs.declared.change.ChangePlan.{ChangePlan}
 use Rattle.mkv_disk.specs.declared.disk.Disk.{Ghosts}
 use Rattle.mkv_io.specs.declared.report.Report.{Ghosts as ReportGhosts}
 use Rattle.mkv_lines.specs.declared.status.Status.{Status}
-use Rattle.mkv_lines.specs.declared.status.Stop.{Stop}
+use Rattle.mkv_lines.specs.declared.status.CommandEnd.{CommandEnd}
 use Rattle.mkv_propedit.specs.Command.{SaysOfDisk}
 use Rattle.sidecar_edit.specs.Gate.{state}
 
@@ -40,15 +40,15 @@ abbrev pub change_verdict : Bool → List ℕ → FileChange → List ℕ → Li
 change_verdict is_there name change media sidecar = file_verdict is_there name sidecar (change_told name change media)
 
 -- A change of the file of a name says what it comes to, where the disk tells.
-abbrev pub SaysOfChange : {D P : Type 0} → Ghosts D → ReportGhosts P → D → P → P → Result Status Stop → List ℕ → FileChange → Type 0
+abbrev pub SaysOfChange : {D P : Type 0} → Ghosts D → ReportGhosts P → D → P → P → Result Status CommandEnd → List ℕ → FileChange → Type 0
 SaysOfChange d p disk report report' result name change = SaysOfDisk d p disk report report' result (change_verdict (d.is_there disk name) name change)
 
 -- the same once the file and its sidecar are open
-abbrev pub SaysOfOpened : {D P : Type 0} → Ghosts D → ReportGhosts P → D → P → P → Result Status Stop → List ℕ → FileChange → Type 0
+abbrev pub SaysOfOpened : {D P : Type 0} → Ghosts D → ReportGhosts P → D → P → P → Result Status CommandEnd → List ℕ → FileChange → Type 0
 SaysOfOpened d p disk report report' result name change = SaysOfDisk d p disk report report' result (λ M S. unless_begun name (state S) (change_told name change M))
 
 -- and where no edit of it is pending
-abbrev pub SaysOfQuiet : {D P : Type 0} → Ghosts D → ReportGhosts P → D → P → P → Result Status Stop → List ℕ → FileChange → Type 0
+abbrev pub SaysOfQuiet : {D P : Type 0} → Ghosts D → ReportGhosts P → D → P → P → Result Status CommandEnd → List ℕ → FileChange → Type 0
 SaysOfQuiet d p disk report report' result name change = SaysOfDisk d p disk report report' result (λ M S. change_told name change M)
 
 -- ---- how much is read

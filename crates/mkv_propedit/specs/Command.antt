@@ -6,10 +6,10 @@ use Rattle.mkv_disk.specs.Calls.{OfReads}
 use Rattle.mkv_disk.specs.declared.disk.Disk.{Ghosts}
 use Rattle.mkv_lines.specs.Verdict.{SaysVerdict, Verdict}
 use Rattle.mkv_lines.specs.declared.status.Status.{Status}
-use Rattle.mkv_lines.specs.declared.status.Stop.{Stop}
+use Rattle.mkv_lines.specs.declared.status.CommandEnd.{CommandEnd}
 
 -- It says this verdict of what the two files read, or a first part of its lines where it stopped.
-abbrev pub SaysOfDisk : {D P : Type 0} → Ghosts D → ReportGhosts P → D → P → P → Result Status Stop → (List ℕ → List ℕ → Verdict) → Type 0
+abbrev pub SaysOfDisk : {D P : Type 0} → Ghosts D → ReportGhosts P → D → P → P → Result Status CommandEnd → (List ℕ → List ℕ → Verdict) → Type 0
 SaysOfDisk d p disk report report' result verdict = OfReads d disk (λ media sidecar. SaysVerdict (p.lines report) (p.lines report') result (verdict media sidecar))
 
 -- It reads at most as many octets as this bound has for the length of the medium.

@@ -8,8 +8,8 @@ use Rattle.word_values.specs.declared.edit.Edit.{Edit}
 use Rattle.mkv_lines.specs.Said.{HasSayCause}
 use Rattle.mkv_lines.specs.declared.status.Status.{Status}
 use Rattle.mkv_lines.specs.declared.status.Status.TheVariants as status
-use Rattle.mkv_lines.specs.declared.status.Stop.{Stop}
-use Rattle.mkv_lines.specs.declared.status.Stop.TheVariants as stop
+use Rattle.mkv_lines.specs.declared.status.CommandEnd.{CommandEnd}
+use Rattle.mkv_lines.specs.declared.status.CommandEnd.TheVariants as stop
 use Rattle.mkv_propedit.specs.Recovery.{IsUnopened}
 use Rattle.sidecar_edit.specs.declared.held.Gate.TheVariants.{Quiet}
 use Rattle.sidecar_edit.specs.declared.place.TheConstants.{OPEN}
@@ -97,6 +97,6 @@ LeavesPlanned status.Outside plan M S p = Unit {0}
 LeavesPlanned s plan M S p = p ≡ both M S
 
 -- Telling of it stops by the disk where that failed; else there is memory to tell it.
-abbrev pub HasMadeCause : {A E T : Type 0} → Result A E → ℕ → ℕ → Result T Stop → Type 0
+abbrev pub HasMadeCause : {A E T : Type 0} → Result A E → ℕ → ℕ → Result T CommandEnd → Type 0
 HasMadeCause (Ok _) before now result = HasSayCause before now result × (result ≢ Err stop.Memory)
 HasMadeCause (Err _) before now result = (result ≡ Err stop.Disk) × (now ≡ before)

@@ -11,18 +11,18 @@ use Rattle.edit_changes.specs.declared.refusal.Refusal.{Refusal}
 use Rattle.edit_changes.specs.declared.refusal.Refusal.TheVariants as refusal
 use Rattle.edit_changes.specs.declared.refusal.Room.{Room}
 use Rattle.edit_changes.specs.declared.refusal.Room.TheVariants.{SeekHead, SegmentSize, Tail, Twin}
-use Rattle.edit_changes.specs.declared.refusal.Why.{Why}
-use Rattle.edit_changes.specs.declared.refusal.Why.TheVariants.{AlreadyThere, BadPropertyValue, Mandatory, NoInfo, NoSuchProperty, NoSuchTrack}
+use Rattle.edit_changes.specs.declared.refusal.EditRefusal.{EditRefusal}
+use Rattle.edit_changes.specs.declared.refusal.EditRefusal.TheVariants.{AlreadyThere, BadPropertyValue, Mandatory, NoInfo, NoSuchProperty, NoSuchTrack}
 use Rattle.edit_changes.specs.Plan.{edited}
 use Rattle.mkv_disk.specs.declared.disk.Disk.{Ghosts}
 use Rattle.mkv_io.specs.declared.report.Report.{Ghosts as ReportGhosts}
 use Rattle.mkv_lines.specs.declared.status.Status.{Status}
-use Rattle.mkv_lines.specs.declared.status.Stop.{Stop}
+use Rattle.mkv_lines.specs.declared.status.CommandEnd.{CommandEnd}
 use Rattle.mkv_propedit.specs.Command.{SaysOfDisk}
 
 -- ---- what refuses edits, as a line says it
 
-abbrev pub why_name : Why → List ℕ
+abbrev pub why_name : EditRefusal → List ℕ
 why_name NoInfo = codes "NoInfo"
 why_name NoSuchTrack = codes "NoSuchTrack"
 why_name NoSuchProperty = codes "NoSuchProperty"
@@ -64,7 +64,7 @@ abbrev pub propedit_verdict : Bool → List ℕ → List Edit → List ℕ → L
 propedit_verdict is_there name edits media sidecar = file_verdict is_there name sidecar (told name (edited media edits))
 
 -- Edits of the file of a name say what they come to, where the disk tells.
-abbrev pub SaysOfEdits : {D P : Type 0} → Ghosts D → ReportGhosts P → D → P → P → Result Status Stop → List ℕ → List Edit → Type 0
+abbrev pub SaysOfEdits : {D P : Type 0} → Ghosts D → ReportGhosts P → D → P → P → Result Status CommandEnd → List ℕ → List Edit → Type 0
 SaysOfEdits d p disk report report' result name edits = SaysOfDisk d p disk report report' result (propedit_verdict (d.is_there disk name) name edits)
 
 -- what it comes to over a disk that tells all

@@ -10,7 +10,7 @@ use Rattle.sidecar_edit.specs.declared.outcome.RecoverEnd.TheVariants.{BadSideca
 use Rattle.sidecar_edit.specs.Recovery.{recovery}
 use Rattle.mkv_io.specs.declared.report.Report.{Ghosts as ReportGhosts}
 use Rattle.mkv_lines.specs.declared.status.Status.{Status}
-use Rattle.mkv_lines.specs.declared.status.Stop.{Stop}
+use Rattle.mkv_lines.specs.declared.status.CommandEnd.{CommandEnd}
 use Rattle.mkv_propedit.specs.Command.{SaysOfDisk}
 
 -- what is told of a file, by what recovering it came to; nothing is told of it where the disk failed
@@ -26,11 +26,11 @@ abbrev pub recover_verdict : Bool → List ℕ → List ℕ → List ℕ → Ver
 recover_verdict is_there name media sidecar = if is_there then told name (recovery media sidecar) else refused (missing_line name)
 
 -- Recovering the file of a name says what it comes to, where the disk tells.
-abbrev pub SaysOfRecover : {D P : Type 0} → Ghosts D → ReportGhosts P → D → P → P → Result Status Stop → List ℕ → Type 0
+abbrev pub SaysOfRecover : {D P : Type 0} → Ghosts D → ReportGhosts P → D → P → P → Result Status CommandEnd → List ℕ → Type 0
 SaysOfRecover d p disk report report' result name = SaysOfDisk d p disk report report' result (recover_verdict (d.is_there disk name) name)
 
 -- the same once the file and its sidecar are open
-abbrev pub SaysOfRecovery : {D P : Type 0} → Ghosts D → ReportGhosts P → D → P → P → Result Status Stop → List ℕ → Type 0
+abbrev pub SaysOfRecovery : {D P : Type 0} → Ghosts D → ReportGhosts P → D → P → P → Result Status CommandEnd → List ℕ → Type 0
 SaysOfRecovery d p disk report report' result name = SaysOfDisk d p disk report report' result (λ M S. told name (recovery M S))
 
 -- What a disk tells: of which names there is a medium, and what the two files read.

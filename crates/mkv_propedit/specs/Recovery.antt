@@ -1,6 +1,6 @@
 -- What `recover` leaves of the disk, and why it stops.
 use Rattle.std.specs.Prelude.{◌≡◌, ◌≢◌, ◌⊎◌, ℕ, false, IsTrue, List, [], ◌∷◌, Some, Result, Ok, Err}
-use Rattle.mkv_io.specs.Faults.{HasRisen}
+use Rattle.mkv_io.specs.Faults.{HasIncreased}
 use Rattle.mkv_io.specs.declared.reads.Reads as reads
 use Rattle.mkv_disk.specs.Calls.{AnyMoment, OfReads}
 use Rattle.mkv_disk.specs.Pair.{Pair, both}
@@ -9,8 +9,8 @@ use Rattle.mkv_disk.specs.declared.disk.Disk.{Ghosts}
 use Rattle.mkv_lines.specs.Said.{HasSayCause}
 use Rattle.mkv_lines.specs.declared.status.Status.{Status}
 use Rattle.mkv_lines.specs.declared.status.Status.TheVariants as status
-use Rattle.mkv_lines.specs.declared.status.Stop.{Stop}
-use Rattle.mkv_lines.specs.declared.status.Stop.TheVariants as stop
+use Rattle.mkv_lines.specs.declared.status.CommandEnd.{CommandEnd}
+use Rattle.mkv_lines.specs.declared.status.CommandEnd.TheVariants as stop
 use Rattle.sidecar_edit.specs.declared.outcome.Recovered.{Recovered}
 use Rattle.sidecar_edit.specs.declared.outcome.Recovered.TheVariants.{Applied}
 use Rattle.sidecar_edit.specs.declared.outcome.RecoverEnd.{RecoverEnd}
@@ -49,15 +49,15 @@ pub record IsRecoveryOf {D : Type 0} (r : reads.Ghosts D) (d : Ghosts D) (name :
 -- ---- why it stops
 
 -- By the disk only where one of its counts of faults rose, and by the report only where its own did.
-abbrev pub HasDiskStop : {D T : Type 0} → reads.Ghosts D → Ghosts D → D → D → ℕ → ℕ → Result T Stop → Type 0
+abbrev pub HasDiskStop : {D T : Type 0} → reads.Ghosts D → Ghosts D → D → D → ℕ → ℕ → Result T CommandEnd → Type 0
 HasDiskStop r d old new before now (Ok _) = HasNoFault r d old new × (now ≡ before)
 HasDiskStop r d old new before now (Err stop.Memory) = HasNoFault r d old new × (now ≡ before)
 HasDiskStop r d old new before now (Err stop.Disk) = HasOneFault r d old new × (now ≡ before)
-HasDiskStop r d old new before now (Err stop.Report) = HasNoFault r d old new × HasRisen before now
+HasDiskStop r d old new before now (Err stop.Report) = HasNoFault r d old new × HasIncreased before now
 HasDiskStop r d old new before now (Err stop.Files) = ⊥
 
 -- Telling of a recovery stops by the disk where that failed. Where an edit was made whole, there is memory to tell it.
-abbrev pub HasTellCause : {T : Type 0} → Result Recovered RecoverEnd → ℕ → ℕ → Result T Stop → Type 0
+abbrev pub HasTellCause : {T : Type 0} → Result Recovered RecoverEnd → ℕ → ℕ → Result T CommandEnd → Type 0
 HasTellCause (Err DiskFault) before now result = (result ≡ Err stop.Disk) × (now ≡ before)
 HasTellCause (Ok Applied) before now result = HasSayCause before now result × (result ≢ Err stop.Memory)
 HasTellCause other before now result = HasSayCause before now result

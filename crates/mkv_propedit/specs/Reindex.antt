@@ -12,7 +12,7 @@ use Rattle.mkv_propedit.specs.Recover.{DiskWorld}
 use Rattle.mkv_disk.specs.declared.disk.Disk.{Ghosts}
 use Rattle.mkv_io.specs.declared.report.Report.{Ghosts as ReportGhosts}
 use Rattle.mkv_lines.specs.declared.status.Status.{Status}
-use Rattle.mkv_lines.specs.declared.status.Stop.{Stop}
+use Rattle.mkv_lines.specs.declared.status.CommandEnd.{CommandEnd}
 use Rattle.mkv_propedit.specs.Command.{SaysOfDisk}
 
 -- ---- what it comes to
@@ -31,7 +31,7 @@ abbrev pub reindex_verdict : Bool → List ℕ → List ℕ → List ℕ → Ver
 reindex_verdict is_there name media sidecar = file_verdict is_there name sidecar (indexed_told name (index_of media))
 
 -- Indexing the file of a name anew says what it comes to, where the disk tells.
-abbrev pub SaysOfReindex : {D P : Type 0} → Ghosts D → ReportGhosts P → D → P → P → Result Status Stop → List ℕ → Type 0
+abbrev pub SaysOfReindex : {D P : Type 0} → Ghosts D → ReportGhosts P → D → P → P → Result Status CommandEnd → List ℕ → Type 0
 SaysOfReindex d p disk report report' result name = SaysOfDisk d p disk report report' result (reindex_verdict (d.is_there disk name) name)
 
 -- what it comes to over a disk that tells all

@@ -19,7 +19,7 @@ ghost use Rattle.mkv_propedit.specs.Left.{IsPlannedFor, LeavesPlanned};
 use crate::telling::{line_text, tell};
 use mkv_disk::Disk;
 use mkv_io::Report;
-use mkv_lines::{Line, Status, Stop};
+use mkv_lines::{CommandEnd, Line, Status};
 use sidecar_edit::{DiskFault, Plan, commit, settle};
 use std::alloc::Global;
 
@@ -30,7 +30,7 @@ pub fn edit_planned<D: Disk, R: Report>(
     plan: &Plan,
     disk: &mut D,
     report: &mut R,
-) -> Result<Status, Stop>
+) -> Result<Status, CommandEnd>
     requires ready { IsReady D.Reads D.Disk.own disk.old }
     requires some { 1 ≤ length plan.now.head.places }
     requires planned { OfReads D.Disk.own disk.old (IsPlannedFor plan.now) }
@@ -43,7 +43,7 @@ pub fn edit_planned<D: Disk, R: Report>(
     ensures last { SaysLast (R.lines report.old) (R.lines report.new) result }
 {
     let Ok(edited) = line_text(alloc, line) else {
-        return Err(Stop::Memory);
+        return Err(CommandEnd::Memory);
     };
     let made = carry_out(plan, disk);
     tell(&edited, made, report)

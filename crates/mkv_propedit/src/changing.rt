@@ -17,7 +17,7 @@ use crate::telling::refusal_line;
 use edit_plan::PlanEnd;
 use mkv_disk::{Disk, SIDECAR};
 use mkv_io::{Failed, OpenFault, Report};
-use mkv_lines::{Line, Status, Stop, refuse};
+use mkv_lines::{CommandEnd, Line, Status, refuse};
 use sidecar_edit::{Gate, state};
 use std::alloc::Global;
 
@@ -29,7 +29,7 @@ pub fn change_file<D: Disk, R: Report>(
     change: &FileChange,
     disk: &mut D,
     report: &mut R,
-) -> Result<Status, Stop>
+) -> Result<Status, CommandEnd>
     requires { AtRest D.Disk.own disk.old }
     ensures verdict { SaysOfChange D.Disk.own R.Report disk.old report.old report.new result name.now change.now }
     ensures ordinary { IfOk result IsOrdinary }
@@ -41,8 +41,8 @@ pub fn change_file<D: Disk, R: Report>(
     match disk.open_pair(name) {
         Ok(()) => change_open(alloc, name, change, disk, report),
         Err(OpenFault::Missing) => refuse(alloc, &Line::Missing { name }, report),
-        Err(OpenFault::Failed) => Err(Stop::Disk),
-        Err(OpenFault::Memory) => Err(Stop::Memory),
+        Err(OpenFault::Failed) => Err(CommandEnd::Disk),
+        Err(OpenFault::Memory) => Err(CommandEnd::Memory),
     }
 }
 
@@ -53,7 +53,7 @@ fn change_open<D: Disk, R: Report>(
     change: &FileChange,
     disk: &mut D,
     report: &mut R,
-) -> Result<Status, Stop>
+) -> Result<Status, CommandEnd>
     requires { IsReady D.Reads D.Disk.own disk.old }
     ensures verdict { SaysOfOpened D.Disk.own R.Report disk.old report.old report.new result name.now change.now }
     ensures ordinary { IfOk result IsOrdinary }
@@ -66,7 +66,7 @@ fn change_open<D: Disk, R: Report>(
         Ok(Gate::Quiet) => change_quiet(alloc, name, change, disk, report),
         Ok(Gate::Live) => refuse(alloc, &Line::PendingEdit { name }, report),
         Ok(Gate::Bad { offset }) => refuse(alloc, &Line::BadSidecar { name, offset }, report),
-        Err(Failed) => Err(Stop::Disk),
+        Err(Failed) => Err(CommandEnd::Disk),
     }
 }
 
@@ -77,7 +77,7 @@ fn change_quiet<D: Disk, R: Report>(
     change: &FileChange,
     disk: &mut D,
     report: &mut R,
-) -> Result<Status, Stop>
+) -> Result<Status, CommandEnd>
     requires ready { IsReady D.Reads D.Disk.own disk.old }
     requires quiet { OfReads D.Disk.own disk.old (λ M S. state S ≡ Gate.Quiet) }
     ensures verdict { SaysOfQuiet D.Disk.own R.Report disk.old report.old report.new result name.now change.now }
@@ -90,7 +90,7 @@ fn change_quiet<D: Disk, R: Report>(
     match plan_change(alloc, name, change, disk) {
         Ok(made) => edit_planned(alloc, &made.line, &made.plan, disk, report),
         Err(PlanEnd::Refused(why)) => refuse(alloc, &refusal_line(name, why), report),
-        Err(PlanEnd::ReadFault) => Err(Stop::Disk),
-        Err(PlanEnd::Memory) => Err(Stop::Memory),
+        Err(PlanEnd::ReadFault) => Err(CommandEnd::Disk),
+        Err(PlanEnd::Memory) => Err(CommandEnd::Memory),
     }
 }

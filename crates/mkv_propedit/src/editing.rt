@@ -15,7 +15,7 @@ use crate::change::FileChange;
 use crate::changing::change_file;
 use mkv_disk::Disk;
 use mkv_io::{List, Report};
-use mkv_lines::{Status, Stop};
+use mkv_lines::{CommandEnd, Status};
 use std::alloc::Global;
 use word_values::Edit;
 
@@ -27,7 +27,7 @@ pub fn propedit_of<D: Disk, R: Report>(
     edits: &List<Edit>,
     disk: &mut D,
     report: &mut R,
-) -> Result<Status, Stop>
+) -> Result<Status, CommandEnd>
     requires { AtRest D.Disk.own disk.old }
     ensures verdict { SaysOfEdits D.Disk.own R.Report disk.old report.old report.new result name.now edits.now }
     ensures ordinary { IfOk result IsOrdinary }

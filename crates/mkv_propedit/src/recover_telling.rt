@@ -10,7 +10,7 @@ ghost use Rattle.mkv_propedit.specs.Recover.{told};
 ghost use Rattle.mkv_propedit.specs.Recovery.{HasTellCause};
 
 use mkv_io::Report;
-use mkv_lines::{Line, Status, Stop, refuse, say, say_text};
+use mkv_lines::{CommandEnd, Line, Status, refuse, say, say_text};
 use sidecar_edit::{RecoverEnd, Recovered};
 use std::alloc::{AllocError, Global};
 
@@ -30,7 +30,7 @@ pub fn tell<R: Report>(
     recovered: &str,
     outcome: Result<Recovered, RecoverEnd>,
     report: &mut R,
-) -> Result<Status, Stop>
+) -> Result<Status, CommandEnd>
     requires { recovered.now ≡ recovered_line name.now }
     ensures verdict { SaysVerdict (R.lines report.old) (R.lines report.new) result (told name.now outcome) }
     ensures ordinary { IfOk result IsOrdinary }
@@ -52,7 +52,7 @@ pub fn tell<R: Report>(
             };
             return refuse(alloc, &line, report);
         }
-        Err(RecoverEnd::DiskFault) => return Err(Stop::Disk),
+        Err(RecoverEnd::DiskFault) => return Err(CommandEnd::Disk),
     }
     Ok(Status::Done)
 }

@@ -14,7 +14,7 @@ ghost use Rattle.mkv_propedit.specs.Recover.{SaysOfRecover, SaysOfRecovery};
 use crate::recover_telling::{recovered_text, tell};
 use mkv_disk::Disk;
 use mkv_io::{OpenFault, Report};
-use mkv_lines::{Line, Status, Stop, refuse};
+use mkv_lines::{CommandEnd, Line, Status, refuse};
 use sidecar_edit::recover;
 use std::alloc::Global;
 
@@ -24,7 +24,7 @@ pub fn recover_of<D: Disk, R: Report>(
     name: &str,
     disk: &mut D,
     report: &mut R,
-) -> Result<Status, Stop>
+) -> Result<Status, CommandEnd>
     requires { AtRest D.Disk.own disk.old }
     ensures verdict { SaysOfRecover D.Disk.own R.Report disk.old report.old report.new result name.now }
     ensures ordinary { IfOk result IsOrdinary }
@@ -36,8 +36,8 @@ pub fn recover_of<D: Disk, R: Report>(
     match disk.open_pair(name) {
         Ok(()) => recover_open(alloc, name, disk, report),
         Err(OpenFault::Missing) => refuse(alloc, &Line::Missing { name }, report),
-        Err(OpenFault::Failed) => Err(Stop::Disk),
-        Err(OpenFault::Memory) => Err(Stop::Memory),
+        Err(OpenFault::Failed) => Err(CommandEnd::Disk),
+        Err(OpenFault::Memory) => Err(CommandEnd::Memory),
     }
 }
 
@@ -47,7 +47,7 @@ fn recover_open<D: Disk, R: Report>(
     name: &str,
     disk: &mut D,
     report: &mut R,
-) -> Result<Status, Stop>
+) -> Result<Status, CommandEnd>
     requires { IsReady D.Reads D.Disk.own disk.old }
     ensures verdict { SaysOfRecovery D.Disk.own R.Report disk.old report.old report.new result name.now }
     ensures ordinary { IfOk result IsOrdinary }
@@ -57,7 +57,7 @@ fn recover_open<D: Disk, R: Report>(
     ensures last { SaysLast (R.lines report.old) (R.lines report.new) result }
 {
     let Ok(recovered) = recovered_text(alloc, name) else {
-        return Err(Stop::Memory);
+        return Err(CommandEnd::Memory);
     };
     let outcome = recover(disk);
     tell(alloc, name, &recovered, outcome, report)

@@ -14,7 +14,7 @@ use crate::change::FileChange;
 use crate::changing::change_file;
 use mkv_disk::Disk;
 use mkv_io::Report;
-use mkv_lines::{Status, Stop};
+use mkv_lines::{CommandEnd, Status};
 use std::alloc::Global;
 
 /// Writes the index of the file of a name anew, the Cues and the SeekHead, and says what came of it. A stop at any moment
@@ -24,7 +24,7 @@ pub fn reindex_of<D: Disk, R: Report>(
     name: &str,
     disk: &mut D,
     report: &mut R,
-) -> Result<Status, Stop>
+) -> Result<Status, CommandEnd>
     requires { AtRest D.Disk.own disk.old }
     ensures verdict { SaysOfReindex D.Disk.own R.Report disk.old report.old report.new result name.now }
     ensures ordinary { IfOk result IsOrdinary }

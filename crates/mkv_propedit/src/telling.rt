@@ -9,9 +9,9 @@ ghost use Rattle.mkv_lines.specs.Verdict.{SaysVerdict, done};
 ghost use Rattle.mkv_propedit.specs.Left.{HasMadeCause};
 ghost use Rattle.mkv_propedit.specs.Propedit as spec;
 
-use edit_changes::{Refusal, Room, Why};
+use edit_changes::{EditRefusal, Refusal, Room};
 use mkv_io::Report;
-use mkv_lines::{Line, Status, Stop, say_text};
+use mkv_lines::{CommandEnd, Line, Status, say_text};
 use sidecar_edit::DiskFault;
 use std::alloc::{AllocError, Global};
 
@@ -27,7 +27,7 @@ pub fn tell<R: Report>(
     edited: &str,
     made: Result<(), DiskFault>,
     report: &mut R,
-) -> Result<Status, Stop>
+) -> Result<Status, CommandEnd>
     ensures verdict { SaysVerdict (R.lines report.old) (R.lines report.new) result (done (edited.now ∷ [])) }
     ensures ordinary { IfOk result IsOrdinary }
     ensures cause { HasMadeCause made (R.faults report.old) (R.faults report.new) result }
@@ -38,7 +38,7 @@ pub fn tell<R: Report>(
             say_text(report, edited)?;
             Ok(Status::Done)
         }
-        Err(DiskFault) => Err(Stop::Disk),
+        Err(DiskFault) => Err(CommandEnd::Disk),
     }
 }
 
@@ -67,16 +67,16 @@ pub fn refusal_line(name: &str, refusal: Refusal) -> Line<'_>
     }
 }
 
-fn why_name(why: Why) -> &'static str
+fn why_name(why: EditRefusal) -> &'static str
     ensures { result.now ≡ spec.why_name why }
 {
     match why {
-        Why::NoInfo => "NoInfo",
-        Why::NoSuchTrack => "NoSuchTrack",
-        Why::NoSuchProperty => "NoSuchProperty",
-        Why::BadPropertyValue => "BadPropertyValue",
-        Why::AlreadyThere => "AlreadyThere",
-        Why::Mandatory => "Mandatory",
+        EditRefusal::NoInfo => "NoInfo",
+        EditRefusal::NoSuchTrack => "NoSuchTrack",
+        EditRefusal::NoSuchProperty => "NoSuchProperty",
+        EditRefusal::BadPropertyValue => "BadPropertyValue",
+        EditRefusal::AlreadyThere => "AlreadyThere",
+        EditRefusal::Mandatory => "Mandatory",
     }
 }
 

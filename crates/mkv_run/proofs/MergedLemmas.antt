@@ -8,7 +8,7 @@ use Rattle.std.specs.declared.string.String.{String}
 use Rattle.std.proofs.lemmas.List.Elements.{All-map}
 use Rattle.std.proofs.lemmas.Str.{IsUtf8-string_bytes}
 use Rattle.mkv_io.specs.Names.{Names}
-use Rattle.mkv_io.specs.Told.{Told}
+use Rattle.mkv_io.specs.Told.{IfVisible}
 use Rattle.word_values.specs.Place.{texts}
 use Rattle.word_values.specs.declared.usage.Usage.{Usage}
 use Rattle.merge_words.specs.declared.output.MergeWords.{MergeWords}
@@ -25,11 +25,11 @@ use Rattle.mkv_lines.specs.declared.status.Status.TheVariants as status
 use Rattle.mkv_merge.specs.Merge.{merge_verdict, outputs_of, sources_of}
 use Rattle.mkv_merge.specs.Records.{CanBeReadAgain}
 use Rattle.mkv_merge.specs.declared.refusal.Refusal.{Refusal}
-use Rattle.merged_outputs.specs.Merge.{HasMerged, IsMerged, MergesWell, laid_out}
-use Rattle.merged_outputs.proofs.MergeLemmas.{run-merged}
+use Rattle.merge_laws.specs.Merge.{HasMerged, IsMerged, MergesWell, laid_out}
+use Rattle.merge_laws.proofs.MergeLemmas.{run-merged}
 use Rattle.mkv_propedit.specs.Recover.{DiskWorld}
-use Rattle.repeated_merge.specs.MergedAgain.{MergesAgain, OutputsAreWrittenAgain, WhereMergedAgain}
-use Rattle.repeated_merge.specs.Plain.{plain_merge}
+use Rattle.remerge_laws.specs.MergedAgain.{MergesAgain, OutputsAreWrittenAgain, WhereMergedAgain}
+use Rattle.remerge_laws.specs.Plain.{plain_merge}
 use Rattle.mkv_run.specs.Ends.{Ends}
 use Rattle.mkv_run.specs.Run.{MergesReadable, MergesReadableIn, verdict_after, verdict_in}
 use Rattle.mkv_run.specs.RunSeen.{RunSeen}
@@ -39,7 +39,7 @@ texts-utf8 : (words : List (String Global)) → All IsUtf8 (texts words)
 texts-utf8 words = All-map IsUtf8 string_bytes words (λ k d below. IsUtf8-string_bytes (get_or words k d))
 
 -- what was reached, and is no refusal, has written the merge that was asked for
-has-merged : (old new : Seen) (disk : Option DiskWorld) (words : List (List ℕ)) (s : Status) → s ≢ status.Refused → All IsUtf8 words → MergesReadableIn old.names words (Ok s) → Told (verdict_in old.names disk words) (λ v. (s ≡ v.status) × IsDone old new v) → HasMerged old.names words new.names
+has-merged : (old new : Seen) (disk : Option DiskWorld) (words : List (List ℕ)) (s : Status) → s ≢ status.Refused → All IsUtf8 words → MergesReadableIn old.names words (Ok s) → IfVisible (verdict_in old.names disk words) (λ v. (s ≡ v.status) × IsDone old new v) → HasMerged old.names words new.names
 has-merged old new disk words s other utf8 readable reached = λ world told holds asked is.
     let at = reached (merge_verdict world asked) (ap₂ (λ (n : Names) (c : Result Command Usage). verdict_after n disk c) told is) in
     run-merged old new words asked world s utf8 told holds is (have world asked told is) other at.0 at.1
@@ -52,7 +52,7 @@ has-merged old new disk words s other utf8 readable reached = λ world told hold
         merges world told
 
 -- A run that ends well has written it.
-pub merges-well : (old new : RunSeen) (disk : Option DiskWorld) (words : List (String Global)) (s : Status) → MergesReadableIn old.seen.names (texts words) (Ok s) → Told (verdict_in old.seen.names disk (texts words)) (Ends old new s) → MergesWell old.seen.names (texts words) new.seen.names s
+pub merges-well : (old new : RunSeen) (disk : Option DiskWorld) (words : List (String Global)) (s : Status) → MergesReadableIn old.seen.names (texts words) (Ok s) → IfVisible (verdict_in old.seen.names disk (texts words)) (Ends old new s) → MergesWell old.seen.names (texts words) new.seen.names s
 merges-well old new disk words status.Done readable told = has-merged old.seen new.seen disk (texts words) status.Done (λ same. cc) (texts-utf8 words) readable told
 merges-well old new disk words status.Warned readable told = has-merged old.seen new.seen disk (texts words) status.Warned (λ same. cc) (texts-utf8 words) readable told
 merges-well old new disk words status.Refused readable told = tt
@@ -68,14 +68,14 @@ one-source found sources others one other =
 
 module _ (again : OutputsAreWrittenAgain) (old new : RunSeen) (disk : Option DiskWorld) (words : List (String Global)) where
   -- no status but that of a verdict, and this is Done
-  other-ends : (s : Status) → s ≢ status.Done → Told (verdict_in old.seen.names disk (texts words)) (λ v. (s ≡ v.status) × IsDone old.seen new.seen v)
+  other-ends : (s : Status) → s ≢ status.Done → IfVisible (verdict_in old.seen.names disk (texts words)) (λ v. (s ≡ v.status) × IsDone old.seen new.seen v)
       → WhereMergedAgain old.seen.names (texts words) (λ world out bytes. ⊥)
   other-ends s other reached = λ world told octets out name bytes asked begun output within.
       let verdict = reached (merge_verdict world (plain_merge out name)) (ap₂ (λ (n : Names) (c : Result Command Usage). verdict_after n disk c) told asked) in
       other (verdict.0 ∙ (again world out name bytes begun output within).done)
 
   -- A run that merges it alone, without options, has written it as it was, and ends with nothing to warn of.
-  pub merges-again : (s : Status) → MergesWell old.seen.names (texts words) new.seen.names s → Told (verdict_in old.seen.names disk (texts words)) (Ends old new s)
+  pub merges-again : (s : Status) → MergesWell old.seen.names (texts words) new.seen.names s → IfVisible (verdict_in old.seen.names disk (texts words)) (Ends old new s)
       → MergesAgain old.seen.names (texts words) new.seen.names s
   merges-again status.Done well reached = λ world told octets out name bytes asked begun output within.
       let written = again world out name bytes begun output within in

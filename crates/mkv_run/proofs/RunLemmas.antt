@@ -1,10 +1,10 @@
 -- How runs end, and why.
 use Rattle.std.proofs.Math.Seq.{drop-cons}
 use Rattle.std.proofs.Common.{◌≡◌, ℕ, Bool, true, false, if◌then◌else◌, IsTrue, suc, ◌+◌, ◌<◌, ◌≤◌, length, drop, get_or, add-one, List, [], ◌∷◌, ◌++◌, Result, Ok, Err, inl, inr, Option, Some, None, ◌⊎◌, refl, sym, ◌∙◌, ap, subst, arith}
-use Rattle.mkv_io.specs.Faults.{HasRisen}
+use Rattle.mkv_io.specs.Faults.{HasIncreased}
 use Rattle.mkv_io.specs.Lines.{with_lines}
 use Rattle.mkv_io.specs.Names.{Names}
-use Rattle.mkv_io.specs.Told.{Told}
+use Rattle.mkv_io.specs.Told.{IfVisible}
 use Rattle.mkv_io.specs.declared.reads.Reads as reads
 use Rattle.mkv_disk.specs.Calls.{AnyMoment, AtRest, OfReads}
 use Rattle.mkv_disk.specs.Moments.{LeavesOnly}
@@ -27,8 +27,8 @@ use Rattle.mkv_run.specs.RunSeen.{HasRunStop, IsSilent, RunSeen}
 use Rattle.mkv_run.specs.Touched.{IsInPlace, LeftOnTheWay, Reach, Touches, edited, files, indexed, nothing, recovered}
 use Rattle.mkv_lines.specs.declared.status.Status.{Status}
 use Rattle.mkv_lines.specs.declared.status.Status.TheVariants as status
-use Rattle.mkv_lines.specs.declared.status.Stop.{Stop}
-use Rattle.mkv_lines.specs.declared.status.Stop.TheVariants as stop
+use Rattle.mkv_lines.specs.declared.status.CommandEnd.{CommandEnd}
+use Rattle.mkv_lines.specs.declared.status.CommandEnd.TheVariants as stop
 use Rattle.word_values.specs.declared.job.Job.{Job}
 use Rattle.word_values.specs.declared.job.Job.TheVariants as jobs
 use Rattle.word_values.specs.declared.usage.Usage.{Usage}
@@ -67,8 +67,8 @@ stops-saying P Q old new v so stops =
     elim stops [ inl within ↦ inl (so v.before within.0, within.1) | inr behind ↦ inr (so v.lines behind.0, behind.1) ]
 
 -- a fault is told behind the lines of the command, unless the report fails
-pub fault-told : {T : Type 0} (fault : List ℕ) (before now : ℕ) (old mid new : ReportLines) (all : List (List ℕ)) (r : Result T Stop) → SaysPart old mid all → Says mid new (fault ∷ []) r → HasSayCause before now r → (r ≡ Err stop.Memory → ⊥)
-    → SaysFault old new all fault ⊎ (HasRisen before now × SaysPart old new all)
+pub fault-told : {T : Type 0} (fault : List ℕ) (before now : ℕ) (old mid new : ReportLines) (all : List (List ℕ)) (r : Result T CommandEnd) → SaysPart old mid all → Says mid new (fault ∷ []) r → HasSayCause before now r → (r ≡ Err stop.Memory → ⊥)
+    → SaysFault old new all fault ⊎ (HasIncreased before now × SaysPart old new all)
 fault-told fault before now old mid new all (Ok done) part says cause some = inl (fault_behind fault old mid new all part says)
 fault-told fault before now old mid new all (Err stop.Memory) part says cause some = absurd (some refl)
 fault-told fault before now old mid new all (Err stop.Files) part says cause some = absurd cause
@@ -77,8 +77,8 @@ fault-told fault before now old mid new all (Err stop.Report) part says cause so
     elim (fault_or_not fault old mid new all says.said says.left part says.whole says.added) [ inl told ↦ inl told | inr untold ↦ inr (cause, untold) ]
 
 -- a fault before which nothing was said is told alone, unless the report fails
-pub fault-alone : {T : Type 0} (fault : List ℕ) (before now : ℕ) (old mid new : ReportLines) (all : List (List ℕ)) (r : Result T Stop) → mid ≡ old → Says mid new (fault ∷ []) r → HasSayCause before now r → (r ≡ Err stop.Memory → ⊥)
-    → (new ≡ with_lines old (fault ∷ [])) ⊎ (HasRisen before now × SaysPart old new all)
+pub fault-alone : {T : Type 0} (fault : List ℕ) (before now : ℕ) (old mid new : ReportLines) (all : List (List ℕ)) (r : Result T CommandEnd) → mid ≡ old → Says mid new (fault ∷ []) r → HasSayCause before now r → (r ≡ Err stop.Memory → ⊥)
+    → (new ≡ with_lines old (fault ∷ [])) ⊎ (HasIncreased before now × SaysPart old new all)
 fault-alone fault before now old mid new all r same says cause some =
     elim (fault-told fault before now old mid new [] r none says cause some) [
       | inl told ↦ inl (told.added ∙ ap (λ (said : List (List ℕ)). with_lines old (said ++ fault ∷ [])) (last_alone told.said told.left told.whole))
@@ -120,7 +120,7 @@ module _ {D : Type 0} (r : reads.Ghosts D) (d : disks.Ghosts D) (a b : D) (readi
     disk = record { reading = r.reading_faults b; writing = d.writing_faults b };
   }
 
-  pub disk-stop : {T : Type 0} (reach : Reach) (result : Result T Stop) → HasDiskStop r d a b before now result → SaysLast lines lines_now result → HasRunStop reach old new result
+  pub disk-stop : {T : Type 0} (reach : Reach) (result : Result T CommandEnd) → HasDiskStop r d a b before now result → SaysLast lines lines_now result → HasRunStop reach old new result
   disk-stop reach (Ok x) cause last = record {
     counts = λ i. record { reading = reading; writing = writing; report = cause.1 i };
     disk = λ i. record { reading = cause.0.reading i; writing = cause.0.writing i };
@@ -198,13 +198,13 @@ disk-alone before now most other within = omega arith
 -- ---- what a disk tells
 
 -- a fact of what the medium reads is one of the world that the disk tells
-pub media-told : {D : Type 0} (d : disks.Ghosts D) (disk : D) (P : List ℕ → Type 0) → OfReads d disk (λ M S. P M) → Told (disk_world d disk) (λ world. P world.media)
+pub media-told : {D : Type 0} (d : disks.Ghosts D) (disk : D) (P : List ℕ → Type 0) → OfReads d disk (λ M S. P M) → IfVisible (disk_world d disk) (λ world. P world.media)
 media-told d disk P so = by_told d.told so
   where
     world : DiskWorld
     world = record { is_there = d.is_there disk; media = (d.pair disk).media.reads; sidecar = (d.pair disk).sidecar.reads }
 
-    by_told : (told : Bool) → (IsTrue told → P world.media) → Told (if told then Some world else None) (λ w. P w.media)
+    by_told : (told : Bool) → (IsTrue told → P world.media) → IfVisible (if told then Some world else None) (λ w. P w.media)
     by_told true so = λ w is. let same : world ≡ w = cc in subst (λ (each : DiskWorld). P each.media) same (so refl)
     by_told false so = λ w is. absurd (cc)
 

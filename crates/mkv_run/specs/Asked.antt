@@ -2,7 +2,7 @@
 use Rattle.std.specs.Prelude.{◌≡◌, ⊤, ℕ, List, [], Result, Ok, Err}
 use Rattle.std.specs.declared.alloc.Global.{Global}
 use Rattle.std.specs.declared.string.String.{String}
-use Rattle.mkv_io.specs.Asked.{AsksNone, IsBesides}
+use Rattle.mkv_io.specs.Asked.{AsksNone, IsNotAmong}
 use Rattle.mkv_io.specs.Sources.{live_files}
 use Rattle.mkv_io.specs.declared.asked.Asked.{Asked}
 use Rattle.mkv_io.specs.declared.files.Files.{Ghosts as FilesGhosts}
@@ -15,27 +15,27 @@ use Rattle.mkv_args.specs.Words.{command}
 use Rattle.mkv_args.specs.declared.command.Command.{Command}
 use Rattle.mkv_args.specs.declared.command.Command.TheVariants.{Info, Identify, Generate, Extract, Merge}
 use Rattle.mkv_merge.specs.Asked.{IsBesidesMerge, opened_by}
-use Rattle.generator.specs.Asked.{IsBesidesGenerate}
-use Rattle.generator.specs.Generate.{names_of}
+use Rattle.mkv_generate.specs.Asked.{IsBesidesGenerate}
+use Rattle.mkv_generate.specs.Generate.{names_of}
 
 -- What a command doesn't ask for: to open a name that it may not open, or to make one that it may not make. An edit in place opens
 -- its file on the disk, and asks for nothing here; nor do help and the version.
-abbrev pub IsBesidesCommand : Command → Asked → Type 0
-IsBesidesCommand (Info file) asked = IsBesides (with_sidecar file) [] asked
-IsBesidesCommand (Identify file) asked = IsBesides (with_sidecar file) [] asked
-IsBesidesCommand (Extract file job) asked = IsBesides (with_sidecar file) (names_for job) asked
-IsBesidesCommand (Merge words) asked = IsBesidesMerge (opened_by words) words asked
-IsBesidesCommand (Generate n prefix) asked = IsBesidesGenerate (names_of prefix) asked
-IsBesidesCommand _ asked = ⊤
+abbrev pub IsNotRequested : Command → Asked → Type 0
+IsNotRequested (Info file) asked = IsNotAmong (with_sidecar file) [] asked
+IsNotRequested (Identify file) asked = IsNotAmong (with_sidecar file) [] asked
+IsNotRequested (Extract file job) asked = IsNotAmong (with_sidecar file) (names_for job) asked
+IsNotRequested (Merge words) asked = IsBesidesMerge (opened_by words) words asked
+IsNotRequested (Generate n prefix) asked = IsBesidesGenerate (names_of prefix) asked
+IsNotRequested _ asked = ⊤
 
 -- words that are no command ask for none
 abbrev pub IsBesidesAfter : Result Command Usage → Asked → Type 0
-IsBesidesAfter (Ok command) asked = IsBesidesCommand command asked
+IsBesidesAfter (Ok command) asked = IsNotRequested command asked
 IsBesidesAfter (Err usage) asked = ⊤
 
 -- No name is opened or made that a command doesn't ask for.
 abbrev pub AsksToObey : {F : Type 0} → FilesGhosts F → F → F → Command → Type 0
-AsksToObey f files files' command = AsksNone (IsBesidesCommand command) (f.asked files) (f.asked files')
+AsksToObey f files files' command = AsksNone (IsNotRequested command) (f.asked files) (f.asked files')
 
 -- nor one that the words of a command line don't
 abbrev pub AsksByWords : {F : Type 0} → FilesGhosts F → F → F → List (String Global) → Type 0

@@ -2,7 +2,7 @@
 use Rattle.std.specs.Prelude.{◌+◌, List, Option}
 use Rattle.std.specs.declared.alloc.Global.{Global}
 use Rattle.std.specs.declared.string.String.{String}
-use Rattle.mkv_io.specs.Told.{Told}
+use Rattle.mkv_io.specs.Told.{IfVisible}
 use Rattle.mkv_io.specs.declared.files.Files.{Ghosts as FilesGhosts}
 use Rattle.mkv_io.specs.declared.reads.Reads.{Ghosts as ReadsGhosts}
 use Rattle.mkv_io.specs.declared.report.Report.{Ghosts as ReportGhosts}
@@ -30,7 +30,7 @@ verdict_for f d files disk words = verdict_in (f.names files) (disk_world d disk
 -- It ends with this status as its verdict has it, where that is told.
 abbrev pub EndsFor : {F D R : Type 0} → ReadsGhosts F → FilesGhosts F → ReadsGhosts D → DiskGhosts D → ReportGhosts R → F → F → D → D → R → R → List (String Global) → Status → Type 0
 EndsFor r f s d p files files' disk disk' report report' words status =
-    Told (verdict_for f d files disk words) (Ends (run_seen r f s d p files disk report) (run_seen r f s d p files' disk' report') status)
+    IfVisible (verdict_for f d files disk words) (Ends (run_seen r f s d p files disk report) (run_seen r f s d p files' disk' report') status)
 
 -- A fault of the outside is told only where one was counted.
 abbrev pub HasCauseFor : {F D R : Type 0} → ReadsGhosts F → FilesGhosts F → ReadsGhosts D → DiskGhosts D → ReportGhosts R → F → F → D → D → R → R → List (String Global) → Status → Type 0

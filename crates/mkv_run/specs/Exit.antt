@@ -4,7 +4,7 @@ use Rattle.std.specs.declared.alloc.Global.{Global}
 use Rattle.std.specs.declared.string.String.{String}
 use Rattle.std.specs.declared.vec.Vec.{Vec}
 use Rattle.mkv_io.specs.Names.{Names}
-use Rattle.merged_outputs.specs.Merge.{HasMerged}
+use Rattle.merge_laws.specs.Merge.{HasMerged}
 use Rattle.word_values.specs.Place.{texts}
 
 -- Where the program ends with 0 or 1, the merge that the words ask for was written.

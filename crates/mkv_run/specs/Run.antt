@@ -1,7 +1,7 @@
 -- What the words of a command line come to. The commands are this project's; what their outputs hold is RFC 9559's.
 use Rattle.std.specs.Prelude.{◌≡◌, ◌≤◌, ⊤, IfOk, ℕ, ◌+◌, List, [], ◌∷◌, length, Option, Some, option_map, Result, Ok, Err}
 use Rattle.mkv_io.specs.Names.{Names}
-use Rattle.mkv_io.specs.Told.{Told}
+use Rattle.mkv_io.specs.Told.{IfVisible}
 use Rattle.word_values.specs.Why.{why_name}
 use Rattle.word_values.specs.declared.usage.Usage.{Usage}
 use Rattle.mkv_args.specs.Help.{usage_lines, version_line}
@@ -11,7 +11,7 @@ use Rattle.mkv_args.specs.declared.command.Command.TheVariants.{Help, Version, I
 use Rattle.mkv_lines.specs.Line.{word_line}
 use Rattle.mkv_lines.specs.Verdict.{Verdict, done, refused}
 use Rattle.mkv_lines.specs.declared.status.Status.{Status}
-use Rattle.mkv_lines.specs.declared.status.Stop.{Stop}
+use Rattle.mkv_lines.specs.declared.status.CommandEnd.{CommandEnd}
 use Rattle.mkv_info.specs.Bound.{most_to_tell}
 use Rattle.mkv_info.specs.Info.{info_verdict}
 use Rattle.mkv_info.specs.declared.info.Form.TheVariants.{Lines, Json}
@@ -21,13 +21,13 @@ use Rattle.mkv_propedit.specs.Propedit.{propedit_on}
 use Rattle.mkv_propedit.specs.Reindex.{most_to_reindex, reindex_on}
 use Rattle.mkv_extract.specs.Bound.{most_to_extract}
 use Rattle.mkv_extract.specs.Extract.{extract_verdict}
-use Rattle.generator.specs.Bound.{most_to_generate}
-use Rattle.generator.specs.Generate.{generate_verdict}
+use Rattle.mkv_generate.specs.Bound.{most_to_generate}
+use Rattle.mkv_generate.specs.Generate.{generate_verdict}
 use Rattle.mkv_merge.specs.Bound.{most_read}
 use Rattle.mkv_merge.specs.Merge.{merge_verdict, sources_of}
 use Rattle.mkv_merge.specs.Records.{EndsReadable}
-use Rattle.merged_outputs.specs.Merge.{MergesWell}
-use Rattle.repeated_merge.specs.MergedAgain.{MergesAgain}
+use Rattle.merge_laws.specs.Merge.{MergesWell}
+use Rattle.remerge_laws.specs.MergedAgain.{MergesAgain}
 
 -- the first word that is wrong, and why
 abbrev pub usage_line : Usage → List ℕ
@@ -62,14 +62,14 @@ verdict_in names disk words = verdict_after names disk (command words)
 abbrev pub ReadsWithin : Names → Option DiskWorld → Command → ℕ → ℕ → Type 0
 ReadsWithin names disk (Help about) before now = now ≡ before
 ReadsWithin names disk Version before now = now ≡ before
-ReadsWithin names disk (Info file) before now = Told names (λ world. now ≤ before + most_to_tell Lines world file)
-ReadsWithin names disk (Identify file) before now = Told names (λ world. now ≤ before + most_to_tell Json world file)
+ReadsWithin names disk (Info file) before now = IfVisible names (λ world. now ≤ before + most_to_tell Lines world file)
+ReadsWithin names disk (Identify file) before now = IfVisible names (λ world. now ≤ before + most_to_tell Json world file)
 ReadsWithin names disk (Recover file) before now = now ≤ before + most_to_recover
-ReadsWithin names disk (Reindex file) before now = Told disk (λ world. now ≤ before + most_to_reindex (length world.media))
-ReadsWithin names disk (Generate n prefix) before now = Told names (λ world. now ≤ before + most_to_generate n prefix)
-ReadsWithin names disk (Extract file job) before now = Told names (λ world. now ≤ before + most_to_extract world file job)
-ReadsWithin names disk (Propedit file edits) before now = Told disk (λ world. now ≤ before + most_to_edit (length world.media))
-ReadsWithin names disk (Merge words) before now = Told names (λ world. now ≤ before + most_read world words)
+ReadsWithin names disk (Reindex file) before now = IfVisible disk (λ world. now ≤ before + most_to_reindex (length world.media))
+ReadsWithin names disk (Generate n prefix) before now = IfVisible names (λ world. now ≤ before + most_to_generate n prefix)
+ReadsWithin names disk (Extract file job) before now = IfVisible names (λ world. now ≤ before + most_to_extract world file job)
+ReadsWithin names disk (Propedit file edits) before now = IfVisible disk (λ world. now ≤ before + most_to_edit (length world.media))
+ReadsWithin names disk (Merge words) before now = IfVisible names (λ world. now ≤ before + most_read world words)
 
 -- the same of words that were read; for those that are no command nothing is read
 abbrev pub ReadsWithinAfter : Names → Option DiskWorld → Result Command Usage → ℕ → ℕ → Type 0
@@ -82,12 +82,12 @@ ReadsWithinIn names disk words before now = ReadsWithinAfter names disk (command
 -- ---- what a merge has written
 
 -- What a merge has written that ended by itself can be read again, where the names are told.
-abbrev pub MergesReadable : Names → Command → Result Status Stop → Type 0
-MergesReadable names (Merge words) r = Told names (λ world. EndsReadable words (sources_of world words) r)
+abbrev pub MergesReadable : Names → Command → Result Status CommandEnd → Type 0
+MergesReadable names (Merge words) r = IfVisible names (λ world. EndsReadable words (sources_of world words) r)
 MergesReadable names _ r = ⊤
 
 -- the same of the words of a command line
-abbrev pub MergesReadableIn : Names → List (List ℕ) → Result Status Stop → Type 0
+abbrev pub MergesReadableIn : Names → List (List ℕ) → Result Status CommandEnd → Type 0
 MergesReadableIn names words r = IfOk (command words) (λ (c : Command). MergesReadable names c r)
 
 -- How a run that merges ends, and what it has written: the merge that was asked for, where it ended well; and what a merge wrote, merged alone

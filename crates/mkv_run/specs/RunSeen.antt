@@ -1,6 +1,6 @@
 -- What is seen of a run: of its files and its report, and of its disk.
 use Rattle.std.specs.Prelude.{◌≡◌, ◌⊎◌, ⊤, ℕ, Result, Ok, Err, IfOk}
-use Rattle.mkv_io.specs.Faults.{HasRisen}
+use Rattle.mkv_io.specs.Faults.{HasIncreased}
 use Rattle.mkv_io.specs.Sources.{live_files}
 use Rattle.mkv_io.specs.declared.reads.Reads.{Ghosts as ReadsGhosts}
 use Rattle.mkv_io.specs.declared.files.Files.{Ghosts as FilesGhosts}
@@ -12,8 +12,8 @@ use Rattle.mkv_lines.specs.Said.{ReportLines}
 use Rattle.mkv_lines.specs.Seen.{Seen, seen}
 use Rattle.mkv_lines.specs.declared.status.Status.{Status}
 use Rattle.mkv_lines.specs.declared.status.Status.TheVariants as status
-use Rattle.mkv_lines.specs.declared.status.Stop.{Stop}
-use Rattle.mkv_lines.specs.declared.status.Stop.TheVariants as stop
+use Rattle.mkv_lines.specs.declared.status.CommandEnd.{CommandEnd}
+use Rattle.mkv_lines.specs.declared.status.CommandEnd.TheVariants as stop
 use Rattle.mkv_run.specs.Touched.{Reach, edited, indexed, recovered}
 
 -- how often opening or reading failed, and writing
@@ -23,7 +23,7 @@ pub record DiskFaults : Type 0 where
 
 -- The disk failed.
 abbrev pub DiskRose : DiskFaults → DiskFaults → Type 0
-DiskRose old new = HasRisen old.reading new.reading ⊎ HasRisen old.writing new.writing
+DiskRose old new = HasIncreased old.reading new.reading ⊎ HasIncreased old.writing new.writing
 
 -- What is seen of the files and the report, and how often the disk failed.
 pub record RunSeen : Type 0 where
@@ -51,7 +51,7 @@ IsSilent _ old new = ⊤
 
 -- Why a command stops: a fault is told only where a count of its object rose, and no other count does. Where the disk failed, no line
 -- was said, and none of an edit in place for which there was no memory.
-abbrev pub HasRunStop : {T : Type 0} → Reach → RunSeen → RunSeen → Result T Stop → Type 0
+abbrev pub HasRunStop : {T : Type 0} → Reach → RunSeen → RunSeen → Result T CommandEnd → Type 0
 HasRunStop reach old new (Ok _) = IsFaultless old new
 HasRunStop reach old new (Err stop.Memory) = IsFaultless old new × IsSilent reach old.seen.lines new.seen.lines
 HasRunStop reach old new (Err stop.Files) =
@@ -61,7 +61,7 @@ HasRunStop reach old new (Err stop.Report) =
     ReportRose old.seen.counts new.seen.counts × (new.seen.counts ≡ record old.seen.counts { report = new.seen.counts.report }) × (new.disk ≡ old.disk)
 
 -- A command ended by itself with an ordinary status; or it has stopped, and told why. The same files are live as before.
-pub record HasObeyed {F D R : Type 0} (r : ReadsGhosts F) (f : FilesGhosts F) (s : ReadsGhosts D) (d : DiskGhosts D) (p : ReportGhosts R) (files files' : F) (disk disk' : D) (report report' : R) (reach : Reach) (result : Result Status Stop) : Type 0 where
+pub record HasObeyed {F D R : Type 0} (r : ReadsGhosts F) (f : FilesGhosts F) (s : ReadsGhosts D) (d : DiskGhosts D) (p : ReportGhosts R) (files files' : F) (disk disk' : D) (report report' : R) (reach : Reach) (result : Result Status CommandEnd) : Type 0 where
   pub ordinary : IfOk result IsOrdinary
   pub live : (file : ℕ) → (live_files r files').live file ≡ (live_files r files).live file
   pub cause : HasRunStop reach (run_seen r f s d p files disk report) (run_seen r f s d p files' disk' report') result

@@ -1,7 +1,7 @@
 -- What a run promises of what is seen of the outside before it and after it. It is this project's.
 use Rattle.std.specs.Prelude.{◌≡◌, ◌≢◌, ◌⊎◌, ◌≤◌, ⊤, ℕ, IsTrue, false, List, Some}
 use Rattle.mkv_io.specs.Asked.{AsksNone}
-use Rattle.mkv_io.specs.Told.{Told}
+use Rattle.mkv_io.specs.Told.{IfVisible}
 use Rattle.mkv_disk.specs.Pair.{IsSynced, Pair}
 use Rattle.word_values.specs.declared.edit.Edit.{Edit}
 use Rattle.mkv_args.specs.Words.{command}
@@ -11,8 +11,8 @@ use Rattle.mkv_lines.specs.declared.status.Status.TheVariants as status
 use Rattle.mkv_propedit.specs.Recovery.{LeavesPair}
 use Rattle.mkv_propedit.specs.Left.{LeavesEdited, writes_of_edits}
 use Rattle.mkv_propedit.specs.Reindex.{writes_of_index}
-use Rattle.merged_outputs.specs.Merge.{MergesWell}
-use Rattle.repeated_merge.specs.MergedAgain.{MergesAgain}
+use Rattle.merge_laws.specs.Merge.{MergesWell}
+use Rattle.remerge_laws.specs.MergedAgain.{MergesAgain}
 use Rattle.mkv_run.specs.Asked.{IsBesidesAfter}
 use Rattle.mkv_run.specs.Ends.{Ends}
 use Rattle.mkv_run.specs.Kept.{HasNewIndex, KeepsRest}
@@ -82,7 +82,7 @@ pub record CrashLeavesOnly (before after : Outside) (P : List ℕ → List ℕ �
 pub record Runs (words : List (List ℕ)) (before after : Outside) (s : Status) : Type 0 where
   -- The status, the lines and the outputs are those that the words come to, and no other name has changed. If the outside fails or memory
   -- runs out on the way, a first part of the lines was said. It is so if the names, or for an edit in place the disk, are told.
-  pub does_what_is_defined : Told (verdict_in before.names (world_of before) words) (Ends (seen_of before) (seen_of after) s)
+  pub does_what_is_defined : IfVisible (verdict_in before.names (world_of before) words) (Ends (seen_of before) (seen_of after) s)
   -- The status of a failure is answered only if a count of failures rose, and always if one did.
   pub blames_rightly : HasStatusCause (reach_in (command words)) (seen_of before) (seen_of after) s
   -- The same files are open as before.

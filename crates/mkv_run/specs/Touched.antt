@@ -13,7 +13,7 @@ use Rattle.mkv_propedit.specs.Left.{IsBeingEdited, IsEditOf, writes_of_edits}
 use Rattle.mkv_propedit.specs.Reindex.{writes_of_index}
 use Rattle.mkv_run.specs.Kept.{EditKeepsRest, IndexKeepsRest}
 use Rattle.mkv_lines.specs.Code.{status_of}
-use Rattle.mkv_lines.specs.declared.status.Stop.{Stop}
+use Rattle.mkv_lines.specs.declared.status.CommandEnd.{CommandEnd}
 
 -- What a run reaches: nothing, as for help or words that are refused; files; or a file in place, that is recovered, edited, or indexed anew.
 pub data Reach : Type 0 where
@@ -59,7 +59,7 @@ Touches r d (edited file edits) old new disk disk_now s = (new ≡ old) × IsEdi
 Touches r d (indexed file) old new disk disk_now s = (new ≡ old) × IsEditOf r d file writes_of_index disk disk_now s × IndexKeepsRest d disk disk_now s
 
 -- what a command touches that ended so, by the status with which the run then ends
-abbrev pub Touched : {F D : Type 0} → reads.Ghosts D → disks.Ghosts D → Reach → F → F → D → D → Result Status Stop → Type 0
+abbrev pub Touched : {F D : Type 0} → reads.Ghosts D → disks.Ghosts D → Reach → F → F → D → D → Result Status CommandEnd → Type 0
 Touched r d reach old new disk disk_now result = Touches r d reach old new disk disk_now (status_of result)
 
 -- What a crash at any moment of it may leave of a file M beside a sidecar S.

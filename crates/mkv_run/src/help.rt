@@ -8,24 +8,28 @@ ghost use Rattle.mkv_lines.specs.Verdict.{SaysVerdict, done};
 
 use mkv_args::{Verb, usage_lines, version_line};
 use mkv_io::{List, Report, Text};
-use mkv_lines::{Status, Stop, say_text};
+use mkv_lines::{CommandEnd, Status, say_text};
 use std::alloc::Global;
 
 /// Says how the words are written, of one command or of all.
-pub fn help<R: Report>(alloc: Global, about: Option<Verb>, report: &mut R) -> Result<Status, Stop>
+pub fn help<R: Report>(
+    alloc: Global,
+    about: Option<Verb>,
+    report: &mut R,
+) -> Result<Status, CommandEnd>
     ensures verdict { SaysVerdict (R.lines report.old) (R.lines report.new) result (done (usage_lines about)) }
     ensures ordinary { IfOk result IsOrdinary }
     ensures cause { HasSayCause (R.faults report.old) (R.faults report.new) result }
 {
     let Ok(lines) = usage_lines(alloc, about) else {
-        return Err(Stop::Memory);
+        return Err(CommandEnd::Memory);
     };
     say_texts(&lines, report)?;
     Ok(Status::Done)
 }
 
 /// Says the name and the version.
-pub fn version<R: Report>(report: &mut R) -> Result<Status, Stop>
+pub fn version<R: Report>(report: &mut R) -> Result<Status, CommandEnd>
     ensures verdict { SaysVerdict (R.lines report.old) (R.lines report.new) result (done (version_line ∷ [])) }
     ensures ordinary { IfOk result IsOrdinary }
     ensures cause { HasSayCause (R.faults report.old) (R.faults report.new) result }
@@ -35,7 +39,7 @@ pub fn version<R: Report>(report: &mut R) -> Result<Status, Stop>
 }
 
 // Says these texts, a line each.
-fn say_texts<R: Report>(texts: &List<Text>, report: &mut R) -> Result<(), Stop>
+fn say_texts<R: Report>(texts: &List<Text>, report: &mut R) -> Result<(), CommandEnd>
     ensures said { Says (R.lines report.old) (R.lines report.new) texts.now result }
     ensures cause { HasSayCause (R.faults report.old) (R.faults report.new) result }
 {

@@ -1,10 +1,10 @@
 //! A run, from the words of its command line to its status.
 
 ghost use Rattle.std.specs.Prelude.{IfOk};
-ghost use Rattle.mkv_io.specs.Told.{Told};
+ghost use Rattle.mkv_io.specs.Told.{IfVisible};
 ghost use Rattle.mkv_args.specs.Sound.{IsSound};
 ghost use Rattle.mkv_disk.specs.Calls.{AtRest};
-ghost use Rattle.mkv_lines.specs.Command.{ComesTo};
+ghost use Rattle.mkv_lines.specs.Command.{Fulfils};
 ghost use Rattle.mkv_lines.specs.Ordinary.{IsOrdinary};
 ghost use Rattle.mkv_lines.specs.Line.{word_line};
 ghost use Rattle.mkv_lines.specs.Said.{HasSayCause};
@@ -21,16 +21,16 @@ ghost use Rattle.mkv_run.specs.Touched.{IsInPlace, Touched, Touches, reach_of};
 
 use crate::help::{help, version};
 use edit_laws::{edits_change_nothing_else, new_index_is_whole};
-use generator::generate_of;
 use mkv_args::{ArgsEnd, Command, read_words};
 use mkv_disk::Disk;
 use mkv_extract::extract_of;
+use mkv_generate::generate_of;
 use mkv_info::{Form, info_of};
 use mkv_io::{Files, Report};
-use mkv_lines::{Line, Status, Stop, say_disk_fault, say_files_fault};
+use mkv_lines::{CommandEnd, Line, Status, say_disk_fault, say_files_fault};
 use mkv_merge::merge_of;
 use mkv_propedit::{propedit_of, recover_of, reindex_of};
-use repeated_merge::outputs_are_written_again;
+use remerge_laws::outputs_are_written_again;
 use std::alloc::Global;
 
 /// Does what the words of a command line ask for, and says its lines. Where they recover or edit a file in place, nothing
@@ -91,13 +91,13 @@ fn run_to_end<F: Files, D: Disk, R: Report>(
     outputs_are_written_again();
     match carry_out(alloc, words, files, disk, report) {
         Ok(status) => status,
-        Err(Stop::Memory) => Status::NoMemory,
-        Err(Stop::Report) => Status::Outside,
-        Err(Stop::Files) => {
+        Err(CommandEnd::Memory) => Status::NoMemory,
+        Err(CommandEnd::Report) => Status::Outside,
+        Err(CommandEnd::Files) => {
             let _ = say_files_fault(report);
             Status::Outside
         }
-        Err(Stop::Disk) => {
+        Err(CommandEnd::Disk) => {
             let _ = say_disk_fault(report);
             Status::Outside
         }
@@ -111,10 +111,10 @@ fn carry_out<F: Files, D: Disk, R: Report>(
     files: &mut F,
     disk: &mut D,
     report: &mut R,
-) -> Result<Status, Stop>
+) -> Result<Status, CommandEnd>
     requires { IsInPlace (reach_for words.now.items) → AtRest D.Disk.own disk.old }
-    ensures verdict { Told (verdict_for F.Files.own D.Disk.own files.old disk.old words.now.items)
-        (ComesTo F.Reads F.Files.own R.Report files.old files.new report.old report.new result) }
+    ensures verdict { IfVisible (verdict_for F.Files.own D.Disk.own files.old disk.old words.now.items)
+        (Fulfils F.Reads F.Files.own R.Report files.old files.new report.old report.new result) }
     ensures ended { HasObeyed F.Reads F.Files.own D.Reads D.Disk.own R.Report files.old files.new disk.old disk.new
         report.old report.new (reach_for words.now.items) result }
     ensures readable { MergesReadableIn (F.names files.old) (texts words.now.items) result }
@@ -123,24 +123,24 @@ fn carry_out<F: Files, D: Disk, R: Report>(
     ensures touches { Touched D.Reads D.Disk.own (reach_for words.now.items) files.old files.new disk.old disk.new result }
 {
     match read_words(alloc, words) {
-        Ok(command) => obey(alloc, &command, files, disk, report),
+        Ok(command) => execute(alloc, &command, files, disk, report),
         Err(ArgsEnd::Usage(usage)) => refuse(alloc, usage.word, usage.why.name(), report),
-        Err(ArgsEnd::Memory) => Err(Stop::Memory),
+        Err(ArgsEnd::Memory) => Err(CommandEnd::Memory),
     }
 }
 
 // Does what a command asks for.
-fn obey<F: Files, D: Disk, R: Report>(
+fn execute<F: Files, D: Disk, R: Report>(
     alloc: Global,
     command: &Command,
     files: &mut F,
     disk: &mut D,
     report: &mut R,
-) -> Result<Status, Stop>
+) -> Result<Status, CommandEnd>
     requires sound { IsSound command.now }
     requires at_rest { IsInPlace (reach_of command.now) → AtRest D.Disk.own disk.old }
-    ensures verdict { Told (verdict_of (F.names files.old) (disk_world D.Disk.own disk.old) command.now)
-        (ComesTo F.Reads F.Files.own R.Report files.old files.new report.old report.new result) }
+    ensures verdict { IfVisible (verdict_of (F.names files.old) (disk_world D.Disk.own disk.old) command.now)
+        (Fulfils F.Reads F.Files.own R.Report files.old files.new report.old report.new result) }
     ensures ended { HasObeyed F.Reads F.Files.own D.Reads D.Disk.own R.Report files.old files.new disk.old disk.new
         report.old report.new (reach_of command.now) result }
     ensures readable { MergesReadable (F.names files.old) command.now result }
@@ -171,7 +171,12 @@ fn obey<F: Files, D: Disk, R: Report>(
 }
 
 // Words that aren't obeyed.
-fn refuse<R: Report>(alloc: Global, word: usize, why: &str, report: &mut R) -> Result<Status, Stop>
+fn refuse<R: Report>(
+    alloc: Global,
+    word: usize,
+    why: &str,
+    report: &mut R,
+) -> Result<Status, CommandEnd>
     ensures verdict { SaysVerdict (R.lines report.old) (R.lines report.new) result (refused (word_line word why.now)) }
     ensures ordinary { IfOk result IsOrdinary }
     ensures cause { HasSayCause (R.faults report.old) (R.faults report.new) result }

@@ -2,7 +2,7 @@
 use Rattle.std.proofs.Common.{◌≡◌, ℕ, List, Option, Some, None, [], ◌∷◌, Result, Ok, Err, refl, ◌∙◌, ap}
 use Rattle.mkv_io.specs.declared.damage.Damage.{Damage}
 use Rattle.mkv_schema.specs.declared.element.Header.{Header}
-use Rattle.mkv_schema.specs.declared.limits.TheConstants.{MOST_OF_HEADER}
+use Rattle.mkv_schema.specs.declared.limits.TheConstants.{MAX_HEADER_LEN}
 use Rattle.mkv_schema.specs.Outline.{first_damage, over, header_causes, children_causes, header_children, first_element, ebml_header, segment_of, segment_run, limits_from, outlined, within_limits, outline_of}
 use Rattle.mkv_io.specs.Results.{and_then, unless}
 use Rattle.mkv_schema.specs.WithoutLimits.{header_without_limit, outline_without_limits, LimitsOnlyRefuse}
@@ -28,7 +28,7 @@ unfolding ebml_header
 header-without_limit bytes h is =
     let first = and_then-ok (first_element bytes) (λ x. unless (first_damage (header_causes bytes x (header_children bytes x))) x) h is in
     let good = unless-ok (first_damage (header_causes bytes first.0 (header_children bytes first.0))) first.0 h first.1.1 in
-    let none = first_damage-rest (over MOST_OF_HEADER first.0) (children_causes bytes (header_children bytes first.0)) good.0 in
+    let none = first_damage-rest (over MAX_HEADER_LEN first.0) (children_causes bytes (header_children bytes first.0)) good.0 in
     ap (λ r. and_then r (λ x. unless (first_damage (children_causes bytes (header_children bytes x))) x)) first.1.0
     ∙ ap (λ c. unless c first.0) none ∙ ap (λ x. Ok x) good.1
 

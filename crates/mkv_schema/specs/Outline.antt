@@ -3,7 +3,7 @@ use Rattle.std.specs.Prelude.{ℕ, ◌+◌, ◌==◌, nat_eq, nat_lt, Bool, true
 use Rattle.std.specs.List.{starts_with}
 use Rattle.std.specs.Option.{option_map, option_map_or}
 use Rattle.std.specs.Str.{bytes_eq}
-use Rattle.mkv_schema.specs.declared.limits.TheConstants.{MOST_OF_HEADER, MOST_OF_ONE, MOST_OF_ALL, MOST_ELEMENTS}
+use Rattle.mkv_schema.specs.declared.limits.TheConstants.{MAX_HEADER_LEN, MAX_MASTER_LEN, MAX_MASTERS_LEN, MAX_ELEMENTS}
 use Rattle.mkv_schema.specs.declared.ids.TheConstants.{EBML, EBML_READ_VERSION, EBML_MAX_ID_LENGTH, EBML_MAX_SIZE_LENGTH, DOC_TYPE, DOC_TYPE_READ_VERSION, SEGMENT, INFO, TRACKS, CHAPTERS, TAGS, CLUSTER}
 use Rattle.mkv_io.specs.declared.damage.Damage.{Damage}
 use Rattle.mkv_io.specs.declared.damage.Kind.{Kind}
@@ -77,7 +77,7 @@ children_causes bytes children =
 
 -- what refuses an EBML header, in the order in which it is told
 abbrev pub header_causes : List ℕ → Header → Run → List (Option Damage)
-header_causes bytes h children = over MOST_OF_HEADER h ∷ children_causes bytes children
+header_causes bytes h children = over MAX_HEADER_LEN h ∷ children_causes bytes children
 
 -- the Element at the start of a file that begins as an EBML header does
 abbrev pub first_element : List ℕ → Result Header Damage
@@ -133,10 +133,10 @@ others list = count_by (λ h. not (h.id == CLUSTER)) list
 abbrev pub passes_size : ℕ → List Header → Header → Bool
 passes_size held before h =
     is_described h.id
-    && (nat_lt MOST_OF_ONE (known h.size) || nat_lt MOST_OF_ALL (held + described (before ++ h ∷ [])))
+    && (nat_lt MAX_MASTER_LEN (known h.size) || nat_lt MAX_MASTERS_LEN (held + described (before ++ h ∷ [])))
 
 abbrev pub passes_count : List Header → Header → Bool
-passes_count before h = not (h.id == CLUSTER) && nat_lt MOST_ELEMENTS (others (before ++ h ∷ []))
+passes_count before h = not (h.id == CLUSTER) && nat_lt MAX_ELEMENTS (others (before ++ h ∷ []))
 
 abbrev pub limit_causes : ℕ → List Header → Header → List (Option Damage)
 limit_causes held before h =

@@ -2,19 +2,19 @@
 
 /// The octets of the longest header: an ID of 4 and a size of 8 (RFC 8794, sections 5, Element ID, and 6,
 /// Element Data Size).
-pub const LONGEST_HEADER: u64 = 12;
+pub const MAX_ELEMENT_HEADER_LEN: u64 = 12;
 
 /// The most octets of an EBML header's body.
-pub const MOST_OF_HEADER: u64 = 65536;
+pub const MAX_HEADER_LEN: u64 = 65536;
 
 /// The most octets of one Info, Tracks, Chapters, Tags or SeekHead.
-pub const MOST_OF_ONE: u64 = 16 << 20;
+pub const MAX_MASTER_LEN: u64 = 16 << 20;
 
 /// The most octets of every Info, Tracks, Chapters and Tags, in all inputs.
-pub const MOST_OF_ALL: u64 = 64 << 20;
+pub const MAX_MASTERS_LEN: u64 = 64 << 20;
 
 /// The most octets of one Cues.
-pub const MOST_OF_CUES: u64 = 64 << 20;
+pub const MAX_CUES_LEN: u64 = 64 << 20;
 
 /// The most Elements of level 1 besides Clusters.
-pub const MOST_ELEMENTS: usize = 4096;
+pub const MAX_ELEMENTS: usize = 4096;

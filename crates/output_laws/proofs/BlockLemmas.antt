@@ -20,7 +20,7 @@ use Rattle.block_format.specs.Events.{found_at}
 use Rattle.output_model.specs.Element.{Element, IsElement, HoldsAt, element, header_of, octets_of, joined, header_in_place, headers_in_place}
 use Rattle.output_model.proofs.ReadLemmas.{body_of-read, stands-body, children-all}
 use Rattle.output_model.proofs.AskedLemmas.{IsRead, headers-read, first_of-read, map-read, octets_of-read, length-read, find-none}
-use Rattle.output_model.specs.declared.TheConstants.{MOST_LANES}
+use Rattle.output_model.specs.declared.TheConstants.{MAX_LANES}
 use Rattle.output_model.specs.OutputBlock.{OutputBlock}
 use Rattle.output_model.specs.Block.{flags_of, block_flags, simple_block_flags, block_octets, duration_elements, reference_element, group_elements, group_octets, block_element}
 use Rattle.output_model.specs.Sound.{IsKeptElement, IsSimple, IsGroup, IsSoundIn}
@@ -54,13 +54,13 @@ simple-is scale timestamp p b alone is =
       offset = p;
     }
 
-pub simple_block-read : (scale : ℕ) (bytes : List ℕ) (timestamp : ℕ) (b : OutputBlock) (p : ℕ) → IsSoundIn MOST_LANES timestamp b → b.group ≡ false → HoldsAt bytes p (octets_of (element SIMPLE_BLOCK (block_octets timestamp b)))
+pub simple_block-read : (scale : ℕ) (bytes : List ℕ) (timestamp : ℕ) (b : OutputBlock) (p : ℕ) → IsSoundIn MAX_LANES timestamp b → b.group ≡ false → HoldsAt bytes p (octets_of (element SIMPLE_BLOCK (block_octets timestamp b)))
     → simple_block (without_limits scale) bytes (Some timestamp) (header_in_place p (element SIMPLE_BLOCK (block_octets timestamp b))) ≡ Ok (block_in_place scale p b)
 unfolding simple_block
 simple_block-read scale bytes timestamp b p is alone stands =
     let d : Element = element SIMPLE_BLOCK (block_octets timestamp b) in
     ap (λ o. and_then (at_place SIMPLE_BLOCK p (content_in o)) (λ content. in_time (without_limits scale) SIMPLE_BLOCK (simple_block_with scale timestamp p content))) (body_of-read bytes p d stands)
-    ∙ ap (λ r. and_then (at_place SIMPLE_BLOCK p r) (λ content. in_time (without_limits scale) SIMPLE_BLOCK (simple_block_with scale timestamp p content))) (content-read MOST_LANES timestamp b (omega arith) is)
+    ∙ ap (λ r. and_then (at_place SIMPLE_BLOCK p r) (λ content. in_time (without_limits scale) SIMPLE_BLOCK (simple_block_with scale timestamp p content))) (content-read MAX_LANES timestamp b (omega arith) is)
     ∙ ap (λ x. Ok x) (simple-is scale timestamp p b alone (is.sound.simple alone))
 
 -- ---- a BlockGroup
@@ -102,7 +102,7 @@ group-is scale bytes timestamp p b kept children grouped is spells are read =
       offset = p;
     }
 
-pub block_group-read : (scale : ℕ) (bytes : List ℕ) (timestamp : ℕ) (b : OutputBlock) (p : ℕ) → IsSoundIn MOST_LANES timestamp b → b.group ≡ true → length (block_octets timestamp b) < all_ones 8
+pub block_group-read : (scale : ℕ) (bytes : List ℕ) (timestamp : ℕ) (b : OutputBlock) (p : ℕ) → IsSoundIn MAX_LANES timestamp b → b.group ≡ true → length (block_octets timestamp b) < all_ones 8
     → HoldsAt bytes p (octets_of (element BLOCK_GROUP (group_octets timestamp b)))
     → block_group (without_limits scale) bytes (Some timestamp) (header_in_place p (element BLOCK_GROUP (group_octets timestamp b))) ≡ Ok (block_in_place scale p b)
 unfolding block_group
@@ -129,7 +129,7 @@ block_group-read scale bytes timestamp b p sound grouped short stands =
     let block : Header = header_in_place q (element BLOCK content) in
     ap (λ r. and_then r (λ cs. and_then (block_or h (first_of BLOCK cs)) (group_among (without_limits scale) bytes timestamp p cs))) children
     ∙ ap (λ o. and_then (at_place BLOCK p (content_in o)) (λ c. in_time (without_limits scale) BLOCK (group_with scale bytes timestamp p (headers_in_place q ds) c))) read.0.body_is
-    ∙ ap (λ r. and_then (at_place BLOCK p r) (λ c. in_time (without_limits scale) BLOCK (group_with scale bytes timestamp p (headers_in_place q ds) c))) (content-read MOST_LANES timestamp b (omega arith) sound)
+    ∙ ap (λ r. and_then (at_place BLOCK p r) (λ c. in_time (without_limits scale) BLOCK (group_with scale bytes timestamp p (headers_in_place q ds) c))) (content-read MAX_LANES timestamp b (omega arith) sound)
     ∙ ap (λ x. Ok x) (group-is scale bytes timestamp p b kept (headers_in_place q ds) grouped is is.kept.1 are read)
 
 -- ---- either
@@ -142,7 +142,7 @@ content-short timestamp b short =
     let others : List Element = duration_elements b.duration ++ map reference_element b.references in
     omega (arith, length-append (joined (group_elements timestamp b)) b.kept, length-append (octets_of d) (joined others), length-append (header_of d) content)
 
-pub block-read : (scale : ℕ) (bytes : List ℕ) (timestamp : ℕ) (b : OutputBlock) (p : ℕ) → IsSoundIn MOST_LANES timestamp b → HasSize (block_element timestamp b) → HoldsAt bytes p (octets_of (block_element timestamp b))
+pub block-read : (scale : ℕ) (bytes : List ℕ) (timestamp : ℕ) (b : OutputBlock) (p : ℕ) → IsSoundIn MAX_LANES timestamp b → HasSize (block_element timestamp b) → HoldsAt bytes p (octets_of (block_element timestamp b))
     → found_at (without_limits scale) bytes (Some timestamp) (header_in_place p (block_element timestamp b)) ≡ Ok (block_in_place scale p b) ∷ []
 block-read scale bytes timestamp b p is size stands = split b.group refl size stands
   where

@@ -15,7 +15,7 @@ use Rattle.block_format.specs.Events.{found_among, found_in_run, cluster_run, fo
 use Rattle.output_model.specs.Element.{Element, IsElement, HoldsAt, element, header_of, octets_of, joined, header_in_place, headers_in_place}
 use Rattle.output_model.proofs.HeldLemmas.{held-left, held-right}
 use Rattle.output_model.proofs.ReadLemmas.{body_of-read, stands-body, children-all, length-octets_of}
-use Rattle.output_model.specs.declared.TheConstants.{MOST_LANES}
+use Rattle.output_model.specs.declared.TheConstants.{MAX_LANES}
 use Rattle.output_model.specs.OutputBlock.{OutputBlock}
 use Rattle.output_model.specs.Block.{block_octets, group_octets, block_element}
 use Rattle.output_model.specs.Cluster.{OutputCluster, timestamp_element, block_elements, cluster_elements, cluster_element}
@@ -76,26 +76,26 @@ timestamp-low lanes timestamp (b ∷ bs) begins sound =
 
 -- ---- the blocks behind a Timestamp
 
-found_among-blocks : (scale : ℕ) (bytes : List ℕ) (timestamp : ℕ) (bs : List OutputBlock) (p : ℕ) → All (IsSoundIn MOST_LANES timestamp) bs → All HasSize (block_elements timestamp bs) → HoldsAt bytes p (joined (block_elements timestamp bs))
+found_among-blocks : (scale : ℕ) (bytes : List ℕ) (timestamp : ℕ) (bs : List OutputBlock) (p : ℕ) → All (IsSoundIn MAX_LANES timestamp) bs → All HasSize (block_elements timestamp bs) → HoldsAt bytes p (joined (block_elements timestamp bs))
     → found_among (without_limits scale) bytes (Some timestamp) (headers_in_place p (block_elements timestamp bs)) ≡ found_blocks (blocks_in_place scale timestamp p bs)
 found_among-blocks scale bytes timestamp [] p sound short stand = refl
 found_among-blocks scale bytes timestamp (b ∷ bs) p sound short stand =
     let d : Element = block_element timestamp b in
     let ds : List Element = block_elements timestamp bs in
     ap₂ (λ x y. x ++ y)
-    (block-read scale bytes timestamp b p (All-head (IsSoundIn MOST_LANES timestamp) b bs sound) (All-head HasSize d ds short) (held-left bytes p (octets_of d) (joined ds) stand))
-    (found_among-blocks scale bytes timestamp bs (p + length (octets_of d)) (All-tail (IsSoundIn MOST_LANES timestamp) b bs sound) (All-tail HasSize d ds short) (held-right bytes p (octets_of d) (joined ds) stand))
+    (block-read scale bytes timestamp b p (All-head (IsSoundIn MAX_LANES timestamp) b bs sound) (All-head HasSize d ds short) (held-left bytes p (octets_of d) (joined ds) stand))
+    (found_among-blocks scale bytes timestamp bs (p + length (octets_of d)) (All-tail (IsSoundIn MAX_LANES timestamp) b bs sound) (All-tail HasSize d ds short) (held-right bytes p (octets_of d) (joined ds) stand))
 
 -- ---- a Cluster
 
-pub cluster-read : (scale : ℕ) (bytes : List ℕ) (c : OutputCluster) (p e : ℕ) → IsSoundCluster MOST_LANES c → HasSize (cluster_element c) → HoldsAt bytes p (octets_of (cluster_element c))
+pub cluster-read : (scale : ℕ) (bytes : List ℕ) (c : OutputCluster) (p e : ℕ) → IsSoundCluster MAX_LANES c → HasSize (cluster_element c) → HoldsAt bytes p (octets_of (cluster_element c))
     → p + length (octets_of (cluster_element c)) ≤ e → found_in (without_limits scale) bytes e (header_in_place p (cluster_element c)) ≡ found_blocks (cluster_blocks scale p c)
 cluster-read scale bytes c p e sound size stands ends =
     let d : Element = cluster_element c in
     let t : Element = timestamp_element c.timestamp in
     let bs : List Element = block_elements c.timestamp c.blocks in
     let ds : List Element = cluster_elements c in
-    let low = timestamp-low MOST_LANES c.timestamp c.blocks sound.begins sound.blocks in
+    let low = timestamp-low MAX_LANES c.timestamp c.blocks sound.begins sound.blocks in
     let short = sizes-joined ds size in
     let q : ℕ = p + length (header_of d) in
     let next : ℕ = q + length (octets_of t) in

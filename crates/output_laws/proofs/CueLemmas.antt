@@ -13,7 +13,7 @@ use Rattle.block_format.specs.Events.{Found, found_in}
 use Rattle.output_model.specs.Element.{Element, HoldsAt, header_of, octets_of, joined, header_in_place}
 use Rattle.output_model.proofs.HeldLemmas.{held-left, held-right, held-within}
 use Rattle.output_model.proofs.ReadLemmas.{element_at-read, stands-body, length-octets_of, octets_of-some}
-use Rattle.output_model.specs.declared.TheConstants.{MOST_LANES}
+use Rattle.output_model.specs.declared.TheConstants.{MAX_LANES}
 use Rattle.output_model.specs.declared.places.CuePoint.{CuePoint}
 use Rattle.output_model.specs.OutputBlock.{OutputBlock}
 use Rattle.output_model.specs.Block.{block_element}
@@ -53,7 +53,7 @@ points-in scale bytes cued segment cluster c timestamp relative q (b ∷ bs) sta
     chosen point false here = All-nil (PointsAtBlock scale bytes segment)
 
 -- the points of Clusters
-points-from : (scale : ℕ) (bytes : List ℕ) (cued : OutputBlock → Bool) (segment : Header) (c : ℕ) (cs : List OutputCluster) → All (IsSoundCluster MOST_LANES) cs → All HasSize (clusters_elements cs) → HoldsAt bytes (segment.body + c) (joined (clusters_elements cs)) → segment.body + c + length (joined (clusters_elements cs)) ≤ segment_bound bytes segment
+points-from : (scale : ℕ) (bytes : List ℕ) (cued : OutputBlock → Bool) (segment : Header) (c : ℕ) (cs : List OutputCluster) → All (IsSoundCluster MAX_LANES) cs → All HasSize (clusters_elements cs) → HoldsAt bytes (segment.body + c) (joined (clusters_elements cs)) → segment.body + c + length (joined (clusters_elements cs)) ≤ segment_bound bytes segment
     → All (PointsAtBlock scale bytes segment) (points_from cued c cs)
 unfolding is_id
 points-from scale bytes cued segment c [] sound short stand ends = All-nil (PointsAtBlock scale bytes segment)
@@ -63,7 +63,7 @@ points-from scale bytes cued segment c (k ∷ ks) sound short stand ends =
     let e : ℕ = segment_bound bytes segment in
     let others : List ℕ = joined (clusters_elements ks) in
     let len = length-append (octets_of d) others in
-    let is = All-head (IsSoundCluster MOST_LANES) k ks sound in
+    let is = All-head (IsSoundCluster MAX_LANES) k ks sound in
     let size = All-head HasSize d (clusters_elements ks) short in
     let here = held-left bytes p (octets_of d) others stand in
     let next : p + length (octets_of d) ≡ segment.body + (c + length (octets_of d)) = omega arith in
@@ -75,7 +75,7 @@ points-from scale bytes cued segment c (k ∷ ks) sound short stand ends =
     (points-in scale bytes cued segment (header_in_place p d) c k.timestamp _ (first_block p k) k.blocks
     (element_at-read in_segment bytes d p e refl (IsElement-element CLUSTER _ refl size) here (omega arith)) refl refl
     (found-each (found_in (without_limits scale) bytes e (header_in_place p d)) blocks all))
-    (points-from scale bytes cued segment (c + length (octets_of d)) ks (All-tail (IsSoundCluster MOST_LANES) k ks sound) (All-tail HasSize d (clusters_elements ks) short)
+    (points-from scale bytes cued segment (c + length (octets_of d)) ks (All-tail (IsSoundCluster MAX_LANES) k ks sound) (All-tail HasSize d (clusters_elements ks) short)
     (subst (λ (q : ℕ). HoldsAt bytes q others) next (held-right bytes p (octets_of d) others stand)) (omega arith))
 
 pub points-hold : (scale : ℕ) (bytes : List ℕ) (cued : OutputBlock → Bool) (s : OutputSegment) (p : ℕ) → IsSoundSegment s → HoldsAt bytes p (octets_of (segment_element s))

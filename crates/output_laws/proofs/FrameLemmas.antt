@@ -8,7 +8,7 @@ use Rattle.lacing.specs.declared.kind.Lace.TheVariants as lace
 use Rattle.lacing.specs.Lace.{AreEqual}
 use Rattle.lacing.specs.Writing.{FitsKind, CanLace}
 use Rattle.output_laws.specs.Blocks.{CanBeLaced}
-use Rattle.output_model.specs.declared.TheConstants.{MOST_OF_PREFIX}
+use Rattle.output_model.specs.declared.TheConstants.{MAX_PREFIX_LEN}
 use Rattle.output_model.specs.OutputBlock.{prefixed}
 
 -- so many octets more for each
@@ -19,7 +19,7 @@ sizes-prefixed : (prefix : List ℕ) (frames : List (List ℕ)) → map length (
 sizes-prefixed prefix [] = refl
 sizes-prefixed prefix (frame ∷ frames) = ap₂ (λ n ns. n ∷ ns) (length-append prefix frame) (sizes-prefixed prefix frames)
 
-sum-longer : (n : ℕ) (sizes : List ℕ) → n ≤ MOST_OF_PREFIX → sum (longer_by n sizes) ≤ sum sizes + MOST_OF_PREFIX * length sizes
+sum-longer : (n : ℕ) (sizes : List ℕ) → n ≤ MAX_PREFIX_LEN → sum (longer_by n sizes) ≤ sum sizes + MAX_PREFIX_LEN * length sizes
 sum-longer n [] small = omega arith
 sum-longer n (size ∷ sizes) small =
     let total = sum_by-cons (λ (x : ℕ). x) size sizes in
@@ -42,7 +42,7 @@ fits-longer lace.Xiph n sizes fits = tt
 fits-longer lace.Fixed n sizes fits = equal-longer n sizes fits
 fits-longer lace.Ebml n sizes fits = tt
 
-pub frames-can : (kind : Lace) (prefix : List ℕ) (frames : List (List ℕ)) → CanBeLaced kind (map length frames) → length prefix ≤ MOST_OF_PREFIX → CanLace kind (map length (prefixed prefix frames))
+pub frames-can : (kind : Lace) (prefix : List ℕ) (frames : List (List ℕ)) → CanBeLaced kind (map length frames) → length prefix ≤ MAX_PREFIX_LEN → CanLace kind (map length (prefixed prefix frames))
 frames-can kind prefix frames laces small =
     let sizes : List ℕ = map length frames in
     let longer = sum-longer (length prefix) sizes small in

@@ -20,7 +20,7 @@ use Rattle.block_format.specs.Events.{events_of}
 use Rattle.output_model.specs.Element.{Element, IsElement, HoldsAt, header_of, octets_of, joined, header_in_place, headers_in_place, void_element}
 use Rattle.output_model.proofs.HeldLemmas.{held-left, held-right, held-between}
 use Rattle.output_model.proofs.ReadLemmas.{element_at-read, stands-body, length-octets_of, octets_of-some}
-use Rattle.output_model.specs.declared.TheConstants.{AREA, MOST_CUES, MOST_LANES}
+use Rattle.output_model.specs.declared.TheConstants.{AREA, MAX_CUES, MAX_LANES}
 use Rattle.output_model.specs.Cluster.{OutputCluster}
 use Rattle.output_model.specs.Cues.{points_from, cues_elements}
 use Rattle.output_model.specs.SeekHead.{seek_head, area_elements, seeks_from}
@@ -126,7 +126,7 @@ segment-sound d is =
           (All-cons IsOther info (tracks ∷ attachments) (other-shortest INFO info refl refl has.info (All-head HasSize info (tracks ∷ attachments) from_info))
           (All-cons IsOther tracks attachments (other-shortest TRACKS tracks refl refl has.tracks (All-head HasSize tracks attachments from_tracks))
           (others-shortest ATTACHMENTS attachments refl refl has.attachments from_attachments))));
-      clusters = All-weaker (IsSoundCluster (lanes_of d)) (IsSoundCluster MOST_LANES) (λ c one. wider-cluster (lanes_of d) MOST_LANES c few one) d.clusters is.clusters;
+      clusters = All-weaker (IsSoundCluster (lanes_of d)) (IsSoundCluster MAX_LANES) (λ c one. wider-cluster (lanes_of d) MAX_LANES c few one) d.clusters is.clusters;
       behind =
           All-append IsOther (cues_elements d.cues) (chapters ++ tags) (others-shortest CUES (cues_elements d.cues) refl refl has.cues cues.0)
           (All-append IsOther chapters tags (others-shortest CHAPTERS chapters refl refl has.chapters others.0) (others-shortest TAGS tags refl refl has.tags others.1));
@@ -303,7 +303,7 @@ read-as d is =
       events = ap (λ n. events_of (record { limits = false; scale = n }) bytes h) scale ∙ read.events;
       seeks = seeks-of d bytes is body (omega (arith, length-append front (octets_of e), length-octets_of e));
       cues = subst (All (PointsAtBlock (scale_of d.front.info) bytes h)) (sym is.cues)
-          (All-take (PointsAtBlock (scale_of d.front.info) bytes h) MOST_CUES (points_from is.cued (clusters_at d.front) d.clusters)
+          (All-take (PointsAtBlock (scale_of d.front.info) bytes h) MAX_CUES (points_from is.cued (clusters_at d.front) d.clusters)
           (subst (λ (k : ℕ). All (PointsAtBlock (scale_of d.front.info) bytes h) (points_from is.cued k d.clusters)) front_len (points-hold (scale_of d.front.info) bytes is.cued s w sound held)));
     }
   where

@@ -2,7 +2,7 @@
 use Rattle.std.proofs.Common.{◌≡◌, ℕ, ◌+◌, ◌-◌, ◌*◌, ◌≤◌, nat_le, Bool, true, false, ◌&&◌, if◌then◌else◌, List, [], ◌∷◌, ◌++◌, length, flat_map, All, append_assoc, refl, ap, ◌∙◌, arith}
 use Rattle.std.proofs.lemmas.Bool.{le-leb}
 use Rattle.std.proofs.lemmas.List.Elements.{All-nil, All-cons, All-head, All-tail, All-append}
-use Rattle.output_model.specs.declared.TheConstants.{MOST_OF_CLUSTER}
+use Rattle.output_model.specs.declared.TheConstants.{MAX_CLUSTER_LEN}
 use Rattle.output_model.specs.declared.heads.ClusterLimits.{ClusterLimits}
 use Rattle.output_model.specs.OutputBlock.{OutputBlock, in_output}
 use Rattle.output_model.specs.Cluster.{OutputCluster, is_near, cluster_body, with_block, begun, joins, cut_from, clusters}
@@ -39,7 +39,7 @@ second false b c d is = absurd (cc)
 
 joins-near : (limits : ClusterLimits) (c : OutputCluster) (b : OutputBlock) → joins limits c b ≡ true → is_near c.timestamp b.tick ≡ true
 joins-near limits c b is =
-    second (nat_le (length (with_block c b).blocks) limits.blocks) (is_near c.timestamp b.tick) (nat_le ((b.tick - c.timestamp) * limits.scale) limits.span) (nat_le (length (cluster_body (with_block c b))) MOST_OF_CLUSTER) is
+    second (nat_le (length (with_block c b).blocks) limits.blocks) (is_near c.timestamp b.tick) (nat_le ((b.tick - c.timestamp) * limits.scale) limits.span) (nat_le (length (cluster_body (with_block c b))) MAX_CLUSTER_LEN) is
 
 near-itself : (tick : ℕ) → is_near tick tick ≡ true
 near-itself tick =

@@ -11,7 +11,7 @@ use Rattle.lacing.specs.Lace.{IsLaceHead}
 use Rattle.lacing.specs.Reading.{lace_in}
 use Rattle.lacing.specs.Writing.{FitsKind}
 use Rattle.lacing.proofs.LaceLemmas.{lace_in-found}
-use Rattle.block_format.specs.declared.limits.TheConstants.{MOST_OF_BLOCK}
+use Rattle.block_format.specs.declared.limits.TheConstants.{MAX_BLOCK_LEN}
 use Rattle.block_format.specs.Content.{Content, has_no_header, header_len, flags_in, data_in, frames_cut, frames_behind, laced_frames, frames_in, lace_of, content_with, content_in}
 use Rattle.output_laws.specs.Blocks.{CanBeLaced}
 use Rattle.ebml_numbers.proofs.SpelledLemmas.{AreOctets-drop}
@@ -33,7 +33,7 @@ fits-head lace.Xiph head sizes is = tt
 fits-head lace.Fixed head sizes is = is.0
 fits-head lace.Ebml head sizes is = tt
 
-laced-laces : (kind : Lace) (octets : List ℕ) (frames : List (List ℕ)) → AreOctets octets → length octets ≤ MOST_OF_BLOCK → laced_frames kind octets ≡ Ok frames → CanBeLaced kind (sizes_of frames)
+laced-laces : (kind : Lace) (octets : List ℕ) (frames : List (List ℕ)) → AreOctets octets → length octets ≤ MAX_BLOCK_LEN → laced_frames kind octets ≡ Ok frames → CanBeLaced kind (sizes_of frames)
 laced-laces kind [] frames bytes short is = absurd (cc)
 laced-laces kind (less_one ∷ octets) frames bytes short is = split (lace_in kind (less_one + 1) octets) refl is
   where
@@ -50,7 +50,7 @@ laced-laces kind (less_one ∷ octets) frames bytes short is = split (lace_in ki
         let sizes_are : sizes_of frames ≡ sizes = ap sizes_of (sym same) ∙ sizes-cut sizes (drop head octets) (omega arith) in
         subst (CanBeLaced kind) (sym sizes_are) (record { some = a_lace.some; most = a_lace.most; total = omega arith; fits = fits-head kind (take head octets) sizes a_lace.spelled })
 
-frames-lace : (kind : Lace) (octets : List ℕ) (frames : List (List ℕ)) → AreOctets octets → length octets ≤ MOST_OF_BLOCK → frames_in kind octets ≡ Ok frames → CanBeLaced kind (sizes_of frames)
+frames-lace : (kind : Lace) (octets : List ℕ) (frames : List (List ℕ)) → AreOctets octets → length octets ≤ MAX_BLOCK_LEN → frames_in kind octets ≡ Ok frames → CanBeLaced kind (sizes_of frames)
 frames-lace lace.None octets frames bytes short is =
     let same : octets ∷ [] ≡ frames = cc in
     let one : CanBeLaced lace.None (length octets ∷ []) = record { some = omega arith; most = omega arith; total = omega arith; fits = refl } in
@@ -73,7 +73,7 @@ content-frames octets c is = split (has_no_header octets) (frames_in (lace_of (f
         ap (λ f. frames_in (lace_of f) (data_in octets)) (sym flags) ∙ at ∙ ap (λ fs. Ok fs) same
 
 -- Frames of a block that was read can be laced.
-pub content-laces : (octets : List ℕ) (c : Content) → AreOctets octets → length octets ≤ MOST_OF_BLOCK → content_in octets ≡ Ok c → CanBeLaced (lace_of c.flags) (sizes_of c.frames)
+pub content-laces : (octets : List ℕ) (c : Content) → AreOctets octets → length octets ≤ MAX_BLOCK_LEN → content_in octets ≡ Ok c → CanBeLaced (lace_of c.flags) (sizes_of c.frames)
 content-laces octets c bytes short is =
     let rest = length-drop (header_len octets) octets in
     frames-lace (lace_of c.flags) (drop (header_len octets) octets) c.frames (AreOctets-drop (header_len octets) octets bytes) (omega arith) (content-frames octets c is)

@@ -16,7 +16,7 @@ use Rattle.block_format.specs.Events.{Event, block, found_in, is_closed, events_
 use Rattle.output_model.specs.Element.{Element, IsElement, HoldsAt, header_of, octets_of, joined, header_in_place, headers_in_place, all_in_front}
 use Rattle.output_model.proofs.HeldLemmas.{held-left, held-right, held-within}
 use Rattle.output_model.proofs.ReadLemmas.{Lists, elements-read, stands-body, length-octets_of, octets_of-some}
-use Rattle.output_model.specs.declared.TheConstants.{MOST_LANES}
+use Rattle.output_model.specs.declared.TheConstants.{MAX_LANES}
 use Rattle.output_model.specs.Cluster.{OutputCluster, cluster_element}
 use Rattle.output_model.specs.Document.{clusters_elements}
 use Rattle.output_model.specs.Sound.{IsSoundCluster}
@@ -76,7 +76,7 @@ events-others r bytes e (d ∷ ds) rest p are =
     ∙ ap (λ k. events_among r bytes e (headers_in_place k rest) None) end
 
 -- Clusters give their blocks
-events-clusters : (scale : ℕ) (bytes : List ℕ) (e : ℕ) (cs : List OutputCluster) (rest : List Element) (p : ℕ) → All (IsSoundCluster MOST_LANES) cs → All HasSize (clusters_elements cs) → HoldsAt bytes p (joined (clusters_elements cs)) → p + length (joined (clusters_elements cs)) ≤ e
+events-clusters : (scale : ℕ) (bytes : List ℕ) (e : ℕ) (cs : List OutputCluster) (rest : List Element) (p : ℕ) → All (IsSoundCluster MAX_LANES) cs → All HasSize (clusters_elements cs) → HoldsAt bytes p (joined (clusters_elements cs)) → p + length (joined (clusters_elements cs)) ≤ e
     → events_among (without_limits scale) bytes e (headers_in_place p (clusters_elements cs ++ rest)) None
     ≡ block_events (clusters_blocks scale p cs) ++ events_among (without_limits scale) bytes e (headers_in_place (p + length (joined (clusters_elements cs))) rest) None
 events-clusters scale bytes e [] rest p sound short stand ends =
@@ -92,9 +92,9 @@ events-clusters scale bytes e (c ∷ cs) rest p sound short stand ends =
     let here : List Block = cluster_blocks scale p c in
     let behind : List Event = events_among (without_limits scale) bytes e (headers_in_place (q + length others) rest) None in
     ap (λ found. events_then (is_closed (length bytes) (header_in_place p d)) found more)
-    (cluster-read scale bytes c p e (All-head (IsSoundCluster MOST_LANES) c cs sound) (All-head HasSize d (clusters_elements cs) short) (held-left bytes p (octets_of d) others stand) (omega arith))
+    (cluster-read scale bytes c p e (All-head (IsSoundCluster MAX_LANES) c cs sound) (All-head HasSize d (clusters_elements cs) short) (held-left bytes p (octets_of d) others stand) (omega arith))
     ∙ events_then-found (is_closed (length bytes) (header_in_place p d)) here more
-    ∙ ap (λ es. block_events here ++ es) (events-clusters scale bytes e cs rest q (All-tail (IsSoundCluster MOST_LANES) c cs sound) (All-tail HasSize d (clusters_elements cs) short) (held-right bytes p (octets_of d) others stand) (omega arith))
+    ∙ ap (λ es. block_events here ++ es) (events-clusters scale bytes e cs rest q (All-tail (IsSoundCluster MAX_LANES) c cs sound) (All-tail HasSize d (clusters_elements cs) short) (held-right bytes p (octets_of d) others stand) (omega arith))
     ∙ sym (append_assoc (block_events here) (block_events (clusters_blocks scale q cs)) behind)
     ∙ ap (λ es. es ++ behind) (sym (block_events-append here (clusters_blocks scale q cs)))
     ∙ ap (λ k. block_events (clusters_blocks scale p (c ∷ cs)) ++ events_among (without_limits scale) bytes e (headers_in_place k rest) None) end

@@ -17,7 +17,7 @@ use Rattle.mkv_schema.specs.Value.{body_of, first_of}
 use Rattle.mkv_schema.specs.Outline.{where_it}
 use Rattle.mkv_io.specs.Results.{and_then, unless}
 use Rattle.mkv_schema.proofs.ElementLemmas.{length-octets_between}
-use Rattle.block_format.specs.declared.limits.TheConstants.{MOST_OF_BLOCK, MOST_REFERENCES, TOO_LARGE_TIME}
+use Rattle.block_format.specs.declared.limits.TheConstants.{MAX_BLOCK_LEN, MAX_REFERENCES, TOO_LARGE_TIME}
 use Rattle.block_format.specs.Block.{Block, nanoseconds, is_too_large, has_too_large_time, simple_block_with}
 use Rattle.block_format.specs.Content.{Content, content_in, lace_of}
 use Rattle.block_format.specs.Elements.{with_limits, at_place, too_long, timestamp_or, timestamp_for, in_time, simple_block, group_run, group_refusal, group_children, block_or, references_among, too_many_references, kept_of, group_with, group_among, block_group}
@@ -55,13 +55,13 @@ small-references (r ∷ rs) is =
     All-cons (λ z. nat_abs z < TOO_LARGE_TIME) r rs (small-time r parts.0) (small-references rs parts.1)
 
 -- a block of few parts whose times aren't too large
-IsSmall-of : (b : Block) → has_too_large_time b ≡ false → length b.references ≤ MOST_REFERENCES → CanBeLaced b.lace (sizes_of b.frames) → length b.kept ≤ MOST_OF_BLOCK → IsSmall b
+IsSmall-of : (b : Block) → has_too_large_time b ≡ false → length b.references ≤ MAX_REFERENCES → CanBeLaced b.lace (sizes_of b.frames) → length b.kept ≤ MAX_BLOCK_LEN → IsSmall b
 IsSmall-of b small few frames kept =
     let parts = none-of (is_too_large b.time) (option_map_or (λ d. is_too_large (pos d)) b.duration false) (list_any is_too_large b.references) small in
     record { time = small-time b.time parts.0; duration = small-duration b.duration parts.1; references = small-references b.references parts.2; few = few; frames = frames; kept = kept }
 
 -- one that is in time
-IsSmall-in_time : (s id : ℕ) (made b : Block) → length made.references ≤ MOST_REFERENCES → CanBeLaced made.lace (sizes_of made.frames) → length made.kept ≤ MOST_OF_BLOCK → in_time (with_limits s) id made ≡ Ok b → IsSmall b
+IsSmall-in_time : (s id : ℕ) (made b : Block) → length made.references ≤ MAX_REFERENCES → CanBeLaced made.lace (sizes_of made.frames) → length made.kept ≤ MAX_BLOCK_LEN → in_time (with_limits s) id made ≡ Ok b → IsSmall b
 IsSmall-in_time s id made b few frames kept is =
     let good = unless-ok _ made b is in
     subst IsSmall good.1 (IsSmall-of made (no-cause _ _ good.0) few frames kept)
@@ -72,13 +72,13 @@ told-ok : (id offset : ℕ) (r : Result Content Kind) (c : Content) → at_place
 told-ok id offset (Ok x) c is = ap (λ (y : Content). Ok y) (cc)
 told-ok id offset (Err k) c is = absurd (cc)
 
-short-enough : (s : ℕ) (ts : Option ℕ) (h : Header) (t : ℕ) → timestamp_for (with_limits s) ts h ≡ Ok t → known h.size ≤ MOST_OF_BLOCK
+short-enough : (s : ℕ) (ts : Option ℕ) (h : Header) (t : ℕ) → timestamp_for (with_limits s) ts h ≡ Ok t → known h.size ≤ MAX_BLOCK_LEN
 short-enough s ts h t is =
     let parts = and_then-ok (unless (too_long (with_limits s) h) ts) (timestamp_or h) t is in
     let none = unless-ok (too_long (with_limits s) h) ts parts.0 parts.1.0 in
     within (known h.size) (no-cause _ _ none.0)
   where
-    within : (n : ℕ) → nat_lt MOST_OF_BLOCK n ≡ false → n ≤ MOST_OF_BLOCK
+    within : (n : ℕ) → nat_lt MAX_BLOCK_LEN n ≡ false → n ≤ MAX_BLOCK_LEN
     within n test = grind (arith, nat_tests)
 
 body-octets : (bytes : List ℕ) (h : Header) → AreOctets bytes → AreOctets (body_of bytes h)
@@ -113,12 +113,12 @@ none-too_many : (o : Option Header) → option_map (λ (c : Header). damage TooM
 none-too_many None is = refl
 none-too_many (Some c) is = absurd (cc)
 
-among-small : (s : ℕ) (bytes : List ℕ) (t offset : ℕ) (children : List Header) (h : Header) (b : Block) → AreOctets bytes → length (body_of bytes h) ≤ MOST_OF_BLOCK → length (kept_of bytes children) ≤ MOST_OF_BLOCK → group_among (with_limits s) bytes t offset children h ≡ Ok b → IsSmall b
+among-small : (s : ℕ) (bytes : List ℕ) (t offset : ℕ) (children : List Header) (h : Header) (b : Block) → AreOctets bytes → length (body_of bytes h) ≤ MAX_BLOCK_LEN → length (kept_of bytes children) ≤ MAX_BLOCK_LEN → group_among (with_limits s) bytes t offset children h ≡ Ok b → IsSmall b
 among-small s bytes t offset children h b octets short kept is =
     let content = and_then-ok (at_place BLOCK offset (content_in (body_of bytes h))) (λ c. and_then (unless (too_many_references (with_limits s) children) c) (λ c. in_time (with_limits s) BLOCK (group_with s bytes t offset children c))) b is in
     let few = and_then-ok (unless (too_many_references (with_limits s) children) content.0) (λ c. in_time (with_limits s) BLOCK (group_with s bytes t offset children c)) b content.1.1 in
     let taken = unless-ok (too_many_references (with_limits s) children) content.0 few.0 few.1.0 in
-    let count = few-references (references_among children) MOST_REFERENCES (none-too_many (slice_get (references_among children) MOST_REFERENCES) taken.0) in
+    let count = few-references (references_among children) MAX_REFERENCES (none-too_many (slice_get (references_among children) MAX_REFERENCES) taken.0) in
     let scaled = length-map (references_among children) (λ (c : Header). nanoseconds s (int_of (body_of bytes c))) in
     let laces = content-laces (body_of bytes h) content.0 (body-octets bytes h octets) short (told-ok BLOCK offset (content_in (body_of bytes h)) content.0 content.1.0) in
     let frames : CanBeLaced (lace_of few.0.flags) (sizes_of few.0.frames) = subst (λ (c : Content). CanBeLaced (lace_of c.flags) (sizes_of c.frames)) taken.1 laces in

@@ -7,7 +7,7 @@ use Rattle.lacing.specs.declared.kind.Lace.{Lace}
 use Rattle.lacing.specs.Writing.{FitsKind}
 use Rattle.mkv_io.specs.declared.damage.Damage.{Damage}
 use Rattle.mkv_schema.specs.declared.element.Header.{Header}
-use Rattle.block_format.specs.declared.limits.TheConstants.{MOST_OF_BLOCK, MOST_REFERENCES, TOO_LARGE_TIME}
+use Rattle.block_format.specs.declared.limits.TheConstants.{MAX_BLOCK_LEN, MAX_REFERENCES, TOO_LARGE_TIME}
 use Rattle.block_format.specs.Block.{Block}
 use Rattle.block_format.specs.Elements.{Rules, with_limits, without_limits}
 use Rattle.block_format.specs.Events.{Event, stopped, Found, first_wrong, events_then, events_of, blocks_of, damages_of}
@@ -34,7 +34,7 @@ TellsTheFirstWrong =
 pub record CanBeLaced (kind : Lace) (sizes : List ℕ) : Type 0 where
   pub some : 1 ≤ length sizes
   pub most : length sizes ≤ 256
-  pub total : sum sizes ≤ MOST_OF_BLOCK
+  pub total : sum sizes ≤ MAX_BLOCK_LEN
   pub fits : FitsKind kind sizes
 
 -- Its time, its duration and its references are below 2^56 nanoseconds; it has at most 64 references, frames that
@@ -43,9 +43,9 @@ pub record IsSmall (b : Block) : Type 0 where
   pub time : nat_abs b.time < TOO_LARGE_TIME
   pub duration : IfSome b.duration (λ d. d < TOO_LARGE_TIME)
   pub references : All (λ z. nat_abs z < TOO_LARGE_TIME) b.references
-  pub few : length b.references ≤ MOST_REFERENCES
+  pub few : length b.references ≤ MAX_REFERENCES
   pub frames : CanBeLaced b.lace (map (λ (frame : List ℕ). length frame) b.frames)
-  pub kept : length b.kept ≤ MOST_OF_BLOCK
+  pub kept : length b.kept ≤ MAX_BLOCK_LEN
 
 -- Each block of a file that is read with limits is small.
 abbrev pub BlocksAreSmall : Type 0

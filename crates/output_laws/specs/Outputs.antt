@@ -11,7 +11,7 @@ use Rattle.block_format.specs.Elements.{Rules, without_limits, block_group}
 use Rattle.block_format.specs.Events.{found_at, found_in, events_of}
 use Rattle.output_laws.specs.Blocks.{CanBeLaced}
 use Rattle.output_model.specs.Element.{HoldsAt, header_of, octets_of, joined, header_in_place, headers_in_place}
-use Rattle.output_model.specs.declared.TheConstants.{MOST_LANES, MOST_OF_PREFIX}
+use Rattle.output_model.specs.declared.TheConstants.{MAX_LANES, MAX_PREFIX_LEN}
 use Rattle.output_model.specs.OutputBlock.{OutputBlock, prefixed}
 use Rattle.output_model.specs.Block.{block_element}
 use Rattle.output_model.specs.Cluster.{OutputCluster, cluster_element}
@@ -23,14 +23,14 @@ use Rattle.output_laws.specs.Points.{PointsAtBlock}
 -- The Element of a sound block, wherever it stands in a content, is read as that block, behind its Cluster's Timestamp.
 abbrev pub BlocksAreRead : Type 0
 BlocksAreRead =
-    (scale : ℕ) (bytes : List ℕ) (timestamp : ℕ) (b : OutputBlock) (p : ℕ) → IsSoundIn MOST_LANES timestamp b → HasSize (block_element timestamp b)
+    (scale : ℕ) (bytes : List ℕ) (timestamp : ℕ) (b : OutputBlock) (p : ℕ) → IsSoundIn MAX_LANES timestamp b → HasSize (block_element timestamp b)
     → HoldsAt bytes p (octets_of (block_element timestamp b))
     → found_at (without_limits scale) bytes (Some timestamp) (header_in_place p (block_element timestamp b)) ≡ Ok (block_in_place scale p b) ∷ []
 
 -- A sound Cluster that stands in a content gives its blocks, whatever follows it.
 abbrev pub ClustersAreRead : Type 0
 ClustersAreRead =
-    (scale : ℕ) (bytes : List ℕ) (c : OutputCluster) (p e : ℕ) → IsSoundCluster MOST_LANES c → HasSize (cluster_element c)
+    (scale : ℕ) (bytes : List ℕ) (c : OutputCluster) (p e : ℕ) → IsSoundCluster MAX_LANES c → HasSize (cluster_element c)
     → HoldsAt bytes p (octets_of (cluster_element c)) → p + length (octets_of (cluster_element c)) ≤ e
     → found_in (without_limits scale) bytes e (header_in_place p (cluster_element c)) ≡ found_blocks (cluster_blocks scale p c)
 
@@ -61,5 +61,5 @@ KeptCanBeWritten =
 -- Frames that were read with a reader's limits can be laced as they were, with 4,096 octets in front of each at most.
 abbrev pub FramesCanBeWritten : Type 0
 FramesCanBeWritten =
-    (kind : Lace) (prefix : List ℕ) (frames : List (List ℕ)) → CanBeLaced kind (map length frames) → length prefix ≤ MOST_OF_PREFIX
+    (kind : Lace) (prefix : List ℕ) (frames : List (List ℕ)) → CanBeLaced kind (map length frames) → length prefix ≤ MAX_PREFIX_LEN
     → CanLace kind (map length (prefixed prefix frames))

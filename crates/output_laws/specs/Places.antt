@@ -6,7 +6,7 @@ use Rattle.mkv_schema.specs.declared.ids.TheConstants.{CLUSTER, SEGMENT}
 use Rattle.block_format.specs.Block.{Block, nanoseconds}
 use Rattle.block_format.specs.Events.{Found, Event, block}
 use Rattle.output_model.specs.Element.{Element, IsElement, header_of, octets_of, joined}
-use Rattle.output_model.specs.declared.TheConstants.{MOST_LANES}
+use Rattle.output_model.specs.declared.TheConstants.{MAX_LANES}
 use Rattle.output_model.specs.OutputBlock.{OutputBlock}
 use Rattle.output_model.specs.Block.{block_element}
 use Rattle.output_model.specs.Cluster.{OutputCluster, timestamp_element, cluster_element}
@@ -89,7 +89,7 @@ pub record IsOther (e : Element) : Type 0 where
 pub record IsSoundSegment (s : OutputSegment) : Type 0 where
   pub size : HasSize (segment_element s)
   pub front : All IsOther s.front
-  pub clusters : All (IsSoundCluster MOST_LANES) s.clusters
+  pub clusters : All (IsSoundCluster MAX_LANES) s.clusters
   pub behind : All IsOther s.behind
 
 -- the blocks of a Segment that stands at a place

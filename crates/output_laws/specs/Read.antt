@@ -2,9 +2,9 @@
 use Rattle.std.specs.Prelude.{◌≡◌, ◌≤◌, ◌<◌, ℕ, ◌==◌, nat_abs, true, false, [], length, None}
 use Rattle.block_format.specs.Block.{Block}
 use Rattle.output_laws.specs.Blocks.{IsSmall}
-use Rattle.output_model.specs.declared.TheConstants.{MOST_OF_PREFIX}
+use Rattle.output_model.specs.declared.TheConstants.{MAX_PREFIX_LEN}
 use Rattle.output_model.specs.Sound.{AreKept}
-use Rattle.merge_model.specs.declared.limits.TheConstants.{MOST_SHIFT, TOO_LARGE_DELAY}
+use Rattle.merge_model.specs.declared.limits.TheConstants.{MAX_SHIFT, TOO_LARGE_DELAY}
 use Rattle.merge_model.specs.Links.{Placing}
 
 -- A SimpleBlock says nothing besides its frames and its flags.
@@ -32,8 +32,8 @@ pub record IsReadBlock (b : Block) : Type 0 where
 -- A delay, a shift and what stands in front of frames are within the limits.
 pub record IsPlacing (p : Placing) : Type 0 where
   pub delay : nat_abs p.delay < TOO_LARGE_DELAY
-  pub shift : p.shift ≤ MOST_SHIFT
-  pub prefix : length p.prefix ≤ MOST_OF_PREFIX
+  pub shift : p.shift ≤ MAX_SHIFT
+  pub prefix : length p.prefix ≤ MAX_PREFIX_LEN
 
 -- the least number of nanoseconds a tick that an output can have
 abbrev pub LEAST_SCALE : ℕ

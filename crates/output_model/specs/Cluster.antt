@@ -2,7 +2,7 @@
 use Rattle.std.specs.Prelude.{ℕ, ◌+◌, ◌-◌, ◌*◌, nat_le, Bool, ◌&&◌, if◌then◌else◌, List, [], ◌∷◌, ◌++◌, length, map}
 use Rattle.mkv_schema.specs.declared.ids.TheConstants.{CLUSTER, TIMESTAMP}
 use Rattle.output_model.specs.Element.{Element, element, uint_element, joined}
-use Rattle.output_model.specs.declared.TheConstants.{MOST_OF_CLUSTER}
+use Rattle.output_model.specs.declared.TheConstants.{MAX_CLUSTER_LEN}
 use Rattle.output_model.specs.declared.heads.ClusterLimits.{ClusterLimits}
 use Rattle.output_model.specs.OutputBlock.{OutputBlock}
 use Rattle.output_model.specs.Block.{block_element}
@@ -55,7 +55,7 @@ keeps_span limits timestamp tick = nat_le ((tick - timestamp) * limits.scale) li
 
 -- the body of a Cluster may have so many octets
 abbrev pub keeps_size : ℕ → Bool
-keeps_size octets = nat_le octets MOST_OF_CLUSTER
+keeps_size octets = nat_le octets MAX_CLUSTER_LEN
 
 -- A Cluster of this Timestamp may have so many blocks, the last of them at this tick, and a body of so many octets.
 abbrev pub may_have : ClusterLimits → ℕ → ℕ → ℕ → ℕ → Bool

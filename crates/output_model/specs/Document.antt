@@ -5,7 +5,7 @@ use Rattle.mkv_schema.specs.declared.ids.TheConstants.{EBML, EBML_VERSION, EBML_
 use Rattle.tree_format.specs.Node.{Node, id_of}
 use Rattle.tree_format.specs.NormalForm.{content}
 use Rattle.output_model.specs.Element.{Element, element, uint_element, master_element, octets_of, joined}
-use Rattle.output_model.specs.declared.TheConstants.{AREA, MOST_CUES}
+use Rattle.output_model.specs.declared.TheConstants.{AREA, MAX_CUES}
 use Rattle.output_model.specs.declared.places.CuePoint.{CuePoint}
 use Rattle.output_model.specs.declared.places.Seek.{Seek}
 use Rattle.output_model.specs.OutputBlock.{OutputBlock}
@@ -89,7 +89,7 @@ seeks_of d = seeks_from AREA (front_elements d.front) ++ seeks_from (back_at d) 
 
 -- the points of the blocks that pass a test, up to the limit
 abbrev pub cues_for : (OutputBlock → Bool) → Front → List OutputCluster → List CuePoint
-cues_for cued front cs = take MOST_CUES (points_from cued (clusters_at front) cs)
+cues_for cued front cs = take MAX_CUES (points_from cued (clusters_at front) cs)
 
 -- ---- the file
 

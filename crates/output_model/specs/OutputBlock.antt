@@ -2,9 +2,9 @@
 use Rattle.std.specs.Prelude.{◌≡◌, ◌≤◌, ℕ, Bool, ℤ, List, ◌++◌, length, map, sum, Option}
 use Rattle.lacing.specs.declared.kind.Lace.{Lace}
 use Rattle.lacing.specs.Writing.{FitsKind}
-use Rattle.block_format.specs.declared.limits.TheConstants.{MOST_OF_BLOCK, MOST_REFERENCES}
+use Rattle.block_format.specs.declared.limits.TheConstants.{MAX_BLOCK_LEN, MAX_REFERENCES}
 use Rattle.block_format.specs.Content.{frames_cut}
-use Rattle.output_model.specs.declared.TheConstants.{MOST_OF_PREFIX}
+use Rattle.output_model.specs.declared.TheConstants.{MAX_PREFIX_LEN}
 use Rattle.output_model.specs.declared.heads.OutHead.{OutHead}
 
 -- A block: the number of its lane, from 1 on, or 0 where it stands in no output yet; its tick; whether it can be
@@ -66,10 +66,10 @@ pub record CanBeLent (kind : Lace) (prefix : ℕ) (sizes : List ℕ) (references
   pub some : 1 ≤ length sizes
   pub most : length sizes ≤ 256
   pub fits : FitsKind kind sizes
-  pub total : sum sizes ≤ MOST_OF_BLOCK
-  pub prefix_most : prefix ≤ MOST_OF_PREFIX
-  pub references_most : references ≤ MOST_REFERENCES
-  pub kept_most : kept ≤ MOST_OF_BLOCK
+  pub total : sum sizes ≤ MAX_BLOCK_LEN
+  pub prefix_most : prefix ≤ MAX_PREFIX_LEN
+  pub references_most : references ≤ MAX_REFERENCES
+  pub kept_most : kept ≤ MAX_BLOCK_LEN
 
 -- A block is handed out within these limits, and its sizes cut its octets.
 pub record IsLent (l : Lent) : Type 0 where

@@ -14,7 +14,7 @@ use Rattle.file_format.specs.FileTracks.{entries_in}
 use Rattle.file_format.specs.Info.{scale_of}
 use Rattle.block_format.specs.Elements.{is_kept}
 use Rattle.output_model.specs.Element.{Element, IsElement, joined}
-use Rattle.output_model.specs.declared.TheConstants.{MOST_LANES}
+use Rattle.output_model.specs.declared.TheConstants.{MAX_LANES}
 use Rattle.output_model.specs.OutputBlock.{OutputBlock}
 use Rattle.output_model.specs.Cluster.{OutputCluster, is_near}
 use Rattle.output_model.specs.Document.{Document, cues_for, layout}
@@ -95,7 +95,7 @@ pub record AreTracks (tracks : Node) : Type 0 where
   pub is : IsRecord TRACKS tracks
   pub read : entries_in tracks ≡ Ok (entries_of tracks)
   pub numbers : CountFrom 1 (map number_of (entries_of tracks))
-  pub few : length (entries_of tracks) ≤ MOST_LANES
+  pub few : length (entries_of tracks) ≤ MAX_LANES
 
 abbrev pub lanes_of : Document → ℕ
 lanes_of d = length (entries_of d.front.tracks)

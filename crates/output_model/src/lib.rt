@@ -20,16 +20,16 @@ pub use places::{CuePoint, Seek};
 pub use rule::CueRule;
 
 /// The most octets of a Cluster's body, where it has more than one block.
-pub const MOST_OF_CLUSTER: u64 = 1 << 20;
+pub const MAX_CLUSTER_LEN: u64 = 1 << 20;
 
 /// The octets of the area in front, a SeekHead and the Void behind it.
 pub const AREA: u64 = 256;
 
 /// The most cue points of an output.
-pub const MOST_CUES: usize = 1 << 20;
+pub const MAX_CUES: usize = 1 << 20;
 
 /// The most octets that a lane puts back in front of each frame.
-pub const MOST_OF_PREFIX: usize = 4096;
+pub const MAX_PREFIX_LEN: usize = 4096;
 
 /// The most lanes of an output.
-pub const MOST_LANES: usize = 64;
+pub const MAX_LANES: usize = 64;

@@ -6,7 +6,7 @@ use Rattle.tree_format.specs.Node.{Node, id_of, children, with_children}
 use Rattle.tree_format.specs.Values.{integer_of}
 use Rattle.tree_format.specs.Children.{uint_leaf, given}
 use Rattle.record_changes.specs.declared.uid_map.TagKeep.{TagKeep}
-use Rattle.record_changes.specs.declared.aims.Aims.{Aims}
+use Rattle.record_changes.specs.declared.targets.TagTargets.{TagTargets}
 
 -- ---- a target
 
@@ -40,15 +40,15 @@ abbrev pub targets_in : Node → List Node
 targets_in n = if id_of n == TARGETS then filter is_target (children n) else []
 
 -- what targets name: something; a track; something that is written
-abbrev pub aims_of : (ℕ → ℕ → Option ℕ) → List Node → Aims
-aims_of numbers targets = record {
+abbrev pub tag_targets_of : (ℕ → ℕ → Option ℕ) → List Node → TagTargets
+tag_targets_of numbers targets = record {
   any = list_any (λ n. true) targets;
   track = list_any (λ n. id_of n == TAG_TRACK_UID) targets;
   written = list_any (λ n. is_some (number_of numbers n)) targets;
 }
 
 -- what some targets name, and others
-abbrev pub both_aims : Aims → Aims → Aims
+abbrev pub both_aims : TagTargets → TagTargets → TagTargets
 both_aims some others = record {
   any = some.any || others.any;
   track = some.track || others.track;
@@ -56,12 +56,12 @@ both_aims some others = record {
 }
 
 -- what the targets of a Tag name, of all its Targets
-abbrev pub aims_in : (ℕ → ℕ → Option ℕ) → Node → Aims
-aims_in numbers tag = aims_of numbers (flat_map targets_in (children tag))
+abbrev pub aims_in : (ℕ → ℕ → Option ℕ) → Node → TagTargets
+aims_in numbers tag = tag_targets_of numbers (flat_map targets_in (children tag))
 
 -- A Tag is written where the words keep its kind, those about tracks or the others, and it names nothing or something that the output
 -- has.
-abbrev pub are_kept : TagKeep → Aims → Bool
+abbrev pub are_kept : TagKeep → TagTargets → Bool
 are_kept keep aims = (if aims.track then keep.tracks else keep.global) && (not aims.any || aims.written)
 
 -- ---- all Tags

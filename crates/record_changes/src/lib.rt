@@ -3,7 +3,6 @@
 //! What a merge makes of the records of its inputs: the identifiers that are given, and the tags and chapters with them
 //! (RFC 9559, sections 5.1.7, Chapters Element, and 5.1.8, Tags Element).
 
-mod aims;
 mod cutting;
 mod identifier_laws;
 mod identifiers;
@@ -14,10 +13,10 @@ mod stretch;
 mod tag;
 mod tags;
 mod target;
+mod targets;
 mod uid_map;
 mod uids;
 
-pub use aims::Aims;
 pub use cutting::cut;
 pub use identifier_laws::{numbers_fit, numbers_settle, smallest_is_free};
 pub use identifiers::renumber;
@@ -26,5 +25,6 @@ pub use shifting::shift;
 pub use starts::top_starts;
 pub use stretch::Stretch;
 pub use tags::merge_tags;
+pub use targets::TagTargets;
 pub use uid_map::{TagKeep, UidMap};
 pub use uids::{push_chapter_uids, push_edition_uids};

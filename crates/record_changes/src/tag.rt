@@ -3,12 +3,12 @@
 ghost use Rattle.std.specs.Prelude.{◌≡◌, IfOk};
 ghost use Rattle.mkv_schema.specs.declared.ids.TheConstants.{TAG as TAG_ID, TAGS as TAGS_ID, TARGETS as TARGETS_ID};
 ghost use Rattle.tree_format.specs.Standing.{StandsIn};
-ghost use Rattle.record_changes.specs.Tags.{written_part, written_tag, targets_in, aims_of, aims_in};
+ghost use Rattle.record_changes.specs.Tags.{written_part, written_tag, targets_in, tag_targets_of, aims_in};
 ghost use Rattle.record_changes.specs.Numbers.{numbers_in};
 ghost use Rattle.ebml_tree.specs.Building.{IsInPlace, IsRead};
 
-use crate::aims::Aims;
 use crate::target;
+use crate::targets::TagTargets;
 use crate::uid_map::UidMap;
 use ebml_tree::{Tree, empty};
 use mkv_schema::ids::{TAG, TARGETS};
@@ -57,27 +57,27 @@ pub(crate) fn written_tag(alloc: Global, tag: &Tree, map: &UidMap) -> Result<Tre
 }
 
 // What a child of a Tag names.
-fn aims_in_part(part: &Tree, map: &UidMap) -> Aims
+fn tag_targets_in_part(part: &Tree, map: &UidMap) -> TagTargets
     requires { StandsIn TAG_ID part.now }
-    ensures { result ≡ aims_of (numbers_in map.now) (targets_in part.now) }
+    ensures { result ≡ tag_targets_of (numbers_in map.now) (targets_in part.now) }
 {
-    let mut aims = Aims::NONE;
+    let mut aims = TagTargets::NONE;
     if part.id() == TARGETS {
         for child in part.children() {
-            aims = aims.or(target::aims_of(child, map));
+            aims = aims.or(target::tag_targets_of(child, map));
         }
     }
     aims
 }
 
 /// What the targets of a Tag name.
-pub(crate) fn aims_in(tag: &Tree, map: &UidMap) -> Aims
+pub(crate) fn aims_in(tag: &Tree, map: &UidMap) -> TagTargets
     requires { IsRead TAG_ID tag.now }
     ensures { result ≡ aims_in (numbers_in map.now) tag.now }
 {
-    let mut aims = Aims::NONE;
+    let mut aims = TagTargets::NONE;
     for part in tag.children() {
-        aims = aims.or(aims_in_part(part, map));
+        aims = aims.or(tag_targets_in_part(part, map));
     }
     aims
 }

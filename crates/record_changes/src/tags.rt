@@ -8,14 +8,14 @@ ghost use Rattle.record_changes.specs.Tags.{are_kept, written_child, written_tag
 ghost use Rattle.record_changes.specs.Numbers.{numbers_in};
 ghost use Rattle.ebml_tree.specs.Building.{IsInPlace, IsRead};
 
-use crate::aims::Aims;
 use crate::tag;
+use crate::targets::TagTargets;
 use crate::uid_map::{TagKeep, UidMap};
 use ebml_tree::{Tree, empty};
 use mkv_schema::ids::{TAG, TAGS};
 use std::alloc::{AllocError, Global};
 
-fn are_kept(keep: TagKeep, aims: Aims) -> bool
+fn are_kept(keep: TagKeep, aims: TagTargets) -> bool
     ensures { result ≡ are_kept keep aims }
 {
     let wanted = if aims.track { keep.tracks } else { keep.global };

@@ -5,11 +5,11 @@ ghost use Rattle.std.specs.Option.{option_to_list};
 ghost use Rattle.mkv_schema.specs.declared.ids.TheConstants.{TARGETS as TARGETS_ID};
 ghost use Rattle.tree_format.specs.Node.{id_of};
 ghost use Rattle.tree_format.specs.Standing.{StandsIn};
-ghost use Rattle.record_changes.specs.Tags.{is_target_id, is_target, number_of, written_target, aims_of};
+ghost use Rattle.record_changes.specs.Tags.{is_target_id, is_target, number_of, written_target, tag_targets_of};
 ghost use Rattle.record_changes.specs.Numbers.{numbers_in};
 ghost use Rattle.ebml_tree.specs.Building.{IsInPlace};
 
-use crate::aims::Aims;
+use crate::targets::TagTargets;
 use crate::uid_map::UidMap;
 use ebml_tree::{Tree, uint_leaf};
 use mkv_schema::ids::{TAG_ATTACHMENT_UID, TAG_CHAPTER_UID, TAG_EDITION_UID, TAG_TRACK_UID};
@@ -74,14 +74,14 @@ pub(crate) fn written_target(
 }
 
 /// What a child of Targets names.
-pub(crate) fn aims_of(child: &Tree, map: &UidMap) -> Aims
+pub(crate) fn tag_targets_of(child: &Tree, map: &UidMap) -> TagTargets
     requires { StandsIn TARGETS_ID child.now }
-    ensures { result ≡ aims_of (numbers_in map.now) (filter is_target (child.now ∷ [])) }
+    ensures { result ≡ tag_targets_of (numbers_in map.now) (filter is_target (child.now ∷ [])) }
 {
     if !is_target(child) {
-        return Aims::NONE;
+        return TagTargets::NONE;
     }
-    Aims {
+    TagTargets {
         any: true,
         track: child.id() == TAG_TRACK_UID,
         written: number_of(child, map).is_some(),

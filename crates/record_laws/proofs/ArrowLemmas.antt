@@ -6,10 +6,10 @@ use Rattle.std.specs.Char.{is_ascii_digit}
 use Rattle.std.specs.Str.{bytes_eq}
 use Rattle.std.proofs.lemmas.Bool.{and_parts, cases_Bool, or_left, or_parts, or_right}
 use Rattle.mkv_io.specs.Octets.{cut, lacks}
-use Rattle.srt_texts.specs.Fields.{behind, digits, sixtieth}
-use Rattle.srt_texts.specs.Pieces.{two_digits, three_digits, two_or_more, stamp}
-use Rattle.srt_texts.specs.Times.{seconds, clock, times, span, is_number}
-use Rattle.srt_texts.specs.Srt.{has_arrow}
+use Rattle.text_formats.specs.Fields.{behind, digits, minutes_or_seconds}
+use Rattle.text_formats.specs.Pieces.{two_digits, three_digits, two_or_more, stamp}
+use Rattle.text_formats.specs.Times.{seconds, clock, times, span, is_number}
+use Rattle.text_formats.specs.Srt.{has_arrow}
 use Rattle.mkv_io.proofs.OctetsLemmas.{digits_lack, cut_behind, lacks_parts}
 use Rattle.record_laws.proofs.DigitsLemmas.{two_all, padded_all, digits_padded, digits_three, sixtieth_two}
 use Rattle.record_laws.proofs.LineLemmas.{parts_of}
@@ -91,7 +91,7 @@ clock_holds w none =
     holds_then NoArrow NoArrowLeft (cut 58 w) _ (cut_holds 58 w none) (λ h no_h.
     holds_then NoArrow NoArrowLeft (cut 58 h.1) _ (cut_holds 58 h.1 no_h) (λ m no_m.
     holds_then (λ (n : ℕ). Unit {0}) NoArrowLeft (digits 2 4 h.0) _ (holds_any (digits 2 4 h.0)) (λ hours any.
-    holds_then (λ (n : ℕ). Unit {0}) NoArrowLeft (sixtieth m.0) _ (holds_any (sixtieth m.0)) (λ minutes any'.
+    holds_then (λ (n : ℕ). Unit {0}) NoArrowLeft (minutes_or_seconds m.0) _ (holds_any (minutes_or_seconds m.0)) (λ minutes any'.
     holds_then (λ (n : ℕ). Unit {0}) NoArrowLeft (seconds m.1) _ (holds_any (seconds m.1)) (λ rest any''. arrow_drop 6 m.1 no_m)))))
 
 times_none : {B : Type 0} (start : Option (ℕ × List ℕ)) (more : ℕ × List ℕ → List ℕ → Option B) → Holds NoArrowLeft start

@@ -4,13 +4,13 @@ use Rattle.std.specs.Str.{is_utf8}
 use Rattle.std.specs.Str.Lines.{lines}
 use Rattle.std.proofs.lemmas.List.Elements.{recursion_from_All}
 use Rattle.std.specs.List.{AllByRecursion}
-use Rattle.srt_texts.specs.Pieces.{two_digits, three_digits, two_or_more, stamp}
-use Rattle.srt_texts.specs.declared.chapter_reading.Chapter.{Chapter}
-use Rattle.srt_texts.specs.Lines.{lines_of}
-use Rattle.srt_texts.specs.Pairs.{first_line, second_line, time_of}
-use Rattle.srt_texts.specs.Turn.{pairs}
-use Rattle.srt_texts.specs.ChapterWriting.{put_pair}
-use Rattle.srt_texts.proofs.PairsLemmas.{first_good, second_good, pairs_end, simple_is}
+use Rattle.text_formats.specs.Pieces.{two_digits, three_digits, two_or_more, stamp}
+use Rattle.text_formats.specs.declared.chapter_reading.Chapter.{Chapter}
+use Rattle.text_formats.specs.Lines.{lines_of}
+use Rattle.text_formats.specs.Pairs.{first_line, second_line, time_of}
+use Rattle.text_formats.specs.Turn.{pairs}
+use Rattle.text_formats.specs.ChapterWriting.{put_pair}
+use Rattle.text_formats.proofs.PairsLemmas.{first_good, second_good, pairs_end, simple_is}
 use Rattle.mkv_io.specs.Octets.{lacks}
 use Rattle.record_laws.specs.Plain.{ends_with_return, IsLine}
 use Rattle.record_laws.specs.SimpleChapters.{put_pairs, IsPlain, ChaptersAreReadBack}

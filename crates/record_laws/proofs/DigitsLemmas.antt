@@ -9,8 +9,8 @@ use Rattle.std.specs.Str.Parse.{digits_value}
 use Rattle.std.specs.Fmt.{decimal}
 use Rattle.std.proofs.lemmas.Bool.{cases_Bool}
 use Rattle.mkv_io.proofs.OctetsLemmas.{decimal_all}
-use Rattle.srt_texts.specs.Fields.{digits, sixtieth}
-use Rattle.srt_texts.specs.Pieces.{digit, two_digits, three_digits, two_or_more}
+use Rattle.text_formats.specs.Fields.{digits, minutes_or_seconds}
+use Rattle.text_formats.specs.Pieces.{digit, two_digits, three_digits, two_or_more}
 
 -- ---- numbers of two and of three digits
 pub digit_is : (n : ℕ) → is_ascii_digit (digit n) ≡ true
@@ -37,8 +37,8 @@ digits_three n small =
     let same : digits_value 10 (three_digits n) ≡ n = (let o = digit_says (n / 100) in let p = digit_says (n / 10) in let q = digit_says n in rw (o, p, q) (omega arith)) in
     rw (digit_is (n / 100), digit_is (n / 10), digit_is n, same) refl
 
-pub sixtieth_two : (n : ℕ) → n < 60 → sixtieth (two_digits n) ≡ Some n
-unfolding sixtieth
+pub sixtieth_two : (n : ℕ) → n < 60 → minutes_or_seconds (two_digits n) ≡ Some n
+unfolding minutes_or_seconds
 sixtieth_two n small = rw (digits_two 2 2 n (omega arith) (omega arith) (omega arith), lt-ltb n 60 small) refl
 
 -- ---- numbers of any width

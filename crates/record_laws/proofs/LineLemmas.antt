@@ -11,8 +11,8 @@ use Rattle.std.specs.Char.{is_ascii_digit}
 use Rattle.std.specs.Str.Lines.{lines, lines_of_parts, strip_carriage_return}
 use Rattle.std.proofs.lemmas.Bool.{and_from}
 use Rattle.std.proofs.lemmas.Slice.Eq.{bytes_eq-Decides}
-use Rattle.srt_texts.specs.Fields.{behind}
-use Rattle.srt_texts.specs.Pieces.{digit, two_digits, three_digits, two_or_more, stamp}
+use Rattle.text_formats.specs.Fields.{behind}
+use Rattle.text_formats.specs.Pieces.{digit, two_digits, three_digits, two_or_more, stamp}
 use Rattle.mkv_io.specs.Octets.{lacks}
 use Rattle.record_laws.specs.Plain.{ends_with_return, IsLine}
 use Rattle.mkv_io.proofs.OctetsLemmas.{digits_lack, lacks_both, lacks_parts}

@@ -4,7 +4,7 @@ use Rattle.std.proofs.lemmas.List.Splits.{join_with_byte-slice_split, length-sli
 use Rattle.std.specs.List.{onto_first, join_with_byte, AllByRecursion}
 use Rattle.std.specs.Str.Lines.{lines}
 use Rattle.std.proofs.lemmas.Bool.{cases_Bool}
-use Rattle.srt_texts.specs.Srt.{trimmed, onto_lines, text_of}
+use Rattle.text_formats.specs.Srt.{trimmed, onto_lines, text_of}
 use Rattle.mkv_io.specs.Octets.{lacks}
 use Rattle.record_laws.specs.Plain.{IsLine}
 use Rattle.record_laws.specs.SubRip.{lines_in, ends_with_break}

@@ -2,10 +2,10 @@
 use Rattle.std.proofs.Common.{◌≡◌, ℕ, List, [], ◌∷◌, ◌++◌, codes, Ok, Err, refl}
 use Rattle.std.specs.Str.{is_utf8, chars}
 use lib.Utf8.{encode}
-use Rattle.srt_texts.specs.declared.chapter_reading.Chapter.{Chapter}
+use Rattle.text_formats.specs.declared.chapter_reading.Chapter.{Chapter}
 use Rattle.mkv_io.specs.Octets.{cut}
-use Rattle.srt_texts.specs.Fields.{digits, sixtieth}
-use Rattle.srt_texts.specs.Pairs.{time_of, first_line, second_line, simple}
+use Rattle.text_formats.specs.Fields.{digits, minutes_or_seconds}
+use Rattle.text_formats.specs.Pairs.{time_of, first_line, second_line, simple}
 use Rattle.record_laws.proofs.SubRipExamples.{text}
 
 -- a chapter: its start and its name
@@ -44,5 +44,5 @@ pub record AreChapters : Type 0 where
   pub missing : simple (intro ++ text (codes "CHAPTER02=00:00:01.000" ∷ [] ∷ [])) ≡ Err 5
 
 pub chapters : AreChapters
-unfolding simple first_line second_line time_of cut digits sixtieth is_utf8 chars encode
+unfolding simple first_line second_line time_of cut digits minutes_or_seconds is_utf8 chars encode
 chapters = assumption refl

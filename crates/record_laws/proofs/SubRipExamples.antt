@@ -4,9 +4,9 @@ use Rattle.std.specs.Str.{is_utf8, chars}
 use lib.Utf8.{encode}
 use Rattle.mkv_io.specs.declared.entry.Entry.{Entry}
 use Rattle.mkv_io.specs.Octets.{cut}
-use Rattle.srt_texts.specs.Fields.{digits, sixtieth}
-use Rattle.srt_texts.specs.Times.{seconds, clock, times, is_number}
-use Rattle.srt_texts.specs.Srt.{head, before_head, trimmed, entries, has_arrow, first_bad, srt}
+use Rattle.text_formats.specs.Fields.{digits, minutes_or_seconds}
+use Rattle.text_formats.specs.Times.{seconds, clock, times, is_number}
+use Rattle.text_formats.specs.Srt.{head, before_head, trimmed, entries, has_arrow, first_bad, srt}
 
 -- lines, each ended by LF
 abbrev pub text : List (List ℕ) → List ℕ
@@ -18,8 +18,8 @@ abbrev entry : ℕ → ℕ → List ℕ → Entry
 entry from lasting words = record { start = from; duration = lasting; text = words }
 
 -- one of two lines, from 1 second to 2.5 seconds
-abbrev pub hi : List ℕ
-hi = text (codes "1" ∷ codes "00:00:01,000 --> 00:00:02,500" ∷ codes "Hi" ∷ codes "you" ∷ [] ∷ [])
+abbrev pub example_text : List ℕ
+example_text = text (codes "1" ∷ codes "00:00:01,000 --> 00:00:02,500" ∷ codes "Hi" ∷ codes "you" ∷ [] ∷ [])
 
 abbrev hi_read : Entry
 hi_read = entry 1000000000 1500000000 (codes "Hi" ++ 10 ∷ codes "you")
@@ -49,11 +49,11 @@ latest_of_all = text (codes "1" ∷ codes "9999:59:59,999 --> 9999:59:59,999" �
 
 pub record AreEntries : Type 0 where
   -- the lines of a text have LF between them; empty ones at its end go
-  pub one : srt hi ≡ Ok (hi_read ∷ [])
+  pub one : srt example_text ≡ Ok (hi_read ∷ [])
   -- empty lines inside stay, a point may stand for a comma, a space behind the number, and words behind the times
   pub between : srt early ≡ Ok (early_read ∷ [])
   -- entries are in the order of their starts, whatever their numbers
-  pub sorted : srt (hi ++ early) ≡ Ok (early_read ∷ hi_read ∷ [])
+  pub sorted : srt (example_text ++ early) ≡ Ok (early_read ∷ hi_read ∷ [])
   -- the mark in front says nothing, CRLF ends a line, and the last line needs no end; an entry may end where it starts
   pub with_mark : srt marked ≡ Ok (entry 1000000000 0 (codes "a") ∷ [])
   -- a number line without a time line behind it is text
@@ -62,7 +62,7 @@ pub record AreEntries : Type 0 where
   pub latest : srt latest_of_all ≡ Ok (entry 35999999999000000 0 [] ∷ [])
 
 pub entries_read : AreEntries
-unfolding srt head before_head trimmed entries has_arrow first_bad seconds clock times is_number cut digits sixtieth is_utf8 chars encode
+unfolding srt head before_head trimmed entries has_arrow first_bad seconds clock times is_number cut digits minutes_or_seconds is_utf8 chars encode
 entries_read = record { one = refl; between = refl; sorted = refl; with_mark = refl; number = refl; latest = refl }
 
 pub record AreBadLines : Type 0 where
@@ -73,12 +73,12 @@ pub record AreBadLines : Type 0 where
   -- an entry ends before it starts
   pub backward : srt (text (codes "1" ∷ codes "00:00:02,000 --> 00:00:01,999" ∷ [])) ≡ Err 2
   -- an arrow stands in a text
-  pub arrow : srt (hi ++ text (codes "a-->b" ∷ [])) ≡ Err 6
+  pub arrow : srt (example_text ++ text (codes "a-->b" ∷ [])) ≡ Err 6
   -- minutes are below 60: the line is no time line
-  pub minutes : srt (hi ++ text (codes "2" ∷ codes "00:60:00,000 --> 01:00:00,000" ∷ [])) ≡ Err 7
+  pub minutes : srt (example_text ++ text (codes "2" ∷ codes "00:60:00,000 --> 01:00:00,000" ∷ [])) ≡ Err 7
   -- a line isn't UTF-8: it stands before the one with an arrow, and is told
-  pub not_utf8 : srt (hi ++ text ((0xFF ∷ []) ∷ codes "-->" ∷ [])) ≡ Err 6
+  pub not_utf8 : srt (example_text ++ text ((0xFF ∷ []) ∷ codes "-->" ∷ [])) ≡ Err 6
 
 pub bad_lines : AreBadLines
-unfolding srt head before_head trimmed entries has_arrow first_bad seconds clock times is_number cut digits sixtieth is_utf8 chars encode
+unfolding srt head before_head trimmed entries has_arrow first_bad seconds clock times is_number cut digits minutes_or_seconds is_utf8 chars encode
 bad_lines = record { front = refl; no_times = refl; backward = refl; arrow = refl; minutes = refl; not_utf8 = refl }

@@ -12,15 +12,15 @@ use Rattle.std.specs.Fmt.{decimal}
 use Rattle.std.proofs.lemmas.Bool.{and_parts, cases_Bool}
 use Rattle.std.proofs.lemmas.List.Elements.{recursion_from_All}
 use Rattle.mkv_io.specs.declared.entry.Entry.{Entry}
-use Rattle.srt_texts.specs.Lines.{lines_of}
-use Rattle.srt_texts.specs.Pieces.{two_digits, three_digits, two_or_more, stamp}
-use Rattle.srt_texts.specs.Times.{is_number, times, span}
-use Rattle.srt_texts.specs.Srt.{has_arrow, head, before_head, entries, text_of, first_bad, by_start, srt}
+use Rattle.text_formats.specs.Lines.{lines_of}
+use Rattle.text_formats.specs.Pieces.{two_digits, three_digits, two_or_more, stamp}
+use Rattle.text_formats.specs.Times.{is_number, times, span}
+use Rattle.text_formats.specs.Srt.{has_arrow, head, before_head, entries, text_of, first_bad, by_start, srt}
 use Rattle.mkv_io.specs.Sorted.{insert_by}
-use Rattle.srt_texts.specs.Walk.{Place, Front, Behind, bad_from, is_bad_at}
-use Rattle.srt_texts.proofs.WalkLemmas.{bad_is}
-use Rattle.srt_texts.specs.Writing.{put_srt}
-use Rattle.srt_texts.proofs.SrtLemmas.{head_is, head_other, entries_other, entries_head, entries_end, bad_other, bad_head, bad_end, second_good, before_other, before_at, before_end}
+use Rattle.text_formats.specs.Walk.{Place, Front, Behind, bad_from, is_bad_at}
+use Rattle.text_formats.proofs.WalkLemmas.{bad_is}
+use Rattle.text_formats.specs.Writing.{put_srt}
+use Rattle.text_formats.proofs.SrtLemmas.{head_is, head_other, entries_other, entries_head, entries_end, bad_other, bad_head, bad_end, second_good, before_other, before_at, before_end}
 use Rattle.record_laws.specs.Plain.{ends_with_return, IsLine}
 use Rattle.record_laws.specs.SubRip.{put_entries, lines_in, IsPlainLine, IsPlainEntry, Ascend, EntriesAreReadBack}
 use Rattle.mkv_io.proofs.OctetsLemmas.{digit_is_not, digits_lack, decimal_all, lacks_both}

@@ -15,7 +15,7 @@ use Rattle.tree_format.proofs.ValueLemmas.{uint_value-octets}
 use Rattle.tree_format.specs.Children.{given, uint_leaf}
 use Rattle.record_laws.specs.Again.{read_of}
 use Rattle.record_laws.proofs.SameLemmas.{placed-id, placed-octets, integer-placed}
-use Rattle.record_changes.specs.Tags.{aims_in, aims_of, are_kept, is_target, number_of, targets_in, written_child, written_part, written_tag, written_target}
+use Rattle.record_changes.specs.Tags.{aims_in, tag_targets_of, are_kept, is_target, number_of, targets_in, written_child, written_part, written_tag, written_target}
 use Rattle.record_changes.specs.declared.uid_map.TagKeep.{TagKeep}
 use Rattle.record_laws.specs.Tags.{AreSmall, KeepsTarget, TagsStay, keep_all}
 use Rattle.record_laws.proofs.StayLemmas.{octets-filler}
@@ -170,7 +170,7 @@ aims-written : (again : ℕ → ℕ → Option ℕ) (ns : List Node) → All (Ke
 aims-written again [] all = refl
 aims-written again (n ∷ ns) all = ap (λ (o : Option ℕ). is_some o || list_any (λ (m : Node). is_some (number_of again m)) ns) (All-head (KeepsTarget again) n ns all)
 
-pub kept-all : (again : ℕ → ℕ → Option ℕ) (ns : List Node) → All (KeepsTarget again) ns → are_kept keep_all (aims_of again ns) ≡ true
+pub kept-all : (again : ℕ → ℕ → Option ℕ) (ns : List Node) → All (KeepsTarget again) ns → are_kept keep_all (tag_targets_of again ns) ≡ true
 kept-all again ns all =
     elim (cases_Bool (list_any (λ (n : Node). id_of n == TAG_TRACK_UID) ns)) [ inl is ↦ rw is (aims-written again ns all) | inr is ↦ rw is (aims-written again ns all) ]
 

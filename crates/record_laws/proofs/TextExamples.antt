@@ -1,10 +1,10 @@
 -- Entries of SubRip and simple chapters that are written, computed, so that a wrong definition does not check.
 use Rattle.std.proofs.Common.{◌≡◌, ℕ, List, [], ◌∷◌, ◌++◌, codes, refl, pos, negsuc}
 use Rattle.std.specs.Fmt.{digits}
-use Rattle.srt_texts.specs.Pieces.{stamp}
-use Rattle.srt_texts.specs.Writing.{put_srt}
-use Rattle.srt_texts.specs.ChapterWriting.{put_pair}
-use Rattle.record_laws.proofs.SubRipExamples.{text, hi}
+use Rattle.text_formats.specs.Pieces.{stamp}
+use Rattle.text_formats.specs.Writing.{put_srt}
+use Rattle.text_formats.specs.ChapterWriting.{put_pair}
+use Rattle.record_laws.proofs.SubRipExamples.{text, example_text}
 use Rattle.record_laws.proofs.SimpleChapterExamples.{intro}
 
 -- an entry of a number line and a time line
@@ -19,7 +19,7 @@ hundredth = text (codes "CHAPTER100=100:00:00.000" ∷ codes "CHAPTER100NAME=" �
 
 pub record AreEntries : Type 0 where
   -- a number, the times, the text, and an empty line
-  pub one : put_srt 1 (pos 1000000000) 1500000000 (codes "Hi" ++ 10 ∷ codes "you") ≡ hi
+  pub one : put_srt 1 (pos 1000000000) 1500000000 (codes "Hi" ++ 10 ∷ codes "you") ≡ example_text
   -- milliseconds of the start and of the end are rounded down
   pub rounded : put_srt 12 (pos 1999999) 2000000 [] ≡ bare (codes "12") (codes "00:00:00,001 --> 00:00:00,003")
   -- a time before 0 is written as 0; here the start is a second before it

@@ -1,9 +1,9 @@
 -- Chapters that are written and read back.
 use Rattle.std.specs.Prelude.{◌≡◌, ◌<◌, ℕ, ◌+◌, ◌%◌, true, All, List, [], ◌∷◌, ◌++◌, length, Ok}
 use Rattle.std.specs.Str.{is_utf8}
-use Rattle.srt_texts.specs.declared.chapter_reading.Chapter.{Chapter}
-use Rattle.srt_texts.specs.Pairs.{simple}
-use Rattle.srt_texts.specs.ChapterWriting.{put_pair}
+use Rattle.text_formats.specs.declared.chapter_reading.Chapter.{Chapter}
+use Rattle.text_formats.specs.Pairs.{simple}
+use Rattle.text_formats.specs.ChapterWriting.{put_pair}
 use Rattle.record_laws.specs.Plain.{IsLine}
 
 -- chapters as they are written, of which the first has this number

@@ -3,9 +3,9 @@ use Rattle.std.specs.Prelude.{◌≡◌, ◌<◌, ◌≤◌, ⊤, ℕ, ◌+◌, 
 use Rattle.std.specs.List.{slice_split}
 use Rattle.std.specs.Str.{is_utf8}
 use Rattle.mkv_io.specs.declared.entry.Entry.{Entry}
-use Rattle.srt_texts.specs.Times.{latest}
-use Rattle.srt_texts.specs.Srt.{has_arrow, srt}
-use Rattle.srt_texts.specs.Writing.{put_srt}
+use Rattle.text_formats.specs.Times.{latest}
+use Rattle.text_formats.specs.Srt.{has_arrow, srt}
+use Rattle.text_formats.specs.Writing.{put_srt}
 use Rattle.record_laws.specs.Plain.{ends_with_return}
 
 -- entries as they are written, of which the first has this number

@@ -14,7 +14,7 @@ use Rattle.mkv_schema.specs.Value.{body_of, first_of}
 use Rattle.mkv_schema.proofs.ElementLemmas.{element_at-placed}
 use Rattle.mkv_schema.proofs.ElementsLemmas.{Advances-known, Advances-segment, elements-end, elements-more}
 use Rattle.mkv_schema.proofs.OutlineLemmas.{and_then-ok, unless-ok}
-use Rattle.block_format.specs.declared.limits.TheConstants.{MOST_TIMESTAMP}
+use Rattle.block_format.specs.declared.limits.TheConstants.{MAX_TIMESTAMP_LEN}
 use Rattle.block_format.specs.Block.{Block, simple_block_with}
 use Rattle.block_format.specs.Content.{content_in}
 use Rattle.block_format.specs.Elements.{Rules, timestamp_for, at_place, in_time, simple_block, group_children, block_or, too_many_references, group_with, group_among, block_group}
@@ -136,7 +136,7 @@ at-between r bytes ts p q h rest from stands = split (h.id == TIMESTAMP) (h.id =
     timestamp false = none
 
     split : (a b c : Bool) → FoundBetween p q ((if a then found_in_timestamp h else if b then simple_block r bytes ts h ∷ [] else if c then block_group r bytes ts h ∷ [] else []) ++ rest)
-    split true b c = timestamp (nat_lt MOST_TIMESTAMP (known h.size))
+    split true b c = timestamp (nat_lt MAX_TIMESTAMP_LEN (known h.size))
     split false true c = one-between p q h (simple_block r bytes ts h) rest from (λ b is. simple-offset r bytes ts h b is) stands
     split false false true = one-between p q h (block_group r bytes ts h) rest from (λ b is. group-offset r bytes ts h b is) stands
     split false false false = none

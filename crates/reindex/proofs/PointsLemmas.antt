@@ -17,15 +17,15 @@ use Rattle.tree_format.specs.Node.{Node}
 use Rattle.file_format.specs.FileBlocks.{file_events}
 use Rattle.file_format.specs.Info.{file_scale}
 use Rattle.block_format.specs.Block.{Block}
-use Rattle.block_records.specs.Buffered.{Buffered, block_of}
-use Rattle.block_records.specs.Front.{head_of}
-use Rattle.block_records.specs.Made.{block_with}
-use Rattle.block_records.specs.declared.head.BlockHead.{BlockHead}
+use Rattle.block_reader.specs.Buffered.{Buffered, block_of}
+use Rattle.block_reader.specs.Front.{head_of}
+use Rattle.block_reader.specs.Made.{block_with}
+use Rattle.block_reader.specs.declared.head.BlockHead.{BlockHead}
 use Rattle.block_format.specs.Elements.{with_limits}
 use Rattle.block_format.specs.Events.{Event, block, blocks_of, damages_of, events_of}
 use Rattle.elements.specs.Window.{ReadAhead, HasNotPassed, MovesTo, end_ahead}
 use Rattle.cluster_reader.specs.Reading.{Reading, read_to}
-use Rattle.output_model.specs.declared.TheConstants.{MOST_CUES}
+use Rattle.output_model.specs.declared.TheConstants.{MAX_CUES}
 use Rattle.output_model.specs.declared.places.CuePoint.{CuePoint}
 use Rattle.reindex.specs.Clusters.{HasComeTo}
 use Rattle.reindex.specs.Index.{file_damage, points_of}
@@ -67,25 +67,25 @@ take-front n xs ys =
 -- ---- the points that are kept
 
 -- a block without a point adds none
-pub adds-none : (old : List Point) (more : List CuePoint) → more ≡ [] → length old ≤ MOST_CUES → cues_of old ≡ take MOST_CUES (cues_of old ++ more)
+pub adds-none : (old : List Point) (more : List CuePoint) → more ≡ [] → length old ≤ MAX_CUES → cues_of old ≡ take MAX_CUES (cues_of old ++ more)
 adds-none old more none few =
-    sym (ap (λ ps. take MOST_CUES (cues_of old ++ ps)) none
-    ∙ ap (take MOST_CUES) (append-nil (cues_of old))
-    ∙ take_all MOST_CUES (cues_of old) (let is = length-map old cue_of in omega arith))
+    sym (ap (λ ps. take MAX_CUES (cues_of old ++ ps)) none
+    ∙ ap (take MAX_CUES) (append-nil (cues_of old))
+    ∙ take_all MAX_CUES (cues_of old) (let is = length-map old cue_of in omega arith))
 
 -- where there is no room a point is left out
-pub adds-full : (old : List Point) (more : List CuePoint) → MOST_CUES ≤ length old → length old ≤ MOST_CUES → cues_of old ≡ take MOST_CUES (cues_of old ++ more)
+pub adds-full : (old : List Point) (more : List CuePoint) → MAX_CUES ≤ length old → length old ≤ MAX_CUES → cues_of old ≡ take MAX_CUES (cues_of old ++ more)
 adds-full old more full few =
     let is = length-map old cue_of in
-    sym (take-append-le MOST_CUES (cues_of old) more (omega arith) ∙ take_all MOST_CUES (cues_of old) (omega arith))
+    sym (take-append-le MAX_CUES (cues_of old) more (omega arith) ∙ take_all MAX_CUES (cues_of old) (omega arith))
 
 -- a point is behind the others
-pub adds-one : (old : List Point) (p : Point) (more : List CuePoint) → more ≡ cue_of p ∷ [] → length old < MOST_CUES → cues_of (old ++ p ∷ []) ≡ take MOST_CUES (cues_of old ++ more)
+pub adds-one : (old : List Point) (p : Point) (more : List CuePoint) → more ≡ cue_of p ∷ [] → length old < MAX_CUES → cues_of (old ++ p ∷ []) ≡ take MAX_CUES (cues_of old ++ more)
 adds-one old p more one room =
     let is = length-map old cue_of in
     let behind = length-append (cues_of old) (cue_of p ∷ []) in
     map-append cue_of old (p ∷ [])
-    ∙ sym (ap (λ ps. take MOST_CUES (cues_of old ++ ps)) one ∙ take_all MOST_CUES (cues_of old ++ cue_of p ∷ []) (omega arith))
+    ∙ sym (ap (λ ps. take MAX_CUES (cues_of old ++ ps)) one ∙ take_all MAX_CUES (cues_of old ++ cue_of p ∷ []) (omega arith))
 
 -- a block that gets no point, one in no Cluster, and one in a Cluster
 pub points_for-none : (i : Indexing) (list : List Header) (b : Block) → is_indexed i.tracks b ≡ false → points_for i list b ≡ []
@@ -108,13 +108,13 @@ kept-before list c before at last reached on =
     sym (last ∙ ap (λ n. cluster_before n list) is)
 
 -- the points of the blocks that were passed, and of one more
-pub cues-more : (i : Indexing) (list : List Header) (passed : List Block) (b : Block) (old new : List Point) → cues_of old ≡ take MOST_CUES (points_among i.scale i.base list i.tracks passed) → cues_of new ≡ take MOST_CUES (cues_of old ++ points_for i list b)
-    → cues_of new ≡ take MOST_CUES (points_among i.scale i.base list i.tracks (passed ++ b ∷ []))
+pub cues-more : (i : Indexing) (list : List Header) (passed : List Block) (b : Block) (old new : List Point) → cues_of old ≡ take MAX_CUES (points_among i.scale i.base list i.tracks passed) → cues_of new ≡ take MAX_CUES (cues_of old ++ points_for i list b)
+    → cues_of new ≡ take MAX_CUES (points_among i.scale i.base list i.tracks (passed ++ b ∷ []))
 cues-more i list passed b old new so is =
     is
-    ∙ ap (λ ps. take MOST_CUES (ps ++ points_for i list b)) so
-    ∙ take-front MOST_CUES (points_among i.scale i.base list i.tracks passed) (points_for i list b)
-    ∙ ap (take MOST_CUES) (sym (points-more i list passed b))
+    ∙ ap (λ ps. take MAX_CUES (ps ++ points_for i list b)) so
+    ∙ take-front MAX_CUES (points_among i.scale i.base list i.tracks passed) (points_for i list b)
+    ∙ ap (take MAX_CUES) (sym (points-more i list passed b))
 
 -- ---- what is met of a file
 
@@ -133,10 +133,10 @@ HavePassed-more all rest next passed b so is = record {
 }
 
 -- without one the points are those of all blocks
-pub points-whole : (i : Indexing) (list : List Header) (all rest : List Event) (passed : List Block) → HavePassed all rest passed → rest ≡ [] → points_in i list all ≡ Ok (take MOST_CUES (points_among i.scale i.base list i.tracks passed))
+pub points-whole : (i : Indexing) (list : List Header) (all rest : List Event) (passed : List Block) → HavePassed all rest passed → rest ≡ [] → points_in i list all ≡ Ok (take MAX_CUES (points_among i.scale i.base list i.tracks passed))
 points-whole i list all rest passed so is =
-    ap (λ (ds : List Damage). unless (slice_get ds 0) (take MOST_CUES (points_among i.scale i.base list i.tracks (blocks_of all)))) (so.damages ∙ ap damages_of is)
-    ∙ ap (λ (bs : List Block). Ok (take MOST_CUES (points_among i.scale i.base list i.tracks bs))) (so.blocks ∙ ap (λ es. passed ++ blocks_of es) is ∙ append-nil passed)
+    ap (λ (ds : List Damage). unless (slice_get ds 0) (take MAX_CUES (points_among i.scale i.base list i.tracks (blocks_of all)))) (so.damages ∙ ap damages_of is)
+    ∙ ap (λ (bs : List Block). Ok (take MAX_CUES (points_among i.scale i.base list i.tracks bs))) (so.blocks ∙ ap (λ es. passed ++ blocks_of es) is ∙ append-nil passed)
 
 -- ---- the places of the blocks that are left
 
@@ -157,7 +157,7 @@ BlocksAscend-first p rest next b ascends is =
 pub record Come (i : Indexing) (list : List Header) (bytes : List ℕ) (clusters : Clusters) (rest : List Event) (found : List Point) (passed : List Block) : Type 0 where
   pub come : HasComeTo bytes list clusters
   pub ascend : BlocksAscend clusters.reached (blocks_of rest)
-  pub points : cues_of found ≡ take MOST_CUES (points_among i.scale i.base list i.tracks passed)
+  pub points : cues_of found ≡ take MAX_CUES (points_among i.scale i.base list i.tracks passed)
 
 -- so it is, where it began so
 pub HaveCome : Indexing → List Header → List ℕ → Clusters → Clusters → List Event → List Event → List Point → List Block → Type 0
@@ -220,7 +220,7 @@ HaveRead-more i bytes old mid new all rest next points more b lent so is says re
   met = HavePassed-more all rest next so.passed b so.met is;
   come = λ list. HaveCome-more i list bytes old mid new all rest next points more so.passed b (so.come list) is (omega (arith, reached, place)) (λ there before.
       let add = adds list there (omega (arith, before, place)) in
-      record { come = add.come; points = add.points ∙ ap (λ ps. take MOST_CUES (cues_of points ++ ps)) (sym (points-by_head i list b lent says)) });
+      record { come = add.come; points = add.points ∙ ap (λ ps. take MAX_CUES (cues_of points ++ ps)) (sym (points-by_head i list b lent says)) });
 }
   where
     place : b.offset ≡ lent.head.offset
@@ -240,9 +240,9 @@ pub points_in-file : (i : Indexing) (bytes : List ℕ) (segment : Header) (track
 points_in-file i bytes segment tracks events numbers scale base all =
     let is : events ≡ file_events true bytes segment = all ∙ ap (λ n. events_of (with_limits n) bytes segment) scale in
     ap (points_in i (segment_run bytes segment).list) is
-    ∙ ap (λ n. unless (file_damage bytes segment) (take MOST_CUES (points_among n i.base (segment_run bytes segment).list i.tracks (blocks_of (file_events true bytes segment))))) scale
-    ∙ ap (λ n. unless (file_damage bytes segment) (take MOST_CUES (points_among (file_scale bytes segment) n (segment_run bytes segment).list i.tracks (blocks_of (file_events true bytes segment))))) base
-    ∙ ap (λ ns. unless (file_damage bytes segment) (take MOST_CUES (points_among (file_scale bytes segment) segment.body (segment_run bytes segment).list ns (blocks_of (file_events true bytes segment))))) numbers
+    ∙ ap (λ n. unless (file_damage bytes segment) (take MAX_CUES (points_among n i.base (segment_run bytes segment).list i.tracks (blocks_of (file_events true bytes segment))))) scale
+    ∙ ap (λ n. unless (file_damage bytes segment) (take MAX_CUES (points_among (file_scale bytes segment) n (segment_run bytes segment).list i.tracks (blocks_of (file_events true bytes segment))))) base
+    ∙ ap (λ ns. unless (file_damage bytes segment) (take MAX_CUES (points_among (file_scale bytes segment) segment.body (segment_run bytes segment).list ns (blocks_of (file_events true bytes segment))))) numbers
 
 -- ---- what was read
 

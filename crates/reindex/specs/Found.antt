@@ -12,7 +12,7 @@ use Rattle.edit_plan.specs.declared.plan_end.PlanEnd.{PlanEnd}
 use Rattle.edit_plan.specs.declared.plan_end.PlanEnd.TheVariants as end
 use Rattle.reindex.specs.Index.{points_of}
 use Rattle.reindex.specs.Reading.{cues_of}
-use Rattle.reindex.specs.declared.found.Found.{Found}
+use Rattle.reindex.specs.declared.indexable.IndexableFile.{IndexableFile}
 use Rattle.std.specs.declared.alloc.Global.{Global}
 use Rattle.std.specs.declared.vec.Vec.{Vec}
 use Rattle.mkv_io.specs.declared.reads.Reads.{Ghosts}
@@ -34,18 +34,18 @@ pointed bytes =
     and_then (trees_of bytes o.segment) (λ trees.
     and_then (points_of bytes o.segment trees.tracks) (λ points. Ok (record { outline = o; points = points }))))
 
-abbrev pub shown : Found → Pointed
+abbrev pub shown : IndexableFile → Pointed
 shown f = record { outline = f.outline; points = cues_of f.points }
 
 -- This is the file, or this damage refuses it; a read may fail, and there may be no memory.
-abbrev pub IsFound : List ℕ → Result Found OutlineEnd → Type 0
+abbrev pub IsFound : List ℕ → Result IndexableFile OutlineEnd → Type 0
 IsFound bytes (Ok f) = pointed bytes ≡ Ok (shown f)
 IsFound bytes (Err (outline_end.Refused d)) = pointed bytes ≡ Err d
 IsFound bytes (Err outline_end.ReadFault) = ⊤
 IsFound bytes (Err outline_end.Memory) = ⊤
 
 -- This is written of the new index of a file that was found so, or what refuses it, where its content is told.
-abbrev pub WritesFound : {S : Type 0} → Ghosts S → S → FileId → Found → Result (Vec Write Global) PlanEnd → Type 0
+abbrev pub WritesFound : {S : Type 0} → Ghosts S → S → FileId → IndexableFile → Result (Vec Write Global) PlanEnd → Type 0
 WritesFound r src file found result =
     IfOutline r src file found.outline (λ bytes. Answers (index_writes bytes found.outline (cues_of found.points)) result)
 

@@ -12,7 +12,7 @@ use Rattle.file_format.specs.Info.{file_scale}
 use Rattle.block_format.specs.Block.{Block}
 use Rattle.block_format.specs.Events.{blocks_of}
 use Rattle.merge_model.specs.Ticks.{since_start}
-use Rattle.output_model.specs.declared.TheConstants.{MOST_CUES}
+use Rattle.output_model.specs.declared.TheConstants.{MAX_CUES}
 use Rattle.output_model.specs.declared.places.CuePoint.{CuePoint}
 use Rattle.mkv_schema.specs.declared.track_type.TheConstants.{VIDEO_TRACK, SUBTITLE_TRACK}
 
@@ -58,6 +58,6 @@ points_among scale base list numbers blocks = flat_map (points_to scale base lis
 
 -- The points of a file with this Segment and this in its Tracks, in the order of its blocks. There are so many at most.
 abbrev pub index_points : List ℕ → Header → List Node → List CuePoint
-index_points bytes segment tracks = take MOST_CUES
+index_points bytes segment tracks = take MAX_CUES
     (points_among (file_scale bytes segment) segment.body (segment_run bytes segment).list (indexed_tracks tracks)
     (blocks_of (file_events true bytes segment)))

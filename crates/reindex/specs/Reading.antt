@@ -13,11 +13,11 @@ use Rattle.tree_format.specs.Node.{Node}
 use Rattle.file_format.specs.Entry.{number_of}
 use Rattle.block_format.specs.Block.{Block}
 use Rattle.block_format.specs.Events.{Event, blocks_of, damages_of}
-use Rattle.block_records.specs.Buffered.{Buffered, block_of}
+use Rattle.block_reader.specs.Buffered.{Buffered, block_of}
 use Rattle.cluster_reader.specs.Reading.{Reading, left_of}
 use Rattle.edit_changes.specs.Records.{trees_of}
 use Rattle.edit_changes.specs.declared.trees.Trees.{Trees}
-use Rattle.output_model.specs.declared.TheConstants.{MOST_CUES}
+use Rattle.output_model.specs.declared.TheConstants.{MAX_CUES}
 use Rattle.output_model.specs.declared.places.CuePoint.{CuePoint}
 use Rattle.reindex.specs.Clusters.{HasComeTo}
 use Rattle.reindex.specs.Index.{points_of}
@@ -51,7 +51,7 @@ ReadsPoints found (Err outline_end.Memory) = ⊤
 -- the points of the blocks among events, or the first damage
 abbrev pub points_in : Indexing → List Header → List Event → Result (List CuePoint) Damage
 points_in i list events =
-    unless (slice_get (damages_of events) 0) (take MOST_CUES (points_among i.scale i.base list i.tracks (blocks_of events)))
+    unless (slice_get (damages_of events) 0) (take MAX_CUES (points_among i.scale i.base list i.tracks (blocks_of events)))
 
 -- The places of these blocks ascend: the first stands at a place or behind it, each other behind the one before it.
 abbrev pub BlocksAscend : ℕ → List Block → Type 0
@@ -61,7 +61,7 @@ BlocksAscend p (b ∷ bs) = (p ≤ b.offset) × BlocksAscend (b.offset + 1) bs
 -- The point of a block is behind the others, where there is room for it.
 pub record AddsPoint (i : Indexing) (list : List Header) (bytes : List ℕ) (b : Block) (old new : List Point) (clusters : Clusters) : Type 0 where
   pub come : HasComeTo bytes list clusters
-  pub points : cues_of new ≡ take MOST_CUES (cues_of old ++ points_for i list b)
+  pub points : cues_of new ≡ take MAX_CUES (cues_of old ++ points_for i list b)
 
 -- the same of the file in which the Clusters are looked for, where it is told
 abbrev pub AddsPointIn : {S : Type 0} → Ghosts S → S → Indexing → Buffered → List Point → List Point → Clusters → Clusters → Type 0

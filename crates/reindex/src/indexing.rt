@@ -2,7 +2,7 @@
 
 ghost use Rattle.std.specs.Prelude.{◌≡◌, ◌≤◌, ◌==◌, is_some, not, unwrap_or};
 ghost use Rattle.std.specs.List.{list_any};
-ghost use Rattle.block_records.specs.Buffered.{block_of};
+ghost use Rattle.block_reader.specs.Buffered.{block_of};
 ghost use Rattle.merge_model.specs.Ticks.{since_start};
 ghost use Rattle.reindex.specs.Points as spec;
 ghost use Rattle.reindex.specs.Reading.{cue_of};

@@ -5,7 +5,7 @@
 
 mod clusters;
 mod cues;
-mod found;
+mod indexable;
 mod indexed;
 mod indexing;
 mod parts;

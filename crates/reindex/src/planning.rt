@@ -14,7 +14,7 @@ ghost use Rattle.reindex.specs.Found.{IsFound, WritesFound, ends_as};
 ghost use Rattle.reindex.specs.Plan.{indexed_of};
 ghost use Rattle.mkv_io.specs.Bounds.{ReadsOf, ReadsUpTo};
 
-use crate::found::Found;
+use crate::indexable::IndexableFile;
 use crate::indexed::Indexed;
 use crate::parts::cues_parts;
 use crate::reading::read_points;
@@ -43,7 +43,7 @@ fn plan_end(end: OutlineEnd) -> PlanEnd
 }
 
 // The outline of a file that can be indexed, and its points.
-fn find<R: Reads>(alloc: Global, src: &mut R, file: FileId) -> Result<Found, OutlineEnd>
+fn find<R: Reads>(alloc: Global, src: &mut R, file: FileId) -> Result<IndexableFile, OutlineEnd>
     requires { IsLive R.Reads src.old file }
     ensures exact { IfTold R.Reads src.old file (λ bytes. IsFound bytes result) }
     ensures total { IfOk result (λ found. found.outline.total ≡ file_size R.Reads src.old file) }
@@ -54,13 +54,13 @@ fn find<R: Reads>(alloc: Global, src: &mut R, file: FileId) -> Result<Found, Out
     let outline = Outline::read(alloc, src, file)?;
     let trees = read_trees(alloc, &outline, src, file)?;
     let points = read_points(alloc, &outline, &trees, src, file)?;
-    Ok(Found { outline, points })
+    Ok(IndexableFile { outline, points })
 }
 
 // The Cues of its points and the SeekHead, by ascending places, or what refuses them.
 fn writes_of<R: Reads>(
     alloc: Global,
-    found: &Found,
+    found: &IndexableFile,
     src: &mut R,
     file: FileId,
 ) -> Result<Vec<Write>, PlanEnd>

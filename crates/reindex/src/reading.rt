@@ -15,11 +15,11 @@ use crate::indexing::Indexing;
 use crate::point::Point;
 use crate::scale::scale_of;
 use crate::tracks::indexed_tracks;
-use cluster_reader::{Cursor, Step, Takes};
+use cluster_reader::{BlockFilter, Cursor, Step};
 use edit_changes::Trees;
 use element_reader::{Outline, OutlineEnd};
 use mkv_io::{FileId, List, ReadEnd, Reads};
-use output_model::MOST_CUES;
+use output_model::MAX_CUES;
 use std::alloc::Global;
 
 // Adds the point of the block that a cursor gave, where it gets one and there is room.
@@ -31,17 +31,17 @@ fn add_point<R: Reads>(
     cursor: &Cursor,
 ) -> Result<(), ReadEnd>
     requires scale { 1 ≤ by.now.scale }
-    requires few { length points.old ≤ MOST_CUES }
+    requires few { length points.old ≤ MAX_CUES }
     requires ready { IsReady (live_files R.Reads src.old) clusters.old }
     ensures adds { AddsPointOf R.Reads src.old by.now cursor.now points.old points.new clusters.old clusters.new result }
-    ensures few { length points.new ≤ MOST_CUES }
+    ensures few { length points.new ≤ MAX_CUES }
     ensures reached { clusters.new.reached ≤ max clusters.old.reached cursor.now.block.head.offset }
     ensures ready { StaysReady (live_files R.Reads src.new) clusters.old clusters.new }
     ensures same { OnlyReads R.Reads src.old src.new }
     ensures cause { HasCause is_read_fault (R.reading_faults src.old) (R.reading_faults src.new) result }
     ensures goes { PaysOn R.Reads src.old src.new clusters.old clusters.new result }
 {
-    if points.len() >= MOST_CUES || !by.is_indexed(cursor) {
+    if points.len() >= MAX_CUES || !by.is_indexed(cursor) {
         return Ok(());
     }
     clusters.go_to(src, cursor.head().offset)?;
@@ -65,14 +65,14 @@ fn collect<R: Reads>(
     requires ready { IsReady (live_files R.Reads src.old) clusters.old }
     requires window { IsWindowIn R.Reads src.old cursor.old.file clusters.old }
     ensures exact { ReadsLeft R.Reads src.old by.now clusters.old cursor.old result }
-    ensures few { IfOk result (λ points. length points ≤ MOST_CUES) }
+    ensures few { IfOk result (λ points. length points ≤ MAX_CUES) }
     ensures standing { R.standing src.new ≡ R.standing src.old }
     ensures cause { HasCause is_outline_fault (R.reading_faults src.old) (R.reading_faults src.new) result }
     ensures octets { ReadsUpTo R.Reads src.old src.new (3 * file_size R.Reads src.old cursor.old.file) }
 {
     let mut points = List::new(alloc);
     'steps: loop {
-        match cursor.advance_for(src, Takes::Heads)? {
+        match cursor.advance_for(src, BlockFilter::Heads)? {
             Step::Block => add_point(&mut points, by, clusters, src, cursor)?,
             Step::Damaged(damage) => return Err(OutlineEnd::Refused(damage)),
             Step::End => return Ok(points),
@@ -93,7 +93,7 @@ pub fn read_points<R: Reads>(
     requires whole { outline.now.total ≡ file_size R.Reads src.old file }
     requires sound { AreSound trees.now }
     ensures exact { ReadsAll R.Reads src.old file outline.now trees.now result }
-    ensures few { IfOk result (λ points. length points ≤ MOST_CUES) }
+    ensures few { IfOk result (λ points. length points ≤ MAX_CUES) }
     ensures standing { R.standing src.new ≡ R.standing src.old }
     ensures cause { HasCause is_outline_fault (R.reading_faults src.old) (R.reading_faults src.new) result }
     ensures octets { ReadsUpTo R.Reads src.old src.new (3 * file_size R.Reads src.old file) }

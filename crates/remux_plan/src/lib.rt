@@ -19,7 +19,7 @@ pub use summary::{InputDamage, MoreDamage, Summary, Written};
 pub use uuids::{PartUuids, uuids_at};
 
 /// The most inputs of a merge.
-pub const MOST_INPUTS: usize = 64;
+pub const MAX_INPUTS: usize = 64;
 
 /// The most nanoseconds of a tick: so that the time of each block's tick fits 64 bits.
-pub const MOST_SCALE: u64 = 1 << 63;
+pub const MAX_SCALE: u64 = 1 << 63;

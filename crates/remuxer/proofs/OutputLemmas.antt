@@ -14,13 +14,13 @@ use Rattle.tree_format.specs.Node.{Node}
 use Rattle.mkv_io.specs.declared.reads.Reads.{Ghosts}
 use Rattle.mkv_io.specs.declared.files.Files as writing
 use Rattle.mkv_io.specs.declared.remux_end.RemuxEnd.{RemuxEnd}
-use Rattle.mkv_outputs.specs.Drafts.{AreDrafted, StandsInTurn}
+use Rattle.mkv_outputs.specs.Drafts.{AreDrafted, AreWrittenInOrder}
 use Rattle.mkv_outputs.specs.Outputs.{Output}
 use Rattle.mkv_outputs.specs.Sinks.{EndsOnly, IsNoneOf}
-use Rattle.mkv_outputs.specs.Starts.{AreBegun, StandsInPart}
+use Rattle.mkv_outputs.specs.Starts.{AreBegun, ArePrefixes}
 use Rattle.mkv_outputs.proofs.StartsLemmas.{IsStart-then}
 use Rattle.output_model.specs.Element.{joined}
-use Rattle.output_model.specs.declared.TheConstants.{MOST_CUES}
+use Rattle.output_model.specs.declared.TheConstants.{MAX_CUES}
 use Rattle.output_model.specs.declared.heads.ClusterLimits.{ClusterLimits}
 use Rattle.output_model.specs.declared.places.CuePoint.{CuePoint}
 use Rattle.output_model.specs.Front.{front_with}
@@ -59,14 +59,14 @@ use Rattle.remuxer.specs.declared.writer.BlockWriter.{BlockWriter}
 
 -- ---- one draft of one output
 
-pub drafted-in_turn : (before now : Names) (name : List ℕ) (d : Document) → StandsDrafted before now (draft_of name d) → StandsInTurn before now (draft_of name d ∷ [])
+pub drafted-in_turn : (before now : Names) (name : List ℕ) (d : Document) → StandsDrafted before now (draft_of name d) → AreWrittenInOrder before now (draft_of name d ∷ [])
 drafted-in_turn before now name d stands = record { stand = stands.output ∷ []; drafted = inr stands.drafted; names = stands.names }
 
-pub whole-in_turn : (before now : Names) (name : List ℕ) (d : Document) → WritesLayout before now name d → StandsInTurn before now (draft_of name d ∷ [])
+pub whole-in_turn : (before now : Names) (name : List ℕ) (d : Document) → WritesLayout before now name d → AreWrittenInOrder before now (draft_of name d ∷ [])
 whole-in_turn before now name d writes = record { stand = (let o : Output = record { name = name; content = layout d } in o) ∷ []; drafted = inl (sym writes.becomes); names = writes.names }
 
 -- what was refused while it was begun
-pub begun-in_turn : (before now : Names) (name : List ℕ) (d : Document) → StandsInPart before now (record { name = name; content = opened_with d.front [] } ∷ []) → StandsInTurn before now (draft_of name d ∷ [])
+pub begun-in_turn : (before now : Names) (name : List ℕ) (d : Document) → ArePrefixes before now (record { name = name; content = opened_with d.front [] } ∷ []) → AreWrittenInOrder before now (draft_of name d ∷ [])
 begun-in_turn before now name d stands = record { stand = stands.stand; drafted = step stands.stand stands.begun; names = stands.names }
   where
     more : List ℕ
@@ -92,7 +92,7 @@ module _ {S : Type 0} (r : Ghosts S) (f : writing.Ghosts S) (before : Names) (na
     done = [];
     cluster = None;
     cut = ap (λ l. clusters l blocks) same ∙ is;
-    cues = cues ∙ sym (take_all MOST_CUES (let none : List CuePoint = [] in none) (omega arith));
+    cues = cues ∙ sym (take_all MAX_CUES (let none : List CuePoint = [] in none) (omega arith));
     holds = holds;
     counts = record { clusters = grind arith; cues = sym (ap length cues) };
     stands = stands;
@@ -116,7 +116,7 @@ module _ {S : Type 0} (r : Ghosts S) (f : writing.Ghosts S) (before : Names) (na
           let holds = subst P named (ends before d ready) in
           record { names = holds.names; becomes = holds.becomes; short = ended-short r f before name (layout d) o.file old new of_files all.stands.is_open.live named holds.names ended }
       step (Err end) ends =
-          let P : List ℕ → Type 0 = λ n. StandsInTurn before (f.names new) (draft_of n d ∷ []) in
+          let P : List ℕ → Type 0 = λ n. AreWrittenInOrder before (f.names new) (draft_of n d ∷ []) in
           subst P named (drafted-in_turn before (f.names new) (f.holder old o.file.n) d (ends before d ready))
 
 -- ---- the merge, while the output is begun

@@ -4,13 +4,13 @@ use Rattle.std.specs.Prelude.{◌==◌, if◌then◌else◌, slice_index_or}
 use Rattle.std.proofs.lemmas.List.{length-map, map-append}
 use Rattle.std.proofs.lemmas.List.Elements.{All-append, All-cons, All-head, All-nil, All-tail}
 use Rattle.std.proofs.lemmas.Bool.Decides.{nat_tests}
-use Rattle.mkv_io.specs.Asked.{AsksNone, IsBesides}
+use Rattle.mkv_io.specs.Asked.{AsksNone, IsNotAmong}
 use Rattle.mkv_io.specs.declared.asked.Asked.{Asked}
 use Rattle.mkv_io.specs.declared.asked.Asked.TheVariants.{Made, Opened}
 use Rattle.mkv_io.specs.LiveFiles.{LiveFiles}
 use Rattle.mkv_io.specs.Names.{AreOthers, Names, changed_at, with_content}
 use Rattle.mkv_io.specs.Sources.{live_files}
-use Rattle.mkv_io.specs.Told.{Told}
+use Rattle.mkv_io.specs.Told.{IfVisible}
 use Rattle.mkv_io.specs.Writing.{KeepsOthers}
 use Rattle.mkv_io.specs.declared.reads.Reads.{Ghosts}
 use Rattle.mkv_io.specs.declared.files.Files as writing
@@ -18,9 +18,9 @@ use Rattle.std.proofs.lemmas.Slice.Eq.{bytes_eq-Decides}
 use Rattle.mkv_io.proofs.AskedLemmas.{asks-fewer}
 use Rattle.mkv_io.proofs.NamesLemmas.{others-behind, others-front}
 use Rattle.mkv_io.proofs.WritingLemmas.{KeepsOthers-more, KeepsOthers-none, KeepsOthers-then}
-use Rattle.mkv_outputs.specs.Drafts.{AreDrafted, Draft, IsDrafted, StandsInTurn, output_of, outputs_of}
+use Rattle.mkv_outputs.specs.Drafts.{AreDrafted, Draft, IsDrafted, AreWrittenInOrder, output_of, outputs_of}
 use Rattle.mkv_outputs.specs.Outputs.{Output, with_outputs}
-use Rattle.mkv_outputs.proofs.DraftsLemmas.{StandsInTurn-next, StandsInTurn-whole}
+use Rattle.mkv_outputs.proofs.DraftsLemmas.{AreWrittenInOrder-next, AreWrittenInOrder-whole}
 use Rattle.mkv_outputs.proofs.OutputsLemmas.{with_outputs-added}
 use Rattle.output_model.specs.declared.attachment.Attachment.{Attachment}
 use Rattle.output_model.specs.Front.{front_with}
@@ -76,17 +76,17 @@ whole-behind old mid new done d before names =
     ∙ sym (ap (with_outputs old) (map-append output_of done (d ∷ [])) ∙ with_outputs-added old (outputs_of done) (output_of d))
 
 -- some first drafts are whole, and what stands of the next one stands in turn
-pub in_turn-behind : (old mid new : Names) (done rest : List Draft) (d : Draft) → mid ≡ with_outputs old (outputs_of done) → StandsInTurn mid new (d ∷ []) → StandsInTurn old new (done ++ d ∷ rest)
+pub in_turn-behind : (old mid new : Names) (done rest : List Draft) (d : Draft) → mid ≡ with_outputs old (outputs_of done) → AreWrittenInOrder mid new (d ∷ []) → AreWrittenInOrder old new (done ++ d ∷ rest)
 in_turn-behind old mid new done rest d before stands = step stands.stand stands.drafted stands.names
   where
-    one : (o : Output) → (o ≡ output_of d) ⊎ IsDrafted o d → new ≡ with_outputs mid (o ∷ []) → StandsInTurn old new (done ++ d ∷ rest)
+    one : (o : Output) → (o ≡ output_of d) ⊎ IsDrafted o d → new ≡ with_outputs mid (o ∷ []) → AreWrittenInOrder old new (done ++ d ∷ rest)
     one o (inl whole) names =
-        subst (StandsInTurn old new) (append_assoc done (d ∷ []) rest)
-        (StandsInTurn-whole old new (done ++ d ∷ []) rest (whole-behind old mid new done d before (names ∙ ap (λ (each : Output). with_outputs mid (each ∷ [])) whole)))
-    one o (inr is) names = StandsInTurn-next old mid new done rest d o before names is
+        subst (AreWrittenInOrder old new) (append_assoc done (d ∷ []) rest)
+        (AreWrittenInOrder-whole old new (done ++ d ∷ []) rest (whole-behind old mid new done d before (names ∙ ap (λ (each : Output). with_outputs mid (each ∷ [])) whole)))
+    one o (inr is) names = AreWrittenInOrder-next old mid new done rest d o before names is
 
-    step : (os : List Output) → AreDrafted os (d ∷ []) → new ≡ with_outputs mid os → StandsInTurn old new (done ++ d ∷ rest)
-    step [] drafted names = StandsInTurn-whole old new done (d ∷ rest) (names ∙ before)
+    step : (os : List Output) → AreDrafted os (d ∷ []) → new ≡ with_outputs mid os → AreWrittenInOrder old new (done ++ d ∷ rest)
+    step [] drafted names = AreWrittenInOrder-whole old new done (d ∷ rest) (names ∙ before)
     step (o ∷ []) drafted names = one o drafted names
     step (o ∷ (other ∷ os)) drafted names = absurd drafted.1
 
@@ -154,9 +154,9 @@ module _ {S : Type 0} (r : Ghosts S) (f : writing.Ghosts S) (split : Bool) (outp
 
   -- so no file is made under it, and none is opened
   pub unwritten-asks : (a b : S) → KeepsUnwritten r f split output a b → AsksNone (IsNotMade split output) (f.asked a) (f.asked b)
-  unwritten-asks a b keeps = asks-fewer (IsBesides [] keeps.names) (IsNotMade split output) (f.asked a) (f.asked b) each keeps.kept.asks
+  unwritten-asks a b keeps = asks-fewer (IsNotAmong [] keeps.names) (IsNotMade split output) (f.asked a) (f.asked b) each keeps.kept.asks
     where
-      each : (name : Asked) → IsNotMade split output name → IsBesides [] keeps.names name
+      each : (name : Asked) → IsNotMade split output name → IsNotAmong [] keeps.names name
       each (Opened name) isnt = tt
       each (Made name) isnt = others-unwritten name keeps.names isnt keeps.form
 
@@ -174,7 +174,7 @@ module _ {S : Type 0} (r : Ghosts S) (f : writing.Ghosts S) (o : OutputSpec) (a 
     pub written_are : written ≡ map written_of (outputs_from (live_files r a) o 1 done)
     pub names : f.names b ≡ with_outputs (f.names a) (outputs_of (drafts_of (outputs_from (live_files r a) o 1 done)))
     pub become : outputs_of (drafts_of (outputs_from (live_files r a) o 1 done)) ≡ map laid_out (outputs_from (live_files r a) o 1 done)
-    pub short : Told (f.names a) (λ world. All (λ (each : PlannedOutput). IsShort each.document) (outputs_from (live_files r a) o 1 done))
+    pub short : IfVisible (f.names a) (λ world. All (λ (each : PlannedOutput). IsShort each.document) (outputs_from (live_files r a) o 1 done))
     pub front : front_with (live_files r b) o'.front ≡ front_with (live_files r a) o'.front
 
   -- So it is where the links' files are told; the next part can be begun, and so many octets were read.
@@ -297,9 +297,9 @@ module _ {S : Type 0} (r : Ghosts S) (f : writing.Ghosts S) (o : OutputSpec) (a 
           ∙ ap (λ (each : PlannedOutput). done_drafts ++ draft_of each.name each.document ∷ drafts_of (outputs_from (live_files r a) o (suc (1 + length so_far.done)) rest)) (sym is-next)
 
       -- it was refused
-      pub refused-next : (now : Names) → StandsInTurn (f.names b) now (draft_of its.name its.document ∷ []) → StandsInTurn (f.names a) now (drafts_of (outputs_from (live_files r a) o 1 (parts (split_in p) (left (live_files r a) p.merge))))
+      pub refused-next : (now : Names) → AreWrittenInOrder (f.names b) now (draft_of its.name its.document ∷ []) → AreWrittenInOrder (f.names a) now (drafts_of (outputs_from (live_files r a) o 1 (parts (split_in p) (left (live_files r a) p.merge))))
       refused-next now stands =
-          subst (StandsInTurn (f.names a) now) (sym all-drafts)
+          subst (AreWrittenInOrder (f.names a) now) (sym all-drafts)
           (in_turn-behind (f.names a) (f.names b) now done_drafts (drafts_of (outputs_from (live_files r a) o (suc (1 + length so_far.done)) rest)) (draft_of its.name its.document) so_far.names stands)
 
       -- it stands
@@ -379,7 +379,7 @@ all-summed r f o a b p p' o' written standing =
     standing.written_are ∙ ap (λ (all : List Part). map written_of (outputs_from (live_files r a) o 1 all)) (sym whole)
 
 -- which is what stands where something else is refused then
-pub all-in_turn : (old new : Names) (outputs : List PlannedOutput) → WritesAll old new outputs → StandsInTurn old new (drafts_of outputs)
+pub all-in_turn : (old new : Names) (outputs : List PlannedOutput) → WritesAll old new outputs → AreWrittenInOrder old new (drafts_of outputs)
 all-in_turn old new outputs writes =
-    subst (StandsInTurn old new) (append-nil (drafts_of outputs))
-    (StandsInTurn-whole old new (drafts_of outputs) [] (writes.names ∙ ap (with_outputs old) (sym writes.become)))
+    subst (AreWrittenInOrder old new) (append-nil (drafts_of outputs))
+    (AreWrittenInOrder-whole old new (drafts_of outputs) [] (writes.names ∙ ap (with_outputs old) (sym writes.become)))

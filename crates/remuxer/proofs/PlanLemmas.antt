@@ -6,7 +6,7 @@ use Rattle.mkv_io.specs.Sources.{live_files}
 use Rattle.mkv_io.specs.declared.reads.Reads.{Ghosts}
 use Rattle.mkv_io.specs.declared.files.Files as writing
 use Rattle.mkv_io.specs.declared.remux_end.RemuxEnd.{RemuxEnd}
-use Rattle.output_model.specs.declared.TheConstants.{MOST_LANES}
+use Rattle.output_model.specs.declared.TheConstants.{MAX_LANES}
 use Rattle.output_model.specs.OutputBlock.{OutputBlock}
 use Rattle.cluster_reader.specs.ToldDamages.{ToldDamages, told_damages}
 use Rattle.merge_model.specs.Lanes.{lane_damages}
@@ -23,7 +23,7 @@ use Rattle.output_model.specs.declared.rule.CueRule.{CueRule}
 use Rattle.remux_plan.specs.Parts.{PlannedOutput, drives_by, is_split, name_of, outputs_from, outputs_in, spec_of, split_of}
 use Rattle.remux_plan.specs.Plan.{blocks_of, links_of}
 use Rattle.remux_plan.specs.Summary.{IsSummary, first_damages, more_damages, written_of}
-use Rattle.remux_plan.specs.declared.TheConstants.{MOST_INPUTS}
+use Rattle.remux_plan.specs.declared.TheConstants.{MAX_INPUTS}
 use Rattle.remux_plan.specs.declared.plan.MergePlan.{MergePlan}
 use Rattle.remux_plan.specs.declared.plan.PlannedLane.{PlannedLane}
 use Rattle.remux_plan.specs.declared.output.OutputSpec.{OutputSpec}
@@ -79,7 +79,7 @@ module _ {S : Type 0} {r : Ghosts S} {f : writing.Ghosts S} {a : S} {p : MergePl
     count-queues : length m.queues ≡ length s.lanes
     count-queues = sym (length-map m.queues (λ (q : Queue). q.lane)) ∙ ap (λ (ls : List LaneSeen). length ls) it.begins.lanes
 
-    pub plan-few : length m.queues ≤ MOST_LANES
+    pub plan-few : length m.queues ≤ MAX_LANES
     plan-few = omega (arith, count-lanes, count-queues, plan.few)
 
     pub plan-inputs : length s.inputs ≡ length m.queues
@@ -174,19 +174,19 @@ module _ {S : Type 0} {r : Ghosts S} {f : writing.Ghosts S} {a : S} {p : MergePl
 
     -- and so is the summary
     pub plan-summary : (m' : MergeSeen) (sum : Summary) → told_by m' ≡ damages (live_files r a) m → sum.outputs ≡ map written_of (outputs_in (live_files r a) p)
-        → HasDamages s.inputs (told_by m') (range_with_len 0 MOST_INPUTS) sum → IsSummary (live_files r a) p sum
+        → HasDamages s.inputs (told_by m') (range_with_len 0 MAX_INPUTS) sum → IsSummary (live_files r a) p sum
     plan-summary m' sum given outputs has = record {
       outputs = outputs;
-      damages = has.damages ∙ ap₂ (λ (ns : List (List ℕ)) (ts : List (List ToldDamages)). flat_map (λ input. first_damages input (damages_told ns ts input)) (range_with_len 0 MOST_INPUTS)) it.started.inputs told
+      damages = has.damages ∙ ap₂ (λ (ns : List (List ℕ)) (ts : List (List ToldDamages)). flat_map (λ input. first_damages input (damages_told ns ts input)) (range_with_len 0 MAX_INPUTS)) it.started.inputs told
           ∙ plan-damages (live_files r a) p.lanes first_damages (λ input. refl) numbered inputs;
-      more = has.more ∙ ap₂ (λ (ns : List (List ℕ)) (ts : List (List ToldDamages)). flat_map (λ input. more_damages input (damages_told ns ts input)) (range_with_len 0 MOST_INPUTS)) it.started.inputs told
+      more = has.more ∙ ap₂ (λ (ns : List (List ℕ)) (ts : List (List ToldDamages)). flat_map (λ input. more_damages input (damages_told ns ts input)) (range_with_len 0 MAX_INPUTS)) it.started.inputs told
           ∙ plan-damages (live_files r a) p.lanes more_damages (λ input. refl) numbered inputs;
     }
       where
         numbered : All (λ (l : PlannedLane). length l.inputs ≡ length l.spec.links) p.lanes
         numbered = λ k d inside. (plan.lanes k d inside).numbered
 
-        inputs : All (λ (l : PlannedLane). All (λ n. n < MOST_INPUTS) l.inputs) p.lanes
+        inputs : All (λ (l : PlannedLane). All (λ n. n < MAX_INPUTS) l.inputs) p.lanes
         inputs = λ k d inside. (plan.lanes k d inside).inputs
 
         told : told_by m' ≡ map (λ (l : PlannedLane). map told_damages (lane_damages (map (given_in (live_files r a)) l.spec.links))) p.lanes

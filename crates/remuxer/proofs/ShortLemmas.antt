@@ -6,15 +6,15 @@ use Rattle.mkv_io.specs.declared.reads.Reads.{Ghosts}
 use Rattle.mkv_io.specs.declared.files.Files as writing
 use Rattle.mkv_io.specs.Names.{Names, changed_at, with_content}
 use Rattle.mkv_io.specs.Sources.{IsLive, live_files}
-use Rattle.mkv_io.specs.Told.{Told}
+use Rattle.mkv_io.specs.Told.{IfVisible}
 use Rattle.mkv_io.proofs.NamesLemmas.{changed_at-same}
 use Rattle.cues_seekhead.specs.Made.{WritesAndEnds}
 
 -- What holds of all files: no live one is longer, a content that is told has the file's length, and it is that of the file's name.
 pub record HoldsOfFiles {S : Type 0} (r : Ghosts S) (f : writing.Ghosts S) : Type 0 where
   pub short : (x : S) (file : ℕ) → (live_files r x).live file ≡ true → (live_files r x).size file ≤ LONGEST_FILE
-  pub told_size : (x : S) (file : ℕ) → Told ((live_files r x).content file) (λ bytes. length bytes ≡ (live_files r x).size file)
-  pub named : (x : S) (file : ℕ) → (live_files r x).live file ≡ true → Told (f.names x) (λ world. (live_files r x).content file ≡ world (f.holder x file))
+  pub told_size : (x : S) (file : ℕ) → IfVisible ((live_files r x).content file) (λ bytes. length bytes ≡ (live_files r x).size file)
+  pub named : (x : S) (file : ℕ) → (live_files r x).live file ≡ true → IfVisible (f.names x) (λ world. (live_files r x).content file ≡ world (f.holder x file))
 
 -- the content of a live file whose name has it is short
 content-short : {S : Type 0} (r : Ghosts S) (f : writing.Ghosts S) (x : S) (file : ℕ) (name octets : List ℕ) (world : List ℕ → Option (List ℕ)) → HoldsOfFiles r f → (live_files r x).live file ≡ true → f.holder x file ≡ name → f.names x ≡ Some world → world name ≡ Some octets → length octets ≤ LONGEST_FILE
@@ -27,7 +27,7 @@ content-short r f x file name octets world holds live holder told is =
 -- Octets that stand under the name of a file which was written and ended are short, where the names were told before: until it ended
 -- it was live, and had them.
 pub ended-short : {S : Type 0} (r : Ghosts S) (f : writing.Ghosts S) (before : Names) (name octets : List ℕ) (file : FileId) (old new : S) → HoldsOfFiles r f → IsLive r old file → f.holder old file.n ≡ name → f.names new ≡ with_content before name octets → WritesAndEnds r f file old new
-    → Told before (λ world. length octets ≤ LONGEST_FILE)
+    → IfVisible before (λ world. length octets ≤ LONGEST_FILE)
 ended-short r f before name octets file old new holds live holder names ends = λ world told.
     let x = ends.before in
     let then : List ℕ → Option (List ℕ) = changed_at name (λ _. Some octets) world in

@@ -12,7 +12,7 @@ use Rattle.mkv_io.specs.declared.reads.Reads.{Ghosts}
 use Rattle.mkv_io.specs.declared.files.Files as writing
 use Rattle.mkv_outputs.specs.Written.{PassesSome}
 use Rattle.output_model.specs.Element.{joined, octets_of}
-use Rattle.output_model.specs.declared.TheConstants.{MOST_CUES}
+use Rattle.output_model.specs.declared.TheConstants.{MAX_CUES}
 use Rattle.output_model.specs.declared.heads.ClusterLimits.{ClusterLimits}
 use Rattle.output_model.specs.declared.places.CuePoint.{CuePoint}
 use Rattle.output_model.specs.OutputBlock.{OutputBlock}
@@ -62,10 +62,10 @@ count-begun n g done cl b begins holds empties count = ap (λ (t : Bool). if t t
     by-cluster (Some c) count = count ∙ ap (counted 0) (length-append done (c ∷ []) ∙ sym (length-append done (with_block c b ∷ [])))
 
 -- and a cue point is one more, as far as there may be one
-count-point : (old new : List CuePoint) (p : CuePoint) → (length old < MOST_CUES → new ≡ old ++ p ∷ []) → (MOST_CUES ≤ length old → new ≡ old) → with_point (length old) ≡ length new
-count-point old new p added full = either (cases_lt (length old) MOST_CUES)
+count-point : (old new : List CuePoint) (p : CuePoint) → (length old < MAX_CUES → new ≡ old ++ p ∷ []) → (MAX_CUES ≤ length old → new ≡ old) → with_point (length old) ≡ length new
+count-point old new p added full = either (cases_lt (length old) MAX_CUES)
   where
-    either : (length old < MOST_CUES) ⊎ (MOST_CUES ≤ length old) → with_point (length old) ≡ length new
+    either : (length old < MAX_CUES) ⊎ (MAX_CUES ≤ length old) → with_point (length old) ≡ length new
     either (inl less) = let all = ap length (added less) ∙ length-append old (p ∷ []) in grind (arith, nat_tests, less, all)
     either (inr more) = let same = ap length (full more) in grind (arith, nat_tests, more, same)
 
@@ -171,7 +171,7 @@ module _ {S : Type 0} (r : Ghosts S) (f : writing.Ghosts S) (before : Names) (na
           done = stands.done;
           cluster = Some (with_next stands.cluster b);
           cut = cut-held stands fits limits;
-          cues = stands.cues ∙ ap (take MOST_CUES) (sym (points_from-push cued old.limits old.spare c stands.done stands.cluster b
+          cues = stands.cues ∙ ap (take MAX_CUES) (sym (points_from-push cued old.limits old.spare c stands.done stands.cluster b
               ∙ ap (λ t. ps ++ points_where t (point_of (c + length (joined (clusters_elements stands.done))) (place_in (gathered_with old.limits old.spare stands.cluster) b.tick) b)) plain ∙ append-nil ps));
           holds = puts stands.cluster stands.holds;
           counts = record { clusters = count-begun n.clusters old stands.done stands.cluster b begins stands.holds empties stands.counts.clusters; cues = stands.counts.cues };
@@ -180,7 +180,7 @@ module _ {S : Type 0} (r : Ghosts S) (f : writing.Ghosts S) (before : Names) (na
 
     -- with its point
     pub stands-cued : (begins : Bool) (o' : OpenOutput) (relative : ℕ) (stands : Stands r f before name rules d files o old n (b ∷ left)) → begins ≡ is_empty old → joins_next old.limits stands.cluster b ≡ true → ((c : Option OutputCluster) → Holds c old → Holds (Some (with_next c b)) new) → new.limits ≡ old.limits → is_cue rules b ≡ true
-        → relative ≡ place_in old b.tick → (length o.cues < MOST_CUES → o' ≡ with_cue o (record { tick = b.tick; lane = b.lane; cluster = o.len; relative = relative })) → (MOST_CUES ≤ length o.cues → o' ≡ o)
+        → relative ≡ place_in old b.tick → (length o.cues < MAX_CUES → o' ≡ with_cue o (record { tick = b.tick; lane = b.lane; cluster = o.len; relative = relative })) → (MAX_CUES ≤ length o.cues → o' ≡ o)
         → Stands r f before name rules d files o' new (counted_with begins true n) left
     stands-cued begins o' relative stands empties fits puts limits cue is added full =
         let cued = is_cue rules in
@@ -196,21 +196,21 @@ module _ {S : Type 0} (r : Ghosts S) (f : writing.Ghosts S) (before : Names) (na
           done = stands.done;
           cluster = Some (with_next stands.cluster b);
           cut = cut-held stands fits limits;
-          cues = kept-more MOST_CUES ps o.cues o'.cues p stands.cues (λ less. ap (λ (each : OpenOutput). each.cues) (added less)) (λ most. ap (λ (each : OpenOutput). each.cues) (full most))
-              ∙ ap (λ (each : CuePoint). take MOST_CUES (ps ++ each ∷ [])) point
-              ∙ ap (take MOST_CUES) (sym (points_from-push cued old.limits old.spare c stands.done stands.cluster b ∙ ap (λ t. ps ++ points_where t (point_of at place b)) cue));
+          cues = kept-more MAX_CUES ps o.cues o'.cues p stands.cues (λ less. ap (λ (each : OpenOutput). each.cues) (added less)) (λ most. ap (λ (each : OpenOutput). each.cues) (full most))
+              ∙ ap (λ (each : CuePoint). take MAX_CUES (ps ++ each ∷ [])) point
+              ∙ ap (take MAX_CUES) (sym (points_from-push cued old.limits old.spare c stands.done stands.cluster b ∙ ap (λ t. ps ++ points_where t (point_of at place b)) cue));
           holds = puts stands.cluster stands.holds;
           counts = record {
             clusters = count-begun n.clusters old stands.done stands.cluster b begins stands.holds empties stands.counts.clusters;
             cues = ap with_point stands.counts.cues ∙ count-point o.cues o'.cues p (λ less. ap (λ (each : OpenOutput). each.cues) (added less)) (λ most. ap (λ (each : OpenOutput). each.cues) (full most));
           };
-          stands = either (cases_lt (length o.cues) MOST_CUES);
+          stands = either (cases_lt (length o.cues) MAX_CUES);
         }
       where
         P : OpenOutput → Type 0
         P = λ each. StandsOpen r f before name d.front (joined (clusters_elements stands.done)) files each
 
-        either : (length o.cues < MOST_CUES) ⊎ (MOST_CUES ≤ length o.cues) → StandsOpen r f before name d.front (joined (clusters_elements stands.done)) files o'
+        either : (length o.cues < MAX_CUES) ⊎ (MAX_CUES ≤ length o.cues) → StandsOpen r f before name d.front (joined (clusters_elements stands.done)) files o'
         either (inl less) = subst P (sym (added less)) (StandsOpen-cued r f before name d.front (joined (clusters_elements stands.done)) files o (record { tick = b.tick; lane = b.lane; cluster = o.len; relative = relative }) stands.stands)
         either (inr more) = subst P (sym (full more)) stands.stands
 

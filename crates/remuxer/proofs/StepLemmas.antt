@@ -31,7 +31,7 @@ use Rattle.splitter.specs.Sections.{Part, Split, beyond, may_cut, parts, parts_i
 use Rattle.splitter.specs.Steps.{CutsSeen, counted, is_cut, is_kept, place_at, place_of, start_of, stepped}
 use Rattle.remuxer.proofs.PlacedLemmas.{PlacesOne, drives_at}
 use Rattle.remuxer.specs.declared.placed.Ahead.{Ahead}
-use Rattle.remux_plan.specs.declared.TheConstants.{MOST_SCALE}
+use Rattle.remux_plan.specs.declared.TheConstants.{MAX_SCALE}
 use Rattle.remuxer.specs.Places.{CanGive, IsAhead, IsFresh, IsLimit, LendsAt, StandsAhead, StandsAt, ahead_at, ahead_of, behind_part, block_lent, first_tick, is_same, is_within, lane_within, lent_ahead, lent_at, part_in, parts_from, parts_left, rest_of_part, split_in, start_in}
 use Rattle.remuxer.specs.declared.placed.PlacedBlocks.{PlacedBlocks}
 use Rattle.remuxer.proofs.PartLemmas.{behind-cut, beyond-cut, beyond-next, fits-of, no-limit, passed-next, within-cut, within-next}
@@ -67,7 +67,7 @@ scales-kept n old new keeps all =
         All-cons (λ (one : Queue). one.lane.scale ≡ n) q qs (All-head (λ (k : LaneKept). k.scale ≡ n) (lane_kept q) (map lane_kept qs) each)
         (from_kept qs (All-tail (λ (k : LaneKept). k.scale ≡ n) (lane_kept q) (map lane_kept qs) each))
 
-early-time : (tick scale : ℕ) → scale ≤ MOST_SCALE → tick * scale ≤ most_time + scale / 2 → tick * scale < 2 ^ 64
+early-time : (tick scale : ℕ) → scale ≤ MAX_SCALE → tick * scale ≤ most_time + scale / 2 → tick * scale < 2 ^ 64
 early-time tick scale most le = let half : scale / 2 ≤ scale = grind arith in omega (arith, half, le, most)
 
 -- ---- where a block stands

@@ -16,7 +16,7 @@ use Rattle.merge_model.specs.Lanes.{lane_damages}
 use Rattle.merge_model.specs.FileLinks.{given_in}
 use Rattle.lanes.proofs.StartLemmas.{length-damages}
 use Rattle.remux_plan.specs.Summary.{count_to, damages_of, linked_inputs, link_damages}
-use Rattle.remux_plan.specs.declared.TheConstants.{MOST_INPUTS}
+use Rattle.remux_plan.specs.declared.TheConstants.{MAX_INPUTS}
 use Rattle.remux_plan.specs.declared.plan.PlannedLane.{PlannedLane}
 use Rattle.remuxer.specs.Started.{numbers_of}
 use Rattle.remuxer.specs.Told.{damages_told, told_at, told_of}
@@ -148,15 +148,15 @@ short-range g (suc n) m from none =
 -- ---- the damages of a plan
 
 module _ {A : Type 0} (f : LiveFiles) (lanes : List PlannedLane) (of : ℕ → ToldDamages → List A) (none : (input : ℕ) → of input (told_damages []) ≡ [])
-    (numbered : All (λ (l : PlannedLane). length l.inputs ≡ length l.spec.links) lanes) (inputs : All (λ (l : PlannedLane). All (λ n. n < MOST_INPUTS) l.inputs) lanes) where
+    (numbered : All (λ (l : PlannedLane). length l.inputs ≡ length l.spec.links) lanes) (inputs : All (λ (l : PlannedLane). All (λ n. n < MAX_INPUTS) l.inputs) lanes) where
   pub plan-damages :
-      flat_map (λ input. of input (damages_told (numbers_of lanes) (map (λ (l : PlannedLane). map told_damages (lane_damages (map (given_in f) l.spec.links))) lanes) input)) (range_with_len 0 MOST_INPUTS)
+      flat_map (λ input. of input (damages_told (numbers_of lanes) (map (λ (l : PlannedLane). map told_damages (lane_damages (map (given_in f) l.spec.links))) lanes) input)) (range_with_len 0 MAX_INPUTS)
       ≡ flat_map (λ input. of input (told_damages (damages_of f lanes input))) (linked_inputs lanes)
   plan-damages =
       let count = count_to (flat_map (λ (l : PlannedLane). l.inputs) lanes) in
-      let few : count ≤ MOST_INPUTS = count-all MOST_INPUTS lanes inputs in
-      let all : MOST_INPUTS ≡ count + (MOST_INPUTS - count) = omega arith in
-      ap (λ (g : ℕ → List A). flat_map g (range_with_len 0 MOST_INPUTS)) (λ i input. of input (told-is f input lanes numbered i))
+      let few : count ≤ MAX_INPUTS = count-all MAX_INPUTS lanes inputs in
+      let all : MAX_INPUTS ≡ count + (MAX_INPUTS - count) = omega arith in
+      ap (λ (g : ℕ → List A). flat_map g (range_with_len 0 MAX_INPUTS)) (λ i input. of input (told-is f input lanes numbered i))
       ∙ ap (λ n. flat_map (λ input. of input (told_damages (damages_of f lanes input))) (range_with_len 0 n)) all
-      ∙ short-range (λ input. of input (told_damages (damages_of f lanes input))) count (MOST_INPUTS - count) 0
+      ∙ short-range (λ input. of input (told_damages (damages_of f lanes input))) count (MAX_INPUTS - count) 0
       (λ k high. ap (λ ds. of k (told_damages ds)) (no-damages f k lanes (omega arith)) ∙ none k)

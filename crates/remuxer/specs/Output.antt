@@ -7,14 +7,14 @@ use Rattle.mkv_io.specs.declared.asked.Asked.{Asked}
 use Rattle.mkv_io.specs.declared.asked.Asked.TheVariants.{Made, Opened}
 use Rattle.mkv_io.specs.Names.{Names, with_content}
 use Rattle.mkv_io.specs.Sources.{live_files}
-use Rattle.mkv_io.specs.Told.{Told}
+use Rattle.mkv_io.specs.Told.{IfVisible}
 use Rattle.mkv_io.specs.Writing.{KeepsOthers}
 use Rattle.mkv_io.specs.declared.reads.Reads.{Ghosts}
 use Rattle.mkv_io.specs.declared.files.Files as writing
 use Rattle.mkv_io.specs.declared.outside.ReadEnd.{ReadEnd}
 use Rattle.mkv_io.specs.declared.outside.TheConstants.{LONGEST_FILE}
 use Rattle.mkv_io.specs.declared.remux_end.RemuxEnd.{RemuxEnd}
-use Rattle.mkv_outputs.specs.Drafts.{Draft, StandsInTurn, output_of, outputs_of}
+use Rattle.mkv_outputs.specs.Drafts.{Draft, AreWrittenInOrder, output_of, outputs_of}
 use Rattle.mkv_outputs.specs.Outputs.{Output, with_outputs}
 use Rattle.mkv_schema.specs.declared.ids.TheConstants.{INFO, TRACKS, CHAPTERS, TAGS}
 use Rattle.tree_format.specs.Node.{IsMaster, Node, id_of}
@@ -86,12 +86,12 @@ IsShort d = length (layout d) ≤ LONGEST_FILE
 pub record WritesLayout (old new : Names) (name : List ℕ) (d : Document) : Type 0 where
   pub names : new ≡ with_content old name (layout d)
   pub becomes : output_of (draft_of name d) ≡ record { name = name; content = layout d }
-  pub short : Told old (λ world. IsShort d)
+  pub short : IfVisible old (λ world. IsShort d)
 
 -- After a refusal the output stands as a draft, or the name is as before. No other name changes.
 abbrev pub Writes : {T : Type 0} → Names → Names → List ℕ → Document → Result T RemuxEnd → Type 0
 Writes old new name d (Ok _) = WritesLayout old new name d
-Writes old new name d (Err _) = StandsInTurn old new (draft_of name d ∷ [])
+Writes old new name d (Err _) = AreWrittenInOrder old new (draft_of name d ∷ [])
 
 -- Where the links' files are told, it has the blocks of the part that was begun.
 abbrev pub WritesPart : {S T : Type 0} → Ghosts S → writing.Ghosts S → S → S → OutputSpec → List ℕ → PlacedBlocks → Result T RemuxEnd → Type 0
@@ -234,7 +234,7 @@ pub record WritesOne {S : Type 0} (r : Ghosts S) (f : writing.Ghosts S) (old new
 abbrev pub WritesTold : {S : Type 0} → Ghosts S → writing.Ghosts S → S → S → OutputSpec → PlacedBlocks → PlacedBlocks → List Written → List Written → Result Bool RemuxEnd → Type 0
 WritesTold r f old new o b b' written written' (Ok begun) = WritesOne r f old new o b b' written written' begun
 WritesTold r f old new o b b' written written' (Err _) =
-    StandsInTurn (f.names old) (f.names new) (draft_of (next_name o written) (document_with (live_files r old) (next_spec o written) (part_in (live_files r old) b)) ∷ [])
+    AreWrittenInOrder (f.names old) (f.names new) (draft_of (next_name o written) (document_with (live_files r old) (next_spec o written) (part_in (live_files r old) b)) ∷ [])
 
 -- So it is where the links' files are told.
 abbrev pub WritesNext : {S : Type 0} → Ghosts S → writing.Ghosts S → S → S → OutputSpec → PlacedBlocks → PlacedBlocks → List Written → List Written → Result Bool RemuxEnd → Type 0
@@ -259,12 +259,12 @@ laid_out o = record { name = o.name; content = layout o.document }
 pub record WritesAll (old new : Names) (outputs : List PlannedOutput) : Type 0 where
   pub names : new ≡ with_outputs old (map laid_out outputs)
   pub become : outputs_of (drafts_of outputs) ≡ map laid_out outputs
-  pub short : Told old (λ world. All (λ (o : PlannedOutput). IsShort o.document) outputs)
+  pub short : IfVisible old (λ world. All (λ (o : PlannedOutput). IsShort o.document) outputs)
 
 -- After a refusal some first outputs stand whole, and the next one as a draft; every other name is as before.
 abbrev pub WritesOutputs : {T : Type 0} → Names → Names → List PlannedOutput → Result T RemuxEnd → Type 0
 WritesOutputs old new outputs (Ok _) = WritesAll old new outputs
-WritesOutputs old new outputs (Err _) = StandsInTurn old new (drafts_of outputs)
+WritesOutputs old new outputs (Err _) = AreWrittenInOrder old new (drafts_of outputs)
 
 -- Outputs can be written of all parts: no block was placed, and what stands around the Clusters of the first can be written.
 pub record CanWriteAll {S : Type 0} (r : Ghosts S) (f : writing.Ghosts S) (files : S) (o : OutputSpec) (b : PlacedBlocks) : Type 0 where

@@ -3,7 +3,7 @@ use Rattle.std.specs.Prelude.{◌≡◌, ◌<◌, ◌≤◌, ℕ, ◌+◌, ◌*�
 use Rattle.std.specs.List.{All, slice_get}
 use Rattle.std.specs.Option.{option_map, option_map_or}
 use Rattle.mkv_io.specs.LiveFiles.{LiveFiles}
-use Rattle.output_model.specs.declared.TheConstants.{MOST_LANES}
+use Rattle.output_model.specs.declared.TheConstants.{MAX_LANES}
 use Rattle.output_model.specs.OutputBlock.{IsLent, OutputBlock, lent_block}
 use Rattle.merge_model.specs.Merged.{in_lane}
 use Rattle.lanes.specs.Lane.{LaneSeen, lent}
@@ -18,7 +18,7 @@ use Rattle.splitter.specs.Steps.{CutsSeen, counted, is_kept, place_at, start_of}
 use Rattle.cluster_writer.specs.Lengths.{octets_taken}
 use Rattle.remuxer.specs.declared.placed.Ahead.{Ahead}
 use Rattle.remux_plan.specs.Parts.{drives_by}
-use Rattle.remux_plan.specs.declared.TheConstants.{MOST_SCALE}
+use Rattle.remux_plan.specs.declared.TheConstants.{MAX_SCALE}
 use Rattle.remuxer.specs.declared.placed.PlacedBlocks.{PlacedBlocks}
 
 -- where the first of blocks stands
@@ -135,10 +135,10 @@ pub record IsLimit (spec : SplitSpec) (limit : ℕ) : Type 0 where
 -- a load.
 pub record CanGive (f : LiveFiles) (b : PlacedBlocks) : Type 0 where
   pub ready : IsReady f b.merge
-  pub few : length b.merge.queues ≤ MOST_LANES
+  pub few : length b.merge.queues ≤ MAX_LANES
   pub drives : length b.drives ≡ length b.merge.queues
   pub scales : All (λ (q : Queue). q.lane.scale ≡ b.cuts.scale) b.merge.queues
-  pub scale : b.cuts.scale ≤ MOST_SCALE
+  pub scale : b.cuts.scale ≤ MAX_SCALE
   pub early : start_of b.cuts * b.cuts.scale < 2 ^ 64
   pub empty : is_none b.cuts.start ≡ true → b.cuts.load ≡ 0
   pub limit : IfSome b.cuts.size (IsLimit b.cuts.spec)

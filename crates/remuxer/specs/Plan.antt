@@ -6,13 +6,13 @@ use Rattle.mkv_io.specs.declared.reads.Reads.{Ghosts}
 use Rattle.mkv_io.specs.declared.files.Files as writing
 use Rattle.mkv_io.specs.declared.remux_end.RemuxEnd.{RemuxEnd}
 use Rattle.output_model.specs.declared.attachment.Attachment.{Attachment}
-use Rattle.output_model.specs.declared.TheConstants.{MOST_LANES}
-use Rattle.merge_model.specs.declared.limits.TheConstants.{MOST_LINKS}
+use Rattle.output_model.specs.declared.TheConstants.{MAX_LANES}
+use Rattle.merge_model.specs.declared.limits.TheConstants.{MAX_LINKS}
 use Rattle.merge_model.specs.FileLinks.{IsOpenLink, IsSmallLink, IsToldLink}
 use Rattle.lanes.specs.Walks.{files_length}
 use Rattle.remux_plan.specs.Parts.{is_split, name_of, outputs_in}
 use Rattle.remux_plan.specs.Summary.{IsSummary}
-use Rattle.remux_plan.specs.declared.TheConstants.{MOST_INPUTS, MOST_SCALE}
+use Rattle.remux_plan.specs.declared.TheConstants.{MAX_INPUTS, MAX_SCALE}
 use Rattle.remux_plan.specs.declared.plan.MergePlan.{MergePlan}
 use Rattle.remux_plan.specs.declared.plan.PlannedLane.{PlannedLane}
 use Rattle.remux_plan.specs.declared.summary.Summary.{Summary}
@@ -24,19 +24,19 @@ use Rattle.remuxer.specs.Places.{IsLimit}
 -- A lane has at most 64 links, which keep the limits of what a lane lends, and of each the number of its input. Their
 -- files are live, and none of them was opened under a name that may be written.
 pub record IsPlannedLane {S : Type 0} (r : Ghosts S) (f : writing.Ghosts S) (files : S) (split : Bool) (output : List ℕ) (l : PlannedLane) : Type 0 where
-  pub few : length l.spec.links ≤ MOST_LINKS
+  pub few : length l.spec.links ≤ MAX_LINKS
   pub small : All IsSmallLink l.spec.links
   pub live : All (IsOpenLink (live_files r files)) l.spec.links
   pub apart : All (IsUnwrittenLink (f.holder files) split output) l.spec.links
   pub numbered : length l.inputs ≡ length l.spec.links
-  pub inputs : All (λ input. input < MOST_INPUTS) l.inputs
+  pub inputs : All (λ input. input < MAX_INPUTS) l.inputs
 
 -- A tick has nanoseconds, but not too many; there are at most 64 lanes; what stands around the Clusters can be written; and parts end at times
 -- or at a load.
 pub record IsPlan {S : Type 0} (r : Ghosts S) (f : writing.Ghosts S) (files : S) (p : MergePlan) : Type 0 where
   pub scale : 1 ≤ p.limits.scale
-  pub scale_most : p.limits.scale ≤ MOST_SCALE
-  pub few : length p.lanes ≤ MOST_LANES
+  pub scale_most : p.limits.scale ≤ MAX_SCALE
+  pub few : length p.lanes ≤ MAX_LANES
   pub lanes : All (IsPlannedLane r f files (is_split p) p.output) p.lanes
   pub records : HasRecords r f files (name_of (is_split p) p.output 1) p.front p.chapters p.tags
   pub limit : IfSome p.size (IsLimit p.split)

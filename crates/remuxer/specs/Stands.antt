@@ -13,7 +13,7 @@ use Rattle.cluster_writer.specs.Gathered.{Gathered, Holds, has_place}
 use Rattle.cues_seekhead.specs.OpenOutput.{OpenOutput, StandsOpen}
 use Rattle.cues_seekhead.specs.Draft.{StandsDrafted, draft_of}
 use Rattle.output_model.specs.Cued.{is_cue}
-use Rattle.output_model.specs.declared.TheConstants.{MOST_CUES}
+use Rattle.output_model.specs.declared.TheConstants.{MAX_CUES}
 use Rattle.output_model.specs.declared.rule.CueRule.{CueRule}
 use Rattle.remuxer.specs.declared.counts.Counts.{Counts}
 
@@ -30,7 +30,7 @@ clusters_held (Some c) = c ∷ []
 
 -- with a cue point more, as far as an output may have one
 abbrev pub with_point : ℕ → ℕ
-with_point n = if nat_le MOST_CUES n then n else n + 1
+with_point n = if nat_le MAX_CUES n then n else n + 1
 
 -- with a block, which begins a Cluster or doesn't, and gets a cue point or doesn't
 abbrev pub counted_with : Bool → Bool → Counts → Counts

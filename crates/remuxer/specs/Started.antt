@@ -2,7 +2,7 @@
 use Rattle.std.specs.Prelude.{◌≡◌, ◌≤◌, ℕ, List, [], ◌∷◌, ◌++◌, All, length, map}
 use Rattle.std.specs.List.{AllZip}
 use Rattle.mkv_io.specs.LiveFiles.{LiveFiles}
-use Rattle.merge_model.specs.declared.limits.TheConstants.{MOST_LINKS}
+use Rattle.merge_model.specs.declared.limits.TheConstants.{MAX_LINKS}
 use Rattle.merge_model.specs.FileLinks.{IsSmallLink}
 use Rattle.lanes.specs.Lane.{Begins, LaneSeen, Starts}
 use Rattle.remux_plan.specs.Parts.{drivers_of}
@@ -12,7 +12,7 @@ use Rattle.remuxer.specs.declared.planned.StartedLanes.{StartedLanes}
 
 -- A lane can be started: it has at most 64 links, which keep the limits of what a lane lends.
 pub record CanStart (p : PlannedLane) : Type 0 where
-  pub few : length p.spec.links ≤ MOST_LINKS
+  pub few : length p.spec.links ≤ MAX_LINKS
   pub small : All IsSmallLink p.spec.links
 
 -- It was started over its links, and has given nothing.

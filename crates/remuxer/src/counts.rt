@@ -3,7 +3,7 @@
 ghost use Rattle.std.specs.Prelude.{◌≡◌};
 ghost use Rattle.remuxer.specs.Stands.{counted_with};
 
-use output_model::MOST_CUES;
+use output_model::MAX_CUES;
 
 /// How many Clusters an output has, the one that is held among them, and how many cue points.
 #[derive(Clone, Copy, Debug, PartialEq, Eq)]
@@ -21,7 +21,7 @@ impl Counts {
         if begins {
             self.clusters = self.clusters.saturating_add(1);
         }
-        if cued && self.cues < MOST_CUES as u64 {
+        if cued && self.cues < MAX_CUES as u64 {
             self.cues += 1;
         }
     }

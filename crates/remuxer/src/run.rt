@@ -9,7 +9,7 @@ ghost use Rattle.cluster_writer.specs.Lent.{CanBePut, block_of};
 ghost use Rattle.cues_seekhead.specs.OpenOutput.{IsOpen};
 ghost use Rattle.remuxer.specs.Stands.{Adds, Ends, JoinsHeld, MakesRoom};
 
-use cluster_writer::{ClusterBuf, LentBlock};
+use cluster_writer::{BlockRef, ClusterBuf};
 use cues_seekhead::OutFile;
 use mkv_io::{Files, Reads, RemuxEnd as OutEnd};
 
@@ -19,7 +19,7 @@ fn make_room<F: Files>(
     files: &mut F,
     out: &mut OutFile,
     buffer: &mut ClusterBuf,
-    block: &LentBlock<'_>,
+    block: &BlockRef<'_>,
     len: u64,
 ) -> Result<(), OutEnd>
     requires open { IsOpen F.Reads files.old out.old }
@@ -45,7 +45,7 @@ pub fn add_block<F: Files>(
     files: &mut F,
     out: &mut OutFile,
     buffer: &mut ClusterBuf,
-    block: &LentBlock<'_>,
+    block: &BlockRef<'_>,
     cued: bool,
 ) -> Result<bool, OutEnd>
     requires block { CanBePut block.now }

@@ -3,14 +3,14 @@
 ghost use Rattle.std.specs.Prelude.{◌≡◌, length, IfOk, OnOk};
 ghost use Rattle.std.specs.List.{range_with_len};
 ghost use Rattle.std.specs.Option.{option_copied};
-ghost use Rattle.remux_plan.specs.declared.TheConstants.{MOST_INPUTS as INPUTS};
+ghost use Rattle.remux_plan.specs.declared.TheConstants.{MAX_INPUTS as INPUTS};
 ghost use Rattle.remuxer.specs.Taking.{told_by};
 ghost use Rattle.remuxer.specs.Told.{AddsDamages, HasDamages, told_at, told_of};
 
 use cluster_reader::Damages;
 use lanes::Lane;
 use mkv_io::List;
-use remux_plan::{InputDamage, MOST_INPUTS, MoreDamage, Summary, Written};
+use remux_plan::{InputDamage, MAX_INPUTS, MoreDamage, Summary, Written};
 use std::alloc::{AllocError, Global};
 use time_merge::Merge;
 
@@ -70,7 +70,7 @@ pub(crate) fn summary_of(
         damages: List::new(alloc),
         more: List::new(alloc),
     };
-    for input in 0..MOST_INPUTS {
+    for input in 0..MAX_INPUTS {
         if let Some(told) = told_of(inputs, merge, input) {
             add_damages(&mut summary, input, told)?;
         }

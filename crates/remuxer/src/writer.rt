@@ -4,7 +4,7 @@ ghost use Rattle.std.specs.Prelude.{◌≡◌, ◌+◌, ◌<◌, OnOk};
 ghost use Rattle.std.specs.List.{slice_get};
 ghost use Rattle.std.specs.Option.{unwrap_or};
 ghost use Rattle.mkv_io.specs.Ends.{HasRemuxCause};
-ghost use Rattle.output_model.specs.declared.TheConstants.{MOST_LANES};
+ghost use Rattle.output_model.specs.declared.TheConstants.{MAX_LANES};
 ghost use Rattle.output_model.specs.OutputBlock.{IsLent, lent_block};
 ghost use Rattle.merge_model.specs.Merged.{in_lane};
 ghost use Rattle.lanes.specs.Lane.{lent};
@@ -16,7 +16,7 @@ ghost use Rattle.output_model.specs.declared.rule.CueRule.TheVariants as cue_rul
 use crate::counts::Counts;
 use crate::placed::PlacedBlocks;
 use crate::run::add_block;
-use cluster_writer::{ClusterBuf, LentBlock};
+use cluster_writer::{BlockRef, ClusterBuf};
 use cues_seekhead::OutFile;
 use lanes::Lane;
 use mkv_io::{Files, Reads, RemuxEnd as OutEnd};
@@ -33,14 +33,14 @@ fn is_cued(rules: &[CueRule], k: usize, key: bool) -> bool
 }
 
 // The block that the k-th lane lends, from 0, in a part that starts at this tick. In the output lanes count from 1.
-fn lent_by(lane: &Lane, k: usize, start: u64) -> LentBlock<'_>
+fn lent_by(lane: &Lane, k: usize, start: u64) -> BlockRef<'_>
     requires lent { IsLent (lent lane.now) }
-    requires number { k < MOST_LANES }
+    requires number { k < MAX_LANES }
     ensures block { block_of result ≡ in_part start (in_lane (k + 1) (lent_block (lent lane.now))) }
     ensures can { CanBePut result }
 {
     let block = lane.lent();
-    LentBlock {
+    BlockRef {
         lane: k as u8 + 1,
         tick: block.head.tick.saturating_sub(start),
         head: block.head,
@@ -77,7 +77,7 @@ impl BlockWriter {
         start: u64,
     ) -> Result<(), OutEnd>
         requires lent { IsLent (lent lane.now) }
-        requires number { k < MOST_LANES }
+        requires number { k < MAX_LANES }
         requires open { IsOpen F.Reads files.old self.old.out }
         ensures takes { TakesLent F.Reads F.Files.own rules.now start k lane.now files.old files.new self.old self.new result }
         ensures count { TakesMore 1 self.old self.new result }

@@ -3,7 +3,7 @@ use Rattle.std.proofs.Common.{◌≡◌, ◌⊎◌, inl, inr, ℕ, zero, suc, �
 use Rattle.std.proofs.lemmas.Bool.{le-leb, le-ltb, lt-ltb, leb-true, ltb-false, eqb-true, and_from, and_parts, and_left, and_right, or_left, or_right, or_from, ltb-true, not_from_true, cond-true, cond-false, cases_lt, true≢false, false≢true}
 use Rattle.std.proofs.lemmas.List.{get_or-take}
 use Rattle.sidecar_edit.specs.declared.place.Place.{Place}
-use Rattle.sidecar_edit.specs.declared.place.TheConstants.{HEAD, HEAD_1, KEPT, MOST_OCTETS}
+use Rattle.sidecar_edit.specs.declared.place.TheConstants.{HEAD, HEAD_1, KEPT, MAX_OCTETS}
 use Rattle.sidecar_edit.specs.declared.held.Gate.{Gate}
 use Rattle.sidecar_edit.specs.declared.held.Gate.TheVariants.{Live, Quiet, Bad}
 use Rattle.sidecar_edit.specs.declared.outcome.Recovered.TheVariants.{Applied}
@@ -170,7 +170,7 @@ if_none_passes test at (suc n) fails =
 pub room-of_live : (s : List ℕ) → IsLive (head_of s) (length s) → sum_of (used_in (head_of s)) ≤ length (drop (head_len (version_in (head_of s))) s)
 room-of_live s live =
     let h = head_of s in
-    let two = and_parts (nat_le (sum_of (used_in h)) MOST_OCTETS) (total_in h == head_len (version_in h) + sum_of (used_in h)) live.total in
+    let two = and_parts (nat_le (sum_of (used_in h)) MAX_OCTETS) (total_in h == head_len (version_in h) + sum_of (used_in h)) live.total in
     let total = eqb-true (total_in h) (head_len (version_in h) + sum_of (used_in h)) two.1 in
     let whole = live.whole in
     let left = length-drop (head_len (version_in h)) s in
@@ -186,7 +186,7 @@ second-is s live is =
     let h = head_of s in
     let second : (version_in h == 2) ≡ true = second_true (version_in h == 1) (version_in h == 2) is live.version in
     let len : head_len (version_in h) ≡ HEAD = cond-false (version_in h == 1) HEAD_1 HEAD is in
-    let two = and_parts (nat_le (sum_of (used_in h)) MOST_OCTETS) (total_in h == head_len (version_in h) + sum_of (used_in h)) live.total in
+    let two = and_parts (nat_le (sum_of (used_in h)) MAX_OCTETS) (total_in h == head_len (version_in h) + sum_of (used_in h)) live.total in
     let total = eqb-true (total_in h) (head_len (version_in h) + sum_of (used_in h)) two.1 in
     let whole = live.whole in
     let size = length-take HEAD s in

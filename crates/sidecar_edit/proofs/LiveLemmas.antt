@@ -4,7 +4,7 @@ use Rattle.std.proofs.lemmas.Bool.{and_parts, cond-false, cond-true, and_from, e
 use Rattle.std.proofs.lemmas.List.{get_or-drop}
 use Rattle.byteorder.specs.Numbers.{big_from-lt}
 use Rattle.sidecar_edit.specs.declared.place.Place.{Place}
-use Rattle.sidecar_edit.specs.declared.place.TheConstants.{HEAD, HEAD_1, MOST_OCTETS}
+use Rattle.sidecar_edit.specs.declared.place.TheConstants.{HEAD, HEAD_1, MAX_OCTETS}
 use Rattle.sidecar_edit.specs.declared.held.Gate.TheVariants.{Live}
 use Rattle.sidecar_edit.specs.Fields.{count_in, head_len, last_end, new_len_in, no_place, number_at, old_len_in, place_in, places_in, sum_of, total_in, used_in, version_in}
 use Rattle.sidecar_edit.specs.Gate.{IsLiveHead, gate_of, is_joined, is_new_len, old_len_of, place_rules}
@@ -39,8 +39,8 @@ module _ (h : List ℕ) (n : ℕ) (octets : (k : ℕ) → slice_index h k < 256)
   few : count_in h ≤ 8
   few = leb-true (count_in h) 8 (and_parts (nat_le 1 (count_in h)) (nat_le (count_in h) 8) live.count).1
 
-  sums : (nat_le (sum_of (used_in h)) MOST_OCTETS ≡ true) × ((total_in h == head_len (version_in h) + sum_of (used_in h)) ≡ true)
-  sums = and_parts (nat_le (sum_of (used_in h)) MOST_OCTETS) (total_in h == head_len (version_in h) + sum_of (used_in h)) live.total
+  sums : (nat_le (sum_of (used_in h)) MAX_OCTETS ≡ true) × ((total_in h == head_len (version_in h) + sum_of (used_in h)) ≡ true)
+  sums = and_parts (nat_le (sum_of (used_in h)) MAX_OCTETS) (total_in h == head_len (version_in h) + sum_of (used_in h)) live.total
 
   room : head_len (version_in h) + sum_of (used_in h) ≤ n
   room = let total = eqb-true (total_in h) (head_len (version_in h) + sum_of (used_in h)) sums.1 in let whole = live.whole in omega arith
@@ -81,7 +81,7 @@ module _ (h : List ℕ) (n : ℕ) (octets : (k : ℕ) → slice_index h k < 256)
     long = let long = live.long in omega arith;
     whole = λ isnt. whole (ne_eqb (version_in h) 1 isnt);
     few = few;
-    small = leb-true (sum_of (used_in h)) MOST_OCTETS sums.0;
+    small = leb-true (sum_of (used_in h)) MAX_OCTETS sums.0;
     room = room;
     ends = ends;
   }

@@ -1,7 +1,7 @@
 -- Files that are only looked into.
 use Rattle.std.proofs.Common.{◌≡◌, ◌≢◌, ◌⊎◌, inl, inr, ◌<◌, ◌≤◌, ℕ, Bool, true, false, List, [], Option, Some, None, refl, sym, ◌∙◌, ap, arith}
 use Rattle.std.proofs.lemmas.Bool.{cases_eq}
-use Rattle.mkv_io.specs.Asked.{AsksOnly, IsBesides}
+use Rattle.mkv_io.specs.Asked.{AsksOnly, IsNotAmong}
 use Rattle.mkv_io.specs.LiveFiles.{IsSameFile, KeepsFiles, KeepsHolders}
 use Rattle.mkv_io.specs.Names.{AreOthers}
 use Rattle.mkv_io.specs.Sources.{live_files}
@@ -84,7 +84,7 @@ UsesOnly-looked r f opens old opened read closed file numbered looked = record {
     size = λ live. (same other live).size live;
     content = λ live. (same other live).content live;
   };
-  asks = asks-both (IsBesides opens []) (f.asked old) (f.asked opened) (f.asked closed) looked.asks (asks-none (IsBesides opens []) (f.asked opened) (f.asked closed) looked.asked);
+  asks = asks-both (IsNotAmong opens []) (f.asked old) (f.asked opened) (f.asked closed) looked.asks (asks-none (IsNotAmong opens []) (f.asked opened) (f.asked closed) looked.asked);
 }
   where
     -- a file that was live before has another number

@@ -6,7 +6,7 @@ use Rattle.byteorder.specs.Endian.{big_bytes}
 use Rattle.byteorder.specs.Numbers.{big_number-reads_back}
 use Rattle.mkv_io.specs.Contents.{octets_from}
 use Rattle.sidecar_edit.specs.declared.place.Place.{Place}
-use Rattle.sidecar_edit.specs.declared.place.TheConstants.{HEAD, HEAD_1, KEPT, MOST_OCTETS, OPEN}
+use Rattle.sidecar_edit.specs.declared.place.TheConstants.{HEAD, HEAD_1, KEPT, MAX_OCTETS, OPEN}
 use Rattle.sidecar_edit.specs.declared.held.Gate.TheVariants.{Live}
 use Rattle.sidecar_edit.specs.Fields.{Head, AreInOrder, IsSound, head_octets, head_of, last_end, magic, number_at, total_in, new_len_in, version_in, count_in, places_in, used_in, old_len_in, first_in, no_place, slot, sum_of, cut_up, writes_in, zeros}
 use Rattle.sidecar_edit.specs.Gate.{Rule, first_breach, are_zeros, gate_of, is_count, is_new_len, is_padded, is_quiet, is_total, is_version, old_len_of, place_rules, rules_of, state, unless_broken}
@@ -209,7 +209,7 @@ module _ (h : Head) (sound : IsSound h) where
       let sum : sum_of (used_in f) ≡ sum_of h.places = ap sum_of read_used in
       let total = read-total OPEN h (padded h) (short-of_sound h sound) in
       let small = sound.small in
-      and_from (nat_le (sum_of (used_in f)) MOST_OCTETS) (total_in f == HEAD + sum_of (used_in f)) (le-leb (sum_of (used_in f)) MOST_OCTETS (omega arith)) (eq-eqb (total_in f) (HEAD + sum_of (used_in f)) (omega arith))
+      and_from (nat_le (sum_of (used_in f)) MAX_OCTETS) (total_in f == HEAD + sum_of (used_in f)) (le-leb (sum_of (used_in f)) MAX_OCTETS (omega arith)) (eq-eqb (total_in f) (HEAD + sum_of (used_in f)) (omega arith))
 
   kept-new_len : is_new_len (version_in f) (old_len_of f) (new_len_in f) (last_end 0 (used_in f)) ≡ true
   kept-new_len =

@@ -17,7 +17,7 @@ use Rattle.byteorder.specs.Endian.{big_number, big_bytes}
 use Rattle.mkv_io.specs.Contents.{octets_from}
 use Rattle.sidecar_edit.specs.declared.place.Place.{Place}
 use Rattle.sidecar_edit.specs.Writes.{Write}
-use Rattle.sidecar_edit.specs.declared.place.TheConstants.{HEAD, HEAD_1, KEPT, MOST_OCTETS, MOST_WRITES}
+use Rattle.sidecar_edit.specs.declared.place.TheConstants.{HEAD, HEAD_1, KEPT, MAX_OCTETS, MAX_WRITES}
 use Rattle.mkv_io.specs.declared.outside.TheConstants.{LONGEST_FILE}
 
 -- MKVEDIT
@@ -120,9 +120,9 @@ last_end from (p ∷ ps) = last_end (p.at + p.len) ps
 
 -- These may be the places of an edit, and this the file before and after it.
 pub record IsSound (h : Head) : Type 0 where
-  pub few : length h.places ≤ MOST_WRITES
+  pub few : length h.places ≤ MAX_WRITES
   pub order : AreInOrder h.old_len 0 h.places
-  pub small : sum_of h.places ≤ MOST_OCTETS
+  pub small : sum_of h.places ≤ MAX_OCTETS
   pub short : h.old_len ≤ LONGEST_FILE
   pub new_len : h.new_len ≡ max h.old_len (last_end 0 h.places)
   pub first : length h.first ≡ min KEPT h.old_len
@@ -153,7 +153,7 @@ mark_octets old_len first = big_bytes 8 old_len ++ (first ++ zeros (KEPT - lengt
 abbrev pub head_octets : Head → List ℕ
 head_octets h =
     front_octets (HEAD + sum_of h.places) h.new_len (length h.places)
-    ++ (slots MOST_WRITES h.places ++ mark_octets h.old_len h.first)
+    ++ (slots MAX_WRITES h.places ++ mark_octets h.old_len h.first)
 
 -- A plan of an edit: what stands before the octets of its writes, and these octets, one write's behind the other's.
 pub record Planned : Type 0 where

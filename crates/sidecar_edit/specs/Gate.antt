@@ -4,7 +4,7 @@ use Rattle.std.specs.List.{list_all}
 use Rattle.std.specs.Str.{bytes_eq}
 use Rattle.mkv_io.specs.Contents.{octets_from}
 use Rattle.sidecar_edit.specs.declared.place.Place.{Place}
-use Rattle.sidecar_edit.specs.declared.place.TheConstants.{HEAD, HEAD_1, MOST_OCTETS, MOST_WRITES, OPEN}
+use Rattle.sidecar_edit.specs.declared.place.TheConstants.{HEAD, HEAD_1, MAX_OCTETS, MAX_WRITES, OPEN}
 use Rattle.sidecar_edit.specs.declared.held.Gate.{Gate}
 use Rattle.sidecar_edit.specs.declared.held.Gate.TheVariants.{Live, Quiet, Bad}
 use Rattle.sidecar_edit.specs.Fields.{magic, total_in, new_len_in, version_in, count_in, place_in, places_in, used_in, old_len_in, first_in, head_len, head_of, last_end, sum_of}
@@ -67,7 +67,7 @@ is_count count = nat_le 1 count && nat_le count 8
 
 -- the length of the record is that of what stands in it, and at most 16 MiB are written
 abbrev pub is_total : List ℕ → Bool
-is_total s = nat_le (sum_of (used_in s)) MOST_OCTETS && (total_in s == head_len (version_in s) + sum_of (used_in s))
+is_total s = nat_le (sum_of (used_in s)) MAX_OCTETS && (total_in s == head_len (version_in s) + sum_of (used_in s))
 
 -- the rules that count writes, in the order of their octets
 abbrev pub counted_rules : List ℕ → List Rule
@@ -110,7 +110,7 @@ state sidecar = gate_of (head_of sidecar) (length sidecar)
 pub record IsLiveHead (head : List ℕ) (size : ℕ) : Type 0 where
   pub long : HEAD_1 ≤ length head
   pub whole : version_in head ≢ 1 → length head ≡ HEAD
-  pub few : count_in head ≤ MOST_WRITES
-  pub small : sum_of (used_in head) ≤ MOST_OCTETS
+  pub few : count_in head ≤ MAX_WRITES
+  pub small : sum_of (used_in head) ≤ MAX_OCTETS
   pub room : head_len (version_in head) + sum_of (used_in head) ≤ size
   pub ends : (k : ℕ) → k < count_in head → (place_in head k).at + (place_in head k).len < 2 ^ 64

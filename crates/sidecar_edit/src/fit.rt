@@ -6,7 +6,7 @@ ghost use Rattle.sidecar_edit.specs.Recovery.{differs, first_place, foreign_of, 
 
 use crate::head::{number_at, place_in};
 use crate::outcome::{Mark, RecoverEnd};
-use crate::place::{HEAD, HEAD_1, KEPT, MOST_WRITES, Place};
+use crate::place::{HEAD, HEAD_1, KEPT, MAX_WRITES, Place};
 
 /// Whether a write writes an octet.
 fn touches(place: Place, k: u64) -> bool
@@ -18,7 +18,7 @@ fn touches(place: Place, k: u64) -> bool
 /// Whether a write of a record writes an octet.
 fn is_touched(head: &[u8], k: u64) -> bool
     requires long { HEAD_1 ≤ length head.now }
-    requires few { count_in head.now ≤ MOST_WRITES }
+    requires few { count_in head.now ≤ MAX_WRITES }
     ensures { result ≡ is_touched (used_in head.now) k }
 {
     for i in 0..usize::from(head[25]) {
@@ -40,7 +40,7 @@ fn octet_at(media: &[u8], k: usize) -> u8
 /// Whether an octet that the edit doesn't change isn't the one that is kept.
 fn differs(head: &[u8], media: &[u8], k: usize) -> bool
     requires head { length head.now ≡ HEAD }
-    requires few { count_in head.now ≤ MOST_WRITES }
+    requires few { count_in head.now ≤ MAX_WRITES }
     requires octet { k < KEPT }
     ensures { result ≡ differs head.now media.now k }
 {
@@ -52,7 +52,7 @@ fn differs(head: &[u8], media: &[u8], k: usize) -> bool
 /// Where a file's first octets differ from what is kept of them.
 fn octet_mark(head: &[u8], media: &[u8]) -> Option<RecoverEnd>
     requires head { length head.now ≡ HEAD }
-    requires few { count_in head.now ≤ MOST_WRITES }
+    requires few { count_in head.now ≤ MAX_WRITES }
     ensures { result ≡ octet_mark head.now media.now (first_place (differs head.now media.now) 0 KEPT) }
 {
     for k in 0..KEPT as usize {
@@ -78,7 +78,7 @@ fn has_other_length(head: &[u8], size: u64) -> bool
 /// By what a file of so many octets, with these first ones, differs from that of a record of version 2.
 fn foreign_of(head: &[u8], size: u64, media: &[u8]) -> Option<RecoverEnd>
     requires head { length head.now ≡ HEAD }
-    requires few { count_in head.now ≤ MOST_WRITES }
+    requires few { count_in head.now ≤ MAX_WRITES }
     ensures { result ≡ foreign_of head.now size media.now }
 {
     if has_other_length(head, size) {
@@ -101,7 +101,7 @@ fn begins_within(place: Place, end: u128) -> bool
 /// Where a record of version 1 begins to write past the end of a file of so many octets.
 fn gap_of(head: &[u8], size: u64) -> Option<RecoverEnd>
     requires long { HEAD_1 ≤ length head.now }
-    requires few { count_in head.now ≤ MOST_WRITES }
+    requires few { count_in head.now ≤ MAX_WRITES }
     ensures { result ≡ gap_of 32 size (used_in head.now) }
 {
     let mut end = u128::from(size);
@@ -120,7 +120,7 @@ fn gap_of(head: &[u8], size: u64) -> Option<RecoverEnd>
 /// What keeps the writes of a live record from being made in a file of so many octets, with these first ones.
 pub fn unfit(head: &[u8], size: u64, media: &[u8]) -> Option<RecoverEnd>
     requires long { HEAD_1 ≤ length head.now }
-    requires few { count_in head.now ≤ MOST_WRITES }
+    requires few { count_in head.now ≤ MAX_WRITES }
     requires second { version_in head.now ≢ 1 → length head.now ≡ HEAD }
     ensures exact { result ≡ unfit head.now size media.now }
     ensures refused { IfSome result (λ end. is_disk_fault end ≡ false) }

@@ -5,7 +5,7 @@ ghost use Rattle.sidecar_edit.specs.Fields.{count_in, head_len, last_end, number
 ghost use Rattle.sidecar_edit.specs.Gate.{IsLiveHead, IsUnusedBreach, are_zeros, counted_rules, first_breach, gate_of, has_new_len, is_count, is_joined, is_padded, is_total, is_version, old_len_of, place_rules, rules_of};
 
 use crate::held::Gate;
-use crate::place::{HEAD, HEAD_1, KEPT, MOST_OCTETS, MOST_WRITES, OPEN, Place};
+use crate::place::{HEAD, HEAD_1, KEPT, MAX_OCTETS, MAX_WRITES, OPEN, Place};
 use byteorder::{BigEndian, ByteOrder};
 
 /// A number of eight octets.
@@ -48,7 +48,7 @@ pub fn head_len(head: &[u8]) -> u64
 #[tactic(auto, using(crate::proofs::ReadingLemmas::sum_next))]
 fn sum_in(head: &[u8]) -> u128
     requires long { HEAD_1 ≤ length head.now }
-    requires few { count_in head.now ≤ MOST_WRITES }
+    requires few { count_in head.now ≤ MAX_WRITES }
     ensures { result ≡ sum_of (used_in head.now) }
 {
     let mut sum = 0;
@@ -62,7 +62,7 @@ fn sum_in(head: &[u8]) -> u128
 #[tactic(auto, using(crate::proofs::ReadingLemmas::end_next))]
 fn end_in(head: &[u8]) -> u128
     requires long { HEAD_1 ≤ length head.now }
-    requires few { count_in head.now ≤ MOST_WRITES }
+    requires few { count_in head.now ≤ MAX_WRITES }
     ensures { result ≡ last_end 0 (used_in head.now) }
 {
     let mut end = 0;
@@ -94,18 +94,18 @@ fn old_len_of(head: &[u8]) -> Option<u64>
 /// Whether the record's length is that of what stands in it, and it writes at most 16 MiB.
 fn is_total(head: &[u8]) -> bool
     requires long { HEAD_1 ≤ length head.now }
-    requires few { count_in head.now ≤ MOST_WRITES }
+    requires few { count_in head.now ≤ MAX_WRITES }
     ensures { result ≡ is_total head.now }
 {
     let sum = sum_in(head);
-    sum <= u128::from(MOST_OCTETS)
+    sum <= u128::from(MAX_OCTETS)
         && u128::from(number_at(head, 8)) == u128::from(head_len(head)) + sum
 }
 
 /// Whether the length after the edit is right.
 fn is_new_len(head: &[u8]) -> bool
     requires long { HEAD_1 ≤ length head.now }
-    requires few { count_in head.now ≤ MOST_WRITES }
+    requires few { count_in head.now ≤ MAX_WRITES }
     ensures { result ≡ has_new_len head.now }
 {
     let new_len = u128::from(number_at(head, 16));
@@ -150,7 +150,7 @@ fn is_zero(place: Place) -> bool
 /// The first octet to which a breach of the rules of places is laid.
 fn place_breach(head: &[u8], old_len: Option<u64>) -> Option<u64>
     requires long { HEAD_1 ≤ length head.now }
-    requires few { count_in head.now ≤ MOST_WRITES }
+    requires few { count_in head.now ≤ MAX_WRITES }
     ensures { result ≡ first_breach (place_rules old_len 32 (count_in head.now) 0 (places_in head.now)) }
 {
     let mut from = 0;
@@ -167,10 +167,10 @@ fn place_breach(head: &[u8], old_len: Option<u64>) -> Option<u64>
 /// The same of the places that aren't used.
 fn unused_breach(head: &[u8]) -> Option<u64>
     requires long { HEAD_1 ≤ length head.now }
-    requires few { count_in head.now ≤ MOST_WRITES }
+    requires few { count_in head.now ≤ MAX_WRITES }
     ensures { IsUnusedBreach head.now result }
 {
-    for k in usize::from(head[25])..MOST_WRITES as usize {
+    for k in usize::from(head[25])..MAX_WRITES as usize {
         let place = place_in(head, k);
         if !is_zero(place) {
             return Some(32 + 16 * k as u64);
@@ -191,7 +191,7 @@ pub fn first_breach(head: &[u8]) -> Option<u64>
     if head[24] != 1 && head[24] != 2 {
         return Some(24);
     }
-    if head[25] < 1 || u64::from(head[25]) > MOST_WRITES {
+    if head[25] < 1 || u64::from(head[25]) > MAX_WRITES {
         return Some(25);
     }
     counted_breach(head)
@@ -200,7 +200,7 @@ pub fn first_breach(head: &[u8]) -> Option<u64>
 /// The same of the rules that count writes.
 fn counted_breach(head: &[u8]) -> Option<u64>
     requires long { HEAD_1 ≤ length head.now }
-    requires few { count_in head.now ≤ MOST_WRITES }
+    requires few { count_in head.now ≤ MAX_WRITES }
     ensures { result ≡ first_breach (counted_rules head.now) }
 {
     if !is_total(head) {

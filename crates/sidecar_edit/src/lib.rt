@@ -23,7 +23,7 @@ pub use held::Gate;
 pub use name::{SUFFIX, sidecar_name};
 pub use outcome::{Mark, RecoverEnd, Recovered};
 pub use pending::is_pending;
-pub use place::{HEAD_1, KEPT, MOST_OCTETS, MOST_WRITES, Place};
+pub use place::{HEAD_1, KEPT, MAX_OCTETS, MAX_WRITES, Place};
 pub use plan::Plan;
 pub use reading::{read_first, state};
 pub use recovery::recover;

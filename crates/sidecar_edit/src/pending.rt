@@ -3,7 +3,7 @@
 ghost use Rattle.std.specs.Prelude.{◌≡◌, [], ◌∷◌, IfOk};
 ghost use Rattle.mkv_io.specs.Bounds.{ReadsUpTo};
 ghost use Rattle.mkv_io.specs.Faults.{HasCause, is_read_fault};
-ghost use Rattle.mkv_io.specs.Told.{Told};
+ghost use Rattle.mkv_io.specs.Told.{IfVisible};
 ghost use Rattle.sidecar_edit.specs.declared.place.TheConstants.{HEAD};
 ghost use Rattle.sidecar_edit.specs.Name.{sidecar_of};
 ghost use Rattle.sidecar_edit.specs.Pending.{LooksOnly, is_begun, is_pending};
@@ -17,7 +17,7 @@ use std::alloc::Global;
 /// Whether an edit of the file of a name is pending. A sidecar that isn't there has none; one that can't be opened or
 /// read is a `ReadFault`.
 pub fn is_pending<F: Files>(alloc: Global, name: &str, files: &mut F) -> Result<bool, ReadEnd>
-    ensures exact { Told (F.names files.old) (λ world. IfOk result (λ pending. pending ≡ is_pending world name.now)) }
+    ensures exact { IfVisible (F.names files.old) (λ world. IfOk result (λ pending. pending ≡ is_pending world name.now)) }
     ensures looks { LooksOnly F.Reads F.Files.own (sidecar_of name.now ∷ []) files.old files.new }
     ensures cause { HasCause is_read_fault (F.reading_faults files.old) (F.reading_faults files.new) result }
     ensures octets { ReadsUpTo F.Reads files.old files.new HEAD }

@@ -13,10 +13,10 @@ pub const HEAD: u64 = 232;
 pub const KEPT: u64 = 64;
 
 /// A record has at most so many writes.
-pub const MOST_WRITES: u64 = 8;
+pub const MAX_WRITES: u64 = 8;
 
 /// The writes of a record write at most so many octets: 16 MiB.
-pub const MOST_OCTETS: u64 = 1 << 24;
+pub const MAX_OCTETS: u64 = 1 << 24;
 
 /// Where octets are written.
 #[derive(Clone, Copy, Debug, PartialEq, Eq)]

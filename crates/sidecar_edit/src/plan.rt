@@ -4,7 +4,7 @@ ghost use Rattle.std.specs.Prelude.{◌≡◌, ◌≤◌, ◌<◌, ℕ, ◌+◌,
 ghost use Rattle.sidecar_edit.specs.Fields.{IsPlan, body_of, front_octets, mark_octets, slot, slots, sum_of, zeros};
 ghost use Rattle.sidecar_edit.specs.Plan.{planned};
 
-use crate::place::{HEAD, KEPT, MOST_WRITES, Place};
+use crate::place::{HEAD, KEPT, MAX_WRITES, Place};
 use mkv_io::Bytes;
 use std::alloc::{AllocError, Global};
 use std::marker::Model;
@@ -132,9 +132,9 @@ fn append_front(octets: &mut Bytes, total: u64, new_len: u64, count: u8) -> Resu
 
 /// Adds the eight places, of which those that aren't used are zero.
 fn append_places(octets: &mut Bytes, places: &[Place]) -> Result<(), AllocError>
-    ensures { OnOk result (octets.new ≡ octets.old ++ slots MOST_WRITES places.now) }
+    ensures { OnOk result (octets.new ≡ octets.old ++ slots MAX_WRITES places.now) }
 {
-    for k in 0..MOST_WRITES as usize {
+    for k in 0..MAX_WRITES as usize {
         append_place(octets, places, k)?;
     }
     Ok(())

@@ -8,7 +8,7 @@ ghost use Rattle.mkv_disk.specs.Writing.{HasDiskCause, KeepsOpen};
 ghost use Rattle.sidecar_edit.specs.Fields.{writes_in};
 ghost use Rattle.sidecar_edit.specs.Recovery.{is_disk_fault, recovered, recovery};
 ghost use Rattle.sidecar_edit.specs.Writes.{Fits, Torn, applied};
-ghost use Rattle.sidecar_edit.specs.declared.place.TheConstants.{HEAD, KEPT, MOST_OCTETS};
+ghost use Rattle.sidecar_edit.specs.declared.place.TheConstants.{HEAD, KEPT, MAX_OCTETS};
 ghost use Rattle.sidecar_edit.specs.Leaves.{IsRedoing};
 ghost use Rattle.sidecar_edit.specs.Recovering.{IsHeadOf, IsRecovered, IsRecovering, KeepsUnlessApplied};
 
@@ -29,7 +29,7 @@ fn redo_writes<D: Disk>(head: &[u8], disk: &mut D) -> Result<(), Failed>
     requires fits { OfReads D.Disk.own disk.old (λ M S. Fits (length M) (writes_in S)) }
     ensures ok { MakesPair D.Disk.own disk.old disk.new result (λ M S. both (applied M (writes_in S)) S) }
     ensures any_moment { AnyMoment D.Disk.own disk.old disk.new (λ M S m s. Torn (writes_in S) M m × (s ≡ S)) }
-    ensures only { KeepsOpen D.Reads D.Disk.own disk.old disk.new MOST_OCTETS }
+    ensures only { KeepsOpen D.Reads D.Disk.own disk.old disk.new MAX_OCTETS }
     ensures cause { HasDiskCause D.Reads D.Disk.own is_failure disk.old disk.new result }
 {
     let mut from = head_len(head);
@@ -48,7 +48,7 @@ fn redo<D: Disk>(head: &[u8], disk: &mut D) -> Result<(), Failed>
     requires own { OfReads D.Disk.own disk.old (λ M S. recovery M S ≡ Ok Recovered.Applied) }
     ensures ok { MakesPair D.Disk.own disk.old disk.new result (λ M S. both (recovered M S) (0 ∷ [])) }
     ensures any_moment { AnyMoment D.Disk.own disk.old disk.new IsRedoing }
-    ensures only { KeepsOpen D.Reads D.Disk.own disk.old disk.new MOST_OCTETS }
+    ensures only { KeepsOpen D.Reads D.Disk.own disk.old disk.new MAX_OCTETS }
     ensures cause { HasDiskCause D.Reads D.Disk.own is_failure disk.old disk.new result }
 {
     redo_writes(head, disk)?;
@@ -62,7 +62,7 @@ fn redo_own<D: Disk>(head: &[u8], disk: &mut D) -> Result<Recovered, RecoverEnd>
     ensures ok { OfReads D.Disk.own disk.old (λ M S. IsRecovered M S result (D.pair disk.new)) }
     ensures same { KeepsUnlessApplied result (D.standing disk.old) (D.standing disk.new) }
     ensures any_moment { AnyMoment D.Disk.own disk.old disk.new IsRecovering }
-    ensures only { KeepsOpen D.Reads D.Disk.own disk.old disk.new (KEPT + MOST_OCTETS) }
+    ensures only { KeepsOpen D.Reads D.Disk.own disk.old disk.new (KEPT + MAX_OCTETS) }
     ensures cause { HasDiskCause D.Reads D.Disk.own is_disk_fault disk.old disk.new result }
 {
     if let Some(end) = unfit_medium(head, disk)? {
@@ -79,7 +79,7 @@ pub fn recover<D: Disk>(disk: &mut D) -> Result<Recovered, RecoverEnd>
     ensures ok { OfReads D.Disk.own disk.old (λ M S. IsRecovered M S result (D.pair disk.new)) }
     ensures same { KeepsUnlessApplied result (D.standing disk.old) (D.standing disk.new) }
     ensures any_moment { AnyMoment D.Disk.own disk.old disk.new IsRecovering }
-    ensures only { KeepsOpen D.Reads D.Disk.own disk.old disk.new (HEAD + KEPT + MOST_OCTETS) }
+    ensures only { KeepsOpen D.Reads D.Disk.own disk.old disk.new (HEAD + KEPT + MAX_OCTETS) }
     ensures cause { HasDiskCause D.Reads D.Disk.own is_disk_fault disk.old disk.new result }
 {
     let mut head = [0; HEAD as usize];

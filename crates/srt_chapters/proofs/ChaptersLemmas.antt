@@ -8,7 +8,7 @@ use Rattle.mkv_schema.specs.declared.ids.TheConstants.{CHAPTERS, EDITION_ENTRY, 
 use Rattle.tree_format.specs.Node.{master, none, nodes_of, children, with_children, depth_all, HasRoom}
 use Rattle.tree_format.specs.Reading.{tree_of, grove, grove_within}
 use Rattle.tree_format.proofs.NodeLemmas.{list-nodes}
-use Rattle.srt_texts.specs.declared.chapter_reading.Chapter.{Chapter}
+use Rattle.text_formats.specs.declared.chapter_reading.Chapter.{Chapter}
 use Rattle.srt_chapters.specs.Chapters.{atom, edition}
 
 -- ---- what the table has

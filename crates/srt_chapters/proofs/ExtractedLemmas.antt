@@ -8,7 +8,7 @@ use Rattle.tree_format.specs.Node.{Node, id_of, children}
 use Rattle.tree_format.specs.Standing.{IsSound, IsSoundOf}
 use Rattle.tree_format.specs.Values.{HasUint}
 use Rattle.tree_format.proofs.ChildLemmas.{child-stands, stands-sound}
-use Rattle.srt_texts.specs.ChapterWriting.{put_pair}
+use Rattle.text_formats.specs.ChapterWriting.{put_pair}
 use Rattle.srt_chapters.specs.Extracted.{put_atoms, atoms_in, start_of, name_of}
 
 -- the table has a ChapterTimeStart in a ChapterAtom

@@ -15,7 +15,7 @@ use Rattle.mkv_schema.specs.declared.ids.TheConstants.{CHAPTERS, EDITION_ENTRY, 
 use Rattle.mkv_schema.specs.Value.{text_of}
 use Rattle.tree_format.specs.Reading.{is_master_in}
 use Rattle.tree_format.specs.Standing.{IsLeafIn, StandsIn, IsSound, IsSoundOf}
-use Rattle.srt_texts.specs.declared.chapter_reading.Chapter.{Chapter}
+use Rattle.text_formats.specs.declared.chapter_reading.Chapter.{Chapter}
 use Rattle.tree_format.specs.Children.{uint_leaf}
 use Rattle.srt_chapters.specs.Chapters.{display, atom, edition, chapters_of}
 use Rattle.srt_chapters.proofs.ChaptersLemmas.{id_edition_uid, id_uid, id_start, id_string, id_language}

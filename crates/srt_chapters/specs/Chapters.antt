@@ -3,8 +3,8 @@ use Rattle.std.specs.Prelude.{ℕ, List, [], ◌∷◌, map, codes, Result, Ok, 
 use Rattle.mkv_schema.specs.declared.ids.TheConstants.{CHAPTERS, EDITION_ENTRY, EDITION_UID, CHAPTER_ATOM, CHAPTER_UID, CHAPTER_TIME_START, CHAPTER_DISPLAY, CHAP_STRING, CHAP_LANGUAGE}
 use Rattle.tree_format.specs.Node.{Node, leaf, master, nodes_of}
 use Rattle.tree_format.specs.Children.{uint_leaf}
-use Rattle.srt_texts.specs.declared.chapter_reading.Chapter.{Chapter}
-use Rattle.srt_texts.specs.Pairs.{simple}
+use Rattle.text_formats.specs.declared.chapter_reading.Chapter.{Chapter}
+use Rattle.text_formats.specs.Pairs.{simple}
 
 -- a ChapterDisplay: the name, in a language that isn't known
 abbrev pub display : List ℕ → Node

@@ -5,7 +5,7 @@ use Rattle.mkv_schema.specs.declared.ids.TheConstants.{EDITION_ENTRY, CHAPTER_AT
 use Rattle.mkv_schema.specs.Value.{text_of}
 use Rattle.tree_format.specs.Node.{Node, id_of, body_of, children}
 use Rattle.tree_format.specs.Values.{first_child, integer_of}
-use Rattle.srt_texts.specs.ChapterWriting.{put_pair}
+use Rattle.text_formats.specs.ChapterWriting.{put_pair}
 
 -- where an atom starts, in nanoseconds: at 0, where it doesn't say
 abbrev pub start_of : Node → ℕ

@@ -7,5 +7,5 @@ mod reading;
 mod writing;
 
 pub use reading::{chapters_tree, read_simple};
-pub use srt_texts::{Entry, TextEnd, put_srt, read_srt};
+pub use text_formats::{Entry, TextEnd, put_srt, read_srt};
 pub use writing::put_simple;

@@ -2,7 +2,7 @@
 
 ghost use Rattle.std.specs.Prelude.{◌≡◌, IfOk, IsTrue};
 ghost use Rattle.mkv_schema.specs.Schema.{is_master};
-ghost use Rattle.srt_texts.specs.Ends.{Reads};
+ghost use Rattle.text_formats.specs.Ends.{Reads};
 ghost use Rattle.tree_format.specs.Node.{master, none};
 ghost use Rattle.tree_format.specs.Standing.{IsSound, IsSoundOf, StandsIn};
 ghost use Rattle.mkv_schema.specs.declared.ids.TheConstants.{CHAPTERS as CHAPTERS_ID, EDITION_ENTRY as EDITION_ID};
@@ -13,8 +13,8 @@ use mkv_schema::ids::{
     CHAP_LANGUAGE, CHAP_STRING, CHAPTER_ATOM, CHAPTER_DISPLAY, CHAPTER_TIME_START, CHAPTER_UID,
     CHAPTERS, EDITION_ENTRY, EDITION_UID,
 };
-use srt_texts::{Chapter, TextEnd, read_pairs};
 use std::alloc::{AllocError, Global};
+use text_formats::{Chapter, TextEnd, read_pairs};
 
 // A master without children.
 #[tactic(auto, using(crate::proofs::ChaptersLemmas::empty), unfolding(tree_format::specs::Reading::grove, tree_format::specs::Reading::grove_within))]

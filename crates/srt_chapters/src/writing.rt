@@ -11,8 +11,8 @@ use mkv_io::Bytes;
 use mkv_schema::ids::{
     CHAP_STRING, CHAPTER_ATOM, CHAPTER_DISPLAY, CHAPTER_TIME_START, EDITION_ENTRY,
 };
-use srt_texts::put_pair;
 use std::alloc::AllocError;
+use text_formats::put_pair;
 
 fn start_of(atom: &Tree) -> u64
     requires { IsSoundOf ids.CHAPTER_ATOM atom.now }

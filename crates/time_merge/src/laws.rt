@@ -1,10 +1,10 @@
 //! What holds of every merge.
 
-ghost use Rattle.time_merge.specs.Laws.{StandOverWrites, StartedAreMerged};
+ghost use Rattle.time_merge.specs.Laws.{AreUnaffectedByWrites, StartedAreMerged};
 
 /// A merge stands as before where the files of its links are the same, whatever was written elsewhere.
 pub fn merges_stand_over_writes()
-    ensures { StandOverWrites }
+    ensures { AreUnaffectedByWrites }
 {}
 
 /// Lanes that have given nothing, merged, give the merged list of their links.

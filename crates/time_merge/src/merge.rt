@@ -5,7 +5,7 @@ ghost use Rattle.std.specs.List.{slice_get};
 ghost use Rattle.mkv_io.specs.Faults.{HasCause, is_read_fault};
 ghost use Rattle.mkv_io.specs.LiveFiles.{LiveFiles};
 ghost use Rattle.mkv_io.specs.Sources.{live_files};
-ghost use Rattle.output_model.specs.declared.TheConstants.{MOST_LANES};
+ghost use Rattle.output_model.specs.declared.TheConstants.{MAX_LANES};
 ghost use Rattle.time_merge.specs.Merge.{Begins, GivesIfTold, IsReady, Moves, PaysFor, Starts};
 
 use crate::queues::Queues;
@@ -36,7 +36,7 @@ impl Merge {
     /// A merge of these lanes, none of which has given a block. Nothing is read: the first step looks for the first
     /// block of each lane.
     pub fn start<R: Reads>(alloc: Global, lanes: List<Lane>, _src: &mut R) -> Result<Merge, ReadEnd>
-        requires { length lanes ≤ MOST_LANES }
+        requires { length lanes ≤ MAX_LANES }
         ensures starts { (f : LiveFiles) → IfOk result (Starts f lanes) }
         ensures begins { IfOk result (Begins lanes) }
         ensures idle { _src.new ≡ _src.old }

@@ -9,7 +9,7 @@ use Rattle.merge_model.specs.Links.{Given}
 use Rattle.merge_inputs.specs.Input.{InputRead}
 use Rattle.merge_inputs.specs.Taken.{value_for}
 use Rattle.merge_plan.specs.Places.{begun_at, end_of, in_place_from}
-use Rattle.merge_plan.specs.Plan.{Source, given_from, given_of, later_by}
+use Rattle.merge_plan.specs.Plan.{Source, given_from, given_of, append_offset}
 use Rattle.merge_plan.specs.Records.{is_appended}
 use Rattle.mkv_merge.specs.Texts.{listings_at, timed_from, with_listings}
 use Rattle.times_laws.proofs.BareLemmas.{AreAlike, bare, untimed}
@@ -35,11 +35,11 @@ all-same (s ∷ ss) = (record { bare = refl; given = λ shift. refl }, all-same 
 -- one that begins at this time
 begun-alike : (time : ℕ) (new old : Source) → IsAlike new old → given_of (begun_at time new) ≡ given_of (begun_at time old)
 begun-alike time new old is =
-    ap (λ (s : Source). map (given_from new.1.times (later_by (begun_at time s).1) new.1.blocks new.0) new.1.taken) is.bare ∙ is.given (later_by (begun_at time old).1)
+    ap (λ (s : Source). map (given_from new.1.times (append_offset (begun_at time s).1) new.1.blocks new.0) new.1.taken) is.bare ∙ is.given (append_offset (begun_at time old).1)
 
 ends-alike : (time : ℕ) (new old : Source) → IsAlike new old → end_of (begun_at time new) ≡ end_of (begun_at time old)
 ends-alike time new old is =
-    ap₂ (λ (s : Source) (given : List Given). later_by (begun_at time s).1 + file_end given) is.bare (begun-alike time new old is)
+    ap₂ (λ (s : Source) (given : List Given). append_offset (begun_at time s).1 + file_end given) is.bare (begun-alike time new old is)
 
 pub placed-alike : (time : ℕ) (new old : List Source) → AllAlike new old → AreAlike (in_place_from time new) (in_place_from time old)
 placed-alike time [] [] are = record { bare = refl; given = refl }

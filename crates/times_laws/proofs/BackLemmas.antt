@@ -3,7 +3,7 @@ use Rattle.std.proofs.Common.{◌≡◌, ℕ, suc, ◌+◌, ◌^◌, ◌<◌, �
 use Rattle.std.proofs.lemmas.Bool.Decides.{nat_tests}
 use Rattle.std.specs.Prelude.{◌==◌, codes, slice_index, flat_map}
 use Rattle.std.specs.Str.Lines.{lines}
-use Rattle.srt_texts.specs.Lines.{lines_of}
+use Rattle.text_formats.specs.Lines.{lines_of}
 use Rattle.mkv_io.specs.Octets.{lacks}
 use Rattle.record_laws.specs.Plain.{ends_with_return, IsLine}
 use Rattle.record_laws.proofs.LineLemmas.{ends_more, line_first}

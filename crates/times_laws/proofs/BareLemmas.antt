@@ -6,7 +6,7 @@ use Rattle.std.proofs.lemmas.List.{length-map, map-id}
 use Rattle.std.proofs.lemmas.List.Folds.{flat_map-map}
 use Rattle.record_changes.specs.Identifiers.{renumbered}
 use Rattle.meta_records.specs.Attached.{AttachedFile}
-use Rattle.merged_records.specs.declared.inputs.InputRecords.{InputRecords}
+use Rattle.output_records.specs.declared.inputs.InputRecords.{InputRecords}
 use Rattle.merge_model.specs.Links.{Given}
 use Rattle.merge_inputs.specs.Input.{InputRead}
 use Rattle.merge_inputs.specs.declared.taken.TakenTrack.{TakenTrack}

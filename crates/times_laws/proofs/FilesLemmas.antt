@@ -12,7 +12,7 @@ use Rattle.ext_times.specs.Listing.{Listing, listing}
 use Rattle.merge_words.specs.declared.files.FileWords.{FileWords}
 use Rattle.input_files.specs.TextFile.{unless_bad}
 use Rattle.input_files.specs.TimesFile.{given_by, given_with, named_from, named_of, size_with, times_from}
-use Rattle.input_files.specs.declared.limits.TheConstants.{MOST_OF_ALL_TIMES, MOST_OF_TIMES}
+use Rattle.input_files.specs.declared.limits.TheConstants.{MAX_ALL_TIMES_LEN, MAX_TIMES_LEN}
 use Rattle.input_files.specs.declared.refusal.TextRefusal.TheVariants.{TooLarge}
 use Rattle.input_files.specs.declared.times_file.TimesFile.{TimesFile}
 use Rattle.input_files.specs.declared.times_file.TimesGiven.{TimesGiven}
@@ -128,7 +128,7 @@ module _ (world : World) where
   given-less : (room less : ℕ) (o : Option (List ℕ)) → less ≤ room
       → (given_with less o ≡ given_with room o) ⊎ ((is_too_long (given_with less o) ≡ true) × (is_too_long (given_with room o) ≡ false))
   given-less room less None fits = inl refl
-  given-less room less (Some bytes) fits = by_tests (nat_lt (min less MOST_OF_TIMES) (length bytes)) (nat_lt (min room MOST_OF_TIMES) (length bytes)) refl refl
+  given-less room less (Some bytes) fits = by_tests (nat_lt (min less MAX_TIMES_LEN) (length bytes)) (nat_lt (min room MAX_TIMES_LEN) (length bytes)) refl refl
     where
       given : Bool → TimesGiven
       given long = given_by (if long then Err TooLarge else unless_bad (listing bytes))
@@ -137,13 +137,13 @@ module _ (world : World) where
       bad-short (Ok times) = refl
       bad-short (Err line) = refl
 
-      by_tests : (c b : Bool) → nat_lt (min less MOST_OF_TIMES) (length bytes) ≡ c → nat_lt (min room MOST_OF_TIMES) (length bytes) ≡ b → (given c ≡ given b) ⊎ ((is_too_long (given c) ≡ true) × (is_too_long (given b) ≡ false))
+      by_tests : (c b : Bool) → nat_lt (min less MAX_TIMES_LEN) (length bytes) ≡ c → nat_lt (min room MAX_TIMES_LEN) (length bytes) ≡ b → (given c ≡ given b) ⊎ ((is_too_long (given c) ≡ true) × (is_too_long (given b) ≡ false))
       by_tests true true is is' = inl refl
       by_tests false false is is' = inl refl
       by_tests true false is is' = inr (refl, bad-short (listing bytes))
       by_tests false true is is' =
-          let short : length bytes ≤ min less MOST_OF_TIMES = grind (arith, nat_tests) in
-          let long : min room MOST_OF_TIMES < length bytes = grind (arith, nat_tests) in
+          let short : length bytes ≤ min less MAX_TIMES_LEN = grind (arith, nat_tests) in
+          let long : min room MAX_TIMES_LEN < length bytes = grind (arith, nat_tests) in
           absurd (omega arith)
 
   -- With less room as many are too long, or more.
@@ -211,7 +211,7 @@ module _ (world : World) where
 
   -- a file that isn't too long and lists times
   given-read : (room : ℕ) (bytes : List ℕ) (times : Listing) → is_too_long (given_with room (Some bytes)) ≡ false → listing bytes ≡ Ok times → given_with room (Some bytes) ≡ Read times
-  given-read room bytes times short is = by_test (nat_lt (min room MOST_OF_TIMES) (length bytes)) short
+  given-read room bytes times short is = by_test (nat_lt (min room MAX_TIMES_LEN) (length bytes)) short
     where
       by_test : (b : Bool) → is_too_long (given_by (if b then Err TooLarge else unless_bad (listing bytes))) ≡ false → given_by (if b then Err TooLarge else unless_bad (listing bytes)) ≡ Read times
       by_test true none = absurd (cc)
@@ -243,15 +243,15 @@ pub record AreMore (n : TimesName) (times : Listing) (new old : List TimesFile) 
   pub alone : value_for n.id (listings_at n.input behind) ≡ None
 
 pub times-more : (world : World) (n : TimesName) (new old : List TimesName) (bytes : List ℕ) (times : Listing) → IsNamedMore n new old → world n.name ≡ Some bytes → listing bytes ≡ Ok times
-    → count_long (times_from world MOST_OF_ALL_TIMES new) ≡ count_long (times_from world MOST_OF_ALL_TIMES old)
-    → AreMore n times (times_from world MOST_OF_ALL_TIMES new) (times_from world MOST_OF_ALL_TIMES old)
+    → count_long (times_from world MAX_ALL_TIMES_LEN new) ≡ count_long (times_from world MAX_ALL_TIMES_LEN old)
+    → AreMore n times (times_from world MAX_ALL_TIMES_LEN new) (times_from world MAX_ALL_TIMES_LEN old)
 times-more world n new old bytes times names holds is same = by_length (is_too_long (given_with left (world n.name))) refl
   where
     front : List TimesFile
-    front = times_from world MOST_OF_ALL_TIMES names.before
+    front = times_from world MAX_ALL_TIMES_LEN names.before
 
-    split : (left : ℕ) × ((behind : List TimesName) → times_from world MOST_OF_ALL_TIMES (names.before ++ behind) ≡ front ++ times_from world left behind)
-    split = times-behind world MOST_OF_ALL_TIMES names.before
+    split : (left : ℕ) × ((behind : List TimesName) → times_from world MAX_ALL_TIMES_LEN (names.before ++ behind) ≡ front ++ times_from world left behind)
+    split = times-behind world MAX_ALL_TIMES_LEN names.before
 
     left : ℕ
     left = split.0
@@ -262,11 +262,11 @@ times-more world n new old bytes times names holds is same = by_length (is_too_l
     file : TimesFile
     file = record { named = n; given = given_with left (world n.name) }
 
-    new_is : times_from world MOST_OF_ALL_TIMES new ≡ front ++ (file ∷ times_from world less names.behind)
-    new_is = ap (times_from world MOST_OF_ALL_TIMES) names.new_is ∙ split.1 (n ∷ names.behind)
+    new_is : times_from world MAX_ALL_TIMES_LEN new ≡ front ++ (file ∷ times_from world less names.behind)
+    new_is = ap (times_from world MAX_ALL_TIMES_LEN) names.new_is ∙ split.1 (n ∷ names.behind)
 
-    old_is : times_from world MOST_OF_ALL_TIMES old ≡ front ++ times_from world left names.behind
-    old_is = ap (times_from world MOST_OF_ALL_TIMES) names.old_is ∙ split.1 names.behind
+    old_is : times_from world MAX_ALL_TIMES_LEN old ≡ front ++ times_from world left names.behind
+    old_is = ap (times_from world MAX_ALL_TIMES_LEN) names.old_is ∙ split.1 names.behind
 
     -- so many are too long from this file on
     counts : count_long (file ∷ times_from world less names.behind) ≡ count_long (times_from world left names.behind)
@@ -275,7 +275,7 @@ times-more world n new old bytes times names holds is same = by_length (is_too_l
         let without = ap count_long old_is ∙ count-append front (times_from world left names.behind) in
         omega (arith, with_it, without, same)
 
-    by_length : (b : Bool) → is_too_long (given_with left (world n.name)) ≡ b → AreMore n times (times_from world MOST_OF_ALL_TIMES new) (times_from world MOST_OF_ALL_TIMES old)
+    by_length : (b : Bool) → is_too_long (given_with left (world n.name)) ≡ b → AreMore n times (times_from world MAX_ALL_TIMES_LEN new) (times_from world MAX_ALL_TIMES_LEN old)
     by_length true long =
         let one = count-cons file (times_from world less names.behind) true long in
         let most = count-less world left less names.behind (omega arith) in

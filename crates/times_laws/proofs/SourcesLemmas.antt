@@ -6,10 +6,10 @@ use Rattle.std.specs.Result.{result_err}
 use Rattle.sidecar_edit.specs.Pending.{is_pending}
 use Rattle.tree_format.specs.Node.{Node}
 use Rattle.ext_times.specs.Listing.{Listing}
-use Rattle.merged_records.specs.Limits.{first_too_large}
-use Rattle.merged_records.specs.Tracks.{output_tracks}
-use Rattle.merged_records.specs.Chapters.{merged_chapters}
-use Rattle.merged_records.specs.Tags.{merged_tags}
+use Rattle.output_records.specs.Limits.{first_too_large}
+use Rattle.output_records.specs.Tracks.{output_tracks}
+use Rattle.output_records.specs.Chapters.{merged_chapters}
+use Rattle.output_records.specs.Tags.{merged_tags}
 use Rattle.merge_words.specs.declared.files.FileWords.{FileWords}
 use Rattle.merge_words.specs.declared.output.MergeWords.{MergeWords}
 use Rattle.input_files.specs.Inputs.{file_names, first_missing, first_pending}

@@ -6,11 +6,11 @@ use Rattle.std.proofs.lemmas.Bool.Decides.{nat_tests}
 use Rattle.mkv_io.specs.declared.damage.Damage.{Damage}
 use Rattle.tree_format.specs.Node.{Node}
 use Rattle.output_model.specs.Cued.{document_of}
-use Rattle.merged_records.specs.declared.inputs.InputRecords.{InputRecords}
-use Rattle.merged_records.specs.Chapters.{merged_chapters}
-use Rattle.merged_records.specs.Info.{output_info}
-use Rattle.merged_records.specs.Tags.{merged_tags}
-use Rattle.merged_records.specs.Tracks.{output_tracks}
+use Rattle.output_records.specs.declared.inputs.InputRecords.{InputRecords}
+use Rattle.output_records.specs.Chapters.{merged_chapters}
+use Rattle.output_records.specs.Info.{output_info}
+use Rattle.output_records.specs.Tags.{merged_tags}
+use Rattle.output_records.specs.Tracks.{output_tracks}
 use Rattle.merge_model.specs.Lanes.{lane_blocks}
 use Rattle.merge_model.specs.Links.{Given}
 use Rattle.merge_model.specs.Merged.{merged}

@@ -10,7 +10,7 @@ use Rattle.std.specs.Char.{is_ascii_digit, digit_value}
 use Rattle.std.specs.Str.Parse.{digits_value}
 use Rattle.std.specs.Fmt.{decimal}
 use Rattle.mkv_io.specs.Octets.{cut, lacks}
-use Rattle.srt_texts.specs.Fields.{digits}
+use Rattle.text_formats.specs.Fields.{digits}
 use Rattle.mkv_io.proofs.OctetsLemmas.{digits_lack, cut_behind, decimal_all, lacks_both, decimal_lacks, first_other}
 use Rattle.record_laws.proofs.LineLemmas.{lacks_more}
 use Rattle.ext_times.specs.Fields.{fraction, millionths, time_size, time}

@@ -30,7 +30,7 @@ const ZLIB: u64 = 0;
 const HEADER_STRIPPING: u64 = 3;
 
 /// The most octets that are put back in front of a frame.
-const MOST_STRIPPED: usize = 4096;
+const MAX_STRIPPED: usize = 4096;
 
 /// 1.0 as a float of four and of eight octets (RFC 8794, section 7.3, Float Element).
 const ONE_IN_4: [u8; 4] = [0x3F, 0x80, 0, 0];
@@ -70,7 +70,7 @@ fn strips_headers(encoding: &Tree) -> bool
     uint_in(encoding, CONTENT_ENCODING_SCOPE) == FRAMES
         && uint_in(encoding, CONTENT_ENCODING_TYPE) == COMPRESSION
         && algorithm_of(encoding) == HEADER_STRIPPING
-        && settings_of(encoding).len() <= MOST_STRIPPED
+        && settings_of(encoding).len() <= MAX_STRIPPED
 }
 
 // ---- a track

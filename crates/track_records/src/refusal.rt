@@ -24,7 +24,7 @@ const TOO_LONG: u64 = 1 << 48;
 const MANDATORY: [u32; 3] = [TRACK_NUMBER, TRACK_TYPE, CODEC_ID];
 
 /// The most entries.
-const MOST_TRACKS: usize = 1024;
+const MAX_TRACKS: usize = 1024;
 
 // A TrackNumber of 0, or a DefaultDuration that is too long.
 fn is_bad(child: &Tree) -> bool
@@ -175,5 +175,5 @@ pub(crate) fn refusal_of(alloc: Global, tracks: &Tree) -> Result<Option<Damage>,
         return Ok(own);
     }
     let repeated = repeated_number(alloc, tracks)?;
-    Ok(repeated.or(told_at(tracks, Kind::TooMany, TRACK_ENTRY, MOST_TRACKS)))
+    Ok(repeated.or(told_at(tracks, Kind::TooMany, TRACK_ENTRY, MAX_TRACKS)))
 }

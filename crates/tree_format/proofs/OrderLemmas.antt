@@ -14,7 +14,7 @@ use Rattle.tree_format.specs.Standing.{IsSound, KeepsLimits, IsReadWithoutLimits
 use Rattle.tree_format.specs.NormalForm.{content}
 use Rattle.tree_format.proofs.ReadingLemmas.{header_at-fits, length-inside, length-behind}
 use Rattle.tree_format.proofs.AgainLemmas.{sound-again}
-use Rattle.tree_format.specs.Order.{Listed, Found, Listing, found, followed, listed_from, elements_within, elements_in, Spot, in_order, all_in_order, told_at, too_deep, no_value, one_too_many, causes, first_refused, tree_in_order, tree_without_limits}
+use Rattle.tree_format.specs.Order.{Listed, Found, Listing, found, followed, listed_from, elements_within, elements_in, NodeContext, in_order, all_in_order, told_at, too_deep, no_value, one_too_many, causes, first_refused, tree_in_order, tree_without_limits}
 use Rattle.mkv_schema.proofs.OutlineLemmas.{unless-ok}
 
 -- ---- the first refusal of lists in a row
@@ -27,11 +27,11 @@ refusal-assoc : (a b c : Option Damage) → first_refusal a (first_refusal b c) 
 refusal-assoc None b c = refl
 refusal-assoc (Some d) b c = refl
 
-first_refused-first : (nodes before : ℕ) (s : Spot) (spots : List Spot)
+first_refused-first : (nodes before : ℕ) (s : NodeContext) (spots : List NodeContext)
     → first_refused nodes before (s ∷ spots) ≡ first_refusal (first_damage (causes nodes before s)) (first_refused nodes (before + 1) spots)
 first_refused-first nodes before s spots = first_damage-first (first_damage (causes nodes before s)) _
 
-first_refused-append : (nodes before : ℕ) (a b : List Spot)
+first_refused-append : (nodes before : ℕ) (a b : List NodeContext)
     → first_refused nodes before (a ++ b) ≡ first_refusal (first_refused nodes before a) (first_refused nodes (before + length a) b)
 first_refused-append nodes before [] b = let same : before ≡ before + 0 = omega arith in ap (λ k. first_refused nodes k b) same
 first_refused-append nodes before (s ∷ a) b =
@@ -66,14 +66,14 @@ where-not true d is = absurd (cc)
 where-not false d is = refl
 
 -- where none is refused, none is one too many
-few-nodes : (nodes before : ℕ) (s : Spot) → first_damage (causes nodes before s) ≡ None → before < nodes
+few-nodes : (nodes before : ℕ) (s : NodeContext) → first_damage (causes nodes before s) ≡ None → before < nodes
 few-nodes nodes before s is =
     let first : where_it (nat_le nodes before) (told_at TooMany s) ≡ None =
     none-first (one_too_many nodes before s) _ (sym (first_damage-first (one_too_many nodes before s) (too_deep s ∷ no_value s ∷ [])) ∙ is) in
     let under : nat_le nodes before ≡ false = where-not (nat_le nodes before) (told_at TooMany s) first in
     grind (arith, nat_tests)
 
-none-few : (nodes before : ℕ) (spots : List Spot) → before ≤ nodes → first_refused nodes before spots ≡ None → before + length spots ≤ nodes
+none-few : (nodes before : ℕ) (spots : List NodeContext) → before ≤ nodes → first_refused nodes before spots ≡ None → before + length spots ≤ nodes
 none-few nodes before [] enough is = omega arith
 none-few nodes before (s ∷ spots) enough is =
     let both : first_refusal (first_damage (causes nodes before s)) (first_refused nodes (before + 1) spots) ≡ None = sym (first_refused-first nodes before s spots) ∙ is in
@@ -83,7 +83,7 @@ none-few nodes before (s ∷ spots) enough is =
 
 -- ---- what refuses one Element
 
-full-cause : (nodes before : ℕ) (s : Spot) → nat_le nodes before ≡ true → first_damage (causes nodes before s) ≡ Some (told_at TooMany s)
+full-cause : (nodes before : ℕ) (s : NodeContext) → nat_le nodes before ≡ true → first_damage (causes nodes before s) ≡ Some (told_at TooMany s)
 full-cause nodes before s full = rw full refl
 
 leaf-cause : (nodes before parent around id at : ℕ) (body : List ℕ) → nat_le nodes before ≡ false
@@ -145,13 +145,13 @@ then-unless None x f = refl
 then-unless (Some d) x f = refl
 
 -- an Element that is refused ends all
-stops : {A : Type 0} (nodes before : ℕ) (s : Spot) (more : List Spot) (inner : Option Damage) (x : A) (d : Damage) → first_damage (causes nodes before s) ≡ Some d
+stops : {A : Type 0} (nodes before : ℕ) (s : NodeContext) (more : List NodeContext) (inner : Option Damage) (x : A) (d : Damage) → first_damage (causes nodes before s) ≡ Some d
     → unless (first_refusal (first_refused nodes before (s ∷ more)) inner) x ≡ Err d
 stops nodes before s more inner x d is =
     ap (λ r. unless (first_refusal r inner) x) (first_refused-first nodes before s more ∙ ap (λ c. first_refusal c (first_refused nodes (before + 1) more)) is)
 
 -- one that isn't leaves those behind it
-goes : {A : Type 0} (nodes before : ℕ) (s : Spot) (more : List Spot) (inner : Option Damage) (x : A) → first_damage (causes nodes before s) ≡ None
+goes : {A : Type 0} (nodes before : ℕ) (s : NodeContext) (more : List NodeContext) (inner : Option Damage) (x : A) → first_damage (causes nodes before s) ≡ None
     → unless (first_refusal (first_refused nodes before (s ∷ more)) inner) x ≡ unless (first_refusal (first_refused nodes (before + 1) more) inner) x
 goes nodes before s more inner x is =
     ap (λ r. unless (first_refusal r inner) x) (first_refused-first nodes before s more ∙ ap (λ c. first_refusal c (first_refused nodes (before + 1) more)) is)
@@ -172,13 +172,13 @@ grown-answer read listing agrees room left nodes before around parent h body low
     as_kids : Found
     as_kids = record { tree = master h.id h.offset (nodes_of kids.trees); damage = kids.damage }
 
-    leaf_spot : Spot
+    leaf_spot : NodeContext
     leaf_spot = record { parent = parent; around = around; node = as_leaf.tree }
 
-    spot : Spot
+    spot : NodeContext
     spot = record { parent = parent; around = around; node = as_kids.tree }
 
-    inner : List Spot
+    inner : List NodeContext
     inner = all_in_order h.id (around + 1) (nodes_of kids.trees)
 
     found-leaf : is_master_in parent h.id ≡ false → found listing parent h body ≡ as_leaf
@@ -240,13 +240,13 @@ behind-answer : (read : Reader) (listing : Listing) → Agrees read listing → 
 unfolding Agrees
 behind-answer read listing agrees room left nodes before around parent p octets one low few = split (first_refused nodes before mine) one.damage refl
   where
-    mine : List Spot
+    mine : List NodeContext
     mine = in_order parent around one.tree
 
     rest : Listed
     rest = listing parent p octets
 
-    others : List Spot
+    others : List NodeContext
     others = all_in_order parent around (nodes_of rest.trees)
 
     onward : Grown → Result Grove Damage
@@ -264,7 +264,7 @@ behind-answer read listing agrees room left nodes before around parent p octets 
     one_read : Grove
     one_read = record { trees = one.tree ∷ []; left = left - count_all (nodes_of (one.tree ∷ [])) }
 
-    in_all : (more : List Spot) (r : Option Damage) → first_refused nodes before mine ≡ r → first_refused nodes before (mine ++ more) ≡ first_refusal r (first_refused nodes (before + length mine) more)
+    in_all : (more : List NodeContext) (r : Option Damage) → first_refused nodes before mine ≡ r → first_refused nodes before (mine ++ more) ≡ first_refusal r (first_refused nodes (before + length mine) more)
     in_all more r is = first_refused-append nodes before mine more ∙ ap (λ o. first_refusal o (first_refused nodes (before + length mine) more)) is
 
     front : (r d : Option Damage) → first_refused nodes before mine ≡ r → and_then (unless (first_refusal (first_refused nodes before mine) d) mine_read) onward ≡ and_then (unless (first_refusal r d) mine_read) onward
@@ -313,10 +313,10 @@ tree_of-in_order id offset body base nodes = split (nodes == 0) refl
     tree : Node
     tree = master id offset (nodes_of all.trees)
 
-    root : Spot
+    root : NodeContext
     root = record { parent = 0; around = 0; node = tree }
 
-    inner : List Spot
+    inner : List NodeContext
     inner = all_in_order id 1 (nodes_of all.trees)
 
     split : (full : Bool) → (nodes == 0) ≡ full → tree_of id offset body base nodes ≡ unless (first_refusal (first_refused nodes 0 (root ∷ inner)) all.damage) tree
@@ -337,13 +337,13 @@ tree_of-in_order id offset body base nodes = split (nodes == 0) refl
 -- ---- without a reader's limits
 
 -- an Element that nothing refuses is a value of its kind
-value-stands : (nodes before : ℕ) (s : Spot) → first_damage (causes nodes before s) ≡ None → no_value s ≡ None
+value-stands : (nodes before : ℕ) (s : NodeContext) → first_damage (causes nodes before s) ≡ None → no_value s ≡ None
 value-stands nodes before s is =
     let later : first_damage (too_deep s ∷ no_value s ∷ []) ≡ None = none-later (one_too_many nodes before s) _ (sym (first_damage-first (one_too_many nodes before s) (too_deep s ∷ no_value s ∷ [])) ∙ is) in
     let last : first_damage (no_value s ∷ []) ≡ None = none-later (too_deep s) _ (sym (first_damage-first (too_deep s) (no_value s ∷ [])) ∙ later) in
     none-first (no_value s) None (sym (first_damage-first (no_value s) []) ∙ last)
 
-values-stand : (nodes before : ℕ) (spots : List Spot) → first_refused nodes before spots ≡ None → first_damage (map no_value spots) ≡ None
+values-stand : (nodes before : ℕ) (spots : List NodeContext) → first_refused nodes before spots ≡ None → first_damage (map no_value spots) ≡ None
 values-stand nodes before [] is = refl
 values-stand nodes before (s ∷ spots) is =
     let both : first_refusal (first_damage (causes nodes before s)) (first_refused nodes (before + 1) spots) ≡ None = sym (first_refused-first nodes before s spots) ∙ is in

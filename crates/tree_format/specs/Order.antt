@@ -62,44 +62,44 @@ elements_in parent p octets = elements_within (length octets) parent p octets
 -- ---- what refuses an Element
 
 -- an Element of a tree, its parent's ID, and how many masters are around it
-pub record Spot : Type 0 where
+pub record NodeContext : Type 0 where
   pub parent : ℕ
   pub around : ℕ
   pub node : Node
 
 -- the Elements of a tree in the order in which their headers stand
 abbrev mutual
-  pub in_order : ℕ → ℕ → Node → List Spot
+  pub in_order : ℕ → ℕ → Node → List NodeContext
   in_order parent around (leaf id at body) = record { parent = parent; around = around; node = leaf id at body } ∷ []
   in_order parent around (master id at kids) =
       record { parent = parent; around = around; node = master id at kids } ∷ all_in_order id (around + 1) kids
 
-  pub all_in_order : ℕ → ℕ → Nodes → List Spot
+  pub all_in_order : ℕ → ℕ → Nodes → List NodeContext
   all_in_order parent around none = []
   all_in_order parent around (node n ns) = in_order parent around n ++ all_in_order parent around ns
 
 -- a damage that is told at an Element
-abbrev pub told_at : Kind → Spot → Damage
+abbrev pub told_at : Kind → NodeContext → Damage
 told_at kind s = damage kind (id_of s.node) (offset_of s.node)
 
 -- a master inside more masters than may be around it
-abbrev pub too_deep : Spot → Option Damage
+abbrev pub too_deep : NodeContext → Option Damage
 too_deep s = where_it (not (is_leaf s.node) && nat_le deepest s.around) (told_at TooMany s)
 
 -- a leaf that isn't a value of its kind
-abbrev pub no_value : Spot → Option Damage
+abbrev pub no_value : NodeContext → Option Damage
 no_value s = where_it (is_leaf s.node && not (is_known_value s.parent (id_of s.node) (body_of s.node))) (told_at BadValue s)
 
 -- one node too many: as many stand before it as there may be
-abbrev pub one_too_many : ℕ → ℕ → Spot → Option Damage
+abbrev pub one_too_many : ℕ → ℕ → NodeContext → Option Damage
 one_too_many nodes before s = where_it (nat_le nodes before) (told_at TooMany s)
 
 -- what refuses an Element, in the order in which it is told
-abbrev pub causes : ℕ → ℕ → Spot → List (Option Damage)
+abbrev pub causes : ℕ → ℕ → NodeContext → List (Option Damage)
 causes nodes before s = one_too_many nodes before s ∷ too_deep s ∷ no_value s ∷ []
 
 -- the first Element that is refused, where so many stand before the first of them
-abbrev pub first_refused : ℕ → ℕ → List Spot → Option Damage
+abbrev pub first_refused : ℕ → ℕ → List NodeContext → Option Damage
 first_refused nodes before spots = first_damage (map (λ s. first_damage (causes nodes s.0 s.1)) (enumerate_from before spots))
 
 -- ---- the tree

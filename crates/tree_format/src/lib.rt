@@ -11,4 +11,4 @@ pub use laws::{
     children_change, elements_are_listed, limits_change_no_tree, sound_trees_are_read_again,
     trees_are_in_order,
 };
-pub use limits::MOST_NODES;
+pub use limits::MAX_NODES;

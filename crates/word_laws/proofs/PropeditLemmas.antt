@@ -13,9 +13,9 @@ use Rattle.word_values.specs.declared.edit.Selector.{Selector}
 use Rattle.word_values.specs.declared.edit.Selector.TheVariants as spot
 use Rattle.mkv_args.specs.declared.command.Command.TheVariants as commands
 use Rattle.mkv_args.specs.declared.commands.Verb.TheVariants as verb
-use Rattle.mkv_args.specs.declared.propedit.Step.TheVariants as step
-use Rattle.mkv_args.specs.declared.propedit.Saying.{Saying}
-use Rattle.mkv_args.specs.declared.propedit.Saying.TheVariants as says
+use Rattle.mkv_args.specs.declared.propedit.EditOptionKind.TheVariants as step
+use Rattle.mkv_args.specs.declared.propedit.EditOption.{EditOption}
+use Rattle.mkv_args.specs.declared.propedit.EditOption.TheVariants as says
 use Rattle.mkv_args.specs.Propedit.{place, typed, begins, track, selector, steps, step_of, pairs, meaning, all_said, edits_in, first_section, edits, propedit}
 use Rattle.mkv_args.specs.Sound.{IsSoundPlace, AreEdits}
 use Rattle.mkv_args.specs.Words.{command, command_named}
@@ -75,7 +75,7 @@ section_read (spot.Number n) sound is = rw (number_read n is) refl
 
 -- ---- edits
 -- what the words of edits say
-abbrev sayings : List Edit → List Saying
+abbrev sayings : List Edit → List EditOption
 sayings [] = []
 sayings (e ∷ es) = says.Section e.place ∷ says.Change e.change e.name e.value ∷ sayings es
 
@@ -99,7 +99,7 @@ property_read change.Add name value is = rw (cut_behind 61 name value is) refl
 property_read change.Delete name value is = rw is refl
 
 -- an edit, behind a section or another edit
-change_read : (count : ℕ) (edited : Bool) (at : ℕ) (e : Edit) (words : List (List ℕ)) (more : List Saying) → IsSpellableEdit e → all_said count true (pairs (at + 2) words) ≡ Ok more
+change_read : (count : ℕ) (edited : Bool) (at : ℕ) (e : Edit) (words : List (List ℕ)) (more : List EditOption) → IsSpellableEdit e → all_said count true (pairs (at + 2) words) ≡ Ok more
     → all_said count edited (pairs at (change_word e.change ∷ property_word e.change e.name e.value ∷ words)) ≡ Ok (says.Change e.change e.name e.value ∷ more)
 change_read count edited at e words more is rest = rw (change_step e.change, property_read e.change e.name e.value is.property, rest) refl
 

@@ -13,7 +13,7 @@ use Rattle.std.specs.Str.Parse.{digits_value}
 use Rattle.std.specs.Fmt.{decimal}
 use Rattle.std.proofs.lemmas.Bool.{and_parts}
 use Rattle.word_values.specs.declared.lists.SpanWords.{SpanWords}
-use Rattle.word_values.specs.Numbers.{whole, sixtieth, fraction, seconds, clock, ends, time, is_hex, uuid}
+use Rattle.word_values.specs.Numbers.{whole, minutes_or_seconds, fraction, seconds, clock, ends, time, is_hex, uuid}
 use Rattle.word_values.specs.Lists.{span, span_of}
 use Rattle.word_values.specs.Sound.{IsSpan}
 use Rattle.mkv_io.specs.Octets.{lacks}
@@ -71,8 +71,8 @@ last_whole : (k n : ℕ) → 0 < k → n < 10 ^ k → whole (last_digits 10 k n)
 unfolding whole
 last_whole k n some small = rw (last_length 10 k n, lt-ltb 0 k some, last_all k n, last_value k n small) refl
 
-sixtieth_read : (n : ℕ) → n < 60 → sixtieth (last_digits 10 2 n) ≡ Some n
-unfolding sixtieth
+sixtieth_read : (n : ℕ) → n < 60 → minutes_or_seconds (last_digits 10 2 n) ≡ Some n
+unfolding minutes_or_seconds
 sixtieth_read n small = rw (last_length 10 2 n, last_whole 2 n (omega arith) (omega arith), lt-ltb n 60 small) refl
 
 fraction_read : (n : ℕ) → n < 1000000000 → fraction (last_digits 10 9 n) ≡ Some n

@@ -36,8 +36,8 @@ delay word =
     else option_map pos (delay_size word)
 
 -- two digits, below 60
-unfoldable pub sixtieth : List ℕ → Option ℕ
-sixtieth word = if length word == 2 then below 60 (whole word) else None
+unfoldable pub minutes_or_seconds : List ℕ → Option ℕ
+minutes_or_seconds word = if length word == 2 then below 60 (whole word) else None
 
 -- 1 to 9 digits behind a point, in billionths
 unfoldable pub fraction : List ℕ → Option ℕ
@@ -45,9 +45,9 @@ fraction word = if nat_le (length word) 9 then option_map (λ n. n * 10 ^ (9 - l
 
 -- SS, or SS.n, in nanoseconds
 abbrev pub second_parts : List ℕ → Option (List ℕ × List ℕ) → Option ℕ
-second_parts word None = option_map (λ n. n * 1000000000) (sixtieth word)
+second_parts word None = option_map (λ n. n * 1000000000) (minutes_or_seconds word)
 second_parts word (Some p) = do
-  n ← sixtieth p.0
+  n ← minutes_or_seconds p.0
   f ← fraction p.1
   Some (n * 1000000000 + f)
 
@@ -60,7 +60,7 @@ clock word = do
   h ← cut COLON word
   m ← cut COLON h.1
   hours ← whole h.0
-  minutes ← sixtieth m.0
+  minutes ← minutes_or_seconds m.0
   n ← seconds m.1
   Some ((hours * 3600 + minutes * 60) * 1000000000 + n)
 

@@ -12,7 +12,7 @@ use mkv_io::List;
 use std::alloc::Global;
 
 /// The most identifiers that the parts of an output are given.
-const MOST_UUIDS: usize = 1024;
+const MAX_UUIDS: usize = 1024;
 
 /// Where an output is split. Times are in nanoseconds.
 #[derive(Debug, Drop)]
@@ -234,7 +234,7 @@ pub(crate) fn uuids(alloc: Global, word: &[u8]) -> Result<List<u128>, ValueEnd>
     ensures { ReadsValue result (spec.uuids word.now) }
 {
     let list = list_of::<UuidPiece>(alloc, word)?;
-    if list.len() <= MOST_UUIDS && differ(list.as_slice()) {
+    if list.len() <= MAX_UUIDS && differ(list.as_slice()) {
         Ok(list)
     } else {
         Err(ValueEnd::Bad)

@@ -109,7 +109,7 @@ fn clock(word: &[u8]) -> Option<u64>
     let (hours, rest) = cut(word, b':')?;
     let (minutes, rest) = cut(rest, b':')?;
     let hours = whole(hours)?;
-    let minutes = sixtieth(minutes)?;
+    let minutes = minutes_or_seconds(minutes)?;
     let rest = seconds(rest)?;
     hours
         .checked_mul(3600)?
@@ -119,9 +119,9 @@ fn clock(word: &[u8]) -> Option<u64>
 }
 
 /// Two digits, below 60.
-#[tactic(auto, unfolding(crate::specs::Numbers::sixtieth))]
-fn sixtieth(word: &[u8]) -> Option<u64>
-    ensures same { result ≡ spec.sixtieth word.now }
+#[tactic(auto, unfolding(crate::specs::Numbers::minutes_or_seconds))]
+fn minutes_or_seconds(word: &[u8]) -> Option<u64>
+    ensures same { result ≡ spec.minutes_or_seconds word.now }
     ensures small { IfSome result (λ n. n < 60) }
 {
     if word.len() != 2 {
@@ -138,9 +138,9 @@ fn seconds(word: &[u8]) -> Option<u64>
     ensures small { IfSome result (λ n. n < 60000000000) }
 {
     match cut(word, b'.') {
-        None => Some(sixtieth(word)? * SECOND),
+        None => Some(minutes_or_seconds(word)? * SECOND),
         Some((whole, rest)) => {
-            let seconds = sixtieth(whole)? * SECOND;
+            let seconds = minutes_or_seconds(whole)? * SECOND;
             Some(seconds + fraction(rest)?)
         }
     }

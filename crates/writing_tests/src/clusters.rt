@@ -4,7 +4,7 @@ ghost use Rattle.std.specs.Prelude.{◌<◌};
 ghost use Rattle.output_model.specs.OutputBlock.{IsLent};
 ghost use Rattle.cluster_writer.specs.Lent.{lent_of};
 
-use cluster_writer::{ClusterBuf, ClusterLimits, Lace, LentBlock, OutHead};
+use cluster_writer::{BlockRef, ClusterBuf, ClusterLimits, Lace, OutHead};
 use std::alloc::AllocError;
 use std::test::Fail;
 
@@ -33,7 +33,7 @@ const LONGEST: &[u8] =
     b"\x1F\x43\xB6\x75\x12\x00\x00\x0C\xE7\x81\x00\xA3\x12\x00\x00\x04\xC0\x00\x00\x80\x55";
 
 /// Puts a block where it fits, and tells where it stands in the Cluster.
-fn put(buf: &mut ClusterBuf, block: &LentBlock<'_>) -> Result<Option<u64>, AllocError>
+fn put(buf: &mut ClusterBuf, block: &BlockRef<'_>) -> Result<Option<u64>, AllocError>
     requires lent { IsLent (lent_of block.now) }
     requires lane { block.now.lane < 128 }
 {
@@ -49,7 +49,7 @@ fn put(buf: &mut ClusterBuf, block: &LentBlock<'_>) -> Result<Option<u64>, Alloc
 fn put_one(buf: &mut ClusterBuf) -> Result<Option<u64>, AllocError> {
     put(
         buf,
-        &LentBlock {
+        &BlockRef {
             lane: 1,
             tick: 7,
             head: &SIMPLE,
@@ -78,7 +78,7 @@ fn a_cluster_has_at_most_so_many_blocks(rt: HostRuntime) -> Result<(), Fail> {
 #[test]
 fn the_longest_block_is_a_cluster(rt: HostRuntime) -> Result<(), Fail> {
     let frame = vec![in rt.alloc(); 0x55u8; 33_554_432]?;
-    let block = LentBlock {
+    let block = BlockRef {
         lane: 64,
         tick: 0,
         head: &SIMPLE,

@@ -5,7 +5,7 @@ ghost use Rattle.std.specs.List.{All};
 ghost use Rattle.mkv_io.specs.Sources.{IsLive, live_files};
 ghost use Rattle.merge_model.specs.FileLinks.{IsOpenLink, IsSmallLink};
 ghost use Rattle.lanes.specs.Lane.{IsReady};
-ghost use Rattle.merge_model.specs.declared.limits.TheConstants.{MOST_LINKS};
+ghost use Rattle.merge_model.specs.declared.limits.TheConstants.{MAX_LINKS};
 ghost use Rattle.time_merge.specs.Merge as merges;
 
 use element_reader::Outline;
@@ -84,7 +84,7 @@ fn lane_of<R: Reads>(
     tracks: &[Taken],
 ) -> Result<Lane, Fail>
     requires live { All (λ file. IsLive R.Reads src.old file) files.now }
-    requires most { length tracks.now ≤ MOST_LINKS }
+    requires most { length tracks.now ≤ MAX_LINKS }
     ensures ready { IfOk result (IsReady (live_files R.Reads src.new)) }
     ensures standing { R.standing src.new ≡ R.standing src.old }
 {

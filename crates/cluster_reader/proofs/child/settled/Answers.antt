@@ -2,7 +2,7 @@ use Rattle.std.proofs.Common.{◌≡◌, ◌≤◌, min, length, take, sym, ◌�
 use Rattle.mkv_schema.specs.Element.{known}
 use Rattle.elements.specs.Window.{front_from}
 use Rattle.cluster_reader.specs.Takes.{held_front, settled_by}
-use Rattle.cluster_reader.specs.declared.child.TheConstants.{MOST_OF_FRONT}
+use Rattle.cluster_reader.specs.declared.child.TheConstants.{MAX_PREVIEW_LEN}
 use Rattle.cluster_reader.proofs.PassedLemmas.{settled-held, settled_by-cut, settled_by-other, settled_by-wanted}
 use Rattle.cluster_reader.proofs.child.settled.Goals as goal
 use Rattle.cluster_reader.proofs.child.settled.Goals.{After-front_at-front}
@@ -18,7 +18,7 @@ returns-else-wants-clause-found c =
 front-is : (c : After-front_at-front) → c.front_at-front.result.now ≡ held_front c.args.window.now c.args.header.now
 front-is c =
     c.front_at-front.ensures.exact
-    ∙ ap (λ n. take n (front_from c.args.window.now c.args.header.now.body)) (c.min-most.ensures ∙ ap (λ n. min n MOST_OF_FRONT) c.known.ensures)
+    ∙ ap (λ n. take n (front_from c.args.window.now c.args.header.now.body)) (c.min-most.ensures ∙ ap (λ n. min n MAX_PREVIEW_LEN) c.known.ensures)
 
 -- no track stands in it
 pub returns-in_err-track-clause-exact : goal.returns-in_err-track-clause-exact

@@ -2,7 +2,7 @@
 use Rattle.std.proofs.Common.{ap, arith}
 use Rattle.tree_format.specs.Node.{nodes_of}
 use Rattle.tree_format.specs.Standing.{kept_all}
-use Rattle.merged_records.proofs.KeptLemmas.{kept-children, next-written, next-unwritten, none-left, child-smaller}
+use Rattle.output_records.proofs.KeptLemmas.{kept-children, next-written, next-unwritten, none-left, child-smaller}
 use Rattle.edit_plan.proofs.counting.+kept.Goals as goal
 use Rattle.edit_plan.proofs.counting.+kept.Goals.{then-written_len-gt0+in_ok-kept+in_ok-count, else-written_len-gt0}
 

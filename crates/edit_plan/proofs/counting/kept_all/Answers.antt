@@ -1,6 +1,6 @@
 -- Each that is written counts.
 use Rattle.std.proofs.Common.{arith}
-use Rattle.merged_records.proofs.KeptLemmas.{next-written, next-unwritten}
+use Rattle.output_records.proofs.KeptLemmas.{next-written, next-unwritten}
 use Rattle.edit_plan.proofs.counting.kept_all.Goals as goal
 use Rattle.edit_plan.proofs.counting.kept_all.Goals.{then-written_len-gt0+in_ok-kept+in_ok-count, else-written_len-gt0}
 

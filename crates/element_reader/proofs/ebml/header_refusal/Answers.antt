@@ -1,5 +1,5 @@
 use Rattle.std.proofs.Common.{◌+◌, length, sym, ◌∙◌, ap}
-use Rattle.mkv_schema.specs.declared.limits.TheConstants.{MOST_OF_HEADER}
+use Rattle.mkv_schema.specs.declared.limits.TheConstants.{MAX_HEADER_LEN}
 use Rattle.mkv_schema.specs.Outline.{over, bad_value, first_damage, header_causes}
 use Rattle.mkv_schema.specs.declared.ids.TheConstants.{EBML}
 use Rattle.element_reader.specs.EbmlChildren.{children, value_causes}
@@ -13,7 +13,7 @@ returns-in-Some c = λ bytes is.
     let h = c.args.header.now in
     let run = children bytes h.body (h.body + length c.args.body.now) in
     sym (ap (λ n. first_damage (header_causes bytes h (children bytes h.body (h.body + n)))) (sym c.requires.whole)
-    ∙ refused-by_child (over MOST_OF_HEADER h) (bad_value bytes EBML run.list) run.damage (value_causes bytes run.list) c.in-Some.damage (over-none h c.requires.most) (sym (c.in-Some.ensures bytes is)))
+    ∙ refused-by_child (over MAX_HEADER_LEN h) (bad_value bytes EBML run.list) run.damage (value_causes bytes run.list) c.in-Some.damage (over-none h c.requires.most) (sym (c.in-Some.ensures bytes is)))
 
 -- their values are what is left
 pub returns : goal.returns
@@ -23,4 +23,4 @@ returns c = λ bytes is.
     let none = sym (c.child_refusal.ensures bytes is) ∙ none_where c.child_refusal.result c.in_default.not-Some in
     c.value_refusal.ensures bytes is none
     ∙ sym (ap (λ n. first_damage (header_causes bytes h (children bytes h.body (h.body + n)))) (sym c.requires.whole)
-    ∙ refused-by_value (over MOST_OF_HEADER h) (bad_value bytes EBML run.list) run.damage (value_causes bytes run.list) (over-none h c.requires.most) none)
+    ∙ refused-by_value (over MAX_HEADER_LEN h) (bad_value bytes EBML run.list) run.damage (value_causes bytes run.list) (over-none h c.requires.most) none)

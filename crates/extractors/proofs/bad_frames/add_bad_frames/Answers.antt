@@ -2,7 +2,7 @@ use Rattle.std.proofs.Common.{◌≡◌, ◌==◌, List, Some, None, sym, ◌∙
 use Rattle.std.specs.List.{find}
 use Rattle.std.specs.Option.{option_copied}
 use Rattle.mkv_io.specs.declared.damage.Damage.{Damage}
-use Rattle.block_records.specs.declared.head.BlockHead.{BlockHead}
+use Rattle.block_reader.specs.declared.head.BlockHead.{BlockHead}
 use Rattle.extractors.specs.BadFrames.{TellsMore}
 use Rattle.extractors.specs.Walks.{IsReady}
 use Rattle.extractors.specs.declared.track_output.TrackOutput.{TrackOutput}

@@ -1,7 +1,7 @@
 use Rattle.std.proofs.Common.{◌≡◌, ◌<◌, ◌+◌, ◌-◌, ℕ, if◌then◌else◌, List, length, take, drop, get_or, sum, refl, ◌∙◌, ap, subst, arith}
 use Rattle.mkv_io.specs.declared.damage.Damage.{Damage}
 use Rattle.cluster_reader.specs.ToldDamages.{with_damage}
-use Rattle.block_records.specs.Buffered.{block_of}
+use Rattle.block_reader.specs.Buffered.{block_of}
 use Rattle.extractors.specs.BadFrames.{TellsMore, bad_frame, is_bad}
 use Rattle.extractors.proofs.BadFramesLemmas.{ToldUpTo-begins, ToldUpTo-ends, ToldUpTo-next, bad_left-block, bad_left-none}
 use Rattle.extractors.proofs.FramesLemmas.{rest-next}

@@ -1,6 +1,6 @@
 -- The bad frames before those that are left were told.
 use Rattle.std.proofs.Common.{◌≡◌, ◌+◌, drop, length, sum}
-use Rattle.block_records.specs.Buffered.{block_of}
+use Rattle.block_reader.specs.Buffered.{block_of}
 use Rattle.extractors.specs.BadFrames.{bad_frame}
 use Rattle.extractors.proofs.BadFramesLemmas.{ToldUpTo, bad_left}
 use Rattle.extractors.proofs.bad_frames.add_bad_of.Given as goal

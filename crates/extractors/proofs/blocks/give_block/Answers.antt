@@ -2,10 +2,10 @@ use Rattle.std.proofs.Common.{◌<◌, ℕ, List, length, subst, sym, ap, refl, 
 use Rattle.std.proofs.Math.ListN.{set}
 use Rattle.std.proofs.lemmas.List.{length-set}
 use Rattle.mkv_outputs.specs.Sinks.{HaveBeenGiven}
-use Rattle.mkv_outputs.specs.Starts.{StandsInPart}
+use Rattle.mkv_outputs.specs.Starts.{ArePrefixes}
 use Rattle.mkv_outputs.proofs.FilesLemmas.{WritesOutputs-none, WritesOutputs-then}
 use Rattle.mkv_outputs.proofs.GivenLemmas.{length-same}
-use Rattle.mkv_outputs.proofs.StartsLemmas.{StandsInPart-then}
+use Rattle.mkv_outputs.proofs.StartsLemmas.{ArePrefixes-then}
 use Rattle.extractors.proofs.BlocksLemmas.{WritesBlock-err, given_upto, given_upto-all, given_upto-begun, given_upto-more, given_upto-none, numbers_upto-all, numbers_upto-more, numbers_upto-none, numbers-at}
 use Rattle.extractors.proofs.TakesLemmas.{enough-at}
 use Rattle.extractors.proofs.blocks.give_block.Goals as goal
@@ -57,8 +57,8 @@ returns-in_err-numbers-clause-gives g c =
     λ b enough. WritesBlock-err g.F.Files list _ _ _ _ _ _ b c.from_residual.result c.from_residual.ensures.0
     (λ since blocks had.
     let named = numbers-at c.loop-k.numbers.items k n list o blocks b (c.loop-k.invariant.numbers b enough blocks had.next) below c.index-list-k.is c.index.ensures in
-    StandsInPart-then since _ _ _
-    (subst (StandsInPart since (g.F.Files.names c.give_to.new.files)) (given_upto-more k list o n blocks b below c.index-list-k.is named)
+    ArePrefixes-then since _ _ _
+    (subst (ArePrefixes since (g.F.Files.names c.give_to.new.files)) (given_upto-more k list o n blocks b below c.index-list-k.is named)
     (c.in_err-numbers.ensures.gives b (enough-at list k o b c.args.cursor.now.block below c.index-list-k.is enough.each) since (given_upto k list blocks b) (c.loop-k.invariant.has b enough since blocks had)))
     (given_upto-begun _ list blocks b))
 

@@ -1,5 +1,5 @@
 use Rattle.std.proofs.Common.{◌≡◌, ℕ, ◌+◌, List, length, IfOk, ap, sym, subst, ◌∙◌, arith}
-use Rattle.block_records.specs.declared.head.BlockHead.{BlockHead}
+use Rattle.block_reader.specs.declared.head.BlockHead.{BlockHead}
 use Rattle.cluster_reader.specs.Takes.{IsKnownByHead}
 use Rattle.extractors.specs.Content.{counted, entries_from}
 use Rattle.extractors.specs.Frames.{Frame, frames_of_block}

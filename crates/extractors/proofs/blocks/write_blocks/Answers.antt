@@ -10,7 +10,7 @@ use Rattle.cluster_reader.specs.declared.step.Step.TheVariants as StepOf
 use Rattle.cluster_reader.proofs.ReadingLemmas.{CanRead-kept}
 use Rattle.mkv_outputs.specs.Sinks.{names_under}
 use Rattle.mkv_outputs.proofs.GivenLemmas.{HaveBeenGiven-part}
-use Rattle.mkv_outputs.proofs.StartsLemmas.{StandsInPart-then}
+use Rattle.mkv_outputs.proofs.StartsLemmas.{ArePrefixes-then}
 use Rattle.extractors.specs.Content.{outputs_of}
 use Rattle.extractors.specs.declared.extracted.Extracted.{Extracted}
 use Rattle.extractors.proofs.ContentLemmas.{outputs_of-begun}
@@ -41,7 +41,7 @@ steps-init g c =
 pub returns-in_err-numbers-clause-gives : goal.returns-in_err-numbers-clause-gives
 returns-in_err-numbers-clause-gives g c = λ bytes told.
     GivesBlocks-err g.F.Files c.args.list.now c.args.files.now c.args.files.now c.args.outputs.now c.args.outputs.now (blocks_of (left_of bytes c.args.cursor.now)) c.from_residual.result c.from_residual.ensures.0
-    (λ since has. StandsInPart-then since (g.F.Files.names c.args.files.now) (outputs_of c.args.list.now []) (outputs_of c.args.list.now (blocks_of (left_of bytes c.args.cursor.now)))
+    (λ since has. ArePrefixes-then since (g.F.Files.names c.args.files.now) (outputs_of c.args.list.now []) (outputs_of c.args.list.now (blocks_of (left_of bytes c.args.cursor.now)))
     (HaveBeenGiven-part since (g.F.Files.names c.args.files.now) (g.F.Files.holder c.args.files.now) c.args.outputs.now (outputs_of c.args.list.now []) has)
     (outputs_of-begun c.args.list.now [] (blocks_of (left_of bytes c.args.cursor.now))))
 
@@ -49,7 +49,7 @@ returns-in_err-numbers-clause-gives g c = λ bytes told.
 pub returns-in_err-told-clause-gives : goal.returns-in_err-told-clause-gives
 returns-in_err-told-clause-gives g c = λ bytes told.
     GivesBlocks-err g.F.Files c.args.list.now c.args.files.now c.args.files.now c.args.outputs.now c.args.outputs.now (blocks_of (left_of bytes c.args.cursor.now)) c.from_residual-in_err-told.result c.from_residual-in_err-told.ensures.0
-    (λ since has. StandsInPart-then since (g.F.Files.names c.args.files.now) (outputs_of c.args.list.now []) (outputs_of c.args.list.now (blocks_of (left_of bytes c.args.cursor.now)))
+    (λ since has. ArePrefixes-then since (g.F.Files.names c.args.files.now) (outputs_of c.args.list.now []) (outputs_of c.args.list.now (blocks_of (left_of bytes c.args.cursor.now)))
     (HaveBeenGiven-part since (g.F.Files.names c.args.files.now) (g.F.Files.holder c.args.files.now) c.args.outputs.now (outputs_of c.args.list.now []) has)
     (outputs_of-begun c.args.list.now [] (blocks_of (left_of bytes c.args.cursor.now))))
 

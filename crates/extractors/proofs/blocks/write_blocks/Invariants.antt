@@ -1,6 +1,6 @@
 -- What was met of the file was given and told, and what was read lies before what was read to.
 use Rattle.std.proofs.Common.{◌≡◌, ◌≤◌, ◌+◌, ◌-◌, length}
-use Rattle.mkv_io.specs.Told.{Told}
+use Rattle.mkv_io.specs.Told.{IfVisible}
 use Rattle.cluster_reader.specs.Reading.{CanRead, left_of, read_to}
 use Rattle.extractors.specs.Walks.{WritesAndReads}
 use Rattle.extractors.proofs.WalkLemmas.{MetSoFar}
@@ -8,7 +8,7 @@ use Rattle.extractors.proofs.blocks.write_blocks.Given as goal
 
 abbrev pub invariant-steps : goal.invariant-steps
 invariant-steps g l = record {
-  so : Told ((g.F.Reads.files (g.F.Reads.standing l.initial.files)).content l.initial.cursor.file.n) (λ bytes. MetSoFar g.F.Files l.list l.initial.files l.files l.initial.outputs l.outputs l.numbers.items (left_of bytes l.initial.cursor) (left_of bytes l.cursor) l.told.damages l.told.bad_frames);
+  so : IfVisible ((g.F.Reads.files (g.F.Reads.standing l.initial.files)).content l.initial.cursor.file.n) (λ bytes. MetSoFar g.F.Files l.list l.initial.files l.files l.initial.outputs l.outputs l.numbers.items (left_of bytes l.initial.cursor) (left_of bytes l.cursor) l.told.damages l.told.bad_frames);
   count : length l.numbers.items ≡ length l.list;
   ready : CanRead (g.F.Reads.files (g.F.Reads.standing l.files)) l.cursor;
   file : l.cursor.file ≡ l.initial.cursor.file;

@@ -2,10 +2,10 @@ use Rattle.std.proofs.Common.{◌≡◌, ◌<◌, ◌+◌, ℕ, List, [], true, 
 use Rattle.mkv_io.specs.Names.{AreOthers}
 use Rattle.mkv_outputs.specs.Outputs.{with_empty}
 use Rattle.mkv_outputs.specs.Sinks.{HaveBeenGiven, names_under}
-use Rattle.mkv_outputs.specs.Starts.{AreBegun, StandsInPart}
+use Rattle.mkv_outputs.specs.Starts.{AreBegun, ArePrefixes}
 use Rattle.mkv_outputs.proofs.FilesLemmas.{MadeSince-added, MadeSince-written}
 use Rattle.mkv_outputs.proofs.GivenLemmas.{HaveBeenGiven-count}
-use Rattle.mkv_outputs.proofs.StartsLemmas.{StandsInPart-then}
+use Rattle.mkv_outputs.proofs.StartsLemmas.{ArePrefixes-then}
 use Rattle.extractors.specs.Content.{names_in, outputs_of}
 use Rattle.extractors.proofs.MakeLemmas.{MakesOutputs-err, count-next, made-among, made-apart, made-begun, made-next-as, made-other, outputs_of-first}
 use Rattle.extractors.proofs.extraction.make_all.Goals as goal
@@ -25,7 +25,7 @@ returns-in_err-add-clause-makes g c =
     let since = g.F.Files.names c.args.files.now in
     let first = outputs_of (take c.loop-k.k c.args.list.now) [] in
     MakesOutputs-err g.F.Files c.args.files.now c.add.new.files c.add.new.self (outputs_of c.args.list.now []) c.from_residual.result c.from_residual.ensures.0
-    (StandsInPart-then since (g.F.Files.names c.add.new.files) (with_empty c.as_str.result.now first) (outputs_of c.args.list.now []) (c.in_err-add.ensures.gives since first c.loop-k.invariant.has)
+    (ArePrefixes-then since (g.F.Files.names c.add.new.files) (with_empty c.as_str.result.now first) (outputs_of c.args.list.now []) (c.in_err-add.ensures.gives since first c.loop-k.invariant.has)
     (subst (λ (name : List ℕ). AreBegun (with_empty name first) (outputs_of c.args.list.now [])) (sym c.as_str.ensures.same) (made-begun c.args.list.now c.loop-k.k c.index-list-k.result below c.index-list-k.is)))
 
 -- no other name was touched
@@ -54,8 +54,8 @@ returns-in_err-write-clause-makes g c =
     let first = outputs_of (take c.loop-k.k c.args.list.now) [] in
     let has = c.in_ok-add.ensures.gives since first c.loop-k.invariant.has in
     MakesOutputs-err g.F.Files c.args.files.now c.write.new.files c.write.new.self (outputs_of c.args.list.now []) c.from_residual-in_err-write.result c.from_residual-in_err-write.ensures.0
-    (StandsInPart-then since (g.F.Files.names c.write.new.files) (outputs_of (take (c.loop-k.k + 1) c.args.list.now) []) (outputs_of c.args.list.now [])
-    (subst (StandsInPart since (g.F.Files.names c.write.new.files))
+    (ArePrefixes-then since (g.F.Files.names c.write.new.files) (outputs_of (take (c.loop-k.k + 1) c.args.list.now) []) (outputs_of c.args.list.now [])
+    (subst (ArePrefixes since (g.F.Files.names c.write.new.files))
     (made-next-as c.args.list.now c.loop-k.k c.index-list-k.result c.as_str.result.now c.as_slice.result.now below c.index-list-k.is c.as_str.ensures.same c.as_slice.ensures)
     (c.in_err-write.ensures.gives since (with_empty c.as_str.result.now first) has))
     (outputs_of-first c.args.list.now (c.loop-k.k + 1) []))

@@ -2,7 +2,7 @@ use Rattle.std.proofs.Common.{[], sym, ◌∙◌}
 use Rattle.block_format.specs.Events.{blocks_of}
 use Rattle.cluster_reader.specs.Reading.{left_of}
 use Rattle.mkv_outputs.proofs.GivenLemmas.{HaveBeenGiven-count}
-use Rattle.mkv_outputs.proofs.StartsLemmas.{StandsInPart-then}
+use Rattle.mkv_outputs.proofs.StartsLemmas.{ArePrefixes-then}
 use Rattle.extractors.specs.Content.{outputs_of}
 use Rattle.extractors.proofs.ContentLemmas.{outputs_of-begun}
 use Rattle.extractors.proofs.MakeLemmas.{AreWritten-err, length-outputs, made-input, made-walked}
@@ -13,7 +13,7 @@ use Rattle.extractors.proofs.extraction.write_all.Goals as goal
 pub returns-in_err-make_all-clause-writes : goal.returns-in_err-make_all-clause-writes
 returns-in_err-make_all-clause-writes g c = λ bytes told.
     AreWritten-err (g.F.Files.names c.args.files.now) (g.F.Files.names c.make_all.new.files) (outputs_of c.args.list.now (blocks_of (left_of bytes c.args.cursor.now))) c.from_residual.result c.from_residual.ensures.0
-    (StandsInPart-then (g.F.Files.names c.args.files.now) (g.F.Files.names c.make_all.new.files) (outputs_of c.args.list.now []) (outputs_of c.args.list.now (blocks_of (left_of bytes c.args.cursor.now)))
+    (ArePrefixes-then (g.F.Files.names c.args.files.now) (g.F.Files.names c.make_all.new.files) (outputs_of c.args.list.now []) (outputs_of c.args.list.now (blocks_of (left_of bytes c.args.cursor.now)))
     c.in_err-make_all.ensures.makes (outputs_of-begun c.args.list.now [] (blocks_of (left_of bytes c.args.cursor.now))))
 
 -- as many were made as there are

@@ -1,7 +1,7 @@
 use Rattle.std.proofs.Common.{◌≡◌, List, [], ◌∷◌, ◌++◌, map, take, Some, None, slice_get, Result, Ok, sym, ◌∙◌, ap, append-nil}
 use Rattle.extractors.specs.Codec.{coding_of}
 use Rattle.extractors.specs.declared.frame_form.Coding.{Coding}
-use Rattle.extractors.specs.declared.frame_form.Unfit.{Unfit}
+use Rattle.extractors.specs.declared.frame_form.UnsupportedTrack.{UnsupportedTrack}
 use Rattle.std.specs.Option.{option_copied}
 use Rattle.extractors.specs.Job.{outputs_for, track_output}
 use Rattle.extractors.specs.declared.track_output.TrackOutput.{TrackOutput}
@@ -30,7 +30,7 @@ loop-target-preserved-in-Err c =
     let entry = c.in-Some.track.now.entry in
     c.loop-target.invariant
     ∙ sym (outputs_for-found c.args.form c.args.targets.now c.args.tracks.now c.loop-target.target-index c.target-item.result c.in-Some.track.now c.loop-target-test.true c.target-item.is found
-    ∙ ap (λ (r : Result Coding Unfit). first ++ track_output c.target-item.result.name entry r) (sym c.in_ok-read.ensures ∙ c.in-Err.is)
+    ∙ ap (λ (r : Result Coding UnsupportedTrack). first ++ track_output c.target-item.result.name entry r) (sym c.in_ok-read.ensures ∙ c.in-Err.is)
     ∙ append-nil first)
 
 -- another output
@@ -43,5 +43,5 @@ loop-target-preserved c =
     c.in_ok-push-in-Ok.ensures.items
     ∙ ap (λ (list : List TrackOutput). list ++ c.in_ok-output_with-in-Ok.field-0 ∷ []) c.loop-target.invariant
     ∙ ap (λ (o : TrackOutput). first ++ o ∷ []) c.in_ok-output_with-in-Ok.ensures
-    ∙ ap (λ (r : Result Coding Unfit). first ++ track_output c.target-item.result.name entry r) (sym read)
+    ∙ ap (λ (r : Result Coding UnsupportedTrack). first ++ track_output c.target-item.result.name entry r) (sym read)
     ∙ sym (outputs_for-found c.args.form c.args.targets.now c.args.tracks.now c.loop-target.target-index c.target-item.result c.in-Some.track.now c.loop-target-test.true c.target-item.is found)

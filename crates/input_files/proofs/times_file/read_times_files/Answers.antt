@@ -3,7 +3,7 @@ use Rattle.std.proofs.lemmas.Grind.{common_steps}
 use Rattle.std.proofs.lemmas.List.{nil_from_length}
 use Rattle.sidecar_edit.specs.Pending.{LooksOnly}
 use Rattle.input_files.specs.TimesFile.{given_with, octets_with, size_with, times_from, times_names, times_octets}
-use Rattle.input_files.specs.declared.limits.TheConstants.{MOST_OF_ALL_TIMES}
+use Rattle.input_files.specs.declared.limits.TheConstants.{MAX_ALL_TIMES_LEN}
 use Rattle.input_files.specs.declared.times_file.TimesGiven.{TimesGiven}
 use Rattle.input_files.specs.declared.times_file.TimesName.{TimesName}
 use Rattle.input_files.proofs.LooksLemmas.{LooksOnly-times, among-rest}
@@ -24,7 +24,7 @@ loop-named-preserved g c =
           let at = inv.looks.names ∙ told in
           let less : c.saturating_sub-room.result ≡ c.loop-named.room - found.size = first_of (search rules, omega arith, grind (arith, common_steps)) in
           given-more world c.loop-named.room c.saturating_sub-room.result n left rest (record { named = n; given = found.given }) c.loop-named.list c.push.new.self
-          (times_from world MOST_OF_ALL_TIMES c.into_iter-named-iterator.result.rest.items) c.in-Some.ensures.steps.0 (inv.exact world told) (ap (λ (x : TimesGiven). record { named = n; given = x })
+          (times_from world MAX_ALL_TIMES_LEN c.into_iter-named-iterator.result.rest.items) c.in-Some.ensures.steps.0 (inv.exact world told) (ap (λ (x : TimesGiven). record { named = n; given = x })
           (c.in_ok-found.ensures.exact world at ∙ ap (λ (name : List ℕ). given_with c.loop-named.room (world name)) c.as_str.ensures.same)) c.in_ok-push.ensures.ok
           (less ∙ ap (λ (s : ℕ). c.loop-named.room - s) (c.in_ok-found.ensures.size world at ∙ ap (λ (name : List ℕ). size_with (world name)) c.as_str.ensures.same));
       looks = LooksOnly-times g.F.Reads g.F.Files all left rest n c.as_str.result.now c.args.files.now c.loop-named.files c.read_named.new.files
@@ -47,7 +47,7 @@ returns-clause-exact g c = λ world told.
     sym (append-nil c.loop-named.list)
     ∙ ap (λ (ns : List TimesName). c.loop-named.list ++ times_from world c.loop-named.room ns) (sym none)
     ∙ c.loop-named.invariant.exact world told
-    ∙ ap (times_from world MOST_OF_ALL_TIMES) (all ∙ c.in_ok-named.ensures)
+    ∙ ap (times_from world MAX_ALL_TIMES_LEN) (all ∙ c.in_ok-named.ensures)
 
 pub returns-clause-octets : goal.returns-clause-octets
 returns-clause-octets g c = λ world told.

@@ -1,20 +1,20 @@
 -- What the files so far give, and behind it what those give that are left.
 use Rattle.std.proofs.Common.{◌≡◌, ◌+◌, ◌≤◌, ◌++◌}
-use Rattle.mkv_io.specs.Told.{Told}
+use Rattle.mkv_io.specs.Told.{IfVisible}
 use Rattle.sidecar_edit.specs.Pending.{LooksOnly}
 use Rattle.input_files.specs.TimesFile.{times_from, times_names}
-use Rattle.input_files.specs.declared.limits.TheConstants.{MOST_OF_ALL_TIMES}
+use Rattle.input_files.specs.declared.limits.TheConstants.{MAX_ALL_TIMES_LEN}
 use Rattle.input_files.proofs.LooksLemmas.{AreAmong}
 use Rattle.input_files.proofs.TimesLemmas.{octets_of}
 use Rattle.input_files.proofs.times_file.read_times_files.Given as goal
 
 abbrev pub invariant-loop-named : goal.invariant-loop-named
 invariant-loop-named g l = record {
-  exact : Told (g.F.Files.names l.initial.files) (λ world.
-      l.list ++ times_from world l.room l.named-iterator.rest.items ≡ times_from world MOST_OF_ALL_TIMES l.initial.named-iterator.rest.items);
+  exact : IfVisible (g.F.Files.names l.initial.files) (λ world.
+      l.list ++ times_from world l.room l.named-iterator.rest.items ≡ times_from world MAX_ALL_TIMES_LEN l.initial.named-iterator.rest.items);
   looks : LooksOnly g.F.Reads g.F.Files (times_names l.initial.named-iterator.rest.items) l.initial.files l.files;
   among : AreAmong l.named-iterator.rest.items l.initial.named-iterator.rest.items;
   reading : g.F.Reads.reading_faults l.files ≡ g.F.Reads.reading_faults l.initial.files;
-  octets : Told (g.F.Files.names l.initial.files) (λ world.
+  octets : IfVisible (g.F.Files.names l.initial.files) (λ world.
       g.F.Reads.octets_read l.files + octets_of world l.named-iterator.rest.items ≤ g.F.Reads.octets_read l.initial.files + octets_of world l.initial.named-iterator.rest.items);
 }

@@ -1,5 +1,5 @@
 use Rattle.std.proofs.Common.{sym, ◌∙◌, ap}
-use Rattle.block_records.specs.declared.head.BlockHead.{BlockHead}
+use Rattle.block_reader.specs.declared.head.BlockHead.{BlockHead}
 use Rattle.lanes.proofs.EndLemmas.{frames-here}
 use Rattle.lanes.proofs.frames.frames_of.Goals as goal
 

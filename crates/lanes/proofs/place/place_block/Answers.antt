@@ -1,7 +1,7 @@
 use Rattle.std.proofs.Common.{◌≡◌, ◌∙◌, ap, map}
 use Rattle.std.specs.Prelude.{ℕ, ℤ, List}
 use Rattle.block_format.specs.Content.{frames_cut}
-use Rattle.block_records.specs.declared.head.BlockHead.{BlockHead}
+use Rattle.block_reader.specs.declared.head.BlockHead.{BlockHead}
 use Rattle.merge_model.specs.Links.{lace_for}
 use Rattle.merge_model.specs.Ticks.{ticks_to}
 use Rattle.lanes.proofs.PlaceLemmas.{track-written}

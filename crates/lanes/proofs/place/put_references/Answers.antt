@@ -3,7 +3,7 @@ use Rattle.std.specs.List.{All}
 use Rattle.std.proofs.lemmas.Grind.{common_steps}
 use Rattle.std.proofs.lemmas.Int.{ints}
 use Rattle.std.proofs.lemmas.List.Elements.{All-append, All-cons, All-nil}
-use Rattle.block_records.specs.Time.{IsSmallTime}
+use Rattle.block_reader.specs.Time.{IsSmallTime}
 use Rattle.lanes.proofs.place.put_references.Goals as goal
 
 pub loop-away-preserved : goal.loop-away-preserved

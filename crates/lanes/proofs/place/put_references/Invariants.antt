@@ -1,6 +1,6 @@
 use Rattle.std.proofs.Common.{◌≡◌, map, take}
 use Rattle.std.specs.List.{All}
-use Rattle.block_records.specs.Time.{IsSmallTime}
+use Rattle.block_reader.specs.Time.{IsSmallTime}
 use Rattle.merge_model.specs.Ticks.{ticks_to}
 use Rattle.lanes.proofs.place.put_references.Given as goal
 

@@ -4,11 +4,11 @@ use Rattle.std.proofs.Math.ListN.{length-set}
 use Rattle.std.proofs.lemmas.Option.{slice_get_within, slice_get_read}
 use Rattle.mkv_io.specs.declared.outside.FileId.{FileId}
 use Rattle.mkv_io.specs.Sources.{live_files}
-use Rattle.block_records.specs.Buffered.{block_of}
+use Rattle.block_reader.specs.Buffered.{block_of}
 use Rattle.cluster_reader.specs.Reading.{CanRead, GivesWanted, left_of}
 use Rattle.cluster_reader.specs.declared.step.Step.{Step}
-use Rattle.cluster_reader.specs.declared.takes.Takes.TheVariants as takes
-use Rattle.mkv_io.specs.Told.{Told}
+use Rattle.cluster_reader.specs.declared.filter.BlockFilter.TheVariants as takes
+use Rattle.mkv_io.specs.Told.{IfVisible}
 use Rattle.mkv_io.specs.declared.outside.ReadEnd.{ReadEnd}
 use Rattle.std.specs.List.{All}
 use Rattle.output_model.specs.OutputBlock.{OutputBlock}
@@ -85,7 +85,7 @@ reads : (g : Over) (c : After-advance_for g) (new : Walk) → new.at ≡ c.args.
 reads g c new same now = record { at = c.requires.here; same = same; before = sym c.in-Some.ensures.value; now = now }
 
 given_by : (g : Over) (c : After-advance_for g) (result : Result Step ReadEnd) → All (IsToldLink (live_files g.R.Reads c.args.src.now)) c.args.links.now
-    → Told ((live_files g.R.Reads c.args.src.now).content c.in-Some.cursor.now.file.n) (λ bytes. GivesWanted (takes.Track c.args.track.now.number) bytes c.in-Some.cursor.now c.advance_for.new.self result)
+    → IfVisible ((live_files g.R.Reads c.args.src.now).content c.in-Some.cursor.now.file.n) (λ bytes. GivesWanted (takes.Track c.args.track.now.number) bytes c.in-Some.cursor.now c.advance_for.new.self result)
     → GivesWanted (takes.Track c.args.track.now.number) (octets_in (live_files g.R.Reads c.args.src.now) c.args.track.now.file.n) c.in-Some.cursor.now c.advance_for.new.self result
 given_by g c result told gives = turns.cursor-gives (live_files g.R.Reads c.args.src.now) c.args.links.now c.args.walk.now.at c.args.track.now c.in-Some.cursor.now c.advance_for.new.self result told c.requires.here (at g c).1 gives
 

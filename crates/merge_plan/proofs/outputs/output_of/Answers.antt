@@ -4,11 +4,11 @@ use Rattle.std.specs.List.{All, sum_by}
 use Rattle.std.proofs.lemmas.List.Elements.{All-from_get_or}
 use Rattle.output_model.specs.Attached.{attached_file}
 use Rattle.output_model.specs.declared.attachment.Attachment.{Attachment}
-use Rattle.merged_records.specs.Attachments.{merged_attachments}
-use Rattle.merged_records.specs.Chapters.{merged_chapters}
-use Rattle.merged_records.specs.Inputs.{IsInput}
-use Rattle.merged_records.specs.Tags.{HaveShortNumbers, merged_tags, numbers_of}
-use Rattle.merged_records.specs.Tracks.{output_tracks}
+use Rattle.output_records.specs.Attachments.{merged_attachments}
+use Rattle.output_records.specs.Chapters.{merged_chapters}
+use Rattle.output_records.specs.Inputs.{IsInput}
+use Rattle.output_records.specs.Tags.{HaveShortNumbers, merged_tags, numbers_of}
+use Rattle.output_records.specs.Tracks.{output_tracks}
 use Rattle.merge_inputs.specs.Input.{read_in}
 use Rattle.merge_inputs.specs.Taken.{IsTaken}
 use Rattle.merge_plan.specs.Planned.{StandsInInput}

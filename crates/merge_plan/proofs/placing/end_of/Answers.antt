@@ -3,7 +3,7 @@ use Rattle.std.proofs.Common.{ℕ, ◌+◌, ◌∙◌, ap, arith}
 use Rattle.mkv_io.specs.Sources.{live_files}
 use Rattle.merge_model.specs.Ends.{file_end}
 use Rattle.merge_inputs.specs.Input.{read_in}
-use Rattle.merge_plan.specs.Plan.{later_by}
+use Rattle.merge_plan.specs.Plan.{append_offset}
 use Rattle.merge_plan.proofs.PlanLemmas.{input-taken}
 use Rattle.merge_plan.proofs.LinkLemmas.{links-given, links-length, links-one, links-open, links-timed, links-told}
 use Rattle.merge_plan.proofs.placing.end_of.Goals as goal
@@ -30,7 +30,7 @@ returns-clause-exact g c = λ told.
     let links = c.in_ok-links.links in
     let are = c.in_ok-links.ensures in
     ap (λ (n : ℕ). n + c.in_ok-found.found.end) c.unwrap_or.ensures
-    ∙ ap (λ (n : ℕ). later_by (read_in i) + n) ((c.in_ok-found.ensures.value (links-told i links are (input-taken f i c.requires.input) f told)).end ∙ ap file_end (links-given i links are (input-taken f i c.requires.input) f))
+    ∙ ap (λ (n : ℕ). append_offset (read_in i) + n) ((c.in_ok-found.ensures.value (links-told i links are (input-taken f i c.requires.input) f told)).end ∙ ap file_end (links-given i links are (input-taken f i c.requires.input) f))
 
 pub returns-clause-octets : goal.returns-clause-octets
 returns-clause-octets g c =

@@ -3,7 +3,7 @@ use Rattle.std.proofs.Common.{◌≡◌, List, Option, map, refl, sym, ap, ◌�
 use Rattle.mkv_schema.specs.declared.ids.TheConstants.{CHAPTERS}
 use Rattle.tree_format.specs.Node.{Node}
 use Rattle.splitter.specs.Words.{spec_of}
-use Rattle.merged_records.specs.Info.{output_info}
+use Rattle.output_records.specs.Info.{output_info}
 use Rattle.merge_inputs.specs.Input.{read_in}
 use Rattle.merge_inputs.specs.declared.taken.TakenTrack.{TakenTrack}
 use denote.Ref.{Bor}

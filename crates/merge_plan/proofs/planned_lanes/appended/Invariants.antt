@@ -1,7 +1,7 @@
 -- Those before go on.
 use Rattle.std.proofs.Common.{◌≡◌, ◌+◌, drop}
 use Rattle.std.specs.List.{prefix_len}
-use Rattle.merge_plan.specs.Spots.{goes_on}
+use Rattle.merge_plan.specs.TakenTracks.{goes_on}
 use Rattle.merge_plan.proofs.planned_lanes.appended.Given as goal
 
 abbrev pub invariant-loop-k : goal.invariant-loop-k

@@ -1,6 +1,6 @@
 -- The lane goes on in one input more.
 use Rattle.std.proofs.Common.{List, ◌+◌, ◌∷◌, ◌∙◌, sym, subst, take}
-use Rattle.merge_plan.specs.Spots.{IsLaneOf, Spot, spot, spots_at, spots_behind}
+use Rattle.merge_plan.specs.TakenTracks.{IsLaneOf, Spot, spot, spots_at, spots_behind}
 use Rattle.merge_plan.proofs.LaneLemmas.{behind-more, lane-more}
 use Rattle.merge_plan.proofs.planned_lanes.lane_of.Goals as goal
 

@@ -1,6 +1,6 @@
 -- The lane goes on in the inputs so far.
 use Rattle.std.proofs.Common.{◌≡◌, ◌+◌, ◌∷◌, take}
-use Rattle.merge_plan.specs.Spots.{IsLaneOf, spot, spots_behind}
+use Rattle.merge_plan.specs.TakenTracks.{IsLaneOf, spot, spots_behind}
 use Rattle.merge_plan.proofs.planned_lanes.lane_of.Given as goal
 
 abbrev pub invariant-loop-k : goal.invariant-loop-k

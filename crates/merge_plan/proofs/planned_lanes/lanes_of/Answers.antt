@@ -2,7 +2,7 @@
 use Rattle.std.proofs.Common.{List, [], ◌∷◌, ◌+◌, ◌∙◌, ap, drop}
 use Rattle.std.specs.List.{take_while}
 use Rattle.std.proofs.lemmas.List.{drop_all, take_rest}
-use Rattle.merge_plan.specs.Spots.{Spot, goes_on, spot, spots_behind, spots_from}
+use Rattle.merge_plan.specs.TakenTracks.{Spot, goes_on, spot, spots_behind, spots_from}
 use Rattle.splitter.specs.Split.{is_driver}
 use Rattle.merge_plan.proofs.LaneLemmas.{behind-taken, driven-more, input-next, item-taken, lane-next, lanes-done, left-same, left_at, place-next}
 use Rattle.merge_plan.proofs.planned_lanes.lanes_of.Goals as goal

@@ -1,6 +1,6 @@
 -- The lanes so far are the first of all.
 use Rattle.std.proofs.Common.{drop}
-use Rattle.merge_plan.specs.Spots.{AreDriven, spots_from}
+use Rattle.merge_plan.specs.TakenTracks.{AreDriven, spots_from}
 use Rattle.merge_plan.proofs.LaneLemmas.{GoOn, left_at}
 use Rattle.merge_plan.proofs.planned_lanes.lanes_of.Given as goal
 

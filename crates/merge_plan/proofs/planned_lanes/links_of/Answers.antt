@@ -3,7 +3,7 @@ use Rattle.std.proofs.Common.{List, ◌∙◌, subst}
 use Rattle.std.specs.List.{AllZip}
 use Rattle.std.proofs.lemmas.List.{take_all}
 use Rattle.merge_inputs.specs.declared.taken.TakenTrack.{TakenTrack}
-use Rattle.merge_plan.specs.Spots.{IsLink}
+use Rattle.merge_plan.specs.TakenTracks.{IsLink}
 use Rattle.merge_plan.proofs.LaneLemmas.{link-more}
 use Rattle.merge_plan.proofs.planned_lanes.links_of.Goals as goal
 

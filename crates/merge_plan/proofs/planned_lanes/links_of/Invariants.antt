@@ -1,7 +1,7 @@
 -- The tracks so far are links.
 use Rattle.std.proofs.Common.{take}
 use Rattle.std.specs.List.{AllZip}
-use Rattle.merge_plan.specs.Spots.{IsLink}
+use Rattle.merge_plan.specs.TakenTracks.{IsLink}
 use Rattle.merge_plan.proofs.planned_lanes.links_of.Given as goal
 
 abbrev pub invariant-loop-taken : goal.invariant-loop-taken

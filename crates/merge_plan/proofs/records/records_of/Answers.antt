@@ -3,9 +3,9 @@ use Rattle.std.proofs.Common.{◌++◌, [], sym, ap, subst, arith, map}
 use Rattle.std.specs.List.{All}
 use Rattle.std.proofs.lemmas.List.{drop_all}
 use Rattle.std.proofs.lemmas.List.Elements.{All-push}
-use Rattle.merged_records.specs.Inputs.{IsInput}
+use Rattle.output_records.specs.Inputs.{IsInput}
 use Rattle.merge_plan.specs.Records.{kept_in, records_from}
-use Rattle.merge_plan.specs.Spots.{HasRecords}
+use Rattle.merge_plan.specs.TakenTracks.{HasRecords}
 use Rattle.merge_plan.proofs.FileLemmas.{records-next, records-none}
 use Rattle.merge_plan.proofs.ListLemmas.{drop-next}
 use Rattle.merge_plan.proofs.records.records_of.Goals as goal

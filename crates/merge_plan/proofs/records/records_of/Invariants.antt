@@ -1,7 +1,7 @@
 -- The records so far, with those of what is left, are those of all; and each was read.
 use Rattle.std.proofs.Common.{◌≡◌, ◌++◌, [], drop, map}
 use Rattle.std.specs.List.{All}
-use Rattle.merged_records.specs.Inputs.{IsInput}
+use Rattle.output_records.specs.Inputs.{IsInput}
 use Rattle.merge_plan.specs.Records.{kept_in, records_from}
 use Rattle.merge_plan.proofs.records.records_of.Given as goal
 

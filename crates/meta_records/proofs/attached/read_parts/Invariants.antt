@@ -1,6 +1,6 @@
 -- The children so far were met and read.
 use Rattle.std.proofs.Common.{◌≡◌, ◌-◌, ◌≤◌, IfSome}
-use Rattle.mkv_io.specs.Told.{Told}
+use Rattle.mkv_io.specs.Told.{IfVisible}
 use Rattle.mkv_schema.specs.declared.ids.TheConstants.{ATTACHED_FILE}
 use Rattle.mkv_schema.specs.declared.element.Header.{Header}
 use Rattle.mkv_schema.specs.Element.{stated_end}
@@ -20,8 +20,8 @@ invariant-loop-at g l = record {
   faults : g.R.Reads.reading_faults l.src ≡ g.R.Reads.reading_faults l.fn.src;
   built : IsBuilt ATTACHED_FILE l.fn.attached.offset 0 (children l.entry) l.entry;
   inside : IfSome l.first (λ (d : Header). stated_end d ≤ l.end);
-  met : Told ((g.R.Reads.files (g.R.Reads.standing l.fn.src)).content l.file.n) (λ bytes. IsMet (at_part bytes) bytes l.fn.attached.body l.at l.end l.fn.counts l.counts);
-  read : Told ((g.R.Reads.files (g.R.Reads.standing l.fn.src)).content l.file.n) (λ bytes. AreRead bytes l.fn.attached.body l.at l.end (children l.entry) l.first);
+  met : IfVisible ((g.R.Reads.files (g.R.Reads.standing l.fn.src)).content l.file.n) (λ bytes. IsMet (at_part bytes) bytes l.fn.attached.body l.at l.end l.fn.counts l.counts);
+  read : IfVisible ((g.R.Reads.files (g.R.Reads.standing l.fn.src)).content l.file.n) (λ bytes. AreRead bytes l.fn.attached.body l.at l.end (children l.entry) l.first);
   pays : IsPaid (l.at - l.fn.attached.body) l.fn.counts l.counts (g.R.Reads.octets_read l.fn.src) (g.R.Reads.octets_read l.src);
 }
 

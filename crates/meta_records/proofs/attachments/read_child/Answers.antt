@@ -6,7 +6,7 @@ use Rattle.std.specs.Prelude.{All}
 use Rattle.output_model.specs.declared.attachment.Attachment.{Attachment}
 use Rattle.meta_records.specs.Walk.{IsAttachedIn}
 use Rattle.meta_records.specs.Attachments.{at_child}
-use Rattle.meta_records.specs.declared.end.AttachmentsEnd.TheVariants.{Refused}
+use Rattle.meta_records.specs.declared.end.MetaEnd.TheVariants.{Refused}
 use Rattle.meta_records.proofs.MetLemmas.{Meets-at, Meets-damage, child-over}
 use Rattle.meta_records.proofs.PaidLemmas.{IsSpent-header}
 use Rattle.meta_records.proofs.attachments.read_child.Goals as goal

@@ -7,7 +7,7 @@ use Rattle.mkv_schema.specs.Element.{stated_end}
 use Rattle.output_model.specs.declared.attachment.Attachment.{Attachment}
 use Rattle.meta_records.specs.Attachments.{at_child, met_in}
 use Rattle.meta_records.specs.Walk.{IsAttachedIn, Meets}
-use Rattle.meta_records.specs.declared.attachments.Found.{Found}
+use Rattle.meta_records.specs.declared.attachments.AttachmentScan.{AttachmentScan}
 use Rattle.meta_records.proofs.FilesLemmas.{AreFound, AreFound-all, AreFound-more, AreFound-none, walk-good, walk-refused}
 use Rattle.meta_records.proofs.MetLemmas.{IsMet-all, IsMet-more, IsMet-none, IsMet-stops, run_at}
 use Rattle.meta_records.proofs.PaidLemmas.{IsPaid-longer, IsPaid-none, IsPaid-on, IsSpent-on, few-paid, few-spent, way-paid}
@@ -70,9 +70,9 @@ returns-in_err-at-clause-exact g c = λ bytes told.
     let inside : c.loop-at.at < h.body + c.known.result = omega arith in
     let end : h.body + c.known.result ≡ stated_end h = ap (λ n. h.body + n) c.known.ensures in
     let p = err_from_is_err_and c.from_residual.result c.from_residual.ensures.1 in
-    let stops = IsMet-stops ℕ Found (at_child bytes) bytes h.body c.loop-at.at (h.body + c.known.result) c.new-counts.result c.loop-at.counts c.read_child.new.counts c.read_child.new.counts e (inv.met bytes told) inside (c.in_err-at.ensures.meets bytes now) in
-    rw (p.1, p.2) (walk-refused bytes h c.new-counts.result c.new-counts.ensures.octets c.new-counts.ensures.nodes Found c.args.file c.read_child.new.counts e
-    (subst (λ (q : ℕ). Meets {T = Found} (met_in (at_child bytes) (run_at bytes h.body q)) c.new-counts.result c.read_child.new.counts (Err e)) end stops))
+    let stops = IsMet-stops ℕ AttachmentScan (at_child bytes) bytes h.body c.loop-at.at (h.body + c.known.result) c.new-counts.result c.loop-at.counts c.read_child.new.counts c.read_child.new.counts e (inv.met bytes told) inside (c.in_err-at.ensures.meets bytes now) in
+    rw (p.1, p.2) (walk-refused bytes h c.new-counts.result c.new-counts.ensures.octets c.new-counts.ensures.nodes AttachmentScan c.args.file c.read_child.new.counts e
+    (subst (λ (q : ℕ). Meets {T = AttachmentScan} (met_in (at_child bytes) (run_at bytes h.body q)) c.new-counts.result c.read_child.new.counts (Err e)) end stops))
 
 pub returns-in_err-at-clause-octets : goal.returns-in_err-at-clause-octets
 returns-in_err-at-clause-octets g c =
@@ -98,7 +98,7 @@ returns-clause-exact g c = λ bytes told.
     let past : h.body + c.known.result ≤ c.loop-at.at = omega arith in
     let end : h.body + c.known.result ≡ stated_end h = ap (λ n. h.body + n) c.known.ensures in
     let all = IsMet-all (at_child bytes) bytes h.body c.loop-at.at (h.body + c.known.result) c.new-counts.result c.loop-at.counts c.loop-at.found (inv.met bytes told) past in
-    let meets = subst (λ (q : ℕ). Meets {T = Found} (met_in (at_child bytes) (run_at bytes h.body q)) c.new-counts.result c.loop-at.counts (Ok c.loop-at.found)) end all in
+    let meets = subst (λ (q : ℕ). Meets {T = AttachmentScan} (met_in (at_child bytes) (run_at bytes h.body q)) c.new-counts.result c.loop-at.counts (Ok c.loop-at.found)) end all in
     let good = walk-good bytes h c.new-counts.result c.new-counts.ensures.octets c.new-counts.ensures.nodes c.loop-at.counts c.loop-at.found meets in
     AreFound-all bytes c.args.file h c.loop-at.at c.loop-at.found (subst (λ (q : ℕ). AreFound bytes c.args.file h.body c.loop-at.at q c.loop-at.found) end (inv.are bytes told)) (omega (arith, end)) good
 

@@ -1,7 +1,7 @@
 -- The children so far were met, and the attached files among them found.
 use Rattle.std.proofs.Common.{◌≡◌, ◌-◌, ◌≤◌}
 use Rattle.std.specs.Prelude.{All}
-use Rattle.mkv_io.specs.Told.{Told}
+use Rattle.mkv_io.specs.Told.{IfVisible}
 use Rattle.meta_records.specs.Attachments.{at_child}
 use Rattle.meta_records.specs.Walk.{IsAttachedIn, IsPaid}
 use Rattle.meta_records.proofs.MetLemmas.{IsMet}
@@ -17,8 +17,8 @@ invariant-loop-at g l = record {
   sound : All (IsAttachedIn l.file l.end) l.found.attachments;
   none : l.initial.counts.octets ≡ 0;
   one : l.initial.counts.nodes ≡ 1;
-  met : Told ((g.R.Reads.files (g.R.Reads.standing l.fn.src)).content l.file.n) (λ bytes. IsMet (at_child bytes) bytes l.fn.header.body l.at l.end l.initial.counts l.counts);
-  are : Told ((g.R.Reads.files (g.R.Reads.standing l.fn.src)).content l.file.n) (λ bytes. AreFound bytes l.file l.fn.header.body l.at l.end l.found);
+  met : IfVisible ((g.R.Reads.files (g.R.Reads.standing l.fn.src)).content l.file.n) (λ bytes. IsMet (at_child bytes) bytes l.fn.header.body l.at l.end l.initial.counts l.counts);
+  are : IfVisible ((g.R.Reads.files (g.R.Reads.standing l.fn.src)).content l.file.n) (λ bytes. AreFound bytes l.file l.fn.header.body l.at l.end l.found);
   pays : IsPaid (l.at - l.fn.header.body) l.initial.counts l.counts (g.R.Reads.octets_read l.fn.src) (g.R.Reads.octets_read l.src);
 }
 

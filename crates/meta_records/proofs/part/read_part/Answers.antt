@@ -2,7 +2,7 @@
 use Rattle.std.proofs.Common.{Ok, Err, refl, ◌∙◌, ap, arith}
 use Rattle.std.proofs.lemmas.Result.{err_from_is_err_and}
 use Rattle.meta_records.specs.Attachments.{at_part, leaf_of, no_value, part_of}
-use Rattle.meta_records.specs.declared.end.AttachmentsEnd.TheVariants.{Refused}
+use Rattle.meta_records.specs.declared.end.MetaEnd.TheVariants.{Refused}
 use Rattle.meta_records.specs.declared.part.Part.{Part}
 use Rattle.meta_records.proofs.HeaderLemmas.{IsChild-longer}
 use Rattle.meta_records.proofs.LeafLemmas.{octets_of-counted}

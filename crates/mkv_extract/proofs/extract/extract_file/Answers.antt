@@ -1,7 +1,7 @@
 use Rattle.std.proofs.Common.{◌≡◌, List, [], Result, Some, refl, sym, ◌∙◌, ap, subst, rules}
 use Rattle.mkv_io.specs.declared.damage.Damage.{Damage}
 use Rattle.block_format.specs.Events.{Event}
-use Rattle.mkv_io.specs.Asked.{IsBesides}
+use Rattle.mkv_io.specs.Asked.{IsNotAmong}
 use Rattle.mkv_io.proofs.AskedLemmas.{asks-both, asks-none}
 use Rattle.extractors.specs.Job.{names_for}
 use Rattle.mkv_io.specs.declared.outside.FileId.{FileId}
@@ -75,22 +75,22 @@ returns-in-Ok-clause-ended g c =
 -- reading asks for nothing
 pub returns-in-Err-Refused-clause-asks : goal.returns-in-Err-Refused-clause-asks
 returns-in-Err-Refused-clause-asks g c =
-    asks-none (IsBesides [] (names_for c.args.job.now)) (g.F.Files.asked c.args.files.now) (g.F.Files.asked c.read_source.new.src)
+    asks-none (IsNotAmong [] (names_for c.args.job.now)) (g.F.Files.asked c.args.files.now) (g.F.Files.asked c.read_source.new.src)
     (g.met.F.Files.asked_stands c.read_source.new.src c.args.files.now c.in-Err-Refused.ensures.reads.standing)
 
 pub returns-in-Err-ReadFault-clause-asks : goal.returns-in-Err-ReadFault-clause-asks
 returns-in-Err-ReadFault-clause-asks g c =
-    asks-none (IsBesides [] (names_for c.args.job.now)) (g.F.Files.asked c.args.files.now) (g.F.Files.asked c.read_source.new.src)
+    asks-none (IsNotAmong [] (names_for c.args.job.now)) (g.F.Files.asked c.args.files.now) (g.F.Files.asked c.read_source.new.src)
     (g.met.F.Files.asked_stands c.read_source.new.src c.args.files.now c.in-Err-ReadFault.ensures.reads.standing)
 
 pub returns-in-Err-Memory-clause-asks : goal.returns-in-Err-Memory-clause-asks
 returns-in-Err-Memory-clause-asks g c =
-    asks-none (IsBesides [] (names_for c.args.job.now)) (g.F.Files.asked c.args.files.now) (g.F.Files.asked c.read_source.new.src)
+    asks-none (IsNotAmong [] (names_for c.args.job.now)) (g.F.Files.asked c.args.files.now) (g.F.Files.asked c.read_source.new.src)
     (g.met.F.Files.asked_stands c.read_source.new.src c.args.files.now c.in-Err-Memory.ensures.reads.standing)
 
 pub returns-in-Ok-clause-asks : goal.returns-in-Ok-clause-asks
 returns-in-Ok-clause-asks g c =
-    let Are = IsBesides [] (names_for c.args.job.now) in
+    let Are = IsNotAmong [] (names_for c.args.job.now) in
     asks-both Are (g.F.Files.asked c.args.files.now) (g.F.Files.asked c.read_source.new.src) (g.F.Files.asked c.extract_job.new.files)
     (asks-none Are (g.F.Files.asked c.args.files.now) (g.F.Files.asked c.read_source.new.src) (g.met.F.Files.asked_stands c.read_source.new.src c.args.files.now c.in-Ok.ensures.reads.standing))
     c.extract_job.ensures.asks

@@ -1,6 +1,6 @@
 use Rattle.std.proofs.Common.{refl, sym, ◌∙◌, ap, rules}
 use Rattle.std.specs.Option.{option_copied}
-use Rattle.mkv_io.specs.Asked.{IsBesides}
+use Rattle.mkv_io.specs.Asked.{IsNotAmong}
 use Rattle.mkv_io.specs.declared.asked.Asked.TheVariants.{Opened}
 use Rattle.mkv_io.proofs.AskedLemmas.{asks-one}
 use Rattle.sidecar_edit.specs.Name.{with_sidecar}
@@ -42,15 +42,15 @@ returns-in-Err-Memory-clause-verdict g c = λ world told.
 -- the file was asked for all the same
 pub returns-in-Err-Missing-clause-asks : goal.returns-in-Err-Missing-clause-asks
 returns-in-Err-Missing-clause-asks g c =
-    asks-one (IsBesides (with_sidecar c.args.name.now) (names_for c.args.job.now)) (Opened c.args.name.now) (g.F.Files.asked c.args.files.now) (g.F.Files.asked c.open_file.new.self) c.open_file.result (λ others. others.0 refl) c.open_file.ensures.asks
+    asks-one (IsNotAmong (with_sidecar c.args.name.now) (names_for c.args.job.now)) (Opened c.args.name.now) (g.F.Files.asked c.args.files.now) (g.F.Files.asked c.open_file.new.self) c.open_file.result (λ others. others.0 refl) c.open_file.ensures.asks
 
 pub returns-in-Err-Failed-clause-asks : goal.returns-in-Err-Failed-clause-asks
 returns-in-Err-Failed-clause-asks g c =
-    asks-one (IsBesides (with_sidecar c.args.name.now) (names_for c.args.job.now)) (Opened c.args.name.now) (g.F.Files.asked c.args.files.now) (g.F.Files.asked c.open_file.new.self) c.open_file.result (λ others. others.0 refl) c.open_file.ensures.asks
+    asks-one (IsNotAmong (with_sidecar c.args.name.now) (names_for c.args.job.now)) (Opened c.args.name.now) (g.F.Files.asked c.args.files.now) (g.F.Files.asked c.open_file.new.self) c.open_file.result (λ others. others.0 refl) c.open_file.ensures.asks
 
 pub returns-in-Err-Memory-clause-asks : goal.returns-in-Err-Memory-clause-asks
 returns-in-Err-Memory-clause-asks g c =
-    asks-one (IsBesides (with_sidecar c.args.name.now) (names_for c.args.job.now)) (Opened c.args.name.now) (g.F.Files.asked c.args.files.now) (g.F.Files.asked c.open_file.new.self) c.open_file.result (λ others. others.0 refl) c.open_file.ensures.asks
+    asks-one (IsNotAmong (with_sidecar c.args.name.now) (names_for c.args.job.now)) (Opened c.args.name.now) (g.F.Files.asked c.args.files.now) (g.F.Files.asked c.open_file.new.self) c.open_file.result (λ others. others.0 refl) c.open_file.ensures.asks
 
 -- it and its sidecar were opened, and the outputs made
 pub returns-clause-asks : goal.returns-clause-asks

@@ -9,7 +9,7 @@ use Rattle.mkv_lines.specs.Line.{warning_line}
 use Rattle.mkv_lines.specs.Said.{ReportLines, SaysPart, SaysUpTo}
 use Rattle.mkv_lines.proofs.SaidLemmas.{SaysPart-before, SaysPart-behind, SaysUpTo-ends, SaysUpTo-more, SaysUpTo-stops}
 use Rattle.mkv_extract.specs.Told.{more_line, others, warnings}
-use Rattle.mkv_extract.specs.declared.telling.Wrong.{Wrong}
+use Rattle.mkv_extract.specs.declared.telling.WarningKind.{WarningKind}
 use Rattle.mkv_extract.proofs.ToldLemmas.{warnings-next}
 use Rattle.mkv_extract.proofs.telling.warn.Goals as goal
 
@@ -44,11 +44,11 @@ all-warned old now name first k all way =
     SaysUpTo-ends old now (map (warning_line name) first) (subst (SaysUpTo old now (map (warning_line name) first)) (ap (map (warning_line name)) (drop_all k first all)) way)
 
 -- where there are others their number is told
-others-some : (what : Wrong) (name : List ℕ) (more : ℕ) → 0 < more → others what name more ≡ more_line what name more ∷ []
+others-some : (what : WarningKind) (name : List ℕ) (more : ℕ) → 0 < more → others what name more ≡ more_line what name more ∷ []
 others-some what name more some = let test : (more == 0) ≡ false = grind (arith, nat_tests, some) in ap (λ (a : Bool). if a then [] else more_line what name more ∷ []) test
 
 -- the number of the others couldn't be said
-returns-others : (old mid new : ReportLines) (what : Wrong) (name : List ℕ) (d : ToldDamages) (first : List Damage) (more : ℕ) → first ≡ d.first → more ≡ d.more → mid ≡ with_lines old (map (warning_line name) first) → 0 < more → SaysPart mid new (more_line what name more ∷ []) → SaysPart old new (warnings what name d)
+returns-others : (old mid new : ReportLines) (what : WarningKind) (name : List ℕ) (d : ToldDamages) (first : List Damage) (more : ℕ) → first ≡ d.first → more ≡ d.more → mid ≡ with_lines old (map (warning_line name) first) → 0 < more → SaysPart mid new (more_line what name more ∷ []) → SaysPart old new (warnings what name d)
 returns-others old mid new what name d first more is number said some part =
     subst (λ (list : List Damage). SaysPart old new (map (warning_line name) list ++ others what name d.more)) is
     (subst (λ (n : ℕ). SaysPart old new (map (warning_line name) first ++ others what name n)) number

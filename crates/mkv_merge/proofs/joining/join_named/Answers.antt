@@ -4,7 +4,7 @@ use Rattle.mkv_io.specs.Names.{Names}
 use Rattle.mkv_io.specs.Sources.{live_files}
 use Rattle.input_files.specs.Inputs.{file_names}
 use Rattle.merge_plan.specs.Plan.{Source}
-use Rattle.mkv_lines.specs.declared.status.Stop.TheVariants as stop
+use Rattle.mkv_lines.specs.declared.status.CommandEnd.TheVariants as stop
 use Rattle.mkv_merge.specs.Bound.{contents_length, files_size}
 use Rattle.mkv_merge.specs.Ends.{unopened}
 use Rattle.mkv_merge.specs.Joined.{Merges, as_merged, no_texts, sources_alone}

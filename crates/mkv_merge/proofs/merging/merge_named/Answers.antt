@@ -6,7 +6,7 @@ use Rattle.input_files.specs.declared.text_files.TextFiles.{TextFiles}
 use Rattle.merge_words.specs.declared.files.FileWords.{FileWords}
 use Rattle.mkv_lines.specs.Code.{read_stop}
 use Rattle.mkv_lines.specs.declared.status.Status.{Status}
-use Rattle.mkv_lines.specs.declared.status.Stop.TheVariants as stop
+use Rattle.mkv_lines.specs.declared.status.CommandEnd.TheVariants as stop
 use Rattle.mkv_merge.specs.Asked.{opened_by}
 use Rattle.mkv_merge.specs.Bound.{contents_length, files_size, most_looked, most_read}
 use Rattle.mkv_merge.specs.Ends.{HasReadCause, unopened}

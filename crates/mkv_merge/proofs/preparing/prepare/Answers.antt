@@ -40,14 +40,14 @@ returns-in-Some-clause-exact g c = λ contents told.
     (ap append_refusal (sym (ap (map read_in) c.as_slice.ensures)) ∙ sym c.append_refusal.ensures ∙ c.in-Some.is)
 
 -- what was read are inputs of these files
-pub set_in_place-requires-clause-inputs : goal.set_in_place-requires-clause-inputs
-set_in_place-requires-clause-inputs g c =
+pub assign_append_offsets-requires-clause-inputs : goal.assign_append_offsets-requires-clause-inputs
+assign_append_offsets-requires-clause-inputs g c =
     (inputs-timed (live_files g.R.Reads c.read_inputs.new.src) c.args.files.now c.args.words.now.webm c.args.texts.chapters c.in_ok-read.read c.in_ok-chaptered.chaptered c.in_ok-timed.timed
     c.requires.chapters c.in_ok-read.ensures.inputs c.in_ok-chaptered.ensures.exact c.in_ok-timed.ensures.same).good
 
 -- there are no more than 64
-pub set_in_place-requires-clause-few : goal.set_in_place-requires-clause-few
-set_in_place-requires-clause-few g c =
+pub assign_append_offsets-requires-clause-few : goal.assign_append_offsets-requires-clause-few
+assign_append_offsets-requires-clause-few g c =
     let inputs : List Input = c.in_ok-timed.timed in
     let are = inputs-timed (live_files g.R.Reads c.read_inputs.new.src) c.args.files.now c.args.words.now.webm c.args.texts.chapters c.in_ok-read.read c.in_ok-chaptered.chaptered inputs
     c.requires.chapters c.in_ok-read.ensures.inputs c.in_ok-chaptered.ensures.exact c.in_ok-timed.ensures.same in
@@ -91,17 +91,17 @@ returns-clause-prepared g c =
 pub returns-in_err-inputs-clause-octets : goal.returns-in_err-inputs-clause-octets
 returns-in_err-inputs-clause-octets g c =
     pays-both (live_files g.R.Reads c.args.src.now) (live_files g.R.Reads c.read_inputs.new.src) c.args.files.now c.args.words.now.webm c.args.texts.chapters c.in_ok-read.read c.in_ok-chaptered.chaptered c.in_ok-timed.timed
-    (g.R.Reads.octets_read c.args.src.now) (g.R.Reads.octets_read c.read_inputs.new.src) (g.R.Reads.octets_read c.set_in_place.new.src) (ap g.R.Reads.files c.in_ok-read.ensures.reading.standing)
-    c.requires.chapters c.in_ok-read.ensures.inputs c.in_ok-chaptered.ensures.exact c.in_ok-timed.ensures.same c.read_inputs.ensures.octets c.set_in_place.ensures.octets
+    (g.R.Reads.octets_read c.args.src.now) (g.R.Reads.octets_read c.read_inputs.new.src) (g.R.Reads.octets_read c.assign_append_offsets.new.src) (ap g.R.Reads.files c.in_ok-read.ensures.reading.standing)
+    c.requires.chapters c.in_ok-read.ensures.inputs c.in_ok-chaptered.ensures.exact c.in_ok-timed.ensures.same c.read_inputs.ensures.octets c.assign_append_offsets.ensures.octets
 
 pub returns-in_err-plan-clause-octets : goal.returns-in_err-plan-clause-octets
 returns-in_err-plan-clause-octets g c =
     pays-both (live_files g.R.Reads c.args.src.now) (live_files g.R.Reads c.read_inputs.new.src) c.args.files.now c.args.words.now.webm c.args.texts.chapters c.in_ok-read.read c.in_ok-chaptered.chaptered c.in_ok-timed.timed
-    (g.R.Reads.octets_read c.args.src.now) (g.R.Reads.octets_read c.read_inputs.new.src) (g.R.Reads.octets_read c.set_in_place.new.src) (ap g.R.Reads.files c.in_ok-read.ensures.reading.standing)
-    c.requires.chapters c.in_ok-read.ensures.inputs c.in_ok-chaptered.ensures.exact c.in_ok-timed.ensures.same c.read_inputs.ensures.octets c.set_in_place.ensures.octets
+    (g.R.Reads.octets_read c.args.src.now) (g.R.Reads.octets_read c.read_inputs.new.src) (g.R.Reads.octets_read c.assign_append_offsets.new.src) (ap g.R.Reads.files c.in_ok-read.ensures.reading.standing)
+    c.requires.chapters c.in_ok-read.ensures.inputs c.in_ok-chaptered.ensures.exact c.in_ok-timed.ensures.same c.read_inputs.ensures.octets c.assign_append_offsets.ensures.octets
 
 pub returns-clause-octets : goal.returns-clause-octets
 returns-clause-octets g c =
     pays-both (live_files g.R.Reads c.args.src.now) (live_files g.R.Reads c.read_inputs.new.src) c.args.files.now c.args.words.now.webm c.args.texts.chapters c.in_ok-read.read c.in_ok-chaptered.chaptered c.in_ok-timed.timed
-    (g.R.Reads.octets_read c.args.src.now) (g.R.Reads.octets_read c.read_inputs.new.src) (g.R.Reads.octets_read c.set_in_place.new.src) (ap g.R.Reads.files c.in_ok-read.ensures.reading.standing)
-    c.requires.chapters c.in_ok-read.ensures.inputs c.in_ok-chaptered.ensures.exact c.in_ok-timed.ensures.same c.read_inputs.ensures.octets c.set_in_place.ensures.octets
+    (g.R.Reads.octets_read c.args.src.now) (g.R.Reads.octets_read c.read_inputs.new.src) (g.R.Reads.octets_read c.assign_append_offsets.new.src) (ap g.R.Reads.files c.in_ok-read.ensures.reading.standing)
+    c.requires.chapters c.in_ok-read.ensures.inputs c.in_ok-chaptered.ensures.exact c.in_ok-timed.ensures.same c.read_inputs.ensures.octets c.assign_append_offsets.ensures.octets

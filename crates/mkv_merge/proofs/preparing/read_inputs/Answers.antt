@@ -9,7 +9,7 @@ use Rattle.merge_words.specs.declared.files.FileWords.{FileWords}
 use Rattle.merge_words.specs.Sound.{IsSoundFile}
 use Rattle.merge_inputs.specs.Input.{IsInput, read_in}
 use Rattle.merge_inputs.specs.declared.input.Input.{Input}
-use Rattle.merge_plan.specs.Spots.{HasPlace}
+use Rattle.merge_plan.specs.TakenTracks.{HasPlace}
 use Rattle.mkv_merge.specs.Prepared.{reads_in}
 use Rattle.mkv_merge.proofs.PreparingLemmas.{GoesOn, files-more, pays-all, pays-more, read-at, read-end, read-place, refused-at}
 use Rattle.mkv_merge.proofs.preparing.read_inputs.Goals as goal

@@ -4,7 +4,7 @@ use Rattle.std.specs.List.{All}
 use Rattle.mkv_io.specs.Sources.{live_files}
 use Rattle.merge_inputs.specs.Input.{IsInput}
 use Rattle.merge_inputs.specs.declared.input.Input.{Input}
-use Rattle.merge_plan.specs.Spots.{HasPlace}
+use Rattle.merge_plan.specs.TakenTracks.{HasPlace}
 use Rattle.mkv_merge.specs.Bound.{files_size}
 use Rattle.mkv_merge.specs.Prepared.{AreTold, reads_in}
 use Rattle.mkv_merge.proofs.PreparingLemmas.{GoesOn}

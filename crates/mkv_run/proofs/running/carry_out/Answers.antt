@@ -24,8 +24,8 @@ returns-in-Err-Memory-clause-touches g c =
     touches-nothing g.D.Reads g.D.Disk (reach_in (command (texts c.args.words.now.items))) c.args.files.now c.args.disk.now c.requires (g.met.D.Disk.only_now c.args.disk.now)
 
 -- what the words reach, the command does
-pub obey-requires-clause-at_rest : goal.obey-requires-clause-at_rest
-obey-requires-clause-at_rest g c = λ place.
+pub execute-requires-clause-at_rest : goal.execute-requires-clause-at_rest
+execute-requires-clause-at_rest g c = λ place.
     c.requires (subst (λ (asked : Result Command Usage). IsInPlace (reach_in asked)) (sym c.in-Ok.ensures.exact) place)
 
 pub returns-in-Err-Memory-clause-octets : goal.returns-in-Err-Memory-clause-octets
@@ -41,10 +41,10 @@ returns-in-Err-Usage-clause-octets g c =
 pub returns-in-Ok-clause-octets : goal.returns-in-Ok-clause-octets
 returns-in-Ok-clause-octets g c =
     subst (λ (asked : Result Command Usage). ReadsWithinAfter (g.F.Files.names c.args.files.now) (disk_world g.D.Disk c.args.disk.now) asked
-    (g.F.Reads.octets_read c.args.files.now + g.D.Reads.octets_read c.args.disk.now) (g.F.Reads.octets_read c.obey.new.files + g.D.Reads.octets_read c.obey.new.disk)) (sym c.in-Ok.ensures.exact) c.obey.ensures.octets
+    (g.F.Reads.octets_read c.args.files.now + g.D.Reads.octets_read c.args.disk.now) (g.F.Reads.octets_read c.execute.new.files + g.D.Reads.octets_read c.execute.new.disk)) (sym c.in-Ok.ensures.exact) c.execute.ensures.octets
 
 -- the words ask for what their command does
 pub returns-in-Ok-clause-asks : goal.returns-in-Ok-clause-asks
 returns-in-Ok-clause-asks g c =
     let f = g.F.Files in
-    subst (λ (asked : Result Command Usage). AsksNone (IsBesidesAfter asked) (f.asked c.args.files.now) (f.asked c.obey.new.files)) (sym c.in-Ok.ensures.exact) c.obey.ensures.asks
+    subst (λ (asked : Result Command Usage). AsksNone (IsBesidesAfter asked) (f.asked c.args.files.now) (f.asked c.execute.new.files)) (sym c.in-Ok.ensures.exact) c.execute.ensures.asks

@@ -1,6 +1,6 @@
 use Rattle.std.proofs.Common.{inl, inr, ap, subst}
-use Rattle.mkv_io.specs.Faults.{HasRisen}
-use Rattle.mkv_io.specs.Told.{Told}
+use Rattle.mkv_io.specs.Faults.{HasIncreased}
+use Rattle.mkv_io.specs.Told.{IfVisible}
 use Rattle.mkv_lines.specs.Code.{status_of}
 use Rattle.mkv_lines.specs.Faults.{Counts}
 use Rattle.mkv_lines.specs.Line.{disk_fault_line, files_fault_line}
@@ -31,7 +31,7 @@ returns-in-Err-Files-clause-verdict g c = λ verdict told.
     part c.say_files_fault.ensures.said c.say_files_fault.ensures.cause c.say_files_fault.ensures.memory in
     elim ends [
       | inl says ↦ inl (cause.0, says)
-      | inr report ↦ inr (inr (subst (λ n. HasRisen n (faults c.say_files_fault.new.report)) cause.1 report.0, report.1))
+      | inr report ↦ inr (inr (subst (λ n. HasIncreased n (faults c.say_files_fault.new.report)) cause.1 report.0, report.1))
     ])
     stopped
 
@@ -49,7 +49,7 @@ returns-in-Err-Disk-clause-verdict g c = λ verdict told.
     cause.2 c.say_disk_fault.ensures.said c.say_disk_fault.ensures.cause c.say_disk_fault.ensures.memory in
     elim ends [
       | inl says ↦ inr (inl (cause.0, says))
-      | inr report ↦ inr (inr (subst (λ n. HasRisen n (faults c.say_disk_fault.new.report)) (ap (λ (counts : Counts). counts.report) cause.1) report.0, report.1))
+      | inr report ↦ inr (inr (subst (λ n. HasIncreased n (faults c.say_disk_fault.new.report)) (ap (λ (counts : Counts). counts.report) cause.1) report.0, report.1))
     ])
     stopped
 
@@ -73,7 +73,7 @@ returns-in-Ok-clause-merged g c =
     let words = c.args.words.now.items in
     let disk = disk_world g.D.Disk c.args.disk.now in
     let status = c.in-Ok.status in
-    let ended : Told (verdict_in before.seen.names disk (texts words)) (Ends before now status) = λ verdict told. ends-done before now status verdict c.in-Ok.ensures.ended.ordinary (c.in-Ok.ensures.verdict verdict told) in
+    let ended : IfVisible (verdict_in before.seen.names disk (texts words)) (Ends before now status) = λ verdict told. ends-done before now status verdict c.in-Ok.ensures.ended.ordinary (c.in-Ok.ensures.verdict verdict told) in
     let well = merges-well before now disk words status c.in-Ok.ensures.readable ended in
     record { well = well; again = merges-again c.outputs_are_written_again.ensures before now disk words status well ended }
 

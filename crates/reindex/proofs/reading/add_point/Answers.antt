@@ -1,26 +1,26 @@
 -- A point is added, or none.
 use Rattle.std.proofs.Common.{◌≡◌, max, true, false, ◌∙◌, ap, arith}
-use Rattle.block_records.specs.Buffered.{block_of}
-use Rattle.block_records.specs.declared.head.BlockHead.{BlockHead}
+use Rattle.block_reader.specs.Buffered.{block_of}
+use Rattle.block_reader.specs.declared.head.BlockHead.{BlockHead}
 use Rattle.reindex.specs.Points.{is_indexed}
 use Rattle.reindex.specs.Reading.{cues_of, points_for}
 use Rattle.reindex.proofs.PointsLemmas.{adds-full, adds-none, adds-one, kept-before, points_for-none, points_for-nowhere, points_for-one}
 use Rattle.reindex.proofs.reading.add_point.Goals as goal
-use Rattle.reindex.proofs.reading.add_point.Goals.{then-len-ge-MOST_CUES-via-then-len-ge-MOST_CUES, then-len-ge-MOST_CUES-via-else-len-ge-MOST_CUES+then-not-is_indexed}
+use Rattle.reindex.proofs.reading.add_point.Goals.{then-len-ge-MAX_CUES-via-then-len-ge-MAX_CUES, then-len-ge-MAX_CUES-via-else-len-ge-MAX_CUES+then-not-is_indexed}
 
 -- there is no room, or the block gets none
-pub returns-then-len-ge-MOST_CUES-clause-adds : goal.returns-then-len-ge-MOST_CUES-clause-adds
-returns-then-len-ge-MOST_CUES-clause-adds g c = λ bytes told list come before.
+pub returns-then-len-ge-MAX_CUES-clause-adds : goal.returns-then-len-ge-MAX_CUES-clause-adds
+returns-then-len-ge-MAX_CUES-clause-adds g c = λ bytes told list come before.
     let b = block_of c.args.cursor.now.block in
     let few = c.requires.few in
     let count = c.len.ensures in
     record {
       come = come;
-      points = elim c.then-len-ge-MOST_CUES.branch [
-        | then-len-ge-MOST_CUES-via-then-len-ge-MOST_CUES w ↦
-            let full = w.if-len-ge-MOST_CUES.true in
+      points = elim c.then-len-ge-MAX_CUES.branch [
+        | then-len-ge-MAX_CUES-via-then-len-ge-MAX_CUES w ↦
+            let full = w.if-len-ge-MAX_CUES.true in
             adds-full c.args.points.now (points_for c.args.by.now list b) (omega arith) few
-        | then-len-ge-MOST_CUES-via-else-len-ge-MOST_CUES+then-not-is_indexed w ↦
+        | then-len-ge-MAX_CUES-via-else-len-ge-MAX_CUES+then-not-is_indexed w ↦
             let none : is_indexed c.args.by.now.tracks b ≡ false = cc (w.is_indexed.ensures, w.if-not-is_indexed.true) in
             adds-none c.args.points.now (points_for c.args.by.now list b) (points_for-none c.args.by.now list b none) few
       ];
@@ -34,7 +34,7 @@ returns-in_ok-push-clause-adds g c = λ bytes told list come before.
     let reached = c.in_ok-go_to.ensures.reached ∙ ap (λ (h : BlockHead). max c.args.clusters.now.reached h.offset) c.head.ensures.exact in
     let few = c.requires.few in
     let count = c.len.ensures in
-    let room = c.if-len-ge-MOST_CUES.false in
+    let room = c.if-len-ge-MAX_CUES.false in
     record {
       come = gone.come;
       points =

@@ -1,18 +1,18 @@
 -- The points are those of the blocks that were passed, and what was read is paid by both ways.
 use Rattle.std.proofs.Common.{◌≡◌, ◌≤◌, ◌+◌, ◌-◌, length}
-use Rattle.mkv_io.specs.Told.{Told}
+use Rattle.mkv_io.specs.Told.{IfVisible}
 use Rattle.elements.specs.Window.{HasNotPassed, end_ahead}
 use Rattle.cluster_reader.specs.Reading.{CanRead, left_of, read_to}
-use Rattle.output_model.specs.declared.TheConstants.{MOST_CUES}
+use Rattle.output_model.specs.declared.TheConstants.{MAX_CUES}
 use Rattle.reindex.specs.Clusters.{StaysReady}
 use Rattle.reindex.proofs.PointsLemmas.{HaveRead}
 use Rattle.reindex.proofs.reading.collect.Given as goal
 
 abbrev pub invariant-steps : goal.invariant-steps
 invariant-steps g l = record {
-  read : Told ((g.R.Reads.files (g.R.Reads.standing l.initial.src)).content l.initial.cursor.file.n)
+  read : IfVisible ((g.R.Reads.files (g.R.Reads.standing l.initial.src)).content l.initial.cursor.file.n)
       (λ bytes. HaveRead l.by bytes l.initial.clusters l.clusters (left_of bytes l.initial.cursor) (left_of bytes l.cursor) l.points);
-  few : length l.points ≤ MOST_CUES;
+  few : length l.points ≤ MAX_CUES;
   ready : CanRead (g.R.Reads.files (g.R.Reads.standing l.src)) l.cursor;
   file : l.cursor.file ≡ l.initial.cursor.file;
   lists : StaysReady (g.R.Reads.files (g.R.Reads.standing l.src)) l.initial.clusters l.clusters;

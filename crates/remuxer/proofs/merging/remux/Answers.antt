@@ -3,7 +3,7 @@ use Rattle.std.proofs.lemmas.Result.{err_from_is_err_and}
 use Rattle.std.specs.List.{range_with_len}
 use Rattle.mkv_io.specs.Sources.{live_files}
 use Rattle.remux_plan.specs.Parts.{is_split, outputs_in}
-use Rattle.remux_plan.specs.declared.TheConstants.{MOST_INPUTS}
+use Rattle.remux_plan.specs.declared.TheConstants.{MAX_INPUTS}
 use Rattle.remux_plan.specs.declared.summary.Written.{Written}
 use Rattle.remuxer.specs.Taking.{told_by}
 use Rattle.remuxer.specs.Told.{HasDamages}
@@ -95,4 +95,4 @@ returns-clause-summary g c = λ told.
     let m' = c.write_parts.new.blocks.merge in
     plan-summary c.requires it m' c.in_ok-summary.summary ((plan-ends c.requires it m' c.in_ok-written.ensures.ends).damages (plan-told c.requires it told))
     (c.in_ok-summary.ensures.outputs ∙ plan-says c.requires it c.in_ok-written.written c.in_ok-written.ensures.written told)
-    (subst (λ (ns : List (List ℕ)). HasDamages ns (told_by m') (range_with_len 0 MOST_INPUTS) c.in_ok-summary.summary) c.as_slice.ensures c.in_ok-summary.ensures.damages)
+    (subst (λ (ns : List (List ℕ)). HasDamages ns (told_by m') (range_with_len 0 MAX_INPUTS) c.in_ok-summary.summary) c.as_slice.ensures c.in_ok-summary.ensures.damages)

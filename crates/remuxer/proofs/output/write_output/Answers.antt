@@ -3,7 +3,7 @@ use Rattle.std.proofs.lemmas.Result.{err_from_is_err_and}
 use Rattle.mkv_io.specs.Names.{Names}
 use Rattle.mkv_io.specs.Sources.{live_files}
 use Rattle.mkv_io.specs.declared.remux_end.RemuxEnd.{RemuxEnd}
-use Rattle.mkv_outputs.specs.Drafts.{StandsInTurn}
+use Rattle.mkv_outputs.specs.Drafts.{AreWrittenInOrder}
 use Rattle.tree_format.specs.Node.{Node}
 use Rattle.output_model.specs.Document.{Document}
 use Rattle.cues_seekhead.specs.Draft.{draft_of}
@@ -126,7 +126,7 @@ returns-clause-writes g c = λ told.
     let after = (goal.at.returns-clause-writes g c).After-fill in
     let a = c.args.files.now in
     let d = its g (goal.at.returns-clause-writes g c).Start in
-    subst (λ (names : Names). StandsInTurn (g.F.Files.names a) names (draft_of c.args.name.now d ∷ [])) (sym c.abandon.ensures.names)
+    subst (λ (names : Names). AreWrittenInOrder (g.F.Files.names a) names (draft_of c.args.name.now d ∷ [])) (sym c.abandon.ensures.names)
     (drafted-in_turn (g.F.Files.names a) (g.F.Files.names c.fill.new.files) c.args.name.now d (c.in-Err.ensures.fills (told-then g after told) (g.F.Files.names a) c.args.name.now d (stands g after)))
 
 pub returns-clause-kept : goal.returns-clause-kept

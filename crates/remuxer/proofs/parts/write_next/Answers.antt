@@ -6,7 +6,7 @@ use Rattle.mkv_io.specs.Sources.{live_files}
 use Rattle.mkv_io.specs.Writing.{KeepsOthers}
 use Rattle.mkv_io.proofs.WritingLemmas.{KeepsOthers-then}
 use Rattle.mkv_io.proofs.EndsLemmas.{HasRemuxCause-read, HasRemuxCause-then}
-use Rattle.mkv_outputs.specs.Drafts.{StandsInTurn}
+use Rattle.mkv_outputs.specs.Drafts.{AreWrittenInOrder}
 use Rattle.output_model.specs.Document.{Document}
 use Rattle.output_model.specs.declared.attachment.Attachment.{Attachment}
 use Rattle.cues_seekhead.specs.Draft.{draft_of}
@@ -58,7 +58,7 @@ pub returns-in_err-done-clause-writes : goal.returns-in_err-done-clause-writes
 returns-in_err-done-clause-writes g c = λ told.
     let end = err_from_is_err_and c.from_residual.result c.from_residual.ensures.1 in
     let after = (goal.at.returns-in_err-done-clause-writes g c).After-write_own in
-    rw end.1 (subst (λ (n : ℕ). StandsInTurn (g.F.Files.names c.args.files.now) (g.F.Files.names c.write_own.new.files) (draft_of (own_name c.args.spec.now n) (its g after n) ∷ [])) (num g after) (c.in_err-done.ensures.writes told))
+    rw end.1 (subst (λ (n : ℕ). AreWrittenInOrder (g.F.Files.names c.args.files.now) (g.F.Files.names c.write_own.new.files) (draft_of (own_name c.args.spec.now n) (its g after n) ∷ [])) (num g after) (c.in_err-done.ensures.writes told))
 
 pub returns-in_err-done-clause-kept : goal.returns-in_err-done-clause-kept
 returns-in_err-done-clause-kept g c = kept-one g (goal.at.returns-in_err-done-clause-kept g c).After-write_own c.write_own.new.files c.in_err-done.ensures.kept
@@ -69,7 +69,7 @@ stands : (g : Over) (c : After-write_own g) → WritesLayout (g.F.Files.names c.
 stands g c = subst (λ (n : ℕ). WritesLayout (g.F.Files.names c.args.files.now) (g.F.Files.names c.write_own.new.files) (own_name c.args.spec.now n) (its g c n)) (num g c)
 
 whole : (g : Over) (c : After-write_own g) → WritesLayout (g.F.Files.names c.args.files.now) (g.F.Files.names c.write_own.new.files) (own_name c.args.spec.now (length c.as_slice.result.now + 1)) (its g c (length c.as_slice.result.now + 1))
-    → StandsInTurn (g.F.Files.names c.args.files.now) (g.F.Files.names c.write_own.new.files) (draft_of (next_name c.args.spec.now c.args.written.now) (its g c (length c.args.written.now + 1)) ∷ [])
+    → AreWrittenInOrder (g.F.Files.names c.args.files.now) (g.F.Files.names c.write_own.new.files) (draft_of (next_name c.args.spec.now c.args.written.now) (its g c (length c.args.written.now + 1)) ∷ [])
 whole g c wrote =
     whole-in_turn (g.F.Files.names c.args.files.now) (g.F.Files.names c.write_own.new.files) (next_name c.args.spec.now c.args.written.now) (its g c (length c.args.written.now + 1)) (stands g c wrote)
 
@@ -112,7 +112,7 @@ returns-in_err-begun-clause-writes g c = λ told.
     let end = err_from_is_err_and c.from_residual-in_err-begun.result c.from_residual-in_err-begun.ensures.1 in
     let after = (goal.at.returns-in_err-begun-clause-writes g c).After-write_own in
     let d = its g after (length c.args.written.now + 1) in
-    rw end.1 (subst (λ (names : Names). StandsInTurn (g.F.Files.names c.args.files.now) names (draft_of (next_name c.args.spec.now c.args.written.now) d ∷ [])) (sym (read g c.write_own.new.files c.next_part.new.src c.in_err-begun.ensures.standing).names)
+    rw end.1 (subst (λ (names : Names). AreWrittenInOrder (g.F.Files.names c.args.files.now) names (draft_of (next_name c.args.spec.now c.args.written.now) d ∷ [])) (sym (read g c.write_own.new.files c.next_part.new.src c.in_err-begun.ensures.standing).names)
     (whole g after (c.in_ok-done.ensures.writes told)))
 
 pub returns-in_err-begun-clause-kept : goal.returns-in_err-begun-clause-kept

@@ -4,7 +4,7 @@ use Rattle.mkv_io.specs.Faults.{counted}
 use Rattle.mkv_io.specs.Sources.{live_files}
 use Rattle.mkv_io.specs.Writing.{KeepsOthers}
 use Rattle.mkv_io.proofs.WritingLemmas.{KeepsOthers-none}
-use Rattle.mkv_outputs.proofs.DraftsLemmas.{StandsInTurn-none}
+use Rattle.mkv_outputs.proofs.DraftsLemmas.{AreWrittenInOrder-none}
 use Rattle.tree_format.specs.Node.{IsMaster, Node, id_of}
 use Rattle.cues_seekhead.specs.OpenOutput.{CanAttach}
 use Rattle.time_merge.specs.Laws.{IsApart}
@@ -24,7 +24,7 @@ use Rattle.remuxer.proofs.parts.write_own.Goals.{After-write_output}
 pub returns-in_err-name-clause-writes : goal.returns-in_err-name-clause-writes
 returns-in_err-name-clause-writes g c = λ told.
     let end = err_from_is_err_and c.from_residual.result c.from_residual.ensures.1 in
-    rw end.1 (StandsInTurn-none (g.F.Files.names c.args.files.now) _)
+    rw end.1 (AreWrittenInOrder-none (g.F.Files.names c.args.files.now) _)
 
 pub returns-in_err-name-clause-kept : goal.returns-in_err-name-clause-kept
 returns-in_err-name-clause-kept g c = KeepsOthers-none g.F.Reads g.F.Files _ c.args.files.now

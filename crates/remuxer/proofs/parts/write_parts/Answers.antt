@@ -3,8 +3,8 @@ use Rattle.std.proofs.lemmas.Result.{err_from_is_err_and}
 use Rattle.mkv_io.specs.Names.{Names}
 use Rattle.mkv_io.specs.Sources.{live_files}
 use Rattle.mkv_io.proofs.EndsLemmas.{HasRemuxCause-read}
-use Rattle.mkv_outputs.specs.Drafts.{StandsInTurn}
-use Rattle.mkv_outputs.proofs.DraftsLemmas.{StandsInTurn-none}
+use Rattle.mkv_outputs.specs.Drafts.{AreWrittenInOrder}
+use Rattle.mkv_outputs.proofs.DraftsLemmas.{AreWrittenInOrder-none}
 use Rattle.remux_plan.specs.declared.summary.Written.{Written}
 use Rattle.remuxer.specs.Output.{drafts_of, outputs_left}
 use Rattle.remuxer.proofs.OutputsLemmas.{OnTheWay, all-summed, all-written, keeps-read, refused-next, way-apart, way-at, way-begins, way-keeps, way-next, way-records, way-refused, way-scale}
@@ -23,7 +23,7 @@ returns-in_err-begun-clause-writes g c = λ told.
     let a = c.args.files.now in
     let b = c.first_part.new.src in
     let all = drafts_of (outputs_left (live_files g.F.Reads a) c.args.spec c.args.blocks.now) in
-    rw end.1 (subst (λ (names : Names). StandsInTurn (g.F.Files.names a) names all) (sym (read g a b c.in_err-begun.ensures.standing).names) (StandsInTurn-none (g.F.Files.names a) all))
+    rw end.1 (subst (λ (names : Names). AreWrittenInOrder (g.F.Files.names a) names all) (sym (read g a b c.in_err-begun.ensures.standing).names) (AreWrittenInOrder-none (g.F.Files.names a) all))
 
 pub returns-in_err-begun-clause-kept : goal.returns-in_err-begun-clause-kept
 returns-in_err-begun-clause-kept g c =

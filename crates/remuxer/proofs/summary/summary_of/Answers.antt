@@ -1,6 +1,6 @@
 use Rattle.std.proofs.Common.{◌≡◌, ℕ, ◌+◌, option_copied, sym, ◌∙◌, ap, subst, arith}
 use Rattle.std.specs.List.{range_with_len}
-use Rattle.remux_plan.specs.declared.TheConstants.{MOST_INPUTS}
+use Rattle.remux_plan.specs.declared.TheConstants.{MAX_INPUTS}
 use Rattle.remux_plan.specs.declared.summary.Summary.{Summary}
 use Rattle.remuxer.specs.Taking.{told_by}
 use Rattle.remuxer.specs.Told.{HasDamages}
@@ -29,5 +29,5 @@ loop-input-preserved c =
 
 pub returns-clause-damages : goal.returns-clause-damages
 returns-clause-damages c =
-    let end : c.loop-input.input ≡ MOST_INPUTS = omega (arith, c.loop-input-test.false, c.loop-input.auto.input-end) in
+    let end : c.loop-input.input ≡ MAX_INPUTS = omega (arith, c.loop-input-test.false, c.loop-input.auto.input-end) in
     subst (λ (n : ℕ). HasDamages c.args.inputs.now (told_by c.args.merge.now) (range_with_len 0 n) c.loop-input.summary) end c.loop-input.invariant.damages

@@ -1,7 +1,7 @@
 use Rattle.std.proofs.Common.{◌≡◌, ◌∙◌, ◌+◌, ap, sym, subst, length, take}
 use Rattle.mkv_disk.specs.Pair.{Pair}
 use Rattle.mkv_disk.proofs.WritingLemmas.{IsLeft, cause-then, keeps-then, left-keeps, left-ready}
-use Rattle.sidecar_edit.specs.declared.place.TheConstants.{HEAD, KEPT, MOST_OCTETS}
+use Rattle.sidecar_edit.specs.declared.place.TheConstants.{HEAD, KEPT, MAX_OCTETS}
 use Rattle.sidecar_edit.specs.declared.held.Gate.TheVariants.{Bad, Live, Quiet}
 use Rattle.sidecar_edit.specs.Fields.{head_of}
 use Rattle.sidecar_edit.specs.Gate.{IsLiveHead, state}
@@ -96,7 +96,7 @@ returns-in-Live-clause-any_moment g c = λ told.
 pub returns-in-Live-clause-only : goal.returns-in-Live-clause-only
 returns-in-Live-clause-only g c =
     let a = c.args.disk.now in let b = c.read_first.new.src in let only = c.read_first.ensures.only in
-    keeps-then g.D.Reads g.D.Disk a b c.redo_own.new.disk HEAD (KEPT + MOST_OCTETS) (left-keeps g.D.Reads g.D.Disk a b HEAD (stands g a b only.standing) only.octets c.read_first.ensures.octets) c.redo_own.ensures.only
+    keeps-then g.D.Reads g.D.Disk a b c.redo_own.new.disk HEAD (KEPT + MAX_OCTETS) (left-keeps g.D.Reads g.D.Disk a b HEAD (stands g a b only.standing) only.octets c.read_first.ensures.octets) c.redo_own.ensures.only
 
 pub returns-in-Live-clause-cause : goal.returns-in-Live-clause-cause
 returns-in-Live-clause-cause g c =

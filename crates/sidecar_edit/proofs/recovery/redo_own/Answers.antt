@@ -5,7 +5,7 @@ use Rattle.mkv_disk.proofs.WritingLemmas.{IsLeft, keeps-then, left-keeps, left-r
 use Rattle.sidecar_edit.specs.declared.held.Gate.TheVariants.{Live}
 use Rattle.sidecar_edit.specs.declared.outcome.Recovered.TheVariants.{Applied}
 use Rattle.sidecar_edit.specs.declared.outcome.RecoverEnd.{RecoverEnd}
-use Rattle.sidecar_edit.specs.declared.place.TheConstants.{KEPT, MOST_OCTETS}
+use Rattle.sidecar_edit.specs.declared.place.TheConstants.{KEPT, MAX_OCTETS}
 use Rattle.sidecar_edit.specs.Fields.{head_of}
 use Rattle.sidecar_edit.specs.Gate.{state}
 use Rattle.sidecar_edit.specs.Recovery.{is_disk_fault, recovered, recovery, unfit, applied_unless}
@@ -53,7 +53,7 @@ returns-in-Some-clause-any_moment g c = λ told.
 pub returns-in-Some-clause-only : goal.returns-in-Some-clause-only
 returns-in-Some-clause-only g c =
     let only = c.unfit_medium.ensures.only in
-    left-keeps g.D.Reads g.D.Disk c.args.disk.now c.unfit_medium.new.src (KEPT + MOST_OCTETS) (stands g c.args.disk.now c.unfit_medium.new.src only.standing) only.octets
+    left-keeps g.D.Reads g.D.Disk c.args.disk.now c.unfit_medium.new.src (KEPT + MAX_OCTETS) (stands g c.args.disk.now c.unfit_medium.new.src only.standing) only.octets
     (let most = c.unfit_medium.ensures.octets in omega arith)
 
 pub returns-in-Some-clause-cause : goal.returns-in-Some-clause-cause
@@ -95,7 +95,7 @@ returns-in_err-redo-clause-any_moment g c = λ told.
 pub returns-in_err-redo-clause-only : goal.returns-in_err-redo-clause-only
 returns-in_err-redo-clause-only g c =
     let only = c.unfit_medium.ensures.only in let a = c.args.disk.now in let b = c.unfit_medium.new.src in
-    keeps-then g.D.Reads g.D.Disk a b c.redo.new.disk KEPT MOST_OCTETS (left-keeps g.D.Reads g.D.Disk a b KEPT (stands g a b only.standing) only.octets c.unfit_medium.ensures.octets) c.redo.ensures.only
+    keeps-then g.D.Reads g.D.Disk a b c.redo.new.disk KEPT MAX_OCTETS (left-keeps g.D.Reads g.D.Disk a b KEPT (stands g a b only.standing) only.octets c.unfit_medium.ensures.octets) c.redo.ensures.only
 
 pub returns-in_err-redo-clause-cause : goal.returns-in_err-redo-clause-cause
 returns-in_err-redo-clause-cause g c =
@@ -121,7 +121,7 @@ returns-clause-any_moment g c = λ told.
 pub returns-clause-only : goal.returns-clause-only
 returns-clause-only g c =
     let only = c.unfit_medium.ensures.only in let a = c.args.disk.now in let b = c.unfit_medium.new.src in
-    keeps-then g.D.Reads g.D.Disk a b c.redo.new.disk KEPT MOST_OCTETS (left-keeps g.D.Reads g.D.Disk a b KEPT (stands g a b only.standing) only.octets c.unfit_medium.ensures.octets) c.redo.ensures.only
+    keeps-then g.D.Reads g.D.Disk a b c.redo.new.disk KEPT MAX_OCTETS (left-keeps g.D.Reads g.D.Disk a b KEPT (stands g a b only.standing) only.octets c.unfit_medium.ensures.octets) c.redo.ensures.only
 
 pub returns-clause-cause : goal.returns-clause-cause
 returns-clause-cause g c =

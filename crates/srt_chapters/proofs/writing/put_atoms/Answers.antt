@@ -1,7 +1,7 @@
 use Rattle.std.proofs.Common.{◌≡◌, ◌==◌, ◌∷◌, [], append_assoc, length-append, true, sym, ◌∙◌, refl, take, arith}
 use Rattle.mkv_schema.specs.declared.ids.TheConstants.{CHAPTER_ATOM}
 use Rattle.tree_format.specs.Node.{id_of}
-use Rattle.srt_texts.specs.ChapterWriting.{put_pair}
+use Rattle.text_formats.specs.ChapterWriting.{put_pair}
 use Rattle.srt_chapters.specs.Extracted.{atoms_in, put_atoms, start_of, name_of}
 use Rattle.srt_chapters.proofs.ExtractedLemmas.{child_sound, atoms_more, atom_more}
 use Rattle.srt_chapters.proofs.writing.put_atoms.Goals as goal

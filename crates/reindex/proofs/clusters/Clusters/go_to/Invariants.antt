@@ -1,6 +1,6 @@
 -- The Elements that were passed stand before the place, and what was read is paid by the way.
 use Rattle.std.proofs.Common.{◌≡◌, ◌≤◌, List}
-use Rattle.mkv_io.specs.Told.{Told}
+use Rattle.mkv_io.specs.Told.{IfVisible}
 use Rattle.mkv_schema.specs.declared.element.Header.{Header}
 use Rattle.elements.specs.Window.{HasNotPassed, MovesTo}
 use Rattle.reindex.specs.Clusters.{HasComeTo, StaysReady, steps_left}
@@ -10,7 +10,7 @@ abbrev pub invariant-passing : goal.invariant-passing
 invariant-passing g l = record {
   ready : StaysReady (g.R.Reads.files (g.R.Reads.standing l.src)) l.initial.self l.self;
   reached : l.self.reached ≡ l.initial.self.reached;
-  come : Told ((g.R.Reads.files (g.R.Reads.standing l.initial.src)).content l.initial.self.level.file.n) (λ bytes. (list : List Header) → HasComeTo bytes list l.initial.self → HasComeTo bytes list l.self);
+  come : IfVisible ((g.R.Reads.files (g.R.Reads.standing l.initial.src)).content l.initial.self.level.file.n) (λ bytes. (list : List Header) → HasComeTo bytes list l.initial.self → HasComeTo bytes list l.self);
   standing : g.R.Reads.standing l.src ≡ g.R.Reads.standing l.initial.src;
   faults : g.R.Reads.reading_faults l.src ≡ g.R.Reads.reading_faults l.initial.src;
   octets : g.R.Reads.octets_read l.initial.src ≤ g.R.Reads.octets_read l.src;

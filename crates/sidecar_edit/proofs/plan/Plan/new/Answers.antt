@@ -1,6 +1,6 @@
 use Rattle.std.proofs.Common.{◌≡◌, ◌++◌, ◌+◌, ◌-◌, ◌∙◌, List, ℕ, drop, ap, sym, subst, length, arith}
 use Rattle.std.proofs.lemmas.Grind.{common_steps}
-use Rattle.sidecar_edit.specs.declared.place.TheConstants.{HEAD, MOST_WRITES}
+use Rattle.sidecar_edit.specs.declared.place.TheConstants.{HEAD, MAX_WRITES}
 use Rattle.sidecar_edit.specs.Fields.{body_of, front_octets, mark_octets, slots}
 use Rattle.sidecar_edit.specs.Plan.{IsRecorded, planned}
 use Rattle.sidecar_edit.proofs.PlanLemmas.{recorded}
@@ -9,7 +9,7 @@ use Rattle.sidecar_edit.proofs.plan.Plan.new.Goals as goal
 octets_are : (c : goal.After-from_vec) → c.append.new.self ≡ body_of (planned c.args.old_len c.args.new_len c.args.first.now c.args.places.items c.args.payload.now)
 octets_are c =
     let front = front_octets (HEAD + length c.args.payload.now) c.args.new_len (length c.args.places.items) in
-    let eight = slots MOST_WRITES c.args.places.items in
+    let eight = slots MAX_WRITES c.args.places.items in
     let marks = mark_octets c.args.old_len c.args.first.now in
     let one : c.append_front.new.octets ≡ front = grind (arith, common_steps) in
     let two : c.append_places.new.octets ≡ c.append_front.new.octets ++ eight = grind (arith, common_steps) in

@@ -1,0 +1,39 @@
+-- What a buffer holds of a block.
+use Rattle.std.specs.Prelude.{◌≡◌, ℕ, ℤ, List, Result, Ok, Err}
+use Rattle.mkv_io.specs.declared.damage.Damage.{Damage}
+use Rattle.block_format.specs.Content.{frames_cut}
+use Rattle.block_format.specs.Block.{Block}
+use Rattle.block_reader.specs.declared.head.BlockHead.{BlockHead}
+
+-- The octets of the Element's body as they were read; what the block says of itself, and how many frames it has; the octets
+-- of its frames and their sizes, which aren't there of a block that was passed; its references; and what is kept of its group.
+pub record Buffered : Type 0 where
+  pub octets : List ℕ
+  pub head : BlockHead
+  pub frames : ℕ
+  pub body : List ℕ
+  pub sizes : List ℕ
+  pub references : List ℤ
+  pub kept : List ℕ
+
+-- the block that is held
+abbrev pub block_of : Buffered → Block
+block_of b = record {
+  track = b.head.track;
+  time = b.head.time;
+  key = b.head.key;
+  invisible = b.head.invisible;
+  discardable = b.head.discardable;
+  group = b.head.group;
+  lace = b.head.lace;
+  frames = frames_cut b.sizes b.body;
+  duration = b.head.duration;
+  references = b.references;
+  kept = b.kept;
+  offset = b.head.offset;
+}
+
+-- the block that is held was found, or the damage that is answered
+abbrev pub HoldsFound : {T : Type 0} → Result T Damage → Buffered → Result Block Damage → Type 0
+HoldsFound (Ok done) b found = found ≡ Ok (block_of b)
+HoldsFound (Err d) b found = found ≡ Err d

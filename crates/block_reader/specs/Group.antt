@@ -1,0 +1,51 @@
+-- What is gathered of the children of a BlockGroup.
+use Rattle.std.specs.Prelude.{◌≡◌, ◌≤◌, ◌⊎◌, ℕ, true, List, map, take, slice_get, Some, None, Result, Ok, Err}
+use Rattle.std.specs.Option.{option_map}
+use Rattle.ebml_numbers.specs.Number.{uint_of, int_of}
+use Rattle.mkv_schema.specs.declared.ids.TheConstants.{BLOCK, BLOCK_DURATION, REFERENCE_BLOCK, VOID, CRC_32}
+use Rattle.mkv_io.specs.declared.damage.Damage.{Damage}
+use Rattle.mkv_schema.specs.declared.element.Header.{Header}
+use Rattle.mkv_schema.specs.Element.{in_master, stated_end}
+use Rattle.mkv_schema.specs.Elements.{Run, children_in}
+use Rattle.mkv_schema.specs.Value.{body_of, first_of}
+use Rattle.block_format.specs.declared.limits.TheConstants.{SLICES, MAX_REFERENCES}
+use Rattle.block_format.specs.Elements.{group_refusal, references_among, is_kept, kept_of, element_octets}
+use Rattle.block_reader.specs.declared.gathered.Gathered.{Gathered}
+use Rattle.block_reader.specs.declared.gathered.Part.{Part}
+use Rattle.block_reader.specs.declared.gathered.Part.TheVariants as part
+use Rattle.elements.specs.Body.{IfBody, IsBody, end_behind}
+
+-- the first Block, the ticks of the first BlockDuration and of the ReferenceBlocks that a reader takes, the
+-- first that is one too many, and the octets of what is kept
+pub record Gathers (bytes : List ℕ) (children : List Header) (g : Gathered) : Type 0 where
+  pub block : g.block ≡ first_of BLOCK children
+  pub duration : g.duration ≡ option_map (λ (c : Header). uint_of (body_of bytes c)) (first_of BLOCK_DURATION children)
+  pub references : g.references.items ≡ map (λ (c : Header). int_of (body_of bytes c)) (take MAX_REFERENCES (references_among children))
+  pub too_many : g.too_many ≡ slice_get (references_among children) MAX_REFERENCES
+  pub kept : g.kept.items ≡ kept_of bytes children
+
+-- the children of a group, or the first thing that is wrong with them
+abbrev pub GathersRun : {T : Type 0} → List ℕ → Run → Gathered → Result T Damage → Type 0
+GathersRun bytes run g (Ok done) = (group_refusal bytes run ≡ None) × Gathers bytes run.list g
+GathersRun bytes run g (Err d) = group_refusal bytes run ≡ Some d
+
+-- the same of the body of a BlockGroup that begins there
+abbrev pub GathersBody : {T : Type 0} → ℕ → ℕ → List ℕ → Gathered → Result T Damage → Type 0
+GathersBody base total body g found = IfBody base total body (λ bytes. GathersRun bytes (children_in in_master bytes base (end_behind base body)) g found)
+
+-- what a child of this ID is to its block
+abbrev pub IsPart : ℕ → Part → Type 0
+IsPart id part.Block = id ≡ BLOCK
+IsPart id part.Duration = id ≡ BLOCK_DURATION
+IsPart id part.Reference = id ≡ REFERENCE_BLOCK
+IsPart id part.Kept = is_kept id ≡ true
+IsPart id part.LeftOut = (id ≡ VOID) ⊎ ((id ≡ CRC_32) ⊎ (id ≡ SLICES))
+
+-- an Element's body lies between two places
+pub record IsInside (base end : ℕ) (h : Header) : Type 0 where
+  pub from : base ≤ h.body
+  pub within : stated_end h ≤ end
+
+-- These are the octets of a child, its header's and its body's, in each file in which the body of its group stands so.
+abbrev pub AreOctetsOf : ℕ → List ℕ → Header → List ℕ → Type 0
+AreOctetsOf base body child octets = (bytes : List ℕ) (total : ℕ) → IsBody bytes base total body → octets ≡ element_octets bytes child

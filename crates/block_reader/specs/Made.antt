@@ -1,0 +1,48 @@
+-- What is made of what was read.
+use Rattle.std.specs.Prelude.{◌≡◌, ℕ, ◌*◌, ℤ, pos, Bool, false, ◌||◌, List, length, map, ◌≤◌, Option, Result, Ok, Err}
+use Rattle.std.specs.List.{list_any}
+use Rattle.std.specs.Option.{option_map, option_map_or}
+use Rattle.mkv_io.specs.declared.damage.Damage.{Damage}
+use Rattle.block_format.specs.declared.limits.TheConstants.{MAX_REFERENCES}
+use Rattle.block_format.specs.Block.{Block, nanoseconds, is_too_large}
+use Rattle.block_reader.specs.declared.gathered.Gathered.{Gathered}
+use Rattle.block_reader.specs.declared.block.Times.{Times}
+use Rattle.block_reader.specs.declared.head.BlockHead.{BlockHead}
+use Rattle.block_reader.specs.Time.{is_too_large_at}
+
+-- what a block says of itself, with its frames, its references and what is kept
+abbrev pub block_with : BlockHead → List (List ℕ) → List ℤ → List ℕ → Block
+block_with h frames references kept = record {
+  track = h.track;
+  time = h.time;
+  key = h.key;
+  invisible = h.invisible;
+  discardable = h.discardable;
+  group = h.group;
+  lace = h.lace;
+  frames = frames;
+  duration = h.duration;
+  references = references;
+  kept = kept;
+  offset = h.offset;
+}
+
+-- the block that was found, or the damage
+abbrev pub MakesHead : List (List ℕ) → List ℤ → List ℕ → Result Block Damage → Result BlockHead Damage → Type 0
+MakesHead frames references kept found (Ok head) = found ≡ Ok (block_with head frames references kept)
+MakesHead frames references kept found (Err d) = found ≡ Err d
+
+-- of the ticks of a group's times one is too large
+abbrev pub has_too_large_ticks : ℕ → ℤ → Option ℕ → List ℤ → Bool
+has_too_large_ticks scale ticks duration references =
+    is_too_large_at scale ticks
+    || option_map_or (λ n. is_too_large (pos (n * scale))) duration false
+    || list_any (is_too_large_at scale) references
+
+-- the times of a group, of which none is too large
+pub record HasTimes (scale : ℕ) (ticks : ℤ) (old now : Gathered) (t : Times) : Type 0 where
+  pub fits : has_too_large_ticks scale ticks old.duration old.references.items ≡ false
+  pub time : t.time ≡ nanoseconds scale ticks
+  pub duration : t.duration ≡ option_map (λ (n : ℕ). n * scale) old.duration
+  pub references : now.references.items ≡ map (nanoseconds scale) old.references.items
+  pub few : length now.references.items ≤ MAX_REFERENCES

@@ -1,0 +1,104 @@
+//! A SimpleBlock or a BlockGroup of what was read of it: RFC 9559, sections 10 (Cluster Blocks) and 11
+//! (Timestamps).
+
+ghost use Rattle.std.specs.Prelude.{◌≡◌, pos, ◌+ℤ◌, ℤ, [], IfOk};
+ghost use Rattle.block_reader.specs.Lendable.{CanLead};
+ghost use Rattle.block_reader.specs.Says.{MakesGroupHead, MakesSimpleHead, TellsTimes};
+
+use crate::content::{Spelled, has_flag, lace_of};
+use crate::gathered::Gathered;
+use crate::head::BlockHead;
+use crate::time::{block_time, scale_all, scaled_duration};
+use elements::damage;
+use mkv_io::{Damage, Kind};
+use mkv_schema::Header;
+use mkv_schema::ids::BLOCK;
+
+const KEY: u8 = 0x80;
+
+const INVISIBLE: u8 = 0x08;
+
+const DISCARDABLE: u8 = 0x01;
+
+/// The times of a group in nanoseconds, but for its references.
+#[derive(Clone, Copy)]
+pub struct Times {
+    pub time: i64,
+    pub duration: Option<u64>,
+}
+
+/// What a SimpleBlock says of itself, or that its time is too large.
+pub fn simple_head(
+    scale: u64,
+    timestamp: u64,
+    header: &Header,
+    spelled: &Spelled,
+) -> Result<BlockHead, Damage>
+    ensures exact { MakesSimpleHead scale timestamp header.now spelled.now result }
+    ensures small { IfOk result (CanLead spelled.now.flags []) }
+{
+    let Some(time) = block_time(scale, timestamp, spelled.relative) else {
+        return Err(damage(Kind::TimeTooLarge, header.id, header.offset));
+    };
+    Ok(BlockHead {
+        track: spelled.track,
+        time,
+        key: has_flag(KEY, spelled.flags),
+        invisible: has_flag(INVISIBLE, spelled.flags),
+        discardable: has_flag(DISCARDABLE, spelled.flags),
+        group: false,
+        lace: lace_of(spelled.flags),
+        duration: None,
+        offset: header.offset,
+    })
+}
+
+// The times of a group, unless one is too large. The references stand in nanoseconds then.
+fn times_of(scale: u64, timestamp: u64, relative: i64, gathered: &mut Gathered) -> Option<Times>
+    ensures exact { TellsTimes scale (pos timestamp +ℤ relative) gathered.old gathered.new result }
+    ensures block { gathered.new.block ≡ gathered.old.block }
+    ensures kept { gathered.new.kept ≡ gathered.old.kept }
+{
+    let time = block_time(scale, timestamp, relative)?;
+    let duration = match gathered.duration {
+        Some(ticks) => Some(scaled_duration(ticks, scale)?),
+        None => None,
+    };
+    if !scale_all(gathered.references.as_mut_slice(), scale) {
+        return None;
+    }
+    Some(Times { time, duration })
+}
+
+/// What a group at `offset` octets behind the file's start says of itself, or the first of what is wrong
+/// with it: it has too many ReferenceBlocks, or a time is too large. The references stand in nanoseconds then.
+pub fn group_head(
+    scale: u64,
+    timestamp: u64,
+    offset: u64,
+    spelled: &Spelled,
+    gathered: &mut Gathered,
+) -> Result<BlockHead, Damage>
+    ensures exact { MakesGroupHead scale timestamp offset spelled.now gathered.old gathered.new result }
+    ensures kept { gathered.new.kept ≡ gathered.old.kept }
+    ensures small { IfOk result (CanLead spelled.now.flags gathered.new.references.items) }
+{
+    if let Some(reference) = gathered.too_many {
+        return Err(damage(Kind::TooMany, reference.id, reference.offset));
+    }
+    let key = gathered.references.is_empty();
+    let Some(times) = times_of(scale, timestamp, spelled.relative, gathered) else {
+        return Err(damage(Kind::TimeTooLarge, BLOCK, offset));
+    };
+    Ok(BlockHead {
+        track: spelled.track,
+        time: times.time,
+        key,
+        invisible: has_flag(INVISIBLE, spelled.flags),
+        discardable: false,
+        group: true,
+        lace: lace_of(spelled.flags),
+        duration: times.duration,
+        offset,
+    })
+}

@@ -1,0 +1,192 @@
+//! The buffer of a block.
+
+ghost use Rattle.std.specs.Prelude.{◌≡◌, ◌≤◌, ◌⊎◌, [], length, sum, false, OnOk, IfOk, MatchResult};
+ghost use Rattle.std.specs.List.{All};
+ghost use Rattle.mkv_io.specs.Faults.{HasCause, is_read_fault};
+ghost use Rattle.mkv_io.specs.Sources.{IfTold, IsLive, file_size};
+ghost use Rattle.mkv_schema.specs.Element.{is_unknown, known, stated_end};
+ghost use Rattle.mkv_schema.specs.Value.{body_of};
+ghost use Rattle.elements.specs.Looks.{GoesOver};
+ghost use Rattle.elements.specs.Window.{Holds};
+ghost use Rattle.lacing.specs.Writing.{FitsKind};
+ghost use Rattle.block_reader.specs.Lendable.{HasSmallTimes, LendsNothing};
+ghost use Rattle.block_reader.specs.Time.{IsSmallTime};
+ghost use Rattle.mkv_io.specs.declared.outside.TheConstants.{LONGEST_FILE};
+ghost use Rattle.block_format.specs.declared.limits.TheConstants.{MAX_REFERENCES};
+ghost use Rattle.block_reader.specs.Says.{LendsFound, SpellsGroup, SpellsSimple};
+
+use crate::front::BlockPreview;
+use crate::head::BlockHead;
+use crate::parts::{Found, Parts};
+use block_format::MAX_BLOCK_LEN;
+use elements::{LITTLE, Window, known};
+use mkv_io::{FileId, ReadEnd, Reads};
+use mkv_schema::Header;
+use std::alloc::Global;
+use std::marker::Model;
+
+/// One block: the octets of its Element's body, and what they spell. The buffer is used again for the next
+/// one, and grows where that is longer than each before.
+#[derive(Drop)]
+pub struct BlockBuffer {
+    octets: Vec<u8>,
+    // how many octets the body has that was read last
+    len: usize,
+    parts: Parts,
+}
+
+impl Model for BlockBuffer {
+    ghost use Rattle.std.specs.Prelude.{take};
+    ghost use Rattle.block_reader.specs.Buffered.{Buffered};
+    ghost use Rattle.block_reader.specs.Lendable.{IsBuffer, lent};
+
+    ghost Value = { Buffered };
+
+    ghost view = { λ b. lent (take b.len b.octets.items) b.parts };
+
+    ghost invariant = { λ b. IsBuffer b.len b.octets.items b.parts };
+}
+
+impl BlockBuffer {
+    /// A buffer with no block. It takes no memory.
+    pub fn new(alloc: Global) -> BlockBuffer
+        ensures octets { result.octets ≡ [] }
+        ensures nothing { LendsNothing result }
+    {
+        BlockBuffer {
+            octets: Vec::new(alloc),
+            len: 0,
+            parts: Parts::new(alloc),
+        }
+    }
+
+    /// Reads the body of a SimpleBlock or a BlockGroup through a window. What the block before spelled isn't lent any more.
+    pub fn read<R: Reads>(
+        &mut self,
+        window: &mut Window,
+        src: &mut R,
+        file: FileId,
+        header: &Header,
+    ) -> Result<(), ReadEnd>
+        requires live { IsLive R.Reads src.old file }
+        requires whole { is_unknown header.now.size ≡ false }
+        requires few { known header.now.size ≤ MAX_BLOCK_LEN }
+        requires inside { stated_end header.now ≤ file_size R.Reads src.old file }
+        requires holds { IfTold R.Reads src.old file (λ bytes. Holds bytes window.old) }
+        ensures ok { OnOk result (IfTold R.Reads src.old file (λ bytes. self.new.octets ≡ body_of bytes header.now)) }
+        ensures length { MatchResult result (λ _. length self.new.octets ≡ known header.now.size) (λ _. self.new.octets ≡ []) }
+        ensures nothing { LendsNothing self.new }
+        ensures standing { R.standing src.new ≡ R.standing src.old }
+        ensures cause { HasCause is_read_fault (R.reading_faults src.old) (R.reading_faults src.new) result }
+        ensures holds { IfTold R.Reads src.old file (λ bytes. Holds bytes window.new) }
+        ensures goes { GoesOver R.Reads file header.now window.old window.new src.old src.new result }
+    {
+        self.parts.forget();
+        self.len = 0;
+        let len = known(header.size) as usize;
+        if self.octets.len() < len + LITTLE {
+            self.octets.resize(len + LITTLE, 0)?;
+        }
+        window.read_body(src, file, header.body, len, &mut self.octets)?;
+        self.len = len;
+        Ok(())
+    }
+
+    /// Passes a SimpleBlock without its frames: what its front settles is known of it, and nothing else is lent.
+    pub fn pass(&mut self, front: BlockPreview)
+        requires small { HasSmallTimes front.head }
+        requires few { front.frames ≤ 256 }
+        ensures head { self.new.head ≡ front.head }
+        ensures frames { self.new.frames ≡ front.frames }
+        ensures octets { self.new.octets ≡ [] }
+        ensures nothing { LendsNothing self.new }
+    {
+        self.len = 0;
+        self.parts.pass(front);
+    }
+
+    /// What the octets spell of a SimpleBlock with this header, in a Cluster whose Timestamp is so many
+    /// ticks, of `scale` nanoseconds each; or the first thing that is wrong.
+    pub fn spell_simple(&mut self, scale: u64, timestamp: u64, header: &Header) -> Found
+        requires few { known header.now.size ≤ MAX_BLOCK_LEN }
+        requires length { length self.old.octets ≡ known header.now.size }
+        ensures exact { IfOk result (SpellsSimple scale timestamp header.now self.old.octets self.new) }
+        ensures lent { LendsFound self.new result }
+        ensures octets { self.new.octets ≡ self.old.octets }
+    {
+        let found = self
+            .parts
+            .simple(&self.octets[..self.len], scale, timestamp, header);
+        self.parts.settle(found)
+    }
+
+    /// What the octets spell of a BlockGroup with this header, in a file of `total` octets and a Cluster
+    /// whose Timestamp is so many ticks, of `scale` nanoseconds each; or the first thing that is wrong.
+    pub fn spell_group(&mut self, scale: u64, timestamp: u64, header: &Header, total: u64) -> Found
+        requires few { known header.now.size ≤ MAX_BLOCK_LEN }
+        requires length { length self.old.octets ≡ known header.now.size }
+        requires inside { stated_end header.now ≤ total }
+        requires short { total ≤ LONGEST_FILE }
+        ensures exact { IfOk result (SpellsGroup total scale timestamp header.now self.old.octets self.new) }
+        ensures lent { LendsFound self.new result }
+        ensures octets { self.new.octets ≡ self.old.octets }
+    {
+        let found = self
+            .parts
+            .group(&self.octets[..self.len], scale, timestamp, header, total);
+        self.parts.settle(found)
+    }
+
+    /// What the block says of itself.
+    pub fn head(&self) -> &BlockHead
+        ensures exact { result.now ≡ self.now.head }
+        ensures small { HasSmallTimes result.now }
+    {
+        &self.parts.head
+    }
+
+    /// How many frames the block has, of which none is lent where it was passed.
+    pub fn frames(&self) -> u16
+        ensures exact { result ≡ self.now.frames }
+        ensures most { result ≤ 256 }
+    {
+        self.parts.frames
+    }
+
+    /// The octets of its frames, one behind the other.
+    pub fn body(&self) -> &[u8]
+        ensures exact { result.now ≡ self.now.body }
+        ensures cut { sum self.now.sizes ≡ length result.now }
+        ensures most { length result.now ≤ MAX_BLOCK_LEN }
+    {
+        let octets = &self.octets[..self.len];
+        &octets[self.parts.start..self.parts.end]
+    }
+
+    /// How many octets each frame has: none where there is no block.
+    pub fn sizes(&self) -> &[u32]
+        ensures exact { result.now ≡ self.now.sizes }
+        ensures sum { sum result.now ≡ length self.now.body }
+        ensures most { length result.now ≤ 256 }
+        ensures fits { (result.now ≡ []) ⊎ FitsKind self.now.head.lace result.now }
+    {
+        self.parts.sizes.as_slice()
+    }
+
+    /// The times of the blocks that it refers to less its own, in nanoseconds.
+    pub fn references(&self) -> &[i64]
+        ensures exact { result.now ≡ self.now.references }
+        ensures small { All IsSmallTime result.now }
+        ensures most { length result.now ≤ MAX_REFERENCES }
+    {
+        self.parts.gathered.references.as_slice()
+    }
+
+    /// The octets of what is kept of its group, one Element behind the other, as they were found.
+    pub fn kept(&self) -> &[u8]
+        ensures exact { result.now ≡ self.now.kept }
+        ensures most { length result.now ≤ MAX_BLOCK_LEN }
+    {
+        self.parts.gathered.kept.as_slice()
+    }
+}

@@ -1,0 +1,164 @@
+//! What the octets of a Block or a SimpleBlock spell: RFC 9559, sections 10.1 (Block Structure), 10.2
+//! (SimpleBlock Structure) and 10.3 (Block Lacing).
+
+ghost use Rattle.std.specs.Prelude.{◌≡◌, ◌≤◌, [], length, IfOk, MatchResult, OnErr};
+ghost use Rattle.block_format.specs.Content.{frames_in, has_flag, lace_of, laced_frames};
+ghost use Rattle.lacing.specs.Reading.{data_of};
+ghost use Rattle.block_reader.specs.Spelled.{header_in, Cuts, SpellsContent, CutsWhole};
+
+use block_format::MAX_BLOCK_LEN;
+use ebml_numbers::{Size, read_int, read_size};
+use lacing::{Lace, LaceEnd, split};
+use mkv_io::Kind;
+use smallvec::SmallVec;
+use std::alloc::{AllocError, Global};
+
+/// The header of a Block or a SimpleBlock.
+#[derive(Clone, Copy)]
+pub struct BlockHeader {
+    /// The TrackNumber of its track.
+    pub track: u64,
+    /// Ticks from the Cluster's Timestamp.
+    pub relative: i64,
+    pub flags: u8,
+    /// How many octets the header has.
+    pub len: usize,
+}
+
+/// What the octets of a Block or a SimpleBlock spell, but for the sizes of the frames.
+#[derive(Clone, Copy, Debug, PartialEq, Eq)]
+pub struct Spelled {
+    /// The TrackNumber of its track.
+    pub track: u64,
+    /// Ticks from the Cluster's Timestamp.
+    pub relative: i64,
+    pub flags: u8,
+    /// How many octets stand before the frames.
+    pub start: usize,
+}
+
+/// Whether a bit of the flags is set.
+pub fn has_flag(flag: u8, flags: u8) -> bool
+    ensures { result ≡ has_flag flag flags }
+{
+    flags & flag != 0
+}
+
+/// The kind of lacing that the flags name.
+pub fn lace_of(flags: u8) -> Lace
+    ensures { result ≡ lace_of flags }
+{
+    match flags & 0x06 {
+        0x00 => Lace::None,
+        0x02 => Lace::Xiph,
+        0x04 => Lace::Fixed,
+        _ => Lace::Ebml,
+    }
+}
+
+// The number that a size of so many octets is read from: where all bits are 1, the size is unknown.
+fn data_of(size: Size, len: u8) -> u64
+    requires { len ≤ 8 }
+    ensures { result ≡ data_of size len }
+{
+    match size {
+        Size::Known(number) => number,
+        Size::Unknown => (1 << (7 * len)) - 1,
+    }
+}
+
+/// The header at the front of octets, where it is whole.
+pub fn header_in(octets: &[u8]) -> Option<BlockHeader>
+    ensures { result ≡ header_in octets.now }
+{
+    let Ok(number) = read_size(octets) else {
+        return None;
+    };
+    let width = usize::from(number.len);
+    if octets.len() < width + 3 {
+        return None;
+    }
+    Some(BlockHeader {
+        track: data_of(number.size, number.len),
+        relative: read_int(&octets[width..width + 2]),
+        flags: octets[width + 2],
+        len: width + 3,
+    })
+}
+
+// All the octets as one frame.
+fn one_frame(octets: &[u8], sizes: &mut SmallVec<u32, 8, Global>) -> Result<usize, AllocError>
+    requires short { length octets.now ≤ MAX_BLOCK_LEN }
+    requires empty { sizes.old.items ≡ [] }
+    ensures exact { IfOk result (CutsWhole octets.now sizes.new.items) }
+    ensures empty { OnErr result (sizes.new.items ≡ []) }
+{
+    sizes.push(octets.len() as u32)?;
+    Ok(0)
+}
+
+// The frames behind their number less one and the head of their lace.
+fn laced_frames(
+    kind: Lace,
+    octets: &[u8],
+    sizes: &mut SmallVec<u32, 8, Global>,
+) -> Result<Result<usize, Kind>, AllocError>
+    requires short { length octets.now ≤ MAX_BLOCK_LEN }
+    requires empty { sizes.old.items ≡ [] }
+    ensures exact { IfOk result (Cuts kind octets.now sizes.new.items (laced_frames kind octets.now)) }
+    ensures empty { MatchResult result (λ found. OnErr found (sizes.new.items ≡ [])) (λ _. sizes.new.items ≡ []) }
+{
+    let Some((&less_one, lace)) = octets.split_first() else {
+        return Ok(Err(Kind::ShortBlock));
+    };
+    match split(kind, u16::from(less_one) + 1, lace, sizes) {
+        Ok(head) => Ok(Ok(1 + head as usize)),
+        Err(LaceEnd::Bad) => Ok(Err(Kind::BadLacing)),
+        Err(LaceEnd::Memory) => Err(AllocError),
+    }
+}
+
+// Cuts the octets behind a header into frames, whose sizes stand in `sizes` then, and answers how many octets
+// stand before the first.
+fn cut(
+    kind: Lace,
+    octets: &[u8],
+    sizes: &mut SmallVec<u32, 8, Global>,
+) -> Result<Result<usize, Kind>, AllocError>
+    requires short { length octets.now ≤ MAX_BLOCK_LEN }
+    requires empty { sizes.old.items ≡ [] }
+    ensures exact { IfOk result (Cuts kind octets.now sizes.new.items (frames_in kind octets.now)) }
+    ensures empty { MatchResult result (λ found. OnErr found (sizes.new.items ≡ [])) (λ _. sizes.new.items ≡ []) }
+{
+    match kind {
+        Lace::None => Ok(Ok(one_frame(octets, sizes)?)),
+        Lace::Xiph | Lace::Fixed | Lace::Ebml => laced_frames(kind, octets, sizes),
+    }
+}
+
+/// What the octets of a Block or a SimpleBlock spell, or why they are none: they end inside the header, or
+/// aren't laced as it says. The sizes of the frames stand in `sizes` then, in octets.
+pub fn spell(
+    octets: &[u8],
+    sizes: &mut SmallVec<u32, 8, Global>,
+) -> Result<Result<Spelled, Kind>, AllocError>
+    requires { length octets.now ≤ MAX_BLOCK_LEN }
+    ensures exact { IfOk result (SpellsContent octets.now sizes.new.items) }
+    ensures empty { MatchResult result (λ found. OnErr found (sizes.new.items ≡ [])) (λ _. sizes.new.items ≡ []) }
+{
+    sizes.clear();
+    let Some(header) = header_in(octets) else {
+        return Ok(Err(Kind::ShortBlock));
+    };
+    Ok(
+        match cut(lace_of(header.flags), &octets[header.len..], sizes)? {
+            Ok(start) => Ok(Spelled {
+                track: header.track,
+                relative: header.relative,
+                flags: header.flags,
+                start: header.len + start,
+            }),
+            Err(kind) => Err(kind),
+        },
+    )
+}

@@ -1,0 +1,19 @@
+#![tactic(auto)]
+
+//! One block of a Cluster: the octets of a SimpleBlock or a BlockGroup, read once into a buffer that is used
+//! again, and what they spell (RFC 9559, section 10, Cluster Blocks).
+
+mod block;
+mod buffer;
+mod content;
+mod front;
+mod gathered;
+mod head;
+mod parts;
+mod time;
+
+pub use block_format::MAX_BLOCK_LEN;
+pub use buffer::BlockBuffer;
+pub use front::{BlockPreview, front_head, front_track};
+pub use head::BlockHead;
+pub use lacing::Lace;

@@ -1,6 +1,0 @@
-use Rattle.std.proofs.Common.{length}
-use Rattle.edit_plan.proofs.recording.+end_behind.Given as goal
-
--- how many places are left
-abbrev pub decreases-end_behind : goal.decreases-end_behind
-decreases-end_behind l = length l.places.now

@@ -1,9 +1,0 @@
--- Those so far, with those that are left.
-use Rattle.std.proofs.Common.{◌≡◌, ◌++◌, drop, map}
-use Rattle.edit_changes.specs.Plan.{place}
-use Rattle.edit_plan.specs.Shown.{written}
-use Rattle.edit_plan.proofs.recording.places_of.Given as goal
-
-abbrev pub invariant-loop-write : goal.invariant-loop-write
-invariant-loop-write l =
-    l.places.items ++ map place (map written (drop l.write-index l.writes)) ≡ map place (map written l.writes)

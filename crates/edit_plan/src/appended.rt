@@ -1,0 +1,102 @@
+//! What goes to the end of the file.
+
+ghost use Rattle.std.specs.Prelude.{◌≡◌, false, IfOk, MatchOption, map};
+ghost use Rattle.std.specs.List.{list_any};
+ghost use Rattle.output_model.specs.SeekHead.{seeks_from};
+ghost use Rattle.edit_changes.specs.Plan as spec;
+ghost use Rattle.edit_plan.specs.Shown.{shown};
+ghost use Rattle.edit_plan.specs.Made.{MovesWith};
+
+use crate::counting::sum;
+use crate::part::Part;
+use edit_changes::{Refusal, shortest, twin_refusal, whole};
+use element_reader::Outline;
+use output_model::Seek;
+use std::alloc::{AllocError, Global};
+
+/// The body of the new Element, if that one is longer than its room: so it goes to the end of the file.
+fn moving_body(part: &Part) -> Option<&[u8]>
+    ensures { MatchOption result (spec.moves (shown part.now) ≡ false) (λ body. MovesWith part.now body.now) }
+{
+    let body = part.body.as_ref()?.as_slice();
+    if shortest(part.id, body.len() as u64) <= part.room {
+        return None;
+    }
+    Some(body)
+}
+
+/// The new one goes to the end of the file.
+fn moves(part: &Part) -> bool
+    ensures { result ≡ spec.moves (shown part.now) }
+{
+    moving_body(part).is_some()
+}
+
+/// One of them moves.
+pub fn any_moves(parts: &[Part]) -> bool
+    ensures { result ≡ list_any spec.moves (map shown parts.now) }
+{
+    for part in parts {
+        if moves(part) {
+            return true;
+        }
+    }
+    false
+}
+
+/// Where those that move go, the first of them so many octets inside the Segment. A place that can't be told has no room.
+pub fn moving_seeks(alloc: Global, from: u64, parts: &[Part]) -> Result<Vec<Seek>, AllocError>
+    ensures { IfOk result (λ seeks. seeks.items ≡ seeks_from from (spec.elements_moving (map shown parts.now))) }
+{
+    let mut seeks = Vec::new(alloc);
+    let mut position = from;
+    for part in parts {
+        if let Some(body) = moving_body(part) {
+            seeks.push(Seek {
+                id: part.id,
+                position,
+            })?;
+            position = sum(position, shortest(part.id, body.len() as u64))?;
+        }
+    }
+    Ok(seeks)
+}
+
+/// What goes to the end of the file, one behind the other.
+pub fn appended(alloc: Global, parts: &[Part]) -> Result<Vec<u8>, AllocError>
+    ensures { IfOk result (λ octets. octets.items ≡ spec.appended (map shown parts.now)) }
+{
+    let mut out = Vec::new(alloc);
+    for part in parts {
+        if let Some(body) = moving_body(part) {
+            let octets = whole(alloc, part.id, body)?;
+            out.extend_from_slice(octets.as_slice())?;
+        }
+    }
+    Ok(out)
+}
+
+/// The first that moves and isn't the only one of its ID.
+pub fn duplicates(outline: &Outline, parts: &[Part]) -> Option<Refusal>
+    ensures { result ≡ spec.twin_refusal outline.now.others (spec.moving (map shown parts.now)) }
+{
+    for part in parts {
+        if moves(part) {
+            if let Some(refusal) = twin_refusal(outline, part.id) {
+                return Some(refusal);
+            }
+        }
+    }
+    None
+}
+
+/// The most Elements of one.
+pub fn most_nodes(parts: &[Part]) -> u64
+    ensures { result ≡ spec.most_nodes (map shown parts.now) }
+{
+    let mut most = 0;
+    for part in parts {
+        most = part.nodes.max(most);
+    }
+    most
+}

@@ -1,0 +1,98 @@
+//! What the new SeekHead tells.
+
+ghost use Rattle.std.specs.Prelude.{◌≡◌, ◌==◌, false, IfOk, find, map};
+ghost use Rattle.mkv_schema.specs.declared.ids.TheConstants.{CLUSTER};
+ghost use Rattle.edit_changes.specs.Plan as spec;
+ghost use Rattle.edit_plan.specs.Sought.{AreSought};
+ghost use Rattle.edit_plan.specs.Shown.{shown};
+
+use crate::appended::moving_seeks;
+use crate::part::Part;
+use element_reader::Outline;
+use output_model::Seek;
+use std::alloc::{AllocError, Global};
+
+/// An Element of this ID goes.
+fn goes(parts: &[Part], id: u32) -> bool
+    ensures { result ≡ spec.goes (map shown parts.now) id }
+{
+    for part in parts {
+        if part.id == id && part.body.is_none() {
+            return true;
+        }
+    }
+    false
+}
+
+/// The Seek of the Element of an ID that is appended.
+fn appended_seek(moved: &[Seek], id: u32) -> Option<Seek>
+    ensures { result ≡ find (λ s. s.id == id) moved.now }
+{
+    for seek in moved {
+        if seek.id == id {
+            return Some(*seek);
+        }
+    }
+    None
+}
+
+/// The Seek of the first Element of an ID, unless it goes.
+fn standing_seek(outline: &Outline, parts: &[Part], id: u32) -> Option<Seek>
+    requires { (id == CLUSTER) ≡ false }
+    ensures { result ≡ spec.standing_seek outline.now (map shown parts.now) id }
+{
+    if goes(parts, id) {
+        return None;
+    }
+    let header = outline.first(id)?;
+    Some(Seek {
+        id: header.id,
+        position: header.offset.saturating_sub(outline.segment().body),
+    })
+}
+
+/// The Seek of an ID, if there is one: of the Element that is appended, else of the first that stands there.
+fn seek_for(outline: &Outline, parts: &[Part], moved: &[Seek], id: u32) -> Option<Seek>
+    requires { (id == CLUSTER) ≡ false }
+    ensures { result ≡ spec.seek_for moved.now outline.now (map shown parts.now) id }
+{
+    match appended_seek(moved, id) {
+        Some(seek) => Some(seek),
+        None => standing_seek(outline, parts, id),
+    }
+}
+
+/// The same of each of some IDs.
+fn seeks_for(
+    alloc: Global,
+    ids: &[u32],
+    outline: &Outline,
+    parts: &[Part],
+    moved: &[Seek],
+) -> Result<Vec<Seek>, AllocError>
+    requires { AreSought ids.now }
+    ensures { IfOk result (λ seeks. seeks.items ≡ spec.seeks_beside moved.now outline.now (map shown parts.now) ids.now) }
+{
+    let mut seeks = Vec::new(alloc);
+    for id in ids {
+        if let Some(seek) = seek_for(outline, parts, moved, *id) {
+            seeks.push(seek)?;
+        }
+    }
+    Ok(seeks)
+}
+
+/// The Seeks of these IDs, each where there is one.
+pub fn seeks(
+    alloc: Global,
+    ids: &[u32],
+    outline: &Outline,
+    parts: &[Part],
+) -> Result<Vec<Seek>, AllocError>
+    requires { AreSought ids.now }
+    ensures { IfOk result (λ seeks. seeks.items ≡ spec.seeks ids.now outline.now (map shown parts.now)) }
+{
+    let from = outline.total().saturating_sub(outline.segment().body);
+    let moved = moving_seeks(alloc, from, parts)?;
+    seeks_for(alloc, ids, outline, parts, moved.as_slice())
+}

@@ -1,0 +1,48 @@
+-- What is written of a merge can be read, and holds it.
+use Rattle.std.specs.Prelude.{◌≡◌, ◌≤◌, ℕ, List, [], ◌∷◌, Option, None, Ok, length, map, All}
+use Rattle.mkv_io.specs.declared.outside.TheConstants.{LONGEST_FILE}
+use Rattle.output_model.specs.Document.{layout}
+use Rattle.output_model.specs.OutputBlock.{OutputBlock}
+use Rattle.output_model.specs.Sound.{IsSoundBlock, IsSoundDocument}
+use Rattle.remux_plan.specs.Parts.{PlannedOutput}
+use Rattle.merge_words.specs.declared.output.MergeWords.{MergeWords}
+use Rattle.merge_words.specs.Sound.{IsSoundMerge}
+use Rattle.merge_plan.specs.Plan.{Source}
+use Rattle.mkv_merge.specs.Merge.{blocks_of, outputs_of, sources_of}
+use Rattle.mkv_merge.specs.Records.{HaveRecords}
+use Rattle.merge_laws.specs.Merge.{HoldsOutput, lanes_selected}
+use Rattle.merge_words.specs.Texts.{AreTexts}
+use Rattle.merge_laws.specs.Sources.{AreSources, HoldsOctets}
+
+-- The sources of a merge are octets whose tracks can be written.
+abbrev pub SourcesAreRead : Type 0
+SourcesAreRead =
+    (world : List ℕ → Option (List ℕ)) (words : MergeWords) (sources : List Source) → HoldsOctets world → IsSoundMerge words → AreTexts words
+    → sources_of world words ≡ Ok sources → AreSources words sources
+
+-- The blocks that are selected of them can be written.
+abbrev pub SelectedBlocksAreSound : Type 0
+SelectedBlocksAreSound =
+    (words : MergeWords) (sources : List Source) → IsSoundMerge words → AreSources words sources → All (All IsSoundBlock) (lanes_selected words sources)
+
+-- The document of each output can be written, where its records can and it has 2^48 octets at most.
+abbrev pub MergedDocumentsAreSound : Type 0
+MergedDocumentsAreSound =
+    (words : MergeWords) (sources : List Source) → IsSoundMerge words → AreTexts words → AreSources words sources → HaveRecords sources
+    → All (λ (o : PlannedOutput). length (layout o.document) ≤ LONGEST_FILE → IsSoundDocument o.document) (outputs_of words sources)
+
+-- What is written of each holds it, where it has 2^48 octets at most.
+abbrev pub LayoutsHoldOutputs : Type 0
+LayoutsHoldOutputs =
+    (words : MergeWords) (sources : List Source) → IsSoundMerge words → AreTexts words → AreSources words sources → HaveRecords sources
+    → All (λ (o : PlannedOutput). length (layout o.document) ≤ LONGEST_FILE → HoldsOutput words o (layout o.document)) (outputs_of words sources)
+
+-- the name of an output, and its blocks
+abbrev pub name_and_blocks : PlannedOutput → List ℕ × List OutputBlock
+name_and_blocks o = (o.name, o.blocks)
+
+-- What isn't split comes to one output, which has the merged list as it is.
+abbrev pub WholeMergesAreOne : Type 0
+WholeMergesAreOne =
+    (words : MergeWords) (sources : List Source) → words.split ≡ None
+    → map name_and_blocks (outputs_of words sources) ≡ (words.output, blocks_of words sources) ∷ []

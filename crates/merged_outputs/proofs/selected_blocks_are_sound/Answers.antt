@@ -1,5 +1,0 @@
-use Rattle.merged_outputs.proofs.LaneLemmas.{lanes-sound}
-use Rattle.merged_outputs.proofs.selected_blocks_are_sound.Goals as goal
-
-pub returns : goal.returns
-returns c = λ words sources sound are. lanes-sound words.scale sources sound.scale.least are.each

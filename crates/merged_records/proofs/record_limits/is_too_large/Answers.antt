@@ -1,9 +1,0 @@
--- Octets behind the header are those of the children; and no node is left where there are too many.
-use Rattle.merged_records.proofs.KeptLemmas.{too-long, too-many}
-use Rattle.merged_records.proofs.record_limits.is_too_large.Goals as goal
-
-pub returns-then-are_long : goal.returns-then-are_long
-returns-then-are_long c = too-long c.args.tree.now _ _ c.requires c.children.ensures.exact c.are_long.ensures c.if-are_long.true
-
-pub returns-else-are_long : goal.returns-else-are_long
-returns-else-are_long c = too-many c.args.tree.now _ _ c.requires c.children.ensures.exact c.are_long.ensures c.if-are_long.false _ _ _ c.nodes_left.ensures c.is_none.ensures

@@ -1,0 +1,35 @@
+-- What is asked of a file out of which a job takes what it asks for, and what the call comes to.
+use Rattle.std.specs.Prelude.{ℕ, List, Result}
+use Rattle.mkv_io.specs.Names.{AreOthers}
+use Rattle.mkv_io.specs.Sources.{IsLive}
+use Rattle.mkv_io.specs.declared.files.Files.{Ghosts as FilesGhosts}
+use Rattle.mkv_io.specs.declared.outside.FileId.{FileId}
+use Rattle.mkv_io.specs.declared.reads.Reads.{Ghosts as ReadsGhosts}
+use Rattle.mkv_io.specs.declared.report.Report.{Ghosts as ReportGhosts}
+use Rattle.mkv_io.specs.Told.{IfVisible}
+use Rattle.word_values.specs.declared.job.Job.{Job}
+use Rattle.extractors.specs.Job.{CanBeDone, names_for, targets_of}
+use Rattle.extractors.specs.Source.{AreUsable, IsSource}
+use Rattle.extractors.specs.declared.source.Source.{Source}
+use Rattle.mkv_lines.specs.Command.{Fulfils}
+use Rattle.mkv_lines.specs.declared.status.Status.{Status}
+use Rattle.mkv_lines.specs.declared.status.CommandEnd.{CommandEnd}
+use Rattle.mkv_extract.specs.Extract.{extract_verdict}
+
+-- A job has come to what `extract` comes to in the world of names, if that is told.
+abbrev pub Takes : {F P : Type 0} → ReadsGhosts F → FilesGhosts F → ReportGhosts P → F → F → P → P → Result Status CommandEnd → List ℕ → Job → Type 0
+Takes r f p files files' report report' result name job =
+    IfVisible (f.names files) (λ world. Fulfils r f p files files' report report' result (extract_verdict world name job))
+
+-- The job can be done, the file is live, and no output has its name.
+pub record CanTake {F : Type 0} (r : ReadsGhosts F) (f : FilesGhosts F) (files : F) (file : FileId) (job : Job) : Type 0 where
+  pub done : CanBeDone job
+  pub live : IsLive r files file
+  pub other : AreOthers (f.holder files file.n) (names_for job)
+
+-- The job can be done, the source is live, the frames of the tracks that the job names can be used, and no output has the name of its file.
+pub record CanTakeFrom {F : Type 0} (r : ReadsGhosts F) (f : FilesGhosts F) (files : F) (source : Source) (job : Job) : Type 0 where
+  pub done : CanBeDone job
+  pub sound : IsSource r files source
+  pub usable : AreUsable source (targets_of job)
+  pub other : AreOthers (f.holder files source.file.n) (names_for job)

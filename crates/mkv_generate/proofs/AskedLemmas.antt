@@ -1,0 +1,51 @@
+-- Which names are opened and made for the files.
+use Rattle.std.proofs.Common.{◌≡◌, ◌≢◌, ◌⊎◌, inl, inr, ℕ, Bool, true, false, List, [], ◌∷◌, refl, sym, subst}
+use Rattle.std.specs.Str.{bytes_eq}
+use Rattle.std.proofs.lemmas.Slice.Eq.{bytes_eq-Decides}
+use Rattle.mkv_io.specs.Asked.{AsksOnly, IsNotAmong}
+use Rattle.mkv_io.specs.declared.asked.Asked.{Asked}
+use Rattle.mkv_io.specs.declared.asked.Asked.TheVariants.{Made, Opened}
+use Rattle.mkv_io.proofs.AskedLemmas.{asks-fewer}
+use Rattle.merge_words.specs.declared.output.MergeWords.{MergeWords}
+use Rattle.input_files.specs.Inputs.{file_names}
+use Rattle.mkv_merge.specs.Asked.{AsksToMerge, IsBesidesMerge}
+use Rattle.mkv_generate.specs.declared.names.Names.{Names}
+use Rattle.mkv_generate.specs.Asked.{AsksToGenerate, IsBesidesGenerate}
+use Rattle.mkv_generate.specs.Generate.{both_words, parts_words}
+
+-- two names that differ aren't one
+other-name : (a b : List ℕ) → a ≢ b → bytes_eq a b ≡ false
+other-name a b differs = step (bytes_eq a b) (bytes_eq-Decides a b).0
+  where
+    step : (same : Bool) → (same ≡ true → a ≡ b) → same ≡ false
+    step true is = absurd (differs (is refl))
+    step false is = refl
+
+-- one of the two files is written
+pub file-asks : (names : Names) (name : List ℕ) (old new : List Asked) → (name ≡ names.pictures) ⊎ (name ≡ names.sounds) → AsksOnly [] (name ∷ []) old new → AsksToGenerate names old new
+file-asks names name old new is asks = asks-fewer (IsNotAmong [] (name ∷ [])) (IsBesidesGenerate names) old new (λ asked besides. each asked is besides) asks
+  where
+    each : (asked : Asked) → (name ≡ names.pictures) ⊎ (name ≡ names.sounds) → IsBesidesGenerate names asked → IsNotAmong [] (name ∷ []) asked
+    each (Opened other) is besides = tt
+    each (Made other) (inl same) besides = (subst (λ (n : List ℕ). n ≢ other) (sym same) besides.0.0, tt)
+    each (Made other) (inr same) besides = (subst (λ (n : List ℕ). n ≢ other) (sym same) besides.0.1.0, tt)
+
+-- the two files are merged
+pub both-asks : (names : Names) (words : MergeWords) (old new : List Asked) → words ≡ both_words names → AsksToMerge (file_names words.files) words old new → AsksToGenerate names old new
+both-asks names words old new is asks =
+    let P : MergeWords → Type 0 = λ w. AsksToMerge (file_names w.files) w old new in
+    asks-fewer (IsBesidesMerge (file_names (both_words names).files) (both_words names)) (IsBesidesGenerate names) old new each (subst P is asks)
+  where
+    each : (asked : Asked) → IsBesidesGenerate names asked → IsBesidesMerge (file_names (both_words names).files) (both_words names) asked
+    each (Opened other) besides = (besides.0, (besides.1.0, tt))
+    each (Made other) besides = other-name names.both other besides.0.1.1.0
+
+-- what they were merged into is split
+pub parts-asks : (names : Names) (words : MergeWords) (old new : List Asked) → words ≡ parts_words names → AsksToMerge (file_names words.files) words old new → AsksToGenerate names old new
+parts-asks names words old new is asks =
+    let P : MergeWords → Type 0 = λ w. AsksToMerge (file_names w.files) w old new in
+    asks-fewer (IsBesidesMerge (file_names (parts_words names).files) (parts_words names)) (IsBesidesGenerate names) old new each (subst P is asks)
+  where
+    each : (asked : Asked) → IsBesidesGenerate names asked → IsBesidesMerge (file_names (parts_words names).files) (parts_words names) asked
+    each (Opened other) besides = (besides.1.1.0, tt)
+    each (Made other) besides = besides.1

@@ -1,0 +1,97 @@
+-- How much is read while the files of `generate` are made.
+use Rattle.std.proofs.Common.{◌≡◌, ◌≢◌, ℕ, ◌+◌, ◌≤◌, List, [], ◌∷◌, ◌++◌, length, map, Option, Some, Result, Ok, sym, ◌∙◌, ap, ap₂, subst, arith}
+use Rattle.std.specs.Prelude.{sum_by, unwrap_or}
+use Rattle.std.proofs.lemmas.List.Sums.{sum_by-cons}
+use Rattle.mkv_io.specs.Names.{Names}
+use Rattle.output_model.specs.Document.{layout}
+use Rattle.merge_words.specs.declared.files.FileWords.{FileWords}
+use Rattle.merge_words.specs.declared.output.MergeWords.{MergeWords}
+use Rattle.merge_plan.specs.Plan.{Source}
+use Rattle.remux_plan.specs.Parts.{PlannedOutput}
+use Rattle.remux_plan.specs.declared.summary.Summary.{Summary}
+use Rattle.remuxer.specs.Output.{WritesAll, laid_out}
+use Rattle.remuxer.proofs.OutputsLemmas.{world_with}
+use Rattle.mkv_merge.specs.Bound.{contents_length, most_of}
+use Rattle.mkv_merge.specs.Joined.{Merges, sources_alone, sources_apart}
+use Rattle.mkv_merge.specs.Merge.{outputs_of as merge_outputs}
+use Rattle.mkv_io.specs.Results.{and_then}
+use Rattle.mkv_merge.specs.declared.joining.Merged.TheVariants as merged
+use Rattle.mkv_merge.specs.declared.refusal.Refusal.{Refusal}
+use Rattle.mkv_generate.specs.declared.blocks.MediaKind.TheVariants.{Pictures, Sounds}
+use Rattle.mkv_generate.specs.declared.names.Names as own
+use Rattle.mkv_generate.specs.Files.{file_of}
+use Rattle.mkv_generate.specs.Bound.{ReadsBoth, ReadsMerged, layouts, most_behind, most_merged}
+use Rattle.mkv_generate.specs.Generate.{both_words, made_file, made_of, merge_of, parts_words, two_files}
+use Rattle.merge_words.specs.Plain.{plain_file}
+use Rattle.mkv_generate.proofs.MakingLemmas.{both-found, both-one, both-there, parts-found, told-then}
+use Rattle.mkv_generate.proofs.TurnLemmas.{first-told, last-told, written-behind}
+
+-- the contents of inputs that the names tell have their lengths
+one-length : (world : List ℕ → Option (List ℕ)) (a x : List ℕ) → world a ≡ Some x → contents_length world (plain_file a ∷ []) ≡ sum_by (λ (bytes : List ℕ). length bytes) (x ∷ [])
+one-length world a x is =
+    let here : length (unwrap_or (world a) []) ≡ length x = ap (λ (o : Option (List ℕ)). length (unwrap_or o [])) is in
+    sum_by-cons (λ (w : FileWords). length (unwrap_or (world w.name) [])) (plain_file a) []
+    ∙ ap (λ (n : ℕ). n + sum_by (λ (w : FileWords). length (unwrap_or (world w.name) [])) []) here
+    ∙ sym (sum_by-cons (λ (bytes : List ℕ). length bytes) x [])
+
+two-lengths : (world : List ℕ → Option (List ℕ)) (a b x y : List ℕ) → world a ≡ Some x → world b ≡ Some y → contents_length world (plain_file a ∷ (plain_file b ∷ [])) ≡ sum_by (λ (bytes : List ℕ). length bytes) (x ∷ (y ∷ []))
+two-lengths world a b x y first second =
+    let here : length (unwrap_or (world a) []) ≡ length x = ap (λ (o : Option (List ℕ)). length (unwrap_or o [])) first in
+    sum_by-cons (λ (w : FileWords). length (unwrap_or (world w.name) [])) (plain_file a) (plain_file b ∷ [])
+    ∙ ap₂ (λ (m n : ℕ). m + n) here (one-length world b y second)
+    ∙ sym (sum_by-cons (λ (bytes : List ℕ). length bytes) x (y ∷ []))
+
+-- ---- the merge of the two files
+
+module _ (mid : Names) (names : own.Names) (words : MergeWords) (same : words ≡ both_words names) (old now : ℕ)
+    (reads : (world : List ℕ → Option (List ℕ)) → mid ≡ Some world → now ≤ old + most_of (sources_alone world words) (contents_length world words.files)) where
+  both-most : (n : ℕ) (before : Names) (world : List ℕ → Option (List ℕ)) → before ≡ Some world → names.pictures ≢ names.sounds → WritesAll before mid (two_files n names) → now ≤ old + most_merged (both_words names) (layouts (two_files n names))
+  both-most n before world told apart writes =
+      let files = two_files n names in
+      let all = map laid_out files in
+      let world' = world_with world all in
+      let P : MergeWords → Type 0 = λ w. now ≤ old + most_of (sources_alone world' w) (contents_length world' w.files) in
+      let long = two-lengths world' names.pictures names.sounds (layout (file_of Pictures n)) (layout (file_of Sounds n))
+      (first-told world (laid_out (made_file Pictures n names.pictures)) (laid_out (made_file Sounds n names.sounds)) apart)
+      (last-told world (laid_out (made_file Pictures n names.pictures) ∷ []) (laid_out (made_file Sounds n names.sounds))) in
+      let Q : Result (List Source) Refusal → ℕ → Type 0 = λ found size. now ≤ old + most_of found size in
+      subst (Q (sources_apart (both_words names) (layouts files))) long
+      (subst (λ (found : Result (List Source) Refusal). Q found (contents_length world' (both_words names).files)) (both-found world n names apart)
+      (subst P same (reads world' (told-then before mid world files told writes))))
+
+  -- it is refused or stopped
+  pub both-alone : ReadsBoth mid names old now
+  both-alone = λ n before world told apart writes.
+      let most = both-most n before world told apart writes in
+      omega (arith, most)
+
+  -- it was done, and then the parts are made
+  pub both-more : (mid' : Names) (s : Summary) (new : ℕ) → ((world : List ℕ → Option (List ℕ)) → mid ≡ Some world → Merges mid mid' words (sources_alone world words) (Ok (merged.Written s))) → ReadsMerged mid' names now new → ReadsBoth mid names old new
+  both-more mid' s new merges parts = λ n before world told apart writes.
+      let files = two_files n names in
+      let world' = world_with world (map laid_out files) in
+      let P : MergeWords → Type 0 = λ w. Merges mid mid' w (sources_alone world' w) (Ok (merged.Written s)) in
+      let m : P (both_words names) = subst P same (merges world' (told-then before mid world files told writes)) in
+      let made = made_of (both_words names) m.sources in
+      let r : merge_of (both_words names) files ≡ Ok made =
+      ap (λ (f : Result (List Source) Refusal). and_then f (λ sources. Ok (made_of (both_words names) sources))) (sym (both-found world n names apart) ∙ m.are) in
+      let first = both-most n before world told apart writes in
+      let second = parts n before world made told r (both-one names m.sources) (written-behind before mid mid' files (merge_outputs (both_words names) m.sources) writes m.writes) in
+      let behind : most_behind names (merge_of (both_words names) files) ≡ most_merged (parts_words names) (layouts made.outputs) = ap (most_behind names) r in
+      omega (arith, first, second, behind)
+
+-- ---- the merge of the one
+
+pub parts-alone : (mid : Names) (names : own.Names) (words : MergeWords) (old now : ℕ) → words ≡ parts_words names
+    → ((world : List ℕ → Option (List ℕ)) → mid ≡ Some world → now ≤ old + most_of (sources_alone world words) (contents_length world words.files)) → ReadsMerged mid names old now
+parts-alone mid names words old now same reads = λ n before world made told is one writes.
+    let files = two_files n names in
+    let world' = world_with world (map laid_out (files ++ made.outputs)) in
+    let P : MergeWords → Type 0 = λ w. now ≤ old + most_of (sources_alone world' w) (contents_length world' w.files) in
+    let L : List PlannedOutput → Type 0 = λ os. contents_length (world_with world (map laid_out (files ++ os))) (plain_file names.both ∷ []) ≡ sum_by (λ (bytes : List ℕ). length bytes) (layouts os) in
+    let alone : L (one.file ∷ []) = one-length (world_with world (map laid_out (files ++ one.file ∷ []))) names.both (layout one.file.document) (both-there world n names one.file one.named) in
+    let long : L made.outputs = subst L (sym one.alone) alone in
+    let Q : Result (List Source) Refusal → ℕ → Type 0 = λ found size. now ≤ old + most_of found size in
+    subst (Q (sources_apart (parts_words names) (layouts made.outputs))) long
+    (subst (λ (found : Result (List Source) Refusal). Q found (contents_length world' (parts_words names).files)) (parts-found world n names made.outputs one.file one.alone one.named)
+    (subst P same (reads world' (told-then before mid world (files ++ made.outputs) told writes))))

@@ -1,0 +1,35 @@
+-- A block that is made, as it is handed out.
+use Rattle.std.specs.Prelude.{◌≡◌, ℕ, Bool, false, List, [], None}
+use Rattle.lacing.specs.declared.kind.Lace.{Lace}
+use Rattle.output_model.specs.declared.heads.OutHead.{OutHead}
+use Rattle.output_model.specs.OutputBlock.{IsLent, Lent, OutputBlock, lent_block}
+use Rattle.cluster_writer.specs.Lent.{lent}
+use Rattle.mkv_generate.specs.declared.blocks.Made.{Made}
+
+-- what a SimpleBlock says of itself at so many milliseconds
+abbrev pub simple_head : ℕ → Bool → Lace → OutHead
+simple_head time key kind = record {
+  tick = time;
+  order = time;
+  duration = None;
+  key = key;
+  invisible = false;
+  discardable = false;
+  group = false;
+  lace = kind;
+}
+
+-- It says this of itself, and has these octets, in frames of these sizes.
+pub record HasParts (own : OutHead) (all parts : List ℕ) (m : Made) : Type 0 where
+  pub head : m.head ≡ own
+  pub octets : m.octets.items ≡ all
+  pub sizes : m.sizes.items ≡ parts
+
+-- what it hands out
+abbrev pub lent_made : Made → Lent
+lent_made m = lent m.head [] m.octets.items m.sizes.items [] []
+
+-- It is this block, within what may be handed out.
+pub record IsMade (b : OutputBlock) (m : Made) : Type 0 where
+  pub is : lent_block (lent_made m) ≡ b
+  pub can : IsLent (lent_made m)

@@ -1,0 +1,151 @@
+//! The blocks of the two files.
+
+ghost use Rattle.std.specs.Prelude.{◌≡◌, ◌==◌, ◌+◌, ◌*◌, ◌%◌, ◌<◌, ◌≤◌, ◌^◌, ◌∷◌, [], true};
+ghost use Rattle.lacing.specs.declared.kind.Lace.TheVariants as lace_kind;
+ghost use Rattle.merge_model.specs.Merged.{in_lane};
+ghost use Rattle.output_model.specs.OutputBlock.{IsLent, lent_block};
+ghost use Rattle.cluster_writer.specs.Lent.{CanBePut, block_of as block_put};
+ghost use Rattle.mkv_generate.specs.Blocks.{block_of, count_of, counting, picture, picture_size, sound};
+ghost use Rattle.mkv_generate.specs.Made.{HasParts, IsMade, lent_made, simple_head};
+
+use crate::counting::{MAX_COUNTING, counting};
+use arrayvec::ArrayVec;
+use cluster_writer::BlockRef;
+use lacing::Lace;
+use output_model::OutHead;
+
+/// A block: what it says of itself, the octets of its frames, and their sizes.
+#[derive(Drop)]
+pub(crate) struct Made {
+    head: OutHead,
+    octets: ArrayVec<u8, MAX_COUNTING>,
+    sizes: ArrayVec<u32, 2>,
+}
+
+impl Made {
+    /// The block as it is put into a Cluster: the first lane has it.
+    pub(crate) fn lent(&self) -> BlockRef<'_>
+        requires { IsLent (lent_made self.now) }
+        ensures block { block_put result ≡ in_lane 1 (lent_block (lent_made self.now)) }
+        ensures can { CanBePut result }
+    {
+        BlockRef {
+            lane: 1,
+            tick: self.head.tick,
+            head: &self.head,
+            prefix: &[],
+            body: self.octets.as_slice(),
+            sizes: self.sizes.as_slice(),
+            references: &[],
+            kept: &[],
+        }
+    }
+
+    pub(crate) fn is_key(&self) -> bool
+        ensures { result ≡ self.now.head.key }
+    {
+        self.head.key
+    }
+}
+
+// What a SimpleBlock says of itself at so many milliseconds.
+fn simple_head(time: u32, key: bool, lace: Lace) -> OutHead
+    ensures { result ≡ simple_head time key lace }
+{
+    let tick = time as u64;
+    OutHead {
+        tick,
+        order: tick,
+        duration: None,
+        key,
+        invisible: false,
+        discardable: false,
+        group: false,
+        lace,
+    }
+}
+
+// A block of one frame.
+fn single(head: OutHead, octets: ArrayVec<u8, MAX_COUNTING>, size: u32) -> Made
+    ensures { HasParts head octets.items (size ∷ []) result }
+{
+    let mut sizes = ArrayVec::new();
+    sizes.push(size);
+    Made {
+        head,
+        octets,
+        sizes,
+    }
+}
+
+// A block of two frames.
+fn laced(head: OutHead, octets: ArrayVec<u8, MAX_COUNTING>, first: u32, second: u32) -> Made
+    ensures { HasParts head octets.items (first ∷ second ∷ []) result }
+{
+    let mut sizes = ArrayVec::new();
+    sizes.push(first);
+    sizes.push(second);
+    Made {
+        head,
+        octets,
+        sizes,
+    }
+}
+
+/// The picture of a number, from 0: 40 ms behind the one before it, and one in 25 is key.
+pub(crate) fn picture(i: u32) -> Made
+    requires { i < 2 ^ 20 }
+    ensures { IsMade (picture i) result }
+{
+    let size = 8 + 37 * i % 101;
+    let head = simple_head(40 * i, i % 25 == 0, Lace::None);
+    single(head, counting(i, size), size)
+}
+
+/// The sound of a number, from 0: 20 ms behind the one before it. One in three is a lace of two frames.
+pub(crate) fn sound(i: u32) -> Made
+    requires { i < 2 ^ 20 }
+    ensures { IsMade (sound i) result }
+{
+    if i % 3 == 0 {
+        laced(
+            simple_head(20 * i, true, Lace::Xiph),
+            counting(3 * i, 10),
+            4,
+            6,
+        )
+    } else {
+        single(simple_head(20 * i, true, Lace::None), counting(3 * i, 5), 5)
+    }
+}
+
+/// What a file has.
+#[derive(Clone, Copy, Debug, PartialEq, Eq)]
+pub enum MediaKind {
+    Pictures,
+    Sounds,
+}
+
+impl MediaKind {
+    /// How many blocks the file of a number has: for each picture there are two sounds.
+    pub(crate) fn count(self, n: u32) -> u32
+        requires { n < 2 ^ 20 }
+        ensures { result ≡ count_of self n }
+    {
+        match self {
+            MediaKind::Pictures => n,
+            MediaKind::Sounds => 2 * n,
+        }
+    }
+
+    /// The block of a number, from 0.
+    pub(crate) fn block(self, i: u32) -> Made
+        requires { i < 2 ^ 20 }
+        ensures { IsMade (block_of self i) result }
+    {
+        match self {
+            MediaKind::Pictures => picture(i),
+            MediaKind::Sounds => sound(i),
+        }
+    }
+}

@@ -1,0 +1,40 @@
+//! The names of the files that are made.
+
+ghost use Rattle.std.specs.Prelude.{◌≡◌, ◌++◌, IfOk};
+ghost use Rattle.mkv_generate.specs.Generate.{names_of};
+
+use mkv_io::Text;
+use std::alloc::{AllocError, Global};
+
+/// The names of the two files, of the one that is merged of them, and that of which those of its parts are made.
+#[derive(Drop)]
+pub struct Names {
+    pub pictures: Text,
+    pub sounds: Text,
+    pub both: Text,
+    pub parts: Text,
+}
+
+// A name that begins and ends so.
+fn name_of(alloc: Global, prefix: &str, end: &str) -> Result<Text, AllocError>
+    ensures { IfOk result (λ name. name ≡ prefix.now ++ end.now) }
+{
+    let mut name = Text::new(alloc);
+    name.append(prefix)?;
+    name.append(end)?;
+    Ok(name)
+}
+
+impl Names {
+    /// Those that begin with a prefix.
+    pub(crate) fn new(alloc: Global, prefix: &str) -> Result<Names, AllocError>
+        ensures { IfOk result (λ names. names ≡ names_of prefix.now) }
+    {
+        Ok(Names {
+            pictures: name_of(alloc, prefix, "-a.mkv")?,
+            sounds: name_of(alloc, prefix, "-b.mkv")?,
+            both: name_of(alloc, prefix, "-m.mkv")?,
+            parts: name_of(alloc, prefix, "-s.mkv")?,
+        })
+    }
+}

@@ -1,0 +1,84 @@
+//! The words of the two merges.
+
+ghost use Rattle.std.specs.Prelude.{◌≡◌, IfOk};
+ghost use Rattle.mkv_generate.specs.Generate.{both_words, parts_words};
+ghost use Rattle.merge_words.specs.Plain.{plain_file, plain_words};
+
+use crate::front::SCALE;
+use crate::names::Names;
+use merge_words::{FileWords, MergeWords};
+use mkv_io::{List, Text};
+use std::alloc::{AllocError, Global};
+use word_values::{Select, SplitWords};
+
+/// Nanoseconds of a part.
+const PART: u64 = 10_000_000_000;
+
+// A file of a merge, all of which is taken.
+fn plain_file(alloc: Global, name: &Text) -> Result<FileWords, AllocError>
+    ensures { IfOk result (λ file. file ≡ plain_file name.now) }
+{
+    Ok(FileWords {
+        name: name.clone()?,
+        appended: false,
+        video: Select::All,
+        audio: Select::All,
+        subtitles: Select::All,
+        attachments: true,
+        track_tags: true,
+        global_tags: true,
+        chapters: true,
+        syncs: List::new(alloc),
+        names: List::new(alloc),
+        languages: List::new(alloc),
+        defaults: List::new(alloc),
+        forced: List::new(alloc),
+        cues: List::new(alloc),
+        times: List::new(alloc),
+        named: List::new(alloc),
+    })
+}
+
+// What `merge -o OUTPUT FILE ..` says, or with a split `merge -o OUTPUT --split SPLIT FILE ..`.
+fn plain_words(
+    alloc: Global,
+    output: &Text,
+    split: Option<SplitWords>,
+    files: List<FileWords>,
+) -> Result<MergeWords, AllocError>
+    ensures { IfOk result (λ words. words ≡ plain_words output.now split files) }
+{
+    Ok(MergeWords {
+        output: output.clone()?,
+        webm: false,
+        title: None,
+        chapters: None,
+        scale: SCALE,
+        blocks: 65_535,
+        span: 5_000_000_000,
+        split,
+        files,
+        uuids: List::new(alloc),
+        link: false,
+    })
+}
+
+/// Both files in one.
+pub(crate) fn both_words(alloc: Global, names: &Names) -> Result<MergeWords, AllocError>
+    ensures { IfOk result (λ words. words ≡ both_words names.now) }
+{
+    let mut files = List::new(alloc);
+    files.push(plain_file(alloc, &names.pictures)?)?;
+    files.push(plain_file(alloc, &names.sounds)?)?;
+    plain_words(alloc, &names.both, None, files)
+}
+
+/// That one in parts of ten seconds.
+pub(crate) fn parts_words(alloc: Global, names: &Names) -> Result<MergeWords, AllocError>
+    ensures { IfOk result (λ words. words ≡ parts_words names.now) }
+{
+    let mut files = List::new(alloc);
+    files.push(plain_file(alloc, &names.both)?)?;
+    let split = SplitWords::Duration { by: PART };
+    plain_words(alloc, &names.parts, Some(split), files)
+}

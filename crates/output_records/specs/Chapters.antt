@@ -1,0 +1,35 @@
+-- The Chapters of an output: RFC 9559, section 5.1.7 (Chapters Element). Which identifiers and times they get is this project's.
+use Rattle.std.specs.Prelude.{ℕ, List, flat_map, Option, Some, None}
+use Rattle.std.specs.Option.{option_map}
+use Rattle.mkv_schema.specs.declared.ids.TheConstants.{CHAPTERS}
+use Rattle.tree_format.specs.Node.{Node, master, nodes_of}
+use Rattle.record_changes.specs.Identifiers.{renumbered}
+use Rattle.record_changes.specs.Atoms.{edition_uids, chapter_uids}
+use Rattle.record_changes.specs.ChapterIdentifiers.{with_identifiers}
+use Rattle.record_changes.specs.Shift.{shifted}
+use Rattle.output_records.specs.declared.inputs.InputRecords.{InputRecords}
+use Rattle.output_records.specs.Inputs.{children_in, with_some}
+
+-- the Chapters of an input, as they are, or later by its shift where it is appended
+abbrev pub later : Option ℕ → Node → Node
+later None chapters = chapters
+later (Some by) chapters = shifted by chapters
+
+-- what stands in the Chapters of an input
+abbrev pub chapters_in : InputRecords → List Node
+chapters_in i = children_in (option_map (later i.shift) i.chapters)
+
+-- one Chapters with what stands in those of all inputs
+abbrev pub joined_chapters : List InputRecords → Node
+joined_chapters inputs = master CHAPTERS 0 (nodes_of (flat_map chapters_in inputs))
+
+-- the EditionUIDs and the ChapterUIDs that all get
+abbrev pub edition_numbers : List InputRecords → List ℕ
+edition_numbers inputs = renumbered (edition_uids (joined_chapters inputs))
+
+abbrev pub chapter_numbers : List InputRecords → List ℕ
+chapter_numbers inputs = renumbered (chapter_uids (joined_chapters inputs))
+
+-- The editions of all inputs with the identifiers that they have in the output; none where there is no edition.
+abbrev pub merged_chapters : List InputRecords → Option Node
+merged_chapters inputs = with_some (with_identifiers (edition_numbers inputs) (chapter_numbers inputs) (joined_chapters inputs))

@@ -1,0 +1,33 @@
+//! Whether a record of an output is too large.
+
+ghost use Rattle.std.specs.Prelude.{◌≡◌, IfSome};
+ghost use Rattle.tree_format.specs.Node.{IsMaster};
+ghost use Rattle.output_records.specs.Limits.{too_large, first_too_large};
+
+use crate::record_limits::is_too_large;
+use ebml_tree::Tree;
+use mkv_schema::ids::{CHAPTERS, TAGS, TRACKS};
+
+fn too_large(id: u32, tree: &Option<Tree>) -> Option<u32>
+    requires { IfSome tree.now IsMaster }
+    ensures { result ≡ too_large id tree.now }
+{
+    match tree {
+        Some(tree) if is_too_large(tree) => Some(id),
+        _ => None,
+    }
+}
+
+/// The ID of the first of Tracks, Chapters and Tags, in this order, that would be refused when it is read: it has more
+/// than 16 MiB behind its header, or more than 65,536 Elements.
+pub fn first_too_large(tracks: &Tree, chapters: &Option<Tree>, tags: &Option<Tree>) -> Option<u32>
+    requires tracks { IsMaster tracks.now }
+    requires chapters { IfSome chapters.now IsMaster }
+    requires tags { IfSome tags.now IsMaster }
+    ensures { result ≡ first_too_large tracks.now chapters.now tags.now }
+{
+    if is_too_large(tracks) {
+        return Some(TRACKS);
+    }
+    too_large(CHAPTERS, chapters).or(too_large(TAGS, tags))
+}

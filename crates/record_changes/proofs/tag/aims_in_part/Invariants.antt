@@ -1,8 +1,0 @@
--- What the children so far name.
-use Rattle.std.proofs.Common.{◌≡◌, take, filter}
-use Rattle.record_changes.specs.Tags.{is_target, aims_of}
-use Rattle.record_changes.specs.Numbers.{numbers_in}
-use Rattle.record_changes.proofs.tag.aims_in_part.Given as goal
-
-abbrev pub invariant-loop-child : goal.invariant-loop-child
-invariant-loop-child l = l.aims ≡ aims_of (numbers_in l.map) (filter is_target (take l.child-index l.child-items))

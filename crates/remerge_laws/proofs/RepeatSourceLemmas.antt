@@ -1,0 +1,94 @@
+-- The output of a merge of plain sources is repeated.
+use Rattle.std.proofs.Common.{◌≡◌, ◌≤◌, ℕ, List, [], length, All, None, refl, sym, ap, subst, ◌∙◌}
+use Rattle.std.proofs.lemmas.List.Elements.{All-head, All-weaker}
+use Rattle.mkv_io.specs.declared.outside.TheConstants.{LONGEST_FILE}
+use Rattle.mkv_schema.specs.declared.ids.TheConstants.{CONTENT_ENCODINGS}
+use Rattle.tree_format.specs.Node.{Node}
+use Rattle.tree_format.specs.Values.{first_child}
+use Rattle.file_format.specs.Entry.{entries_of}
+use Rattle.output_model.specs.Document.{Document, layout}
+use Rattle.output_model.specs.OutputBlock.{OutputBlock}
+use Rattle.output_model.specs.Sound.{IsSoundDocument}
+use Rattle.output_laws.specs.Merges.{LanesAreReadAgain}
+use Rattle.record_laws.specs.Again.{TracksStay}
+use Rattle.record_laws.specs.Chapters.{ChaptersStay}
+use Rattle.record_laws.specs.Tags.{TagsStay}
+use Rattle.remux_plan.specs.Parts.{PlannedOutput}
+use Rattle.merge_words.specs.declared.output.MergeWords.{MergeWords}
+use Rattle.merge_words.specs.Sound.{IsSoundMerge}
+use Rattle.merge_words.specs.Texts.{AreTexts}
+use Rattle.merge_inputs.specs.Taken.{IsTaken}
+use Rattle.merge_plan.specs.Front.{reads_of}
+use Rattle.merge_plan.specs.Plan.{Source}
+use Rattle.merge_plan.specs.Records.{tracks_taken}
+use Rattle.mkv_merge.specs.Merge.{outputs_of}
+use Rattle.mkv_merge.specs.Records.{HaveRecords}
+use Rattle.merge_laws.specs.Laws.{LayoutsHoldOutputs, MergedDocumentsAreSound}
+use Rattle.merge_laws.specs.Merge.{HoldsOutput}
+use Rattle.merge_laws.specs.Sources.{AreSources, IsReadSource, IsReadTrack}
+use Rattle.merge_laws.proofs.DocumentLemmas.{all-tracks}
+use Rattle.merge_laws.proofs.LaneLemmas.{lanes-count, lanes-free}
+use Rattle.merge_laws.proofs.TracksLemmas.{entries-count}
+use Rattle.remerge_laws.specs.Limits.{IsWithinLimits}
+use Rattle.remerge_laws.specs.Repeat.{IsDefault, OutputsAreRepeated}
+use Rattle.remerge_laws.specs.Whole.{whole_document}
+use Rattle.remerge_laws.proofs.LimitLemmas.{octets-keep}
+use Rattle.remerge_laws.proofs.RepeatLemmas.{ArePlain, HavePlainDocument, repeated}
+use Rattle.remerge_laws.proofs.RepeatTrackLemmas.{IsOfTakenType, entries-are}
+use Rattle.remerge_laws.proofs.WholeLemmas.{one-document, whole-planned}
+
+-- ---- tracks that were taken
+
+all-taken : (sources : List Source) → All IsReadSource sources → All IsTaken (tracks_taken (reads_of sources))
+all-taken sources each = All-weaker IsReadTrack IsTaken (λ t read. read.taken) (tracks_taken (reads_of sources)) (all-tracks sources each)
+
+-- ---- together
+
+module _ (documents_sound : MergedDocumentsAreSound) (layouts_hold : LayoutsHoldOutputs) (words : MergeWords) (sources : List Source) (usual : IsDefault words) (good : IsSoundMerge words) (texts : AreTexts words) (are : AreSources words sources) (records : HaveRecords sources) (within : IsWithinLimits (layout (whole_document words sources))) where
+  abbrev d : Document
+  d = whole_document words sources
+
+  -- what holds of each output holds of the one
+  one-of-all : (P : PlannedOutput → Type 0) → All P (outputs_of words sources) → (name : List ℕ) × (blocks : List OutputBlock) × P (record { name = name; blocks = blocks; document = d })
+  one-of-all P all =
+      let is = one-document words sources usual.split usual.uuids in
+      (_, _, All-head P _ [] (subst (All P) is all))
+
+  document-sound : IsSoundDocument d
+  document-sound =
+      (one-of-all (λ (o : PlannedOutput). length (layout o.document) ≤ LONGEST_FILE → IsSoundDocument o.document) (documents_sound words sources good texts are records)).2 within.short
+
+  holds : (o : PlannedOutput) × (o.document ≡ d) × HoldsOutput words o (layout d)
+  holds =
+      let found = one-of-all (λ (o : PlannedOutput). length (layout o.document) ≤ LONGEST_FILE → HoldsOutput words o (layout o.document)) (layouts_hold words sources good texts are records) in
+      (record { name = found.0; blocks = found.1; document = d }, refl, found.2 within.short)
+
+  taken : All IsTaken (tracks_taken (reads_of sources))
+  taken = all-taken sources are.each
+
+  plain-document : HavePlainDocument words sources
+  plain-document = record {
+    sound = document-sound;
+    lanes = lanes-count sources
+        ∙ sym (ap length (entries-are (tracks_taken (reads_of sources)) taken) ∙ entries-count (tracks_taken (reads_of sources)));
+    unnumbered = lanes-free words.scale sources are.each;
+    plain = plain_one holds;
+    limits = octets-keep d document-sound (whole-planned words sources are.unrefused) within;
+  }
+    where
+      plain_one : (o : PlannedOutput) × (o.document ≡ d) × HoldsOutput words o (layout d) → All (λ (entry : Node). first_child CONTENT_ENCODINGS entry ≡ None) (entries_of d.front.tracks)
+      plain_one found = subst (λ (e : Document). All (λ (entry : Node). first_child CONTENT_ENCODINGS entry ≡ None) (entries_of e.front.tracks)) found.1 found.2.plain
+
+pub outputs-repeated : TracksStay → ChaptersStay → TagsStay → LanesAreReadAgain → MergedDocumentsAreSound → LayoutsHoldOutputs → OutputsAreRepeated
+outputs-repeated tracks_stay chapters_stay tags_stay lanes_stay documents_sound layouts_hold words sources out name usual good texts are records plain within =
+    let known : ArePlain words sources = record {
+      taken = all-taken sources are.each;
+      types = All-weaker IsReadTrack IsOfTakenType (λ t read. read.kind) (tracks_taken (reads_of sources)) (all-tracks sources are.each);
+      cues = plain.cues;
+      title = plain.title;
+      short = records.numbers;
+      records = records;
+      unrefused = are.unrefused;
+    } in
+    repeated tracks_stay chapters_stay tags_stay lanes_stay words sources out name usual known
+    (plain-document documents_sound layouts_hold words sources usual good texts are records within)

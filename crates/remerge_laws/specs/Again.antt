@@ -1,0 +1,27 @@
+-- What is read of an output gives its records again when it is merged alone: RFC 9559, sections 5.1.7 (Chapters Element) and 5.1.8 (Tags Element). That they stay is this project's.
+use Rattle.std.specs.Prelude.{◌≡◌, List, [], ◌∷◌, map, None}
+use Rattle.record_changes.specs.Atoms.{chapter_uids, edition_uids}
+use Rattle.record_laws.specs.Tags.{keep_all}
+use Rattle.output_records.specs.Inputs.{uids_in}
+use Rattle.meta_records.specs.Attached.{AttachedFile}
+use Rattle.merge_inputs.specs.Input.{InputRead}
+use Rattle.merge_inputs.specs.declared.taken.TakenTrack.{TakenTrack}
+use Rattle.merge_plan.specs.Identifiers.{Have64Bits, identifiers_of}
+use Rattle.merge_plan.specs.Records.{tags_of}
+use Rattle.remerge_laws.specs.Alike.{MayBeAlike}
+use Rattle.remerge_laws.specs.Placed.{MayStandAs}
+
+-- An input that isn't appended, of which all Tags are kept, has the identifiers that a merge of inputs gave.
+pub record HasIdentifiersOf (reads : List InputRead) (again : InputRead) : Type 0 where
+  pub tracks : map (λ (t : TakenTrack). t.track.uid) again.taken ≡ (identifiers_of reads).tracks
+  pub editions : uids_in edition_uids again.chapters ≡ (identifiers_of reads).editions
+  pub chapters : uids_in chapter_uids again.chapters ≡ (identifiers_of reads).chapters
+  pub files : map (λ (a : AttachedFile). a.uid) again.attachments ≡ (identifiers_of reads).files
+  pub alone : again.shift ≡ None
+  pub keep : again.keep ≡ keep_all
+
+-- Where it has the Tags of that merge as they stand where they were written, what is merged of it alone has these Tags.
+abbrev pub TagsAreAlikeAgain : Type 0
+TagsAreAlikeAgain =
+    (reads : List InputRead) (again : InputRead) → Have64Bits (identifiers_of reads) → HasIdentifiersOf reads again → MayStandAs (tags_of reads) again.tags
+    → MayBeAlike (tags_of reads) (tags_of (again ∷ []))

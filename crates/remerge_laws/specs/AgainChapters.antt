@@ -1,0 +1,25 @@
+-- The Chapters of an output are merged again as they were: RFC 9559, section 5.1.7 (Chapters Element). That they stay is this project's.
+use Rattle.std.specs.Prelude.{◌≡◌, List, [], ◌∷◌, None, IfSome}
+use Rattle.mkv_schema.specs.declared.ids.TheConstants.{CHAPTERS}
+use Rattle.output_model.specs.Sound.{IsRecord}
+use Rattle.record_changes.specs.Atoms.{chapter_uids, edition_uids}
+use Rattle.output_records.specs.Inputs.{uids_in}
+use Rattle.merge_inputs.specs.Input.{InputRead}
+use Rattle.merge_plan.specs.Identifiers.{Have64Bits, identifiers_of}
+use Rattle.merge_plan.specs.Records.{chapters_of}
+use Rattle.remerge_laws.specs.Alike.{MayBeAlike}
+use Rattle.remerge_laws.specs.Placed.{MayStandAs}
+
+-- An input that isn't appended has the Chapters of a merge as they stand where they were written, if there are any; they can be read, and the
+-- identifiers have 64 bits.
+pub record HasChaptersOf (reads : List InputRead) (again : InputRead) : Type 0 where
+  pub short : Have64Bits (identifiers_of reads)
+  pub records : IfSome (chapters_of reads) (IsRecord CHAPTERS)
+  pub stand : MayStandAs (chapters_of reads) again.chapters
+  pub alone : again.shift ≡ None
+
+-- It has the identifiers of that merge, and merged alone it gives these Chapters.
+pub record ChaptersAreAlikeAgain : Type 0 where
+  pub editions : (reads : List InputRead) (again : InputRead) → HasChaptersOf reads again → uids_in edition_uids again.chapters ≡ (identifiers_of reads).editions
+  pub chapters : (reads : List InputRead) (again : InputRead) → HasChaptersOf reads again → uids_in chapter_uids again.chapters ≡ (identifiers_of reads).chapters
+  pub alike : (reads : List InputRead) (again : InputRead) → HasChaptersOf reads again → MayBeAlike (chapters_of reads) (chapters_of (again ∷ []))

@@ -1,0 +1,28 @@
+-- The attached files that are read of an output are merged again as they were: RFC 9559, section 5.1.6 (Attachments Element). That they stay is this project's.
+use Rattle.std.specs.Prelude.{◌≡◌, ◌<◌, ◌^◌, List, [], ◌∷◌, map, All}
+use Rattle.std.specs.List.{AllZip}
+use Rattle.mkv_schema.specs.declared.ids.TheConstants.{FILE_UID}
+use Rattle.tree_format.specs.Values.{uint_in}
+use Rattle.record_changes.specs.Identifiers.{AreSettled}
+use Rattle.meta_records.specs.Attached.{AttachedFile}
+use Rattle.merge_plan.specs.Front.{attachments_of, file_uids, reads_of}
+use Rattle.merge_plan.specs.Plan.{Source}
+use Rattle.mkv_merge.specs.Records.{IsFilled}
+use Rattle.remerge_laws.specs.Alike.{AreAlike}
+use Rattle.remerge_laws.specs.Files.{IsFileOf}
+use Rattle.remerge_laws.specs.OwnFiles.{IsNumbered}
+
+-- The attached files of sources can be written, with FileUIDs of 64 bits.
+pub record HaveFiles (sources : List Source) : Type 0 where
+  pub filled : All IsFilled (attachments_of sources)
+  pub small : All (λ n. n < 2 ^ 64) (file_uids (reads_of sources))
+
+-- Each has one FileUID, and these are settled; and those that are read of a content, which is merged alone, are written as they were.
+pub record AttachedFilesStay : Type 0 where
+  pub numbered : (sources : List Source) → HaveFiles sources → All IsNumbered (attachments_of sources)
+  pub uids : (sources : List Source) → HaveFiles sources → map (uint_in FILE_UID) (attachments_of sources) ≡ file_uids (reads_of sources)
+  pub settled : (sources : List Source) → HaveFiles sources → AreSettled (map (uint_in FILE_UID) (attachments_of sources))
+  pub read : (sources : List Source) (again : Source) → HaveFiles sources → AllZip (IsFileOf again.0) (attachments_of sources) again.1.attachments
+      → map (λ (a : AttachedFile). a.uid) again.1.attachments ≡ file_uids (reads_of sources)
+  pub alike : (sources : List Source) (again : Source) → HaveFiles sources → AllZip (IsFileOf again.0) (attachments_of sources) again.1.attachments
+      → AllZip AreAlike (attachments_of sources) (attachments_of (again ∷ []))

@@ -1,0 +1,17 @@
+-- The Info of an output is written again as it was: RFC 9559, section 5.1.2 (Info Element). That it stays is this project's.
+use Rattle.std.specs.Prelude.{◌≡◌, List, ℕ, [], ◌∷◌, Option, Some}
+use Rattle.tree_format.specs.Node.{Node}
+use Rattle.tree_format.specs.Text.{HasNoZero}
+use Rattle.merge_words.specs.declared.output.MergeWords.{MergeWords}
+use Rattle.merge_inputs.specs.Input.{InputRead}
+use Rattle.merge_inputs.specs.Title.{title_of_info}
+use Rattle.merge_plan.specs.Records.{info_of, title_of}
+use Rattle.remerge_laws.specs.Placed.{MayStandAs}
+use Rattle.remerge_laws.specs.Plain.{plain_merge}
+
+-- An input that has the title of a merge's Info, which has no zero octet, gives this Info where both have one scale.
+abbrev pub InfoIsWrittenAgain : Type 0
+InfoIsWrittenAgain =
+    (words : MergeWords) (reads : List InputRead) (out name : List ℕ) (info : Option Node) (again : InputRead) → words.scale ≡ 1000000
+    → HasNoZero (title_of words reads) → MayStandAs (Some (info_of words reads)) info → again.title ≡ title_of_info info
+    → info_of (plain_merge out name) (again ∷ []) ≡ info_of words reads

@@ -1,0 +1,40 @@
+-- An output that is merged alone is read as the one source of that merge: RFC 8794, section 8 (EBML Document). What refuses a merge, and how one ends, is this project's.
+use Rattle.std.specs.Prelude.{◌≡◌, ℕ, false, List, [], ◌∷◌, length, map, Option, Some, None, Ok}
+use Rattle.mkv_schema.specs.Outline.{outline_of}
+use Rattle.meta_records.specs.Records.{FileRecords, file_records}
+use Rattle.output_laws.specs.Reading.{header_of_segment, outline_of_document}
+use Rattle.output_model.specs.Document.{Document, layout}
+use Rattle.input_files.specs.Inputs.{file_names}
+use Rattle.merge_words.specs.declared.output.MergeWords.{MergeWords}
+use Rattle.merge_inputs.specs.Taken.{first_unusable, taken_from}
+use Rattle.merge_plan.specs.Front.{reads_of}
+use Rattle.merge_plan.specs.Plan.{Source}
+use Rattle.merge_plan.specs.Refusal.{plan_refusal}
+use Rattle.mkv_lines.specs.declared.status.Status.TheVariants.{Done}
+use Rattle.mkv_merge.specs.Merge.{has_damage, merge_verdict, sources_of}
+use Rattle.merge_words.specs.Plain.{plain_file}
+use Rattle.mkv_merge.specs.Read.{first_written, pending_of}
+use Rattle.remerge_laws.specs.Plain.{plain_merge}
+use Rattle.remerge_laws.specs.Repeat.{source_again}
+
+-- Nothing refuses a merge of one file without options before the file is read: what is written has another name than what is read, the file is there, with this content,
+-- and no edit is pending.
+pub record CanBegin (world : List ℕ → Option (List ℕ)) (words : MergeWords) (bytes : List ℕ) : Type 0 where
+  pub apart : first_written words ≡ None
+  pub there : map world (file_names words.files) ≡ Some bytes ∷ []
+  pub settled : pending_of world words ≡ None
+
+-- A merge of an output, without options, has the output as its one source, with the outline and the records that are read of it, where nothing refuses
+-- the merge before it is read, its tracks can be used, and the plan refuses nothing.
+abbrev pub OutputsAreSources : Type 0
+OutputsAreSources =
+    (world : List ℕ → Option (List ℕ)) (out name : List ℕ) (d : Document) (r : FileRecords) → CanBegin world (plain_merge out name) (layout d)
+    → outline_of 0 (layout d) ≡ Ok (outline_of_document d (length (layout d))) → file_records (layout d) (header_of_segment d) ≡ Ok r
+    → first_unusable (taken_from (plain_file name) 0 r.tracks) ≡ None → plan_refusal (plain_merge out name) (reads_of (source_again name d r ∷ [])) ≡ None
+    → sources_of world (plain_merge out name) ≡ Ok (source_again name d r ∷ [])
+
+-- A merge without options of one source, in which no damage is met, is done: nothing is warned of.
+abbrev pub MergeIsDone : Type 0
+MergeIsDone =
+    (world : List ℕ → Option (List ℕ)) (out name : List ℕ) (source : Source) → sources_of world (plain_merge out name) ≡ Ok (source ∷ [])
+    → has_damage (source ∷ []) ≡ false → (merge_verdict world (plain_merge out name)).status ≡ Done

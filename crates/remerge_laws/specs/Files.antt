@@ -1,0 +1,45 @@
+-- The attached files that a reader with limits finds in an output: RFC 9559, section 5.1.6 (Attachments Element). The limits are this project's.
+use Rattle.std.specs.Prelude.{◌≡◌, ℕ, ◌+◌, List, [], ◌∷◌, Option, None, IfSome, Result, Ok, Err}
+use Rattle.std.specs.List.{AllZip}
+use Rattle.mkv_schema.specs.declared.ids.TheConstants.{ATTACHED_FILE, ATTACHMENTS, FILE_UID}
+use Rattle.mkv_io.specs.Contents.{octets_from}
+use Rattle.mkv_io.specs.declared.damage.Damage.{Damage}
+use Rattle.mkv_schema.specs.declared.element.Header.{Header}
+use Rattle.mkv_schema.specs.Outline.{first_refusal}
+use Rattle.mkv_schema.specs.Value.{first_of}
+use Rattle.tree_format.specs.Node.{Node, id_of}
+use Rattle.tree_format.specs.NormalForm.{octets}
+use Rattle.tree_format.specs.Children.{set_in, uint_leaf}
+use Rattle.tree_format.specs.Values.{uint_in}
+use Rattle.output_model.specs.Attached.{with_data}
+use Rattle.output_model.specs.Document.{Document, layout}
+use Rattle.output_model.specs.Sound.{IsSoundDocument}
+use Rattle.output_laws.specs.Reading.{header_of_segment, level_1_of}
+use Rattle.meta_records.specs.Attached.{AttachedFile, first_attached}
+use Rattle.meta_records.specs.Attachments.{ScannedElement, at_child, attached_in, children_of, limit_passed, met_in, too_many_files}
+
+-- The first limit that what is met in an Attachments Element passes, behind so many counted octets and so many nodes. Damages are left aside.
+abbrev pub passed_from : ℕ → ℕ → List (Result ScannedElement Damage) → Option Damage
+passed_from octets nodes [] = None
+passed_from octets nodes (Err d ∷ rest) = passed_from octets nodes rest
+passed_from octets nodes (Ok m ∷ rest) =
+    first_refusal (limit_passed (octets + m.counted) nodes m.header) (passed_from (octets + m.counted) (nodes + 1) rest)
+
+-- An Attachments Element of a content passes no limit of a reader.
+pub record AttachmentsKeepLimits (bytes : List ℕ) (h : Header) : Type 0 where
+  pub counted : passed_from 0 1 (met_in (at_child bytes) (children_of bytes h)) ≡ None
+  pub files : too_many_files (attached_in bytes h) ≡ None
+
+-- An attached file that is read of a content is this AttachedFile: it has its ID and its FileUID; and with its data, and whatever FileUID it is
+-- given, it is written as the AttachedFile with that FileUID.
+pub record IsFileOf (bytes : List ℕ) (n : Node) (a : AttachedFile) : Type 0 where
+  pub id : id_of a.entry ≡ ATTACHED_FILE
+  pub uid : a.uid ≡ uint_in FILE_UID n
+  pub same : (uid : ℕ)
+      → octets (with_data (octets_from bytes a.at a.len) (set_in (uint_leaf FILE_UID uid) a.entry)) ≡ octets (set_in (uint_leaf FILE_UID uid) n)
+
+-- A reader finds the attached files of an output whose Attachments Element passes no limit: each AttachedFile of the document, in their order.
+abbrev pub FilesAreRead : Type 0
+FilesAreRead =
+    (d : Document) → IsSoundDocument d → IfSome (first_of ATTACHMENTS (level_1_of d)) (AttachmentsKeepLimits (layout d))
+    → (files : List AttachedFile) × (first_attached (layout d) (header_of_segment d) ≡ Ok files) × AllZip (IsFileOf (layout d)) d.front.attachments files

@@ -1,0 +1,66 @@
+-- What a merge wrote, merged again alone and without options: RFC 9559, section 5.1 (Segment Element). That it comes out as it was is this project's.
+use Rattle.std.specs.Prelude.{◌≡◌, ⊤, ℕ, List, [], ◌∷◌, All, Option, Some, Ok, map}
+use Rattle.std.specs.Str.{IsUtf8}
+use Rattle.mkv_io.specs.Names.{Names, with_content}
+use Rattle.mkv_io.specs.Told.{IfVisible}
+use Rattle.output_model.specs.Document.{layout}
+use Rattle.remux_plan.specs.Parts.{PlannedOutput}
+use Rattle.merge_words.specs.declared.output.MergeWords.{MergeWords}
+use Rattle.merge_plan.specs.Plan.{Source}
+use Rattle.mkv_args.specs.Words.{command}
+use Rattle.mkv_args.specs.declared.command.Command.TheVariants.{Merge}
+use Rattle.mkv_lines.specs.declared.status.Status.{Status}
+use Rattle.mkv_lines.specs.declared.status.Status.TheVariants.{Done, Warned, Refused}
+use Rattle.mkv_merge.specs.Merge.{merge_verdict, outputs_of, sources_of}
+use Rattle.mkv_merge.specs.Records.{HaveRecords}
+use Rattle.merge_laws.specs.Merge.{laid_out}
+use Rattle.merge_laws.specs.Sources.{HoldsOctets}
+use Rattle.remerge_laws.specs.AgainSources.{CanBegin}
+use Rattle.remerge_laws.specs.Limits.{IsWithinLimits}
+use Rattle.remerge_laws.specs.Plain.{plain_merge}
+use Rattle.remerge_laws.specs.Repeat.{IsDefault}
+
+-- A content is what a merge wrote: usual words of a command line asked for the merge, in a world of names that hold octets; nothing refused it;
+-- what its sources give can be read again; and of its outputs this is the one.
+pub record IsMergeOutput (bytes : List ℕ) : Type 0 where
+  pub world : List ℕ → Option (List ℕ)
+  pub octets : HoldsOctets world
+  pub line : List (List ℕ)
+  pub utf8 : All IsUtf8 line
+  pub words : MergeWords
+  pub asked : command line ≡ Ok (Merge words)
+  pub usual : IsDefault words
+  pub sources : List Source
+  pub taken : sources_of world words ≡ Ok sources
+  pub records : HaveRecords sources
+  pub written : map (λ (o : PlannedOutput). layout o.document) (outputs_of words sources) ≡ bytes ∷ []
+
+-- A merge of a file of this content, alone and without options, isn't refused, has nothing to warn of, and gives the content to its one output.
+pub record IsWrittenAgain (world : List ℕ → Option (List ℕ)) (out name bytes : List ℕ) : Type 0 where
+  pub sources : List Source
+  pub taken : sources_of world (plain_merge out name) ≡ Ok sources
+  pub outputs : map laid_out (outputs_of (plain_merge out name) sources) ≡ record { name = out; content = bytes } ∷ []
+  pub done : (merge_verdict world (plain_merge out name)).status ≡ Done
+
+-- So it is of what a merge wrote that keeps a reader's limits, wherever it lies, where nothing refuses the merge before it reads.
+abbrev pub OutputsAreWrittenAgain : Type 0
+OutputsAreWrittenAgain =
+    (world : List ℕ → Option (List ℕ)) (out name bytes : List ℕ) → CanBegin world (plain_merge out name) bytes → IsMergeOutput bytes → IsWithinLimits bytes
+    → IsWrittenAgain world out name bytes
+
+-- ---- a run
+
+-- what stands after a run whose words merge, alone and without options, a file that a merge wrote and that keeps a reader's limits, where nothing
+-- refuses this before the file is read; the names are told, and what they hold is octets
+abbrev pub WhereMergedAgain : Names → List (List ℕ) → ((List ℕ → Option (List ℕ)) → List ℕ → List ℕ → Type 0) → Type 0
+WhereMergedAgain old line Stands =
+    IfVisible old (λ world. HoldsOctets world → (out name bytes : List ℕ) → command line ≡ Ok (Merge (plain_merge out name)) → CanBegin world (plain_merge out name) bytes
+    → IsMergeOutput bytes → IsWithinLimits bytes → Stands world out bytes)
+
+-- Such a run isn't refused and warns of nothing; where it ends by itself, its output has the
+-- content that the file has, octet for octet, and no other name has changed.
+abbrev pub MergesAgain : Names → List (List ℕ) → Names → Status → Type 0
+MergesAgain old line new Done = WhereMergedAgain old line (λ world out bytes. new ≡ with_content (Some world) out bytes)
+MergesAgain old line new Warned = WhereMergedAgain old line (λ world out bytes. ⊥)
+MergesAgain old line new Refused = WhereMergedAgain old line (λ world out bytes. ⊥)
+MergesAgain old line new s = ⊤

@@ -1,0 +1,62 @@
+-- An output that is merged alone, without options, comes out as it was: RFC 9559, section 5.1 (Segment Element). That it does is this project's.
+use Rattle.std.specs.Prelude.{◌≡◌, ℕ, false, List, [], ◌∷◌, length, map, All, None, Ok}
+use Rattle.mkv_schema.specs.Outline.{outline_of}
+use Rattle.tree_format.specs.Text.{HasNoZero}
+use Rattle.meta_records.specs.Records.{FileRecords, file_records}
+use Rattle.output_laws.specs.Reading.{header_of_segment, outline_of_document}
+use Rattle.output_model.specs.Document.{Document, layout}
+use Rattle.merge_words.specs.declared.files.FileWords.{FileWords}
+use Rattle.merge_words.specs.declared.output.MergeWords.{MergeWords}
+use Rattle.merge_words.specs.Sound.{IsSoundMerge}
+use Rattle.merge_words.specs.Texts.{AreTexts}
+use Rattle.merge_inputs.specs.Input.{input_with}
+use Rattle.merge_inputs.specs.Taken.{first_unusable, taken_from}
+use Rattle.merge_inputs.specs.declared.taken.TakenTrack.{TakenTrack}
+use Rattle.merge_plan.specs.Front.{reads_of}
+use Rattle.merge_plan.specs.Plan.{Source}
+use Rattle.merge_plan.specs.Records.{title_of, tracks_taken}
+use Rattle.merge_plan.specs.Refusal.{plan_refusal}
+use Rattle.mkv_merge.specs.Merge.{has_damage, outputs_of}
+use Rattle.mkv_merge.specs.Records.{HaveRecords}
+use Rattle.merge_words.specs.Plain.{plain_file}
+use Rattle.merge_laws.specs.Merge.{laid_out}
+use Rattle.merge_laws.specs.Sources.{AreSources}
+use Rattle.remerge_laws.specs.Limits.{IsWithinLimits}
+use Rattle.remerge_laws.specs.Plain.{plain_merge}
+use Rattle.remerge_laws.specs.Whole.{whole_document}
+
+-- Words that ask for no WebM, cue points, parts and identifiers, and for the usual ticks and Clusters.
+pub record IsDefault (words : MergeWords) : Type 0 where
+  pub webm : words.webm ≡ false
+  pub scale : words.scale ≡ 1000000
+  pub blocks : words.blocks ≡ 65535
+  pub span : words.span ≡ 5000000000
+  pub split : words.split ≡ None
+  pub uuids : words.uuids ≡ []
+  pub cues : All (λ (f : FileWords). f.cues ≡ []) words.files
+
+-- Sources of a merge are plain: their tracks have cue points by their types alone, and the title has no zero octet.
+pub record ArePlainSources (words : MergeWords) (sources : List Source) : Type 0 where
+  pub cues : All (λ (t : TakenTrack). t.cues ≡ None) (tracks_taken (reads_of sources))
+  pub title : HasNoZero (title_of words (reads_of sources))
+
+-- an output as a source of a merge without options, of which these records were read
+abbrev pub source_again : List ℕ → Document → FileRecords → Source
+source_again name d r = (layout d, input_with (plain_file name) false (outline_of_document d (length (layout d))) r)
+
+-- The outline of a document's output is read, and these records, of which each track can be used; merged alone and without options, nothing refuses
+-- what is planned of it, it comes to one output, which is as it was, octet for octet, and no damage is met.
+pub record IsRepeated (out name : List ℕ) (d : Document) (r : FileRecords) : Type 0 where
+  pub outline : outline_of 0 (layout d) ≡ Ok (outline_of_document d (length (layout d)))
+  pub read : file_records (layout d) (header_of_segment d) ≡ Ok r
+  pub usable : first_unusable (taken_from (plain_file name) 0 r.tracks) ≡ None
+  pub planned : plan_refusal (plain_merge out name) (reads_of (source_again name d r ∷ [])) ≡ None
+  pub outputs : map laid_out (outputs_of (plain_merge out name) (source_again name d r ∷ [])) ≡ record { name = out; content = layout d } ∷ []
+  pub undamaged : has_damage (source_again name d r ∷ []) ≡ false
+
+-- The output of such a merge is repeated, where it keeps a reader's limits.
+abbrev pub OutputsAreRepeated : Type 0
+OutputsAreRepeated =
+    (words : MergeWords) (sources : List Source) (out name : List ℕ) → IsDefault words → IsSoundMerge words → AreTexts words → AreSources words sources
+    → HaveRecords sources → ArePlainSources words sources → IsWithinLimits (layout (whole_document words sources))
+    → (r : FileRecords) × IsRepeated out name (whole_document words sources) r

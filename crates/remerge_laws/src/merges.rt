@@ -1,0 +1,120 @@
+//! What a merge makes that is merged again: RFC 9559, section 5.1 (Segment Element).
+
+ghost use Rattle.remerge_laws.specs.Again.{TagsAreAlikeAgain};
+ghost use Rattle.remerge_laws.specs.AgainChapters.{ChaptersAreAlikeAgain};
+ghost use Rattle.remerge_laws.specs.AgainFiles.{AttachedFilesStay};
+ghost use Rattle.remerge_laws.specs.AgainInfo.{InfoIsWrittenAgain};
+ghost use Rattle.remerge_laws.specs.AgainLanes.{LanesAreMergedAgain};
+ghost use Rattle.remerge_laws.specs.AgainSources.{MergeIsDone, OutputsAreSources};
+ghost use Rattle.remerge_laws.specs.AgainTracks.{EntriesAreWrittenAgain, TracksAreTakenAgain};
+ghost use Rattle.remerge_laws.specs.MergedAgain.{OutputsAreWrittenAgain};
+ghost use Rattle.remerge_laws.specs.Named.{JoinedTagsNameTheOutput};
+ghost use Rattle.remerge_laws.specs.PlainSources.{SourcesArePlain};
+ghost use Rattle.remerge_laws.specs.Repeat.{OutputsAreRepeated};
+ghost use Rattle.remerge_laws.specs.Whole.{WholeMergesHaveSmallRecords, WholeMergesHaveOneDocument};
+
+use merge_laws::{layouts_hold_outputs, merged_documents_are_sound, sources_are_read};
+use output_laws::lanes_are_read_again;
+use record_laws::{chapters_stay, tags_stay, tracks_stay};
+use word_laws::titles_are_texts;
+
+/// A merge that isn't split, and whose output gets no identifier, has one document.
+pub fn whole_merges_have_one_document()
+    ensures { WholeMergesHaveOneDocument }
+{}
+
+/// Its records keep a reader's limits, where nothing refused the merge.
+pub fn whole_merges_have_small_records()
+    ensures { WholeMergesHaveSmallRecords }
+{}
+
+/// The targets of its Tags name tracks, editions, chapters and attached files that the output has.
+pub fn joined_tags_name_the_output()
+    ensures { JoinedTagsNameTheOutput }
+{}
+
+/// Merged alone, an output with the identifiers of the merge gets the Tags that it has.
+pub fn tags_are_alike_again()
+    ensures { TagsAreAlikeAgain }
+{
+    tags_stay();
+}
+
+/// So it gets its attached files.
+pub fn attached_files_stay()
+    ensures { AttachedFilesStay }
+{}
+
+/// Its lanes are those that were merged, and no damage is met in it.
+pub fn lanes_are_merged_again()
+    ensures { LanesAreMergedAgain }
+{
+    lanes_are_read_again();
+}
+
+/// All its tracks are taken, as they stand.
+pub fn tracks_are_taken_again()
+    ensures { TracksAreTakenAgain }
+{}
+
+/// Their entries are written as they were.
+pub fn entries_are_written_again()
+    ensures { EntriesAreWrittenAgain }
+{
+    tracks_stay();
+}
+
+/// So it gets its Chapters.
+pub fn chapters_are_alike_again()
+    ensures { ChaptersAreAlikeAgain }
+{
+    chapters_stay();
+}
+
+/// So it gets its Info.
+pub fn info_is_written_again()
+    ensures { InfoIsWrittenAgain }
+{}
+
+/// What a merge of a command line with usual words reads is plain.
+pub fn sources_are_plain()
+    ensures { SourcesArePlain }
+{
+    titles_are_texts();
+    sources_are_read();
+}
+
+/// Nothing refuses what is planned of an output of plain sources that keeps a reader's limits, where it is merged alone and
+/// without options, and it is written as it was, octet for octet.
+pub fn outputs_are_repeated()
+    ensures { OutputsAreRepeated }
+{
+    tracks_stay();
+    chapters_stay();
+    tags_stay();
+    lanes_are_read_again();
+    merged_documents_are_sound();
+    layouts_hold_outputs();
+}
+
+/// An output that is merged alone and without options is the one source of that merge, where nothing refuses it.
+pub fn outputs_are_sources()
+    ensures { OutputsAreSources }
+{}
+
+/// A merge without options of one source, in which no damage is met, is done without a warning.
+pub fn merge_is_done()
+    ensures { MergeIsDone }
+{}
+
+/// What a merge of a command line with usual words wrote is written again as it was, octet for octet, when it is merged alone
+/// and without options.
+pub fn outputs_are_written_again()
+    ensures { OutputsAreWrittenAgain }
+{
+    sources_are_read();
+    sources_are_plain();
+    outputs_are_repeated();
+    outputs_are_sources();
+    merge_is_done();
+}

@@ -1,5 +1,0 @@
-use Rattle.repeated_merge.proofs.AgainChapterLemmas.{chapters-again}
-use Rattle.repeated_merge.proofs.merges.chapters_are_alike_again.Goals as goal
-
-pub returns : goal.returns
-returns c = chapters-again c.chapters_stay.ensures

@@ -1,5 +1,0 @@
-use Rattle.repeated_merge.proofs.AgainLaneLemmas.{lanes-merged}
-use Rattle.repeated_merge.proofs.merges.lanes_are_merged_again.Goals as goal
-
-pub returns : goal.returns
-returns c = lanes-merged c.lanes_are_read_again.ensures

@@ -1,0 +1,21 @@
+-- The fields of a line of a text, in this project's grammar.
+use Rattle.std.specs.Prelude.{ℕ, ◌&&◌, nat_lt, nat_le, if◌then◌else◌, List, length, take, drop, Option, Some, None}
+use Rattle.std.specs.List.{list_all}
+use Rattle.std.specs.Str.{bytes_eq}
+use Rattle.std.specs.Char.{is_ascii_digit}
+use Rattle.std.specs.Str.Parse.{digits_value}
+use Rattle.mkv_io.specs.Optional.{◌>>=◌}
+
+-- what stands behind a text, where it is in front
+abbrev pub behind : List ℕ → List ℕ → Option (List ℕ)
+behind front word = if bytes_eq (take (length front) word) front then Some (drop (length front) word) else None
+
+-- a number of so many decimal digits
+unfoldable pub digits : ℕ → ℕ → List ℕ → Option ℕ
+digits least most word =
+    if nat_le least (length word) && nat_le (length word) most && list_all is_ascii_digit word
+    then Some (digits_value 10 word) else None
+
+-- minutes or seconds: two digits, below 60
+unfoldable pub minutes_or_seconds : List ℕ → Option ℕ
+minutes_or_seconds word = digits 2 2 word >>= (λ n. if nat_lt n 60 then Some n else None)

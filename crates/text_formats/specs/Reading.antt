@@ -1,0 +1,58 @@
+-- What is known while a SubRip file is read.
+use Rattle.std.specs.Prelude.{◌≡◌, ◌<◌, ◌≤◌, ⊤, All, ℕ, zero, suc, ◌+◌, List, [], ◌∷◌, length, Option, Some, None, Result, Ok, Err}
+use Rattle.std.specs.Str.Lines.{lines}
+use Rattle.mkv_io.specs.Characters.{LINE_FEED}
+use Rattle.text_formats.specs.declared.reading.Head.{Head}
+use Rattle.mkv_io.specs.declared.entry.Entry.{Entry}
+use Rattle.text_formats.specs.declared.end.TextEnd.{TextEnd}
+use Rattle.text_formats.specs.Ends.{Blames}
+use Rattle.text_formats.specs.Times.{latest}
+use Rattle.text_formats.specs.Srt.{head, before_head, entry, entries}
+use Rattle.text_formats.specs.Walk.{Second, Behind, bad_from}
+use Rattle.text_formats.specs.declared.times.Times.{Times}
+
+-- the entries from a head on
+abbrev pub entries_at : Option Head → List Entry
+entries_at None = []
+entries_at (Some h) = entry h.times (before_head (lines h.rest.now)) ∷ entries (lines h.rest.now)
+
+-- the first bad line behind a head
+abbrev pub bad_at : Option Head → Option ℕ
+bad_at None = None
+bad_at (Some h) = bad_from Behind (h.number + 1) (lines h.rest.now)
+
+-- These lines, whose first bad line is this, have the entries from the head on, and the first bad line behind it.
+abbrev pub GoesOn : Option ℕ → List (List ℕ) → Option Head → Type 0
+GoesOn bad ls h = (entries ls ≡ entries_at h) × (bad ≡ bad_at h)
+
+-- The head was read from these octets, before which so many lines stand: what is behind it is shorter, and its
+-- times are in order and not too late.
+abbrev pub IsWithin : ℕ → List ℕ → Option Head → Type 0
+IsWithin before from None = ⊤
+IsWithin before from (Some h) =
+    (h.number + length h.rest.now ≤ before + length from) × (length h.rest.now < length from) × (h.times.start ≤ h.times.end) × (h.times.end < latest)
+
+-- how many octets are left where a head was read, the end of its lines counted
+abbrev pub left : Option Head → ℕ
+left None = 0
+left (Some h) = 1 + length h.rest.now
+
+-- An entry ends within 10,000 hours, and its text has at most so many octets.
+abbrev pub IsEntryWithin : ℕ → Entry → Type 0
+IsEntryWithin most e = (e.start + e.duration < latest) × (length e.text ≤ most)
+
+-- At most so many entries, each with at most so many octets of text.
+abbrev pub AreWithin : ℕ → List Entry → Type 0
+AreWithin most es = (length es ≤ most) × All (IsEntryWithin most) es
+
+-- so many line feeds
+abbrev pub breaks : ℕ → List ℕ
+breaks zero = []
+breaks (suc n) = LINE_FEED ∷ breaks n
+
+-- what is known of a line, of those behind it, and of the head that may begin with it
+abbrev pub HeadRead : List ℕ → List (List ℕ) → ℕ → Result (Option Head) TextEnd → Type 0
+HeadRead l ls n (Ok None) = head (l ∷ ls) ≡ None
+HeadRead l ls n (Ok (Some h)) =
+    (head (l ∷ ls) ≡ Some h.times) × (entries (l ∷ ls) ≡ entries_at (Some h)) × (bad_from (Second h.times) (n + 1) ls ≡ bad_at (Some h))
+HeadRead l ls n (Err e) = (t : Times) × (head (l ∷ ls) ≡ Some t) × Blames e (bad_from (Second t) (n + 1) ls)

@@ -1,0 +1,25 @@
+-- How an entry of SubRip is written, in this project's grammar.
+use Rattle.std.specs.Prelude.{ℕ, ℤ, pos, negsuc, ◌+ℤ◌, ◌/◌, List, [], ◌∷◌, ◌++◌, codes}
+use Rattle.std.specs.Fmt.{decimal}
+use Rattle.mkv_io.specs.Characters.{COMMA, LINE_FEED}
+use Rattle.text_formats.specs.declared.pieces.Piece.{Piece}
+use Rattle.text_formats.specs.declared.pieces.Piece.TheVariants.{Time}
+use Rattle.text_formats.specs.Pieces.{stamp}
+
+-- whole milliseconds of a time in nanoseconds; one before 0 is 0
+abbrev pub milliseconds : ℤ → ℕ
+milliseconds (pos t) = t / 1000000
+milliseconds (negsuc t) = 0
+
+abbrev pub time : ℕ → Piece
+time ms = Time COMMA ms
+
+-- the times of an entry's start and of its end
+abbrev pub time_line : ℤ → ℕ → List ℕ
+time_line start duration =
+    stamp COMMA (milliseconds start) ++ (codes " --> " ++ stamp COMMA (milliseconds (start +ℤ pos duration)))
+
+-- an entry: its number, its times and its text, each ended by LF, and an empty line
+unfoldable pub put_srt : ℕ → ℤ → ℕ → List ℕ → List ℕ
+put_srt number start duration text =
+    decimal number ++ (LINE_FEED ∷ (time_line start duration ++ (LINE_FEED ∷ (text ++ (LINE_FEED ∷ LINE_FEED ∷ [])))))

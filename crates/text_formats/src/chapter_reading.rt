@@ -1,0 +1,124 @@
+//! Simple chapters, read: each line once.
+
+ghost use Rattle.std.specs.Prelude.{◌≡◌, ◌<◌, length, IfOk, option_map};
+ghost use Rattle.text_formats.specs.Ends.{Reads};
+ghost use Rattle.text_formats.specs.Pairs as spec;
+ghost use Rattle.text_formats.specs.Turn.{Turns, timed_in, timed_of};
+
+use crate::end::TextEnd;
+use crate::fields::{behind, cut, digits, minutes_or_seconds, text};
+use crate::lines::{behind_mark, next_line};
+use mkv_io::{List, Text};
+use std::alloc::{AllocError, Global};
+
+const MILLISECOND: u64 = 1_000_000;
+
+/// A chapter of a file: where it starts, in nanoseconds, and its name.
+#[derive(Debug, Drop)]
+pub struct Chapter {
+    pub start: u64,
+    pub name: Text,
+}
+
+/// The first line of a pair: the digits of its number, and its time in nanoseconds.
+#[derive(Clone, Copy)]
+struct FirstLine<'a> {
+    number: &'a [u8],
+    start: u64,
+}
+
+// `HH:MM:SS.mmm`, in nanoseconds.
+#[tactic(auto, unfolding(crate::specs::Pairs::time_of))]
+fn time_of(word: &[u8]) -> Option<u64>
+    ensures { result ≡ spec.time_of word.now }
+{
+    let (hours, rest) = cut(word, b':')?;
+    let (minutes, rest) = cut(rest, b':')?;
+    let (seconds, thousandths) = cut(rest, b'.')?;
+    let hours = digits(2, 2, hours)?;
+    let minutes = minutes_or_seconds(minutes)?;
+    let seconds = minutes_or_seconds(seconds)?;
+    let thousandths = digits(3, 3, thousandths)?;
+    Some(((hours * 60 + minutes) * 60_000 + (seconds * 1000 + thousandths)) * MILLISECOND)
+}
+
+// `CHAPTERnn=` and a time.
+#[tactic(auto, unfolding(crate::specs::Pairs::first_line))]
+fn first_line(line: &[u8]) -> Option<FirstLine<'_>>
+    ensures { option_map timed_of result ≡ spec.first_line line.now }
+{
+    let rest = behind(b"CHAPTER", line)?;
+    let (number, time) = cut(rest, b'=')?;
+    digits(2, 4, number)?;
+    let start = time_of(time)?;
+    Some(FirstLine { number, start })
+}
+
+// `CHAPTERnnNAME=` and a text: the text.
+#[tactic(auto, unfolding(crate::specs::Pairs::second_line))]
+fn second_line<'a>(number: &[u8], line: &'a [u8]) -> Option<&'a str>
+    ensures { option_map (λ s. s.now) result ≡ spec.second_line number.now line.now }
+{
+    let rest = behind(b"CHAPTER", line)?;
+    let rest = behind(number, rest)?;
+    text(behind(b"NAME=", rest)?)
+}
+
+// The chapter that starts at this time and has this name.
+fn named(alloc: Global, start: u64, words: &str) -> Result<Chapter, AllocError>
+    ensures { IfOk result (λ chapter. chapter ≡ spec.chapter start words.now) }
+{
+    let mut name = Text::new(alloc);
+    name.append(words)?;
+    Ok(Chapter { start, name })
+}
+
+// What a line that isn't empty gives: the first line of a pair, or a chapter whose first line was due.
+fn take_line<'a>(
+    alloc: Global,
+    list: &mut List<Chapter>,
+    due: Option<FirstLine<'_>>,
+    line: &'a [u8],
+    number: u64,
+) -> Result<Option<FirstLine<'a>>, TextEnd>
+    requires { 0 < length line.now }
+    ensures { Turns list.old list.new line.now number (timed_in due.entry) result }
+{
+    let Some(due) = due else {
+        return match first_line(line) {
+            Some(first) => Ok(Some(first)),
+            None => Err(TextEnd::Bad { line: number }),
+        };
+    };
+    let Some(words) = second_line(due.number, line) else {
+        return Err(TextEnd::Bad { line: number });
+    };
+    let chapter = named(alloc, due.start, words)?;
+    list.push(chapter)?;
+    Ok(None)
+}
+
+/// The chapters of a file of simple chapters, as they stand; or its first bad line: one that is neither empty
+/// nor the line that is due, or, where a name is missing, the line behind the last.
+pub fn read_pairs(alloc: Global, bytes: &[u8]) -> Result<List<Chapter>, TextEnd>
+    ensures exact { Reads result (spec.simple bytes.now) }
+{
+    let mut list = List::new(alloc);
+    let mut due = None;
+    let mut rest = behind_mark(bytes);
+    let mut number = 0;
+    while let Some((line, after)) = next_line(rest) {
+        number += 1;
+        if !line.is_empty() {
+            match take_line(alloc, &mut list, due, line, number) {
+                Ok(next) => due = next,
+                Err(end) => return Err(end),
+            }
+        }
+        rest = after;
+    }
+    match due {
+        None => Ok(list),
+        Some(_) => Err(TextEnd::Bad { line: number + 1 }),
+    }
+}

@@ -1,0 +1,63 @@
+//! The fields of a line.
+
+ghost use Rattle.std.specs.Prelude.{◌≡◌, ◌<◌, ◌≤◌, ◌^◌, true, false, IfSome, MatchOption, option_map};
+ghost use Rattle.std.specs.Str.{is_utf8};
+ghost use Rattle.mkv_io.specs.Octets as octets;
+ghost use Rattle.text_formats.specs.Fields as spec;
+
+use crate::lines::place_of;
+use std::str;
+
+/// What stands before and behind the first such octet.
+#[tactic(auto, unfolding(mkv_io::specs::Octets::cut))]
+pub fn cut(word: &[u8], octet: u8) -> Option<(&[u8], &[u8])>
+    ensures { option_map (λ p. (p.0.now, p.1.now)) result ≡ octets.cut octet word.now }
+{
+    let at = place_of(word, octet)?;
+    Some((&word[..at], &word[at + 1..]))
+}
+
+/// What stands behind these octets, where they are in front.
+pub fn behind<'a>(front: &[u8], word: &'a [u8]) -> Option<&'a [u8]>
+    ensures { option_map (λ p. p.now) result ≡ spec.behind front.now word.now }
+{
+    word.strip_prefix(front)
+}
+
+/// The number that these decimal digits write, where there are so many of them.
+#[tactic(auto, unfolding(crate::specs::Fields::digits))]
+pub fn digits(least: usize, most: usize, word: &[u8]) -> Option<u64>
+    requires { most ≤ 18 }
+    ensures same { result ≡ spec.digits least most word.now }
+    ensures small { IfSome result (λ n. n < 10 ^ most) }
+{
+    if word.len() < least || word.len() > most {
+        return None;
+    }
+    let mut value: u64 = 0;
+    for octet in word {
+        if !octet.is_ascii_digit() {
+            return None;
+        }
+        value = value * 10 + u64::from(*octet - b'0');
+    }
+    Some(value)
+}
+
+/// Minutes or seconds: two digits, below 60.
+#[tactic(auto, unfolding(crate::specs::Fields::minutes_or_seconds))]
+pub fn minutes_or_seconds(word: &[u8]) -> Option<u64>
+    ensures same { result ≡ spec.minutes_or_seconds word.now }
+    ensures small { IfSome result (λ n. n < 60) }
+{
+    let value = digits(2, 2, word)?;
+    if value < 60 { Some(value) } else { None }
+}
+
+/// The octets as text, where they are UTF-8.
+#[tactic(auto, using(crate::proofs::FieldsLemmas::texts))]
+pub fn text(octets: &[u8]) -> Option<&str>
+    ensures { MatchOption result (is_utf8 octets.now ≡ false) (λ s. (is_utf8 octets.now ≡ true) × (s.now ≡ octets.now)) }
+{
+    str::from_utf8(octets).ok()
+}

@@ -1,0 +1,54 @@
+//! The lines of a text file, one after the other.
+
+ghost use Rattle.std.specs.Prelude.{◌≡◌, ◌<◌, ◌==◌, [], ◌∷◌, length, MatchOption};
+ghost use Rattle.std.specs.Str.Lines.{lines, strip_carriage_return};
+ghost use Rattle.std.specs.List.{position};
+ghost use Rattle.text_formats.specs.Lines as spec;
+
+/// The octets of UTF-8's mark, which a file may begin with.
+const MARK: [u8; 3] = [0xEF, 0xBB, 0xBF];
+
+/// What stands behind UTF-8's mark, where a file begins with it; else all of it.
+pub fn behind_mark(content: &[u8]) -> &[u8]
+    ensures { result.now ≡ spec.behind_mark content.now }
+{
+    if content.starts_with(&MARK) {
+        &content[3..]
+    } else {
+        content
+    }
+}
+
+/// The first line without its end, and what stands behind it.
+pub fn next_line(rest: &[u8]) -> Option<(&[u8], &[u8])>
+    ensures first { MatchOption result (lines rest.now ≡ []) (λ p. lines rest.now ≡ p.0.now ∷ lines p.1.now) }
+    ensures less { MatchOption result (length rest.now ≡ 0) (λ p. length p.1.now < length rest.now) }
+{
+    match place_of(rest, b'\n') {
+        Some(end) => Some((without_return(&rest[..end]), &rest[end + 1..])),
+        None => {
+            if rest.is_empty() {
+                None
+            } else {
+                Some((rest, &rest[rest.len()..]))
+            }
+        }
+    }
+}
+
+/// The line without a CR at its end.
+fn without_return(line: &[u8]) -> &[u8]
+    ensures { result.now ≡ strip_carriage_return line.now }
+{
+    match line {
+        [front @ .., b'\r'] => front,
+        _ => line,
+    }
+}
+
+/// Where the first such octet stands.
+pub(crate) fn place_of(word: &[u8], octet: u8) -> Option<usize>
+    ensures { result ≡ position (λ b. b == octet) word.now }
+{
+    word.iter().position(|b| *b == octet)
+}

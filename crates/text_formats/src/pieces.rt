@@ -1,0 +1,109 @@
+//! Octets, numbers and times as they are written.
+
+ghost use Rattle.std.specs.Prelude.{◌≡◌, ◌++◌, length, take, flat_map, OnOk, OnErr};
+ghost use Rattle.std.specs.Fmt.{decimal};
+ghost use Rattle.text_formats.specs.Pieces as spec;
+
+use itoa::Buffer;
+use mkv_io::Bytes;
+use std::alloc::AllocError;
+
+const SECOND: u64 = 1_000;
+
+const MINUTE: u64 = 60_000;
+
+const HOUR: u64 = 3_600_000;
+
+/// A piece of a text file that is written.
+#[derive(Clone, Copy, Debug)]
+pub enum Piece<'a> {
+    /// These octets.
+    Octets(&'a [u8]),
+    /// A number in decimal digits.
+    Number(u64),
+    /// A number in two decimal digits or more.
+    Padded(u64),
+    /// `HH:MM:SS`, this octet and three digits, of a time in milliseconds. Hours have two digits or more.
+    Time { point: u8, milliseconds: u64 },
+}
+
+/// Adds pieces one behind the other. On a refusal nothing is added.
+pub fn put_pieces(pieces: &[Piece<'_>], out: &mut Bytes) -> Result<(), AllocError>
+    ensures ok { OnOk result (out.new ≡ out.old ++ flat_map spec.octets_of pieces.now) }
+    ensures err { OnErr result (out.new ≡ out.old) }
+{
+    let before = out.len();
+    for piece in pieces {
+        if let Err(refused) = put_piece(piece, out) {
+            out.truncate(before);
+            return Err(refused);
+        }
+    }
+    Ok(())
+}
+
+// On a refusal, what was there before still stands in front.
+fn put_piece(piece: &Piece<'_>, out: &mut Bytes) -> Result<(), AllocError>
+    ensures ok { OnOk result (out.new ≡ out.old ++ spec.octets_of piece.now) }
+    ensures err { OnErr result (take (length out.old) out.new ≡ out.old) }
+{
+    match *piece {
+        Piece::Octets(octets) => out.append(octets),
+        Piece::Number(n) => put_number(n, out),
+        Piece::Padded(n) => put_two_or_more(n, out),
+        Piece::Time {
+            point,
+            milliseconds,
+        } => put_time(point, milliseconds, out),
+    }
+}
+
+fn put_number(n: u64, out: &mut Bytes) -> Result<(), AllocError>
+    ensures ok { OnOk result (out.new ≡ out.old ++ decimal n) }
+    ensures err { OnErr result (out.new ≡ out.old) }
+{
+    out.append(Buffer::new().format(n).as_bytes())
+}
+
+fn put_two_or_more(n: u64, out: &mut Bytes) -> Result<(), AllocError>
+    ensures ok { OnOk result (out.new ≡ out.old ++ spec.two_or_more n) }
+    ensures err { OnErr result (out.new ≡ out.old) }
+{
+    if n < 100 {
+        out.append(&two_digits(n))
+    } else {
+        put_number(n, out)
+    }
+}
+
+#[tactic(auto, using(crate::proofs::PiecesLemmas::joins), unfolding(crate::specs::Pieces::stamp))]
+fn put_time(point: u8, ms: u64, out: &mut Bytes) -> Result<(), AllocError>
+    ensures ok { OnOk result (out.new ≡ out.old ++ spec.stamp point ms) }
+    ensures err { OnErr result (take (length out.old) out.new ≡ out.old) }
+{
+    let [m, n] = two_digits(ms / MINUTE % 60);
+    let [s, t] = two_digits(ms / SECOND % 60);
+    let [x, y, z] = three_digits(ms % SECOND);
+    put_two_or_more(ms / HOUR, out)?;
+    out.append(&[b':', m, n, b':', s, t, point, x, y, z])?;
+    Ok(())
+}
+
+fn two_digits(n: u64) -> [u8; 2]
+    ensures { result ≡ spec.two_digits n }
+{
+    [digit(n / 10), digit(n)]
+}
+
+fn three_digits(n: u64) -> [u8; 3]
+    ensures { result ≡ spec.three_digits n }
+{
+    [digit(n / 100), digit(n / 10), digit(n)]
+}
+
+// The last digit of a number.
+fn digit(n: u64) -> u8
+    ensures { result ≡ spec.digit n }
+{
+    b'0' + (n % 10) as u8
+}
