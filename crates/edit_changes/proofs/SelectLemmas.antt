@@ -1,8 +1,8 @@
 -- A TrackEntry that stands in Tracks: what is read of it, and that it is changed.
 use Rattle.std.proofs.Common.{◌≡◌, ◌==◌, ℕ, suc, ◌+◌, ◌-◌, Bool, true, false, List, [], ◌∷◌, Some, slice_get, refl, sym, ◌∙◌, ap, arith}
 use Rattle.std.proofs.lemmas.Bool.Decides.{nat_tests}
-use Rattle.word_values.specs.declared.edit.Selector.{Selector}
-use Rattle.word_values.specs.declared.edit.Selector.TheVariants.{Info, Nth, Typed, Uid, Number}
+use Rattle.requests.specs.declared.edit.Selector.{Selector}
+use Rattle.requests.specs.declared.edit.Selector.TheVariants.{Info, Nth, Typed, Uid, Number}
 use Rattle.mkv_schema.specs.Table.{table}
 use Rattle.mkv_schema.specs.Schema.{entry_of}
 use Rattle.mkv_schema.specs.declared.ids.TheConstants.{TRACKS, TRACK_ENTRY, TRACK_NUMBER, TRACK_UID, TRACK_TYPE}

@@ -8,10 +8,10 @@ use Rattle.ebml_numbers.specs.Number.{id_at, size_at, is_id, least_size_width, u
 use Rattle.mkv_schema.specs.Table.{table}
 use Rattle.mkv_schema.specs.Schema.{entry_of}
 use Rattle.mkv_io.specs.declared.damage.Kind.TheVariants as kind
-use Rattle.word_values.specs.declared.edit.Edit.{Edit}
-use Rattle.word_values.specs.declared.edit.Selector.TheVariants.{Info, Nth, Typed, Uid, Number}
-use Rattle.word_values.specs.declared.edit.Change.TheVariants.{Set, Add, Delete}
-use Rattle.word_values.specs.Numbers.{number, whole}
+use Rattle.requests.specs.declared.edit.Edit.{Edit}
+use Rattle.requests.specs.declared.edit.Selector.TheVariants.{Info, Nth, Typed, Uid, Number}
+use Rattle.requests.specs.declared.edit.Change.TheVariants.{Set, Add, Delete}
+use Rattle.requests.specs.Decimal.{number, whole}
 use Rattle.mkv_schema.specs.Element.{element_in}
 use Rattle.mkv_schema.specs.Elements.{elements, elements_within}
 use Rattle.mkv_schema.specs.Outline.{outline_of, ebml_header, segment_of}

@@ -5,9 +5,9 @@ use Rattle.std.specs.Option.{option_map}
 use Rattle.std.specs.Str.{is_utf8, bytes_eq}
 use Rattle.ebml_numbers.specs.Number.{uint_octets}
 use Rattle.mkv_schema.specs.declared.ids.TheConstants.{TITLE, SEGMENT_FILENAME, MUXING_APP, WRITING_APP, NAME, LANGUAGE, LANGUAGE_BCP47, CODEC_ID, DEFAULT_DURATION, FLAG_ENABLED, FLAG_DEFAULT, FLAG_FORCED, FLAG_HEARING_IMPAIRED, FLAG_VISUAL_IMPAIRED, FLAG_TEXT_DESCRIPTIONS, FLAG_ORIGINAL, FLAG_COMMENTARY}
-use Rattle.word_values.specs.declared.edit.Selector.{Selector}
-use Rattle.word_values.specs.declared.edit.Selector.TheVariants.{Info, Nth, Typed, Uid, Number}
-use Rattle.word_values.specs.Numbers.{number}
+use Rattle.requests.specs.declared.edit.Selector.{Selector}
+use Rattle.requests.specs.declared.edit.Selector.TheVariants.{Info, Nth, Typed, Uid, Number}
+use Rattle.requests.specs.Decimal.{number}
 use Rattle.edit_changes.specs.declared.property.Property.{Property}
 use Rattle.edit_changes.specs.declared.property.ValueKind.{ValueKind}
 use Rattle.edit_changes.specs.declared.property.ValueKind.TheVariants.{Words, Language, LanguageTag, Codec, Duration, Flag}

@@ -2,7 +2,7 @@
 use Rattle.std.specs.Prelude.{◌≡◌, ⊤, ℕ, ◌+◌, List, Option, Some, None, slice_get, slice_set, IfSome, Result, Ok, Err}
 use Rattle.std.specs.List.{All}
 use Rattle.mkv_schema.specs.declared.ids.TheConstants.{INFO, TRACKS, TRACK_ENTRY}
-use Rattle.word_values.specs.declared.edit.Edit.{Edit}
+use Rattle.requests.specs.declared.edit.Edit.{Edit}
 use Rattle.tree_format.specs.Node.{Node, id_of}
 use Rattle.tree_format.specs.Standing.{StandsIn}
 use Rattle.ebml_tree.specs.Building.{IsRead}

@@ -15,8 +15,8 @@ use crate::table::property_of;
 use crate::value::leaf_of;
 use ebml_tree::Tree;
 use mkv_io::Text;
+use requests::{Change, Edit, Selector};
 use std::alloc::{AllocError, Global};
-use word_values::{Change, Edit, Selector};
 
 /// Why an edit isn't made.
 #[derive(Clone, Copy, Debug, PartialEq, Eq)]

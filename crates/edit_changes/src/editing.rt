@@ -17,8 +17,8 @@ use crate::select::place_of;
 use crate::trees::Trees;
 use ebml_tree::Tree;
 use mkv_io::List;
+use requests::Edit;
 use std::alloc::Global;
-use word_values::Edit;
 
 /// Why edits aren't made.
 #[derive(Clone, Copy, Debug, PartialEq, Eq)]

@@ -11,7 +11,7 @@ ghost use Rattle.edit_changes.specs.Trees.{IsEntryAt};
 use ebml_tree::Tree;
 use mkv_schema::ids::{TRACK_ENTRY, TRACK_NUMBER, TRACK_TYPE, TRACK_UID};
 use mkv_schema::uint_default;
-use word_values::Selector;
+use requests::Selector;
 
 /// The unsigned integer of an ID in a TrackEntry, or the table's default, or 0.
 fn uint_in(entry: &Tree, id: u32) -> u64

@@ -12,8 +12,8 @@ ghost use Rattle.edit_changes.specs.Properties.{IsPropertyOf};
 use crate::property::{Property, ValueKind};
 use ebml_tree::{Tree, text_leaf, uint_leaf};
 use mkv_io::Text;
+use requests::number;
 use std::alloc::{AllocError, Global};
-use word_values::number;
 
 fn is_between(least: u64, most: u64, n: u64) -> bool
     ensures { result ≡ spec.is_between least most n }

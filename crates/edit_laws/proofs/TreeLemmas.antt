@@ -9,10 +9,10 @@ use Rattle.std.proofs.lemmas.Bool.Decides.{nat_tests}
 use Rattle.std.proofs.lemmas.Option.{slice_get_within}
 use Rattle.std.proofs.lemmas.List.Elements.{All-set}
 use Rattle.mkv_schema.specs.declared.ids.TheConstants.{INFO, TRACKS, TRACK_ENTRY}
-use Rattle.word_values.specs.declared.edit.Edit.{Edit}
-use Rattle.word_values.specs.declared.edit.Change.{Change}
-use Rattle.word_values.specs.declared.edit.Change.TheVariants.{Set, Add, Delete}
-use Rattle.word_values.specs.Numbers.{number}
+use Rattle.requests.specs.declared.edit.Edit.{Edit}
+use Rattle.requests.specs.declared.edit.Change.{Change}
+use Rattle.requests.specs.declared.edit.Change.TheVariants.{Set, Add, Delete}
+use Rattle.requests.specs.Decimal.{number}
 use Rattle.tree_format.specs.Node.{Node, leaf, master, nodes_of, list_of, id_of, children, with_children, depth, depth_all, deepest, IsMaster}
 use Rattle.tree_format.specs.Changes.{with_child, without}
 use Rattle.tree_format.specs.Standing.{IsSound, StandsIn}

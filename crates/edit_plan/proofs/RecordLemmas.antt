@@ -2,7 +2,7 @@
 use Rattle.std.proofs.Common.{◌≡◌, ℕ, ◌+◌, max, List, [], ◌∷◌, length, map, take, flat_map, Result, Ok, Err, refl, sym, ◌∙◌, ap, ap₂, subst, arith}
 use Rattle.std.proofs.Math.Seq.{drop-append_seam, take-append_seam}
 use Rattle.std.proofs.lemmas.List.{length-append}
-use Rattle.word_values.specs.declared.edit.Edit.{Edit}
+use Rattle.requests.specs.declared.edit.Edit.{Edit}
 use Rattle.sidecar_edit.specs.declared.place.TheConstants.{KEPT}
 use Rattle.sidecar_edit.specs.Fields.{AreInOrder, Planned, cut_up, last_end, sum_of, writes_of}
 use Rattle.sidecar_edit.specs.Plan.{planned}

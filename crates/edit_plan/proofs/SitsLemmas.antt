@@ -13,7 +13,7 @@ use Rattle.ebml_numbers.proofs.NumberLemmas.{is_id-bounds}
 use Rattle.mkv_schema.specs.declared.ids.TheConstants.{INFO, TRACKS, SEEK_HEAD, VOID}
 use Rattle.mkv_schema.specs.declared.element.Header.{Header}
 use Rattle.mkv_schema.specs.Value.{first_of}
-use Rattle.word_values.specs.declared.edit.Edit.{Edit}
+use Rattle.requests.specs.declared.edit.Edit.{Edit}
 use Rattle.tree_format.specs.Node.{Node}
 use Rattle.output_model.specs.Element.{Element, element, octets_of}
 use Rattle.output_model.proofs.ReadLemmas.{length-header_of, length-octets_of}

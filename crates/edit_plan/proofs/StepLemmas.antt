@@ -1,7 +1,7 @@
 -- What edits write, one step after the other.
 use Rattle.std.proofs.Common.{◌≡◌, ℕ, false, List, Option, Some, None, Result, Ok, Err, refl, sym, ap, ◌∙◌}
 use Rattle.mkv_io.specs.declared.damage.Damage.{Damage}
-use Rattle.word_values.specs.declared.edit.Edit.{Edit}
+use Rattle.requests.specs.declared.edit.Edit.{Edit}
 use Rattle.mkv_io.specs.Results.{and_then, unless, and_then as edits_then}
 use Rattle.element_reader.specs.Outline.{FileOutline, outline_in}
 use Rattle.sidecar_edit.specs.Writes.{Write}

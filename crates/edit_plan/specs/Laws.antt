@@ -7,7 +7,7 @@ use Rattle.mkv_io.specs.declared.outside.TheConstants.{LONGEST_FILE}
 use Rattle.mkv_schema.specs.declared.element.Header.{Header}
 use Rattle.mkv_schema.specs.Value.{first_of}
 use Rattle.element_reader.specs.Outline.{outline_in, FileOutline}
-use Rattle.word_values.specs.declared.edit.Edit.{Edit}
+use Rattle.requests.specs.declared.edit.Edit.{Edit}
 use Rattle.sidecar_edit.specs.Fields.{IsPlan}
 use Rattle.sidecar_edit.specs.Writes.{Write}
 use Rattle.edit_changes.specs.Span.{span_of}

@@ -1,6 +1,6 @@
 -- The record of what edits write.
 use Rattle.std.specs.Prelude.{◌≡◌, ℕ, List, map, flat_map, Result, Ok}
-use Rattle.word_values.specs.declared.edit.Edit.{Edit}
+use Rattle.requests.specs.declared.edit.Edit.{Edit}
 use Rattle.sidecar_edit.specs.Fields.{AreInOrder, Planned, last_end}
 use Rattle.sidecar_edit.specs.Plan.{planned}
 use Rattle.sidecar_edit.specs.Writes.{Write, extent}

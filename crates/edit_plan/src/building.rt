@@ -17,8 +17,8 @@ use edit_changes::{Trees, is_info, span_of};
 use element_reader::{Header, Outline};
 use mkv_io::{Bytes, LONGEST_FILE, List};
 use mkv_schema::ids::{INFO, TRACKS};
+use requests::Edit;
 use std::alloc::{AllocError, Global};
-use word_values::Edit;
 
 /// What is written of these Elements, one behind the other. More than a file can have can't be held.
 fn body_of(alloc: Global, nodes: &[Tree]) -> Result<Bytes, AllocError>

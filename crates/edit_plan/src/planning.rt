@@ -21,8 +21,8 @@ use edit_changes::{EditsEnd, Refusal, Trees, edited};
 use element_reader::{Outline, OutlineEnd};
 use mkv_io::{FileId, List, Reads};
 use mkv_schema::ids::{INFO, TRACKS};
+use requests::Edit;
 use std::alloc::Global;
-use word_values::Edit;
 
 /// What edits rewrite, and a SeekHead then tells of.
 const EDITED: [u32; 2] = [INFO, TRACKS];

@@ -19,9 +19,9 @@ use crate::planning::edit_writes;
 use crate::write::Write;
 use mkv_disk::{Disk, MEDIA};
 use mkv_io::{Bytes, List};
+use requests::Edit;
 use sidecar_edit::{KEPT, MAX_OCTETS, MAX_WRITES, Place, Plan, read_first};
 use std::alloc::{AllocError, Global};
-use word_values::Edit;
 
 /// Where the writes go.
 fn places_of(alloc: Global, writes: &[Write]) -> Result<Vec<Place>, AllocError>

@@ -4,11 +4,11 @@ use Rattle.std.specs.Prelude.{Option, None, Some}
 use Rattle.tree_format.specs.Node.{Node, leaf, master, nodes_of}
 use Rattle.tree_format.specs.NormalForm.{content}
 use Rattle.mkv_io.specs.declared.entry.Entry.{Entry}
-use Rattle.word_values.specs.declared.values.CueWord.{CueWord}
-use Rattle.word_values.specs.declared.values.CueWord.TheVariants as cue_word
+use Rattle.requests.specs.declared.track.CueWord.{CueWord}
+use Rattle.requests.specs.declared.track.CueWord.TheVariants as cue_word
 use Rattle.output_model.specs.declared.rule.CueRule.TheVariants.{Never, Key, All}
-use Rattle.merge_words.specs.Plain.{plain_words}
-use Rattle.merge_words.specs.declared.output.MergeWords.{MergeWords}
+use Rattle.requests.specs.Plain.{plain_words}
+use Rattle.requests.specs.declared.merge.MergeWords.{MergeWords}
 use Rattle.merge_inputs.specs.Input.{Entries, InputRead}
 use Rattle.merge_inputs.specs.declared.taken.TakenTrack.{TakenTrack}
 use Rattle.merge_plan.specs.declared.refusal.PlanRefusal.TheVariants.{NoLane, NotWebm}

@@ -19,8 +19,8 @@ use Rattle.extractors.specs.Codec.{CanWrite, aac_codec, aac_coding, avc_codec, a
 use Rattle.extractors.specs.declared.frame_form.Coding.{Coding}
 use Rattle.extractors.specs.declared.frame_form.UnsupportedTrack.{UnsupportedTrack}
 use Rattle.extractors.specs.declared.frame_form.UnsupportedTrack.TheVariants.{NoExtractor, BadConfig}
-use Rattle.word_values.specs.declared.job.Form.{Form}
-use Rattle.word_values.specs.declared.job.Form.TheVariants as asked
+use Rattle.requests.specs.declared.job.Form.{Form}
+use Rattle.requests.specs.declared.job.Form.TheVariants as asked
 use Rattle.extractors.specs.declared.track_output.TrackOutput.{TrackOutput}
 
 -- a coding that is another

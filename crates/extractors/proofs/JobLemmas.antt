@@ -5,9 +5,9 @@ use Rattle.std.specs.Option.{option_map, option_or}
 use Rattle.std.proofs.Math.Seq.{take-suc}
 use Rattle.std.proofs.lemmas.Grind.{flat_map-append}
 use Rattle.mkv_io.specs.Names.{AreApart, AreOthers}
-use Rattle.word_values.specs.declared.job.Job.{Job}
-use Rattle.word_values.specs.declared.job.Job.TheVariants as jobs
-use Rattle.word_values.specs.declared.job.Target.{Target}
+use Rattle.requests.specs.declared.job.Job.{Job}
+use Rattle.requests.specs.declared.job.Job.TheVariants as jobs
+use Rattle.requests.specs.declared.job.Target.{Target}
 use Rattle.tree_format.specs.Node.{Node}
 use Rattle.file_format.specs.Entry.{default_duration_of}
 use Rattle.file_format.specs.Refusal.{too_long}
@@ -21,7 +21,7 @@ use Rattle.extractors.proofs.CodecLemmas.{coding_of-can}
 use Rattle.extractors.specs.declared.frame_form.Coding.{Coding}
 use Rattle.extractors.specs.declared.frame_form.UnsupportedTrack.{UnsupportedTrack}
 use Rattle.extractors.specs.declared.frame_form.UnsupportedTrack.TheVariants.{NoExtractor, BadConfig}
-use Rattle.word_values.specs.declared.job.Form.{Form}
+use Rattle.requests.specs.declared.job.Form.{Form}
 use Rattle.extractors.specs.declared.track_output.TrackOutput.{TrackOutput}
 use Rattle.extractors.specs.Source.{AreUsableOf, IsUsable, entry_in}
 use Rattle.extractors.specs.Walks.{IsReady}

@@ -9,7 +9,7 @@ use Rattle.mkv_io.specs.Writing.{KeepsOthers}
 use Rattle.mkv_io.specs.declared.reads.Reads.{Ghosts}
 use Rattle.mkv_io.specs.declared.files.Files as writing
 use Rattle.mkv_io.proofs.WritingLemmas.{KeepsOthers-more}
-use Rattle.word_values.specs.declared.job.Target.{Target}
+use Rattle.requests.specs.declared.job.Target.{Target}
 use Rattle.mkv_outputs.specs.Outputs.{Output, with_outputs}
 use Rattle.mkv_outputs.specs.Starts.{AreBegun, ArePrefixes}
 use Rattle.mkv_outputs.proofs.StartsLemmas.{IsBegun-whole, ArePrefixes-before}

@@ -6,7 +6,7 @@ use Rattle.mkv_io.specs.Sources.{IfTold, file_size}
 use Rattle.mkv_io.specs.declared.outside.FileId.{FileId}
 use Rattle.mkv_io.specs.declared.reads.Reads.{Ghosts}
 use Rattle.mkv_io.specs.declared.files.Files as writing
-use Rattle.word_values.specs.declared.job.Target.{Target}
+use Rattle.requests.specs.declared.job.Target.{Target}
 use Rattle.mkv_outputs.specs.Outputs.{Output}
 use Rattle.meta_records.specs.Attached.{AttachedFile, in_file}
 use Rattle.meta_records.specs.Walk.{IsAttachedIn}

@@ -15,8 +15,8 @@ use Rattle.extractors.specs.declared.frame_form.FrameForm.{FrameForm}
 use Rattle.extractors.specs.declared.frame_form.FrameForm.TheVariants as form
 use Rattle.extractors.specs.declared.frame_form.UnsupportedTrack.{UnsupportedTrack}
 use Rattle.extractors.specs.declared.frame_form.UnsupportedTrack.TheVariants.{NoExtractor, BadConfig}
-use Rattle.word_values.specs.declared.job.Form.{Form}
-use Rattle.word_values.specs.declared.job.Form.TheVariants as asked
+use Rattle.requests.specs.declared.job.Form.{Form}
+use Rattle.requests.specs.declared.job.Form.TheVariants as asked
 
 -- the first line of a file of times
 abbrev pub times_head : List ℕ

@@ -1,7 +1,7 @@
 -- What an extraction of cue points writes: RFC 9559, section 5.1.5 (Cues Element).
 use Rattle.std.specs.Prelude.{ℕ, List, [], ◌∷◌, Option, Some, None, slice_get, Result}
 use Rattle.std.specs.List.{flat_map}
-use Rattle.word_values.specs.declared.job.Target.{Target}
+use Rattle.requests.specs.declared.job.Target.{Target}
 use Rattle.mkv_outputs.specs.Outputs.{Output}
 use Rattle.tree_format.specs.Node.{Node}
 use Rattle.file_format.specs.Entry.{number_of}

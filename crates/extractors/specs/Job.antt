@@ -4,10 +4,10 @@ use Rattle.std.specs.List.{All, find, flat_map}
 use Rattle.std.specs.Option.{option_map_or}
 use Rattle.std.specs.Result.{result_err}
 use Rattle.mkv_io.specs.Names.{AreApart}
-use Rattle.word_values.specs.declared.job.Job.{Job}
-use Rattle.word_values.specs.declared.job.Job.TheVariants as jobs
-use Rattle.word_values.specs.declared.job.Form.{Form}
-use Rattle.word_values.specs.declared.job.Target.{Target}
+use Rattle.requests.specs.declared.job.Job.{Job}
+use Rattle.requests.specs.declared.job.Job.TheVariants as jobs
+use Rattle.requests.specs.declared.job.Form.{Form}
+use Rattle.requests.specs.declared.job.Target.{Target}
 use Rattle.tree_format.specs.Node.{Node}
 use Rattle.file_format.specs.Entry.{default_duration_of, number_of}
 use Rattle.file_format.specs.Encoding.{prefix_of}

@@ -4,8 +4,8 @@ use Rattle.std.specs.List.{All}
 use Rattle.mkv_io.specs.Sources.{IsLive, file_size}
 use Rattle.mkv_io.specs.declared.reads.Reads.{Ghosts}
 use Rattle.mkv_schema.specs.declared.ids.TheConstants.{CHAPTERS, CUES}
-use Rattle.word_values.specs.declared.job.Job.{Job}
-use Rattle.word_values.specs.declared.job.Target.{Target}
+use Rattle.requests.specs.declared.job.Job.{Job}
+use Rattle.requests.specs.declared.job.Target.{Target}
 use Rattle.mkv_schema.specs.Outline.{first_damage}
 use Rattle.tree_format.specs.Node.{Node}
 use Rattle.tree_format.specs.Standing.{IsSoundOf}

@@ -7,7 +7,7 @@ use Rattle.mkv_io.specs.declared.outside.FileId.{FileId}
 use Rattle.mkv_io.specs.Writing.{KeepsOthers}
 use Rattle.mkv_io.specs.declared.reads.Reads.{Ghosts}
 use Rattle.mkv_io.specs.declared.files.Files as writing
-use Rattle.word_values.specs.declared.job.Job.{Job}
+use Rattle.requests.specs.declared.job.Job.{Job}
 use Rattle.elementary.specs.Avc.{annex_b}
 use Rattle.elementary.specs.Aac.{adts}
 use Rattle.elementary.specs.declared.audio.Aac.{Aac}

@@ -13,8 +13,8 @@ use crate::source::Source;
 use crate::whole::copy_file;
 use mkv_io::{Files, List, RemuxEnd};
 use output_model::Attachment;
+use requests::Target;
 use std::alloc::Global;
-use word_values::Target;
 
 /// So many octets of data are copied at once.
 const CHUNK: usize = 65_536;

@@ -11,9 +11,9 @@ use crate::frame_form::{Coding, FrameForm, UnsupportedTrack};
 use elementary::{ConfigEnd, put_sets, read_aac, read_avc};
 use mkv_io::Bytes;
 use mkv_schema::ids::CODEC_PRIVATE;
+use requests::Form;
 use std::alloc::{AllocError, Global};
 use track_records::Track;
-use word_values::Form;
 
 /// The first line of a file of times.
 const TIMES_HEAD: &[u8] = b"# timestamp format v2\n";

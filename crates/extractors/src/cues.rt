@@ -16,8 +16,8 @@ use crate::whole::write_file;
 use ebml_tree::Tree;
 use meta_records::scale_of;
 use mkv_io::{Files, RemuxEnd};
+use requests::Target;
 use std::alloc::{AllocError, Global};
-use word_values::Target;
 
 /// The lines of a track in a file's first Cues, if it has one.
 fn cues_text(

@@ -23,8 +23,8 @@ use cluster_reader::Cursor;
 use meta_records::scale_of;
 use mkv_io::{Files, MakeFault, RemuxEnd};
 use mkv_outputs::Outputs;
+use requests::Job;
 use std::alloc::Global;
-use word_values::Job;
 
 /// Takes frames of tracks, or their times, out of a file, each target into a file of its own, and answers what
 /// is wrong with the file that they are taken from. A target whose track the file hasn't makes no file; nor does one whose

@@ -11,9 +11,9 @@ use crate::coding::{bytes_of, coding_of};
 use crate::frame_form::{Coding, Refusal, UnsupportedTrack};
 use crate::track_output::TrackOutput;
 use mkv_io::{List, Text};
+use requests::{Form, Job, Target};
 use std::alloc::{AllocError, Global};
 use track_records::{Track, usable};
-use word_values::{Form, Job, Target};
 
 /// What a job writes of the frames of tracks; None where it takes something else.
 pub fn form_of(job: &Job) -> Option<Form>

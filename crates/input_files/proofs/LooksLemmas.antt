@@ -7,7 +7,7 @@ use Rattle.mkv_io.proofs.NamesLemmas.{others-behind, others-front}
 use Rattle.sidecar_edit.specs.Name.{sidecar_of}
 use Rattle.sidecar_edit.specs.Pending.{LooksOnly}
 use Rattle.sidecar_edit.proofs.LooksLemmas.{LooksOnly-more, LooksOnly-then}
-use Rattle.merge_words.specs.declared.files.FileWords.{FileWords}
+use Rattle.requests.specs.declared.merge.FileWords.{FileWords}
 use Rattle.input_files.specs.Inputs.{file_names}
 use Rattle.input_files.specs.TimesFile.{times_names}
 use Rattle.input_files.specs.declared.times_file.TimesName.{TimesName}

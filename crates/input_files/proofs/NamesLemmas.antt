@@ -7,7 +7,7 @@ use Rattle.mkv_io.specs.declared.outside.FileId.{FileId}
 use Rattle.mkv_io.specs.Names.{AreOthers}
 use Rattle.sidecar_edit.specs.Name.{sidecar_of}
 use Rattle.sidecar_edit.specs.Pending.{is_pending}
-use Rattle.merge_words.specs.declared.files.FileWords.{FileWords}
+use Rattle.requests.specs.declared.merge.FileWords.{FileWords}
 use Rattle.mkv_outputs.specs.Sinks.{AreLive, holders_of}
 use Rattle.input_files.specs.Inputs.{contents_of, file_names}
 

@@ -10,7 +10,7 @@ use Rattle.mkv_io.specs.Sources.{live_files}
 use Rattle.mkv_io.specs.declared.reads.Reads.{Ghosts}
 use Rattle.mkv_io.specs.declared.files.Files as writing
 use Rattle.sidecar_edit.specs.Pending.{is_pending}
-use Rattle.merge_words.specs.declared.files.FileWords.{FileWords}
+use Rattle.requests.specs.declared.merge.FileWords.{FileWords}
 use Rattle.mkv_outputs.specs.Sinks.{AreLive, AreRising, IsNoneOf, holders_of}
 use Rattle.input_files.specs.declared.inputs_end.InputsEnd.{InputsEnd}
 use Rattle.input_files.specs.declared.inputs_end.InputsEnd.TheVariants as inputs_end

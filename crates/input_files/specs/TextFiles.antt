@@ -1,7 +1,7 @@
 -- The text files of a merge besides its inputs: its chapter file and its files of times. What is taken of them is this project's.
 use Rattle.std.specs.Prelude.{ℕ, ◌+◌, List, ◌++◌, Option, ◌≡◌, Result}
 use Rattle.std.specs.Option.{option_to_list}
-use Rattle.merge_words.specs.declared.files.FileWords.{FileWords}
+use Rattle.requests.specs.declared.merge.FileWords.{FileWords}
 use Rattle.input_files.specs.ChapterFile.{chapter_file, chapter_octets}
 use Rattle.input_files.specs.TimesFile.{times_files, times_named, times_names, times_octets}
 use Rattle.input_files.specs.declared.text_files.TextFiles.{TextFiles}

@@ -1,7 +1,7 @@
 -- The files of times that the words of a merge name. Their limits are this project's.
 use Rattle.std.specs.Prelude.{ℕ, suc, ◌-◌, min, List, [], ◌∷◌, ◌++◌, length, map, sum_by, Option, Some, None, Result, Ok, Err}
 use Rattle.ext_times.specs.Listing.{Listing, listing}
-use Rattle.merge_words.specs.declared.files.FileWords.{FileWords}
+use Rattle.requests.specs.declared.merge.FileWords.{FileWords}
 use Rattle.input_files.specs.TextFile.{octets_within, text_file}
 use Rattle.input_files.specs.declared.limits.TheConstants.{MAX_ALL_TIMES_LEN, MAX_TIMES_LEN}
 use Rattle.input_files.specs.declared.refusal.TextRefusal.{TextRefusal}

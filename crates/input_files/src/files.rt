@@ -9,8 +9,8 @@ ghost use Rattle.mkv_outputs.specs.Sinks.{AreLive, AreRising, EndsOnly};
 ghost use Rattle.input_files.specs.Inputs.{HaveContents, LeavesContents, OpensInputs, TellsMissing, end_of, file_names, is_inputs_fault};
 
 use crate::inputs_end::InputsEnd;
-use merge_words::FileWords;
 use mkv_io::{FileId, Files, List, OpenFault};
+use requests::FileWords;
 use std::alloc::Global;
 
 /// Opens the files of a merge's inputs, in the order of the words. After a refusal none of them stays open.

@@ -9,8 +9,8 @@ ghost use Rattle.sidecar_edit.specs.Name.{sidecar_of};
 ghost use Rattle.sidecar_edit.specs.Pending.{LooksOnly};
 ghost use Rattle.input_files.specs.Inputs.{FindsPending, file_names};
 
-use merge_words::FileWords;
 use mkv_io::{Files, ReadEnd};
+use requests::FileWords;
 use sidecar_edit::is_pending;
 use std::alloc::Global;
 

@@ -9,8 +9,8 @@ ghost use Rattle.input_files.specs.TextFiles.{GivesTexts, ReadsTexts, text_names
 
 use crate::chapter_file::{ChapterFile, read_chapter_file};
 use crate::times_file::{TimesFile, read_times_files};
-use merge_words::FileWords;
 use mkv_io::{Files, List, ReadEnd, Text};
+use requests::FileWords;
 use std::alloc::Global;
 
 /// What the text files of a merge give besides its inputs.

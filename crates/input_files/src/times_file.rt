@@ -12,8 +12,8 @@ use crate::limits::{MAX_ALL_TIMES_LEN, MAX_TIMES_LEN};
 use crate::reading::read_track_times;
 use crate::refusal::{TextFileEnd, TextRefusal};
 use ext_times::Times;
-use merge_words::FileWords;
 use mkv_io::{Files, List, OpenFault, ReadEnd, Text};
+use requests::FileWords;
 use std::alloc::{AllocError, Global};
 
 /// A file of times that the words of a merge name.

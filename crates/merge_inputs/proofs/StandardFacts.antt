@@ -1,10 +1,10 @@
 -- The words of small inputs, and what they take, computed, so that a wrong definition does not check.
 use Rattle.std.proofs.Common.{◌≡◌, ℕ, Bool, true, false, [], ◌∷◌, Some, None, refl}
 use Rattle.std.specs.Prelude.{ℤ, pos, neg_ℤ}
-use Rattle.word_values.specs.declared.lists.Select.{Select}
-use Rattle.word_values.specs.declared.lists.Select.TheVariants.{All, These, AllBut, Off}
-use Rattle.merge_words.specs.Plain.{plain_file}
-use Rattle.merge_words.specs.declared.files.FileWords.{FileWords}
+use Rattle.requests.specs.declared.track.Select.{Select}
+use Rattle.requests.specs.declared.track.Select.TheVariants.{All, These, AllBut, Off}
+use Rattle.requests.specs.Plain.{plain_file}
+use Rattle.requests.specs.declared.merge.FileWords.{FileWords}
 use Rattle.merge_inputs.specs.Select.{is_taken, keeps_attachments, keeps_chapters, keeps_tags}
 use Rattle.merge_inputs.specs.Taken.{value_for}
 

@@ -13,8 +13,8 @@ use Rattle.track_records.specs.Track.{track_of}
 use Rattle.track_records.specs.declared.track.Track.{Track}
 use Rattle.meta_records.specs.Records.{AreRead}
 use Rattle.meta_records.proofs.CausesLemmas.{first_damage-behind, first_damage-front, first_damage-some}
-use Rattle.merge_words.specs.Sound.{IsSoundFile}
-use Rattle.merge_words.specs.declared.files.FileWords.{FileWords}
+use Rattle.requests.specs.Sound.{IsSoundFile}
+use Rattle.requests.specs.declared.merge.FileWords.{FileWords}
 use Rattle.merge_inputs.specs.Select.{is_taken}
 use Rattle.merge_inputs.specs.Taken.{IsTaken, first_unusable, taken_from, taken_one, taken_track, value_for}
 use Rattle.merge_inputs.specs.declared.taken.TakenTrack.{TakenTrack}

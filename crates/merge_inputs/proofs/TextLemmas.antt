@@ -19,7 +19,7 @@ use Rattle.meta_records.specs.Records.{AreRead}
 use Rattle.input_files.specs.Names.{begins_ebml}
 use Rattle.input_files.specs.Track.{text_entry}
 use Rattle.input_files.proofs.TextFacts.{is_usable}
-use Rattle.merge_words.specs.declared.files.FileWords.{FileWords}
+use Rattle.requests.specs.declared.merge.FileWords.{FileWords}
 use Rattle.merge_inputs.specs.Select.{is_taken}
 use Rattle.merge_inputs.specs.Taken.{first_unusable, taken_from, taken_track}
 

@@ -26,7 +26,7 @@ use Rattle.input_files.specs.Track.{text_entry}
 use Rattle.track_records.specs.Track.{track_of}
 use Rattle.meta_records.specs.Attached.{AttachedFile, in_file}
 use Rattle.meta_records.specs.Records.{FileRecords, file_records, scale_of_info}
-use Rattle.merge_words.specs.declared.files.FileWords.{FileWords}
+use Rattle.requests.specs.declared.merge.FileWords.{FileWords}
 use Rattle.merge_inputs.specs.Select.{keep_of, keeps_attachments, keeps_chapters, keeps_tags, kept_list, kept_one, unmoved}
 use Rattle.merge_inputs.specs.Taken.{IsTaken, first_unusable, taken_from}
 use Rattle.merge_inputs.specs.Title.{title_of_info}

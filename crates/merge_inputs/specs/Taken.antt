@@ -8,7 +8,7 @@ use Rattle.file_format.specs.Tracks.{IsTrack}
 use Rattle.track_records.specs.Sound.{IsEntry}
 use Rattle.track_records.specs.Track.{track_of}
 use Rattle.track_records.specs.declared.track.Track.{Track}
-use Rattle.merge_words.specs.declared.files.FileWords.{FileWords}
+use Rattle.requests.specs.declared.merge.FileWords.{FileWords}
 use Rattle.merge_inputs.specs.Select.{is_taken}
 use Rattle.merge_inputs.specs.declared.taken.TakenTrack.{TakenTrack}
 

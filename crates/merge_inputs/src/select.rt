@@ -3,10 +3,9 @@
 ghost use Rattle.std.specs.Prelude.{◌≡◌};
 ghost use Rattle.merge_inputs.specs.Select.{is_taken, keep_of, keeps_attachments, keeps_chapters, keeps_tags, takes, unmoved};
 
-use merge_words::FileWords;
 use mkv_schema::track_type::{AUDIO_TRACK, SUBTITLE_TRACK, VIDEO_TRACK};
 use record_changes::TagKeep;
-use word_values::Select;
+use requests::{FileWords, Select};
 
 /// Whether the words take a track of this ID and this TrackType.
 pub fn is_taken(words: &FileWords, id: u64, kind: u64) -> bool

@@ -7,11 +7,10 @@ ghost use Rattle.track_records.specs.Sound.{IsEntry};
 ghost use Rattle.merge_inputs.specs.Taken.{first_unusable, taken_from, taken_track, value_for};
 
 use crate::select::is_taken;
-use merge_words::FileWords;
 use mkv_io::{Damage, List, Text};
+use requests::{CueWord, FileWords};
 use std::alloc::{AllocError, Global};
 use track_records::{Track, usable};
-use word_values::CueWord;
 
 /// A track that is taken, and what the words say of it.
 #[derive(Drop)]

@@ -41,8 +41,8 @@ use Rattle.output_laws.proofs.MergedClusterLemmas.{IsOf, clusters-sound}
 use Rattle.output_model.specs.Cued.{document_of, is_cue}
 use Rattle.splitter.specs.Sections.{Part}
 use Rattle.remux_plan.specs.Parts.{stretch_of}
-use Rattle.merge_words.specs.declared.output.MergeWords.{MergeWords}
-use Rattle.merge_words.specs.Sound.{IsSoundMerge}
+use Rattle.requests.specs.declared.merge.MergeWords.{MergeWords}
+use Rattle.requests.specs.Sound.{IsSoundMerge}
 use Rattle.merge_inputs.specs.declared.taken.TakenTrack.{TakenTrack}
 use Rattle.merge_plan.specs.Front.{front_of, reads_of}
 use Rattle.merge_plan.specs.Plan.{Source, limits_of, rules_given}
@@ -51,7 +51,7 @@ use Rattle.merge_plan.proofs.PlanLemmas.{plan-few}
 use Rattle.mkv_merge.specs.Merge.{chapters_in}
 use Rattle.mkv_merge.specs.Read.{is_split}
 use Rattle.mkv_merge.specs.Records.{HaveRecords, IsFilled}
-use Rattle.merge_words.specs.Texts.{AreTexts}
+use Rattle.requests.specs.Texts.{AreTexts}
 use Rattle.file_format.specs.Entry as tracks
 use Rattle.merge_laws.specs.Merge.{HasNoEncodings, lanes_selected}
 use Rattle.merge_laws.specs.Sources.{AreSources, IsReadSource, IsReadTrack}

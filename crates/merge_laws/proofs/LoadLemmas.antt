@@ -5,11 +5,11 @@ use Rattle.splitter.specs.Sections.{Split}
 use Rattle.splitter.specs.Words.{size_of, spec_of}
 use Rattle.part_size.proofs.SizeLemmas.{parts-full, parts-small}
 use Rattle.remux_plan.specs.Parts.{drives_by}
-use Rattle.word_values.specs.Sound.{IsSoundSplit}
-use Rattle.word_values.specs.declared.lists.SplitWords.{SplitWords}
-use Rattle.word_values.specs.declared.lists.SplitWords.TheVariants.{Duration, Times, Parts, AllChapters, Chapters, Size}
-use Rattle.merge_words.specs.declared.output.MergeWords.{MergeWords}
-use Rattle.merge_words.specs.Sound.{IsSoundMerge}
+use Rattle.requests.specs.Sound.{IsSoundSplit}
+use Rattle.requests.specs.declared.split.SplitWords.{SplitWords}
+use Rattle.requests.specs.declared.split.SplitWords.TheVariants.{Duration, Times, Parts, AllChapters, Chapters, Size}
+use Rattle.requests.specs.declared.merge.MergeWords.{MergeWords}
+use Rattle.requests.specs.Sound.{IsSoundMerge}
 use Rattle.merge_plan.specs.Front.{reads_of}
 use Rattle.merge_plan.specs.Plan.{Source, drives_given, starts_in}
 use Rattle.merge_plan.specs.Records.{chapters_of}

@@ -26,9 +26,9 @@ use Rattle.output_laws.proofs.AgainLemmas.{lanes-again}
 use Rattle.splitter.specs.Sections.{Part}
 use Rattle.remux_plan.specs.Parts.{PlannedOutput, name_of}
 use Rattle.remuxer.specs.Output.{drafts_of}
-use Rattle.merge_words.specs.declared.output.MergeWords.{MergeWords}
-use Rattle.merge_words.specs.Sound.{IsSoundMerge}
-use Rattle.merge_words.specs.Texts.{AreTexts}
+use Rattle.requests.specs.declared.merge.MergeWords.{MergeWords}
+use Rattle.requests.specs.Sound.{IsSoundMerge}
+use Rattle.requests.specs.Texts.{AreTexts}
 use Rattle.mkv_args.specs.Words.{command}
 use Rattle.mkv_args.specs.declared.command.Command.TheVariants.{Merge}
 use Rattle.mkv_args.proofs.SoundLemmas.{command-sound}

@@ -11,9 +11,9 @@ use Rattle.splitter.specs.Words.{size_of, spec_of}
 use Rattle.splitter.proofs.SectionLemmas.{whole-part}
 use Rattle.remux_plan.specs.Parts.{PlannedOutput, name_of}
 use Rattle.remux_plan.specs.Uuids.{uuids_at, with_uuids}
-use Rattle.word_values.specs.declared.lists.SplitWords.{SplitWords}
-use Rattle.merge_words.specs.declared.output.MergeWords.{MergeWords}
-use Rattle.merge_words.specs.Sound.{IsSoundMerge}
+use Rattle.requests.specs.declared.split.SplitWords.{SplitWords}
+use Rattle.requests.specs.declared.merge.MergeWords.{MergeWords}
+use Rattle.requests.specs.Sound.{IsSoundMerge}
 use Rattle.merge_plan.specs.Front.{attachments_of, front_of, reads_of}
 use Rattle.merge_plan.specs.Plan.{Source, limits_of, rules_given, starts_in}
 use Rattle.merge_plan.specs.Records.{chapters_of, tags_of}

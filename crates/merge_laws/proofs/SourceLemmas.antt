@@ -56,9 +56,9 @@ use Rattle.input_files.specs.declared.refusal.TextRefusal.{TextRefusal}
 use Rattle.input_files.specs.Names.{is_srt}
 use Rattle.input_files.specs.Track.{text_entry}
 use Rattle.merge_model.specs.declared.limits.TheConstants.{MAX_SHIFT}
-use Rattle.merge_words.specs.declared.files.FileWords.{FileWords}
-use Rattle.merge_words.specs.declared.output.MergeWords.{MergeWords}
-use Rattle.merge_words.specs.Sound.{IsSoundFile, IsSoundMerge}
+use Rattle.requests.specs.declared.merge.FileWords.{FileWords}
+use Rattle.requests.specs.declared.merge.MergeWords.{MergeWords}
+use Rattle.requests.specs.Sound.{IsSoundFile, IsSoundMerge}
 use Rattle.input_files.specs.Inputs.{file_names}
 use Rattle.merge_inputs.specs.Input.{InputRead, file_read, found_then, input_of, input_with, refusal_of, text_read, text_then, text_with, input_or_refusal}
 use Rattle.merge_inputs.specs.Select.{is_taken, kept_one, takes, unmoved}
@@ -81,7 +81,7 @@ use Rattle.mkv_merge.specs.Read.{contents_held, found_in, inputs_from, inputs_of
 use Rattle.mkv_merge.specs.Refused.{first_cause}
 use Rattle.mkv_merge.specs.declared.refusal.Refusal.{Refusal}
 use Rattle.mkv_merge.specs.declared.refusal.Refusal.TheVariants.{Plan}
-use Rattle.merge_words.specs.Texts.{HasTexts, AreTexts}
+use Rattle.requests.specs.Texts.{HasTexts, AreTexts}
 use Rattle.merge_laws.specs.Sources.{HoldsOctets, IsReadSource, IsReadTrack, AreSources, is_taken_type}
 use Rattle.merge_laws.proofs.PlaceLemmas.{placed-read}
 use Rattle.merge_laws.proofs.TextLemmas.{entries-within, text-read, text-uids, text-usable}

@@ -40,7 +40,7 @@ use Rattle.input_files.proofs.TextFacts.{is_track, is_usable, says}
 use Rattle.input_files.proofs.TrackLemmas.{codec-in, lacing-in, language-in, number-in, type-in, uid-in}
 use Rattle.merge_model.specs.Links.{entry_block}
 use Rattle.output_laws.specs.Read.{IsReadBlock}
-use Rattle.merge_words.specs.declared.files.FileWords.{FileWords}
+use Rattle.requests.specs.declared.merge.FileWords.{FileWords}
 use Rattle.merge_inputs.specs.Select.{is_taken}
 use Rattle.merge_inputs.specs.Taken.{first_unusable, taken_from, taken_track}
 

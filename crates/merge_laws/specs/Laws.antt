@@ -5,13 +5,13 @@ use Rattle.output_model.specs.Document.{layout}
 use Rattle.output_model.specs.OutputBlock.{OutputBlock}
 use Rattle.output_model.specs.Sound.{IsSoundBlock, IsSoundDocument}
 use Rattle.remux_plan.specs.Parts.{PlannedOutput}
-use Rattle.merge_words.specs.declared.output.MergeWords.{MergeWords}
-use Rattle.merge_words.specs.Sound.{IsSoundMerge}
+use Rattle.requests.specs.declared.merge.MergeWords.{MergeWords}
+use Rattle.requests.specs.Sound.{IsSoundMerge}
 use Rattle.merge_plan.specs.Plan.{Source}
 use Rattle.mkv_merge.specs.Merge.{blocks_of, outputs_of, sources_of}
 use Rattle.mkv_merge.specs.Records.{HaveRecords}
 use Rattle.merge_laws.specs.Merge.{HoldsOutput, lanes_selected}
-use Rattle.merge_words.specs.Texts.{AreTexts}
+use Rattle.requests.specs.Texts.{AreTexts}
 use Rattle.merge_laws.specs.Sources.{AreSources, HoldsOctets}
 
 -- The sources of a merge are octets whose tracks can be written.

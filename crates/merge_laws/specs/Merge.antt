@@ -22,7 +22,7 @@ use Rattle.splitter.specs.Sections.{Section, Split, in_part, is_written, parts}
 use Rattle.splitter.specs.Words.{size_of}
 use Rattle.part_size.specs.Laws.{AllButLast, IsFull, IsSmall}
 use Rattle.remux_plan.specs.Parts.{PlannedOutput}
-use Rattle.merge_words.specs.declared.output.MergeWords.{MergeWords}
+use Rattle.requests.specs.declared.merge.MergeWords.{MergeWords}
 use Rattle.merge_plan.specs.Plan.{Source, lanes_given}
 use Rattle.mkv_args.specs.Words.{command}
 use Rattle.mkv_args.specs.declared.command.Command.TheVariants.{Merge}

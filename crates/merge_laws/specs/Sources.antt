@@ -6,7 +6,7 @@ use Rattle.tree_format.specs.Text.{HasNoZero}
 use Rattle.merge_model.specs.declared.limits.TheConstants.{MAX_SHIFT}
 use Rattle.text_formats.specs.Reading.{IsEntryWithin}
 use Rattle.input_files.specs.declared.limits.TheConstants.{MAX_SRT_LEN}
-use Rattle.merge_words.specs.declared.output.MergeWords.{MergeWords}
+use Rattle.requests.specs.declared.merge.MergeWords.{MergeWords}
 use Rattle.merge_inputs.specs.Input.{BlocksRead, Clusters, Entries}
 use Rattle.merge_inputs.specs.Taken.{IsTaken}
 use Rattle.merge_inputs.specs.declared.taken.TakenTrack.{TakenTrack}

@@ -8,7 +8,7 @@ use Rattle.meta_records.specs.Attached.{AttachedFile}
 use Rattle.record_changes.specs.Identifiers.{renumbered}
 use Rattle.tree_format.specs.Children.{uint_leaf, set_in}
 use Rattle.output_model.specs.Document.{Front}
-use Rattle.merge_words.specs.declared.output.MergeWords.{MergeWords}
+use Rattle.requests.specs.declared.merge.MergeWords.{MergeWords}
 use Rattle.merge_inputs.specs.Input.{InputRead}
 use Rattle.merge_plan.specs.Plan.{Source}
 use Rattle.merge_plan.specs.Records.{info_of, tracks_of_output}

@@ -15,9 +15,9 @@ use Rattle.record_changes.specs.Starts.{top_starts}
 use Rattle.splitter.specs.Split.{is_driver}
 use Rattle.splitter.specs.Words.{spec_of}
 use Rattle.splitter.specs.declared.spec.SplitSpec.{SplitSpec}
-use Rattle.word_values.specs.declared.values.CueWord.{CueWord}
-use Rattle.word_values.specs.declared.values.CueWord.TheVariants.{Never, Key, All}
-use Rattle.merge_words.specs.declared.output.MergeWords.{MergeWords}
+use Rattle.requests.specs.declared.track.CueWord.{CueWord}
+use Rattle.requests.specs.declared.track.CueWord.TheVariants.{Never, Key, All}
+use Rattle.requests.specs.declared.merge.MergeWords.{MergeWords}
 use Rattle.mkv_schema.specs.declared.track_type.TheConstants.{VIDEO_TRACK, SUBTITLE_TRACK}
 use Rattle.merge_inputs.specs.Input.{BlocksRead, Clusters, Entries, InputRead, events_by}
 use Rattle.merge_inputs.specs.Taken.{value_for}

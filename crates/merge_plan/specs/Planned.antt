@@ -18,7 +18,7 @@ use Rattle.remux_plan.specs.Parts.{drivers_of}
 use Rattle.remux_plan.specs.Plan.{links_of, rules_of}
 use Rattle.remux_plan.specs.declared.plan.MergePlan.{MergePlan}
 use Rattle.remux_plan.specs.declared.plan.PlannedLane.{PlannedLane}
-use Rattle.merge_words.specs.declared.output.MergeWords.{MergeWords}
+use Rattle.requests.specs.declared.merge.MergeWords.{MergeWords}
 use Rattle.merge_inputs.specs.Input.{IsInput, read_in, total_in}
 use Rattle.merge_inputs.specs.declared.input.Input.{Input}
 use Rattle.merge_plan.specs.declared.refusal.PlanEnd.{PlanEnd}

@@ -6,7 +6,7 @@ use Rattle.meta_records.specs.Attached.{AttachedFile}
 use Rattle.record_changes.specs.Identifiers.{renumbered}
 use Rattle.track_records.specs.Entry.{written_entry}
 use Rattle.track_records.specs.declared.track_change.TrackChange.{TrackChange}
-use Rattle.merge_words.specs.declared.output.MergeWords.{MergeWords}
+use Rattle.requests.specs.declared.merge.MergeWords.{MergeWords}
 use Rattle.merge_inputs.specs.Input.{InputRead, read_in}
 use Rattle.merge_inputs.specs.declared.input.Input.{Input}
 use Rattle.merge_inputs.specs.declared.taken.TakenTrack.{TakenTrack}

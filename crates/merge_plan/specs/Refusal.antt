@@ -3,7 +3,7 @@ use Rattle.std.specs.Prelude.{ℕ, ◌==◌, nat_lt, Bool, true, false, not, if�
 use Rattle.std.specs.Option.{option_or}
 use Rattle.output_model.specs.declared.TheConstants.{MAX_LANES}
 use Rattle.output_records.specs.Limits.{first_too_large}
-use Rattle.merge_words.specs.declared.output.MergeWords.{MergeWords}
+use Rattle.requests.specs.declared.merge.MergeWords.{MergeWords}
 use Rattle.merge_inputs.specs.Input.{InputRead}
 use Rattle.merge_inputs.specs.declared.taken.TakenTrack.{TakenTrack}
 use Rattle.merge_plan.specs.declared.refusal.PlanRefusal.{PlanRefusal}

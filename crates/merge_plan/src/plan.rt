@@ -16,11 +16,11 @@ use crate::splitting::{split_of, videos_of};
 use crate::title::title_of;
 use crate::webm::is_webm_codec;
 use merge_inputs::{Input, TakenTrack};
-use merge_words::MergeWords;
 use mkv_io::{List, Text};
 use output_model::{ClusterLimits, Front, MAX_LANES};
 use output_records::{first_too_large, info_of};
 use remux_plan::MergePlan;
+use requests::MergeWords;
 use splitter::split_size;
 use std::alloc::{AllocError, Global};
 

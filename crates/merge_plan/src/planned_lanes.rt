@@ -18,11 +18,11 @@ use mkv_io::{Bytes, Entry, List};
 use mkv_schema::track_type::{SUBTITLE_TRACK, VIDEO_TRACK};
 use output_model::CueRule;
 use remux_plan::PlannedLane;
+use requests::CueWord;
 use splitter::is_driver;
 use std::alloc::{AllocError, Global};
 use std::rc::Rc;
 use track_records::usable;
-use word_values::CueWord;
 
 /// Where the words say nothing, blocks that can be decoded without another get a cue point, but for those of audio.
 fn default_rule(kind: u64) -> CueRule

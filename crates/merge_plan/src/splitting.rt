@@ -9,10 +9,10 @@ ghost use Rattle.merge_plan.specs.Plan.{is_video, starts_in};
 
 use ebml_tree::Tree;
 use merge_inputs::TakenTrack;
-use merge_words::MergeWords;
 use mkv_io::List;
 use mkv_schema::track_type::VIDEO_TRACK;
 use record_changes::top_starts;
+use requests::MergeWords;
 use splitter::{SplitSpec, split_spec};
 use std::alloc::{AllocError, Global};
 

@@ -5,7 +5,7 @@ ghost use Rattle.merge_inputs.specs.Input.{read_in};
 ghost use Rattle.merge_plan.specs.Records.{first_title, title_of};
 
 use merge_inputs::Input;
-use merge_words::MergeWords;
+use requests::MergeWords;
 
 /// The first title that isn't empty.
 fn first_title(inputs: &[Input]) -> &str

@@ -8,7 +8,7 @@ use Rattle.std.specs.List.{filter, flat_map, list_any, onto_first, slice_split, 
 use Rattle.merge_words.specs.declared.item.Item.{Item}
 use Rattle.merge_words.specs.Items.{is_file}
 use Rattle.merge_words.specs.Files.{ids_of, once, with_new, without, file, files}
-use Rattle.merge_words.specs.declared.files.FileWords.{FileWords}
+use Rattle.requests.specs.declared.merge.FileWords.{FileWords}
 use Rattle.std.proofs.Math.Seq.{take-suc}
 
 -- ---- numbers that stand once

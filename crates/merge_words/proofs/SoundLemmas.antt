@@ -14,7 +14,7 @@ use Rattle.word_values.specs.declared.values.Value.{Value}
 use Rattle.word_values.specs.declared.values.Value.TheVariants.{Flag, File, Text, Scale, Blocks, Span, Split, Uuids, TrackDelay, TrackText, TrackLanguage}
 use Rattle.word_values.specs.Place.{is_option}
 use Rattle.word_values.specs.Values.{flag_of, text, value_of}
-use Rattle.word_values.specs.Sound.{IsWithin, AreUuids, IsSoundSplit}
+use Rattle.requests.specs.Sound.{IsWithin, AreUuids, IsSoundSplit}
 use Rattle.word_values.proofs.AnswerLemmas.{ok-then, ok-else, ok-made}
 use Rattle.word_values.proofs.SoundLemmas.{IsRead, value_of-read, flag_of-is}
 use Rattle.merge_words.specs.declared.options.Subject.{Subject}
@@ -25,14 +25,14 @@ use Rattle.merge_words.specs.declared.item.Item.{Item}
 use Rattle.merge_words.specs.Options.{Row, table, meaning, meaning_among, spelled, meaning_of, same}
 use Rattle.word_values.specs.declared.usage.Why.{Why}
 use Rattle.word_values.specs.declared.usage.Why.TheVariants.{NoOutput, NoInput, DanglingOption}
-use Rattle.merge_words.specs.declared.files.FileWords.{FileWords}
-use Rattle.merge_words.specs.declared.output.MergeWords.{MergeWords}
+use Rattle.requests.specs.declared.merge.FileWords.{FileWords}
+use Rattle.requests.specs.declared.merge.MergeWords.{MergeWords}
 use Rattle.merge_words.specs.Said.{value_in, said_about, text_of, scale_of, blocks_of, span_of, split_of, uuids_of, delay_of, track_text_of, track_language_of}
 use Rattle.merge_words.specs.Files.{file, files}
 use Rattle.merge_words.specs.Output.{merge_words}
 use Rattle.merge_words.specs.Merge.{starts, read_all, items, wrong_if, wrong_at, dangling, complete, merged}
-use Rattle.merge_words.specs.Sound.{IsSoundFile, IsSoundMerge}
-use Rattle.merge_words.specs.Texts.{AreTexts, HasTexts}
+use Rattle.requests.specs.Sound.{IsSoundFile, IsSoundMerge}
+use Rattle.requests.specs.Texts.{AreTexts, HasTexts}
 use Rattle.merge_words.proofs.ItemsLemmas.{latest, latest_other}
 use Rattle.merge_words.proofs.FilesLemmas.{files_from, parted_files}
 use Rattle.merge_words.proofs.MergeLemmas.{IsStart, starts-keep}

@@ -1,15 +1,15 @@
 -- What the items of a merge say of each file. All of it is this project's, after mkvmerge(1).
 use Rattle.std.specs.Prelude.{ℕ, ℤ, Bool, not, ◌==◌, if◌then◌else◌, List, [], ◌∷◌, ◌++◌, map, Option, Some, None, unwrap_or, option_and_then}
 use Rattle.std.specs.List.{filter, flat_map, list_any, slice_split, zip}
-use Rattle.word_values.specs.declared.lists.Select.{Select}
-use Rattle.word_values.specs.declared.lists.Select.TheVariants.{All, These, AllBut, Off}
-use Rattle.word_values.specs.declared.values.CueWord.{CueWord}
+use Rattle.requests.specs.declared.track.Select.{Select}
+use Rattle.requests.specs.declared.track.Select.TheVariants.{All, These, AllBut, Off}
+use Rattle.requests.specs.declared.track.CueWord.{CueWord}
 use Rattle.word_values.specs.declared.values.Value.{Value}
 use Rattle.word_values.specs.declared.values.Value.TheVariants.{Tracks}
 use Rattle.merge_words.specs.declared.options.Subject.{Subject}
 use Rattle.merge_words.specs.declared.options.Subject.TheVariants as subject
 use Rattle.merge_words.specs.declared.item.Item.{Item}
-use Rattle.merge_words.specs.declared.files.FileWords.{FileWords}
+use Rattle.requests.specs.declared.merge.FileWords.{FileWords}
 use Rattle.merge_words.specs.declared.files.Choice.{Choice}
 use Rattle.merge_words.specs.declared.files.Marks.{Marks}
 use Rattle.merge_words.specs.declared.files.Texts.{Texts}

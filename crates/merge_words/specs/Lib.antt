@@ -4,6 +4,3 @@ pub mod Said
 pub mod Files
 pub mod Output
 pub mod Merge
-pub mod Sound
-pub mod Texts
-pub mod Plain

@@ -1,9 +1,9 @@
 -- What the items of a merge say of the whole output. All of it is this project's, after mkvmerge(1).
 use Rattle.std.specs.Prelude.{ℕ, List, [], Option, unwrap_or, option_and_then}
-use Rattle.word_values.specs.declared.lists.SplitWords.{SplitWords}
+use Rattle.requests.specs.declared.split.SplitWords.{SplitWords}
 use Rattle.merge_words.specs.declared.options.Subject.TheVariants as subject
 use Rattle.merge_words.specs.declared.item.Item.{Item}
-use Rattle.merge_words.specs.declared.output.MergeWords.{MergeWords}
+use Rattle.requests.specs.declared.merge.MergeWords.{MergeWords}
 use Rattle.merge_words.specs.declared.output.TheConstants.{DEFAULT_SCALE, DEFAULT_BLOCKS, DEFAULT_SPAN}
 use Rattle.merge_words.specs.Items.{stands}
 use Rattle.merge_words.specs.Said.{value_in, file_in, text_of, scale_of, blocks_of, span_of, split_of, uuids_of}

@@ -7,38 +7,9 @@ use crate::item::{Item, stands, track_in};
 use crate::options::Subject;
 use crate::said::{numbers_copy, value_in};
 use mkv_io::{List, Text};
+use requests::{CueWord, FileWords, Select};
 use std::alloc::{AllocError, Global};
-use word_values::{CueWord, Select, Value, name};
-
-/// What the words of a merge say of one file. A track is named by its place in Tracks, from 0.
-#[derive(Debug, Drop)]
-pub struct FileWords {
-    pub name: Text,
-    /// Whether the file goes on where the one before it ends.
-    pub appended: bool,
-    pub video: Select,
-    pub audio: Select,
-    pub subtitles: Select,
-    /// Whether the attached files are kept.
-    pub attachments: bool,
-    /// Whether the tags of tracks are kept.
-    pub track_tags: bool,
-    /// Whether tags that name no track are kept.
-    pub global_tags: bool,
-    /// Whether the chapters are kept.
-    pub chapters: bool,
-    /// By how many nanoseconds a track is delayed.
-    pub syncs: List<(u64, i64)>,
-    pub names: List<(u64, Text)>,
-    pub languages: List<(u64, Text)>,
-    pub defaults: List<(u64, bool)>,
-    pub forced: List<(u64, bool)>,
-    pub cues: List<(u64, CueWord)>,
-    /// The names of files with a track's times.
-    pub times: List<(u64, Text)>,
-    /// The tracks that the words name, in their order, each once.
-    pub named: List<u64>,
-}
+use word_values::{Value, name};
 
 /// Each file, with what the items say that stand between the file before it and itself.
 pub(crate) fn files(alloc: Global, items: &[Item]) -> Result<List<FileWords>, AllocError>

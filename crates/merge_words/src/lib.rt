@@ -9,7 +9,5 @@ mod options;
 mod output;
 mod said;
 
-pub use files::FileWords;
 pub use merge::read_merge;
 pub use options::{Meaning, OptionRow, Scope, Subject, meaning_of, merge_options};
-pub use output::MergeWords;

@@ -7,8 +7,9 @@ ghost use Rattle.word_values.specs.Place.{texts};
 
 use crate::item::{Item, files_in, item_at, since_file, stands};
 use crate::options::{Meaning, Scope, Subject, meaning_of};
-use crate::output::{MergeWords, merge_words};
+use crate::output::merge_words;
 use mkv_io::List;
+use requests::MergeWords;
 use std::alloc::Global;
 use word_values::{ArgsEnd, Why, flag_of, refused, word_at};
 

@@ -3,41 +3,20 @@
 ghost use Rattle.std.specs.Prelude.{◌≡◌, IfOk};
 ghost use Rattle.merge_words.specs.Output as spec;
 
-use crate::files::{FileWords, files};
+use crate::files::files;
 use crate::item::{Item, stands};
 use crate::options::Subject;
 use crate::said::{file_in, numbers_copy, value_in};
 use mkv_io::{List, Text};
+use requests::{MergeWords, SplitWords};
 use std::alloc::{AllocError, Global};
-use word_values::{SplitWords, Value, name};
+use word_values::{Value, name};
 
 const DEFAULT_SCALE: u64 = 1_000_000;
 
 const DEFAULT_BLOCKS: u32 = 65_535;
 
 const DEFAULT_SPAN: u64 = 5_000_000_000;
-
-/// What the words of a merge say of the whole output, and of each file.
-#[derive(Debug, Drop)]
-pub struct MergeWords {
-    pub output: Text,
-    pub webm: bool,
-    pub title: Option<Text>,
-    /// The name of a file with chapters.
-    pub chapters: Option<Text>,
-    /// Nanoseconds in one tick of the output.
-    pub scale: u64,
-    /// The most blocks in a Cluster.
-    pub blocks: u32,
-    /// The most nanoseconds from a Cluster's time to its last block's.
-    pub span: u64,
-    pub split: Option<SplitWords>,
-    pub files: List<FileWords>,
-    /// The SegmentUUIDs of the parts, in order, read with the highest octet first.
-    pub uuids: List<u128>,
-    /// Whether each part names the SegmentUUIDs beside its own.
-    pub link: bool,
-}
 
 /// What the items say.
 #[tactic(auto, unfolding(crate::specs::Output::merge_words))]

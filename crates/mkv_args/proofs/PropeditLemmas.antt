@@ -2,9 +2,9 @@
 use Rattle.std.proofs.Common.{◌≡◌, ℕ, ◌+◌, Bool, true, false, List, [], ◌∷◌, ◌++◌, drop, Option, Result, Ok, Err, refl, sym, ap, ◌∙◌, arith, append_assoc}
 use Rattle.std.proofs.lemmas.List.{drop-drop}
 use Rattle.std.specs.Prelude.{slice_get}
-use Rattle.word_values.specs.declared.edit.Edit.{Edit}
-use Rattle.word_values.specs.declared.edit.Change.{Change}
-use Rattle.word_values.specs.declared.edit.Selector.{Selector}
+use Rattle.requests.specs.declared.edit.Edit.{Edit}
+use Rattle.requests.specs.declared.edit.Change.{Change}
+use Rattle.requests.specs.declared.edit.Selector.{Selector}
 use Rattle.word_values.specs.declared.usage.Usage.{Usage}
 use Rattle.mkv_args.specs.declared.propedit.EditOption.{EditOption}
 use Rattle.mkv_args.specs.declared.propedit.EditOption.TheVariants as says

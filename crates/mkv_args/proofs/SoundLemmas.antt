@@ -6,29 +6,30 @@ use Rattle.std.specs.Str.{IsUtf8, bytes_eq}
 use Rattle.std.proofs.lemmas.Bool.Decides.{nat_tests}
 use Rattle.std.proofs.lemmas.Slice.Eq.{bytes_eq-Decides}
 use Rattle.std.proofs.lemmas.List.Elements.{All-nil, All-cons, All-append}
-use Rattle.word_values.specs.declared.job.Job.{Job}
-use Rattle.word_values.specs.declared.job.Job.TheVariants as jobs
-use Rattle.word_values.specs.declared.job.Form.{Form}
-use Rattle.word_values.specs.declared.job.Form.TheVariants as form
-use Rattle.word_values.specs.declared.job.Target.{Target}
-use Rattle.word_values.specs.declared.edit.Edit.{Edit}
-use Rattle.word_values.specs.declared.edit.Change.{Change}
-use Rattle.word_values.specs.declared.edit.Change.TheVariants.{Set, Add, Delete}
-use Rattle.word_values.specs.declared.edit.Selector.{Selector}
-use Rattle.word_values.specs.declared.edit.Selector.TheVariants as selector_is
+use Rattle.requests.specs.declared.job.Job.{Job}
+use Rattle.requests.specs.declared.job.Job.TheVariants as jobs
+use Rattle.requests.specs.declared.job.Form.{Form}
+use Rattle.requests.specs.declared.job.Form.TheVariants as form
+use Rattle.requests.specs.declared.job.Target.{Target}
+use Rattle.requests.specs.declared.edit.Edit.{Edit}
+use Rattle.requests.specs.declared.edit.Change.{Change}
+use Rattle.requests.specs.declared.edit.Change.TheVariants.{Set, Add, Delete}
+use Rattle.requests.specs.declared.edit.Selector.{Selector}
+use Rattle.requests.specs.declared.edit.Selector.TheVariants as selector_is
 use Rattle.word_values.specs.declared.usage.ArgsEnd.{ArgsEnd}
 use Rattle.word_values.specs.Answers.{Tells, ◌>>=◌}
 use Rattle.mkv_io.specs.Octets.{cut}
-use Rattle.word_values.specs.Numbers.{below, from, number}
+use Rattle.word_values.specs.Numbers.{from}
+use Rattle.requests.specs.Decimal.{below, number}
 use Rattle.word_values.specs.Place.{due, due_at, file_at, end_at, is_option}
 use Rattle.word_values.specs.Values.{track_and_rest}
-use Rattle.word_values.specs.Sound.{IsWithin}
+use Rattle.requests.specs.Sound.{IsWithin}
 use Rattle.word_values.proofs.AnswerLemmas.{either, ok-then, ok-else, ok-made}
 use Rattle.word_values.proofs.SoundLemmas.{mapped, below-is, from-is}
 use Rattle.merge_words.specs.Merge.{merged}
 use Rattle.merge_words.specs.Options.{meaning_of}
-use Rattle.merge_words.specs.declared.output.MergeWords.{MergeWords}
-use Rattle.merge_words.specs.Texts.{AreTexts}
+use Rattle.requests.specs.declared.merge.MergeWords.{MergeWords}
+use Rattle.requests.specs.Texts.{AreTexts}
 use Rattle.merge_words.proofs.SoundLemmas.{merged-sound, merged-texts, read_value-is}
 use Rattle.mkv_args.specs.declared.command.Command.{Command}
 use Rattle.mkv_args.specs.declared.command.Command.TheVariants as command_is

@@ -3,30 +3,31 @@
 use Rattle.std.proofs.Common.{◌≡◌, ℕ, ◌==◌, true, false, List, [], ◌∷◌, ◌++◌, replicate, codes, Option, Some, None, Result, Ok, map, refl}
 use Rattle.std.specs.Prelude.{pos, neg_ℤ}
 use Rattle.std.specs.List.{flat_map, slice_split}
-use Rattle.word_values.specs.declared.edit.Change.{Change}
-use Rattle.word_values.specs.declared.edit.Change.TheVariants.{Set, Add, Delete}
-use Rattle.word_values.specs.declared.edit.Edit.{Edit}
-use Rattle.word_values.specs.declared.edit.Selector.{Selector}
-use Rattle.word_values.specs.declared.edit.Selector.TheVariants.{Info, Nth, Typed, Uid, Number}
-use Rattle.word_values.specs.declared.job.Form.TheVariants as form
-use Rattle.word_values.specs.declared.job.Job.TheVariants as jobs
-use Rattle.word_values.specs.declared.job.Target.{Target}
-use Rattle.word_values.specs.declared.lists.Select.TheVariants.{All, These, AllBut, Off}
-use Rattle.word_values.specs.declared.lists.SpanWords.{SpanWords}
-use Rattle.word_values.specs.declared.lists.SplitWords.{SplitWords}
-use Rattle.word_values.specs.declared.lists.SplitWords.TheVariants as splits
+use Rattle.requests.specs.declared.edit.Change.{Change}
+use Rattle.requests.specs.declared.edit.Change.TheVariants.{Set, Add, Delete}
+use Rattle.requests.specs.declared.edit.Edit.{Edit}
+use Rattle.requests.specs.declared.edit.Selector.{Selector}
+use Rattle.requests.specs.declared.edit.Selector.TheVariants.{Info, Nth, Typed, Uid, Number}
+use Rattle.requests.specs.declared.job.Form.TheVariants as form
+use Rattle.requests.specs.declared.job.Job.TheVariants as jobs
+use Rattle.requests.specs.declared.job.Target.{Target}
+use Rattle.requests.specs.declared.track.Select.TheVariants.{All, These, AllBut, Off}
+use Rattle.requests.specs.declared.split.SpanWords.{SpanWords}
+use Rattle.requests.specs.declared.split.SplitWords.{SplitWords}
+use Rattle.requests.specs.declared.split.SplitWords.TheVariants as splits
 use Rattle.word_values.specs.declared.usage.Usage.{Usage}
 use Rattle.word_values.specs.declared.usage.Why.TheVariants.{BadValue}
-use Rattle.word_values.specs.declared.values.CueWord.TheVariants.{Never, Key, All as EachCue}
-use Rattle.merge_words.specs.declared.files.FileWords.{FileWords}
-use Rattle.merge_words.specs.Plain.{plain_file, plain_words}
-use Rattle.merge_words.specs.declared.output.MergeWords.{MergeWords}
+use Rattle.requests.specs.declared.track.CueWord.TheVariants.{Never, Key, All as EachCue}
+use Rattle.requests.specs.declared.merge.FileWords.{FileWords}
+use Rattle.requests.specs.Plain.{plain_file, plain_words}
+use Rattle.requests.specs.declared.merge.MergeWords.{MergeWords}
 use Rattle.mkv_args.specs.declared.command.Command.{Command}
 use Rattle.mkv_args.specs.declared.command.Command.TheVariants as commands
 use Rattle.mkv_args.specs.declared.commands.Verb.TheVariants as verb
 use Rattle.word_values.specs.Answers.{wrong}
 use Rattle.mkv_io.specs.Octets.{cut}
-use Rattle.word_values.specs.Numbers.{amount, clock, delay, delay_size, fraction, number, seconds, minutes_or_seconds, size, time, uuid, whole}
+use Rattle.word_values.specs.Numbers.{amount, clock, delay, delay_size, fraction, seconds, minutes_or_seconds, size, time, uuid}
+use Rattle.requests.specs.Decimal.{number, whole}
 use Rattle.word_values.specs.Lists.{chapters as chapters_split, duration, ids, numbers, span, spans, split, split_of, times, uuids}
 use Rattle.word_values.specs.Values.{cluster_length, cue_word, language, scale, text, track_and_rest, track_flag, track_value, value_of}
 use Rattle.merge_words.specs.Options.{meaning_of, table}

@@ -5,7 +5,7 @@ use Rattle.word_values.specs.declared.usage.Usage.{Usage}
 use Rattle.word_values.specs.declared.usage.Why.TheVariants.{UnknownOption, ExtraWord}
 use Rattle.word_values.specs.Answers.{wrong, ◌>>=◌}
 use Rattle.word_values.specs.Place.{is_option, due_at}
-use Rattle.merge_words.specs.declared.output.MergeWords.{MergeWords}
+use Rattle.requests.specs.declared.merge.MergeWords.{MergeWords}
 use Rattle.merge_words.specs.Options.{meaning_of}
 use Rattle.merge_words.specs.Merge.{merged}
 use Rattle.mkv_args.specs.declared.command.Command.{Command}

@@ -9,7 +9,8 @@ use Rattle.mkv_args.specs.declared.commands.Verb.TheVariants as verb
 use Rattle.mkv_args.specs.Entry.{meant}
 use Rattle.mkv_args.specs.Commands.{commands as verbs}
 use Rattle.word_values.specs.Answers.{wrong, ◌>>=◌}
-use Rattle.word_values.specs.Numbers.{below, from, number}
+use Rattle.word_values.specs.Numbers.{from}
+use Rattle.requests.specs.Decimal.{below, number}
 use Rattle.word_values.specs.Place.{due_at, file_at, end_at, is_option}
 use Rattle.merge_words.specs.Items.{read_value}
 use Rattle.mkv_args.specs.Extract.{extract}

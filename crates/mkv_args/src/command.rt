@@ -1,9 +1,8 @@
 //! What a command line asks for.
 
 use crate::commands::Verb;
-use merge_words::MergeWords;
 use mkv_io::{List, Text};
-use word_values::{Edit, Job};
+use requests::{Edit, Job, MergeWords};
 
 /// One command with all that its words say.
 #[derive(Debug, Drop)]

@@ -9,10 +9,10 @@ ghost use Rattle.word_values.specs.Place.{texts};
 use crate::command::Command;
 use crate::entry::{Entry, meant};
 use mkv_io::List;
+use requests::{Form, Job, Target};
 use std::alloc::Global;
 use word_values::{
-    ArgsEnd, Form, Job, Target, Why, due_at, end_at, file_at, is_option, name, refused,
-    track_and_rest, word_at,
+    ArgsEnd, Why, due_at, end_at, file_at, is_option, name, refused, track_and_rest, word_at,
 };
 
 /// `extract FILE MODE ARGS`.

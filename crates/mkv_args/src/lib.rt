@@ -14,8 +14,7 @@ mod words;
 pub use command::Command;
 pub use commands::Verb;
 pub use help::{usage_lines, version_line};
-pub use merge_words::{
-    FileWords, Meaning, MergeWords, OptionRow, Scope, Subject, meaning_of, merge_options,
-};
-pub use word_values::{ArgsEnd, CueWord, Select, SpanWords, SplitWords, Usage, ValueForm, Why};
+pub use merge_words::{Meaning, OptionRow, Scope, Subject, meaning_of, merge_options};
+pub use requests::{CueWord, FileWords, MergeWords, Select, SpanWords, SplitWords};
+pub use word_values::{ArgsEnd, Usage, ValueForm, Why};
 pub use words::read_words;

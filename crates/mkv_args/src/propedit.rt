@@ -9,11 +9,9 @@ ghost use Rattle.word_values.specs.Place.{texts};
 use crate::command::Command;
 use crate::entry::{Entry, meant};
 use mkv_io::{List, Text};
+use requests::{Change, Edit, Selector, number};
 use std::alloc::Global;
-use word_values::{
-    ArgsEnd, Change, Edit, Selector, ValueEnd, Why, cut_text, due_at, file_at, name, number,
-    refused, word_at,
-};
+use word_values::{ArgsEnd, ValueEnd, Why, cut_text, due_at, file_at, name, refused, word_at};
 
 /// The TrackType that a section names by `v`: video (RFC 9559, 5.1.4.1.3).
 pub const VIDEO_TRACK: u64 = 1;

@@ -12,10 +12,9 @@ use crate::commands::{Verb, verb_of};
 use crate::extract::extract;
 use crate::merge::merge;
 use crate::propedit::propedit;
+use requests::number;
 use std::alloc::Global;
-use word_values::{
-    ArgsEnd, Why, due_at, end_at, file_at, is_option, name, number, refused, word_at,
-};
+use word_values::{ArgsEnd, Why, due_at, end_at, file_at, is_option, name, refused, word_at};
 
 /// The command that the words ask for, or the first word that is wrong. Words are counted from 0,
 /// and the program's own name is none of them.

@@ -11,10 +11,10 @@ use Rattle.mkv_io.specs.Names.{AreOthers}
 use Rattle.mkv_io.specs.declared.asked.Asked.{Asked}
 use Rattle.mkv_io.specs.declared.asked.Asked.TheVariants.{Opened}
 use Rattle.mkv_io.proofs.AskedLemmas.{asks-both, asks-more, asks-none, asks-one}
-use Rattle.word_values.specs.declared.job.Job.{Job}
-use Rattle.word_values.specs.declared.job.Job.TheVariants as form
-use Rattle.word_values.specs.declared.job.Form.{Form}
-use Rattle.word_values.specs.declared.job.Target.{Target}
+use Rattle.requests.specs.declared.job.Job.{Job}
+use Rattle.requests.specs.declared.job.Job.TheVariants as form
+use Rattle.requests.specs.declared.job.Form.{Form}
+use Rattle.requests.specs.declared.job.Target.{Target}
 use Rattle.sidecar_edit.specs.Name.{sidecar_of, with_sidecar}
 use Rattle.mkv_outputs.specs.Outputs.{Output, names_of, with_outputs}
 use Rattle.mkv_outputs.specs.Starts.{ArePrefixes}

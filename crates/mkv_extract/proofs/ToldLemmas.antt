@@ -7,12 +7,12 @@ use Rattle.std.specs.List.{find, list_any}
 use Rattle.std.specs.Option.{option_map, option_map_or}
 use Rattle.mkv_io.specs.declared.damage.Damage.{Damage}
 use Rattle.mkv_io.specs.Lists.{is_some_of}
-use Rattle.word_values.specs.declared.job.Target.{Target}
+use Rattle.requests.specs.declared.job.Target.{Target}
 use Rattle.tree_format.specs.Node.{Node}
 use Rattle.mkv_lines.specs.Line.{warning_line, wrote_line}
 use Rattle.mkv_lines.specs.Said.{ReportLines, SaysUpTo}
 use Rattle.extractors.specs.Content.{names_in}
-use Rattle.word_values.specs.declared.job.Form.{Form}
+use Rattle.requests.specs.declared.job.Form.{Form}
 use Rattle.extractors.specs.Codec.{coding_of}
 use Rattle.extractors.specs.Job.{first_unfit, is_unfit, names_unfit, output_for, outputs_for, track_output}
 use Rattle.extractors.specs.declared.frame_form.Coding.{Coding}

@@ -1,8 +1,8 @@
 -- How many octets `extract` may read. The bounds are this project's.
 use Rattle.std.specs.Prelude.{◌≡◌, ℕ, ◌+◌, ◌*◌, min, List, length, Option, Some, None}
 use Rattle.mkv_io.specs.declared.reads.Reads.{Ghosts}
-use Rattle.word_values.specs.declared.job.Job.{Job}
-use Rattle.word_values.specs.declared.job.Job.TheVariants as jobs
+use Rattle.requests.specs.declared.job.Job.{Job}
+use Rattle.requests.specs.declared.job.Job.TheVariants as jobs
 use Rattle.meta_records.specs.declared.limits.TheConstants.{MAX_ATTACHMENTS_LEN}
 use Rattle.mkv_lines.specs.Command.{with_sidecar_head}
 use Rattle.mkv_io.specs.Bounds.{ReadsByNames, ReadsUpTo}

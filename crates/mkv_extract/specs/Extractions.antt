@@ -7,7 +7,7 @@ use Rattle.mkv_io.specs.declared.outside.FileId.{FileId}
 use Rattle.mkv_io.specs.declared.reads.Reads.{Ghosts as ReadsGhosts}
 use Rattle.mkv_io.specs.declared.report.Report.{Ghosts as ReportGhosts}
 use Rattle.mkv_io.specs.Told.{IfVisible}
-use Rattle.word_values.specs.declared.job.Job.{Job}
+use Rattle.requests.specs.declared.job.Job.{Job}
 use Rattle.extractors.specs.Job.{CanBeDone, names_for, targets_of}
 use Rattle.extractors.specs.Source.{AreUsable, IsSource}
 use Rattle.extractors.specs.declared.source.Source.{Source}

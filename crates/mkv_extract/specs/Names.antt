@@ -2,7 +2,7 @@
 use Rattle.std.specs.Prelude.{ℕ, Bool, ◌||◌, List, Option}
 use Rattle.std.specs.List.{find}
 use Rattle.std.specs.Str.{bytes_eq}
-use Rattle.word_values.specs.declared.job.Job.{Job}
+use Rattle.requests.specs.declared.job.Job.{Job}
 use Rattle.sidecar_edit.specs.Name.{sidecar_of}
 use Rattle.extractors.specs.Job.{names_for}
 

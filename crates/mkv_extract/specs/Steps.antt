@@ -9,7 +9,7 @@ use Rattle.mkv_io.specs.declared.outside.FileId.{FileId}
 use Rattle.mkv_io.specs.declared.reads.Reads.{Ghosts as ReadsGhosts}
 use Rattle.mkv_io.specs.declared.files.Files.{Ghosts as FilesGhosts}
 use Rattle.mkv_io.specs.declared.report.Report.{Ghosts as ReportGhosts}
-use Rattle.word_values.specs.declared.job.Job.{Job}
+use Rattle.requests.specs.declared.job.Job.{Job}
 use Rattle.block_format.specs.Events.{Event}
 use Rattle.file_format.specs.FileBlocks.{file_events}
 use Rattle.mkv_lines.specs.Command.{Fulfils}
@@ -21,7 +21,7 @@ use Rattle.mkv_lines.specs.declared.status.Status.{Status}
 use Rattle.mkv_lines.specs.declared.status.CommandEnd.{CommandEnd}
 use Rattle.mkv_extract.specs.Extract.{Taken, attached_taken, done_verdict, frames_taken, or_line, taken_by, unfit_track, verdict_of}
 use Rattle.mkv_extract.specs.Read.{FileRead, read_in, read_of}
-use Rattle.word_values.specs.declared.job.Target.{Target}
+use Rattle.requests.specs.declared.job.Target.{Target}
 
 -- of a content of which this was read: unless a track can't be taken so
 abbrev pub fit_taken : List ℕ → Job → List ℕ → FileRead → List Event → Result Taken (List ℕ)

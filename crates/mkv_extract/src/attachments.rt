@@ -3,7 +3,7 @@
 ghost use Rattle.std.specs.Prelude.{◌*◌, ◌≤◌, [], length, All};
 ghost use Rattle.mkv_io.specs.Asked.{AsksOnly};
 ghost use Rattle.mkv_io.specs.Names.{AreOthers};
-ghost use Rattle.word_values.specs.declared.job.Target.{Target as TargetSeen};
+ghost use Rattle.requests.specs.declared.job.Target.{Target as TargetSeen};
 ghost use Rattle.extractors.specs.Job.{names_of};
 ghost use Rattle.extractors.specs.Source.{IsSource};
 ghost use Rattle.mkv_lines.specs.Command.{HasEnded};
@@ -14,8 +14,8 @@ use crate::telling::{Missing, say_absent, tell_held};
 use extractors::{Source, write_attachments};
 use mkv_io::{Files, Report};
 use mkv_lines::{CommandEnd, Status, stop_of};
+use requests::Target;
 use std::alloc::Global;
-use word_values::Target;
 
 /// Takes attached files out of a source, each into a file of its own, and tells of it. They are numbered from 1.
 pub fn extract_attachments<F: Files, P: Report>(

@@ -12,8 +12,8 @@ use crate::telling::{Missing, say_absent, tell_held};
 use extractors::{Source, write_cues};
 use mkv_io::{Files, Report};
 use mkv_lines::{CommandEnd, Status, stop_of};
+use requests::Target;
 use std::alloc::Global;
-use word_values::Target;
 
 /// Takes the cue points of tracks out of a source, each track's into a file of its own, and tells of it.
 pub fn extract_cues<F: Files, P: Report>(

@@ -23,9 +23,9 @@ use element_reader::OutlineEnd;
 use extractors::{Refusal, Source, UnsupportedTrack, extract, job_refusal, targets_of};
 use mkv_io::{FileId, Files, OpenFault, Report};
 use mkv_lines::{CommandEnd, Line, Status, refuse, stop_of};
+use requests::Job;
 use sidecar_edit::is_pending;
 use std::alloc::{AllocError, Global};
-use word_values::Job;
 
 /// Takes what a job asks for out of the file of a name, each target into a file of its own. No two of them have one name.
 pub fn extract_of<F: Files, P: Report>(

@@ -3,15 +3,15 @@
 ghost use Rattle.std.specs.Prelude.{◌≡◌, IfOk};
 ghost use Rattle.std.specs.List.{find};
 ghost use Rattle.std.specs.Option.{option_copied};
-ghost use Rattle.word_values.specs.declared.job.Target.{Target as TargetSeen};
+ghost use Rattle.requests.specs.declared.job.Target.{Target as TargetSeen};
 ghost use Rattle.sidecar_edit.specs.Name.{sidecar_of};
 ghost use Rattle.extractors.specs.Job.{names_of};
 ghost use Rattle.mkv_extract.specs.Names.{first_written, is_either, is_read};
 
 use mkv_io::Text;
+use requests::{Job, Target};
 use sidecar_edit::sidecar_name;
 use std::alloc::{AllocError, Global};
-use word_values::{Job, Target};
 
 /// Whether an output has the name of the file, or that of its sidecar.
 fn is_read(name: &str, sidecar: &str, out: &str) -> bool

@@ -20,9 +20,9 @@ use element_reader::{Outline, OutlineEnd};
 use extractors::{Source, first_cues, targets_of};
 use meta_records::read_records;
 use mkv_io::{Damage, FileId, Reads};
+use requests::{Job, Target};
 use std::alloc::Global;
 use track_records::{Track, usable};
-use word_values::{Job, Target};
 
 /// What is read of a live file before its blocks, or the first thing that refuses it: its outline, its records, for a job
 /// that takes it its first Cues, and then the tracks that the job names, in their order.

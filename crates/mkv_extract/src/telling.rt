@@ -16,8 +16,8 @@ use cluster_reader::Damages;
 use extractors::Extracted;
 use mkv_io::{Damage, Report};
 use mkv_lines::{CommandEnd, Line, Status, say};
+use requests::Target;
 use std::alloc::Global;
-use word_values::Target;
 
 /// What a file may not have of what targets name.
 #[derive(Clone, Copy)]

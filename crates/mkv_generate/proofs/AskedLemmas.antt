@@ -6,7 +6,7 @@ use Rattle.mkv_io.specs.Asked.{AsksOnly, IsNotAmong}
 use Rattle.mkv_io.specs.declared.asked.Asked.{Asked}
 use Rattle.mkv_io.specs.declared.asked.Asked.TheVariants.{Made, Opened}
 use Rattle.mkv_io.proofs.AskedLemmas.{asks-fewer}
-use Rattle.merge_words.specs.declared.output.MergeWords.{MergeWords}
+use Rattle.requests.specs.declared.merge.MergeWords.{MergeWords}
 use Rattle.input_files.specs.Inputs.{file_names}
 use Rattle.mkv_merge.specs.Asked.{AsksToMerge, IsBesidesMerge}
 use Rattle.mkv_generate.specs.declared.names.Names.{Names}

@@ -4,8 +4,8 @@ use Rattle.std.specs.Prelude.{sum_by, unwrap_or}
 use Rattle.std.proofs.lemmas.List.Sums.{sum_by-cons}
 use Rattle.mkv_io.specs.Names.{Names}
 use Rattle.output_model.specs.Document.{layout}
-use Rattle.merge_words.specs.declared.files.FileWords.{FileWords}
-use Rattle.merge_words.specs.declared.output.MergeWords.{MergeWords}
+use Rattle.requests.specs.declared.merge.FileWords.{FileWords}
+use Rattle.requests.specs.declared.merge.MergeWords.{MergeWords}
 use Rattle.merge_plan.specs.Plan.{Source}
 use Rattle.remux_plan.specs.Parts.{PlannedOutput}
 use Rattle.remux_plan.specs.declared.summary.Summary.{Summary}
@@ -22,7 +22,7 @@ use Rattle.mkv_generate.specs.declared.names.Names as own
 use Rattle.mkv_generate.specs.Files.{file_of}
 use Rattle.mkv_generate.specs.Bound.{ReadsBoth, ReadsMerged, layouts, most_behind, most_merged}
 use Rattle.mkv_generate.specs.Generate.{both_words, made_file, made_of, merge_of, parts_words, two_files}
-use Rattle.merge_words.specs.Plain.{plain_file}
+use Rattle.requests.specs.Plain.{plain_file}
 use Rattle.mkv_generate.proofs.MakingLemmas.{both-found, both-one, both-there, parts-found, told-then}
 use Rattle.mkv_generate.proofs.TurnLemmas.{first-told, last-told, written-behind}
 

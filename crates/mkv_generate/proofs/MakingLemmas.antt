@@ -9,7 +9,7 @@ use Rattle.mkv_outputs.specs.Outputs.{with_outputs}
 use Rattle.mkv_outputs.proofs.DraftsLemmas.{AreWrittenInOrder-none}
 use Rattle.output_model.specs.Document.{layout}
 use Rattle.input_files.specs.Inputs.{file_names, first_missing}
-use Rattle.merge_words.specs.declared.output.MergeWords.{MergeWords}
+use Rattle.requests.specs.declared.merge.MergeWords.{MergeWords}
 use Rattle.merge_plan.specs.Plan.{Source}
 use Rattle.remux_plan.specs.Parts.{PlannedOutput}
 use Rattle.remux_plan.specs.Summary.{written_of}

@@ -1,11 +1,11 @@
 -- The words of both merges keep their limits.
 use Rattle.std.proofs.Common.{◌≡◌, ◌≢◌, ℕ, List, [], ◌∷◌, get_or, refl, sym, ap, subst, arith}
 use Rattle.std.proofs.lemmas.List.Elements.{All-cons, All-nil}
-use Rattle.merge_words.specs.Sound.{IsSoundFile, IsSoundMerge}
-use Rattle.merge_words.specs.declared.output.MergeWords.{MergeWords}
+use Rattle.requests.specs.Sound.{IsSoundFile, IsSoundMerge}
+use Rattle.requests.specs.declared.merge.MergeWords.{MergeWords}
 use Rattle.mkv_generate.specs.declared.names.Names as own
 use Rattle.mkv_generate.specs.Generate.{both_words, names_of, parts_words}
-use Rattle.merge_words.specs.Plain.{plain_file}
+use Rattle.requests.specs.Plain.{plain_file}
 
 -- a file of which nothing is said
 file-sound : (name : List ℕ) → IsSoundFile (plain_file name)

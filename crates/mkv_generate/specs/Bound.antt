@@ -2,7 +2,7 @@
 use Rattle.std.specs.Prelude.{◌≡◌, ◌≢◌, ◌≤◌, ℕ, ◌+◌, List, ◌++◌, length, map, sum_by, Option, Some, Result, Ok, Err}
 use Rattle.mkv_io.specs.Names.{Names}
 use Rattle.output_model.specs.Document.{layout}
-use Rattle.merge_words.specs.declared.output.MergeWords.{MergeWords}
+use Rattle.requests.specs.declared.merge.MergeWords.{MergeWords}
 use Rattle.remux_plan.specs.Parts.{PlannedOutput}
 use Rattle.remuxer.specs.Output.{WritesAll}
 use Rattle.mkv_merge.specs.Bound.{most_of}

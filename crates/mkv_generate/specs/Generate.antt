@@ -2,8 +2,8 @@
 use Rattle.std.specs.Prelude.{ℕ, ◌++◌, ◌||◌, Bool, List, [], ◌∷◌, codes, length, map, flat_map, Some, None, Result, Ok, Err}
 use Rattle.std.specs.List.{enumerate_from}
 use Rattle.output_model.specs.Document.{layout}
-use Rattle.word_values.specs.declared.lists.SplitWords.TheVariants.{Duration}
-use Rattle.merge_words.specs.declared.output.MergeWords.{MergeWords}
+use Rattle.requests.specs.declared.split.SplitWords.TheVariants.{Duration}
+use Rattle.requests.specs.declared.merge.MergeWords.{MergeWords}
 use Rattle.remux_plan.specs.Parts.{PlannedOutput}
 use Rattle.remux_plan.specs.Summary.{written_of}
 use Rattle.remux_plan.specs.declared.summary.Written.{Written}
@@ -11,7 +11,7 @@ use Rattle.remuxer.specs.Output.{drafts_of}
 use Rattle.merge_plan.specs.Plan.{Source}
 use Rattle.mkv_merge.specs.Joined.{sources_apart}
 use Rattle.mkv_merge.specs.Merge.{has_damage, outputs_of, warned_if, warnings}
-use Rattle.merge_words.specs.Plain.{plain_file, plain_words}
+use Rattle.requests.specs.Plain.{plain_file, plain_words}
 use Rattle.mkv_merge.specs.Refused.{line_of}
 use Rattle.mkv_io.specs.Results.{and_then}
 use Rattle.mkv_io.specs.Told.{IfVisible}

@@ -16,11 +16,11 @@ use crate::blocks::MediaKind;
 use crate::file::write_file;
 use crate::names::Names;
 use crate::words::{both_words, parts_words};
-use merge_words::MergeWords;
 use mkv_io::{Files, Reads, RemuxEnd};
 use mkv_lines::{CommandEnd, stop_of};
 use mkv_merge::{Merged, Refusal, merge_files};
 use remux_plan::Summary;
+use requests::MergeWords;
 use std::alloc::{AllocError, Global};
 
 /// A merge that was done: its words, and what is known of it.

@@ -2,14 +2,13 @@
 
 ghost use Rattle.std.specs.Prelude.{◌≡◌, IfOk};
 ghost use Rattle.mkv_generate.specs.Generate.{both_words, parts_words};
-ghost use Rattle.merge_words.specs.Plain.{plain_file, plain_words};
+ghost use Rattle.requests.specs.Plain.{plain_file, plain_words};
 
 use crate::front::SCALE;
 use crate::names::Names;
-use merge_words::{FileWords, MergeWords};
 use mkv_io::{List, Text};
+use requests::{FileWords, MergeWords, Select, SplitWords};
 use std::alloc::{AllocError, Global};
-use word_values::{Select, SplitWords};
 
 /// Nanoseconds of a part.
 const PART: u64 = 10_000_000_000;

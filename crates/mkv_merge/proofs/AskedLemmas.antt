@@ -12,14 +12,14 @@ use Rattle.mkv_io.proofs.NamesLemmas.{others-behind, others-front}
 use Rattle.sidecar_edit.specs.Name.{sidecar_of}
 use Rattle.sidecar_edit.specs.Pending.{LooksOnly}
 use Rattle.sidecar_edit.proofs.LooksLemmas.{LooksOnly-more}
-use Rattle.word_values.specs.declared.lists.SplitWords.{SplitWords}
+use Rattle.requests.specs.declared.split.SplitWords.{SplitWords}
 use Rattle.remux_plan.specs.Parts.{may_be_written}
 use Rattle.remux_plan.specs.Parts.{is_split as planned_split}
 use Rattle.remux_plan.specs.declared.plan.MergePlan.{MergePlan}
 use Rattle.remuxer.specs.Output.{IsNotMade, KeepsUnwritten}
 use Rattle.remuxer.proofs.OutputsLemmas.{unwritten-asks}
-use Rattle.merge_words.specs.declared.files.FileWords.{FileWords}
-use Rattle.merge_words.specs.declared.output.MergeWords.{MergeWords}
+use Rattle.requests.specs.declared.merge.FileWords.{FileWords}
+use Rattle.requests.specs.declared.merge.MergeWords.{MergeWords}
 use Rattle.input_files.specs.Inputs.{file_names}
 use Rattle.input_files.specs.TextFiles.{text_names}
 use Rattle.merge_inputs.specs.declared.input.Input.{Input}

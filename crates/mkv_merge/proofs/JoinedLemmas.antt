@@ -5,7 +5,7 @@ use Rattle.mkv_io.specs.Names.{Names}
 use Rattle.mkv_io.specs.declared.remux_end.RemuxEnd.{RemuxEnd}
 use Rattle.mkv_outputs.specs.Drafts.{AreWrittenInOrder}
 use Rattle.mkv_outputs.proofs.DraftsLemmas.{AreWrittenInOrder-none}
-use Rattle.merge_words.specs.declared.output.MergeWords.{MergeWords}
+use Rattle.requests.specs.declared.merge.MergeWords.{MergeWords}
 use Rattle.merge_inputs.specs.declared.input.Input.{Input}
 use Rattle.merge_plan.specs.Plan.{Source}
 use Rattle.remux_plan.specs.Parts.{PlannedOutput, outputs_in}

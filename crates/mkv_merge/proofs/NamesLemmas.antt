@@ -13,7 +13,7 @@ use Rattle.mkv_outputs.specs.Sinks.{holders_of}
 use Rattle.sidecar_edit.specs.Name.{sidecar_of}
 use Rattle.splitter.specs.Names.{is_part_name}
 use Rattle.remux_plan.specs.Parts.{may_be_written}
-use Rattle.merge_words.specs.declared.output.MergeWords.{MergeWords}
+use Rattle.requests.specs.declared.merge.MergeWords.{MergeWords}
 use Rattle.input_files.specs.Inputs.{file_names}
 use Rattle.input_files.specs.TimesFile.{times_named, times_names}
 use Rattle.mkv_merge.specs.Read.{first_written, is_output, is_part, is_split}

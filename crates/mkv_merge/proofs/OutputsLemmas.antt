@@ -13,7 +13,7 @@ use Rattle.remux_plan.specs.Parts.{PlannedOutput, drives_by, name_of, output_in,
 use Rattle.remux_plan.specs.Plan.{blocks_of as planned_blocks, rules_of}
 use Rattle.remux_plan.specs.Uuids.{uuids_at, with_uuids}
 use Rattle.remux_plan.specs.declared.plan.MergePlan.{MergePlan}
-use Rattle.merge_words.specs.declared.output.MergeWords.{MergeWords}
+use Rattle.requests.specs.declared.merge.MergeWords.{MergeWords}
 use Rattle.merge_inputs.specs.declared.input.Input.{Input}
 use Rattle.merge_plan.specs.Front.{front_of, reads_of}
 use Rattle.merge_plan.specs.Plan.{Source, drives_given, rules_given, split_given}

@@ -18,7 +18,7 @@ use Rattle.remux_plan.specs.declared.plan.PlannedLane.{PlannedLane}
 use Rattle.remux_plan.specs.declared.summary.InputDamage.{InputDamage}
 use Rattle.remux_plan.specs.declared.summary.MoreDamage.{MoreDamage}
 use Rattle.remux_plan.specs.declared.summary.Summary.{Summary}
-use Rattle.merge_words.specs.declared.files.FileWords.{FileWords}
+use Rattle.requests.specs.declared.merge.FileWords.{FileWords}
 use Rattle.merge_inputs.specs.Input.{InputRead}
 use Rattle.merge_inputs.specs.declared.taken.TakenTrack.{TakenTrack}
 use Rattle.merge_plan.specs.Front.{reads_of}

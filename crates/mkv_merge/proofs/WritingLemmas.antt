@@ -33,8 +33,8 @@ use Rattle.remux_plan.specs.declared.TheConstants.{MAX_INPUTS, MAX_SCALE}
 use Rattle.remux_plan.specs.declared.plan.MergePlan.{MergePlan}
 use Rattle.remux_plan.specs.declared.plan.PlannedLane.{PlannedLane}
 use Rattle.remuxer.specs.Plan.{IsPlan, IsToldPlan, data_length, inputs_length}
-use Rattle.merge_words.specs.declared.files.FileWords.{FileWords}
-use Rattle.merge_words.specs.declared.output.MergeWords.{MergeWords}
+use Rattle.requests.specs.declared.merge.FileWords.{FileWords}
+use Rattle.requests.specs.declared.merge.MergeWords.{MergeWords}
 use Rattle.input_files.specs.Inputs.{AreInputs, file_names}
 use Rattle.merge_inputs.specs.Input.{CanBeGiven, InputRead, IsInput, read_in, total_in}
 use Rattle.merge_inputs.specs.declared.input.Blocks.{Blocks}
@@ -61,9 +61,9 @@ use Rattle.mkv_merge.proofs.SummaryLemmas.{AreLanesFor}
 use Rattle.std.specs.Prelude.{is_some}
 use Rattle.splitter.specs.declared.spec.SplitSpec.{SplitSpec}
 use Rattle.splitter.specs.Words.{size_of, spec_of}
-use Rattle.word_values.specs.Sound.{IsSoundSplit}
-use Rattle.word_values.specs.declared.lists.SplitWords.{SplitWords}
-use Rattle.word_values.specs.declared.lists.SplitWords.TheVariants as split_words
+use Rattle.requests.specs.Sound.{IsSoundSplit}
+use Rattle.requests.specs.declared.split.SplitWords.{SplitWords}
+use Rattle.requests.specs.declared.split.SplitWords.TheVariants as split_words
 use Rattle.remux_plan.specs.Parts.{is_timed, may_be_written, name_of}
 use Rattle.remux_plan.specs.Parts.{is_split as planned_split}
 use Rattle.remuxer.specs.Output.{IsUnwrittenLink}

@@ -6,7 +6,7 @@ use Rattle.mkv_io.specs.declared.asked.Asked.{Asked}
 use Rattle.mkv_io.specs.declared.asked.Asked.TheVariants.{Made, Opened}
 use Rattle.sidecar_edit.specs.Name.{sidecar_of}
 use Rattle.remux_plan.specs.Parts.{may_be_written}
-use Rattle.merge_words.specs.declared.output.MergeWords.{MergeWords}
+use Rattle.requests.specs.declared.merge.MergeWords.{MergeWords}
 use Rattle.input_files.specs.Inputs.{file_names}
 use Rattle.input_files.specs.TextFiles.{text_names}
 use Rattle.mkv_merge.specs.Read.{is_split}

@@ -8,8 +8,8 @@ use Rattle.sidecar_edit.specs.declared.place.TheConstants.{HEAD}
 use Rattle.input_files.specs.TextFiles.{text_octets}
 use Rattle.remux_plan.specs.declared.plan.MergePlan.{MergePlan}
 use Rattle.remuxer.specs.Plan.{data_length}
-use Rattle.merge_words.specs.declared.files.FileWords.{FileWords}
-use Rattle.merge_words.specs.declared.output.MergeWords.{MergeWords}
+use Rattle.requests.specs.declared.merge.FileWords.{FileWords}
+use Rattle.requests.specs.declared.merge.MergeWords.{MergeWords}
 use Rattle.merge_plan.specs.Front.{attached_length, reads_of}
 use Rattle.merge_plan.specs.Plan.{Source, lanes_given}
 use Rattle.mkv_merge.specs.Merge.{sources_of}

@@ -11,7 +11,7 @@ use Rattle.mkv_outputs.specs.Drafts.{AreWrittenInOrder}
 use Rattle.input_files.specs.Inputs.{file_names, first_missing}
 use Rattle.input_files.specs.declared.text_files.TextFiles.{TextFiles}
 use Rattle.input_files.specs.declared.chapter_file.ChapterFile.TheVariants.{Absent}
-use Rattle.merge_words.specs.declared.output.MergeWords.{MergeWords}
+use Rattle.requests.specs.declared.merge.MergeWords.{MergeWords}
 use Rattle.merge_plan.specs.Plan.{Source}
 use Rattle.remux_plan.specs.Parts.{PlannedOutput}
 use Rattle.remux_plan.specs.Summary.{written_of}

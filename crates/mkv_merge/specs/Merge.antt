@@ -26,8 +26,8 @@ use Rattle.remux_plan.specs.Uuids.{uuids_at, with_uuids}
 use Rattle.remuxer.specs.Output.{drafts_of}
 use Rattle.input_files.specs.Inputs.{file_names, first_missing}
 use Rattle.input_files.specs.declared.text_files.TextFiles.{TextFiles}
-use Rattle.merge_words.specs.declared.files.FileWords.{FileWords}
-use Rattle.merge_words.specs.declared.output.MergeWords.{MergeWords}
+use Rattle.requests.specs.declared.merge.FileWords.{FileWords}
+use Rattle.requests.specs.declared.merge.MergeWords.{MergeWords}
 use Rattle.merge_inputs.specs.Input.{InputRead}
 use Rattle.merge_plan.specs.Appending.{append_refusal}
 use Rattle.merge_plan.specs.Plan.{Source, drives_given, inputs_given, lanes_given, limits_of, rules_given, split_given}

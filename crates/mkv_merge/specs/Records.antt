@@ -5,7 +5,7 @@ use Rattle.mkv_schema.specs.declared.ids.TheConstants.{CHAPTERS, TAGS}
 use Rattle.tree_format.specs.Node.{Node}
 use Rattle.output_model.specs.Attached.{with_data}
 use Rattle.output_model.specs.Sound.{IsAttachment, IsRecord}
-use Rattle.merge_words.specs.declared.output.MergeWords.{MergeWords}
+use Rattle.requests.specs.declared.merge.MergeWords.{MergeWords}
 use Rattle.remux_plan.specs.Parts.{PlannedOutput}
 use Rattle.remuxer.specs.Output.{IsShort}
 use Rattle.merge_plan.specs.Front.{attachments_of, reads_of}

@@ -4,8 +4,8 @@ use Rattle.std.specs.List.{slice_get}
 use Rattle.std.specs.Option.{option_map_or}
 use Rattle.input_files.specs.declared.refusal.TextRefusal.{TextRefusal}
 use Rattle.input_files.specs.declared.refusal.TextRefusal.TheVariants.{TooLarge, Bad}
-use Rattle.merge_words.specs.declared.files.FileWords.{FileWords}
-use Rattle.merge_words.specs.declared.output.MergeWords.{MergeWords}
+use Rattle.requests.specs.declared.merge.FileWords.{FileWords}
+use Rattle.requests.specs.declared.merge.MergeWords.{MergeWords}
 use Rattle.merge_inputs.specs.declared.input.InputRefusal.{InputRefusal}
 use Rattle.merge_inputs.specs.declared.input.InputRefusal.TheVariants.{Damaged, Text}
 use Rattle.merge_plan.specs.declared.refusal.PlanRefusal.{PlanRefusal}

@@ -8,7 +8,7 @@ use Rattle.mkv_io.specs.declared.files.Files as writing
 use Rattle.mkv_io.specs.declared.reads.Reads.{Ghosts}
 use Rattle.mkv_io.specs.declared.report.Report.{Ghosts as ReportGhosts}
 use Rattle.input_files.specs.declared.text_files.TextFiles.{TextFiles}
-use Rattle.merge_words.specs.declared.output.MergeWords.{MergeWords}
+use Rattle.requests.specs.declared.merge.MergeWords.{MergeWords}
 use Rattle.merge_inputs.specs.declared.input.Input.{Input}
 use Rattle.merge_plan.specs.Plan.{Source}
 use Rattle.remux_plan.specs.declared.plan.MergePlan.{MergePlan}

@@ -1,7 +1,7 @@
 -- The lines that are told of what a merge has found wrong. They are this project's.
 use Rattle.std.specs.Prelude.{ℕ, suc, ◌==◌, Bool, ◌||◌, List, [], ◌∷◌, ◌++◌, length, map, filter}
-use Rattle.merge_words.specs.declared.files.FileWords.{FileWords}
-use Rattle.merge_words.specs.declared.output.MergeWords.{MergeWords}
+use Rattle.requests.specs.declared.merge.FileWords.{FileWords}
+use Rattle.requests.specs.declared.merge.MergeWords.{MergeWords}
 use Rattle.mkv_lines.specs.Line.{more_damages_line, warning_line, wrote_blocks_line}
 use Rattle.mkv_lines.specs.declared.status.Status.{Status}
 use Rattle.mkv_io.specs.Lists.{is_some_of}

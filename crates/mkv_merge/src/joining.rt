@@ -4,7 +4,7 @@ ghost use Rattle.std.specs.Prelude.{[]};
 ghost use Rattle.mkv_io.specs.Seen.{SameLive};
 ghost use Rattle.mkv_io.specs.Told.{IfVisible};
 ghost use Rattle.input_files.specs.Inputs.{AreInputs, file_names};
-ghost use Rattle.merge_words.specs.Sound.{IsSoundMerge};
+ghost use Rattle.requests.specs.Sound.{IsSoundMerge};
 ghost use Rattle.mkv_merge.specs.Asked.{AsksToMerge};
 ghost use Rattle.mkv_merge.specs.Joined.{MergesAlone, MergesLive, ReadsLive, as_merged, most_lone};
 ghost use Rattle.mkv_merge.specs.Read.{IsApartMerge};
@@ -15,11 +15,11 @@ use crate::names::first_written;
 use crate::preparing::prepare;
 use crate::refusal::{MergeEnd, Refusal, remuxed};
 use input_files::{ChapterFile, TextFiles, close_all, open_all};
-use merge_words::MergeWords;
 use mkv_io::{FileId, Files, List, Reads};
 use mkv_lines::CommandEnd;
 use remux_plan::Summary;
 use remuxer::remux;
+use requests::MergeWords;
 use std::alloc::Global;
 
 /// What a merge came to of which nothing was said.

@@ -2,7 +2,7 @@
 
 ghost use Rattle.mkv_io.specs.Told.{IfVisible};
 ghost use Rattle.input_files.specs.ChapterFile.{CanBeWritten};
-ghost use Rattle.merge_words.specs.Sound.{IsSoundMerge};
+ghost use Rattle.requests.specs.Sound.{IsSoundMerge};
 ghost use Rattle.input_files.specs.Inputs.{AreInputs, file_names};
 ghost use Rattle.mkv_lines.specs.Command.{HasEnded};
 ghost use Rattle.mkv_io.specs.Bounds.{ReadsUpTo};
@@ -20,9 +20,9 @@ use crate::refusal::{MergeEnd, Refusal, written};
 use crate::telling::refuse;
 use crate::writing::write;
 use input_files::{TextFiles, close_all, open_all, read_text_files};
-use merge_words::MergeWords;
 use mkv_io::{FileId, Files, Report};
 use mkv_lines::{CommandEnd, Status};
+use requests::MergeWords;
 use std::alloc::Global;
 
 /// Merges live files, the inputs of these words, unless a text file isn't there, or an edit of one of them or of the output is

@@ -8,8 +8,8 @@ ghost use Rattle.input_files.specs.TimesFile.{times_names};
 ghost use Rattle.mkv_merge.specs.Read.{first_written, is_output, is_part, read_names};
 
 use input_files::{TimesName, times_named};
-use merge_words::{FileWords, MergeWords};
 use mkv_io::{List, Text};
+use requests::{FileWords, MergeWords};
 use sidecar_edit::sidecar_name;
 use splitter::is_part_name;
 use std::alloc::{AllocError, Global};

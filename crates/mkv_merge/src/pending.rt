@@ -13,8 +13,8 @@ ghost use Rattle.mkv_merge.specs.Stages.{begun_refusal};
 use crate::refusal::Refusal;
 use crate::texts::missing_text;
 use input_files::{TextFiles, first_pending};
-use merge_words::MergeWords;
 use mkv_io::{Files, ReadEnd};
+use requests::MergeWords;
 use sidecar_edit::is_pending;
 use std::alloc::Global;
 

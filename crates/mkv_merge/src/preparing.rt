@@ -3,7 +3,7 @@
 ghost use Rattle.std.specs.Prelude.{◌≡◌, ◌*◌, IfOk};
 ghost use Rattle.mkv_io.specs.Sources.{IfTold, IsLive, file_size, live_files};
 ghost use Rattle.input_files.specs.ChapterFile.{CanBeWritten};
-ghost use Rattle.merge_words.specs.Sound.{IsSoundFile};
+ghost use Rattle.requests.specs.Sound.{IsSoundFile};
 ghost use Rattle.merge_inputs.specs.Input.{IsInput, IsReadOf, held_in};
 ghost use Rattle.mkv_merge.specs.Bound.{live_size};
 ghost use Rattle.mkv_merge.specs.Prepared.{AreInputsOf, CanPrepare, EndsReading, IfAllTold, IsPrepared, Prepares};
@@ -16,10 +16,10 @@ use crate::texts::with_times;
 use input_files::TextFiles;
 use merge_inputs::{Blocks, Input, InputEnd, read_input};
 use merge_plan::{append_refusal, assign_append_offsets, plan_of};
-use merge_words::{FileWords, MergeWords};
 use mkv_io::{FileId, List, Reads};
 use mkv_lines::CommandEnd;
 use remux_plan::MergePlan;
+use requests::{FileWords, MergeWords};
 use std::alloc::Global;
 
 /// What a merge is made of.

@@ -15,10 +15,10 @@ use crate::refusal::Refusal;
 use input_files::TextRefusal;
 use merge_inputs::{Input, InputRefusal};
 use merge_plan::PlanRefusal;
-use merge_words::{FileWords, MergeWords};
 use mkv_io::Report;
 use mkv_lines::{CommandEnd, Line, Status, say};
 use remux_plan::{InputDamage, MoreDamage, Summary};
+use requests::{FileWords, MergeWords};
 use std::alloc::Global;
 
 /// The name of an input, by its number.

@@ -14,11 +14,11 @@ ghost use Rattle.mkv_merge.specs.Told.{told_outputs, told_status, told_summary, 
 
 use crate::preparing::Prepared;
 use crate::telling::{has_absent, has_other_count, say_absent, say_uuids, warn};
-use merge_words::MergeWords;
 use mkv_io::{FileId, Files, Report};
 use mkv_lines::{CommandEnd, Line, Status, say, stop_of};
 use remux_plan::{Summary, Written};
 use remuxer::remux;
+use requests::MergeWords;
 use std::alloc::Global;
 
 /// Tells of the outputs, which stand whole.

@@ -12,7 +12,7 @@ use Rattle.mkv_disk.specs.Pair.{Pair, IsPairImage, IsSynced, both}
 use Rattle.mkv_disk.specs.declared.disk.Disk.{Ghosts}
 use Rattle.mkv_disk.proofs.MomentsLemmas.{joined, same, stays, weaker}
 use Rattle.mkv_disk.proofs.WritingLemmas.{IsLeft}
-use Rattle.word_values.specs.declared.edit.Edit.{Edit}
+use Rattle.requests.specs.declared.edit.Edit.{Edit}
 use Rattle.mkv_lines.specs.Code.{status_of}
 use Rattle.mkv_lines.specs.Said.{ReportLines}
 use Rattle.mkv_lines.specs.Verdict.{SaysVerdict, Verdict, done, nothing, refused}

@@ -1,6 +1,6 @@
 -- What `propedit` comes to: its status and its lines. All of it is this project's, after mkvpropedit(1).
 use Rattle.std.specs.Prelude.{ℕ, Bool, if◌then◌else◌, List, [], ◌∷◌, codes, Result, Ok, Err}
-use Rattle.word_values.specs.declared.edit.Edit.{Edit}
+use Rattle.requests.specs.declared.edit.Edit.{Edit}
 use Rattle.mkv_lines.specs.Line.{bad_sidecar_line, edit_refused_line, edit_too_large_line, edited_line, missing_line, no_room_line, pending_edit_line, refusal_line}
 use Rattle.mkv_lines.specs.Verdict.{Verdict, done, refused}
 use Rattle.mkv_propedit.specs.Recover.{DiskWorld}

@@ -15,9 +15,9 @@ use mkv_disk::Disk;
 use mkv_io::List;
 use mkv_lines::Line;
 use reindex::plan_index;
+use requests::Edit;
 use sidecar_edit::Plan;
 use std::alloc::Global;
-use word_values::Edit;
 
 /// A change of a file in place: the edits that words ask for, or a new index.
 #[derive(Drop)]

@@ -16,8 +16,8 @@ use crate::changing::change_file;
 use mkv_disk::Disk;
 use mkv_io::{List, Report};
 use mkv_lines::{CommandEnd, Status};
+use requests::Edit;
 use std::alloc::Global;
-use word_values::Edit;
 
 /// Makes edits of the file of a name, all of them or none, and says what came of it. A stop at any moment leaves a file
 /// and a sidecar that can be recovered.

@@ -4,7 +4,7 @@ use Rattle.mkv_io.specs.declared.damage.Damage.{Damage}
 use Rattle.mkv_disk.specs.Pair.{Pair}
 use Rattle.mkv_disk.specs.declared.disk.Disk.{Ghosts}
 use Rattle.sidecar_edit.specs.Writes.{Write, applied}
-use Rattle.word_values.specs.declared.edit.Edit.{Edit}
+use Rattle.requests.specs.declared.edit.Edit.{Edit}
 use Rattle.edit_changes.specs.declared.refusal.Refusal.{Refusal}
 use Rattle.edit_changes.specs.declared.trees.Trees.{Trees}
 use Rattle.edit_changes.specs.Change.{edited_trees}

@@ -11,7 +11,7 @@ use Rattle.mkv_io.specs.Names.{Names}
 use Rattle.mkv_io.specs.Told.{IfVisible}
 use Rattle.word_values.specs.Place.{texts}
 use Rattle.word_values.specs.declared.usage.Usage.{Usage}
-use Rattle.merge_words.specs.declared.output.MergeWords.{MergeWords}
+use Rattle.requests.specs.declared.merge.MergeWords.{MergeWords}
 use Rattle.merge_plan.specs.Plan.{Source}
 use Rattle.mkv_outputs.specs.Outputs.{with_outputs}
 use Rattle.mkv_args.specs.Words.{command}

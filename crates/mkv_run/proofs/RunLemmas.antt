@@ -29,8 +29,8 @@ use Rattle.mkv_lines.specs.declared.status.Status.{Status}
 use Rattle.mkv_lines.specs.declared.status.Status.TheVariants as status
 use Rattle.mkv_lines.specs.declared.status.CommandEnd.{CommandEnd}
 use Rattle.mkv_lines.specs.declared.status.CommandEnd.TheVariants as stop
-use Rattle.word_values.specs.declared.job.Job.{Job}
-use Rattle.word_values.specs.declared.job.Job.TheVariants as jobs
+use Rattle.requests.specs.declared.job.Job.{Job}
+use Rattle.requests.specs.declared.job.Job.TheVariants as jobs
 use Rattle.word_values.specs.declared.usage.Usage.{Usage}
 use Rattle.mkv_args.specs.declared.command.Command.{Command}
 use Rattle.mkv_args.specs.declared.command.Command.TheVariants.{Extract, Generate, Help, Identify, Info, Merge, Propedit, Recover, Reindex, Version}

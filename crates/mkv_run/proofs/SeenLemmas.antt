@@ -10,7 +10,7 @@ use Rattle.mkv_lines.specs.declared.status.Status.{Status}
 use Rattle.mkv_lines.specs.declared.status.Status.TheVariants as status
 use Rattle.mkv_propedit.specs.Recovery.{IsUnopened}
 use Rattle.mkv_run.specs.Kept.{EditKeepsRest, IndexKeepsRest}
-use Rattle.word_values.specs.declared.edit.Edit.{Edit}
+use Rattle.requests.specs.declared.edit.Edit.{Edit}
 use Rattle.mkv_run.specs.Outside.{Outside, outside}
 use Rattle.mkv_run.specs.Runs.{CrashLeavesOnly, DiskStays, FilesStay, IndexesAll, KeepsRestOf, Leaves, OpensOrLeaves}
 use Rattle.mkv_run.specs.Touched.{Reach, Touches, edited, files, indexed, nothing, recovered}

@@ -5,7 +5,7 @@ use Rattle.mkv_schema.specs.Outline.{segment_run}
 use Rattle.mkv_io.specs.declared.outside.TheConstants.{LONGEST_FILE}
 use Rattle.mkv_disk.specs.Calls.{OfReads}
 use Rattle.mkv_disk.specs.declared.disk.Disk.{Ghosts}
-use Rattle.word_values.specs.declared.edit.Edit.{Edit}
+use Rattle.requests.specs.declared.edit.Edit.{Edit}
 use Rattle.edit_changes.specs.declared.trees.Trees.{Trees}
 use Rattle.edit_changes.specs.Change.{edited_trees}
 use Rattle.edit_changes.specs.Records.{EditableFile, editable}

@@ -3,7 +3,7 @@ use Rattle.std.specs.Prelude.{◌≡◌, ◌≢◌, ◌⊎◌, ◌≤◌, ⊤, �
 use Rattle.mkv_io.specs.Asked.{AsksNone}
 use Rattle.mkv_io.specs.Told.{IfVisible}
 use Rattle.mkv_disk.specs.Pair.{IsSynced, Pair}
-use Rattle.word_values.specs.declared.edit.Edit.{Edit}
+use Rattle.requests.specs.declared.edit.Edit.{Edit}
 use Rattle.mkv_args.specs.Words.{command}
 use Rattle.mkv_lines.specs.Code.{code_of}
 use Rattle.mkv_lines.specs.declared.status.Status.{Status}

@@ -2,7 +2,7 @@
 use Rattle.std.specs.Prelude.{◌≡◌, ⊤, List, ℕ, Result, Ok, Err}
 use Rattle.mkv_io.specs.declared.reads.Reads as reads
 use Rattle.mkv_disk.specs.declared.disk.Disk as disks
-use Rattle.word_values.specs.declared.edit.Edit.{Edit}
+use Rattle.requests.specs.declared.edit.Edit.{Edit}
 use Rattle.word_values.specs.declared.usage.Usage.{Usage}
 use Rattle.mkv_args.specs.declared.command.Command.{Command}
 use Rattle.mkv_args.specs.declared.command.Command.TheVariants.{Extract, Generate, Help, Identify, Info, Merge, Propedit, Recover, Reindex, Version}

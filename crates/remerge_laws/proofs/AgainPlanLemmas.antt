@@ -45,7 +45,7 @@ use Rattle.output_records.specs.RecordLimits.{is_too_large}
 use Rattle.output_records.specs.Tracks.{output_tracks}
 use Rattle.output_records.proofs.OutputLemmas.{entry-in}
 use Rattle.output_records.proofs.RecordLemmas.{some-holds}
-use Rattle.merge_words.specs.declared.output.MergeWords.{MergeWords}
+use Rattle.requests.specs.declared.merge.MergeWords.{MergeWords}
 use Rattle.merge_inputs.specs.Input.{InputRead}
 use Rattle.merge_inputs.specs.Taken.{IsTaken, first_unusable, taken_from}
 use Rattle.merge_inputs.specs.declared.taken.TakenTrack.{TakenTrack}
@@ -63,7 +63,7 @@ use Rattle.remerge_laws.specs.AgainTracks.{ArePlainTracks}
 use Rattle.remerge_laws.specs.Alike.{AreAlike, MayBeAlike}
 use Rattle.merge_plan.specs.Identifiers.{Have64Bits, identifiers_of}
 use Rattle.remerge_laws.specs.Placed.{MayStandAs}
-use Rattle.merge_words.specs.Plain.{plain_file}
+use Rattle.requests.specs.Plain.{plain_file}
 use Rattle.remerge_laws.specs.Plain.{plain_merge}
 use Rattle.remerge_laws.specs.Records.{AreTracksOf}
 use Rattle.remerge_laws.specs.Tracks.{IsTrackOf}

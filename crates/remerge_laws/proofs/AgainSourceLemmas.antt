@@ -12,7 +12,7 @@ use Rattle.output_model.specs.Document.{Document, layout}
 use Rattle.input_files.specs.Names.{begins_ebml, is_srt, is_srt_name}
 use Rattle.input_files.specs.TextFiles.{text_files}
 use Rattle.input_files.specs.declared.text_files.TextFiles.{TextFiles}
-use Rattle.merge_words.specs.declared.output.MergeWords.{MergeWords}
+use Rattle.requests.specs.declared.merge.MergeWords.{MergeWords}
 use Rattle.merge_inputs.specs.Input.{InputRead, file_read, found_then, input_of, input_with, refusal_of, text_read}
 use Rattle.merge_inputs.specs.Input.{input_or_refusal as unless_unusable}
 use Rattle.merge_inputs.specs.Taken.{first_unusable, taken_from}
@@ -26,7 +26,7 @@ use Rattle.merge_plan.specs.Refusal.{plan_refusal}
 use Rattle.merge_plan.specs.declared.refusal.PlanRefusal.{PlanRefusal}
 use Rattle.mkv_merge.specs.Chapters.{chaptered, chapters_refusal, with_chapters}
 use Rattle.mkv_merge.specs.Merge.{refusals_read, sources_in, sources_of, warned_if, verdict_of}
-use Rattle.merge_words.specs.Plain.{plain_file}
+use Rattle.requests.specs.Plain.{plain_file}
 use Rattle.mkv_merge.specs.Read.{first_written, found_in, inputs_of, numbered, pending_of}
 use Rattle.mkv_merge.specs.Refused.{first_cause}
 use Rattle.mkv_io.specs.Results.{and_then, unless}

@@ -31,7 +31,7 @@ use Rattle.merge_laws.specs.Sources.{is_taken_type}
 use Rattle.merge_laws.proofs.EntryLemmas.{taken-whole}
 use Rattle.remerge_laws.specs.AgainLanes.{IsTakenPlain}
 use Rattle.remerge_laws.specs.AgainTracks.{AreTakenOf, ArePlainTracks, EntriesAreWrittenAgain, TracksAreTakenAgain}
-use Rattle.merge_words.specs.Plain.{plain_file}
+use Rattle.requests.specs.Plain.{plain_file}
 use Rattle.remerge_laws.specs.Records.{AreTracksOf}
 use Rattle.remerge_laws.specs.Tracks.{IsTrackOf}
 use Rattle.remerge_laws.proofs.OwnTrackLemmas.{own-tracks}

@@ -10,9 +10,9 @@ use Rattle.input_files.specs.declared.chapter_file.ChapterFile.{ChapterFile}
 use Rattle.input_files.specs.declared.chapter_file.ChapterFile.TheVariants as file
 use Rattle.input_files.specs.declared.times_file.TimesFile.{TimesFile}
 use Rattle.word_values.specs.Values.{text}
-use Rattle.word_values.specs.declared.values.CueWord.{CueWord}
-use Rattle.merge_words.specs.declared.files.FileWords.{FileWords}
-use Rattle.merge_words.specs.declared.output.MergeWords.{MergeWords}
+use Rattle.requests.specs.declared.track.CueWord.{CueWord}
+use Rattle.requests.specs.declared.merge.FileWords.{FileWords}
+use Rattle.requests.specs.declared.merge.MergeWords.{MergeWords}
 use Rattle.mkv_args.specs.declared.command.Command.TheVariants.{Merge}
 use Rattle.mkv_args.proofs.SoundLemmas.{command-sound}
 use Rattle.mkv_args.proofs.TextLemmas.{asked-texts}

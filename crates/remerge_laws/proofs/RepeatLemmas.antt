@@ -40,7 +40,7 @@ use Rattle.output_records.specs.Attachments.{file_numbers}
 use Rattle.output_records.specs.Attachments.{file_uids as uids_in_files, files_of}
 use Rattle.output_records.specs.Tracks.{output_tracks}
 use Rattle.output_records.proofs.OutputLemmas.{info-scale}
-use Rattle.merge_words.specs.declared.output.MergeWords.{MergeWords}
+use Rattle.requests.specs.declared.merge.MergeWords.{MergeWords}
 use Rattle.merge_inputs.specs.Input.{Clusters, InputRead}
 use Rattle.merge_inputs.specs.declared.taken.TakenTrack.{TakenTrack}
 use Rattle.merge_plan.specs.Front.{attachments_of, file_uids, reads_of}

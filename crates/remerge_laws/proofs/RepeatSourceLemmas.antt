@@ -14,9 +14,9 @@ use Rattle.record_laws.specs.Again.{TracksStay}
 use Rattle.record_laws.specs.Chapters.{ChaptersStay}
 use Rattle.record_laws.specs.Tags.{TagsStay}
 use Rattle.remux_plan.specs.Parts.{PlannedOutput}
-use Rattle.merge_words.specs.declared.output.MergeWords.{MergeWords}
-use Rattle.merge_words.specs.Sound.{IsSoundMerge}
-use Rattle.merge_words.specs.Texts.{AreTexts}
+use Rattle.requests.specs.declared.merge.MergeWords.{MergeWords}
+use Rattle.requests.specs.Sound.{IsSoundMerge}
+use Rattle.requests.specs.Texts.{AreTexts}
 use Rattle.merge_inputs.specs.Taken.{IsTaken}
 use Rattle.merge_plan.specs.Front.{reads_of}
 use Rattle.merge_plan.specs.Plan.{Source}

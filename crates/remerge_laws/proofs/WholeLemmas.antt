@@ -18,8 +18,8 @@ use Rattle.splitter.proofs.SectionLemmas.{whole-part}
 use Rattle.remux_plan.specs.Parts.{PlannedOutput, name_of, stretch_of}
 use Rattle.remux_plan.specs.Parts.{chapters_of as chapters_within}
 use Rattle.remux_plan.specs.Uuids.{uuids_at, with_uuids}
-use Rattle.word_values.specs.declared.lists.SplitWords.{SplitWords}
-use Rattle.merge_words.specs.declared.output.MergeWords.{MergeWords}
+use Rattle.requests.specs.declared.split.SplitWords.{SplitWords}
+use Rattle.requests.specs.declared.merge.MergeWords.{MergeWords}
 use Rattle.merge_inputs.specs.Input.{InputRead}
 use Rattle.output_records.specs.Info.{application, output_info, title_elements}
 use Rattle.output_records.specs.Limits.{first_too_large, too_large}

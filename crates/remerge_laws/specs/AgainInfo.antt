@@ -2,7 +2,7 @@
 use Rattle.std.specs.Prelude.{◌≡◌, List, ℕ, [], ◌∷◌, Option, Some}
 use Rattle.tree_format.specs.Node.{Node}
 use Rattle.tree_format.specs.Text.{HasNoZero}
-use Rattle.merge_words.specs.declared.output.MergeWords.{MergeWords}
+use Rattle.requests.specs.declared.merge.MergeWords.{MergeWords}
 use Rattle.merge_inputs.specs.Input.{InputRead}
 use Rattle.merge_inputs.specs.Title.{title_of_info}
 use Rattle.merge_plan.specs.Records.{info_of, title_of}

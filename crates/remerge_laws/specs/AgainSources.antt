@@ -5,14 +5,14 @@ use Rattle.meta_records.specs.Records.{FileRecords, file_records}
 use Rattle.output_laws.specs.Reading.{header_of_segment, outline_of_document}
 use Rattle.output_model.specs.Document.{Document, layout}
 use Rattle.input_files.specs.Inputs.{file_names}
-use Rattle.merge_words.specs.declared.output.MergeWords.{MergeWords}
+use Rattle.requests.specs.declared.merge.MergeWords.{MergeWords}
 use Rattle.merge_inputs.specs.Taken.{first_unusable, taken_from}
 use Rattle.merge_plan.specs.Front.{reads_of}
 use Rattle.merge_plan.specs.Plan.{Source}
 use Rattle.merge_plan.specs.Refusal.{plan_refusal}
 use Rattle.mkv_lines.specs.declared.status.Status.TheVariants.{Done}
 use Rattle.mkv_merge.specs.Merge.{has_damage, merge_verdict, sources_of}
-use Rattle.merge_words.specs.Plain.{plain_file}
+use Rattle.requests.specs.Plain.{plain_file}
 use Rattle.mkv_merge.specs.Read.{first_written, pending_of}
 use Rattle.remerge_laws.specs.Plain.{plain_merge}
 use Rattle.remerge_laws.specs.Repeat.{source_again}

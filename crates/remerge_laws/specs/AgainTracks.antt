@@ -14,7 +14,7 @@ use Rattle.merge_plan.specs.Records.{uids_of}
 use Rattle.merge_plan.specs.Records.{entries_of as entries_given}
 use Rattle.merge_laws.specs.Sources.{is_taken_type}
 use Rattle.remerge_laws.specs.AgainLanes.{IsTakenPlain}
-use Rattle.merge_words.specs.Plain.{plain_file}
+use Rattle.requests.specs.Plain.{plain_file}
 use Rattle.remerge_laws.specs.Records.{AreTracksOf}
 
 -- A Tracks Element has plain entries: their TrackNumbers count from 1, each is of a type that a merge takes, and none has ContentEncodings.

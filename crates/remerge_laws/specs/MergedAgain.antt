@@ -5,7 +5,7 @@ use Rattle.mkv_io.specs.Names.{Names, with_content}
 use Rattle.mkv_io.specs.Told.{IfVisible}
 use Rattle.output_model.specs.Document.{layout}
 use Rattle.remux_plan.specs.Parts.{PlannedOutput}
-use Rattle.merge_words.specs.declared.output.MergeWords.{MergeWords}
+use Rattle.requests.specs.declared.merge.MergeWords.{MergeWords}
 use Rattle.merge_plan.specs.Plan.{Source}
 use Rattle.mkv_args.specs.Words.{command}
 use Rattle.mkv_args.specs.declared.command.Command.TheVariants.{Merge}

@@ -1,7 +1,7 @@
 -- What a merge of a command line reads is plain: RFC 9559, section 5.1.4 (Tracks Element), and RFC 8794, section 7.5 (UTF-8 Element). Which words are usual is this project's.
 use Rattle.std.specs.Prelude.{◌≡◌, ℕ, List, All, Option, Ok}
 use Rattle.std.specs.Str.{IsUtf8}
-use Rattle.merge_words.specs.declared.output.MergeWords.{MergeWords}
+use Rattle.requests.specs.declared.merge.MergeWords.{MergeWords}
 use Rattle.mkv_args.specs.Words.{command}
 use Rattle.mkv_args.specs.declared.command.Command.TheVariants.{Merge}
 use Rattle.merge_plan.specs.Plan.{Source}

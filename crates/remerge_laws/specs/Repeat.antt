@@ -5,10 +5,10 @@ use Rattle.tree_format.specs.Text.{HasNoZero}
 use Rattle.meta_records.specs.Records.{FileRecords, file_records}
 use Rattle.output_laws.specs.Reading.{header_of_segment, outline_of_document}
 use Rattle.output_model.specs.Document.{Document, layout}
-use Rattle.merge_words.specs.declared.files.FileWords.{FileWords}
-use Rattle.merge_words.specs.declared.output.MergeWords.{MergeWords}
-use Rattle.merge_words.specs.Sound.{IsSoundMerge}
-use Rattle.merge_words.specs.Texts.{AreTexts}
+use Rattle.requests.specs.declared.merge.FileWords.{FileWords}
+use Rattle.requests.specs.declared.merge.MergeWords.{MergeWords}
+use Rattle.requests.specs.Sound.{IsSoundMerge}
+use Rattle.requests.specs.Texts.{AreTexts}
 use Rattle.merge_inputs.specs.Input.{input_with}
 use Rattle.merge_inputs.specs.Taken.{first_unusable, taken_from}
 use Rattle.merge_inputs.specs.declared.taken.TakenTrack.{TakenTrack}
@@ -18,7 +18,7 @@ use Rattle.merge_plan.specs.Records.{title_of, tracks_taken}
 use Rattle.merge_plan.specs.Refusal.{plan_refusal}
 use Rattle.mkv_merge.specs.Merge.{has_damage, outputs_of}
 use Rattle.mkv_merge.specs.Records.{HaveRecords}
-use Rattle.merge_words.specs.Plain.{plain_file}
+use Rattle.requests.specs.Plain.{plain_file}
 use Rattle.merge_laws.specs.Merge.{laid_out}
 use Rattle.merge_laws.specs.Sources.{AreSources}
 use Rattle.remerge_laws.specs.Limits.{IsWithinLimits}

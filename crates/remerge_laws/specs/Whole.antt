@@ -2,7 +2,7 @@
 use Rattle.std.specs.Prelude.{◌≡◌, List, [], ◌∷◌, None}
 use Rattle.output_model.specs.Cued.{document_of}
 use Rattle.output_model.specs.Document.{Document}
-use Rattle.merge_words.specs.declared.output.MergeWords.{MergeWords}
+use Rattle.requests.specs.declared.merge.MergeWords.{MergeWords}
 use Rattle.merge_plan.specs.Front.{front_of, reads_of}
 use Rattle.merge_plan.specs.Plan.{Source, limits_of, rules_given}
 use Rattle.merge_plan.specs.Records.{chapters_of, tags_of}

@@ -4,7 +4,7 @@ use Rattle.std.specs.Prelude.{codes}
 use Rattle.std.specs.Fmt.{digits}
 use Rattle.lacing.specs.declared.kind.Lace.TheVariants as lace
 use Rattle.output_model.specs.OutputBlock.{OutputBlock}
-use Rattle.word_values.specs.declared.lists.SpanWords.{SpanWords}
+use Rattle.requests.specs.declared.split.SpanWords.{SpanWords}
 use Rattle.splitter.specs.declared.spec.SplitSpec.{SplitSpec}
 use Rattle.splitter.specs.declared.spec.SplitSpec.TheVariants.{Whole, Duration, Times, Parts}
 use Rattle.splitter.specs.Names.{is_part_name, part_name}

@@ -1,8 +1,8 @@
 -- Where an output is split, by its words. The rule is this project's, after mkvmerge(1).
 use Rattle.std.specs.Prelude.{ℕ, zero, suc, List, filter_map, Option, Some, None}
 use Rattle.std.specs.List.{slice_get}
-use Rattle.word_values.specs.declared.lists.SplitWords.{SplitWords}
-use Rattle.word_values.specs.declared.lists.SplitWords.TheVariants as words
+use Rattle.requests.specs.declared.split.SplitWords.{SplitWords}
+use Rattle.requests.specs.declared.split.SplitWords.TheVariants as words
 use Rattle.splitter.specs.declared.spec.SplitSpec.{SplitSpec}
 use Rattle.splitter.specs.declared.spec.SplitSpec.TheVariants.{Whole, Duration, Times, Parts}
 

@@ -16,6 +16,6 @@ pub use laws::{
     whole_is_one_part,
 };
 pub use names::{is_part_name, part_name};
+pub use requests::SpanWords;
 pub use spec::SplitSpec;
-pub use word_values::SpanWords;
 pub use words::{split_size, split_spec};

@@ -5,7 +5,7 @@ ghost use Rattle.std.specs.List.{list_any};
 ghost use Rattle.splitter.specs.Split.{has_come, holds, is_over, is_within, keeps, passes};
 
 use mkv_io::List;
-use word_values::SpanWords;
+use requests::SpanWords;
 
 /// Where an output is split: mkvmerge's `--split`. Times are in nanoseconds from the start of the output.
 #[derive(Debug, Drop)]

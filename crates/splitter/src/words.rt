@@ -6,8 +6,8 @@ ghost use Rattle.splitter.specs.Words.{size_of, spec_of, start_at};
 
 use crate::spec::SplitSpec;
 use mkv_io::List;
+use requests::SplitWords;
 use std::alloc::{AllocError, Global};
-use word_values::SplitWords;
 
 // Where the chapter of this number starts, from 1 on, if there is one.
 fn start_at(starts: &[u64], number: u64) -> Option<u64>

@@ -10,7 +10,7 @@ use Rattle.block_format.specs.Block.{Block}
 use Rattle.block_format.specs.Events.{blocks_of}
 use Rattle.file_format.specs.FileBlocks.{file_events}
 use Rattle.meta_records.specs.Records.{FileRecords, file_records}
-use Rattle.word_values.specs.declared.job.Form.TheVariants.{Times}
+use Rattle.requests.specs.declared.job.Form.TheVariants.{Times}
 use Rattle.mkv_outputs.specs.Outputs.{Output}
 use Rattle.extractors.specs.Codec.{times_head}
 use Rattle.extractors.specs.Content.{content_of, output_of, outputs_of}

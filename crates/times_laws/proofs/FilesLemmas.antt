@@ -9,7 +9,7 @@ use Rattle.std.proofs.lemmas.List.{map-append}
 use Rattle.std.proofs.lemmas.List.Elements.{All-append, All-cons, All-head, All-map, All-nil, All-tail, All-weaker, filter-append}
 use Rattle.std.proofs.lemmas.List.Folds.{find-append}
 use Rattle.ext_times.specs.Listing.{Listing, listing}
-use Rattle.merge_words.specs.declared.files.FileWords.{FileWords}
+use Rattle.requests.specs.declared.merge.FileWords.{FileWords}
 use Rattle.input_files.specs.TextFile.{unless_bad}
 use Rattle.input_files.specs.TimesFile.{given_by, given_with, named_from, named_of, size_with, times_from}
 use Rattle.input_files.specs.declared.limits.TheConstants.{MAX_ALL_TIMES_LEN, MAX_TIMES_LEN}

@@ -27,7 +27,7 @@ use Rattle.merge_model.specs.Links.{Given, track_given}
 use Rattle.merge_model.specs.Timed.{timed}
 use Rattle.times_laws.specs.Given.{IsTimedBlock, of_track}
 use Rattle.times_laws.proofs.BlocksLemmas.{nothing_changes}
-use Rattle.merge_words.specs.declared.files.FileWords.{FileWords}
+use Rattle.requests.specs.declared.merge.FileWords.{FileWords}
 use Rattle.merge_inputs.specs.Input.{BlocksRead, Clusters, InputRead, input_of}
 use Rattle.merge_inputs.specs.Taken.{taken_from, value_for}
 use Rattle.merge_inputs.specs.declared.taken.TakenTrack.{TakenTrack}

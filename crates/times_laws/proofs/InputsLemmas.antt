@@ -6,7 +6,7 @@ use Rattle.mkv_io.specs.declared.damage.Damage.{Damage}
 use Rattle.mkv_schema.specs.Outline.{Outlined, outline_of}
 use Rattle.meta_records.specs.Records.{FileRecords, file_records}
 use Rattle.track_records.specs.declared.track.Track.{Track}
-use Rattle.merge_words.specs.declared.files.FileWords.{FileWords}
+use Rattle.requests.specs.declared.merge.FileWords.{FileWords}
 use Rattle.input_files.specs.Inputs.{file_names}
 use Rattle.input_files.specs.Names.{is_srt}
 use Rattle.input_files.specs.TextFile.{srt_text}

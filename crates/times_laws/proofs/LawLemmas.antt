@@ -4,8 +4,8 @@ use Rattle.std.proofs.lemmas.List.{length-map}
 use Rattle.ebml_numbers.specs.Number.{AreOctets}
 use Rattle.input_files.specs.TimesFile.{times_files, times_named}
 use Rattle.input_files.specs.declared.times_file.TimesFile.{TimesFile}
-use Rattle.merge_words.specs.declared.files.FileWords.{FileWords}
-use Rattle.merge_words.specs.declared.output.MergeWords.{MergeWords}
+use Rattle.requests.specs.declared.merge.FileWords.{FileWords}
+use Rattle.requests.specs.declared.merge.MergeWords.{MergeWords}
 use Rattle.merge_inputs.specs.Input.{InputRead, input_of}
 use Rattle.mkv_merge.specs.Merge.{sources_of}
 use Rattle.times_laws.specs.GivenBack.{TimesGivenBackChangeNothing, is_too_long, with_input}

@@ -21,7 +21,7 @@ use Rattle.meta_records.specs.Records.{FileRecords, file_records, first_tree, go
 use Rattle.meta_records.specs.Attached.{first_attached}
 use Rattle.mkv_schema.specs.declared.ids.TheConstants.{CHAPTERS, TAGS}
 use Rattle.input_files.specs.Names.{begins_ebml, is_srt, is_srt_name}
-use Rattle.merge_words.specs.declared.files.FileWords.{FileWords}
+use Rattle.requests.specs.declared.merge.FileWords.{FileWords}
 use Rattle.merge_inputs.specs.Input.{Clusters, InputRead, file_read, found_then, input_of, input_with, refusal_of, text_read, input_or_refusal}
 use Rattle.merge_inputs.specs.Select.{is_taken}
 use Rattle.merge_inputs.specs.Taken.{taken_from, taken_one, taken_track}

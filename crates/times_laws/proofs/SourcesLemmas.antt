@@ -10,8 +10,8 @@ use Rattle.output_records.specs.Limits.{first_too_large}
 use Rattle.output_records.specs.Tracks.{output_tracks}
 use Rattle.output_records.specs.Chapters.{merged_chapters}
 use Rattle.output_records.specs.Tags.{merged_tags}
-use Rattle.merge_words.specs.declared.files.FileWords.{FileWords}
-use Rattle.merge_words.specs.declared.output.MergeWords.{MergeWords}
+use Rattle.requests.specs.declared.merge.FileWords.{FileWords}
+use Rattle.requests.specs.declared.merge.MergeWords.{MergeWords}
 use Rattle.input_files.specs.Inputs.{file_names, first_missing, first_pending}
 use Rattle.input_files.specs.TextFiles.{text_files}
 use Rattle.input_files.specs.TimesFile.{times_files}

@@ -18,8 +18,8 @@ use Rattle.splitter.specs.Sections.{Part, parts}
 use Rattle.splitter.specs.Words.{size_of, spec_of}
 use Rattle.remux_plan.specs.Parts.{PlannedOutput, chapters_of, drives_by, name_of, stretch_of}
 use Rattle.remuxer.specs.Output.{drafts_of}
-use Rattle.merge_words.specs.declared.files.FileWords.{FileWords}
-use Rattle.merge_words.specs.declared.output.MergeWords.{MergeWords}
+use Rattle.requests.specs.declared.merge.FileWords.{FileWords}
+use Rattle.requests.specs.declared.merge.MergeWords.{MergeWords}
 use Rattle.input_files.specs.declared.times_file.TimesName.{TimesName}
 use Rattle.merge_inputs.specs.Input.{InputRead}
 use Rattle.merge_inputs.specs.declared.taken.TakenTrack.{TakenTrack}

@@ -2,12 +2,12 @@
 use Rattle.std.specs.Prelude.{◌≡◌, ℕ, zero, suc, ◌==◌, Bool, true, false, not, List, [], ◌∷◌, ◌++◌, filter, map, slice_get, Option, Some, IfSome}
 use Rattle.std.specs.List.{list_any}
 use Rattle.ebml_numbers.specs.Number.{AreOctets}
-use Rattle.word_values.specs.declared.job.Job.{Job}
-use Rattle.word_values.specs.declared.job.Job.TheVariants.{Tracks}
-use Rattle.word_values.specs.declared.job.Form.TheVariants.{Times}
+use Rattle.requests.specs.declared.job.Job.{Job}
+use Rattle.requests.specs.declared.job.Job.TheVariants.{Tracks}
+use Rattle.requests.specs.declared.job.Form.TheVariants.{Times}
 use Rattle.extractors.specs.Whole.{output}
-use Rattle.merge_words.specs.declared.files.FileWords.{FileWords}
-use Rattle.merge_words.specs.declared.output.MergeWords.{MergeWords}
+use Rattle.requests.specs.declared.merge.FileWords.{FileWords}
+use Rattle.requests.specs.declared.merge.MergeWords.{MergeWords}
 use Rattle.input_files.specs.TimesFile.{times_files}
 use Rattle.input_files.specs.declared.refusal.TextRefusal.TheVariants.{Bad, TooLarge}
 use Rattle.input_files.specs.declared.times_file.TimesFile.{TimesFile}

@@ -6,10 +6,10 @@ use Rattle.std.proofs.lemmas.List.{append-nil}
 use Rattle.std.proofs.lemmas.List.Elements.{All-head, All-tail}
 use Rattle.std.specs.Fmt.{decimal}
 use Rattle.mkv_io.specs.Names.{AreOthers, AreApart}
-use Rattle.word_values.specs.declared.job.Form.TheVariants as form
-use Rattle.word_values.specs.declared.job.Job.{Job}
-use Rattle.word_values.specs.declared.job.Job.TheVariants as jobs
-use Rattle.word_values.specs.declared.job.Target.{Target}
+use Rattle.requests.specs.declared.job.Form.TheVariants as form
+use Rattle.requests.specs.declared.job.Job.{Job}
+use Rattle.requests.specs.declared.job.Job.TheVariants as jobs
+use Rattle.requests.specs.declared.job.Target.{Target}
 use Rattle.word_values.specs.Place.{is_option}
 use Rattle.mkv_args.specs.declared.command.Command.TheVariants as commands
 use Rattle.mkv_args.specs.declared.commands.Verb.TheVariants as verb

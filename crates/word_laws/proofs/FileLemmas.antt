@@ -7,13 +7,13 @@ use Rattle.std.proofs.lemmas.List.Sums.{sum_by-append}
 use Rattle.std.specs.List.{AllZip}
 use Rattle.word_values.specs.declared.values.Value.TheVariants.{Flag, File, TrackDelay, TrackText, TrackLanguage, TrackFlag, TrackCues, TrackFile}
 use Rattle.word_values.specs.declared.values.ValueForm.TheVariants as form
-use Rattle.merge_words.specs.declared.files.FileWords.{FileWords}
+use Rattle.requests.specs.declared.merge.FileWords.{FileWords}
 use Rattle.merge_words.specs.declared.options.Subject.TheVariants as subject
 use Rattle.merge_words.specs.declared.options.Scope.TheVariants as scope
 use Rattle.merge_words.specs.Options.{meaning_of, table}
 use Rattle.merge_words.specs.Items.{item_at, append_at, file_at, files_in, stands, is_file, since_file}
 use Rattle.merge_words.specs.Merge.{starts, read_all}
-use Rattle.merge_words.specs.Sound.{IsSoundFile}
+use Rattle.requests.specs.Sound.{IsSoundFile}
 use Rattle.word_laws.specs.Names.{IsInputName}
 use Rattle.word_laws.specs.Values.{delay_word, flag_word, cues_word}
 use Rattle.word_laws.specs.SpelledMerge.{flag, parts_joined, file_options, file_words}

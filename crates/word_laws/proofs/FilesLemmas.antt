@@ -5,14 +5,14 @@ use Rattle.std.proofs.lemmas.Bool.Decides.{nat_tests}
 use Rattle.std.proofs.lemmas.List.{append-nil}
 use Rattle.std.proofs.lemmas.List.Elements.{All-head, All-tail}
 use Rattle.word_values.specs.declared.values.Value.TheVariants.{File}
-use Rattle.merge_words.specs.declared.files.FileWords.{FileWords}
+use Rattle.requests.specs.declared.merge.FileWords.{FileWords}
 use Rattle.merge_words.specs.declared.options.Subject.TheVariants as subject
 use Rattle.merge_words.specs.declared.options.Scope.{Scope}
 use Rattle.merge_words.specs.declared.options.Scope.TheVariants as scope
 use Rattle.merge_words.specs.Items.{files_in, stands, is_file, since_file}
 use Rattle.merge_words.specs.Files.{file}
 use Rattle.merge_words.specs.Merge.{starts, read_all}
-use Rattle.merge_words.specs.Sound.{IsSoundFile}
+use Rattle.requests.specs.Sound.{IsSoundFile}
 use Rattle.merge_words.proofs.ItemsLemmas.{latest_file, since_latest}
 use Rattle.merge_words.proofs.FilesLemmas.{files_from}
 use Rattle.word_laws.specs.SpelledMerge.{file_words}

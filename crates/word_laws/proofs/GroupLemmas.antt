@@ -7,7 +7,7 @@ use Rattle.std.proofs.lemmas.List.Folds.{list_any-append}
 use Rattle.std.proofs.lemmas.List.Elements.{All-nil, All-cons, All-head, All-tail}
 use Rattle.std.specs.List.{list_any}
 use Rattle.word_values.specs.declared.values.Value.{Value}
-use Rattle.word_values.specs.Lists.{differ}
+use Rattle.requests.specs.Lists.{differ}
 use Rattle.merge_words.specs.declared.options.Subject.{Subject}
 use Rattle.merge_words.specs.declared.options.Subject.TheVariants as subject
 use Rattle.merge_words.specs.declared.options.Scope.{Scope}

@@ -8,8 +8,8 @@ use Rattle.std.proofs.lemmas.List.Elements.{All-head, All-tail}
 use Rattle.std.proofs.lemmas.List.Concat.{flat_map-append}
 use Rattle.word_values.specs.declared.values.Value.{Value}
 use Rattle.word_values.specs.declared.values.Value.TheVariants.{Flag, File, Text, Scale, Split}
-use Rattle.merge_words.specs.declared.files.FileWords.{FileWords}
-use Rattle.merge_words.specs.declared.output.MergeWords.{MergeWords}
+use Rattle.requests.specs.declared.merge.FileWords.{FileWords}
+use Rattle.requests.specs.declared.merge.MergeWords.{MergeWords}
 use Rattle.merge_words.specs.declared.options.Subject.{Subject}
 use Rattle.merge_words.specs.declared.options.Subject.TheVariants as subject
 use Rattle.merge_words.specs.declared.options.Scope.TheVariants as scope
@@ -20,13 +20,13 @@ use Rattle.merge_words.specs.Files.{ids_of, file}
 use Rattle.merge_words.specs.Output.{merge_words as said_by, title_in, scale_in, blocks_in, span_in, uuids_in}
 use Rattle.merge_words.specs.Merge.{starts, read_all, items, complete, merged, linking, unlinked}
 use Rattle.merge_words.proofs.FilesLemmas.{files_from, parted_files}
-use Rattle.merge_words.specs.Sound.{IsSoundMerge, IsSoundFile}
+use Rattle.requests.specs.Sound.{IsSoundMerge, IsSoundFile}
 use Rattle.mkv_args.specs.declared.command.Command.TheVariants as commands
 use Rattle.mkv_args.specs.declared.commands.Verb.TheVariants as verb
 use Rattle.mkv_args.specs.Merge.{merge}
 use Rattle.mkv_args.specs.Words.{command, command_named}
 use Rattle.word_laws.specs.Values.{split_word}
-use Rattle.word_values.specs.declared.lists.SplitWords.{SplitWords}
+use Rattle.requests.specs.declared.split.SplitWords.{SplitWords}
 use Rattle.word_laws.specs.SpelledMerge.{unusual, file_words, merge_words}
 use Rattle.word_laws.specs.SpellableMerge.{IsLinkable, IsLength, IsMergeFile, IsSpellableMerge}
 use Rattle.word_laws.proofs.SimpleLemmas.{by_verb}

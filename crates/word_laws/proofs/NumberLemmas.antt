@@ -3,7 +3,7 @@ use Rattle.std.proofs.Common.{◌≡◌, ℕ, ◌^◌, ◌<◌, ◌≤◌, List,
 use Rattle.std.proofs.lemmas.Fmt.{decimal_is_IsNumeral, decimal_nonempty, length-decimal-le}
 use Rattle.std.specs.Fmt.{decimal}
 use Rattle.mkv_io.proofs.OctetsLemmas.{decimal_all, decimal_lacks, cut_behind}
-use Rattle.word_values.specs.Numbers.{whole, number}
+use Rattle.requests.specs.Decimal.{whole, number}
 use Rattle.word_values.specs.Values.{track_and_rest}
 use Rattle.word_laws.specs.Values.{HasFewDigits, with_number}
 

@@ -6,18 +6,18 @@ use Rattle.word_values.specs.declared.values.Value.{Value}
 use Rattle.word_values.specs.declared.values.Value.TheVariants.{Flag, File, Text, Scale, Blocks, Span, Split, Uuids}
 use Rattle.word_values.specs.declared.values.ValueForm.{ValueForm}
 use Rattle.word_values.specs.declared.values.ValueForm.TheVariants as form
-use Rattle.word_values.specs.declared.lists.SplitWords.{SplitWords}
-use Rattle.word_values.specs.Sound.{IsWithin, IsSoundSplit, AreUuids}
+use Rattle.requests.specs.declared.split.SplitWords.{SplitWords}
+use Rattle.requests.specs.Sound.{IsWithin, IsSoundSplit, AreUuids}
 use Rattle.word_values.specs.Values.{flag_of, value_of}
 use Rattle.merge_words.specs.Items.{track_in}
-use Rattle.merge_words.specs.declared.output.MergeWords.{MergeWords}
+use Rattle.requests.specs.declared.merge.MergeWords.{MergeWords}
 use Rattle.merge_words.specs.declared.options.Subject.{Subject}
 use Rattle.merge_words.specs.declared.options.Subject.TheVariants as subject
 use Rattle.merge_words.specs.declared.options.Scope.TheVariants as scope
 use Rattle.merge_words.specs.Options.{meaning_of, table}
 use Rattle.merge_words.specs.Files.{ids_of}
 use Rattle.merge_words.specs.Merge.{starts, read_all}
-use Rattle.merge_words.specs.Sound.{IsSoundMerge}
+use Rattle.requests.specs.Sound.{IsSoundMerge}
 use Rattle.word_laws.specs.Values.{with_commas, last_digits, split_word, uuids_word}
 use Rattle.word_laws.specs.SpelledMerge.{parts_joined, unusual, with_value, output_options}
 use Rattle.word_laws.specs.SpellableMerge.{IsText, IsSpellableMerge, IsSplit}

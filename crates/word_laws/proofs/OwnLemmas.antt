@@ -1,10 +1,10 @@
 -- What is read of the options for a file is what they were spelled from.
 use Rattle.std.proofs.Common.{◌≡◌, ℕ, not, List, [], ◌∷◌, ◌++◌, codes, refl, sym, ◌∙◌, option_and_then, unwrap_or, flat_map}
 use Rattle.std.proofs.lemmas.List.{append-nil}
-use Rattle.word_values.specs.declared.lists.Select.{Select}
-use Rattle.word_values.specs.declared.lists.Select.TheVariants as select
+use Rattle.requests.specs.declared.track.Select.{Select}
+use Rattle.requests.specs.declared.track.Select.TheVariants as select
 use Rattle.word_values.specs.declared.values.Value.TheVariants.{Flag, File, TrackDelay, TrackText, TrackLanguage, TrackFlag, TrackCues, TrackFile}
-use Rattle.merge_words.specs.declared.files.FileWords.{FileWords}
+use Rattle.requests.specs.declared.merge.FileWords.{FileWords}
 use Rattle.merge_words.specs.declared.options.Subject.TheVariants as subject
 use Rattle.merge_words.specs.Items.{stands}
 use Rattle.merge_words.specs.Said.{tracks_of, delay_of, track_text_of, track_language_of, track_flag_of, track_cues_of, track_file_of}

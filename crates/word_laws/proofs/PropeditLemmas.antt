@@ -6,11 +6,11 @@ use Rattle.std.proofs.lemmas.List.{append-nil}
 use Rattle.std.proofs.lemmas.List.Elements.{All-head, All-tail}
 use Rattle.std.specs.Char.{is_ascii_digit}
 use Rattle.std.specs.Fmt.{decimal}
-use Rattle.word_values.specs.declared.edit.Edit.{Edit}
-use Rattle.word_values.specs.declared.edit.Change.{Change}
-use Rattle.word_values.specs.declared.edit.Change.TheVariants as change
-use Rattle.word_values.specs.declared.edit.Selector.{Selector}
-use Rattle.word_values.specs.declared.edit.Selector.TheVariants as spot
+use Rattle.requests.specs.declared.edit.Edit.{Edit}
+use Rattle.requests.specs.declared.edit.Change.{Change}
+use Rattle.requests.specs.declared.edit.Change.TheVariants as change
+use Rattle.requests.specs.declared.edit.Selector.{Selector}
+use Rattle.requests.specs.declared.edit.Selector.TheVariants as spot
 use Rattle.mkv_args.specs.declared.command.Command.TheVariants as commands
 use Rattle.mkv_args.specs.declared.commands.Verb.TheVariants as verb
 use Rattle.mkv_args.specs.declared.propedit.EditOptionKind.TheVariants as step

@@ -6,15 +6,16 @@ use Rattle.std.proofs.lemmas.Bool.Decides.{nat_tests}
 use Rattle.std.proofs.lemmas.Fmt.{decimal_nonempty, length-decimal-le}
 use Rattle.std.specs.Str.{bytes_eq}
 use Rattle.std.specs.Fmt.{decimal}
-use Rattle.word_values.specs.declared.lists.SpanWords.{SpanWords}
-use Rattle.word_values.specs.declared.lists.SplitWords.{SplitWords}
-use Rattle.word_values.specs.declared.lists.SplitWords.TheVariants as split_by
+use Rattle.requests.specs.declared.split.SpanWords.{SpanWords}
+use Rattle.requests.specs.declared.split.SplitWords.{SplitWords}
+use Rattle.requests.specs.declared.split.SplitWords.TheVariants as split_by
 use Rattle.word_values.specs.declared.values.Value.TheVariants.{Split, Uuids}
 use Rattle.word_values.specs.declared.values.ValueForm.TheVariants as form
-use Rattle.word_values.specs.Numbers.{ends, whole, time, size, amount, uuid}
+use Rattle.word_values.specs.Numbers.{ends, time, size, amount, uuid}
+use Rattle.requests.specs.Decimal.{whole}
 use Rattle.word_values.specs.Lists.{times, span, spans, duration, chapters, split_of, split, uuids}
 use Rattle.word_values.specs.Values.{value_of}
-use Rattle.word_values.specs.Sound.{IsSoundSplit, IsSpan, AreUuids}
+use Rattle.requests.specs.Sound.{IsSoundSplit, IsSpan, AreUuids}
 use Rattle.mkv_io.specs.Octets.{lacks}
 use Rattle.word_laws.specs.Values.{is_in, size_word, with_commas, numbers_word, last_digits, time_word, span_word, split_word}
 use Rattle.word_laws.specs.SpellableMerge.{is_size, AreIds, IsSplit}

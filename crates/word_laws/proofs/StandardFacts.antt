@@ -2,13 +2,13 @@
 use Rattle.std.proofs.Common.{◌≢◌, ◌<◌, ◌^◌, inl, arith, ◌≡◌, ℕ, ◌==◌, true, false, List, [], ◌∷◌, codes, Some, map, refl, pos, neg_ℤ}
 use Rattle.std.specs.List.{slice_split}
 use Rattle.std.specs.Fmt.{digits}
-use Rattle.word_values.specs.declared.edit.Change.TheVariants.{Set, Delete}
-use Rattle.word_values.specs.declared.edit.Selector.TheVariants.{Info, Typed}
-use Rattle.word_values.specs.declared.job.Form.TheVariants as form
-use Rattle.word_values.specs.declared.job.Job.TheVariants as jobs
-use Rattle.word_values.specs.declared.lists.Select.TheVariants.{AllBut, Off}
-use Rattle.word_values.specs.declared.lists.SplitWords.TheVariants as splits
-use Rattle.word_values.specs.declared.values.CueWord.TheVariants.{Never}
+use Rattle.requests.specs.declared.edit.Change.TheVariants.{Set, Delete}
+use Rattle.requests.specs.declared.edit.Selector.TheVariants.{Info, Typed}
+use Rattle.requests.specs.declared.job.Form.TheVariants as form
+use Rattle.requests.specs.declared.job.Job.TheVariants as jobs
+use Rattle.requests.specs.declared.track.Select.TheVariants.{AllBut, Off}
+use Rattle.requests.specs.declared.split.SplitWords.TheVariants as splits
+use Rattle.requests.specs.declared.track.CueWord.TheVariants.{Never}
 use Rattle.mkv_args.specs.declared.command.Command.TheVariants as commands
 use Rattle.mkv_args.specs.declared.commands.Verb.TheVariants as verb
 use Rattle.word_laws.specs.Values.{HasFewDigits, last_digits}
@@ -16,9 +16,9 @@ use Rattle.word_laws.specs.Spelled.{spelled}
 use Rattle.std.proofs.lemmas.List.Elements.{All-nil, All-cons}
 use Rattle.std.proofs.lemmas.Slice.Eq.{bytes_eq-Decides}
 use Rattle.std.specs.Str.{bytes_eq}
-use Rattle.merge_words.specs.Plain.{plain_file, plain_words}
-use Rattle.merge_words.specs.declared.files.FileWords.{FileWords}
-use Rattle.merge_words.specs.declared.output.MergeWords.{MergeWords}
+use Rattle.requests.specs.Plain.{plain_file, plain_words}
+use Rattle.requests.specs.declared.merge.FileWords.{FileWords}
+use Rattle.requests.specs.declared.merge.MergeWords.{MergeWords}
 use Rattle.word_laws.specs.SpellableMerge.{AreOfTracks, IsDelay, IsText, IsLanguage, IsMergeFile, IsSpellableMerge}
 
 -- the words of a line, which stand apart by one space each

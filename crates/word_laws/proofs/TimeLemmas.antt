@@ -12,10 +12,11 @@ use Rattle.std.specs.Char.{is_ascii_digit, digit_char}
 use Rattle.std.specs.Str.Parse.{digits_value}
 use Rattle.std.specs.Fmt.{decimal}
 use Rattle.std.proofs.lemmas.Bool.{and_parts}
-use Rattle.word_values.specs.declared.lists.SpanWords.{SpanWords}
-use Rattle.word_values.specs.Numbers.{whole, minutes_or_seconds, fraction, seconds, clock, ends, time, is_hex, uuid}
+use Rattle.requests.specs.declared.split.SpanWords.{SpanWords}
+use Rattle.word_values.specs.Numbers.{minutes_or_seconds, fraction, seconds, clock, ends, time, is_hex, uuid}
+use Rattle.requests.specs.Decimal.{whole}
 use Rattle.word_values.specs.Lists.{span, span_of}
-use Rattle.word_values.specs.Sound.{IsSpan}
+use Rattle.requests.specs.Sound.{IsSpan}
 use Rattle.mkv_io.specs.Octets.{lacks}
 use Rattle.word_laws.specs.Values.{last_digits, time_word, end_word, span_word}
 use Rattle.mkv_io.proofs.OctetsLemmas.{decimal_lacks, digits_lack, cut_behind, lacks_both}

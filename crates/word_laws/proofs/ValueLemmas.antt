@@ -10,15 +10,16 @@ use Rattle.std.proofs.lemmas.List.Splits.{slice_split_none, slice_split_at}
 use Rattle.std.specs.List.{list_all, list_any}
 use Rattle.std.specs.Char.{is_ascii_digit}
 use Rattle.std.specs.Fmt.{decimal}
-use Rattle.word_values.specs.declared.lists.Select.TheVariants as select
-use Rattle.word_values.specs.declared.values.CueWord.{CueWord}
-use Rattle.word_values.specs.declared.values.CueWord.TheVariants as cue
+use Rattle.requests.specs.declared.track.Select.TheVariants as select
+use Rattle.requests.specs.declared.track.CueWord.{CueWord}
+use Rattle.requests.specs.declared.track.CueWord.TheVariants as cue
 use Rattle.word_values.specs.declared.values.Value.TheVariants.{Scale, Blocks, Span, Tracks, TrackDelay, TrackText, TrackLanguage, TrackFlag, TrackCues, TrackFile}
 use Rattle.word_values.specs.declared.values.ValueForm.TheVariants as form
-use Rattle.word_values.specs.Numbers.{number, delay_size, delay, ends, front}
+use Rattle.word_values.specs.Numbers.{delay_size, delay, ends, front}
+use Rattle.requests.specs.Decimal.{number}
 use Rattle.word_values.specs.Lists.{pieces, each, numbers, ids}
 use Rattle.word_values.specs.Values.{text, is_language, language, scale, cluster_length, track_flag, cue_word, track_value, value_of}
-use Rattle.word_values.specs.Sound.{IsWithin}
+use Rattle.requests.specs.Sound.{IsWithin}
 use Rattle.mkv_io.specs.Octets.{lacks}
 use Rattle.word_laws.specs.Values.{HasFewDigits, with_number, with_commas, numbers_word, delay_word, flag_word, cues_word}
 use Rattle.mkv_io.proofs.OctetsLemmas.{digit_is_not, lacks_parts, decimal_all, decimal_lacks, first_other}

@@ -1,7 +1,7 @@
 -- What is spelled is read, and a title that is read is a text.
 use Rattle.std.specs.Prelude.{◌≡◌, ℕ, List, Some, IfSome, Ok}
 use Rattle.word_values.specs.Values.{text}
-use Rattle.merge_words.specs.declared.output.MergeWords.{MergeWords}
+use Rattle.requests.specs.declared.merge.MergeWords.{MergeWords}
 use Rattle.mkv_args.specs.declared.command.Command.{Command}
 use Rattle.mkv_args.specs.declared.command.Command.TheVariants.{Merge}
 use Rattle.mkv_args.specs.Sound.{IsSound}

@@ -1,14 +1,14 @@
 -- Which merges have a spelling: beside their limits, what words can say of them.
 use Rattle.std.specs.Prelude.{◌≡◌, ◌⊎◌, ◌<◌, IfSome, ⊤, ℕ, ℤ, ◌-◌, ◌%◌, ◌^◌, ◌==◌, ◌||◌, nat_lt, nat_abs, All, length, Bool, true, false, List, [], ◌∷◌, map}
 use Rattle.std.specs.List.{flat_map}
-use Rattle.word_values.specs.declared.lists.Select.{Select}
-use Rattle.word_values.specs.declared.lists.Select.TheVariants as select
-use Rattle.word_values.specs.declared.lists.SplitWords.{SplitWords}
-use Rattle.word_values.specs.declared.lists.SplitWords.TheVariants as split
-use Rattle.word_values.specs.Lists.{differ}
+use Rattle.requests.specs.declared.track.Select.{Select}
+use Rattle.requests.specs.declared.track.Select.TheVariants as select
+use Rattle.requests.specs.declared.split.SplitWords.{SplitWords}
+use Rattle.requests.specs.declared.split.SplitWords.TheVariants as split
+use Rattle.requests.specs.Lists.{differ}
 use Rattle.word_values.specs.Values.{is_language}
-use Rattle.merge_words.specs.declared.files.FileWords.{FileWords}
-use Rattle.merge_words.specs.declared.output.MergeWords.{MergeWords}
+use Rattle.requests.specs.declared.merge.FileWords.{FileWords}
+use Rattle.requests.specs.declared.merge.MergeWords.{MergeWords}
 use Rattle.merge_words.specs.Files.{ids_of_select, once}
 use Rattle.word_laws.specs.Names.{IsInputName}
 use Rattle.mkv_io.specs.Octets.{lacks}

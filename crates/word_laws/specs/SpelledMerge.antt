@@ -2,10 +2,10 @@
 use Rattle.std.specs.Prelude.{ℕ, ◌/◌, ◌==◌, Bool, true, false, not, if◌then◌else◌, List, [], ◌∷◌, ◌++◌, codes, Option, Some, None, option_map}
 use Rattle.std.specs.List.{flat_map}
 use Rattle.std.specs.Fmt.{decimal}
-use Rattle.word_values.specs.declared.lists.Select.{Select}
-use Rattle.word_values.specs.declared.lists.Select.TheVariants as select
-use Rattle.merge_words.specs.declared.files.FileWords.{FileWords}
-use Rattle.merge_words.specs.declared.output.MergeWords.{MergeWords}
+use Rattle.requests.specs.declared.track.Select.{Select}
+use Rattle.requests.specs.declared.track.Select.TheVariants as select
+use Rattle.requests.specs.declared.merge.FileWords.{FileWords}
+use Rattle.requests.specs.declared.merge.MergeWords.{MergeWords}
 use Rattle.word_laws.specs.Values.{with_number, numbers_word, split_word, uuids_word, delay_word, flag_word, cues_word}
 
 -- an option without a value, where it is said

@@ -2,11 +2,11 @@
 use Rattle.std.specs.Prelude.{ℕ, zero, suc, ◌/◌, ◌%◌, ◌^◌, ◌<◌, ◌==◌, ℤ, nat_abs, pos, Bool, ◌&&◌, nat_lt, if◌then◌else◌, List, [], ◌∷◌, ◌++◌, map, codes, Option, Some, None}
 use Rattle.std.specs.Char.{digit_char}
 use Rattle.std.specs.Fmt.{decimal}
-use Rattle.word_values.specs.declared.lists.SpanWords.{SpanWords}
-use Rattle.word_values.specs.declared.lists.SplitWords.{SplitWords}
-use Rattle.word_values.specs.declared.lists.SplitWords.TheVariants as split
-use Rattle.word_values.specs.declared.values.CueWord.{CueWord}
-use Rattle.word_values.specs.declared.values.CueWord.TheVariants as cue
+use Rattle.requests.specs.declared.split.SpanWords.{SpanWords}
+use Rattle.requests.specs.declared.split.SplitWords.{SplitWords}
+use Rattle.requests.specs.declared.split.SplitWords.TheVariants as split
+use Rattle.requests.specs.declared.track.CueWord.{CueWord}
+use Rattle.requests.specs.declared.track.CueWord.TheVariants as cue
 
 -- a number that has at most 18 decimal digits
 abbrev pub HasFewDigits : ℕ → Type 0

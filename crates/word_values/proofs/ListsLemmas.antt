@@ -5,7 +5,8 @@ use Rattle.std.proofs.lemmas.Bool.Decides.{nat_tests}
 use Rattle.std.specs.Prelude.{option_map, unwrap_or, ◌==◌}
 use Rattle.std.specs.List.{slice_split, position_or_len}
 use Rattle.mkv_io.specs.Octets.{cut}
-use Rattle.word_values.specs.Lists.{pieces, each, onto, ascend}
+use Rattle.word_values.specs.Lists.{pieces, each, onto}
+use Rattle.requests.specs.Lists.{ascend}
 
 -- the parts before and behind the first that passes
 module _ (p : ℕ → Bool) where

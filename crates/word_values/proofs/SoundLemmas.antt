@@ -7,23 +7,26 @@ use Rattle.std.proofs.lemmas.Bool.Decides.{nat_tests}
 use Rattle.std.proofs.lemmas.List.Elements.{All-nil, All-cons}
 use Rattle.std.proofs.lemmas.List.Quantifiers.{position-Some}
 use Rattle.std.proofs.lemmas.Str.{IsUtf8-drop, IsCharBoundary-after_ascii}
-use Rattle.word_values.specs.declared.lists.SpanWords.{SpanWords}
-use Rattle.word_values.specs.declared.lists.SplitWords.{SplitWords}
-use Rattle.word_values.specs.declared.lists.SplitWords.TheVariants.{Duration, Times, Parts, AllChapters, Chapters, Size}
+use Rattle.requests.specs.declared.split.SpanWords.{SpanWords}
+use Rattle.requests.specs.declared.split.SplitWords.{SplitWords}
+use Rattle.requests.specs.declared.split.SplitWords.TheVariants.{Duration, Times, Parts, AllChapters, Chapters, Size}
 use Rattle.word_values.specs.declared.values.ValueForm.{ValueForm}
 use Rattle.word_values.specs.declared.values.ValueForm.TheVariants as form
 use Rattle.word_values.specs.declared.values.Value.{Value}
 use Rattle.word_values.specs.declared.values.Value.TheVariants.{Flag, File, Text, Scale, Blocks, Span, Split, Uuids, Tracks, TrackDelay, TrackText, TrackLanguage, TrackFlag, TrackCues, TrackFile}
-use Rattle.word_values.specs.declared.lists.Select.TheVariants.{Off}
+use Rattle.requests.specs.declared.track.Select.TheVariants.{Off}
 use Rattle.mkv_io.specs.Characters.{COLON, DASH, char}
 use Rattle.mkv_io.specs.Optional.{◌>>=◌}
 use Rattle.mkv_io.specs.Octets.{cut}
-use Rattle.word_values.specs.Numbers.{below, from, number, delay_size, delay, ends, front, clock, whole, time, amount, times_unit, size, uuid}
-use Rattle.word_values.specs.Lists.{pieces, onto, each, passing, ascend, times, span_of, span, follow, spans, differ, uuids, numbers, ids, duration, chapters, split_of, split}
+use Rattle.word_values.specs.Numbers.{from, delay_size, delay, ends, front, clock, time, amount, times_unit, size, uuid}
+use Rattle.requests.specs.Decimal.{below, number, whole}
+use Rattle.word_values.specs.Lists.{pieces, onto, each, passing, times, span_of, span, spans, uuids, numbers, ids, duration, chapters, split_of, split}
+use Rattle.requests.specs.Lists.{ascend, follow, differ}
 use Rattle.word_values.specs.Values.{flag_of, text, is_language, language, scale, cluster_length, track_and_rest, flag_in, track_flag, cue_word, track_value, value_of}
 use Rattle.word_values.proofs.AnswerLemmas.{either}
-use Rattle.word_values.proofs.NumbersLemmas.{whole_small}
-use Rattle.word_values.specs.Sound.{IsWithin, AreTimes, IsSpan, AreSpans, AreUuids, IsSoundSplit, IsSoundValue}
+use Rattle.requests.proofs.DecimalLemmas.{whole_small}
+use Rattle.word_values.specs.Sound.{IsSoundValue}
+use Rattle.requests.specs.Sound.{IsWithin, AreTimes, IsSpan, AreSpans, AreUuids, IsSoundSplit}
 
 -- ---- numbers
 

@@ -1,16 +1,18 @@
 -- Values with commas between them, in this project's grammar.
-use Rattle.std.specs.Prelude.{ℕ, Bool, true, not, ◌&&◌, ◌==◌, nat_lt, nat_le, if◌then◌else◌, List, [], ◌∷◌, length, drop, slice_index, codes, Option, Some, None, option_map}
-use Rattle.std.specs.List.{slice_split, list_any}
+use Rattle.std.specs.Prelude.{ℕ, Bool, ◌&&◌, ◌==◌, nat_le, if◌then◌else◌, List, [], ◌∷◌, length, drop, slice_index, codes, Option, Some, None, option_map}
+use Rattle.std.specs.List.{slice_split}
 use Rattle.std.specs.Str.{bytes_eq}
-use Rattle.word_values.specs.declared.lists.Select.{Select}
-use Rattle.word_values.specs.declared.lists.Select.TheVariants.{These, AllBut}
-use Rattle.word_values.specs.declared.lists.SpanWords.{SpanWords}
-use Rattle.word_values.specs.declared.lists.SplitWords.{SplitWords}
-use Rattle.word_values.specs.declared.lists.SplitWords.TheVariants.{Duration, Times, Parts, AllChapters, Chapters, Size}
+use Rattle.requests.specs.declared.track.Select.{Select}
+use Rattle.requests.specs.declared.track.Select.TheVariants.{These, AllBut}
+use Rattle.requests.specs.declared.split.SpanWords.{SpanWords}
+use Rattle.requests.specs.declared.split.SplitWords.{SplitWords}
+use Rattle.requests.specs.declared.split.SplitWords.TheVariants.{Duration, Times, Parts, AllChapters, Chapters, Size}
 use Rattle.mkv_io.specs.Characters.{COLON, COMMA, DASH, char}
 use Rattle.mkv_io.specs.Optional.{◌>>=◌}
 use Rattle.mkv_io.specs.Octets.{cut}
-use Rattle.word_values.specs.Numbers.{from, number, size, time, uuid}
+use Rattle.word_values.specs.Numbers.{from, size, time, uuid}
+use Rattle.requests.specs.Decimal.{number}
+pub use Rattle.requests.specs.Lists.{ascend, ends_before, follow, differ}
 
 -- what stands between the commas
 abbrev pub pieces : List ℕ → List (List ℕ)
@@ -40,12 +42,6 @@ numbers word = each number (pieces word)
 unfoldable pub ids : List ℕ → Option Select
 ids word = if slice_index word 0 == char "!" then option_map AllBut (numbers (drop 1 word)) else option_map These (numbers word)
 
--- each time is above the one before
-abbrev pub ascend : List ℕ → Bool
-ascend [] = true
-ascend (t ∷ []) = true
-ascend (t ∷ u ∷ us) = nat_lt t u && ascend (u ∷ us)
-
 -- times, each above the one before
 unfoldable pub times : List ℕ → Option (List ℕ)
 times word = passing ascend (each time (pieces word))
@@ -61,24 +57,9 @@ span_of (start, e ∷ es) = do
 unfoldable pub span : List ℕ → Option SpanWords
 span word = cut DASH word >>= span_of
 
--- a stretch without an end is the last; an end is above its start, and the others follow it
-abbrev pub ends_before : ℕ → Option ℕ → Bool → (ℕ → Bool) → Bool
-ends_before start None last others = last
-ends_before start (Some e) last others = nat_lt start e && others e
-
--- each stretch begins at the least or behind it, and the next at its end or behind that
-abbrev pub follow : ℕ → List SpanWords → Bool
-follow least [] = true
-follow least (s ∷ ss) = nat_le least s.start && ends_before s.start s.end (length ss == 0) (λ e. follow e ss)
-
 -- stretches of time, none of which begins before the end of the one before
 unfoldable pub spans : List ℕ → Option (List SpanWords)
 spans word = passing (follow 0) (each span (pieces word))
-
--- no number stands twice
-abbrev pub differ : List ℕ → Bool
-differ [] = true
-differ (n ∷ ns) = not (list_any (λ m. m == n) ns) && differ ns
 
 -- identifiers, 1 to 1024, all different
 unfoldable pub uuids : List ℕ → Option (List ℕ)

@@ -6,24 +6,12 @@ use Rattle.std.specs.Str.Parse.{digits_value}
 use Rattle.mkv_io.specs.Characters.{COLON, DASH, POINT, char}
 use Rattle.mkv_io.specs.Octets.{cut}
 use Rattle.mkv_io.specs.Optional.{◌>>=◌}
-
--- the number, where it is below the limit
-abbrev pub below : ℕ → Option ℕ → Option ℕ
-below limit None = None
-below limit (Some n) = if nat_lt n limit then Some n else None
+pub use Rattle.requests.specs.Decimal.{below, whole, number}
 
 -- the number, where it is at least the least
 abbrev pub from : ℕ → Option ℕ → Option ℕ
 from least None = None
 from least (Some n) = if nat_le least n then Some n else None
-
--- one or more decimal digits
-unfoldable pub whole : List ℕ → Option ℕ
-whole word = if nat_lt 0 (length word) && list_all is_ascii_digit word then Some (digits_value 10 word) else None
-
--- 1 to 18 digits
-unfoldable pub number : List ℕ → Option ℕ
-number word = if nat_le (length word) 18 then whole word else None
 
 -- milliseconds, as nanoseconds below 2^55
 unfoldable pub delay_size : List ℕ → Option ℕ

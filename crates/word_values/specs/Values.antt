@@ -3,9 +3,9 @@ use Rattle.std.specs.Prelude.{ℕ, ◌*◌, Bool, true, false, ◌&&◌, ◌==�
 use Rattle.std.specs.List.{list_any, list_all}
 use Rattle.std.specs.Char.{is_ascii_lowercase}
 use Rattle.std.specs.Str.{bytes_eq}
-use Rattle.word_values.specs.declared.values.CueWord.{CueWord}
-use Rattle.word_values.specs.declared.values.CueWord.TheVariants as cue
-use Rattle.word_values.specs.declared.lists.Select.TheVariants as select
+use Rattle.requests.specs.declared.track.CueWord.{CueWord}
+use Rattle.requests.specs.declared.track.CueWord.TheVariants as cue
+use Rattle.requests.specs.declared.track.Select.TheVariants as select
 use Rattle.word_values.specs.declared.values.ValueForm.{ValueForm}
 use Rattle.word_values.specs.declared.values.ValueForm.TheVariants as form
 use Rattle.word_values.specs.declared.values.Value.{Value}
@@ -13,7 +13,8 @@ use Rattle.word_values.specs.declared.values.Value.TheVariants.{Flag, File, Text
 use Rattle.mkv_io.specs.Characters.{COLON, char}
 use Rattle.mkv_io.specs.Optional.{◌>>=◌}
 use Rattle.mkv_io.specs.Octets.{cut}
-use Rattle.word_values.specs.Numbers.{below, from, number, delay, ends, front}
+use Rattle.word_values.specs.Numbers.{from, delay, ends, front}
+use Rattle.requests.specs.Decimal.{below, number}
 use Rattle.word_values.specs.Lists.{ids, split, uuids}
 
 -- what an option without a value says; none where a value is due

@@ -6,46 +6,14 @@ ghost use Rattle.word_values.specs.Lists as spec;
 ghost use Rattle.word_values.specs.Lists.{pieces, each};
 ghost use Rattle.word_values.specs.Numbers as numbers;
 
-use crate::numbers::{cut, cut_text, number, size, time, uuid};
+use crate::numbers::{cut, cut_text, size, time, uuid};
 use crate::usage::ValueEnd;
 use mkv_io::List;
+use requests::{Select, SpanWords, SplitWords, number};
 use std::alloc::Global;
 
 /// The most identifiers that the parts of an output are given.
 const MAX_UUIDS: usize = 1024;
-
-/// Where an output is split. Times are in nanoseconds.
-#[derive(Debug, Drop)]
-pub enum SplitWords {
-    /// After so much time.
-    Duration { by: u64 },
-    /// At these times, which ascend.
-    Times { at: List<u64> },
-    /// Only these stretches are written, which ascend and don't overlap.
-    Parts { spans: List<SpanWords> },
-    /// At the start of each chapter.
-    AllChapters,
-    /// At the start of these chapters, the first being 1; a number that no chapter has is accepted here.
-    Chapters { numbers: List<u64> },
-    /// After so many octets of blocks.
-    Size { limit: u64 },
-}
-
-/// A stretch of time, in nanoseconds, which may have no end.
-#[derive(Clone, Copy, Debug, PartialEq, Eq)]
-pub struct SpanWords {
-    pub start: u64,
-    pub end: Option<u64>,
-}
-
-/// Which tracks of one type are taken.
-#[derive(Debug, Drop)]
-pub enum Select {
-    All,
-    These { ids: List<u64> },
-    AllBut { ids: List<u64> },
-    Off,
-}
 
 /// A form of the pieces of a list.
 trait Piece {

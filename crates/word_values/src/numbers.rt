@@ -4,7 +4,9 @@ ghost use Rattle.std.specs.Prelude.{◌≡◌, ◌==◌, ◌^◌, ◌<◌, IfSom
 ghost use Rattle.std.specs.List.{position};
 ghost use Rattle.mkv_io.specs.Octets as octets;
 ghost use Rattle.word_values.specs.Numbers as spec;
-ghost use Rattle.word_values.specs.Numbers.{below};
+ghost use Rattle.requests.specs.Decimal.{below};
+
+use requests::{number, whole};
 
 const SECOND: u64 = 1_000_000_000;
 
@@ -38,36 +40,6 @@ fn place_of(word: &[u8], octet: u8) -> Option<usize>
     ensures { result ≡ position (λ b. b == octet) word.now }
 {
     word.iter().position(|b| *b == octet)
-}
-
-/// One or more digits, below 2^64.
-#[tactic(auto, unfolding(crate::specs::Numbers::whole))]
-pub(crate) fn whole(word: &[u8]) -> Option<u64>
-    ensures { result ≡ below (2 ^ 64) (spec.whole word.now) }
-{
-    if word.is_empty() {
-        return None;
-    }
-    let mut value: u64 = 0;
-    for octet in word {
-        if !octet.is_ascii_digit() {
-            return None;
-        }
-        let digit = u64::from(*octet - b'0');
-        value = value.checked_mul(10)?.checked_add(digit)?;
-    }
-    Some(value)
-}
-
-/// 1 to 18 digits.
-#[tactic(auto, using(crate::proofs::NumbersLemmas::whole_short), unfolding(crate::specs::Numbers::number))]
-pub fn number(word: &[u8]) -> Option<u64>
-    ensures { result ≡ spec.number word.now }
-{
-    if word.len() > 18 {
-        return None;
-    }
-    whole(word)
 }
 
 /// Milliseconds with or without `-`, as nanoseconds.
@@ -147,7 +119,7 @@ fn seconds(word: &[u8]) -> Option<u64>
 }
 
 /// 1 to 9 digits behind a point, in billionths.
-#[tactic(auto, using(crate::proofs::NumbersLemmas::whole_short, crate::proofs::NumbersLemmas::fraction_small), unfolding(crate::specs::Numbers::fraction))]
+#[tactic(auto, using(requests::proofs::DecimalLemmas::whole_short, crate::proofs::NumbersLemmas::fraction_small), unfolding(crate::specs::Numbers::fraction))]
 fn fraction(word: &[u8]) -> Option<u64>
     ensures same { result ≡ spec.fraction word.now }
     ensures small { IfSome result (λ n. n < 1000000000) }
@@ -173,7 +145,7 @@ pub(crate) fn size(word: &[u8]) -> Option<u64>
 }
 
 /// 1 to 12 digits, at least 1.
-#[tactic(auto, using(crate::proofs::NumbersLemmas::whole_short), unfolding(crate::specs::Numbers::amount))]
+#[tactic(auto, using(requests::proofs::DecimalLemmas::whole_short), unfolding(crate::specs::Numbers::amount))]
 fn amount(word: &[u8]) -> Option<u64>
     ensures { result ≡ spec.amount word.now }
 {

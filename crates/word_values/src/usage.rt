@@ -4,7 +4,7 @@ ghost use Rattle.std.specs.Prelude.{◌≡◌};
 ghost use Rattle.word_values.specs.declared.usage.ArgsEnd.TheVariants as args_end;
 ghost use Rattle.word_values.specs.declared.usage.ValueEnd.TheVariants as value_end;
 
-use std::alloc::{AllocError, AllocFailed};
+use std::alloc::AllocError;
 use thiserror::Error;
 
 /// What is wrong with a word.

@@ -1,15 +1,16 @@
 //! What the value of an option says.
 
-ghost use Rattle.std.specs.Prelude.{◌≡◌, option_map, OnOk, IfOk};
+ghost use Rattle.std.specs.Prelude.{◌≡◌, option_map, IfOk};
 ghost use Rattle.std.specs.Char.{is_ascii_lowercase};
 ghost use Rattle.std.specs.List.{list_all};
 ghost use Rattle.word_values.specs.Answers.{ReadsValue};
 ghost use Rattle.word_values.specs.Values as spec;
 
-use crate::lists::{Select, SpanWords, SplitWords, ids, split, uuids};
-use crate::numbers::{cut_text, delay, number};
+use crate::lists::{ids, split, uuids};
+use crate::numbers::{cut_text, delay};
 use crate::usage::ValueEnd;
 use mkv_io::{List, Text};
+use requests::{CueWord, Select, SplitWords, number};
 use std::alloc::{AllocError, Global};
 
 /// The form of an option's value. Where a track is named, it is by its ID, with `:` behind it.
@@ -70,15 +71,6 @@ pub enum Value {
     TrackCues(u64, CueWord),
     /// A track and the name of a file.
     TrackFile(u64, Text),
-}
-
-/// Which blocks of a track get a cue point.
-#[derive(Clone, Copy, Debug, PartialEq, Eq)]
-pub enum CueWord {
-    Never,
-    /// Those that can be decoded by themselves.
-    Key,
-    All,
 }
 
 /// What an option without a value says; none where a value is due.

@@ -3,7 +3,7 @@ use Rattle.mkv_io.specs.Names.{AreOthers}
 use Rattle.mkv_io.proofs.WritingLemmas.{KeepsOthers-then}
 use Rattle.extractors.specs.Job.{names_of}
 use Rattle.meta_records.specs.Attached.{in_file}
-use Rattle.word_values.specs.declared.job.Target.{Target}
+use Rattle.requests.specs.declared.job.Target.{Target}
 use Rattle.extractors.specs.Attached.{attached_at, attached_output}
 use Rattle.extractors.proofs.TargetLemmas.{AreOthers-target, KeepsOthers-target, written-more, written-part}
 use Rattle.extractors.proofs.attached.write_each.Goals as goal

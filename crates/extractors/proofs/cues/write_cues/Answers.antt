@@ -1,6 +1,6 @@
 use Rattle.std.proofs.Common.{slice_get, ◌∙◌, arith}
 use Rattle.mkv_io.proofs.WritingLemmas.{KeepsOthers-then}
-use Rattle.word_values.specs.declared.job.Target.{Target}
+use Rattle.requests.specs.declared.job.Target.{Target}
 use Rattle.extractors.specs.Job.{names_of}
 use Rattle.meta_records.specs.Records.{scale_of_info}
 use Rattle.extractors.specs.Cues.{cues_output}

@@ -1,7 +1,7 @@
 use Rattle.std.proofs.Common.{ℕ, ◌||◌, List, Option, option_map, ◌∙◌, ap}
 use Rattle.std.specs.List.{find}
 use Rattle.std.specs.Str.{bytes_eq}
-use Rattle.word_values.specs.declared.job.Target.{Target}
+use Rattle.requests.specs.declared.job.Target.{Target}
 use Rattle.mkv_extract.specs.Names.{is_read}
 use Rattle.mkv_extract.proofs.ExtractLemmas.{found-name}
 use Rattle.mkv_extract.proofs.names.written_among.Goals as goal

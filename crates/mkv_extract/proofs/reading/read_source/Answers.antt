@@ -1,5 +1,5 @@
 use Rattle.std.proofs.Common.{◌≡◌, List, None, sym, ◌∙◌, ap}
-use Rattle.word_values.specs.declared.job.Target.{Target}
+use Rattle.requests.specs.declared.job.Target.{Target}
 use Rattle.track_records.specs.declared.track.Track.{Track}
 use Rattle.extractors.specs.Job.{targets_of}
 use Rattle.meta_records.specs.Records.{described_by}

@@ -3,7 +3,7 @@ use Rattle.std.proofs.lemmas.Result.{err_from_is_err_and}
 use Rattle.mkv_io.specs.Sources.{live_files}
 use Rattle.input_files.specs.TextFiles.{text_files, text_octets}
 use Rattle.input_files.specs.declared.text_files.TextFiles.{TextFiles}
-use Rattle.merge_words.specs.declared.files.FileWords.{FileWords}
+use Rattle.requests.specs.declared.merge.FileWords.{FileWords}
 use Rattle.mkv_lines.specs.Code.{read_stop}
 use Rattle.mkv_lines.specs.declared.status.Status.{Status}
 use Rattle.mkv_lines.specs.declared.status.CommandEnd.TheVariants as stop

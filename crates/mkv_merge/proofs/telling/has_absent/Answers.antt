@@ -1,5 +1,5 @@
 use Rattle.std.proofs.Common.{◌≡◌, ◌<◌, ◌≤◌, List, length, get_or, sym, ◌∙◌, ap, arith}
-use Rattle.merge_words.specs.declared.files.FileWords.{FileWords}
+use Rattle.requests.specs.declared.merge.FileWords.{FileWords}
 use Rattle.mkv_merge.specs.Merge.{has_absent}
 use Rattle.mkv_merge.specs.Prepared.{reads_in}
 use Rattle.mkv_merge.proofs.TellingLemmas.{has_absent-all, has_absent-found, has_absent-none, has_absent-passed}

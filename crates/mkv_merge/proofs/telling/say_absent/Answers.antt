@@ -1,6 +1,6 @@
 use Rattle.std.proofs.Common.{◌≡◌, ◌+◌, ◌<◌, ◌≤◌, List, length, flat_map, get_or, map, refl, ◌∙◌, ap, rules, arith}
 use Rattle.std.proofs.lemmas.Result.{err_from_is_err_and}
-use Rattle.merge_words.specs.declared.files.FileWords.{FileWords}
+use Rattle.requests.specs.declared.merge.FileWords.{FileWords}
 use Rattle.mkv_lines.specs.Line.{no_track_line}
 use Rattle.mkv_lines.proofs.SaidLemmas.{SaysUpTo-more, SaysUpTo-stops}
 use Rattle.mkv_merge.specs.Merge.{absent_lines, absent_of, lines_before}

@@ -1,6 +1,6 @@
 -- From the time before on it is as from the first on.
 use Rattle.std.proofs.Common.{◌≡◌, ◌-◌, drop}
-use Rattle.word_values.specs.Lists.{ascend}
+use Rattle.requests.specs.Lists.{ascend}
 use Rattle.word_values.proofs.lists.ascend.Given as goal
 
 abbrev pub invariant-loop-k : goal.invariant-loop-k

@@ -1,6 +1,6 @@
 -- From here on it is as from the first on.
 use Rattle.std.proofs.Common.{◌≡◌, drop}
-use Rattle.word_values.specs.Lists.{differ}
+use Rattle.requests.specs.Lists.{differ}
 use Rattle.word_values.proofs.lists.differ.Given as goal
 
 abbrev pub invariant-loop-k : goal.invariant-loop-k

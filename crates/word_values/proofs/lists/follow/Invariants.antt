@@ -1,6 +1,6 @@
 -- From here on it is as from the first on.
 use Rattle.std.proofs.Common.{◌≡◌, drop}
-use Rattle.word_values.specs.Lists.{follow}
+use Rattle.requests.specs.Lists.{follow}
 use Rattle.word_values.proofs.lists.follow.Given as goal
 
 abbrev pub invariant-loop-k : goal.invariant-loop-k

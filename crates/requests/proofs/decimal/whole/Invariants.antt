@@ -1,8 +1,8 @@
 -- What the digits from here on write behind the number so far is what all of them write.
 use Rattle.std.proofs.Common.{◌≡◌, ◌^◌, ◌<◌, drop}
-use Rattle.word_values.specs.Numbers.{below, whole}
-use Rattle.word_values.proofs.NumbersLemmas.{read_on}
-use Rattle.word_values.proofs.numbers.whole.Given as goal
+use Rattle.requests.specs.Decimal.{below, whole}
+use Rattle.requests.proofs.DecimalLemmas.{read_on}
+use Rattle.requests.proofs.decimal.whole.Given as goal
 
 abbrev pub invariant-loop-octet : goal.invariant-loop-octet
 invariant-loop-octet l = record {

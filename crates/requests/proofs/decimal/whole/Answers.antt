@@ -2,8 +2,8 @@ use Rattle.std.proofs.Common.{arith, ◌≡◌, ◌^◌, ◌+◌, ◌*◌, ◌�
 use Rattle.std.proofs.lemmas.Grind.{common_steps}
 use Rattle.std.proofs.lemmas.Bool.Decides.{nat_tests}
 use Rattle.std.specs.Char.{digit_value, is_ascii_digit}
-use Rattle.word_values.proofs.NumbersLemmas.{read_too_large, read_end}
-use Rattle.word_values.proofs.numbers.whole.Goals as goal
+use Rattle.requests.proofs.DecimalLemmas.{read_too_large, read_end}
+use Rattle.requests.proofs.decimal.whole.Goals as goal
 
 -- a number past its type stays past it, whatever digits follow
 pub returns-in_err-checked_mul : goal.returns-in_err-checked_mul

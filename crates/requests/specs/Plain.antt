@@ -1,9 +1,9 @@
 -- The words of a merge without options, and with a split where one is given. They are this project's.
 use Rattle.std.specs.Prelude.{ℕ, false, true, List, [], Option, None}
-use Rattle.word_values.specs.declared.lists.Select.TheVariants.{All}
-use Rattle.word_values.specs.declared.lists.SplitWords.{SplitWords}
-use Rattle.merge_words.specs.declared.files.FileWords.{FileWords}
-use Rattle.merge_words.specs.declared.output.MergeWords.{MergeWords}
+use Rattle.requests.specs.declared.track.Select.TheVariants.{All}
+use Rattle.requests.specs.declared.split.SplitWords.{SplitWords}
+use Rattle.requests.specs.declared.merge.FileWords.{FileWords}
+use Rattle.requests.specs.declared.merge.MergeWords.{MergeWords}
 
 -- one file by its name, of which all is taken
 abbrev pub plain_file : List ℕ → FileWords

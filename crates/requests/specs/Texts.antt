@@ -1,8 +1,8 @@
 -- What the words of a merge give as texts.
 use Rattle.std.specs.Prelude.{ℕ, List, All, IfSome}
 use Rattle.std.specs.Str.{IsUtf8}
-use Rattle.merge_words.specs.declared.files.FileWords.{FileWords}
-use Rattle.merge_words.specs.declared.output.MergeWords.{MergeWords}
+use Rattle.requests.specs.declared.merge.FileWords.{FileWords}
+use Rattle.requests.specs.declared.merge.MergeWords.{MergeWords}
 
 -- The names and languages that are given to a file's tracks are texts.
 pub record HasTexts (file : FileWords) : Type 0 where

@@ -1,0 +1,5 @@
+pub mod Decimal
+pub mod Lists
+pub mod Plain
+pub mod Sound
+pub mod Texts
