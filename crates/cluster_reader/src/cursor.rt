@@ -187,13 +187,6 @@ impl Cursor {
         self.walk.block.references()
     }
 
-    /// How many blocks were given.
-    pub fn blocks(&self) -> u64
-        ensures { result ≡ self.now.blocks }
-    {
-        self.blocks
-    }
-
     /// How many damages were given.
     pub fn damages(&self) -> u64
         ensures { result ≡ self.now.damages }

@@ -4,7 +4,7 @@ use Rattle.std.specs.List.{concat}
 use Rattle.std.proofs.lemmas.List.{length-append}
 use Rattle.std.proofs.lemmas.List.Concat.{flat_map-append}
 use Rattle.std.proofs.lemmas.List.Elements.{All-head, All-tail, All-from_recursion}
-use Rattle.ebml_numbers.specs.Number.{all_ones, int_fits, least_width, uint_width, int_width, int_octets_in, least_size_width}
+use Rattle.ebml_numbers.specs.Number.{all_ones, least_width, uint_width, int_octets_in, least_size_width}
 use Rattle.lacing.specs.declared.kind.Lace.TheVariants as lace
 use Rattle.mkv_schema.specs.declared.ids.TheConstants.{SIMPLE_BLOCK, BLOCK_GROUP, BLOCK}
 use Rattle.tree_format.specs.NormalForm.{header_octets}
@@ -131,10 +131,6 @@ least_width-most p =
 uint_width-most : (v : ℕ) → uint_width v ≤ 8
 unfolding uint_width
 uint_width-most v = least_width-most (λ w. nat_lt v (256 ^ w))
-
-int_width-most : (z : ℤ) → int_width z ≤ 8
-unfolding int_width
-int_width-most z = least_width-most (int_fits z)
 
 size_width-most : (v : ℕ) → least_size_width v ≤ 8
 unfolding least_size_width

@@ -50,10 +50,6 @@ scale-some info none = split (first_child TIMESTAMP_SCALE info) none
 
 -- ---- a file
 
-pub file_scale-none : (bytes : List ℕ) (segment : Header) → first_info bytes segment ≡ None → file_scale bytes segment ≡ DEFAULT_SCALE
-unfolding file_scale
-file_scale-none bytes segment none = rw none refl
-
 pub file_scale-some : (bytes : List ℕ) (segment h : Header) (info : Node) → first_info bytes segment ≡ Some h → info_tree bytes h ≡ Ok info → file_scale bytes segment ≡ scale_of info
 unfolding file_scale
 file_scale-some bytes segment h info first tree = rw first (ap scale_in tree)

@@ -187,11 +187,4 @@ impl Lane {
         }
         block
     }
-
-    /// How many blocks were given.
-    pub fn given(&self) -> u64
-        ensures { result ≡ self.now.given }
-    {
-        self.given
-    }
 }

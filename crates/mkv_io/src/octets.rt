@@ -136,13 +136,6 @@ impl Text {
         Text { text }
     }
 
-    /// Takes no memory.
-    pub fn into_string(self) -> String
-        ensures { string_bytes result ≡ self }
-    {
-        self.text
-    }
-
     /// How many octets the text has.
     pub fn len(&self) -> usize
         ensures exact { result ≡ length self.now }

@@ -187,10 +187,6 @@ foreign_line name mark kept found =
 abbrev pub word_line : ℕ → List ℕ → List ℕ
 word_line word why = codes "error: word " ++ (decimal word ++ (codes ": " ++ why))
 
--- words that ask for what isn't built
-abbrev pub not_built_line : List ℕ
-not_built_line = word_line 0 (codes "NotBuilt")
-
 -- a fault of the files
 abbrev pub files_fault_line : List ℕ
 files_fault_line = codes "fault: files"

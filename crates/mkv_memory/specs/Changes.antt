@@ -82,12 +82,6 @@ pair_of h = replay h.made (first_pair h)
 abbrev pub with_change : History → ℕ → Change → History
 with_change h file change = record h { made = h.made ++ record { file = file; change = change } ∷ [] }
 
--- No file was too long at first, and each change could be made.
-pub record IsHistory (h : History) : Type 0 where
-  pub media : length h.media ≤ LONGEST_FILE
-  pub sidecar : length h.sidecar ≤ LONGEST_FILE
-  pub changes : CanReplay h.made (first_pair h)
-
 -- A crash after the first t changes, or after more of them, might have left these.
 abbrev pub LeftSince : History → ℕ → List ℕ → List ℕ → Type 0
 LeftSince h t m s = (k : ℕ) × (t ≤ k) × (k ≤ length h.made) × IsPairImage (replay (take k h.made) (first_pair h)) m s

@@ -1,10 +1,9 @@
 -- Attached files: RFC 9559, section 5.1.6 (Attachments Element).
-use Rattle.std.specs.Prelude.{ℕ, ◌+◌, List, length, replicate, Option, Some, None}
+use Rattle.std.specs.Prelude.{ℕ, List, replicate, Option, Some, None}
 use Rattle.mkv_schema.specs.declared.ids.TheConstants.{FILE_DATA}
 use Rattle.mkv_io.specs.Contents.{octets_from}
 use Rattle.mkv_io.specs.LiveFiles.{LiveFiles}
 use Rattle.tree_format.specs.Node.{Node, leaf, children, with_children}
-use Rattle.tree_format.specs.NormalForm.{octets}
 use Rattle.tree_format.specs.Changes.{with_child}
 use Rattle.output_model.specs.declared.attachment.Attachment.{Attachment}
 
@@ -25,7 +24,3 @@ with_data bytes entry = with_children entry (with_child (leaf FILE_DATA 0 bytes)
 -- the AttachedFile with its data
 abbrev pub attached_file : LiveFiles → Attachment → Node
 attached_file files a = with_data (data_of files a) a.entry
-
--- how many octets an attached file may take at most
-abbrev pub most_taken : Attachment → ℕ
-most_taken a = a.len + length (octets a.entry)

@@ -97,13 +97,6 @@ impl Plan {
         self.octets.as_slice()
     }
 
-    /// The file's length in octets before the edit.
-    pub fn old_len(&self) -> u64
-        ensures { result ≡ self.now.head.old_len }
-    {
-        self.old_len
-    }
-
     /// The file's length in octets after it.
     pub fn new_len(&self) -> u64
         ensures { result ≡ self.now.head.new_len }

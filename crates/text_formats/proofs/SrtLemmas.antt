@@ -135,10 +135,6 @@ pub bad_end : (p : Place) (n : ℕ) → bad_from p n [] ≡ None
 unfolding bad_from
 bad_end p n = refl
 
-pub trimmed_end : text_of [] ≡ []
-unfolding trimmed
-trimmed_end = refl
-
 -- ---- what a line may be
 or_more : (u a x : Bool) → (u || a) ≡ true → (u || (a || x)) ≡ true
 or_more true a x e = refl

@@ -74,11 +74,4 @@ impl Merge {
     {
         self.queues.lane(k)
     }
-
-    /// How many blocks were given.
-    pub fn given(&self) -> u64
-        ensures { result ≡ self.now.given }
-    {
-        self.given
-    }
 }

@@ -57,10 +57,6 @@ id_in-valid parent octets read is = split (slice_index octets 0 == CHAPTER_DISPL
     split false same true = is
     split false same false = is
 
-display-width : uint_width CHAPTER_DISPLAY ≡ 1
-unfolding uint_width
-display-width = refl
-
 display-octets : id_octets CHAPTER_DISPLAY ≡ CHAPTER_DISPLAY ∷ []
 unfolding uint_width
 display-octets = refl

@@ -7,7 +7,7 @@ use Rattle.ebml_numbers.specs.declared.number.NumFault.{NumFault}
 use Rattle.ebml_numbers.specs.declared.number.NumFault.TheVariants as fault
 use Rattle.ebml_numbers.specs.declared.number.SizeRead.{SizeRead}
 use Rattle.ebml_numbers.specs.declared.number.Size.TheVariants.{Unknown}
-use Rattle.ebml_numbers.specs.Number.{AreOctets, is_id, is_written_id, id_at, size_at}
+use Rattle.ebml_numbers.specs.Number.{AreOctets, is_id, is_written_id, id_at}
 use Rattle.ebml_numbers.proofs.NumberLemmas.{id_at-within}
 use Rattle.mkv_schema.specs.declared.ids.TheConstants.{CHAPTER_ATOM, CHAPTER_DISPLAY}
 use Rattle.mkv_io.specs.declared.damage.Damage.{Damage}
@@ -59,21 +59,6 @@ header_at-fits parent p octets h is =
     let placed = element_in-placed (in_tree parent) octets (p + length octets) p (p + length octets) h (omega arith) is in
     let whole = whole-id parent octets (p + length octets) p (p + length octets) h _ is in
     record { offset = placed.offset; later = placed.later; known = whole.known; ends = whole.ends }
-
--- The length of the file doesn't count in a master that is read whole.
-pub element_in-held : (parent : ℕ) (octets : List ℕ) (total other p e : ℕ) → element_in (in_tree parent) octets total p e ≡ element_in (in_tree parent) octets other p e
-unfolding element_in
-element_in-held parent octets total other p e = of_id (id_in (in_tree parent) octets)
-  where
-    of_size : (id at : ℕ) (read : Result SizeRead NumFault) → with_size (in_tree parent) total p e id at read ≡ with_size (in_tree parent) other p e id at read
-    of_size id at (Err (fault.More n)) = refl
-    of_size id at (Err fault.Bad) = refl
-    of_size id at (Ok size) = refl
-
-    of_id : (read : Result IdRead NumFault) → with_id (in_tree parent) octets total p e read ≡ with_id (in_tree parent) octets other p e read
-    of_id (Err fault.Bad) = refl
-    of_id (Err (fault.More n)) = refl
-    of_id (Ok id) = of_size id.id (p + id.len) (size_at (drop id.len octets))
 
 -- its body and what is behind it are shorter than all
 pub length-inside : (p : ℕ) (octets : List ℕ) (h : Header) → Fits p (p + length octets) h → length (inside p h octets) < length octets
