@@ -19,6 +19,7 @@ use Rattle.block_format.specs.declared.limits.TheConstants.{SLICES, MAX_REFERENC
 use Rattle.block_format.specs.Elements.{references_among, is_kept, kept_of, element_octets}
 use Rattle.block_reader.specs.declared.gathered.Gathered.{Gathered}
 use Rattle.block_reader.specs.Group.{Gathers}
+use Rattle.lemmas.proofs.PlainLemmas.{differ-false as test}
 
 -- ---- the values of children, by the table
 
@@ -87,9 +88,6 @@ kept-own bytes given c passes =
 
 kept-other : (bytes : List ℕ) (given : List Header) (c : Header) → is_kept c.id ≡ false → kept_of bytes (given ++ c ∷ []) ≡ kept_of bytes given
 kept-other bytes given c fails = ap (flat_map (element_octets bytes)) (filter-other (λ (h : Header). is_kept h.id) given c fails)
-
-test : (a b : ℕ) → a ≢ b → (a == b) ≡ false
-test a b other = grind (arith, nat_tests)
 
 -- ---- the ReferenceBlocks
 

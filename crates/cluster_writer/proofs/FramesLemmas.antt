@@ -13,6 +13,7 @@ use Rattle.lacing.specs.Writing.{FitsKind, CanLace}
 use Rattle.block_format.specs.Content.{frames_cut}
 use Rattle.output_model.specs.OutputBlock.{CanBeLent, prefixed}
 use Rattle.cluster_writer.specs.Lengths.{prefixed_sizes}
+pub use Rattle.lemmas.proofs.PlainLemmas.{length-concat}
 
 -- frames of these sizes, each with a prefix in front
 abbrev pub prefixed_frames : List ℕ → List ℕ → List ℕ → List (List ℕ)
@@ -86,11 +87,6 @@ prefixed-within p sizes i size within is =
     let some : 1 ≤ length sizes = omega arith in
     let same : p ≤ p = omega arith in
     omega (arith, sum-prefixed p sizes, within-sum sizes i size within is, mul-le-mul same some)
-
--- frames joined are as long as their sizes together
-pub length-concat : (frames : List (List ℕ)) → length (concat frames) ≡ sum (map length frames)
-length-concat [] = refl
-length-concat (f ∷ fs) = length-append f (concat fs) ∙ ap (λ n. length f + n) (length-concat fs) ∙ sym (sum_by-cons (λ x. x) (length f) (map length fs))
 
 equal-prefixed : (p : ℕ) (sizes : List ℕ) → AreEqual sizes → AreEqual (prefixed_sizes p sizes)
 equal-prefixed p [] same = tt

@@ -1,6 +1,6 @@
 -- A file to which something can be added: its Segment and its last Cluster end where it does.
 use Rattle.std.proofs.Common.{inl, inr, ◌≡◌, ◌⊎◌, ◌<◌, ◌≤◌, ℕ, ◌+◌, ◌-◌, ◌==◌, max, Bool, true, false, ◌||◌, if◌then◌else◌, List, [], ◌∷◌, ◌++◌, length, map, All, Option, Some, None, filter, count_by, not, nat_lt, refl, sym, ◌∙◌, ap, subst, arith}
-use Rattle.std.specs.Option.{option_map, option_map_or, option_or}
+use Rattle.std.specs.Option.{option_map_or, option_or}
 use Rattle.std.proofs.lemmas.Bool.{cases_lt}
 use Rattle.std.proofs.lemmas.List.Sums.{length-filter}
 use Rattle.std.proofs.lemmas.Bool.Decides.{nat_tests}
@@ -32,6 +32,7 @@ use Rattle.edit_laws.proofs.ItemLemmas.{Item}
 use Rattle.edit_laws.proofs.OpenedLemmas.{IsOpened}
 use Rattle.edit_laws.proofs.RoomLemmas.{last-there}
 use Rattle.edit_laws.proofs.WriteLemmas.{AreOf, extent-within, moves_from, of-moves, of-moving}
+use Rattle.lemmas.proofs.PlainLemmas.{map-none}
 
 -- ---- nothing refuses it at the end
 
@@ -43,10 +44,6 @@ other-none total h none known = of (is_unknown h.size) (stated_end h == total) k
     of true same known is none = absurd (cc)
     of false true known is none = grind (arith, nat_tests)
     of false false known is none = absurd (cc)
-
-map-none : {A B : Type 0} (g : A → B) (o : Option A) → option_map g o ≡ None → o ≡ None
-map-none g None is = refl
-map-none g (Some x) is = absurd (cc)
 
 or-none : {A : Type 0} (a b : Option A) → option_or a b ≡ None → (a ≡ None) × (b ≡ None)
 or-none None b is = (refl, is)

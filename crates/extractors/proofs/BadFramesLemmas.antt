@@ -18,6 +18,7 @@ use Rattle.extractors.specs.declared.frame_form.FrameForm.{FrameForm}
 use Rattle.extractors.specs.declared.frame_form.FrameForm.TheVariants as form
 use Rattle.extractors.specs.declared.extracted.Extracted.{Extracted}
 use Rattle.extractors.specs.declared.track_output.TrackOutput.{TrackOutput}
+pub use Rattle.lemmas.proofs.PlainLemmas.{OnOk-map as OnOk-then}
 
 -- what holds is so after a call, whatever it answers
 pub OnOk-holds : {T E X : Type 0} (result : Result T E) → X → OnOk result X
@@ -27,11 +28,6 @@ OnOk-holds (Err end) holds = tt
 -- what is told is told of a file
 pub told_of-is : (list : List TrackOutput) (events : List Event) (told : Extracted) → told.damages ≡ told_damages (damages_of events) → told.bad_frames ≡ told_damages (bad_frames list (blocks_of events)) → told ≡ told_of list events
 told_of-is list events told damages bad = λ i. record { damages = damages i; bad_frames = bad i }
-
--- what follows of what is so after a call is so as well
-pub OnOk-then : {T E X Y : Type 0} (result : Result T E) → (X → Y) → OnOk result X → OnOk result Y
-OnOk-then (Ok done) follows holds = follows holds
-OnOk-then (Err end) follows holds = tt
 
 -- an output that is found is one of them
 pub found-holds : (P : TrackOutput → Type 0) (list : List TrackOutput) (test : TrackOutput → Bool) (o : TrackOutput) → find test list ≡ Some o → All P list → P o

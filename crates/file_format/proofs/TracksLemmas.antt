@@ -18,6 +18,7 @@ use Rattle.file_format.specs.Entry.{entries_of, number_of, default_duration_of}
 use Rattle.file_format.specs.Refusal.{firsts, is_bad, too_long, bad_value, missing_child, first_in, told_at, is_repeated, first_repeated, repeated_number, most_tracks, too_many, causes, refusal_of}
 use Rattle.file_format.specs.Tracks.{IsTrack, AreTracks}
 use Rattle.file_format.proofs.FirstLemmas.{find-passes, firsts-none, firsts-some, find-within, get-none, none-get, distinct-from_none, none-from_distinct}
+use Rattle.lemmas.proofs.PlainLemmas.{map-none}
 
 -- ---- tests
 
@@ -43,10 +44,6 @@ either false b true false is = absurd (cc)
 either false b false d is = absurd (cc)
 
 -- ---- one entry
-
-map-none : {A B : Type 0} (f : A → B) (o : Option A) → option_map f o ≡ None → o ≡ None
-map-none f None is = refl
-map-none f (Some x) is = absurd (cc)
 
 -- no value of an entry is bad
 no-bad : (entry : Node) → bad_value entry ≡ None → find is_bad (firsts (children entry)) ≡ None

@@ -1,18 +1,7 @@
 -- Lists, from a place on.
-use Rattle.std.proofs.Common.{◌≡◌, ℕ, suc, zero, ◌-◌, ◌<◌, ◌≤◌, get_or, List, [], ◌∷◌, ◌++◌, length, take, drop, Some, None, refl, ◌∙◌, ap, arith}
+use Rattle.std.proofs.Common.{◌≡◌, ℕ, suc, zero, ◌-◌, ◌<◌, ◌≤◌, get_or, List, [], ◌∷◌, ◌++◌, length, take, drop, Some, refl, ◌∙◌, ap, arith}
 use Rattle.std.specs.List.{slice_get}
-
--- what stands at a place is the first from there on
-pub drop-at : {X : Type 0} (xs : List X) (k : ℕ) (x : X) → slice_get xs k ≡ Some x → drop k xs ≡ x ∷ drop (suc k) xs
-drop-at [] k x is = cc
-drop-at (y ∷ ys) zero x is = let e : y ≡ x = cc in ap (λ each. each ∷ ys) e
-drop-at (y ∷ ys) (suc k) x is = drop-at ys k x is
-
-pub drop-past : {X : Type 0} (xs : List X) (k : ℕ) → slice_get xs k ≡ None → drop k xs ≡ []
-drop-past [] zero is = refl
-drop-past [] (suc k) is = refl
-drop-past (y ∷ ys) zero is = cc
-drop-past (y ∷ ys) (suc k) is = drop-past ys k is
+pub use Rattle.lemmas.proofs.PlainLemmas.{drop-some as drop-at, drop-none as drop-past}
 
 pub take-at : {X : Type 0} (xs : List X) (k : ℕ) (x : X) → slice_get xs k ≡ Some x → take (suc k) xs ≡ take k xs ++ x ∷ []
 take-at [] k x is = cc

@@ -1,6 +1,6 @@
 -- A survey of a file, from a walk over it.
-use Rattle.std.proofs.Common.{◌≡◌, ℕ, Bool, true, false, List, [], ◌∷◌, map, Some, None, Result, Ok, Err, refl, sym, ◌∙◌, ap, ap₂, subst}
-use Rattle.std.specs.Prelude.{◌||◌, is_some, IfOk}
+use Rattle.std.proofs.Common.{◌≡◌, ℕ, Bool, true, false, List, [], ◌∷◌, map, Some, None, refl, sym, ◌∙◌, ap, ap₂, subst}
+use Rattle.std.specs.Prelude.{◌||◌, is_some}
 use Rattle.std.specs.List.{All}
 use Rattle.std.proofs.lemmas.List.Elements.{All-head, All-tail}
 use Rattle.mkv_io.specs.LiveFiles.{LiveFiles}
@@ -15,6 +15,7 @@ use Rattle.lanes.specs.Ends.{given_by, texts_end}
 use Rattle.lanes.specs.Survey.{AreOfOneFile, IsOfFile, IsSameFile, IsSurvey, first_track, stops_any}
 use Rattle.lanes.specs.Walked.{IsWalked}
 use Rattle.lanes.specs.declared.survey_result.Survey.{Survey}
+pub use Rattle.lemmas.proofs.PlainLemmas.{IfOk-map as answer-map}
 
 -- the same file has the same blocks and damages
 same-events : (f : LiveFiles) (t other : TrackLink) → IsSameFile t other → track_events f other ≡ track_events f t
@@ -88,8 +89,3 @@ pub first-all : (P : Link → Type 0) (links : List Link) (t : TrackLink) → fi
 first-all P [] t is all = absurd (cc)
 first-all P (Track other ∷ links) t is all = let same : other ≡ t = cc in subst (λ each. P (Track each)) same (All-head P (Track other) links all)
 first-all P (Entries e ∷ links) t is all = first-all P links t is (All-tail P (Entries e) links all)
-
--- what a walk answers, as a survey
-pub answer-map : {T E : Type 0} (P Q : T → Type 0) (r : Result T E) → ((x : T) → P x → Q x) → IfOk r P → IfOk r Q
-answer-map P Q (Ok x) make holds = make x holds
-answer-map P Q (Err e) make holds = tt

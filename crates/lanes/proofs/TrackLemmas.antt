@@ -6,7 +6,6 @@ use Rattle.std.specs.List.{All, slice_get}
 use Rattle.std.proofs.Math.ListN.{set}
 use Rattle.std.proofs.lemmas.Bool.{cond-false}
 use Rattle.std.proofs.lemmas.Bool.Decides.{nat_tests}
-use Rattle.std.proofs.lemmas.List.Elements.{All-head, All-tail}
 use Rattle.std.proofs.lemmas.Option.{slice_get_within}
 use Rattle.mkv_io.specs.declared.damage.Damage.{Damage}
 use Rattle.mkv_io.specs.declared.outside.ReadEnd.{ReadEnd}
@@ -45,14 +44,9 @@ use Rattle.lanes.proofs.ListLemmas.{drop-at, drop-past}
 use Rattle.lanes.proofs.ToldLemmas.{told-damage, told-leaves, told-passes}
 use Rattle.lanes.proofs.WalkLemmas.{HasLeft, Leaves, Stays, later, left-gives, left-leaves, left-passes, links_left-at}
 use Rattle.lanes.proofs.WayLemmas.{due-leaves, due-stays, length-at, way-leaves, way-stays}
+pub use Rattle.lemmas.proofs.PlainLemmas.{All-get as all-at}
 
 -- ---- what is known of the link
-
--- what holds of all holds of the one at a place
-pub all-at : {X : Type 0} (P : X → Type 0) (xs : List X) (k : ℕ) (x : X) → All P xs → slice_get xs k ≡ Some x → P x
-all-at P [] k x all is = absurd (cc)
-all-at P (y ∷ ys) zero x all is = let e : y ≡ x = cc in subst P e (All-head P y ys all)
-all-at P (y ∷ ys) (suc k) x all is = all-at P ys k x (All-tail P y ys all) is
 
 -- the element at a place
 pub element-at : {X : Type 0} (xs : List X) (k : ℕ) → k < length xs → (x : X) × (slice_get xs k ≡ Some x)

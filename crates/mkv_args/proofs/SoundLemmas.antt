@@ -51,12 +51,9 @@ use Rattle.mkv_args.specs.Merge.{beside, identified, identify, is_word, merge}
 use Rattle.mkv_args.specs.Words.{only_file, alone, info, recover, reindex, blocks_at, generate, command_named, first_command, is_short_help, helped, help_or, command}
 use Rattle.mkv_args.specs.Sound.{names_of, AreTargets, IsSoundJob, IsSoundPlace, AreEdits, IsSound}
 use Rattle.mkv_io.specs.Names.{AreOthers, AreApart}
+use Rattle.lemmas.proofs.PlainLemmas.{neither-true as either-false}
 
 -- ---- targets
-
-either-false : (a b : Bool) → (a || b) ≡ false → (a ≡ false) × (b ≡ false)
-either-false true b is = absurd (cc)
-either-false false b is = (refl, is)
 
 others-more : (name : List ℕ) (before : List Target) (t : Target) → AreOthers name (names_of before) → t.name ≢ name → AreOthers name (names_of (before ++ t ∷ []))
 others-more name [] t others apart = (apart, tt)

@@ -1,7 +1,7 @@
 -- The lines of an extraction, one target after the other.
 use Rattle.std.proofs.Common.{◌≡◌, ℕ, zero, suc, ◌+◌, ◌<◌, ◌≤◌, ◌==◌, nat_le, nat_lt, Bool, true, false, not, ◌||◌, ◌&&◌, if◌then◌else◌, List, [], ◌∷◌, ◌++◌, length, take, drop, get_or, map, filter, Option, Some, None, slice_get, Result, Ok, Err, refl, sym, ◌∙◌, ap, subst, arith}
 use Rattle.std.proofs.lemmas.Bool.{eqb-true, lt-ltb, le-ltb}
-use Rattle.std.proofs.lemmas.List.{drop_all, drop_more, take_more}
+use Rattle.std.proofs.lemmas.List.{drop_all, take_more}
 use Rattle.std.proofs.lemmas.List.Folds.{list_any-append}
 use Rattle.std.specs.List.{find, list_any}
 use Rattle.std.specs.Option.{option_map, option_map_or}
@@ -21,10 +21,8 @@ use Rattle.extractors.specs.declared.frame_form.UnsupportedTrack.TheVariants.{No
 use Rattle.mkv_extract.specs.Extract.{absent, once}
 use Rattle.mkv_extract.specs.Read.{is_named}
 use Rattle.mkv_extract.specs.Told.{has_absent, written}
-
--- what is left of a list in a walk over it
-pub next-left : {A : Type 0} (xs : List A) (k : ℕ) (x : A) → k < length xs → x ≡ get_or xs k x → drop k xs ≡ x ∷ drop (k + 1) xs
-next-left xs k x below is = drop_more xs k x below ∙ ap (λ y. y ∷ drop (k + 1) xs) (sym is)
+use Rattle.lemmas.proofs.PlainLemmas.{or-true as or_true}
+pub use Rattle.lemmas.proofs.PlainLemmas.{drop-get_or as next-left}
 
 -- ---- the tracks that a file hasn't
 
@@ -39,10 +37,6 @@ is_new seen n = not (is_named seen n)
 or_false : (a : Bool) → (a || false) ≡ a
 or_false true = refl
 or_false false = refl
-
-or_true : (a : Bool) → (a || true) ≡ true
-or_true true = refl
-or_true false = refl
 
 -- a number is seen, or it is that of one more
 seen_more : (seen : List Target) (t : Target) (n : ℕ) → is_named (seen ++ t ∷ []) n ≡ (is_named seen n || (t.id == n))

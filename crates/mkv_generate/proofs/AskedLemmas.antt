@@ -1,7 +1,5 @@
 -- Which names are opened and made for the files.
-use Rattle.std.proofs.Common.{◌≡◌, ◌≢◌, ◌⊎◌, inl, inr, ℕ, Bool, true, false, List, [], ◌∷◌, refl, sym, subst}
-use Rattle.std.specs.Str.{bytes_eq}
-use Rattle.std.proofs.lemmas.Slice.Eq.{bytes_eq-Decides}
+use Rattle.std.proofs.Common.{◌≡◌, ◌≢◌, ◌⊎◌, inl, inr, ℕ, List, [], ◌∷◌, sym, subst}
 use Rattle.mkv_io.specs.Asked.{AsksOnly, IsNotAmong}
 use Rattle.mkv_io.specs.declared.asked.Asked.{Asked}
 use Rattle.mkv_io.specs.declared.asked.Asked.TheVariants.{Made, Opened}
@@ -12,14 +10,7 @@ use Rattle.mkv_merge.specs.Asked.{AsksToMerge, IsBesidesMerge}
 use Rattle.mkv_generate.specs.declared.names.Names.{Names}
 use Rattle.mkv_generate.specs.Asked.{AsksToGenerate, IsBesidesGenerate}
 use Rattle.mkv_generate.specs.Generate.{both_words, parts_words}
-
--- two names that differ aren't one
-other-name : (a b : List ℕ) → a ≢ b → bytes_eq a b ≡ false
-other-name a b differs = step (bytes_eq a b) (bytes_eq-Decides a b).0
-  where
-    step : (same : Bool) → (same ≡ true → a ≡ b) → same ≡ false
-    step true is = absurd (differs (is refl))
-    step false is = refl
+use Rattle.lemmas.proofs.PlainLemmas.{bytes_eq-differ as other-name}
 
 -- one of the two files is written
 pub file-asks : (names : Names) (name : List ℕ) (old new : List Asked) → (name ≡ names.pictures) ⊎ (name ≡ names.sounds) → AsksOnly [] (name ∷ []) old new → AsksToGenerate names old new

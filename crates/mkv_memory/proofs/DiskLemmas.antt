@@ -1,6 +1,6 @@
 -- What a disk in memory tells after each call.
 use Rattle.std.proofs.Common.{◌≡◌, ◌≢◌, ◌⊎◌, inl, inr, ℕ, zero, suc, ◌+◌, ◌<◌, ◌≤◌, true, List, [], ◌∷◌, length, take, refl, sym, ◌∙◌, ap, subst, arith, length-append, Option, Some, None, unwrap_or, Result, Ok, Err}
-use Rattle.std.specs.Prelude.{IfOk, OnOk}
+use Rattle.std.specs.Prelude.{OnOk}
 use Rattle.std.proofs.lemmas.Bool.{cases_lt, false≢true}
 use Rattle.std.proofs.lemmas.List.{take-append-le, take_all}
 use Rattle.mkv_io.specs.declared.outside.Failed.{Failed}
@@ -12,11 +12,7 @@ use Rattle.mkv_memory.specs.SeenDisk.{MakesChange, SeenDisk, content_in, is_live
 use Rattle.mkv_memory.specs.Sound.{IsSound}
 use Rattle.mkv_memory.proofs.LogLemmas.{reads-changed_by, replay-append}
 use Rattle.mkv_memory.proofs.SoundLemmas.{grown-pair, shrunk-pair}
-
--- where an answer has a fact, it has what follows from it
-pub if_ok : {T E : Type 0} (P Q : T → Type 0) (r : Result T E) → ((x : T) → P x → Q x) → IfOk r P → IfOk r Q
-if_ok P Q (Ok x) so has = so x has
-if_ok P Q (Err e) so has = tt
+pub use Rattle.lemmas.proofs.PlainLemmas.{IfOk-map as if_ok}
 
 -- ---- histories
 

@@ -29,14 +29,12 @@ use Rattle.mkv_lines.specs.Line.{more_damages_line, warning_line}
 use Rattle.mkv_io.specs.Lists.{is_some_of}
 use Rattle.mkv_merge.specs.Merge.{damages_met, damages_warned, first_met, has_damage, links_met, warnings}
 use Rattle.mkv_merge.specs.Told.{damages_at, input_warnings, more_at, warnings_from}
+use Rattle.lemmas.proofs.PlainLemmas.{differ-false as other-is, neither-true as neither}
 
 -- ---- tests of numbers
 
 same-is : (n : ℕ) → (n == n) ≡ true
 same-is n = grind (arith, nat_tests)
-
-other-is : (n k : ℕ) → n ≢ k → (n == k) ≡ false
-other-is n k apart = grind (arith, nat_tests)
 
 is-same : (n k : ℕ) → (n == k) ≡ true → n ≡ k
 is-same n k is = grind (arith, nat_tests)
@@ -246,10 +244,6 @@ none-is (x ∷ xs) none = absurd (cc)
 first-none : (k : ℕ) (xs : List Damage) → first_damages k (told_damages xs) ≡ [] → xs ≡ []
 first-none k [] none = refl
 first-none k (x ∷ xs) none = absurd (cc)
-
-neither : (a b : Bool) → (a || b) ≡ false → (a ≡ false) × (b ≡ false)
-neither true b none = absurd (cc)
-neither false b none = (refl, none)
 
 -- no source has one
 none-any : (sources : List Source) → ((k : ℕ) → damages_met sources k ≡ []) → (n count : ℕ) → list_any (λ k. is_some_of (damages_met sources k)) (range_with_len n count) ≡ false

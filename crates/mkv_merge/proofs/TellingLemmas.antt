@@ -1,7 +1,6 @@
 -- The lines of a merge, one item after the other.
 use Rattle.std.proofs.Common.{◌≡◌, ℕ, suc, ◌+◌, ◌<◌, ◌≤◌, Bool, true, false, ◌||◌, if◌then◌else◌, List, [], ◌∷◌, ◌++◌, append_assoc, length, drop, get_or, map, filter, flat_map, refl, sym, ◌∙◌, ap, subst, arith}
 use Rattle.std.specs.List.{list_any, zip}
-use Rattle.std.proofs.Math.Seq.{drop-cons}
 use Rattle.std.proofs.lemmas.List.{drop_all}
 use Rattle.mkv_io.specs.Lines.{with_lines}
 use Rattle.requests.specs.declared.merge.FileWords.{FileWords}
@@ -18,18 +17,9 @@ use Rattle.mkv_io.specs.Lists.{is_some_of}
 use Rattle.mkv_merge.specs.Merge.{absent, absent_lines, absent_of, has_absent, lines_before}
 use Rattle.mkv_merge.specs.Prepared.{reads_in}
 use Rattle.mkv_merge.specs.Told.{damages_at, input_warnings, more_at, warnings_from}
+pub use Rattle.lemmas.proofs.PlainLemmas.{drop-get_or as drop-at}
 
 -- ---- a walk over a list
-
--- the item at a place, and those behind it
-pub drop-at : {A : Type 0} (xs : List A) (k : ℕ) (x : A) → k < length xs → x ≡ get_or xs k x → drop k xs ≡ x ∷ drop (k + 1) xs
-drop-at {A = A} xs k x below is =
-    drop-cons xs k x below
-    ∙ ap (λ (each : A). each ∷ drop (suc k) xs) (sym is)
-    ∙ ap (λ (n : ℕ). x ∷ drop n xs) (one_more k)
-  where
-    one_more : (n : ℕ) → suc n ≡ n + 1
-    one_more n = omega arith
 
 -- ---- a line for each item that is kept
 

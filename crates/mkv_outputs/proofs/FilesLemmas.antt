@@ -1,5 +1,5 @@
 -- The live files, as some of them are written.
-use Rattle.std.proofs.Common.{◌≡◌, ◌≢◌, ℕ, zero, suc, ◌+◌, ◌<◌, ◌≤◌, List, [], ◌∷◌, ◌++◌, length, get_or, Bool, true, false, ◌⊎◌, inl, inr, Result, Ok, Err, OnErr, OnOk, refl, sym, ◌∙◌, ap, subst, arith, below_more}
+use Rattle.std.proofs.Common.{◌≡◌, ◌≢◌, ℕ, zero, suc, ◌+◌, ◌<◌, ◌≤◌, List, [], ◌∷◌, ◌++◌, length, get_or, Bool, true, false, ◌⊎◌, inl, inr, Result, Ok, Err, OnErr, refl, sym, ◌∙◌, ap, subst, arith, below_more}
 use Rattle.std.specs.List.{All, AllPairs, AllWithin}
 use Rattle.std.proofs.Math.ListN.{set}
 use Rattle.std.proofs.Math.Dec.{eqb}
@@ -19,6 +19,7 @@ use Rattle.mkv_io.proofs.WritingLemmas.{IsSameFile-twice, KeepsOthers-more, Writ
 use Rattle.mkv_outputs.specs.Sinks.{AreLive, AreOpen, ArePassed, AreRising, EndsOnly, IsNoneOf, MadeSince, MakesOnly, WritesOutputs, ids_of, holders_of, names_under}
 use Rattle.mkv_outputs.specs.declared.sink.Sink.{Sink}
 use Rattle.mkv_outputs.proofs.GivenLemmas.{ids_of-at, holders_of-kept, length-ids_of}
+pub use Rattle.lemmas.proofs.PlainLemmas.{OnOk-map}
 
 -- one of the files is live
 pub AreLive-at : (live : ℕ → Bool) (sinks : List Sink) (k : ℕ) (was : Sink) → AreLive live (ids_of sinks) → k < length sinks → was ≡ get_or sinks k was → live was.file.n ≡ true
@@ -42,11 +43,6 @@ ArePassed-more (s ∷ ss) (suc k) next below none are = at (ArePassed-more ss k 
     at : ArePassed (k + 1) (set ss k next) → ArePassed (suc k + 1) (s ∷ set ss k next)
     at rest zero d low high = are 0 d (omega arith) (omega arith)
     at rest (suc j) d low high = rest j d (omega arith) (omega arith)
-
--- what follows from what an answer says
-pub OnOk-map : {T E A B : Type 0} (result : Result T E) → (A → B) → OnOk result A → OnOk result B
-OnOk-map (Ok value) gives holds = gives holds
-OnOk-map (Err fault) gives holds = tt
 
 -- ---- one more file
 

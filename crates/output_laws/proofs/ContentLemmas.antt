@@ -1,11 +1,10 @@
 -- The octets of a block spell what was written.
-use Rattle.std.proofs.Common.{◌≡◌, ℕ, ◌+◌, ◌-◌, ◌^◌, ◌<◌, ◌≤◌, ◌==◌, nat_le, nat_lt, Bool, true, false, ◌||◌, if◌then◌else◌, ℤ, pos, negsuc, List, [], ◌∷◌, ◌++◌, length, map, take, drop, slice_index, sum, append-nil, append_assoc, length-append, Result, Ok, Err, refl, ap, ap₂, ◌∙◌, arith}
+use Rattle.std.proofs.Common.{◌≡◌, ℕ, ◌+◌, ◌-◌, ◌^◌, ◌<◌, ◌≤◌, ◌==◌, nat_le, nat_lt, Bool, true, false, ◌||◌, if◌then◌else◌, ℤ, pos, negsuc, List, [], ◌∷◌, ◌++◌, length, map, take, drop, slice_index, append-nil, append_assoc, Result, Ok, Err, refl, ap, ap₂, ◌∙◌, arith}
 use Rattle.std.specs.List.{concat}
 use Rattle.std.proofs.Math.Seq.{take-append_seam, drop-append_seam}
 use Rattle.std.proofs.lemmas.Bool.{cond-false, ne_eqb, le-ltb, lt-ltb, and_parts}
 use Rattle.std.proofs.lemmas.Bool.Decides.{nat_tests}
 use Rattle.std.proofs.lemmas.Int.{ints}
-use Rattle.std.proofs.lemmas.List.Sums.{sum_by-cons}
 use Rattle.std.specs.Prelude.{◌-ℤ◌, ◌+ℤ◌}
 use Rattle.ebml_numbers.specs.Number.{width, vint_data, int_of, int_fits, int_octets_in}
 use Rattle.ebml_numbers.proofs.WidthLemmas.{width-of}
@@ -23,15 +22,9 @@ use Rattle.output_model.specs.Block.{count_and_head, frame_octets, block_flags, 
 use Rattle.output_model.specs.Cluster.{is_near}
 use Rattle.output_model.specs.Sound.{IsSoundIn}
 use Rattle.output_laws.proofs.FlagLemmas.{block_flags-read, simple_block_flags-read}
+pub use Rattle.lemmas.proofs.PlainLemmas.{length-concat}
 
 -- ---- the frames
-
-pub length-concat : (frames : List (List ℕ)) → length (concat frames) ≡ sum (map length frames)
-length-concat [] = refl
-length-concat (frame ∷ frames) =
-    let rest = length-concat frames in
-    let total = sum_by-cons (λ (x : ℕ). x) (length frame) (map length frames) in
-    length-append frame (concat frames) ∙ omega arith
 
 -- joined frames are cut by their sizes
 frames_cut-concat : (frames : List (List ℕ)) → frames_cut (map length frames) (concat frames) ≡ frames

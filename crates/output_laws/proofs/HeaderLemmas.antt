@@ -25,6 +25,7 @@ use Rattle.output_model.proofs.ReadLemmas.{element_at-read, stands-body, childre
 use Rattle.output_model.proofs.AskedLemmas.{IsRead, headers-read, first_of-read, find-none}
 use Rattle.output_laws.proofs.GroupLemmas.{IsElement-element}
 use Rattle.output_model.specs.Document.{doc_type, ebml_element}
+use Rattle.lemmas.proofs.PlainLemmas.{map-or as map_or-is}
 
 -- ---- what is computed of the two headers
 
@@ -71,10 +72,6 @@ computes false = record {
 }
 
 -- ---- what is read
-
-map_or-is : {A B : Type 0} (f : A → B) (o : Option A) (d : B) → option_map_or f o d ≡ unwrap_or (option_map f o) d
-map_or-is f None d = refl
-map_or-is f (Some x) d = refl
 
 first_of-or : {A : Type 0} (bytes : List ℕ) (value : List ℕ → A) (id : ℕ) (other : A) (hs : List Header) (ds : List Element) → AllZip (IsRead bytes) hs ds
     → option_map_or (λ (h : Header). value (body_of bytes h)) (first_of id hs) other ≡ option_map_or (λ (d : Element). value d.body) (find (λ (d : Element). d.id == id) ds) other

@@ -1,7 +1,6 @@
 -- What was kept of a group that was read can be written and read again.
 use Rattle.std.proofs.Common.{◌≡◌, ℕ, ◌-◌, ◌≤◌, not, Bool, true, false, cond, List, [], ◌∷◌, length, filter, find, All, Option, Some, None, Ok, refl, sym, ap, ap₂, ◌∙◌, subst, arith}
 use Rattle.std.specs.List.{AllZip}
-use Rattle.std.specs.Option.{option_map}
 use Rattle.std.proofs.lemmas.List.Elements.{All-nil, All-cons, All-head, All-tail}
 use Rattle.ebml_numbers.specs.Number.{AreOctets}
 use Rattle.mkv_schema.specs.declared.ids.TheConstants.{BLOCK_GROUP, BLOCK}
@@ -20,6 +19,7 @@ use Rattle.output_model.proofs.AskedLemmas.{IsRead, headers-read, octets_of-read
 use Rattle.mkv_schema.proofs.OutlineLemmas.{and_then-ok, unless-ok}
 use Rattle.output_model.proofs.WrittenLemmas.{children-written}
 use Rattle.output_model.specs.Sound.{IsKeptElement, AreKept}
+use Rattle.lemmas.proofs.PlainLemmas.{map-none as no-value}
 
 -- ---- what stood behind an answer
 
@@ -27,10 +27,6 @@ no-causes : (a b : Option Damage) → first_damage (a ∷ b ∷ []) ≡ None →
 no-causes None None is = (refl, refl)
 no-causes None (Some d) is = absurd (cc)
 no-causes (Some d) b is = absurd (cc)
-
-no-value : {A B : Type 0} (f : A → B) (o : Option A) → option_map f o ≡ None → o ≡ None
-no-value f None is = refl
-no-value f (Some x) is = absurd (cc)
 
 -- ---- where none fails a test, all pass
 

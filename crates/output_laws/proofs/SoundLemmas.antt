@@ -1,6 +1,6 @@
 -- What is made of a block that a reader finds is sound.
 use Rattle.std.proofs.Common.{◌≡◌, ℕ, ◌+◌, ◌-◌, ◌*◌, ◌/◌, ◌^◌, ◌<◌, ◌≤◌, ◌==◌, nat_abs, ℤ, pos, negsuc, List, [], ◌∷◌, length, map, All, Option, Some, None, IfSome, refl, sym, ap, ◌∙◌, subst, arith}
-use Rattle.std.specs.Prelude.{◌+ℤ◌, ◌-ℤ◌}
+use Rattle.std.specs.Prelude.{◌+ℤ◌}
 use Rattle.std.specs.Option.{option_map}
 use Rattle.std.proofs.Math.Nat.{add-mul}
 use Rattle.std.proofs.lemmas.Int.{ints}
@@ -19,6 +19,7 @@ use Rattle.output_laws.proofs.FrameLemmas.{frames-can}
 use Rattle.merge_model.specs.Ticks.{since_start, floor_div, tick_of, tick_near, ticks_for, ticks_to}
 use Rattle.merge_model.specs.Links.{Placing, lace_for, output_block, delayed, placed_at, placed}
 use Rattle.output_laws.specs.Read.{IsReadBlock, IsPlacing, LEAST_SCALE}
+use Rattle.lemmas.proofs.PlainLemmas.{abs-add as abs-sum, abs-sub as abs-less}
 
 -- ---- frames
 
@@ -78,12 +79,6 @@ near-small s (negsuc n) least low = split (negsuc n +ℤ pos (s / 2)) refl
         let less : m ≤ n = omega (arith, ints) in
         let q = below-quotient m s least in
         omega arith
-
-abs-sum : (x y : ℤ) → nat_abs (x +ℤ y) ≤ nat_abs x + nat_abs y
-abs-sum x y = omega (arith, ints)
-
-abs-less : (x y : ℤ) → nat_abs (x -ℤ y) ≤ nat_abs x + nat_abs y
-abs-less x y = omega (arith, ints)
 
 magnitude-le : (z : ℤ) → magnitude z ≤ nat_abs z
 magnitude-le (pos n) = omega arith

@@ -1,6 +1,5 @@
 -- Where chapters stand, and what stands beside them, is nothing to their identifiers.
-use Rattle.std.proofs.Common.{◌≡◌, ℕ, ◌+◌, ◌==◌, Bool, true, false, if◌then◌else◌, List, [], ◌∷◌, ◌++◌, length, map, flat_map, Option, None, Some, refl, sym, ap, ap₂, ◌∙◌, inl, inr, find, unwrap_or}
-use Rattle.std.specs.Option.{option_map, option_map_or}
+use Rattle.std.proofs.Common.{◌≡◌, ℕ, ◌+◌, ◌==◌, Bool, true, false, if◌then◌else◌, List, [], ◌∷◌, ◌++◌, length, map, flat_map, Option, refl, sym, ap, ap₂, ◌∙◌, inl, inr, find, unwrap_or}
 use Rattle.std.proofs.lemmas.List.{length-map, map-append}
 use Rattle.std.proofs.lemmas.Bool.{cases_Bool}
 use Rattle.mkv_schema.specs.declared.ids.TheConstants.{CHAPTER_ATOM, CHAPTER_UID}
@@ -13,6 +12,7 @@ use Rattle.tree_format.proofs.PartLemmas.{part-other}
 use Rattle.record_laws.proofs.TrackLemmas.{placed-integer}
 use Rattle.record_changes.specs.Atoms.{atoms_among, atoms_at, value_in}
 use Rattle.record_laws.proofs.SameLemmas.{filler-other}
+pub use Rattle.lemmas.proofs.PlainLemmas.{map-or}
 
 -- the ChapterUIDs of an Element, if it is an atom, and of the atoms inside it; and of Elements one behind the other
 abbrev pub uids_at : Node → List ℕ
@@ -38,10 +38,6 @@ pub filler-none : (n : Node) → is_filler (id_of n) ≡ true → atoms_at n ≡
 filler-none n filler = atoms-none n (filler-other (id_of n) CHAPTER_ATOM filler refl)
 
 -- ---- where they stand
-
-pub map-or : {A B : Type 0} (f : A → B) (o : Option A) (d : B) → option_map_or f o d ≡ unwrap_or (option_map f o) d
-map-or f None d = refl
-map-or f (Some x) d = refl
 
 pub value-placed : (id : ℕ) (n : Node) (p : ℕ) → is_filler id ≡ false → value_in id (placed p n) ≡ value_in id n
 value-placed id (leaf i at body) p kept = refl

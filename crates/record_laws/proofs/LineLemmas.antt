@@ -8,7 +8,7 @@ use Rattle.std.proofs.Math.Seq.{drop-append_seam}
 use Rattle.std.proofs.Math.Nat.{div-div-eq-div-mul}
 use Rattle.std.specs.List.{slice_split}
 use Rattle.std.specs.Char.{is_ascii_digit}
-use Rattle.std.specs.Str.Lines.{lines, lines_of_parts, strip_carriage_return}
+use Rattle.std.specs.Str.Lines.{lines, strip_carriage_return}
 use Rattle.std.proofs.lemmas.Bool.{and_from}
 use Rattle.std.proofs.lemmas.Slice.Eq.{bytes_eq-Decides}
 use Rattle.text_formats.specs.Fields.{behind}
@@ -17,6 +17,7 @@ use Rattle.mkv_io.specs.Octets.{lacks}
 use Rattle.record_laws.specs.Plain.{ends_with_return, IsLine}
 use Rattle.mkv_io.proofs.OctetsLemmas.{digits_lack, lacks_both, lacks_parts}
 use Rattle.record_laws.proofs.DigitsLemmas.{two_all, three_all, padded_all}
+use Rattle.lemmas.proofs.PlainLemmas.{lines-more as part_more}
 
 -- ---- what a text lacks
 pub lacks_more : (o b : ℕ) (w : List ℕ) → (b == o) ≡ false → lacks o w ≡ true → lacks o (b ∷ w) ≡ true
@@ -39,9 +40,6 @@ ends_both (x ∷ []) y ys = ends_more x y ys
 ends_both (x ∷ z ∷ zs) y ys = let more = ends_both (z ∷ zs) y ys in let first = ends_more x z (zs ++ (y ∷ ys)) in cc (more, first)
 
 -- ---- one line
-part_more : (x : List ℕ) (parts : List (List ℕ)) → 0 < length parts → lines_of_parts (x ∷ parts) ≡ strip_carriage_return x ∷ lines_of_parts parts
-part_more x [] some = absurd (omega arith)
-part_more x (y ∷ more) some = refl
 
 stripped : (x : List ℕ) → ends_with_return x ≡ false → strip_carriage_return x ≡ x
 stripped x none = rw none refl

@@ -1,5 +1,5 @@
 -- The tracks of an output are taken and merged again as they were.
-use Rattle.std.proofs.Common.{◌≡◌, ◌<◌, ℕ, ◌+◌, ◌^◌, ◌==◌, Bool, true, false, ◌||◌, if◌then◌else◌, List, [], ◌∷◌, ◌++◌, length, map, All, Option, None, Some, refl, sym, ap, ap₂, subst, ◌∙◌, suc}
+use Rattle.std.proofs.Common.{◌≡◌, ◌<◌, ℕ, ◌+◌, ◌^◌, ◌==◌, Bool, true, false, ◌||◌, if◌then◌else◌, List, [], ◌∷◌, ◌++◌, length, map, All, Option, None, refl, sym, ap, ap₂, subst, ◌∙◌, suc}
 use Rattle.std.specs.List.{AllZip}
 use Rattle.std.specs.Option.{option_and_then, option_map, option_map_or}
 use Rattle.std.proofs.lemmas.List.{length-map}
@@ -36,6 +36,7 @@ use Rattle.remerge_laws.specs.Records.{AreTracksOf}
 use Rattle.remerge_laws.specs.Tracks.{IsTrackOf}
 use Rattle.remerge_laws.proofs.OwnTrackLemmas.{own-tracks}
 use Rattle.remerge_laws.proofs.PlacedLemmas.{first-placed}
+use Rattle.lemmas.proofs.PlainLemmas.{map-none as none-there}
 
 -- ---- all tracks are taken
 
@@ -80,10 +81,6 @@ types-taken [] (t ∷ ts) are types = absurd are
 types-taken (e ∷ es) [] are types = absurd are
 types-taken (e ∷ es) (t ∷ ts) are types =
     All-cons HasTakenType t ts (ap is_taken_type are.0.kind ∙ All-head HasTypeTaken e es types) (types-taken es ts are.1 (All-tail HasTypeTaken e es types))
-
-none-there : {A B : Type 0} (f : A → B) (o : Option A) → option_map f o ≡ None → o ≡ None
-none-there f None none = refl
-none-there f (Some x) none = absurd (cc)
 
 -- it has none where it was written
 pub bare-placed : (e : Node) (p : ℕ) → IsBare e → IsBare (placed p e)

@@ -1,12 +1,13 @@
 -- Digits that are read one by one.
-use Rattle.std.proofs.Common.{◌≡◌, ℕ, suc, ◌+◌, ◌-◌, ◌*◌, ◌^◌, ◌<◌, ◌≤◌, Bool, true, false, ◌&&◌, cond, nat_lt, List, [], ◌∷◌, length, drop, get_or, Option, Some, None, refl, subst, arith, rules, le_refl, le_trans, drop-cons}
-use Rattle.std.proofs.lemmas.Str.Parse.{IsNumeralModel, numerals_by_value, digits_value_short}
+use Rattle.std.proofs.Common.{◌≡◌, ℕ, suc, ◌+◌, ◌-◌, ◌*◌, ◌^◌, ◌<◌, ◌≤◌, Bool, true, false, ◌&&◌, cond, nat_lt, List, [], ◌∷◌, length, drop, get_or, Option, Some, None, refl, subst, arith, le_refl, le_trans, drop-cons}
+use Rattle.std.proofs.lemmas.Str.Parse.{digits_value_short}
 use Rattle.std.proofs.lemmas.Grind.{common_steps}
 use Rattle.std.proofs.lemmas.Bool.Decides.{nat_tests}
 use Rattle.std.specs.List.{list_all}
 use Rattle.std.specs.Char.{is_ascii_digit, digit_value}
 use Rattle.std.specs.Str.Parse.{digits_value, digits_value_after}
 use Rattle.requests.specs.Decimal.{below, whole}
+use Rattle.lemmas.proofs.PlainLemmas.{decimal-numeral as own}
 
 -- what digits write behind those of a number
 abbrev pub read_on : ℕ → List ℕ → Option ℕ
@@ -39,9 +40,6 @@ read_too_large n i word within digit large =
 -- no digits are left
 pub read_end : (n i : ℕ) (word : List ℕ) → length word ≤ i → n < 2 ^ 64 → below (2 ^ 64) (read_on n (drop i word)) ≡ Some n
 read_end n i word past small = let none : drop i word ≡ [] = grind (arith, common_steps) in rw none (grind (arith, nat_tests))
-
-own : IsNumeralModel (λ ds. list_all is_ascii_digit ds ≡ true) (digits_value 10)
-own = numerals_by_value (λ ds. list_all is_ascii_digit ds ≡ true) (search rules)
 
 value_cases : (k : ℕ) (ds : List ℕ) (v : ℕ) (some all : Bool) → list_all is_ascii_digit ds ≡ all → cond (some && all) (Some (digits_value 10 ds)) None ≡ Some v → length ds ≤ k → v < 10 ^ k
 value_cases k ds v true true is e short = let small : digits_value 10 ds < 10 ^ k = digits_value_short own ds k is short in let same : digits_value 10 ds ≡ v = cc in subst (λ n. n < 10 ^ k) same small

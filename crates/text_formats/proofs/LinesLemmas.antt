@@ -6,14 +6,10 @@ use Rattle.std.proofs.lemmas.List.Splits.{slice_split_first, length-slice_split}
 use Rattle.std.specs.Prelude.{◌==◌}
 use Rattle.std.specs.List.{slice_split, position, position_or_len}
 use Rattle.std.specs.Str.Lines.{lines, lines_of_parts, strip_carriage_return}
+use Rattle.lemmas.proofs.PlainLemmas.{lines-more as part_more}
 
 abbrev pub is_lf : ℕ → Bool
 is_lf b = b == 10
-
--- a part that isn't the last
-part_more : (x : List ℕ) (parts : List (List ℕ)) → 0 < length parts → lines_of_parts (x ∷ parts) ≡ strip_carriage_return x ∷ lines_of_parts parts
-part_more x [] some = absurd (omega arith)
-part_more x (y ∷ more) some = refl
 
 first_at : (w : List ℕ) → position_or_len is_lf w < length w → lines w ≡ strip_carriage_return (take (position_or_len is_lf w) w) ∷ lines (drop (position_or_len is_lf w + 1) w)
 first_at w within =

@@ -28,6 +28,7 @@ use Rattle.tree_format.specs.Standing.{IsLeafIn, AllStandIn, IsSound, KeepsLimit
 use Rattle.tree_format.proofs.NodeLemmas.{nodes-list}
 use Rattle.tree_format.proofs.ReadingLemmas.{grove-more, grove-end}
 use Rattle.tree_format.proofs.WrittenLemmas.{length-header_octets}
+use Rattle.lemmas.proofs.PlainLemmas.{both-true as both}
 
 -- ---- an ID
 
@@ -150,11 +151,6 @@ grove-again room left parent p id body rest reads small =
 pub display-parent : (parent : ℕ) → is_master_in parent CHAPTER_DISPLAY ≡ (parent == CHAPTER_ATOM && true)
 unfolding entry_of table
 display-parent parent = refl
-
-both : (a b : Bool) → (a && b) ≡ true → (a ≡ true) × (b ≡ true)
-both true true is = (refl, refl)
-both true false is = absurd (cc)
-both false b is = absurd (cc)
 
 -- a master of the table is read where it stands
 pub master-reads : (parent id : ℕ) → is_master_in parent id ≡ true → IsReadIn parent id

@@ -19,13 +19,9 @@ use Rattle.tree_format.proofs.ReadingLemmas.{grove-more, grove-end, header_at-fi
 use Rattle.tree_format.proofs.AgainLemmas.{IsReadIn, display-parent, sound-again, kept-le}
 use Rattle.mkv_schema.proofs.OutlineLemmas.{and_then-ok}
 use Rattle.ebml_numbers.proofs.SpelledLemmas.{AreOctets-take, AreOctets-drop}
+use Rattle.lemmas.proofs.PlainLemmas.{both-true as both}
 
 -- ---- an ID
-
-both : (a b : Bool) → (a && b) ≡ true → (a ≡ true) × (b ≡ true)
-both true true is = (refl, refl)
-both true false is = absurd (cc)
-both false b is = absurd (cc)
 
 id_in-reads : (parent : ℕ) (octets : List ℕ) (read : IdRead) → AreOctets octets → id_in (in_tree parent) octets ≡ Ok read → IsReadIn parent read.id
 id_in-reads parent octets read bytes is = split (parent == CHAPTER_ATOM && slice_index octets 0 == CHAPTER_DISPLAY) refl is

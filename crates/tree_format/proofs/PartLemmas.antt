@@ -1,5 +1,5 @@
 -- The children of an ID, and of every other, after a change.
-use Rattle.std.proofs.Common.{◌≡◌, ◌≢◌, ◌⊎◌, inl, inr, ℕ, ◌+◌, ◌==◌, nat_lt, Bool, true, false, not, cond, List, [], ◌∷◌, ◌++◌, length, length-append, append-nil, append_assoc, drop, position, None, Some, refl, sym, ap, ap₂, ◌∙◌, arith}
+use Rattle.std.proofs.Common.{◌≡◌, ◌⊎◌, inl, inr, ℕ, ◌+◌, ◌==◌, nat_lt, Bool, true, false, not, cond, List, [], ◌∷◌, ◌++◌, length, length-append, append-nil, append_assoc, drop, position, None, Some, refl, sym, ap, ap₂, ◌∙◌, arith}
 use Rattle.std.specs.List.{position_or_len}
 use Rattle.std.proofs.Math.Seq.{take-append_seam, drop-append_seam}
 use Rattle.std.proofs.lemmas.Bool.{cond-true, cond-false, lt-ltb, le-ltb, eq-eqb}
@@ -8,6 +8,7 @@ use Rattle.std.proofs.lemmas.List.Elements.{All-nil, All-cons, All-head, All-tai
 use Rattle.tree_format.specs.Node.{Node, id_of}
 use Rattle.tree_format.specs.Changes.{without, placed_at, with_child, part, HasNone}
 use Rattle.tree_format.specs.Laws.{ChildrenChange}
+use Rattle.lemmas.proofs.PlainLemmas.{differ-false as apart}
 
 -- where there is none of an ID, none is taken out
 pub without-none : (id : ℕ) (ns : List Node) → HasNone id ns → without id ns ≡ ns
@@ -143,9 +144,6 @@ part-set n ns = of (split-first (id_of n) ns)
     of (inr s) =
         ap (part (id_of n)) (ap (with_child n) s.whole ∙ with_child-at n s.first s.front s.back s.is s.none_before)
         ∙ alone s.front (without (id_of n) s.back) s.none_before (none-without (id_of n) s.back)
-
-apart : (a b : ℕ) → a ≢ b → (a == b) ≡ false
-apart a b other = grind (arith, nat_tests)
 
 -- What a change leaves of the children of each ID.
 pub children-change : ChildrenChange

@@ -1,5 +1,5 @@
 -- The Elements of a body, one step at a time.
-use Rattle.std.proofs.Common.{◌≡◌, ℕ, zero, suc, ◌+◌, ◌-◌, ◌<◌, ◌≤◌, ◌==◌, nat_lt, Bool, true, false, ◌&&◌, if◌then◌else◌, List, [], ◌∷◌, ◌++◌, ◌||◌, slice_index, append-nil, append_assoc, length, drop, Option, Some, None, Result, Ok, Err, refl, sym, ◌∙◌, ap, subst, arith}
+use Rattle.std.proofs.Common.{◌≡◌, ℕ, zero, suc, ◌+◌, ◌-◌, ◌<◌, ◌≤◌, ◌==◌, nat_lt, Bool, true, false, ◌&&◌, if◌then◌else◌, List, [], ◌∷◌, ◌++◌, slice_index, append-nil, append_assoc, length, drop, Option, Some, None, Result, Ok, Err, refl, sym, ◌∙◌, ap, subst, arith}
 use Rattle.std.proofs.lemmas.List.{length-take, length-drop}
 use Rattle.std.proofs.lemmas.Bool.Decides.{nat_tests}
 use Rattle.ebml_numbers.specs.declared.number.IdRead.{IdRead}
@@ -22,6 +22,7 @@ use Rattle.tree_format.specs.Node.{Node, leaf, nodes_of, depth, depth_all}
 use Rattle.tree_format.proofs.NodeLemmas.{depth_all-append}
 use Rattle.tree_format.specs.Fits.{Fits}
 use Rattle.tree_format.specs.Reading.{Reader, Grove, Grown, header_at, inside, behind, is_master_in, refused, as_master, grown, with_first, first_then, grove_within, grove}
+use Rattle.lemmas.proofs.PlainLemmas.{or-true}
 
 -- ---- where a header stands
 
@@ -135,10 +136,6 @@ id-of-size parent total p e id at h (Err fault.Bad) is = absurd (cc)
 id-of-size parent total p e id at h (Ok size) is =
     let made : Header = record { id = id; offset = p; body = at + size.len; size = size.size } in
     id-of-body made h (body_damage (in_tree parent) total e made) is
-
-or-true : (b : Bool) → (b || true) ≡ true
-or-true true = refl
-or-true false = refl
 
 -- an ID that is read is a valid one, or ChapterDisplay's
 id_in-written : (parent : ℕ) (octets : List ℕ) (read : IdRead) → AreOctets octets → id_in (in_tree parent) octets ≡ Ok read → is_written_id read.id ≡ true

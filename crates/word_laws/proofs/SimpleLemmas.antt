@@ -1,7 +1,6 @@
 -- Commands of one to three words are read back.
-use Rattle.std.proofs.Common.{◌≡◌, ◌≢◌, ℕ, true, false, List, [], ◌∷◌, codes, Some, None, Ok, refl, ap, ◌∙◌, arith, le-leb, lt-ltb}
-use Rattle.std.proofs.lemmas.Bool.{and_right, false_from_ne_true}
-use Rattle.std.proofs.lemmas.Slice.Eq.{bytes_eq-Decides}
+use Rattle.std.proofs.Common.{◌≡◌, ℕ, true, false, List, [], ◌∷◌, codes, Some, None, Ok, refl, ap, ◌∙◌, arith, le-leb, lt-ltb}
+use Rattle.std.proofs.lemmas.Bool.{and_right}
 use Rattle.std.specs.Str.{bytes_eq}
 use Rattle.std.specs.Fmt.{decimal}
 use Rattle.word_values.specs.Place.{is_option}
@@ -17,10 +16,9 @@ use Rattle.word_laws.specs.Spelled.{verb_word}
 use Rattle.word_laws.specs.Names.{IsFileName, IsInputName}
 use Rattle.word_laws.specs.Spellable.{HasHelp}
 use Rattle.word_laws.proofs.NumberLemmas.{number_read}
+pub use Rattle.lemmas.proofs.PlainLemmas.{bytes_eq-differ as other_word}
 
 -- ---- words that are another word
-pub other_word : (a b : List ℕ) → a ≢ b → bytes_eq a b ≡ false
-other_word a b other = false_from_ne_true (bytes_eq a b) (λ is. other ((bytes_eq-Decides a b).0 is))
 
 -- a file's name is no option
 pub no_option : (name option : List ℕ) → IsFileName name → is_option option ≡ true → bytes_eq name option ≡ false

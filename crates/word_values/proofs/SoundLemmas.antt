@@ -27,6 +27,7 @@ use Rattle.word_values.proofs.AnswerLemmas.{either}
 use Rattle.requests.proofs.DecimalLemmas.{whole_small}
 use Rattle.word_values.specs.Sound.{IsSoundValue}
 use Rattle.requests.specs.Sound.{IsWithin, AreTimes, IsSpan, AreSpans, AreUuids, IsSoundSplit}
+use Rattle.lemmas.proofs.PlainLemmas.{both-true as conj}
 
 -- ---- numbers
 
@@ -130,10 +131,6 @@ unfolding spans
 spans-sound word ss is =
     let both = passing-is (follow 0) (each span (pieces word)) ss is in
     record { follow = both.0; each = each-all IsSpan span (pieces word) ss span-sound both.1 }
-
-conj : (a b : Bool) → (a && b) ≡ true → (a ≡ true) × (b ≡ true)
-conj true b is = (refl, is)
-conj false b is = absurd (cc)
 
 uuids-sound : (word : List ℕ) (us : List ℕ) → uuids word ≡ Some us → AreUuids us
 unfolding uuids

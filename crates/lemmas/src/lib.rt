@@ -1,0 +1,3 @@
+#![tactic(auto)]
+
+//! Statements over plain data that the kit's libraries haven't: lemmas alone, which several crates cite.
