@@ -13,7 +13,7 @@ pub mod laws;
 mod new_seeks;
 mod old_seek_head;
 mod part;
-mod parts_writes;
+mod part_writes;
 mod plan_end;
 mod planning;
 mod prepared;
@@ -25,7 +25,7 @@ mod size_field;
 mod write;
 
 pub use part::Part;
-pub use parts_writes::parts_writes;
+pub use part_writes::parts_writes;
 pub use plan_end::PlanEnd;
 pub use planning::edit_writes;
 pub use reading::read_trees;

@@ -12,7 +12,7 @@ ghost use Rattle.edit_plan.specs.Answer.{Answers, Gives, AnswersTrees, is_plan_f
 ghost use Rattle.edit_plan.specs.Opening.{opening};
 
 use crate::building::parts;
-use crate::parts_writes::parts_writes;
+use crate::part_writes::parts_writes;
 use crate::plan_end::PlanEnd;
 use crate::reading::read_trees;
 use crate::seek_rule::Rewriting;

@@ -14,52 +14,51 @@ use Rattle.word_values.specs.declared.values.ValueForm.TheVariants as f
 use Rattle.merge_words.specs.declared.options.Meaning.{Meaning}
 use Rattle.merge_words.specs.declared.options.OptionRow.{OptionRow}
 
--- an option's short and long spelling, what it is about, how often it may stand, its value's form, and what it does
+-- an option: its short and its long spelling, what it is about, how often it may be given, and the form of its value
 pub record Row : Type 0 where
   pub short : List ℕ
   pub long : List ℕ
   pub subject : Subject
   pub scope : Scope
   pub form : ValueForm
-  pub does : List ℕ
 
-abbrev pub option : List ℕ → List ℕ → Subject → Scope → ValueForm → List ℕ → Row
-option short long subject scope form does = record { short = short; long = long; subject = subject; scope = scope; form = form; does = does }
+abbrev pub option : List ℕ → List ℕ → Subject → Scope → ValueForm → Row
+option short long subject scope form = record { short = short; long = long; subject = subject; scope = scope; form = form }
 
 -- the options for the whole output, then those for the next file
 unfoldable pub table : List Row
 table =
-    option (codes "-o") (codes "--output") s.Output Output f.Name (codes "the file that is written; parts get numbers") ∷
-    option (codes "-w") (codes "--webm") s.Webm Output f.Flag (codes "write WebM, without chapters and attached files") ∷
-    option (codes "") (codes "--title") s.Title Output f.Text (codes "its title (usual: the first that a file has)") ∷
-    option (codes "") (codes "--chapters") s.ChapterFile Output f.Name (codes "chapters of a text, in place of the files' own") ∷
-    option (codes "") (codes "--timestamp-scale") s.Scale Output f.Scale (codes "round times to so many nanoseconds") ∷
-    option (codes "") (codes "--cluster-length") s.ClusterLength Output f.Length (codes "end a Cluster with so many blocks, or by then") ∷
-    option (codes "") (codes "--split") s.Split Output f.Split (codes "write parts, each from a key frame on: see WHERE") ∷
-    option (codes "") (codes "--segment-uid") s.Uuids Output f.Uuids (codes "the identifiers of the outputs, one for each") ∷
-    option (codes "") (codes "--link") s.Link Output f.Flag (codes "name the parts beside each; needs --segment-uid") ∷
-    option (codes "-J") (codes "") s.Identify Output f.Flag (codes "tell what FILE has as JSON, and do nothing else") ∷
-    option (codes "-a") (codes "--audio-tracks") s.Audio File f.Ids (codes "take these audio tracks alone") ∷
-    option (codes "-A") (codes "--no-audio") s.Audio File f.Exclusion (codes "take no audio track") ∷
-    option (codes "-d") (codes "--video-tracks") s.Video File f.Ids (codes "take these video tracks alone") ∷
-    option (codes "-D") (codes "--no-video") s.Video File f.Exclusion (codes "take no video track") ∷
-    option (codes "-s") (codes "--subtitle-tracks") s.Subtitles File f.Ids (codes "take these subtitle tracks alone") ∷
-    option (codes "-S") (codes "--no-subtitles") s.Subtitles File f.Exclusion (codes "take no subtitle track") ∷
-    option (codes "-M") (codes "--no-attachments") s.Attachments File f.Flag (codes "leave its attached files out") ∷
-    option (codes "-T") (codes "--no-track-tags") s.TrackTags File f.Flag (codes "leave its tags of tracks out (also statistics)") ∷
-    option (codes "") (codes "--no-global-tags") s.GlobalTags File f.Flag (codes "leave its other tags out") ∷
-    option (codes "") (codes "--no-chapters") s.Chapters File f.Flag (codes "leave its chapters out") ∷
-    option (codes "-y") (codes "--sync") s.Sync Track f.TrackDelay (codes "begin later, or with - earlier, by DELAY") ∷
-    option (codes "") (codes "--track-name") s.TrackName Track f.TrackText (codes "its name, as players show it") ∷
-    option (codes "") (codes "--language") s.Language Track f.TrackLanguage (codes "its language; usual of SubRip: und") ∷
-    option (codes "") (codes "--default-track-flag") s.DefaultFlag Track f.TrackFlag (codes "whether players choose it by themselves") ∷
-    option (codes "") (codes "--forced-display-flag") s.ForcedFlag Track f.TrackFlag (codes "whether it is always shown") ∷
-    option (codes "") (codes "--cues") s.Cues Track f.TrackCues (codes "which of its blocks can be jumped to") ∷
-    option (codes "") (codes "--timestamps") s.Times Track f.TrackFile (codes "the times of its frames, from a text: see FILE") ∷ []
+    option (codes "-o") (codes "--output") s.Output Output f.Name ∷
+    option (codes "-w") (codes "--webm") s.Webm Output f.Flag ∷
+    option (codes "") (codes "--title") s.Title Output f.Text ∷
+    option (codes "") (codes "--chapters") s.ChapterFile Output f.Name ∷
+    option (codes "") (codes "--timestamp-scale") s.Scale Output f.Scale ∷
+    option (codes "") (codes "--cluster-length") s.ClusterLength Output f.Length ∷
+    option (codes "") (codes "--split") s.Split Output f.Split ∷
+    option (codes "") (codes "--segment-uid") s.Uuids Output f.Uuids ∷
+    option (codes "") (codes "--link") s.Link Output f.Flag ∷
+    option (codes "-J") (codes "") s.Identify Output f.Flag ∷
+    option (codes "-a") (codes "--audio-tracks") s.Audio File f.Ids ∷
+    option (codes "-A") (codes "--no-audio") s.Audio File f.Exclusion ∷
+    option (codes "-d") (codes "--video-tracks") s.Video File f.Ids ∷
+    option (codes "-D") (codes "--no-video") s.Video File f.Exclusion ∷
+    option (codes "-s") (codes "--subtitle-tracks") s.Subtitles File f.Ids ∷
+    option (codes "-S") (codes "--no-subtitles") s.Subtitles File f.Exclusion ∷
+    option (codes "-M") (codes "--no-attachments") s.Attachments File f.Flag ∷
+    option (codes "-T") (codes "--no-track-tags") s.TrackTags File f.Flag ∷
+    option (codes "") (codes "--no-global-tags") s.GlobalTags File f.Flag ∷
+    option (codes "") (codes "--no-chapters") s.Chapters File f.Flag ∷
+    option (codes "-y") (codes "--sync") s.Sync Track f.TrackDelay ∷
+    option (codes "") (codes "--track-name") s.TrackName Track f.TrackText ∷
+    option (codes "") (codes "--language") s.Language Track f.TrackLanguage ∷
+    option (codes "") (codes "--default-track-flag") s.DefaultFlag Track f.TrackFlag ∷
+    option (codes "") (codes "--forced-display-flag") s.ForcedFlag Track f.TrackFlag ∷
+    option (codes "") (codes "--cues") s.Cues Track f.TrackCues ∷
+    option (codes "") (codes "--timestamps") s.Times Track f.TrackFile ∷ []
 
 -- a row of the code's table
 abbrev pub shown : OptionRow → Row
-shown r = record { short = r.0.now; long = r.1.now; subject = r.2; scope = r.3; form = r.4; does = r.5.now }
+shown r = record { short = r.0.now; long = r.1.now; subject = r.2; scope = r.3; form = r.4 }
 
 -- either spelling is the word
 abbrev pub spelled : List ℕ → Row → Bool

@@ -3,20 +3,16 @@ use Rattle.std.proofs.Common.{ℕ, Bool, List, length, Option, Some, None, refl}
 use Rattle.std.specs.Prelude.{nat_le}
 use Rattle.std.specs.List.{AllPass}
 use Rattle.std.proofs.lemmas.List.Sums.{AllPass-from_list_all}
-use Rattle.merge_words.specs.Options.{table}
 use Rattle.mkv_args.specs.declared.commands.Verb.{Verb}
 use Rattle.mkv_args.specs.declared.commands.Verb.TheVariants as verb
-use Rattle.mkv_args.specs.Commands.{commands}
-use Rattle.mkv_args.specs.Extract.{modes}
-use Rattle.mkv_args.specs.Propedit.{steps}
-use Rattle.mkv_args.specs.Help.{usage_lines, joins, merge_values, forms, sections, properties, statuses, text_of, examples_of, first_lines, first_examples, page}
+use Rattle.mkv_args.specs.Help.{usage_lines}
 
 abbrev is_narrow : List ℕ → Bool
-is_narrow line = nat_le (length line) 80
+is_narrow line = nat_le (length line) 79
 
--- no line is longer than 80 characters
-pub lines_narrow : (about : Option Verb) → AllPass (λ (line : List ℕ). nat_le (length line) 80) (usage_lines about)
-unfolding usage_lines commands modes steps table joins merge_values forms sections properties statuses text_of examples_of first_lines first_examples page
+-- no line is longer than 79 characters
+pub lines_narrow : (about : Option Verb) → AllPass (λ (line : List ℕ). nat_le (length line) 79) (usage_lines about)
+unfolding usage_lines
 lines_narrow None = AllPass-from_list_all is_narrow (usage_lines None) refl
 lines_narrow (Some verb.Info) = AllPass-from_list_all is_narrow (usage_lines (Some verb.Info)) refl
 lines_narrow (Some verb.Merge) = AllPass-from_list_all is_narrow (usage_lines (Some verb.Merge)) refl
@@ -25,5 +21,6 @@ lines_narrow (Some verb.Propedit) = AllPass-from_list_all is_narrow (usage_lines
 lines_narrow (Some verb.Recover) = AllPass-from_list_all is_narrow (usage_lines (Some verb.Recover)) refl
 lines_narrow (Some verb.Reindex) = AllPass-from_list_all is_narrow (usage_lines (Some verb.Reindex)) refl
 lines_narrow (Some verb.Generate) = AllPass-from_list_all is_narrow (usage_lines (Some verb.Generate)) refl
+lines_narrow (Some verb.Explain) = AllPass-from_list_all is_narrow (usage_lines (Some verb.Explain)) refl
 lines_narrow (Some verb.Help) = AllPass-from_list_all is_narrow (usage_lines (Some verb.Help)) refl
 lines_narrow (Some verb.Version) = AllPass-from_list_all is_narrow (usage_lines (Some verb.Version)) refl

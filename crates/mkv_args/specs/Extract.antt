@@ -86,11 +86,11 @@ listed make said = do
 -- the modes, with what `--help` says of them
 unfoldable pub modes : List (Entry Mode)
 modes =
-    entry (codes "") (codes "tracks") mode.Tracks (codes "[--raw or --fullraw] ID:FILE..") (codes "SubRip, H.264 (Annex B), AAC (ADTS)") ∷
-    entry (codes "") (codes "timestamps_v2") mode.Timestamps (codes "ID:FILE..") (codes "times in milliseconds, a line a frame") ∷
-    entry (codes "") (codes "cues") mode.Cues (codes "ID:FILE..") (codes "where it can be entered, a line each") ∷
-    entry (codes "") (codes "attachments") mode.Attachments (codes "ID:FILE..") (codes "attached files, octet for octet") ∷
-    entry (codes "") (codes "chapters") mode.Chapters (codes "--simple FILE") (codes "as merge --chapters takes them") ∷ []
+    entry (codes "") (codes "tracks") mode.Tracks ∷
+    entry (codes "") (codes "timestamps_v2") mode.Timestamps ∷
+    entry (codes "") (codes "cues") mode.Cues ∷
+    entry (codes "") (codes "attachments") mode.Attachments ∷
+    entry (codes "") (codes "chapters") mode.Chapters ∷ []
 
 -- what the words behind the mode ask for
 unfoldable pub job_of : Option Mode → List (List ℕ) → Result Job Usage

@@ -1,6 +1,7 @@
 pub mod Entry
 pub mod Commands
 pub mod Merge
+pub mod Explain
 pub mod Extract
 pub mod Propedit
 pub mod Words

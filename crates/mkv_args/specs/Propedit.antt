@@ -57,10 +57,10 @@ selector word =
 -- the options, with what `--help` says of them
 unfoldable pub steps : List (Entry EditOptionKind)
 steps =
-    entry (codes "-e") (codes "--edit") step.Section (codes "SECTION") (codes "the edits behind it are for this section") ∷
-    entry (codes "-s") (codes "--set") (step.Edit Set) (codes "NAME=VALUE") (codes "set a property, whatever it was") ∷
-    entry (codes "-a") (codes "--add") (step.Edit Add) (codes "NAME=VALUE") (codes "add a property that is not there") ∷
-    entry (codes "-d") (codes "--delete") (step.Edit Delete) (codes "NAME") (codes "delete a property") ∷ []
+    entry (codes "-e") (codes "--edit") step.Section ∷
+    entry (codes "-s") (codes "--set") (step.Edit Set) ∷
+    entry (codes "-a") (codes "--add") (step.Edit Add) ∷
+    entry (codes "-d") (codes "--delete") (step.Edit Delete) ∷ []
 
 -- what an option begins
 unfoldable pub step_of : List ℕ → Option EditOptionKind

@@ -50,6 +50,7 @@ IsSound (command.Identify file) = ⊤
 IsSound (command.Recover file) = ⊤
 IsSound (command.Reindex file) = ⊤
 IsSound (command.Generate n prefix) = IsWithin 1 100000 n
+IsSound (command.Explain name) = ⊤
 IsSound (command.Extract file job) = IsSoundJob job
 IsSound (command.Propedit file edits) = AreEdits edits
 IsSound (command.Merge words) = IsSoundMerge words

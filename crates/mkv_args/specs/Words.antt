@@ -13,6 +13,7 @@ use Rattle.word_values.specs.Numbers.{from}
 use Rattle.requests.specs.Decimal.{below, number}
 use Rattle.word_values.specs.Place.{due_at, file_at, end_at, is_option}
 use Rattle.merge_words.specs.Items.{read_value}
+use Rattle.mkv_args.specs.Explain.{explain}
 use Rattle.mkv_args.specs.Extract.{extract}
 use Rattle.mkv_args.specs.Propedit.{propedit}
 use Rattle.mkv_args.specs.Merge.{merge, is_word}
@@ -72,6 +73,7 @@ command_named (Some verb.Propedit) words = propedit words
 command_named (Some verb.Recover) words = recover words
 command_named (Some verb.Reindex) words = reindex words
 command_named (Some verb.Generate) words = generate words
+command_named (Some verb.Explain) words = explain words
 command_named (Some verb.Help) words = alone (commands.Help None) words
 command_named (Some verb.Version) words = alone commands.Version words
 

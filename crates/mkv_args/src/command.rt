@@ -21,6 +21,8 @@ pub enum Command {
     Reindex { file: Text },
     /// Make two files of `n` blocks and more, merge them and split the outcome.
     Generate { n: u32, prefix: Text },
+    /// Explain a word of a message, or list the words that have a page.
+    Explain { name: Option<Text> },
     /// Take something out of a file.
     Extract { file: Text, job: Job },
     /// Change properties of a file in place.

@@ -16,21 +16,23 @@ pub enum Verb {
     Recover,
     Reindex,
     Generate,
+    Explain,
     Help,
     Version,
 }
 
 #[rattlefmt::skip]
-static COMMANDS: [Entry<Verb>; 9] = [
-    Entry("", "info", Verb::Info, "FILE", "show the Elements and tracks of a file"),
-    Entry("", "merge", Verb::Merge, "OPTIONS FILES | -J FILE", "join and split files, or identify one"),
-    Entry("", "extract", Verb::Extract, "FILE MODE", "take tracks or other parts out of a file"),
-    Entry("", "propedit", Verb::Propedit, "FILE SECTIONS", "change properties in place"),
-    Entry("", "recover", Verb::Recover, "FILE", "finish an edit that was stopped"),
-    Entry("", "reindex", Verb::Reindex, "FILE", "write the Cues and the SeekHead anew, in place"),
-    Entry("", "generate", Verb::Generate, "N PREFIX", "make two files, and merge and split them"),
-    Entry("", "--help", Verb::Help, "", "show this, as -h; COMMAND --help shows its part"),
-    Entry("", "--version", Verb::Version, "", "show the name and the version"),
+static COMMANDS: [Entry<Verb>; 10] = [
+    Entry("", "info", Verb::Info),
+    Entry("", "merge", Verb::Merge),
+    Entry("", "extract", Verb::Extract),
+    Entry("", "propedit", Verb::Propedit),
+    Entry("", "recover", Verb::Recover),
+    Entry("", "reindex", Verb::Reindex),
+    Entry("", "generate", Verb::Generate),
+    Entry("", "explain", Verb::Explain),
+    Entry("", "--help", Verb::Help),
+    Entry("", "--version", Verb::Version),
 ];
 
 /// The commands.

@@ -1,20 +1,17 @@
-//! Words that stand for something, with what `--help` shows of them.
+//! Words and their meanings.
 
 ghost use Rattle.std.specs.Prelude.{◌≡◌, map};
 ghost use Rattle.mkv_args.specs.Entry as spec;
 
-/// A word with its meaning: its short spelling, empty where there is none, its long one, what they
-/// mean, what stands behind them, and what that does.
+/// A word: its short spelling, which may be empty, its long spelling, and its meaning.
 #[derive(Clone, Copy)]
 pub(crate) struct Entry<T>(
     pub(crate) &'static str,
     pub(crate) &'static str,
     pub(crate) T,
-    pub(crate) &'static str,
-    pub(crate) &'static str,
 );
 
-/// What the first entry means that is spelled so.
+/// Returns the meaning of the first entry that has `word` as a spelling.
 pub(crate) fn meant<T: Copy>(entries: &[Entry<T>], word: &str) -> Option<T>
     ensures { result ≡ spec.meant (map spec.shown entries.now) word.now }
 {

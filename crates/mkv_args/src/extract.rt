@@ -41,11 +41,11 @@ pub(crate) enum Mode {
 
 #[rattlefmt::skip]
 static MODES: [Entry<Mode>; 5] = [
-    Entry("", "tracks", Mode::Tracks, "[--raw or --fullraw] ID:FILE..", "SubRip, H.264 (Annex B), AAC (ADTS)"),
-    Entry("", "timestamps_v2", Mode::Timestamps, "ID:FILE..", "times in milliseconds, a line a frame"),
-    Entry("", "cues", Mode::Cues, "ID:FILE..", "where it can be entered, a line each"),
-    Entry("", "attachments", Mode::Attachments, "ID:FILE..", "attached files, octet for octet"),
-    Entry("", "chapters", Mode::Chapters, "--simple FILE", "as merge --chapters takes them"),
+    Entry("", "tracks", Mode::Tracks),
+    Entry("", "timestamps_v2", Mode::Timestamps),
+    Entry("", "cues", Mode::Cues),
+    Entry("", "attachments", Mode::Attachments),
+    Entry("", "chapters", Mode::Chapters),
 ];
 
 /// The modes of `extract`.

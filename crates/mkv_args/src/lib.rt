@@ -5,14 +5,18 @@
 mod command;
 mod commands;
 mod entry;
+mod explain;
 mod extract;
 mod help;
 mod merge;
+mod pages;
 mod propedit;
+mod topics;
 mod words;
 
 pub use command::Command;
 pub use commands::Verb;
+pub use explain::explained;
 pub use help::{usage_lines, version_line};
 pub use merge_words::{Meaning, OptionRow, Scope, Subject, meaning_of, merge_options};
 pub use requests::{CueWord, FileWords, MergeWords, Select, SpanWords, SplitWords};

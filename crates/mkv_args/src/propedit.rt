@@ -135,10 +135,10 @@ fn may_follow(edited: bool, step: EditOptionKind) -> bool
 
 #[rattlefmt::skip]
 static STEPS: [Entry<EditOptionKind>; 4] = [
-    Entry("-e", "--edit", EditOptionKind::Section, "SECTION", "the edits behind it are for this section"),
-    Entry("-s", "--set", EditOptionKind::Edit(Change::Set), "NAME=VALUE", "set a property, whatever it was"),
-    Entry("-a", "--add", EditOptionKind::Edit(Change::Add), "NAME=VALUE", "add a property that is not there"),
-    Entry("-d", "--delete", EditOptionKind::Edit(Change::Delete), "NAME", "delete a property"),
+    Entry("-e", "--edit", EditOptionKind::Section),
+    Entry("-s", "--set", EditOptionKind::Edit(Change::Set)),
+    Entry("-a", "--add", EditOptionKind::Edit(Change::Add)),
+    Entry("-d", "--delete", EditOptionKind::Edit(Change::Delete)),
 ];
 
 /// The options of `propedit`.

@@ -9,6 +9,7 @@ ghost use Rattle.mkv_args.specs.Sound.{IsSound};
 
 use crate::command::Command;
 use crate::commands::{Verb, verb_of};
+use crate::explain::explain;
 use crate::extract::extract;
 use crate::merge::merge;
 use crate::propedit::propedit;
@@ -82,6 +83,7 @@ fn first_command(alloc: Global, words: &[String]) -> Result<Command, ArgsEnd>
         Some(Verb::Recover) => recover(alloc, words),
         Some(Verb::Reindex) => reindex(alloc, words),
         Some(Verb::Generate) => generate(alloc, words),
+        Some(Verb::Explain) => explain(alloc, words),
         Some(Verb::Help) => help(words),
         Some(Verb::Version) => version(words),
     }

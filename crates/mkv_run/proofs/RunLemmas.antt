@@ -33,7 +33,7 @@ use Rattle.requests.specs.declared.job.Job.{Job}
 use Rattle.requests.specs.declared.job.Job.TheVariants as jobs
 use Rattle.word_values.specs.declared.usage.Usage.{Usage}
 use Rattle.mkv_args.specs.declared.command.Command.{Command}
-use Rattle.mkv_args.specs.declared.command.Command.TheVariants.{Extract, Generate, Help, Identify, Info, Merge, Propedit, Recover, Reindex, Version}
+use Rattle.mkv_args.specs.declared.command.Command.TheVariants.{Explain, Extract, Generate, Help, Identify, Info, Merge, Propedit, Recover, Reindex, Version}
 use Rattle.mkv_args.specs.Sound.{IsSoundJob}
 use Rattle.extractors.specs.Job.{CanBeDone}
 use Rattle.mkv_lines.proofs.SaidLemmas.{SaysPart-before, SaysPart-none, with_lines-both, with_lines-none}
@@ -229,6 +229,7 @@ job-done (jobs.Chapters name) sound = record { apart = (tt, tt); numbers = tt }
 pub reads-nothing : (names : Names) (disk : Option DiskWorld) (asked : Result Command Usage) (count : ℕ) → ReadsWithinAfter names disk asked count count
 reads-nothing names disk (Ok (Help about)) count = refl
 reads-nothing names disk (Ok Version) count = refl
+reads-nothing names disk (Ok (Explain name)) count = refl
 reads-nothing names disk (Ok (Info file)) count = λ world told. omega arith
 reads-nothing names disk (Ok (Identify file)) count = λ world told. omega arith
 reads-nothing names disk (Ok (Recover file)) count = omega arith

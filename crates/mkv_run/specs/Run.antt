@@ -4,10 +4,11 @@ use Rattle.mkv_io.specs.Names.{Names}
 use Rattle.mkv_io.specs.Told.{IfVisible}
 use Rattle.word_values.specs.Why.{why_name}
 use Rattle.word_values.specs.declared.usage.Usage.{Usage}
+use Rattle.mkv_args.specs.Explain.{explained}
 use Rattle.mkv_args.specs.Help.{usage_lines, version_line}
 use Rattle.mkv_args.specs.Words.{command}
 use Rattle.mkv_args.specs.declared.command.Command.{Command}
-use Rattle.mkv_args.specs.declared.command.Command.TheVariants.{Help, Version, Info, Identify, Recover, Reindex, Generate, Extract, Propedit, Merge}
+use Rattle.mkv_args.specs.declared.command.Command.TheVariants.{Help, Version, Explain, Info, Identify, Recover, Reindex, Generate, Extract, Propedit, Merge}
 use Rattle.mkv_lines.specs.Line.{word_line}
 use Rattle.mkv_lines.specs.Verdict.{Verdict, done, refused}
 use Rattle.mkv_lines.specs.declared.status.Status.{Status}
@@ -38,6 +39,7 @@ usage_line usage = word_line usage.word (why_name usage.why)
 abbrev pub verdict_of : Names → Option DiskWorld → Command → Option Verdict
 verdict_of names disk (Help about) = Some (done (usage_lines about))
 verdict_of names disk Version = Some (done (version_line ∷ []))
+verdict_of names disk (Explain name) = Some (done (explained name))
 verdict_of names disk (Info file) = option_map (λ world. info_verdict Lines world file) names
 verdict_of names disk (Identify file) = option_map (λ world. info_verdict Json world file) names
 verdict_of names disk (Recover file) = option_map (λ world. verdict_on world file) disk
@@ -62,6 +64,7 @@ verdict_in names disk words = verdict_after names disk (command words)
 abbrev pub ReadsWithin : Names → Option DiskWorld → Command → ℕ → ℕ → Type 0
 ReadsWithin names disk (Help about) before now = now ≡ before
 ReadsWithin names disk Version before now = now ≡ before
+ReadsWithin names disk (Explain name) before now = now ≡ before
 ReadsWithin names disk (Info file) before now = IfVisible names (λ world. now ≤ before + most_to_tell Lines world file)
 ReadsWithin names disk (Identify file) before now = IfVisible names (λ world. now ≤ before + most_to_tell Json world file)
 ReadsWithin names disk (Recover file) before now = now ≤ before + most_to_recover

@@ -5,7 +5,7 @@ use Rattle.mkv_disk.specs.declared.disk.Disk as disks
 use Rattle.requests.specs.declared.edit.Edit.{Edit}
 use Rattle.word_values.specs.declared.usage.Usage.{Usage}
 use Rattle.mkv_args.specs.declared.command.Command.{Command}
-use Rattle.mkv_args.specs.declared.command.Command.TheVariants.{Extract, Generate, Help, Identify, Info, Merge, Propedit, Recover, Reindex, Version}
+use Rattle.mkv_args.specs.declared.command.Command.TheVariants.{Explain, Extract, Generate, Help, Identify, Info, Merge, Propedit, Recover, Reindex, Version}
 use Rattle.mkv_lines.specs.declared.status.Status.{Status}
 use Rattle.sidecar_edit.specs.Recovering.{IsRecovering}
 use Rattle.mkv_propedit.specs.Recovery.{IsRecoveryOf}
@@ -27,6 +27,7 @@ pub data Reach : Type 0 where
 abbrev pub reach_of : Command → Reach
 reach_of (Help about) = nothing
 reach_of Version = nothing
+reach_of (Explain name) = nothing
 reach_of (Info file) = files
 reach_of (Identify file) = files
 reach_of (Recover file) = recovered file

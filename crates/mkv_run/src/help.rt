@@ -1,34 +1,39 @@
-//! `--help` and `--version`.
+//! `--help`, `explain` and `--version`.
 
-ghost use Rattle.std.specs.Prelude.{◌≡◌, ◌∷◌, [], List, ℕ, IfOk};
+ghost use Rattle.std.specs.Prelude.{◌∷◌, [], IfOk, map};
+ghost use Rattle.mkv_args.specs.Explain.{explained};
 ghost use Rattle.mkv_args.specs.Help.{usage_lines, version_line};
 ghost use Rattle.mkv_lines.specs.Ordinary.{IsOrdinary};
 ghost use Rattle.mkv_lines.specs.Said.{HasSayCause, Says};
 ghost use Rattle.mkv_lines.specs.Verdict.{SaysVerdict, done};
 
-use mkv_args::{Verb, usage_lines, version_line};
-use mkv_io::{List, Report, Text};
+use mkv_args::{Verb, explained, usage_lines, version_line};
+use mkv_io::{Report, Text};
 use mkv_lines::{CommandEnd, Status, say_text};
-use std::alloc::Global;
 
-/// Says how the words are written, of one command or of all.
-pub fn help<R: Report>(
-    alloc: Global,
-    about: Option<Verb>,
-    report: &mut R,
-) -> Result<Status, CommandEnd>
+/// Prints the page of the command `about`, or the overview of all commands.
+pub fn help<R: Report>(about: Option<Verb>, report: &mut R) -> Result<Status, CommandEnd>
     ensures verdict { SaysVerdict (R.lines report.old) (R.lines report.new) result (done (usage_lines about)) }
     ensures ordinary { IfOk result IsOrdinary }
     ensures cause { HasSayCause (R.faults report.old) (R.faults report.new) result }
 {
-    let Ok(lines) = usage_lines(alloc, about) else {
-        return Err(CommandEnd::Memory);
-    };
-    say_texts(&lines, report)?;
-    Ok(Status::Done)
+    print_lines(usage_lines(about), report)
 }
 
-/// Says the name and the version.
+/// Prints the page of the word `name` of a message, or the list of all such words.
+pub fn explain<R: Report>(name: &Option<Text>, report: &mut R) -> Result<Status, CommandEnd>
+    ensures verdict { SaysVerdict (R.lines report.old) (R.lines report.new) result (done (explained name.now)) }
+    ensures ordinary { IfOk result IsOrdinary }
+    ensures cause { HasSayCause (R.faults report.old) (R.faults report.new) result }
+{
+    let lines = match name {
+        Some(name) => explained(Some(name.as_str())),
+        None => explained(None),
+    };
+    print_lines(lines, report)
+}
+
+/// Prints the name of the program and its version.
 pub fn version<R: Report>(report: &mut R) -> Result<Status, CommandEnd>
     ensures verdict { SaysVerdict (R.lines report.old) (R.lines report.new) result (done (version_line ∷ [])) }
     ensures ordinary { IfOk result IsOrdinary }
@@ -38,13 +43,22 @@ pub fn version<R: Report>(report: &mut R) -> Result<Status, CommandEnd>
     Ok(Status::Done)
 }
 
-// Says these texts, a line each.
-fn say_texts<R: Report>(texts: &List<Text>, report: &mut R) -> Result<(), CommandEnd>
-    ensures said { Says (R.lines report.old) (R.lines report.new) texts.now result }
+// Prints each of `lines`, in order.
+fn print_lines<R: Report>(lines: &[&str], report: &mut R) -> Result<Status, CommandEnd>
+    ensures verdict { SaysVerdict (R.lines report.old) (R.lines report.new) result (done (map (λ line. line.now) lines.now)) }
+    ensures ordinary { IfOk result IsOrdinary }
     ensures cause { HasSayCause (R.faults report.old) (R.faults report.new) result }
 {
-    for text in texts.as_slice() {
-        say_text(report, text.as_str())?;
+    say_texts(lines, report)?;
+    Ok(Status::Done)
+}
+
+fn say_texts<R: Report>(texts: &[&str], report: &mut R) -> Result<(), CommandEnd>
+    ensures said { Says (R.lines report.old) (R.lines report.new) (map (λ text. text.now) texts.now) result }
+    ensures cause { HasSayCause (R.faults report.old) (R.faults report.new) result }
+{
+    for text in texts {
+        say_text(report, text)?;
     }
     Ok(())
 }

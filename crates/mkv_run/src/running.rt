@@ -19,7 +19,7 @@ ghost use Rattle.mkv_run.specs.RunSeen.{HasObeyed};
 ghost use Rattle.mkv_run.specs.Runs.{Runs};
 ghost use Rattle.mkv_run.specs.Touched.{IsInPlace, Touched, Touches, reach_of};
 
-use crate::help::{help, version};
+use crate::help::{explain, help, version};
 use edit_laws::{edits_change_nothing_else, new_index_is_whole};
 use mkv_args::{ArgsEnd, Command, read_words};
 use mkv_disk::Disk;
@@ -149,7 +149,8 @@ fn execute<F: Files, D: Disk, R: Report>(
     ensures touches { Touched D.Reads D.Disk.own (reach_of command.now) files.old files.new disk.old disk.new result }
 {
     match command {
-        Command::Help { about } => help(alloc, *about, report),
+        Command::Help { about } => help(*about, report),
+        Command::Explain { name } => explain(name, report),
         Command::Version => version(report),
         Command::Info { file } => info_of(alloc, Form::Lines, file.as_str(), files, report),
         Command::Identify { file } => info_of(alloc, Form::Json, file.as_str(), files, report),

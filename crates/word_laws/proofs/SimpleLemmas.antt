@@ -1,15 +1,20 @@
 -- Commands of one to three words are read back.
-use Rattle.std.proofs.Common.{◌≡◌, ℕ, true, false, List, [], ◌∷◌, codes, Some, None, Ok, refl, ap, ◌∙◌, arith, le-leb, lt-ltb}
+use Rattle.std.proofs.Common.{◌≡◌, ℕ, true, false, List, [], ◌∷◌, codes, Option, Some, None, IsSome, Result, Ok, refl, ap, subst, ◌∙◌, arith, le-leb, lt-ltb}
 use Rattle.std.proofs.lemmas.Bool.{and_right}
 use Rattle.std.specs.Str.{bytes_eq}
 use Rattle.std.specs.Fmt.{decimal}
+use Rattle.word_values.specs.Answers.{◌>>=◌}
 use Rattle.word_values.specs.Place.{is_option}
+use Rattle.word_values.specs.declared.usage.Usage.{Usage}
+use Rattle.merge_words.specs.Items.{read_value}
 use Rattle.requests.specs.Sound.{IsWithin}
+use Rattle.mkv_args.specs.declared.command.Command.{Command}
 use Rattle.mkv_args.specs.declared.command.Command.TheVariants as commands
 use Rattle.mkv_args.specs.declared.commands.Verb.{Verb}
 use Rattle.mkv_args.specs.declared.commands.Verb.TheVariants as verb
 use Rattle.mkv_args.specs.Entry.{meant}
 use Rattle.mkv_args.specs.Commands.{commands as verbs}
+use Rattle.mkv_args.specs.Explain.{explain, page_of, topics}
 use Rattle.mkv_args.specs.Merge.{identify, merge}
 use Rattle.mkv_args.specs.Words.{alone, blocks_at, command, command_named, first_command, generate, helped, info, is_short_help, only_file, recover, reindex}
 use Rattle.word_laws.specs.Spelled.{verb_word}
@@ -34,6 +39,7 @@ first_word verb.Propedit rest = (refl, refl)
 first_word verb.Recover rest = (refl, refl)
 first_word verb.Reindex rest = (refl, refl)
 first_word verb.Generate rest = (refl, refl)
+first_word verb.Explain rest = (refl, refl)
 first_word verb.Help rest = (refl, refl)
 first_word verb.Version rest = (refl, refl)
 
@@ -85,6 +91,7 @@ help_read verb.Propedit has = refl
 help_read verb.Recover has = refl
 help_read verb.Reindex has = refl
 help_read verb.Generate has = refl
+help_read verb.Explain has = refl
 help_read verb.Help has = absurd has
 help_read verb.Version has = absurd has
 
@@ -95,3 +102,22 @@ all_help_read = refl
 pub version_read : command (codes "--version" ∷ []) ≡ Ok commands.Version
 unfolding command first_command command_named verbs alone
 version_read = refl
+
+-- ---- explain
+pub list_read : command (codes "explain" ∷ []) ≡ Ok (commands.Explain None)
+unfolding command first_command command_named verbs explain
+list_read = refl
+
+-- `--help` is no name, so a name that has a page asks for no help
+explain_helps_none : (name : List ℕ) → IsSome (page_of name) → helped (codes "explain" ∷ name ∷ []) ≡ None
+unfolding topics
+explain_helps_none name has = rw (other_word name (codes "--help") (λ same. subst (λ (n : List ℕ). IsSome (page_of n)) same has)) refl
+
+-- a value that is there is read
+some_read : (value : Option (List (List ℕ))) (rest : Result Command Usage) → IsSome value → (read_value 1 value >>= (λ _. rest)) ≡ rest
+some_read None rest is = absurd is
+some_read (Some value) rest is = refl
+
+pub explain_read : (name : List ℕ) → IsSome (page_of name) → command (codes "explain" ∷ name ∷ []) ≡ Ok (commands.Explain (Some name))
+unfolding command_named explain
+explain_read name has = by_verb verb.Explain (name ∷ []) (explain_helps_none name has) ∙ some_read (page_of name) (Ok (commands.Explain (Some name))) has

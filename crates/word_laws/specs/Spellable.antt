@@ -1,5 +1,5 @@
 -- Which commands have a spelling: beside their limits, what words can say of names and numbers.
-use Rattle.std.specs.Prelude.{◌≡◌, ◌⊎◌, ⊤, ℕ, true, List, [], All, Some, None}
+use Rattle.std.specs.Prelude.{◌≡◌, ◌⊎◌, ⊤, ℕ, true, List, [], All, IsSome, Some, None}
 use Rattle.requests.specs.declared.job.Job.{Job}
 use Rattle.requests.specs.declared.job.Job.TheVariants as jobs
 use Rattle.requests.specs.declared.job.Target.{Target}
@@ -13,6 +13,7 @@ use Rattle.mkv_args.specs.declared.command.Command.TheVariants as command
 use Rattle.mkv_args.specs.declared.commands.Verb.{Verb}
 use Rattle.mkv_args.specs.declared.commands.Verb.TheVariants as verb
 use Rattle.mkv_args.specs.declared.propedit.TheConstants.{VIDEO_TRACK, AUDIO_TRACK, SUBTITLE_TRACK}
+use Rattle.mkv_args.specs.Explain.{page_of}
 use Rattle.mkv_io.specs.Characters.{EQUALS}
 use Rattle.mkv_io.specs.Octets.{lacks}
 use Rattle.word_laws.specs.Values.{HasFewDigits}
@@ -70,6 +71,8 @@ abbrev pub IsSpellable : Command → Type 0
 IsSpellable (command.Help None) = ⊤
 IsSpellable (command.Help (Some verb)) = HasHelp verb
 IsSpellable command.Version = ⊤
+IsSpellable (command.Explain None) = ⊤
+IsSpellable (command.Explain (Some name)) = IsSome (page_of name)
 IsSpellable (command.Info file) = IsFileName file
 IsSpellable (command.Identify file) = IsInputName file
 IsSpellable (command.Recover file) = IsFileName file

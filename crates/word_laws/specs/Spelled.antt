@@ -30,6 +30,7 @@ verb_word verb.Propedit = codes "propedit"
 verb_word verb.Recover = codes "recover"
 verb_word verb.Reindex = codes "reindex"
 verb_word verb.Generate = codes "generate"
+verb_word verb.Explain = codes "explain"
 verb_word verb.Help = codes "--help"
 verb_word verb.Version = codes "--version"
 
@@ -90,6 +91,8 @@ abbrev pub spelled : Command → List (List ℕ)
 spelled (command.Help None) = codes "--help" ∷ []
 spelled (command.Help (Some verb)) = verb_word verb ∷ codes "--help" ∷ []
 spelled command.Version = codes "--version" ∷ []
+spelled (command.Explain None) = codes "explain" ∷ []
+spelled (command.Explain (Some name)) = codes "explain" ∷ name ∷ []
 spelled (command.Info file) = codes "info" ∷ file ∷ []
 spelled (command.Identify file) = codes "merge" ∷ codes "-J" ∷ file ∷ []
 spelled (command.Recover file) = codes "recover" ∷ file ∷ []

@@ -8,7 +8,7 @@ use Rattle.cluster_reader.specs.Reading.{left_of}
 use Rattle.lanes.specs.Ends.{texts_end}
 use Rattle.lanes.proofs.EndLemmas.{counted-length, end-all, end-damage, end-start, end-step, ends_from, known-head, more-counted, none-counted, stopped-all, stopped-block, stopped-damage}
 use Rattle.lanes.specs.Frames.{by_head}
-use Rattle.lanes.proofs.survey.walk.Goals as goal
+use Rattle.lanes.proofs.file_survey.walk.Goals as goal
 
 pub steps-init : goal.steps-init
 steps-init g c = record {

@@ -7,7 +7,7 @@ use Rattle.cluster_reader.specs.Reading.{CanRead, left_of, read_to}
 use Rattle.lanes.specs.Ends.{end_of, texts_end}
 use Rattle.lanes.specs.declared.survey_result.TheConstants.{MAX_END}
 use Rattle.lanes.proofs.EndLemmas.{ends_from}
-use Rattle.lanes.proofs.survey.walk.Given as goal
+use Rattle.lanes.proofs.file_survey.walk.Given as goal
 
 abbrev pub invariant-steps : goal.invariant-steps
 invariant-steps g l = record {

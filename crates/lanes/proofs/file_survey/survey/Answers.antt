@@ -11,7 +11,7 @@ use Rattle.lanes.specs.Ends.{texts_end}
 use Rattle.lanes.specs.Survey.{IsSurvey, first_track, length_of}
 use Rattle.lanes.specs.Walked.{IsWalked}
 use Rattle.lanes.proofs.SurveyLemmas.{answer-map, first-all, survey-texts, survey-walked}
-use Rattle.lanes.proofs.survey.survey.Goals as goal
+use Rattle.lanes.proofs.file_survey.survey.Goals as goal
 
 -- ---- there is no track
 
