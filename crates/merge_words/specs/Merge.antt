@@ -12,7 +12,7 @@ use Rattle.merge_words.specs.declared.options.Scope.TheVariants as scope
 use Rattle.merge_words.specs.declared.options.Meaning.{Meaning}
 use Rattle.merge_words.specs.declared.item.Item.{Item}
 use Rattle.requests.specs.declared.merge.MergeWords.{MergeWords}
-use Rattle.word_values.specs.Answers.{wrong}
+use Rattle.word_values.specs.Answers.{wrong, ◌>>=◌}
 use Rattle.merge_words.specs.Options.{same, meaning_of}
 use Rattle.word_values.specs.Values.{flag_of}
 use Rattle.merge_words.specs.Items.{Start, item_at, since_file, stands, files_in}
