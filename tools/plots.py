@@ -56,14 +56,14 @@ def beside_copy(rows, y):
     """Wall times on the film as ratios to that of `cp`."""
     films = [row for row in rows if row["of"] == "film" and not row["cold"]]
     copy = next(min(row["wall"]) for row in films if row["who"] == "cp")
-    return bars("A film: the least time by the clock, in times of cp", films, lambda row: min(row["wall"]) / copy, ".2f", y)
+    return bars("A film: minimum wall time, as a multiple of cp", films, lambda row: min(row["wall"]) / copy, ".2f", y)
 
 
 def in_memory(rows, y):
-    """The memory of all work but that on fewer small blocks and lanes."""
-    most = {begin: max((row["number"] for row in rows if begin in row["what"]), default=0) for begin in ("blocks", "lanes")}
+    """Peak memory of every command, for small blocks of the greatest number of blocks and of tracks only."""
+    most = {begin: max((row["number"] for row in rows if begin in row["what"]), default=0) for begin in ("block", "track")}
     known = [row for row in rows if row.get("memory") and row["who"] != "cp" and row["number"] in (0, *most.values())]
-    return bars("The most memory, in MiB", known, lambda row: row["memory"] / 1024, ".1f", y) if known else ([], y)
+    return bars("Peak memory, in MiB", known, lambda row: row["memory"] / 1024, ".1f", y) if known else ([], y)
 
 
 # ---- growth
@@ -76,7 +76,7 @@ def frame(title, below, left, y, points, most):
 
 
 def growth(title, below, rows, left, y, even):
-    """A line for each program: processor seconds over the number of blocks, or of lanes, which stand at even distances."""
+    """A line for each program: processor seconds over the number of blocks, or of tracks, which have even distances."""
     numbers = sorted({row["number"] for row in rows})
     place = lambda k, number: (k + 1) / len(numbers) if even else number / numbers[-1]
     points = {number: (NARROW - 30) * place(k, number) for k, number in enumerate(numbers)}
@@ -90,11 +90,11 @@ def growth(title, below, rows, left, y, even):
 
 
 def growths(rows, y):
-    """Growth with the number of small blocks, beside growth with the lanes that have as many blocks together."""
+    """Growth with the number of small blocks, next to growth with the number of tracks at nearly the same number of blocks."""
     drawn = []
-    for left, of, even in ((12, "blocks", False), (480, "lanes", True)):
+    for left, of, even in ((12, "block", False), (480, "track", True)):
         those = [row for row in rows if of in row["what"] and row["number"]]
-        drawn += growth(f"Processor time by {of}", of, those, left, y, even) if those else []
+        drawn += growth(f"Processor time by {of}s", f"{of}s", those, left, y, even) if those else []
     return drawn, y + 240
 
 

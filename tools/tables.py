@@ -2,8 +2,10 @@
 import statistics
 
 HEADS = ("least s", "median s", "x cp", "cpu s", "MiB", "calls", "MB read", "written")
-FILM = ("what", "s", "x cp", "mkvtoolnix, x cp", "ffmpeg, x cp", "cold, x cp", "processor, s", "MiB", "calls", "MB read", "written")
-SMALL = ("what", "s", "processor, s", "mkvtoolnix, processor, s", "ffmpeg, processor, s", "MiB", "calls")
+FILM = ("what", "s", "x cp", "mkvtoolnix", "ffmpeg", "cold", "MiB", "calls", "MB")
+SMALL = ("what", "s", "mkvtoolnix", "ffmpeg", "MiB", "calls")
+# a row of the same kind is on the page already
+NOT_ON_PAGE = ("merge, only Opus", "extract Opus, raw", "extract subtitles, raw", "merge, 500,000 blocks")
 
 
 def compared(row, rows):
@@ -56,15 +58,18 @@ def of_work(what, rows):
 
 
 def row_of_film(what, rows):
+    """Wall time, ratios to `cp`, memory, calls, and MB that were read."""
     ours, *others = of_work(what, rows)
     ratio = lambda it: cell(it and compared(it, rows), ".2f")
-    return [what, f"{min(ours['wall']):.3f}", *map(ratio, (ours, *others)), f"{min(ours['processor']):.3f}", *taken(ours)]
+    read = cell(ours["read"] / 1e6 if ours.get("read") is not None else None, ".0f")
+    return [what, f"{min(ours['wall']):.3f}", *map(ratio, (ours, *others)), *taken(ours)[:2], read]
 
 
 def row_of_small(what, rows):
+    """Processor time of each program, memory, and calls."""
     ours, toolnix, ffmpeg, _ = of_work(what, rows)
     processor = (cell(it and min(it["processor"]), ".3f") for it in (ours, toolnix, ffmpeg))
-    return [what, f"{min(ours['wall']):.3f}", *processor, *taken(ours)[:2]]
+    return [what, *processor, *taken(ours)[:2]]
 
 
 def table(heads, works, row, rows):
@@ -73,11 +78,17 @@ def table(heads, works, row, rows):
     yield from (f"| {' | '.join(row(what, rows))} |" for what in works)
 
 
+def printed(name, lines):
+    yield f"<!-- {name}: printed by tools/bench --page -->"
+    yield from lines
+    yield f"<!-- {name}: end -->"
+
+
 def page(found):
-    """The two tables of docs/PERFORMANCE.md."""
+    """The two tables of docs/PERFORMANCE.md, each between the comments that mark it as printed."""
     rows = found["rows"]
-    works = dict.fromkeys(it["what"] for it in rows if it["good"] and it["who"] in ("mkvsuite", "cp"))
+    works = dict.fromkeys(it["what"] for it in rows if it["good"] and it["who"] in ("mkvsuite", "cp") and it["what"] not in NOT_ON_PAGE)
     films = {it["what"] for it in rows if it["of"] == "film"}
-    yield from table(FILM, [it for it in works if it in films], row_of_film, rows)
+    yield from printed("film", table(FILM, [it for it in works if it in films], row_of_film, rows))
     yield ""
-    yield from table(SMALL, [it for it in works if it not in films], row_of_small, rows)
+    yield from printed("small blocks", table(SMALL, [it for it in works if it not in films], row_of_small, rows))
