@@ -1,4 +1,4 @@
-"""The sessions of the pages, run as they stand: README.md and docs/TUTORIAL.md.
+"""The sessions of the pages, run as they stand: README.md, docs/COMMANDS.md and docs/TUTORIAL.md.
 
 A session is what stands below one heading `## ..`: lines that are set in by four blanks. One that begins with `$ ` is a
 command, and those below it are what it says, to the letter. The commands of a session are run in order by one shell, in a fresh
@@ -12,7 +12,7 @@ import subprocess
 import tempfile
 
 ROOT = os.path.dirname(os.path.dirname(os.path.realpath(__file__)))
-PAGES = ("README.md", "docs/TUTORIAL.md")
+PAGES = ("README.md", "docs/COMMANDS.md", "docs/TUTORIAL.md")
 LEFT_OUT = re.compile(r"(\.ci/run|tools/(check|build|install|package))\b")
 STATUS = re.compile(r"# status (\d+)$")
 END = "\x1e"
