@@ -1,6 +1,6 @@
 //! The topics of `explain`. Made by `tools/explain --write`: change its table, not this file.
 
-/// The list of all names.
+/// List of all names.
 #[rattlefmt::skip]
 pub(crate) const TOPIC_LIST: [&str; 18] = [
     "Give one of these names: mkvsuite explain NAME",
@@ -23,7 +23,7 @@ pub(crate) const TOPIC_LIST: [&str; 18] = [
     "general:      error warning word fault files disk status",
 ];
 
-/// The names, each with its page.
+/// Names, each with its page.
 #[rattlefmt::skip]
 pub(crate) const TOPICS: [(&str, &[&str]); 78] = [
     ("NoCommand", &[
@@ -40,14 +40,14 @@ pub(crate) const TOPICS: [(&str, &[&str]); 78] = [
     ]),
     ("UnknownOption", &[
         "UnknownOption: word N isn't an option that may be here.",
-        "Cause: an option that only mkvtoolnix has (--attach-file); --option=value; in",
+        "Cause: an option that only mkvtoolnix has (--stereo-mode); --option=value; in",
         "  propedit, -s, -a or -d before the first -e.",
         "Do: see \"mkvsuite COMMAND --help\". Give a value as the next word (-o OUT).",
         "  Write a file name that begins with - as ./-NAME.",
     ]),
     ("MissingValue", &[
-        "MissingValue: the command line ends where a value, a file, a section or an",
-        "  edit must follow.",
+        "MissingValue: the command line ends, but a value, a file, a section or an edit",
+        "  must follow.",
         "Cause: no FILE (\"mkvsuite info\"), no value (\"merge -o\"), no edit (\"propedit",
         "  FILE -e info\").",
         "Do: complete it; \"mkvsuite COMMAND --help\" shows what is required.",
@@ -63,14 +63,14 @@ pub(crate) const TOPICS: [(&str, &[&str]); 78] = [
         "  NEW.mkv\".",
     ]),
     ("RepeatedOption", &[
-        "RepeatedOption: an option is given twice where it may be given once.",
-        "Cause: two outputs (-o); two -a before one FILE; -a and -A, -d and -D or -s",
-        "  and -S before one FILE; one track twice in an option such as --language.",
+        "RepeatedOption: an option is given twice, but is allowed once.",
+        "Cause: two outputs (-o); before one FILE two -a, or -a and -A (-d and -D, -s",
+        "  and -S). Or one track twice in an option such as --language.",
         "Do: put all track IDs in one option (-a 1,2). Options before another FILE are",
         "  separate.",
     ]),
     ("ExtraWord", &[
-        "ExtraWord: word N comes after a complete command, or where no word may be.",
+        "ExtraWord: word N comes after a complete command, or in a wrong place.",
         "Cause: a file name with blanks that isn't quoted; two + in a row; -J with",
         "  anything but one FILE after it.",
         "Do: quote the name ('My film.mkv'). -J is the word right after merge, with one",
@@ -94,7 +94,7 @@ pub(crate) const TOPICS: [(&str, &[&str]); 78] = [
     ]),
     ("AppendFirst", &[
         "AppendFirst: there is a + before the first FILE.",
-        "Cause: + appends the FILE after it to the one before it.",
+        "Cause: + appends the FILE after it to the FILE before it.",
         "Do: \"merge -o OUT first.mkv + second.mkv\", with blanks around the +.",
     ]),
     ("RepeatedOutput", &[
@@ -111,7 +111,7 @@ pub(crate) const TOPICS: [(&str, &[&str]); 78] = [
         "NeedsUuids: --link is given without --segment-uid.",
         "Cause: parts are linked by their UUIDs, and this program makes none by itself.",
         "Do: add --segment-uid with one UUID for each part: 32 hexadecimal digits",
-        "  without hyphens, separated by commas (from uuidgen | tr -d -).",
+        "  without hyphens, separated by commas (\"uuidgen | tr -d -\" prints one).",
     ]),
     ("Missing", &[
         "Missing: there is no file of this name.",
@@ -120,24 +120,25 @@ pub(crate) const TOPICS: [(&str, &[&str]); 78] = [
         "Do: \"ls -l NAME\" and \"pwd\" show what is there.",
     ]),
     ("OutputIsInput", &[
-        "OutputIsInput: the output would overwrite a file that the run reads.",
-        "Cause: OUT is an input, a chapter or timestamp file, or the .mkvedit of an",
-        "  input; with --split also an input that is named like a part (OUT-001.mkv).",
+        "OutputIsInput: an output has the name of a file that the run reads.",
+        "Cause: OUT is an input, a chapter or timestamp file, or the .mkvedit of one;",
+        "  with --split also an input that is named like a part (OUT-001.mkv).",
         "Do: choose another output name. To change a file in place use propedit or",
-        "  reindex.",
+        "  reindex. (An input under another name, as ./film.mkv, is fault: files.)",
     ]),
     ("PendingEdit", &[
         "PendingEdit: an edit of FILE was interrupted; FILE.mkvedit holds it.",
         "Cause: a power cut, a full disk or a kill during propedit or reindex. FILE may",
         "  also be the existing OUT of a merge.",
-        "Do: \"mkvsuite recover FILE\" finishes the edit. If recover says Foreign, see",
-        "  \"mkvsuite explain Foreign\".",
+        "Do: \"mkvsuite recover FILE\" finishes the edit. If you began none, or if FILE",
+        "  is another film by now, delete FILE.mkvedit instead: recover would change",
+        "  FILE.",
     ]),
     ("BadText", &[
         "BadText: line N of a text file is wrong: SubRip, chapters or timestamps.",
         "Cause: it isn't UTF-8; an end before its start, or 0:00:01,5 for 00:00:01,500",
         "  (SubRip); XML chapters; no first line \"# timestamp format v2\".",
-        "Do: convert to UTF-8 (iconv -f latin1 -t utf-8 IN >OUT); write chapters as",
+        "Do: convert to UTF-8 (\"iconv -f latin1 -t utf-8 IN >OUT\"); write chapters as",
         "  CHAPTER01=00:00:00.000 and CHAPTER01NAME=Intro.",
     ]),
     ("TextTooLarge", &[
@@ -173,15 +174,15 @@ pub(crate) const TOPICS: [(&str, &[&str]); 78] = [
         "Do: leave -w out, or leave the track out (-a, -d, -s, -A, -D, -S).",
     ]),
     ("NoExtractor", &[
-        "NoExtractor: extract has no own file format for the codec of track N.",
+        "NoExtractor: extract has no file format of its own for the codec of track N.",
         "Cause: it writes SubRip, H.264 (Annex B) and AAC (ADTS).",
         "Do: \"extract FILE tracks --raw N:OUT\" writes the frames as they are, --fullraw",
         "  the CodecPrivate before them.",
     ]),
     ("BadConfig", &[
         "BadConfig: the CodecPrivate of track N (H.264 or AAC) is missing or wrong.",
-        "Cause: without it Annex B or ADTS can't be written; HE-AAC that states object",
-        "  type 5 is refused too.",
+        "Cause: without it Annex B or ADTS can't be written; HE-AAC of object type 5 is",
+        "  refused too.",
         "Do: \"extract FILE tracks --raw N:OUT\" writes the frames as they are.",
     ]),
     ("NoInfo", &[
@@ -242,8 +243,8 @@ pub(crate) const TOPICS: [(&str, &[&str]); 78] = [
         "  edits.",
     ]),
     ("Tail", &[
-        "Tail: NoRoom: something must go to the end of FILE, but FILE doesn't end where",
-        "  it says.",
+        "Tail: NoRoom: something must go to the end of FILE, but FILE is longer or",
+        "  shorter than it states.",
         "Cause: bytes follow the Segment (need < have), or FILE is cut short (need >",
         "  have).",
         "Do: \"mkvsuite merge -o NEW FILE\" copies what is readable. A shorter title or",
@@ -263,16 +264,17 @@ pub(crate) const TOPICS: [(&str, &[&str]); 78] = [
     ]),
     ("BadSidecar", &[
         "BadSidecar: FILE.mkvedit isn't a valid journal; it is wrong first at byte N.",
-        "Cause: it was damaged, cut short, or isn't this program's.",
+        "Cause: it was damaged, cut short, or isn't this program's. FILE may be partly",
+        "  edited.",
         "Do: check FILE (info, a player). If it is as it should be, delete",
-        "  FILE.mkvedit.",
+        "  FILE.mkvedit; otherwise take FILE from a copy.",
     ]),
     ("Foreign", &[
         "Foreign: FILE.mkvedit was written for another file, or FILE was changed since.",
-        "Cause: FILE was replaced or copied over while an edit was unfinished. WHAT is",
-        "  length, or octet and a place, where the two differ.",
+        "Cause: FILE was replaced or changed while an edit was unfinished. WHAT is",
+        "  length, or octet and the place of the first byte that differs.",
         "Do: put back the file that the journal belongs to and run recover; or, if FILE",
-        "  is as it should be, delete FILE.mkvedit.",
+        "  is as it should be, delete FILE.mkvedit. Nothing was written.",
     ]),
     ("NotEbml", &[
         "NotEbml: FILE isn't a Matroska or WebM file: it doesn't begin with an EBML",
@@ -282,7 +284,7 @@ pub(crate) const TOPICS: [(&str, &[&str]); 78] = [
         "Do: convert it (\"ffmpeg -i IN -c copy OUT.mkv\"); rename SubRip to .srt.",
     ]),
     ("BadId", &[
-        "BadId: there is no valid element ID where an element must begin.",
+        "BadId: an element begins without a valid ID.",
         "Cause: overwritten or zeroed bytes: a bad disk, an incomplete download.",
         "Do: \"mkvsuite merge -o NEW FILE\" copies what is readable, with an index.",
     ]),
@@ -306,7 +308,7 @@ pub(crate) const TOPICS: [(&str, &[&str]); 78] = [
         "UnknownSize: an element other than Segment or Cluster has an unknown size.",
         "Cause: a faulty live writer, or overwritten bytes.",
         "Do: \"mkvsuite merge -o NEW FILE\" copies what is readable, with an index. If",
-        "  that says NoTracks, see there.",
+        "  that ends with NoTracks, see there.",
     ]),
     ("DocType", &[
         "DocType: the EBML header names neither matroska nor webm.",
@@ -332,7 +334,8 @@ pub(crate) const TOPICS: [(&str, &[&str]); 78] = [
         "Do: nothing can be read from it; copy or record it again.",
     ]),
     ("NoTracks", &[
-        "NoTracks: no Tracks element was found, so no block can be read.",
+        "NoTracks: no Tracks element was found, so no block can be read. info lists",
+        "  such a file.",
         "Cause: damage hides it: \"mkvsuite info FILE\" then warns of the place. Or a",
         "  recording was stopped before it was written.",
         "Do: another tool that tolerates it can rewrite FILE: \"mkvmerge -o NEW FILE\"",
@@ -348,7 +351,7 @@ pub(crate) const TOPICS: [(&str, &[&str]); 78] = [
     ]),
     ("RepeatedTrack", &[
         "RepeatedTrack: two tracks have the same TrackNumber, so their blocks can't be",
-        "  told apart.",
+        "  assigned.",
         "Cause: a faulty writer.",
         "Do: \"mkvmerge -o NEW FILE\" keeps one of them.",
     ]),
@@ -370,10 +373,10 @@ pub(crate) const TOPICS: [(&str, &[&str]); 78] = [
     ("HeaderTooLarge", &[
         "HeaderTooLarge: an element that is held in memory is larger than this program",
         "  reads or writes.",
-        "Cause: limits: 16 MiB and 65536 elements for Info, Tracks, Chapters, Tags; 64",
-        "  MiB for these of all inputs; 1 MiB for Attachments without data; 64 MiB for",
-        "  Cues.",
-        "Do: of OUT: fewer chapters, or -T, --no-global-tags, --no-chapters. Of FILE:",
+        "Cause: limits: 16 MiB for each Info, Tracks, Chapters, Tags; 64 MiB for all of",
+        "  them, of all inputs; 1 MiB for Attachments without data; 64 MiB for Cues; 64",
+        "  KiB for the EBML header.",
+        "Do: for OUT: fewer chapters, or -T, --no-global-tags, --no-chapters. For FILE:",
         "  \"mkvmerge -o NEW -T --no-global-tags FILE\".",
     ]),
     ("ShortBlock", &[
@@ -387,14 +390,14 @@ pub(crate) const TOPICS: [(&str, &[&str]); 78] = [
         "Do: \"mkvsuite merge -o NEW FILE\" copies what is readable, with an index.",
     ]),
     ("BlockTooLarge", &[
-        "BlockTooLarge: a block is larger than 32 MiB.",
+        "BlockTooLarge: a block has over 32 MiB.",
         "Cause: overwritten bytes; real frames are far smaller.",
         "Do: \"mkvsuite merge -o NEW FILE\" copies what is readable, with an index.",
     ]),
     ("TimeTooLarge", &[
         "TimeTooLarge: a time, a duration or a reference is 2^56 nanoseconds (over two",
         "  years) or more.",
-        "Cause: overwritten bytes, or a writer whose clock began far in the past.",
+        "Cause: overwritten bytes, or a writer with a wrong clock.",
         "Do: \"mkvsuite merge -o NEW FILE\" copies what is readable, with an index.",
     ]),
     ("NoTimestamp", &[
@@ -408,7 +411,7 @@ pub(crate) const TOPICS: [(&str, &[&str]); 78] = [
         "  many.",
         "Cause: limits: 4096 elements besides Clusters in the Segment, 1024 tracks,",
         "  1024 attachments, 64 references in a block, 65536 elements in Info, Tracks,",
-        "  Chapters, Tags or Attachments, 32 levels.",
+        "  Chapters, Tags or Attachments, 8388608 in Cues, 32 levels.",
         "Do: FB: \"mkvsuite merge -o NEW FILE\". Otherwise \"mkvmerge -o NEW FILE\" (-M",
         "  drops attachments; -a, -d, -s select tracks).",
     ]),
@@ -423,8 +426,8 @@ pub(crate) const TOPICS: [(&str, &[&str]); 78] = [
         "no: FILE has no track, or no attachment, of this number.",
         "Cause: tracks count from 0 as info lists them, attachments from 1 as merge -J",
         "  lists them (its id).",
-        "Do: correct the number and run again. extract made no file for N; in merge, -a",
-        "  N alone selects no audio track (-d and -s likewise).",
+        "Do: correct the number and run again. extract made no file for N; in merge, a",
+        "  lone -a N selects no audio track (-d and -s likewise).",
     ]),
     ("more", &[
         "more: FILE has N further damaged places or bad frames besides the 100 that are",
@@ -453,8 +456,8 @@ pub(crate) const TOPICS: [(&str, &[&str]); 78] = [
     ]),
     ("reindexed", &[
         "reindexed: FILE has a new index with N cue points.",
-        "Cause: one for each keyframe of video and subtitles. 0 cues: there is none,",
-        "  and FILE has no Cues.",
+        "Cause: a point for each keyframe of video and subtitles. 0 cues: FILE has no",
+        "  Cues.",
         "Do: nothing. FILE.mkvedit may be deleted.",
     ]),
     ("recovered", &[
@@ -470,15 +473,17 @@ pub(crate) const TOPICS: [(&str, &[&str]); 78] = [
         "  and run recover again.",
     ]),
     ("generated", &[
-        "generated: the test files are written; B, C and Q count those of PREFIX-m.mkv.",
+        "generated: the test files are written; PREFIX-m.mkv has B blocks, C Clusters",
+        "  and Q cue points.",
         "Cause: the files depend on N and PREFIX only.",
-        "Do: compare PREFIX-m.mkv with that of another build: the bytes must be equal.",
+        "Do: compare PREFIX-m.mkv with the same file by another build: the bytes must",
+        "  be equal.",
     ]),
     ("error", &[
         "error: the run was refused: status 2. No output was written and no input was",
         "  changed.",
-        "Cause: a word of the command line (\"error: word N: ..\") or a file. At most an",
-        "  empty FILE.mkvedit was made.",
+        "Cause: an argument (\"error: word N: ..\") or a file. At most an empty",
+        "  FILE.mkvedit was made.",
         "Do: \"mkvsuite explain NAME\" with the word that follows, such as NoRoom.",
     ]),
     ("warning", &[
@@ -503,25 +508,26 @@ pub(crate) const TOPICS: [(&str, &[&str]); 78] = [
     ]),
     ("files", &[
         "files: a file couldn't be opened, read, made or written. Inputs are unchanged.",
-        "Cause: no such folder; no permission; a full disk; OUT is a folder or device",
-        "  (/dev/null); a name over 255 bytes; OUT is an input by another name",
-        "  (./film.mkv, a link).",
+        "Cause: no such folder; no permission; a full disk; a name over 255 bytes. Or",
+        "  OUT is a folder, a device (/dev/null), standard output, an input under",
+        "  another name (./film.mkv, a link), or a film during an edit.",
         "Do: \"ls -ld FOLDER OUT INPUT\", \"df FOLDER\". Delete incomplete outputs, remove",
         "  the cause, run again.",
     ]),
     ("disk", &[
         "disk: an edit in place failed. FILE may be partly edited; FILE.mkvedit then",
         "  completes it.",
-        "Cause: FILE is a link; no permission for FILE or its folder; another program",
-        "  locks it; a full disk; a name over 247 bytes.",
-        "Do: \"ls -ld FILE FOLDER\", \"df FOLDER\", \"lslocks\". Remove the cause, then",
-        "  \"mkvsuite recover FILE\". Name the file itself, not a link.",
+        "Cause: FILE is a link or standard output; no permission for FILE or its",
+        "  folder; a full disk; a name over 247 bytes. Or another program locks or",
+        "  replaced FILE, or FILE.mkvedit is another user's.",
+        "Do: \"ls -ld FILE FILE.mkvedit FOLDER\", \"df FOLDER\", \"lslocks\". Remove the",
+        "  cause, then \"mkvsuite recover FILE\". Name the file itself, not a link.",
     ]),
     ("status", &[
         "status: 0 done, 1 done with a warning, 2 refused, 3 out of memory, 4 a file",
         "  operation failed.",
-        "Cause: without any line: 2 a word isn't UTF-8; 3 out of memory; 4 standard",
-        "  output is closed or full. 153: the limit on file sizes (ulimit -f).",
+        "Cause: without any line: 2 an argument isn't UTF-8; 3 out of memory; 4",
+        "  standard output is closed or full. 153: the limit on file sizes (ulimit -f).",
         "Do: after 3 or 4, outputs may be incomplete; after an edit run recover.",
     ]),
 ];
