@@ -1,5 +1,6 @@
 -- The words of messages, each of which has a page in `explain`. They are this project's.
-use Rattle.std.specs.Prelude.{◌≡◌, ℕ, false, List, ◌++◌, codes, AllPairs, Option, Some, None, IfSome, IsSome}
+use Rattle.std.specs.Prelude.{◌≡◌, ℕ, List, ◌++◌, map, codes, Option, Some, None, IfSome, IsSome}
+use Rattle.std.specs.List.{IsDistinct}
 use Rattle.mkv_io.specs.Kind.{kind_name}
 use Rattle.mkv_io.specs.declared.damage.Kind.{Kind}
 use Rattle.word_values.specs.Why.{why_name}
@@ -75,4 +76,4 @@ pub record WordsHavePages : Type 0 where
 
 -- No two topics have the same name, in upper or lower case.
 abbrev pub NamesDiffer : Type 0
-NamesDiffer = AllPairs (λ (a b : Topic). is_same_name a.name b.name ≡ false) topics
+NamesDiffer = IsDistinct is_same_name (map (λ (t : Topic). t.name) topics)

@@ -1,4 +1,5 @@
 pub mod PropeditLemmas
+pub mod ExplainLemmas
 pub mod HelpLemmas
 pub mod SoundLemmas
 pub mod TextLemmas

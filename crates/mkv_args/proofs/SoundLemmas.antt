@@ -43,7 +43,9 @@ use Rattle.mkv_args.specs.declared.propedit.TheConstants.{VIDEO_TRACK, AUDIO_TRA
 use Rattle.mkv_io.specs.Characters.{EQUALS}
 use Rattle.mkv_args.specs.declared.propedit.EditOption.{EditOption}
 use Rattle.mkv_args.specs.declared.propedit.EditOption.TheVariants as says
+use Rattle.merge_words.specs.Items.{read_value}
 use Rattle.mkv_args.specs.Entry.{meant}
+use Rattle.mkv_args.specs.Explain.{explain, explain_named, page_of}
 use Rattle.mkv_args.specs.Commands.{commands}
 use Rattle.mkv_args.specs.Extract.{is_taken, target_of, target, targets_from, targets, tracks_by, tracks, simple, chapters, listed, modes, job_of, job, extract}
 use Rattle.mkv_args.specs.Propedit.{place, typed, begins, track, selector, step_of, Pair, pairs, following, changed, meaning, said, is_edit, all_said, edits_in, section_behind, first_section, edits, propedit}
@@ -306,6 +308,17 @@ alone-asked : (one c : Command) (words : List (List ℕ)) → IsAsked words one 
 unfolding alone
 alone-asked one c words asked is = ok-then (IsAsked words c) (end_at words 1) _ c is (λ end here more. ok-made (IsAsked words) one c more asked)
 
+explain-asked : (words : List (List ℕ)) (c : Command) → explain words ≡ Ok c → IsAsked words c
+unfolding explain
+explain-asked words c is = asked (slice_get words 1) is
+  where
+    asked : (o : Option (List ℕ)) → explain_named o words ≡ Ok c → IsAsked words c
+    asked None found = ok-made (IsAsked words) (command_is.Explain None) c found tt
+    asked (Some word) found =
+        ok-then (IsAsked words c) (read_value 1 (page_of word)) _ c found (λ page here more.
+        ok-then (IsAsked words c) (end_at words 2) _ c more (λ end behind last.
+        ok-made (IsAsked words) (command_is.Explain (Some word)) c last tt))
+
 named-asked : (o : Option Verb) (words : List (List ℕ)) (c : Command) → command_named o words ≡ Ok c → IsAsked words c
 unfolding command_named info recover reindex
 named-asked None words c is = absurd (cc)
@@ -316,6 +329,7 @@ named-asked (Some verb.Propedit) words c is = propedit-asked words c is
 named-asked (Some verb.Recover) words c is = file-asked command_is.Recover words c (λ file. tt) is
 named-asked (Some verb.Reindex) words c is = file-asked command_is.Reindex words c (λ file. tt) is
 named-asked (Some verb.Generate) words c is = generate-asked words c is
+named-asked (Some verb.Explain) words c is = explain-asked words c is
 named-asked (Some verb.Help) words c is = alone-asked (command_is.Help None) c words tt is
 named-asked (Some verb.Version) words c is = alone-asked command_is.Version c words tt is
 

@@ -11,7 +11,7 @@ use Rattle.requests.specs.declared.edit.Selector.TheVariants.{Info, Nth, Typed, 
 use Rattle.requests.specs.declared.job.Form.TheVariants as form
 use Rattle.requests.specs.declared.job.Job.TheVariants as jobs
 use Rattle.requests.specs.declared.job.Target.{Target}
-use Rattle.requests.specs.declared.track.Select.TheVariants.{All, These, AllBut, Off}
+use Rattle.requests.specs.declared.track.Select.TheVariants.{These, AllBut, Off}
 use Rattle.requests.specs.declared.split.SpanWords.{SpanWords}
 use Rattle.requests.specs.declared.split.SplitWords.{SplitWords}
 use Rattle.requests.specs.declared.split.SplitWords.TheVariants as splits

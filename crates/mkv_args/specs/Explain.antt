@@ -1,5 +1,5 @@
 -- `explain`: the words of messages, with their meaning, cause and remedy. They are this project's.
-use Rattle.std.specs.Prelude.{ℕ, Bool, List, [], map, slice_get, Option, Some, None, is_none, option_map, unwrap_or, Result, Ok}
+use Rattle.std.specs.Prelude.{ℕ, Bool, List, [], ◌++◌, map, slice_get, Option, Some, None, option_map, unwrap_or, Result, Ok}
 use Rattle.std.specs.Borrow.{Bor}
 use Rattle.std.specs.Char.{to_ascii_lowercase}
 use Rattle.std.specs.List.{find}
@@ -8,7 +8,7 @@ use Rattle.word_values.specs.declared.usage.Usage.{Usage}
 use Rattle.word_values.specs.Answers.{◌>>=◌}
 use Rattle.word_values.specs.Place.{end_at}
 use Rattle.merge_words.specs.Items.{read_value}
-use Rattle.mkv_args.specs.declared.TheConstants.{TOPICS, TOPIC_LIST}
+use Rattle.mkv_args.specs.declared.topics.TheConstants.{TOPIC_LIST, WORD_TOPICS, REFUSAL_TOPICS, EDIT_TOPICS, DAMAGE_TOPICS, WARNING_TOPICS, RESULT_TOPICS, GENERAL_TOPICS}
 use Rattle.mkv_args.specs.declared.command.Command.{Command}
 use Rattle.mkv_args.specs.declared.command.Command.TheVariants as commands
 
@@ -25,9 +25,32 @@ lines_of page = map (λ (line : Bor (List ℕ)). line.now) page.now
 abbrev pub shown : Bor (List ℕ) × Bor (List (Bor (List ℕ))) → Topic
 shown t = record { name = t.0.now; lines = lines_of t.1 }
 
+-- the topics of each group: words of the command line, what refuses a run, what refuses an edit, what is wrong in a file, other warnings,
+-- results, and what is common to all
+unfoldable pub word_topics : List Topic
+word_topics = map (λ t. record { name = t.0.now; lines = map (λ line. line.now) t.1.now }) WORD_TOPICS
+
+unfoldable pub refusal_topics : List Topic
+refusal_topics = map (λ t. record { name = t.0.now; lines = map (λ line. line.now) t.1.now }) REFUSAL_TOPICS
+
+unfoldable pub edit_topics : List Topic
+edit_topics = map (λ t. record { name = t.0.now; lines = map (λ line. line.now) t.1.now }) EDIT_TOPICS
+
+unfoldable pub damage_topics : List Topic
+damage_topics = map (λ t. record { name = t.0.now; lines = map (λ line. line.now) t.1.now }) DAMAGE_TOPICS
+
+unfoldable pub warning_topics : List Topic
+warning_topics = map (λ t. record { name = t.0.now; lines = map (λ line. line.now) t.1.now }) WARNING_TOPICS
+
+unfoldable pub result_topics : List Topic
+result_topics = map (λ t. record { name = t.0.now; lines = map (λ line. line.now) t.1.now }) RESULT_TOPICS
+
+unfoldable pub general_topics : List Topic
+general_topics = map (λ t. record { name = t.0.now; lines = map (λ line. line.now) t.1.now }) GENERAL_TOPICS
+
 -- all topics
-unfoldable pub topics : List Topic
-topics = map (λ t. record { name = t.0.now; lines = map (λ line. line.now) t.1.now }) TOPICS
+abbrev pub topics : List Topic
+topics = word_topics ++ refusal_topics ++ edit_topics ++ damage_topics ++ warning_topics ++ result_topics ++ general_topics
 
 -- the list of all names
 unfoldable pub topic_list : List (List ℕ)

@@ -1,6 +1,6 @@
 -- The lines of `--help` and `--version`. They are this project's.
-use Rattle.std.specs.Prelude.{ℕ, List, map, codes, Option, Some, None}
-use Rattle.mkv_args.specs.declared.TheConstants.{OVERVIEW, INFO_PAGE, MERGE_PAGE, EXTRACT_PAGE, PROPEDIT_PAGE, RECOVER_PAGE, REINDEX_PAGE, GENERATE_PAGE, EXPLAIN_PAGE}
+use Rattle.std.specs.Prelude.{ℕ, List, map, codes, Option, Some}
+use Rattle.mkv_args.specs.declared.pages.TheConstants.{OVERVIEW, INFO_PAGE, MERGE_PAGE, EXTRACT_PAGE, PROPEDIT_PAGE, RECOVER_PAGE, REINDEX_PAGE, GENERATE_PAGE, EXPLAIN_PAGE}
 use Rattle.mkv_args.specs.declared.commands.Verb.{Verb}
 use Rattle.mkv_args.specs.declared.commands.Verb.TheVariants as verb
 

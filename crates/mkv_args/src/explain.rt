@@ -6,7 +6,10 @@ ghost use Rattle.word_values.specs.Place.{texts};
 ghost use Rattle.mkv_args.specs.Explain as spec;
 
 use crate::command::Command;
-use crate::topics::{TOPIC_LIST, TOPICS};
+use crate::topics::{
+    DAMAGE_TOPICS, EDIT_TOPICS, GENERAL_TOPICS, REFUSAL_TOPICS, RESULT_TOPICS, TOPIC_LIST,
+    WARNING_TOPICS, WORD_TOPICS,
+};
 use std::alloc::Global;
 use word_values::{ArgsEnd, Why, end_at, name, refused, word_at};
 
@@ -30,18 +33,17 @@ fn topic_list() -> &'static [&'static str]
     &TOPIC_LIST
 }
 
-#[tactic(auto, unfolding(crate::specs::Explain::topics))]
-fn topics() -> &'static [Topic]
-    ensures { map spec.shown result.now ≡ spec.topics }
-{
-    &TOPICS
-}
-
 /// Returns the page of a name, in upper or lower case.
 fn page_of(name: &str) -> Option<&'static [&'static str]>
     ensures { option_map spec.lines_of result ≡ spec.page_of name.now }
 {
-    page_among(topics(), name)
+    page_among(word_topics(), name)
+        .or(page_among(refusal_topics(), name))
+        .or(page_among(edit_topics(), name))
+        .or(page_among(damage_topics(), name))
+        .or(page_among(warning_topics(), name))
+        .or(page_among(result_topics(), name))
+        .or(page_among(general_topics(), name))
 }
 
 fn page_among(topics: &[Topic], name: &str) -> Option<&'static [&'static str]>
@@ -60,6 +62,55 @@ fn is_same_name(a: &str, b: &str) -> bool
     ensures { result ≡ spec.is_same_name a.now b.now }
 {
     a.eq_ignore_ascii_case(b)
+}
+
+#[tactic(auto, unfolding(crate::specs::Explain::word_topics))]
+fn word_topics() -> &'static [Topic]
+    ensures { map spec.shown result.now ≡ spec.word_topics }
+{
+    &WORD_TOPICS
+}
+
+#[tactic(auto, unfolding(crate::specs::Explain::refusal_topics))]
+fn refusal_topics() -> &'static [Topic]
+    ensures { map spec.shown result.now ≡ spec.refusal_topics }
+{
+    &REFUSAL_TOPICS
+}
+
+#[tactic(auto, unfolding(crate::specs::Explain::edit_topics))]
+fn edit_topics() -> &'static [Topic]
+    ensures { map spec.shown result.now ≡ spec.edit_topics }
+{
+    &EDIT_TOPICS
+}
+
+#[tactic(auto, unfolding(crate::specs::Explain::damage_topics))]
+fn damage_topics() -> &'static [Topic]
+    ensures { map spec.shown result.now ≡ spec.damage_topics }
+{
+    &DAMAGE_TOPICS
+}
+
+#[tactic(auto, unfolding(crate::specs::Explain::warning_topics))]
+fn warning_topics() -> &'static [Topic]
+    ensures { map spec.shown result.now ≡ spec.warning_topics }
+{
+    &WARNING_TOPICS
+}
+
+#[tactic(auto, unfolding(crate::specs::Explain::result_topics))]
+fn result_topics() -> &'static [Topic]
+    ensures { map spec.shown result.now ≡ spec.result_topics }
+{
+    &RESULT_TOPICS
+}
+
+#[tactic(auto, unfolding(crate::specs::Explain::general_topics))]
+fn general_topics() -> &'static [Topic]
+    ensures { map spec.shown result.now ≡ spec.general_topics }
+{
+    &GENERAL_TOPICS
 }
 
 /// Reads `explain [NAME]`.

@@ -23,9 +23,9 @@ pub(crate) const TOPIC_LIST: [&str; 18] = [
     "general:      error warning word fault files disk status",
 ];
 
-/// Names, each with its page.
+/// Names of the group 'command line', each with its page.
 #[rattlefmt::skip]
-pub(crate) const TOPICS: [(&str, &[&str]); 78] = [
+pub(crate) const WORD_TOPICS: [(&str, &[&str]); 14] = [
     ("NoCommand", &[
         "NoCommand: there is no word after the program's name.",
         "Cause: the program was called without arguments.",
@@ -113,6 +113,11 @@ pub(crate) const TOPICS: [(&str, &[&str]); 78] = [
         "Do: add --segment-uid with one UUID for each part: 32 hexadecimal digits",
         "  without hyphens, separated by commas (\"uuidgen | tr -d -\" prints one).",
     ]),
+];
+
+/// Names of the group 'refused', each with its page.
+#[rattlefmt::skip]
+pub(crate) const REFUSAL_TOPICS: [(&str, &[&str]); 11] = [
     ("Missing", &[
         "Missing: there is no file of this name.",
         "Cause: a wrong name or folder; a glued + (\"+two.mkv\" is a name; write \"+",
@@ -185,6 +190,11 @@ pub(crate) const TOPICS: [(&str, &[&str]); 78] = [
         "  refused too.",
         "Do: \"extract FILE tracks --raw N:OUT\" writes the frames as they are.",
     ]),
+];
+
+/// Names of the group 'edits', each with its page.
+#[rattlefmt::skip]
+pub(crate) const EDIT_TOPICS: [(&str, &[&str]); 14] = [
     ("NoInfo", &[
         "NoInfo: edit N is for info, but FILE has no Info element.",
         "Cause: a file by an unusual writer.",
@@ -276,6 +286,11 @@ pub(crate) const TOPICS: [(&str, &[&str]); 78] = [
         "Do: put back the file that the journal belongs to and run recover; or, if FILE",
         "  is as it should be, delete FILE.mkvedit. Nothing was written.",
     ]),
+];
+
+/// Names of the group 'in a file', each with its page.
+#[rattlefmt::skip]
+pub(crate) const DAMAGE_TOPICS: [(&str, &[&str]); 23] = [
     ("NotEbml", &[
         "NotEbml: FILE isn't a Matroska or WebM file: it doesn't begin with an EBML",
         "  header.",
@@ -422,6 +437,11 @@ pub(crate) const TOPICS: [(&str, &[&str]); 78] = [
         "Do: the output has all other frames. \"extract FILE tracks --raw N:OUT\" writes",
         "  every frame as it is.",
     ]),
+];
+
+/// Names of the group 'warnings', each with its page.
+#[rattlefmt::skip]
+pub(crate) const WARNING_TOPICS: [(&str, &[&str]); 3] = [
     ("no", &[
         "no: FILE has no track, or no attachment, of this number.",
         "Cause: tracks count from 0 as info lists them, attachments from 1 as merge -J",
@@ -442,6 +462,11 @@ pub(crate) const TOPICS: [(&str, &[&str]); 78] = [
         "  have none; spare UUIDs aren't used.",
         "Do: run again with M UUIDs.",
     ]),
+];
+
+/// Names of the group 'results', each with its page.
+#[rattlefmt::skip]
+pub(crate) const RESULT_TOPICS: [(&str, &[&str]); 6] = [
     ("wrote", &[
         "wrote: the output is complete and closed; N is its number of blocks, of all",
         "  tracks.",
@@ -479,6 +504,11 @@ pub(crate) const TOPICS: [(&str, &[&str]); 78] = [
         "Do: compare PREFIX-m.mkv with the same file by another build: the bytes must",
         "  be equal.",
     ]),
+];
+
+/// Names of the group 'general', each with its page.
+#[rattlefmt::skip]
+pub(crate) const GENERAL_TOPICS: [(&str, &[&str]); 7] = [
     ("error", &[
         "error: the run was refused: status 2. No output was written and no input was",
         "  changed.",

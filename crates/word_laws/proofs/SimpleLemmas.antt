@@ -14,7 +14,7 @@ use Rattle.mkv_args.specs.declared.commands.Verb.{Verb}
 use Rattle.mkv_args.specs.declared.commands.Verb.TheVariants as verb
 use Rattle.mkv_args.specs.Entry.{meant}
 use Rattle.mkv_args.specs.Commands.{commands as verbs}
-use Rattle.mkv_args.specs.Explain.{explain, page_of, topics}
+use Rattle.mkv_args.specs.Explain.{explain, page_of, word_topics, refusal_topics, edit_topics, damage_topics, warning_topics, result_topics, general_topics}
 use Rattle.mkv_args.specs.Merge.{identify, merge}
 use Rattle.mkv_args.specs.Words.{alone, blocks_at, command, command_named, first_command, generate, helped, info, is_short_help, only_file, recover, reindex}
 use Rattle.word_laws.specs.Spelled.{verb_word}
@@ -110,12 +110,12 @@ list_read = refl
 
 -- `--help` is no name, so a name that has a page asks for no help
 explain_helps_none : (name : List ℕ) → IsSome (page_of name) → helped (codes "explain" ∷ name ∷ []) ≡ None
-unfolding topics
-explain_helps_none name has = rw (other_word name (codes "--help") (λ same. subst (λ (n : List ℕ). IsSome (page_of n)) same has)) refl
+unfolding word_topics refusal_topics edit_topics damage_topics warning_topics result_topics general_topics
+explain_helps_none name has = rw (other_word name (codes "--help") (λ same. let page : false ≡ true = subst (λ (n : List ℕ). IsSome (page_of n)) same has in cc)) refl
 
 -- a value that is there is read
 some_read : (value : Option (List (List ℕ))) (rest : Result Command Usage) → IsSome value → (read_value 1 value >>= (λ _. rest)) ≡ rest
-some_read None rest is = absurd is
+some_read None rest is = absurd (cc)
 some_read (Some value) rest is = refl
 
 pub explain_read : (name : List ℕ) → IsSome (page_of name) → command (codes "explain" ∷ name ∷ []) ≡ Ok (commands.Explain (Some name))
