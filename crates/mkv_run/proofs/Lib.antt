@@ -1,4 +1,5 @@
 pub mod RunLemmas
 pub mod MergedLemmas
 pub mod KeptLemmas
+pub mod SayLemmas
 pub mod SeenLemmas

@@ -208,14 +208,6 @@ media-told d disk P so = by_told d.told so
     by_told true so = λ w is. let same : world ≡ w = cc in subst (λ (each : DiskWorld). P each.media) same (so refl)
     by_told false so = λ w is. absurd (cc)
 
--- ---- texts that are said one after the other
-
--- the next text is the first of those that are left
-pub texts-next : (old now : ReportLines) (all : List (List ℕ)) (k : ℕ) (texts : List (List ℕ)) (t : List ℕ) → k < length texts → t ≡ get_or texts k t → SaysUpTo old now all (drop k texts) → SaysUpTo old now all (t ∷ drop (k + 1) texts)
-texts-next old now all k texts t below is way =
-    subst (λ (lines : List (List ℕ)). SaysUpTo old now all lines)
-    (drop-cons texts k t below ∙ ap (λ (one : List ℕ). one ∷ drop (suc k) texts) (sym is) ∙ rw add-one refl) way
-
 -- ---- an extraction
 
 -- a job that words asked for can be done

@@ -1,5 +1,5 @@
 -- What a run promises of its files, its disk and its report, said of what is seen of them.
-use Rattle.std.proofs.Common.{◌≡◌, ◌⊎◌, ℕ, List, Some, inl, inr, ap}
+use Rattle.std.proofs.Common.{◌≡◌, ◌⊎◌, ℕ, List, Some, inl, inr, ap, subst}
 use Rattle.mkv_io.specs.Sources.{live_files}
 use Rattle.mkv_io.specs.declared.files.Files.{Ghosts as FilesGhosts}
 use Rattle.mkv_io.specs.declared.reads.Reads.{Ghosts as ReadsGhosts}
@@ -33,6 +33,7 @@ module _ {F D R : Type 0} (r : ReadsGhosts F) (f : FilesGhosts F) (s : ReadsGhos
     asked = ap f.asked same;
     reading = ap r.reading_faults same;
     writing = ap f.writing_faults same;
+    read = ap r.octets_read same;
   }
 
   -- so is a disk
@@ -40,6 +41,10 @@ module _ {F D R : Type 0} (r : ReadsGhosts F) (f : FilesGhosts F) (s : ReadsGhos
   disk-stays same = record {
     disk = λ i. record { pair = d.pair (same i); opened = d.opened (same i) };
     faults = λ i. record { reading = s.reading_faults (same i); writing = d.writing_faults (same i) };
+    is_there = ap d.is_there same;
+    read = ap s.octets_read same;
+    moment = ap d.moment same;
+    crash = λ t m n left. subst (λ (disk : D). d.left_since disk t m n) same left;
   }
 
   -- a pair that wasn't opened is as it was
@@ -77,4 +82,4 @@ module _ {F D R : Type 0} (r : ReadsGhosts F) (f : FilesGhosts F) (s : ReadsGhos
 
   -- what a crash leaves
   pub crash-seen : (P : List ℕ → List ℕ → Type 0) → LeavesOnly d.moment d.left_since old new P → CrashLeavesOnly before after P
-  crash-seen P leaves = record { later = leaves.later; each = leaves.each; earlier = leaves.before }
+  crash-seen P leaves = record { later = leaves.later; each = leaves.each; earlier = leaves.before; keeps = leaves.keeps }

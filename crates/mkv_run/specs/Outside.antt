@@ -1,4 +1,4 @@
--- What is seen of the outside of a run, before it and after it, as plain values. It is this project's.
+-- What can be seen of the files, the disk and the report before and after a run, as plain values. It is this project's.
 use Rattle.std.specs.Prelude.{◌+◌, ℕ, Bool, List, Option, Some, None, if◌then◌else◌}
 use Rattle.mkv_io.specs.Names.{Names}
 use Rattle.mkv_io.specs.Sources.{live_files}
@@ -13,40 +13,45 @@ use Rattle.mkv_lines.specs.Said.{ReportLines}
 use Rattle.mkv_propedit.specs.Recover.{DiskWorld}
 use Rattle.mkv_run.specs.RunSeen.{DiskFaults, RunSeen}
 
--- A file that is edited in place, and the sidecar beside it.
+-- A file that is edited in place, with its journal FILE.mkvedit.
 pub record DiskSeen : Type 0 where
-  -- what is read of the two, and what a crash may leave of them now
+  -- the bytes of the two, and which versions of them a crash may leave now
   pub pair : Pair
-  -- the name of the file that was opened last
+  -- the name of the file that was opened last, if one was
   pub opened : Option (List ℕ)
 
--- What is seen of the files, the disk and the report of a run.
+-- Numbers of bytes that were read so far.
+pub record BytesRead : Type 0 where
+  pub files : ℕ
+  pub disk : ℕ
+
+-- What can be seen of the files, the disk and the report.
 pub record Outside : Type 1 where
-  -- the content of each name, if the files tell it: files in memory do, real files don't
+  -- the content under each name, if it is visible to the proof: files in memory are, real files aren't
   pub names : Names
-  -- whether a number is that of an open file
+  -- whether a file number is open
   pub live : ℕ → Bool
-  -- the names that were opened or made so far, in order
+  -- the names that were opened or created so far, in order
   pub asked : List Asked
-  -- the lines that were said so far, if the report tells them
+  -- the lines that were printed so far, if they are visible to the proof
   pub lines : ReportLines
-  -- how often the files and the report failed
+  -- how often the files and the report have failed
   pub faults : Counts
-  -- how many octets were read so far, of the files and of the disk together
-  pub octets : ℕ
-  -- whether the disk tells what it holds
+  -- how many bytes were read of the files and of the disk
+  pub read : BytesRead
+  -- whether the contents of the disk are visible to the proof
   pub tells : Bool
-  -- whether the disk has a file of a name
+  -- whether the disk has a file of this name
   pub is_there : List ℕ → Bool
   pub disk : DiskSeen
-  -- how often the disk failed
+  -- how often the disk has failed
   pub disk_faults : DiskFaults
-  -- the moment, as a number that doesn't fall
+  -- a number for the present moment, which never decreases
   pub moment : ℕ
-  -- what a crash at some moment since an earlier one might have left of the two files
+  -- whether a crash at some moment since an earlier one could have left these bytes of the file and of its journal
   pub left_since : ℕ → List ℕ → List ℕ → Type 0
 
--- what is seen of these files, this disk and this report
+-- what can be seen of these files, this disk and this report
 abbrev pub outside : {F D R : Type 0} → ReadsGhosts F → FilesGhosts F → ReadsGhosts D → DiskGhosts D → ReportGhosts R → F → D → R → Outside
 outside r f s d p files disk report = record {
   names = f.names files;
@@ -54,7 +59,7 @@ outside r f s d p files disk report = record {
   asked = f.asked files;
   lines = p.lines report;
   faults = record { reading = r.reading_faults files; writing = f.writing_faults files; report = p.faults report };
-  octets = r.octets_read files + s.octets_read disk;
+  read = record { files = r.octets_read files; disk = s.octets_read disk };
   tells = d.told;
   is_there = d.is_there disk;
   disk = record { pair = d.pair disk; opened = d.opened disk };
@@ -63,13 +68,17 @@ outside r f s d p files disk report = record {
   left_since = d.left_since disk;
 }
 
--- the lines, the names and all counts of faults
+-- the lines, the names and all counts of failures
 abbrev pub seen_of : Outside → RunSeen
 seen_of o = record {
   seen = record { counts = o.faults; lines = o.lines; names = o.names };
   disk = o.disk_faults;
 }
 
--- what the disk tells, if it tells it
+-- the contents of the disk, if they are visible to the proof
 abbrev pub world_of : Outside → Option DiskWorld
 world_of o = if o.tells then Some record { is_there = o.is_there; media = o.disk.pair.media.reads; sidecar = o.disk.pair.sidecar.reads } else None
+
+-- the number of bytes that were read of files and disk together
+abbrev pub bytes_read : Outside → ℕ
+bytes_read o = o.read.files + o.read.disk

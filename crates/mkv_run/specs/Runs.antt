@@ -1,4 +1,4 @@
--- What a run promises of what is seen of the outside before it and after it. It is this project's.
+-- What a run promises, over what can be seen before and after it. It is this project's.
 use Rattle.std.specs.Prelude.{◌≡◌, ◌≢◌, ◌⊎◌, ◌≤◌, ⊤, ℕ, IsTrue, false, List, Some}
 use Rattle.mkv_io.specs.Asked.{AsksNone}
 use Rattle.mkv_io.specs.Told.{IfVisible}
@@ -16,49 +16,56 @@ use Rattle.remerge_laws.specs.MergedAgain.{MergesAgain}
 use Rattle.mkv_run.specs.Asked.{IsBesidesAfter}
 use Rattle.mkv_run.specs.Ends.{Ends}
 use Rattle.mkv_run.specs.Kept.{HasNewIndex, KeepsRest}
-use Rattle.mkv_run.specs.Outside.{Outside, seen_of, world_of}
+use Rattle.mkv_run.specs.Outside.{Outside, bytes_read, seen_of, world_of}
 use Rattle.mkv_run.specs.Run.{ReadsWithinIn, verdict_in}
 use Rattle.mkv_run.specs.RunSeen.{HasStatusCause}
 use Rattle.mkv_run.specs.Touched.{LeftOnTheWay, Reach, edited, files, indexed, nothing, reach_in, recovered}
 
--- ---- what is left as it is
+-- ---- what stays
 
--- The files are as they were: what they hold, which are open, what was asked for, and how often they failed.
+-- The files are as before: their contents, which are open, which names were opened or created, how often they failed, and how many bytes of
+-- them were read.
 pub record FilesStay (before after : Outside) : Type 0 where
   pub names : after.names ≡ before.names
   pub live : after.live ≡ before.live
   pub asked : after.asked ≡ before.asked
   pub reading : after.faults.reading ≡ before.faults.reading
   pub writing : after.faults.writing ≡ before.faults.writing
+  pub read : after.read.files ≡ before.read.files
 
--- The disk is as it was, and so is the count of its faults.
+-- The disk is as before: the file and its journal, all other names, how often it failed, how many bytes of it were read, and what a crash can
+-- have left.
 pub record DiskStays (before after : Outside) : Type 0 where
   pub disk : after.disk ≡ before.disk
+  pub is_there : after.is_there ≡ before.is_there
   pub faults : after.disk_faults ≡ before.disk_faults
+  pub read : after.read.disk ≡ before.read.disk
+  pub moment : after.moment ≡ before.moment
+  pub crash : (t : ℕ) (m s : List ℕ) → after.left_since t m s → before.left_since t m s
 
 -- ---- a file in place
 
--- A fact of what the file and its sidecar held, and of the two as they are now, if the disk tells them.
+-- `P` holds of the bytes of the file and of its journal before, and of the two after, if the disk is visible to the proof.
 abbrev pub OfPair : Outside → Outside → (List ℕ → List ℕ → Pair → Type 0) → Type 0
 OfPair before after P = IsTrue before.tells → P before.disk.pair.media.reads before.disk.pair.sidecar.reads after.disk.pair
 
--- The file of a name is open; or it isn't there, or the outside failed, and the disk is as it was.
+-- The file `name` was opened; or it doesn't exist, or opening it failed, and the disk is as before.
 abbrev pub OpensOrLeaves : List ℕ → Outside → Outside → Status → Type 0
 OpensOrLeaves name before after s =
     (after.disk.opened ≡ Some name)
     ⊎ ((after.disk ≡ before.disk) × (s ≢ status.Done) × (s ≡ status.Refused → IsTrue before.tells → before.is_there name ≡ false))
 
--- Edits that were made keep the rest of the file.
+-- A successful edit keeps the rest of the file.
 abbrev pub KeepsRestOf : List Edit → Outside → Outside → Status → Type 0
 KeepsRestOf edits before after status.Done = OfPair before after (λ M S p. KeepsRest edits M p.media.reads)
 KeepsRestOf edits before after s = ⊤
 
--- A new index keeps the rest of the file, and is whole.
+-- A successful `reindex` keeps the rest of the file, and its index is complete.
 abbrev pub IndexesAll : Outside → Outside → Status → Type 0
 IndexesAll before after status.Done = OfPair before after (λ M S p. HasNewIndex M p.media.reads)
 IndexesAll before after s = ⊤
 
--- A recovery, an edit and a new index leave the files as they are, and all else leaves the disk.
+-- A run that recovers, edits or indexes a file leaves all other files as they are; every other run leaves the disk as it is.
 abbrev pub Leaves : Reach → Outside → Outside → Status → Type 0
 Leaves nothing before after s = FilesStay before after × DiskStays before after
 Leaves files before after s = DiskStays before after
@@ -69,48 +76,50 @@ Leaves (edited file edits) before after s =
 Leaves (indexed file) before after s =
     FilesStay before after × OpensOrLeaves file before after s × OfPair before after (LeavesEdited s writes_of_index) × IndexesAll before after s
 
--- A crash at any moment between the two leaves what has P, of what the two files held before; and of a run that began earlier it leaves that
--- or what it might have left then.
+-- A crash at any moment from `before` to `after` leaves bytes of the file and of its journal that satisfy `P`. For an earlier start, it leaves
+-- such bytes or those that it could have left before; and what it could have left before, it still can have left.
 pub record CrashLeavesOnly (before after : Outside) (P : List ℕ → List ℕ → Type 0) : Type 0 where
   pub later : before.moment ≤ after.moment
   pub each : (m s : List ℕ) → after.left_since before.moment m s → P m s
   pub earlier : (t : ℕ) (m s : List ℕ) → t ≤ before.moment → after.left_since t m s → before.left_since t m s ⊎ P m s
+  pub keeps : (t : ℕ) (m s : List ℕ) → t ≤ before.moment → before.left_since t m s → after.left_since t m s
 
 -- ---- a run
 
--- What a run promises, by the words of its command line.
+-- What a run with the command line `words` promises, that found `before`, left `after` and ended with status `s`.
 pub record Runs (words : List (List ℕ)) (before after : Outside) (s : Status) : Type 0 where
-  -- The status, the lines and the outputs are those that the words come to, and no other name has changed. If the outside fails or memory
-  -- runs out on the way, a first part of the lines was said. It is so if the names, or for an edit in place the disk, are told.
+  -- Status, messages and outputs are those that the definitions give for the command line, and nothing under another name has changed. If a
+  -- call of the system fails or memory runs out on the way, the messages are the first of these. This is promised if the contents of the files,
+  -- or for an edit in place of the disk, are visible to the proof.
   pub does_what_is_defined : IfVisible (verdict_in before.names (world_of before) words) (Ends (seen_of before) (seen_of after) s)
-  -- The status of a failure is answered only if a count of failures rose, and always if one did.
-  pub blames_rightly : HasStatusCause (reach_in (command words)) (seen_of before) (seen_of after) s
+  -- The run ends with the status of a failure only if a failure was counted, and always if one was.
+  pub reports_failures : HasStatusCause (reach_in (command words)) (seen_of before) (seen_of after) s
   -- The same files are open as before.
   pub closes_its_files : (file : ℕ) → after.live file ≡ before.live file
-  -- No name is opened or made that the words don't ask for.
-  pub asks_for_no_more : AsksNone (IsBesidesAfter (command words)) before.asked after.asked
-  -- At most so many octets are read.
-  pub reads_at_most : ReadsWithinIn before.names (world_of before) words before.octets after.octets
-  -- What the words don't reach is left as it was, and an edit keeps the rest of its file.
-  pub leaves_the_rest : Leaves (reach_in (command words)) before after s
-  -- After a merge that ended well its output holds the merge.
-  pub merge_holds : MergesWell before.names words after.names s
-  -- What a merge with usual words wrote comes out again as it was if it is merged alone and without options.
-  pub merge_repeats : MergesAgain before.names words after.names s
-  -- A crash at any moment leaves the file and its sidecar as they were, or as an edit or a recovery may leave them on its way.
+  -- The run opens or creates no file that its command line doesn't ask for.
+  pub opens_no_other_file : AsksNone (IsBesidesAfter (command words)) before.asked after.asked
+  -- The run reads at most the number of bytes that the definitions allow for its command line.
+  pub reads_within_bounds : ReadsWithinIn before.names (world_of before) words (bytes_read before) (bytes_read after)
+  -- Files or a disk that the command has nothing to do with stay as they are, and an edit in place keeps the rest of its file.
+  pub changes_nothing_else : Leaves (reach_in (command words)) before after s
+  -- After a successful merge the outputs hold the merge that the command line asks for.
+  pub output_holds_the_merge : MergesWell before.names words after.names s
+  -- Merging such an output again, by itself and without options, gives the same bytes, if the first merge used only default options.
+  pub merge_is_repeatable : MergesAgain before.names words after.names s
+  -- A crash at any moment leaves the file and its journal as they were, or as an edit or a recovery can leave them on its way; either way
+  -- `recover` makes the old file or the edited one of them. This is promised if the disk is visible to the proof and had nothing left to sync.
   pub survives_crashes : IsTrue before.tells → IsSynced before.disk.pair
       → CrashLeavesOnly before after (LeftOnTheWay (reach_in (command words)) before.disk.pair.media.reads before.disk.pair.sidecar.reads)
 
--- The program's exit status is the number of a status with which a run ends.
+-- The exit status `code` of the program is the number of a status with which a run ends.
 pub record Exits (words : List (List ℕ)) (before after : Outside) (code : ℕ) : Type 0 where
   pub status : Status
   pub number : code ≡ code_of status
   pub runs : Runs words before after status
 
--- Nothing was done, and nothing was said.
+-- Nothing was done and nothing was printed.
 pub record IsIdle (before after : Outside) : Type 0 where
   pub files : FilesStay before after
   pub disk : DiskStays before after
   pub lines : after.lines ≡ before.lines
   pub faults : after.faults ≡ before.faults
-  pub octets : after.octets ≡ before.octets

@@ -6,7 +6,7 @@ use Rattle.mkv_run.proofs.exit.program.Goals as goal
 -- the exit status is that of the run, which has written its merge
 pub returns-in-Ok-clause-merged : goal.returns-in-Ok-clause-merged
 returns-in-Ok-clause-merged g c =
-    rw c.in-Ok.is (λ below. code-merged _ _ _ c.run.result (exit_status c.from.result) (c.from.ensures ∙ c.code.ensures) below c.run.ensures.merge_holds)
+    rw c.in-Ok.is (λ below. code-merged _ _ _ c.run.result (exit_status c.from.result) (c.from.ensures ∙ c.code.ensures) below c.run.ensures.output_holds_the_merge)
 
 -- the exit status is that of the run
 pub returns-in-Ok-clause-ok : goal.returns-in-Ok-clause-ok

@@ -11,14 +11,14 @@ returns g c =
     let pair = g.D.Disk.pair c.args.disk.now in
     record {
       does_what_is_defined = did.verdict;
-      blames_rightly = did.cause;
+      reports_failures = did.cause;
       closes_its_files = did.files.live;
-      asks_for_no_more = did.files.asks;
-      reads_at_most = did.octets;
-      leaves_the_rest = leaves-seen g.F.Reads g.F.Files g.D.Reads g.D.Disk g.R.Report c.args.files.now c.run_to_end.new.files c.args.disk.now c.run_to_end.new.disk
+      opens_no_other_file = did.files.asks;
+      reads_within_bounds = did.octets;
+      changes_nothing_else = leaves-seen g.F.Reads g.F.Files g.D.Reads g.D.Disk g.R.Report c.args.files.now c.run_to_end.new.files c.args.disk.now c.run_to_end.new.disk
           c.args.report.now c.run_to_end.new.report g.met.D.Disk.pair_stands g.met.D.Disk.opened_stands reach c.run_to_end.result did.touches;
-      merge_holds = did.merged.well;
-      merge_repeats = did.merged.again;
+      output_holds_the_merge = did.merged.well;
+      merge_is_repeatable = did.merged.again;
       survives_crashes = λ told synced. crash-seen g.F.Reads g.F.Files g.D.Reads g.D.Disk g.R.Report c.args.files.now c.run_to_end.new.files c.args.disk.now c.run_to_end.new.disk
           c.args.report.now c.run_to_end.new.report g.met.D.Disk.pair_stands g.met.D.Disk.opened_stands (LeftOnTheWay reach pair.media.reads pair.sidecar.reads) (did.any_moment (λ is. synced) told);
     }
