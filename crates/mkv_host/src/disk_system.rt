@@ -5,15 +5,15 @@ ghost use Rattle.std.specs.Fd.{file_raw_fd};
 
 use crate::outputs::copy_access;
 use crate::pair::OpenFile;
-use crate::system::{Node, above_streams, folder_of, node_of};
+use crate::system::{Node, above_streams, folder_of, is_standard_output, node_of};
 use mkv_io::{LONGEST_FILE, Text};
 use std::fs::{File, Metadata, OpenOptions, TryLockError};
 use std::io::ErrorKind;
 use std::os::unix::fs::{MetadataExt, OpenOptionsExt};
 use std::{fs, io};
 
-/// Opens a regular file to be read and written, and locks it. A link, and a file whose lock another holds, are refused.
-/// What isn't regular isn't opened, since that may wait for ever.
+/// Opens a regular file to be read and written, and locks it. A link, a file whose lock another holds, and one that is
+/// standard output too, are refused. What isn't regular isn't opened, since that may wait for ever.
 pub fn open_media<R: fs::Files<File = File>>(
     system: &R,
     name: Text,
@@ -24,7 +24,8 @@ pub fn open_media<R: fs::Files<File = File>>(
     let file = above_streams(open_again(system, name.as_str())?)?;
     lock(&file)?;
     let found = file.metadata()?;
-    if node_of(&found)? != seen {
+    let node = node_of(&found)?;
+    if node != seen || is_standard_output(system, node) {
         return Err(ErrorKind::ResourceBusy.into());
     }
     Ok((measured(file, name, &found)?, found))

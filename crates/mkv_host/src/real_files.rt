@@ -8,7 +8,7 @@ ghost use Rattle.std.specs.List.{list_any};
 use crate::open_files::{add, is_seen, lengthen, open_at, prepare};
 use crate::opened::Opened;
 use crate::outputs::{Output, emptied, open_or_make, replaced};
-use crate::system::{Node, is_missing, node_of, open_to_read};
+use crate::system::{Node, is_missing, is_standard_output, node_of, open_to_read};
 use crate::writer::write_from;
 use mkv_io::{
     Asked, Failed, FileId, Files, LONGEST_FILE, MakeFault, OpenFault, Reads, room_for_name,
@@ -61,15 +61,22 @@ impl<'a, R: fs::Files<File = File>> RealFiles<'a, R> {
         self.opened.len() as u64 == u64::MAX
     }
 
-    /// Makes an empty file, or puts one in the place of the file of that name. One that is there and that this run has opened
-    /// or made is refused and keeps its octets, under whatever name that was.
+    /// Checks whether a file can't be an output: this run has opened or made it, under whatever name, or it is standard output.
+    fn is_taken(&self, node: Node) -> bool
+        ensures { result ≡ false → list_any (is_node node) self.now.seen.items ≡ false }
+    {
+        is_seen(&self.seen, node) || is_standard_output(self.system, node)
+    }
+
+    /// Makes an empty file, or puts one in the place of the file of that name. An existing file that is taken is refused and
+    /// keeps its bytes.
     fn make(&self, name: &str) -> io::Result<Output>
         ensures { IfOk result (λ made. made.is_new ≡ false → list_any (is_node made.node) self.now.seen.items ≡ false) }
     {
         let (file, is_new) = open_or_make(self.system, name)?;
         let found = file.metadata()?;
         let node = node_of(&found)?;
-        if !is_new && is_seen(&self.seen, node) {
+        if !is_new && self.is_taken(node) {
             return Err(ErrorKind::ResourceBusy.into());
         }
         let output = Output { file, node, is_new };

@@ -16,6 +16,9 @@ use std::os::unix::fs::MetadataExt;
 use std::path::Path;
 use std::{fs, io};
 
+/// Name that the system gives to what is open as standard output.
+const STANDARD_OUTPUT: &str = "/proc/self/fd/1";
+
 /// Which file of the system a file is, whatever its name.
 #[derive(Clone, Copy, Debug, PartialEq, Eq)]
 pub struct Node {
@@ -45,6 +48,15 @@ pub fn node_of(found: &Metadata) -> io::Result<Node>
         device: found.dev(),
         inode: found.ino(),
     })
+}
+
+/// Checks whether `node` is standard output, too. A standard output that isn't a regular file, or can't be looked at, is no
+/// such file.
+pub fn is_standard_output<R: fs::Files<File = File>>(system: &R, node: Node) -> bool {
+    match fs::metadata(system, STANDARD_OUTPUT) {
+        Ok(found) => node_of(&found).is_ok_and(|output| output == node),
+        Err(_) => false,
+    }
 }
 
 /// The folder in which a file of this name stands.
