@@ -4,6 +4,7 @@
 //! file, a folder or a terminal holds: that the system keeps what it was given is trusted.
 
 mod disk_system;
+mod locks;
 mod open_files;
 mod opened;
 mod outputs;

@@ -3,6 +3,7 @@
 ghost use Rattle.std.specs.Prelude.{◌≡◌, pos, ◌<ℤ◌, true, IfOk};
 ghost use Rattle.std.specs.Fd.{file_raw_fd};
 
+use crate::locks::{own, share};
 use crate::system::{Node, above_streams, folder_of, node_of};
 use std::alloc::Global;
 use std::fs::{File, Metadata, OpenOptions, Permissions};
@@ -85,8 +86,8 @@ pub fn replaced<R: fs::Files<File = File>>(
     Err(ErrorKind::AlreadyExists.into())
 }
 
-/// Cuts a file to nothing. One to which its name doesn't lead any more keeps its octets, and is refused: what is written to it
-/// would stand under another name, or under none.
+/// Cuts a file to nothing. One that another run writes or edits keeps its bytes and is refused. So is one to which its name
+/// doesn't lead any more: what is written to it would be under another name, or under none.
 pub fn emptied<R: fs::Files<File = File>>(
     system: &R,
     name: &str,
@@ -94,6 +95,7 @@ pub fn emptied<R: fs::Files<File = File>>(
 ) -> io::Result<Output>
     ensures { IfOk result (λ same. same ≡ output) }
 {
+    own(&output.file)?;
     if node_of(&fs::metadata(system, name)?)? != output.node {
         return Err(ErrorKind::ResourceBusy.into());
     }
@@ -137,6 +139,7 @@ fn copy_permissions(file: File, was: &Metadata) -> io::Result<Output>
     ensures { IfOk result (λ made. made.is_new ≡ true) }
 {
     let file = above_streams(file)?;
+    share(&file)?;
     copy_access(&file, was)?;
     let found = file.metadata()?;
     if (found.uid(), found.gid(), found.mode()) != (was.uid(), was.gid(), was.mode()) {

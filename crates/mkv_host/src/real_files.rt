@@ -5,6 +5,7 @@ ghost use Rattle.mkv_io.specs.Faults.{HasIncreased, counted, last_count};
 ghost use Rattle.mkv_host.specs.Opened.{holder_in, is_node, opened_at, size_at};
 ghost use Rattle.std.specs.List.{list_any};
 
+use crate::locks::share;
 use crate::open_files::{add, is_seen, lengthen, open_at, prepare};
 use crate::opened::Opened;
 use crate::outputs::{Output, emptied, open_or_make, replaced};
@@ -16,7 +17,7 @@ use mkv_io::{
 use std::alloc::Global;
 use std::fs::File;
 use std::io::ErrorKind;
-use std::os::unix::fs::{FileExt, MetadataExt};
+use std::os::unix::fs::FileExt;
 use std::{fs, io};
 
 /// The files of the system. A file that is opened is only read; one that is created is written too. Which files a run has
@@ -68,8 +69,9 @@ impl<'a, R: fs::Files<File = File>> RealFiles<'a, R> {
         is_seen(&self.seen, node) || is_standard_output(self.system, node)
     }
 
-    /// Makes an empty file, or puts one in the place of the file of that name. An existing file that is taken is refused and
-    /// keeps its bytes.
+    /// Makes an empty file, or puts one in the place of the file of that name, even if that is empty: another run may be
+    /// about to write it. An existing file that is taken, or that another run edits, is refused and keeps its bytes. As long
+    /// as an output is open it holds a part of its lock.
     fn make(&self, name: &str) -> io::Result<Output>
         ensures { IfOk result (λ made. made.is_new ≡ false → list_any (is_node made.node) self.now.seen.items ≡ false) }
     {
@@ -79,8 +81,9 @@ impl<'a, R: fs::Files<File = File>> RealFiles<'a, R> {
         if !is_new && self.is_taken(node) {
             return Err(ErrorKind::ResourceBusy.into());
         }
+        share(&file)?;
         let output = Output { file, node, is_new };
-        if found.len() == 0 && found.nlink() <= 1 {
+        if is_new {
             return Ok(output);
         }
         match replaced(self.alloc, self.system, name, &found) {
