@@ -60,7 +60,8 @@ fn make_new<R: fs::Files<File = File>>(system: &R, name: &str) -> io::Result<(Fi
 }
 
 /// Puts a new file in the place of a regular one that is there, with its mode and its owner, so that other names of that one
-/// keep its octets, and it isn't flushed when it is closed. Where this can't be done the old one still stands.
+/// keep its bytes, and it isn't flushed when it is closed. A link is followed to the file that it leads to. If this fails, the
+/// old file is as it was.
 pub fn replaced<R: fs::Files<File = File>>(
     alloc: Global,
     system: &R,
@@ -69,11 +70,25 @@ pub fn replaced<R: fs::Files<File = File>>(
 ) -> io::Result<Output>
     ensures { IfOk result (λ made. made.is_new ≡ true) }
 {
-    // A link is followed to the file that it leads to.
+    if !fs::symlink_metadata(system, name)?.is_symlink() {
+        return replaced_at(alloc, system, name, was);
+    }
     let place = system.canonicalize(alloc, name)?;
-    let place = place.as_str();
+    replaced_at(alloc, system, place.as_str(), was)
+}
+
+/// Puts a new file in the place of a regular one whose name isn't a link.
+fn replaced_at<R: fs::Files<File = File>>(
+    alloc: Global,
+    system: &R,
+    place: &str,
+    was: &Metadata,
+) -> io::Result<Output>
+    ensures { IfOk result (λ made. made.is_new ≡ true) }
+{
     if node_of(&fs::symlink_metadata(system, place)?)? != node_of(was)? {
-        return Err(ErrorKind::ResourceBusy.into());
+        // Another file has the name by now.
+        return Err(ErrorKind::Other.into());
     }
     for number in 0..MAX_TRIES {
         let beside = format!(in alloc; "{}/.mkvsuite-{number}.new", folder_of(place))?;
@@ -84,6 +99,18 @@ pub fn replaced<R: fs::Files<File = File>>(
         }
     }
     Err(ErrorKind::AlreadyExists.into())
+}
+
+/// Checks whether a file that wasn't replaced, for an error of this kind, is one that never can be: its folder takes no new
+/// file or name, the new file can't have its owner and mode, or its name is a mount point.
+pub fn is_irreplaceable(kind: ErrorKind) -> bool {
+    matches!(
+        kind,
+        ErrorKind::PermissionDenied
+            | ErrorKind::ReadOnlyFilesystem
+            | ErrorKind::CrossesDevices
+            | ErrorKind::ResourceBusy
+    )
 }
 
 /// Cuts a file to nothing. One that another run writes or edits keeps its bytes and is refused. So is one to which its name

@@ -8,7 +8,7 @@ ghost use Rattle.std.specs.List.{list_any};
 use crate::locks::share;
 use crate::open_files::{add, is_seen, lengthen, open_at, prepare};
 use crate::opened::Opened;
-use crate::outputs::{Output, emptied, open_or_make, replaced};
+use crate::outputs::{Output, emptied, is_irreplaceable, open_or_make, replaced};
 use crate::system::{Node, is_missing, is_standard_output, node_of, open_to_read};
 use crate::writer::write_from;
 use mkv_io::{
@@ -87,9 +87,7 @@ impl<'a, R: fs::Files<File = File>> RealFiles<'a, R> {
             return Ok(output);
         }
         match replaced(self.alloc, self.system, name, &found) {
-            Err(error) if error.kind() != ErrorKind::OutOfMemory => {
-                emptied(self.system, name, output)
-            }
+            Err(error) if is_irreplaceable(error.kind()) => emptied(self.system, name, output),
             made => made,
         }
     }
