@@ -20,15 +20,24 @@ pub fn open_media<R: fs::Files<File = File>>(
 ) -> io::Result<(OpenFile, Metadata)>
     ensures { IfOk result (λ answer. answer.0.name ≡ name) }
 {
-    let seen = node_of(&fs::symlink_metadata(system, name.as_str())?)?;
+    node_of(&fs::symlink_metadata(system, name.as_str())?)?;
     let file = above_streams(open_again(system, name.as_str())?)?;
     lock(&file)?;
     let found = file.metadata()?;
     let node = node_of(&found)?;
-    if node != seen || is_standard_output(system, node) {
+    if !has_name(system, name.as_str(), node) || is_standard_output(system, node) {
         return Err(ErrorKind::ResourceBusy.into());
     }
     Ok((measured(file, name, &found)?, found))
+}
+
+/// Checks whether a name, which isn't a link, leads to a file. It is asked after the file was opened: on an overlay, a file
+/// that is opened to be written becomes another one.
+pub fn has_name<R: fs::Files<File = File>>(system: &R, name: &str, node: Node) -> bool {
+    match fs::symlink_metadata(system, name) {
+        Ok(found) => node_of(&found).is_ok_and(|named| named == node),
+        Err(_) => false,
+    }
 }
 
 /// Takes the lock of a file, which is held until the file is closed. Only a lock that another holds is refused: where a file
@@ -72,10 +81,11 @@ pub fn open_sidecar<R: fs::Files<File = File>>(
             measured(file, name, &found)
         }
         Err(error) if error.kind() == ErrorKind::AlreadyExists => {
-            let seen = only_name(&fs::symlink_metadata(system, name.as_str())?)?;
+            only_name(&fs::symlink_metadata(system, name.as_str())?)?;
             let file = above_streams(open_again(system, name.as_str())?)?;
             let found = file.metadata()?;
-            if only_name(&found)? != seen || seen == node_of(media)? {
+            let node = only_name(&found)?;
+            if !has_name(system, name.as_str(), node) || node == node_of(media)? {
                 return Err(ErrorKind::InvalidInput.into());
             }
             measured(file, name, &found)

@@ -23,18 +23,28 @@ pub struct Output {
     ghost above: { pos 2 <ℤ file_raw_fd file },
 }
 
-/// Opens a regular file to be written and read, or makes it where there is none, and says whether it did. The octets of one
-/// that is there stay. What isn't regular isn't opened.
-pub fn open_or_make<R: fs::Files<File = File>>(system: &R, name: &str) -> io::Result<(File, bool)>
+/// Returns which regular file has a name, if any. What isn't regular is refused.
+pub fn node_at<R: fs::Files<File = File>>(system: &R, name: &str) -> io::Result<Option<Node>> {
+    match fs::metadata(system, name) {
+        Ok(found) => Ok(Some(node_of(&found)?)),
+        Err(error) if error.kind() == ErrorKind::NotFound => Ok(None),
+        Err(error) => Err(error),
+    }
+}
+
+/// Opens a file to be written and read, or makes it unless it is there, and returns whether it is new. An existing file keeps
+/// its bytes.
+pub fn open_or_make<R: fs::Files<File = File>>(
+    system: &R,
+    name: &str,
+    is_there: bool,
+) -> io::Result<(File, bool)>
     ensures { IfOk result (λ answer. pos 2 <ℤ file_raw_fd answer.0) }
 {
-    let (file, is_new) = match fs::metadata(system, name) {
-        Ok(found) => {
-            node_of(&found)?;
-            (open_again(system, name)?, false)
-        }
-        Err(error) if error.kind() == ErrorKind::NotFound => make_new(system, name)?,
-        Err(error) => return Err(error),
+    let (file, is_new) = if is_there {
+        (open_again(system, name)?, false)
+    } else {
+        make_new(system, name)?
     };
     Ok((above_streams(file)?, is_new))
 }

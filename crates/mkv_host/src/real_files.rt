@@ -8,7 +8,7 @@ ghost use Rattle.std.specs.List.{list_any};
 use crate::locks::share;
 use crate::open_files::{add, is_seen, lengthen, open_at, prepare};
 use crate::opened::Opened;
-use crate::outputs::{Output, emptied, is_irreplaceable, open_or_make, replaced};
+use crate::outputs::{Output, emptied, is_irreplaceable, node_at, open_or_make, replaced};
 use crate::system::{Node, is_missing, is_standard_output, node_of, open_to_read};
 use crate::writer::write_from;
 use mkv_io::{
@@ -75,8 +75,13 @@ impl<'a, R: fs::Files<File = File>> RealFiles<'a, R> {
     fn make(&self, name: &str) -> io::Result<Output>
         ensures { IfOk result (λ made. made.is_new ≡ false → list_any (is_node made.node) self.now.seen.items ≡ false) }
     {
-        let (file, is_new) = open_or_make(self.system, name)?;
+        let before = node_at(self.system, name)?;
+        if before.is_some_and(|node| self.is_taken(node)) {
+            return Err(ErrorKind::ResourceBusy.into());
+        }
+        let (file, is_new) = open_or_make(self.system, name, before.is_some())?;
         let found = file.metadata()?;
+        // On an overlay, a file that is opened to be written becomes another one.
         let node = node_of(&found)?;
         if !is_new && self.is_taken(node) {
             return Err(ErrorKind::ResourceBusy.into());
