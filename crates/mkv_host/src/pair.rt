@@ -18,11 +18,12 @@ pub struct OpenFile {
     ghost short: { size ≤ LONGEST_FILE },
 }
 
-/// A file and its sidecar, and whether this run has changed the file. As long as the pair is open, it holds the file's lock.
+/// A file and its sidecar, and whether this run has written to each. As long as the pair is open, it holds the file's lock.
 #[derive(Drop)]
 pub struct OpenPair {
     pub media: OpenFile,
     pub sidecar: OpenFile,
     pub is_changed: bool,
+    pub is_noted: bool,
     ghost beside: { sidecar.name ≡ sidecar_of media.name },
 }

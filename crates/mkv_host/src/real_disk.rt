@@ -6,16 +6,16 @@ ghost use Rattle.mkv_host.specs.OpenedPair.{is_live, name_in, size_in};
 ghost use Rattle.mkv_io.specs.declared.outside.TheConstants.{LONGEST_FILE};
 ghost use Rattle.sidecar_edit.specs.Name.{sidecar_of};
 
-use crate::disk_system::{open_media, open_sidecar, settle_folder, sync_on_open};
+use crate::disk_system::{has_name, open_media, open_sidecar, settle_folder, sync_on_open};
 use crate::pair::{OpenFile, OpenPair};
-use crate::system::is_missing;
+use crate::system::{is_missing, node_of};
 use crate::writer::write_from;
 use mkv_disk::{Disk, MEDIA};
 use mkv_io::{Failed, FileId, LONGEST_FILE, OpenFault, Reads, Text};
 use sidecar_edit::sidecar_name;
 use std::alloc::{AllocError, Global};
 use std::fs;
-use std::fs::File;
+use std::fs::{File, Metadata};
 use std::os::unix::fs::FileExt;
 
 /// A file of the system and its sidecar. A sync makes sure of a file's octets and its length. When a pair is opened both files
@@ -66,16 +66,36 @@ fn file_of(pair: &Option<OpenPair>, file: FileId) -> &OpenFile
     }
 }
 
-/// Whether the medium has the length that it had when it was opened, or this run has changed it.
-fn is_as_opened(pair: &Option<OpenPair>) -> bool {
+/// Checks whether one of the two files may be written: until this run changes the medium, that has the length with which it
+/// was opened, and its name. A record that is noted is made in the medium even if another file has the name by now.
+fn is_as_opened<R: fs::Files<File = File>>(
+    system: &R,
+    pair: &Option<OpenPair>,
+    file: FileId,
+) -> bool {
     match pair {
-        Some(open) if !open.is_changed => open
-            .media
-            .file
-            .metadata()
-            .is_ok_and(|found| found.len() == open.media.size),
+        Some(open) if !open.is_changed => {
+            let is_begun = file == MEDIA && open.is_noted;
+            is_same(system, &open.media, !is_begun)
+        }
         _ => true,
     }
+}
+
+/// Checks whether an open file has the length that is noted of it, and its name, if that counts.
+fn is_same<R: fs::Files<File = File>>(system: &R, open: &OpenFile, counts_name: bool) -> bool {
+    match open.file.metadata() {
+        Ok(found) => {
+            found.len() == open.size
+                && (!counts_name || is_named(system, open.name.as_str(), &found))
+        }
+        Err(_) => false,
+    }
+}
+
+/// Checks whether a name still leads to an open file.
+fn is_named<R: fs::Files<File = File>>(system: &R, name: &str, open: &Metadata) -> bool {
+    node_of(open).is_ok_and(|node| has_name(system, name, node))
 }
 
 /// Notes how long one of the two files is.
@@ -93,6 +113,7 @@ fn resize(pair: &mut Option<OpenPair>, file: FileId, size: u64)
             open.is_changed = true;
         } else {
             open.sidecar.size = size;
+            open.is_noted = true;
         }
     }
 }
@@ -133,6 +154,7 @@ fn open_both<R: fs::Files<File = File>>(
         media,
         sidecar,
         is_changed: false,
+        is_noted: false,
     })
 }
 
@@ -230,7 +252,10 @@ impl<'a, R: fs::Files<File = File>> Disk for RealDisk<'a, R> {
     fn write_at(&mut self, file: FileId, at: u64, bytes: &[u8]) -> Result<(), Failed> {
         let open = file_of(&self.pair, file);
         let len = bytes.len() as u64;
-        if at > LONGEST_FILE || len > LONGEST_FILE - at || !is_as_opened(&self.pair) {
+        if at > LONGEST_FILE
+            || len > LONGEST_FILE - at
+            || !is_as_opened(self.system, &self.pair, file)
+        {
             note_failure(&mut self.writing_faults);
             return Err(Failed);
         }
@@ -245,7 +270,7 @@ impl<'a, R: fs::Files<File = File>> Disk for RealDisk<'a, R> {
 
     fn cut(&mut self, file: FileId, len: u64) -> Result<(), Failed> {
         if len > LONGEST_FILE
-            || !is_as_opened(&self.pair)
+            || !is_as_opened(self.system, &self.pair, file)
             || file_of(&self.pair, file).file.set_len(len).is_err()
         {
             note_failure(&mut self.writing_faults);
