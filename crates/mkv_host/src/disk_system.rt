@@ -12,6 +12,9 @@ use std::io::ErrorKind;
 use std::os::unix::fs::{MetadataExt, OpenOptionsExt};
 use std::{fs, io};
 
+/// Name that the system gives to this process, whose owner is the user for whom it runs.
+const THIS_PROCESS: &str = "/proc/self";
+
 /// Opens a regular file to be read and written, and locks it. A link, a file whose lock another holds, and one that is
 /// standard output too, are refused. What isn't regular isn't opened, since that may wait for ever.
 pub fn open_media<R: fs::Files<File = File>>(
@@ -66,7 +69,7 @@ fn measured(file: File, name: Text, found: &Metadata) -> io::Result<OpenFile>
 }
 
 /// Opens the sidecar of a file to be read and written, and makes it, empty, with that file's mode and owner where it isn't there.
-/// One that is there has to be a regular file with no other name, and another one than that.
+/// An existing one must be a regular file with no other name, another one than that, and no stranger's.
 pub fn open_sidecar<R: fs::Files<File = File>>(
     system: &R,
     name: Text,
@@ -88,9 +91,28 @@ pub fn open_sidecar<R: fs::Files<File = File>>(
             if !has_name(system, name.as_str(), node) || node == node_of(media)? {
                 return Err(ErrorKind::InvalidInput.into());
             }
+            if is_strangers(system, &found, media) {
+                return Err(ErrorKind::PermissionDenied.into());
+            }
             measured(file, name, &found)
         }
         Err(error) => Err(error),
+    }
+}
+
+/// Checks whether a sidecar is neither the film's owner's nor the user's for whom this process runs: whoever may write the
+/// folder may have made it, and its record would be written into the film.
+fn is_strangers<R: fs::Files<File = File>>(
+    system: &R,
+    sidecar: &Metadata,
+    media: &Metadata,
+) -> bool {
+    if sidecar.uid() == media.uid() {
+        return false;
+    }
+    match fs::metadata(system, THIS_PROCESS) {
+        Ok(process) => process.uid() != sidecar.uid(),
+        Err(_) => true,
     }
 }
 
