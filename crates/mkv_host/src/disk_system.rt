@@ -3,11 +3,12 @@
 ghost use Rattle.std.specs.Prelude.{◌≡◌, pos, ◌<ℤ◌, IfOk};
 ghost use Rattle.std.specs.Fd.{file_raw_fd};
 
+use crate::locks::lock;
 use crate::outputs::copy_access;
 use crate::pair::OpenFile;
 use crate::system::{Node, above_streams, folder_of, is_standard_output, node_of};
 use mkv_io::{LONGEST_FILE, Text};
-use std::fs::{File, Metadata, OpenOptions, TryLockError};
+use std::fs::{File, Metadata, OpenOptions};
 use std::io::ErrorKind;
 use std::os::unix::fs::{MetadataExt, OpenOptionsExt};
 use std::{fs, io};
@@ -40,15 +41,6 @@ pub fn has_name<R: fs::Files<File = File>>(system: &R, name: &str, node: Node) -
     match fs::symlink_metadata(system, name) {
         Ok(found) => node_of(&found).is_ok_and(|named| named == node),
         Err(_) => false,
-    }
-}
-
-/// Takes the lock of a file, which is held until the file is closed. Only a lock that another holds is refused: where a file
-/// system has no locks, it is gone on without.
-fn lock(file: &File) -> io::Result<()> {
-    match file.try_lock() {
-        Err(TryLockError::WouldBlock) => Err(ErrorKind::WouldBlock.into()),
-        Ok(()) | Err(TryLockError::Error(_)) => Ok(()),
     }
 }
 

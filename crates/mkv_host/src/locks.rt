@@ -4,6 +4,16 @@ use std::fs::{File, TryLockError};
 use std::io;
 use std::io::ErrorKind;
 
+/// Takes the lock of a file that is edited. A file system without locks is passed over; each other failure is refused.
+pub fn lock(file: &File) -> io::Result<()> {
+    match file.try_lock() {
+        Ok(()) => Ok(()),
+        Err(TryLockError::WouldBlock) => Err(ErrorKind::WouldBlock.into()),
+        Err(TryLockError::Error(error)) if error.kind() == ErrorKind::Unsupported => Ok(()),
+        Err(TryLockError::Error(error)) => Err(error),
+    }
+}
+
 /// Takes the lock of an output as one of several. It is refused only if another run edits the file or writes it in place.
 pub fn share(file: &File) -> io::Result<()> {
     unless_held(file.try_lock_shared())
