@@ -134,7 +134,14 @@ pub fn sync_on_open(file: &File) -> io::Result<()> {
     file.sync_all()
 }
 
-/// Makes sure that the folder of a file has its name.
+/// Makes sure that the folder of a file has its name. A folder that its file system doesn't sync is passed over.
 pub fn settle_folder<R: fs::Files<File = File>>(system: &R, name: &str) -> io::Result<()> {
-    above_streams(File::open(system, folder_of(name))?)?.sync_all()
+    match above_streams(File::open(system, folder_of(name))?)?.sync_all() {
+        Err(error) if is_unsynced(error.kind()) => Ok(()),
+        outcome => outcome,
+    }
+}
+
+fn is_unsynced(kind: ErrorKind) -> bool {
+    matches!(kind, ErrorKind::InvalidInput | ErrorKind::Unsupported)
 }
