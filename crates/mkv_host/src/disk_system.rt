@@ -4,8 +4,8 @@ ghost use Rattle.std.specs.Prelude.{◌≡◌, pos, ◌<ℤ◌, IfOk};
 ghost use Rattle.std.specs.Fd.{file_raw_fd};
 
 use crate::locks::lock;
-use crate::outputs::copy_access;
 use crate::pair::OpenFile;
+use crate::sharing::share_new;
 use crate::system::{Node, above_streams, folder_of, is_standard_output, node_of};
 use mkv_io::{LONGEST_FILE, Text};
 use std::fs::{File, Metadata, OpenOptions};
@@ -60,7 +60,7 @@ fn measured(file: File, name: Text, found: &Metadata) -> io::Result<OpenFile>
     Ok(OpenFile { file, name, size })
 }
 
-/// Opens the sidecar of a file to be read and written, and makes it, empty, with that file's mode and owner where it isn't there.
+/// Opens the sidecar of a file to be read and written, or makes it, empty, with that file's owner and mode (`share_new`).
 /// An existing one must be a regular file with no other name, another one than that, and no stranger's.
 pub fn open_sidecar<R: fs::Files<File = File>>(
     system: &R,
@@ -71,25 +71,36 @@ pub fn open_sidecar<R: fs::Files<File = File>>(
 {
     match make_new(system, name.as_str()) {
         Ok(file) => {
-            copy_access(&file, media)?;
+            share_new(&file, media)?;
             let found = file.metadata()?;
             measured(file, name, &found)
         }
         Err(error) if error.kind() == ErrorKind::AlreadyExists => {
-            only_name(&fs::symlink_metadata(system, name.as_str())?)?;
-            let file = above_streams(open_again(system, name.as_str())?)?;
-            let found = file.metadata()?;
-            let node = only_name(&found)?;
-            if !has_name(system, name.as_str(), node) || node == node_of(media)? {
-                return Err(ErrorKind::InvalidInput.into());
-            }
-            if is_strangers(system, &found, media) {
-                return Err(ErrorKind::PermissionDenied.into());
-            }
-            measured(file, name, &found)
+            open_existing(system, name, media)
         }
         Err(error) => Err(error),
     }
+}
+
+/// Opens a sidecar that is there.
+fn open_existing<R: fs::Files<File = File>>(
+    system: &R,
+    name: Text,
+    media: &Metadata,
+) -> io::Result<OpenFile>
+    ensures { IfOk result (λ opened. opened.name ≡ name) }
+{
+    only_name(&fs::symlink_metadata(system, name.as_str())?)?;
+    let file = above_streams(open_again(system, name.as_str())?)?;
+    let found = file.metadata()?;
+    let node = only_name(&found)?;
+    if !has_name(system, name.as_str(), node) || node == node_of(media)? {
+        return Err(ErrorKind::InvalidInput.into());
+    }
+    if is_strangers(system, &found, media) {
+        return Err(ErrorKind::PermissionDenied.into());
+    }
+    measured(file, name, &found)
 }
 
 /// Checks whether a sidecar is neither the film's owner's nor the user's for whom this process runs: whoever may write the

@@ -12,6 +12,7 @@ mod pair;
 mod real_disk;
 mod real_files;
 mod real_report;
+mod sharing;
 mod system;
 mod writer;
 

@@ -192,10 +192,20 @@ fn copy_permissions(file: File, was: &Metadata) -> io::Result<Output>
 
 /// Gives a file the mode of another, and its owner and group, where these may be set.
 pub fn copy_access(file: &File, was: &Metadata) -> io::Result<()> {
+    copy_owner(file, was)?;
+    set_mode(file, was.mode() & 0o7777)
+}
+
+/// Gives a file the owner and the group of another, where these may be set.
+pub fn copy_owner(file: &File, was: &Metadata) -> io::Result<()> {
     // Only root sets the owner, and a member of the group may still set that.
     unless_refused(fchown(file, None, Some(was.gid())))?;
-    unless_refused(fchown(file, Some(was.uid()), None))?;
-    unless_refused(file.set_permissions(Permissions::from_mode(was.mode() & 0o7777)))
+    unless_refused(fchown(file, Some(was.uid()), None))
+}
+
+/// Sets the mode of a file, where it may be set.
+pub fn set_mode(file: &File, mode: u32) -> io::Result<()> {
+    unless_refused(file.set_permissions(Permissions::from_mode(mode)))
 }
 
 /// Passes over that a process may not set this, that the file system doesn't keep it, or that there is no such owner here.

@@ -8,6 +8,7 @@ ghost use Rattle.sidecar_edit.specs.Name.{sidecar_of};
 
 use crate::disk_system::{has_name, open_media, open_sidecar, settle_folder, sync_on_open};
 use crate::pair::{OpenFile, OpenPair};
+use crate::sharing::{HOLDING, QUIET, share_bits};
 use crate::system::{is_missing, node_of};
 use crate::writer::write_from;
 use mkv_disk::{Disk, MEDIA};
@@ -96,6 +97,24 @@ fn is_same<R: fs::Files<File = File>>(system: &R, open: &OpenFile, counts_name: 
 /// Checks whether a name still leads to an open file.
 fn is_named<R: fs::Files<File = File>>(system: &R, name: &str, open: &Metadata) -> bool {
     node_of(open).is_ok_and(|node| has_name(system, name, node))
+}
+
+/// Keeps the record of an edit from all but the sidecar's owner, before the first of it is written.
+fn hide_record(pair: &Option<OpenPair>, file: FileId) {
+    if let Some(open) = pair {
+        if file != MEDIA && !open.is_changed && !open.is_noted {
+            share_bits(&open.sidecar.file, &open.media.file, HOLDING);
+        }
+    }
+}
+
+/// Lets others read a sidecar again whose edit is made: they look there for a pending one.
+fn show_quiet(pair: &Option<OpenPair>) {
+    if let Some(open) = pair {
+        if open.is_changed && open.sidecar.size <= 1 {
+            share_bits(&open.sidecar.file, &open.media.file, QUIET);
+        }
+    }
 }
 
 /// Notes how long one of the two files is.
@@ -260,6 +279,7 @@ impl<'a, R: fs::Files<File = File>> Disk for RealDisk<'a, R> {
             return Err(Failed);
         }
         let size = open.size.max(at + len);
+        hide_record(&self.pair, file);
         if write_from(&mut &open.file, at, bytes) < bytes.len() {
             note_failure(&mut self.writing_faults);
             return Err(Failed);
@@ -285,6 +305,7 @@ impl<'a, R: fs::Files<File = File>> Disk for RealDisk<'a, R> {
             note_failure(&mut self.writing_faults);
             return Err(Failed);
         }
+        show_quiet(&self.pair);
         Ok(())
     }
 }
