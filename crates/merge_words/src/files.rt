@@ -6,6 +6,7 @@ ghost use Rattle.merge_words.specs.Files as spec;
 use crate::item::{Item, stands, track_in};
 use crate::options::Subject;
 use crate::said::{numbers_copy, value_in};
+use indexmap::IndexSet;
 use mkv_io::{List, Text};
 use requests::{CueWord, FileWords, Select};
 use std::alloc::{AllocError, Global};
@@ -239,53 +240,51 @@ fn cues_in(alloc: Global, items: &[Item]) -> Result<List<(u64, CueWord)>, AllocE
 fn named_in(alloc: Global, items: &[Item]) -> Result<List<u64>, AllocError>
     ensures { IfOk result (λ list. list ≡ spec.named_in items.now) }
 {
-    let mut list = List::new(alloc);
+    let mut named = IndexSet::new(alloc);
     for item in items {
-        add_ids(&mut list, &item.value)?;
+        add_ids(&mut named, &item.value)?;
     }
-    Ok(list)
+    Ok(List::from_vec(Vec::from_slice(alloc, named.as_slice())?))
 }
 
-/// Adds the tracks that a value names, where they aren't there yet.
-fn add_ids(list: &mut List<u64>, value: &Value) -> Result<(), AllocError>
-    ensures { OnOk result (list.new ≡ spec.with_new list.old (spec.ids_of value.now)) }
+/// Adds the tracks that a value names, unless they are there already.
+fn add_ids(named: &mut IndexSet<u64>, value: &Value) -> Result<(), AllocError>
+    ensures { OnOk result (named.new.keys ≡ spec.with_new named.old.keys (spec.ids_of value.now)) }
 {
     match value {
-        Value::Tracks(select) => add_selected(list, select),
+        Value::Tracks(select) => add_selected(named, select),
         _ => match track_in(value) {
-            Some(id) => add(list, id),
+            Some(id) => add(named, id),
             None => Ok(()),
         },
     }
 }
 
-/// Adds the tracks that a selection names, where they aren't there yet.
-fn add_selected(list: &mut List<u64>, select: &Select) -> Result<(), AllocError>
-    ensures { OnOk result (list.new ≡ spec.with_new list.old (spec.ids_of_select select.now)) }
+/// Adds the tracks that a selection names, unless they are there already.
+fn add_selected(named: &mut IndexSet<u64>, select: &Select) -> Result<(), AllocError>
+    ensures { OnOk result (named.new.keys ≡ spec.with_new named.old.keys (spec.ids_of_select select.now)) }
 {
     match select {
-        Select::These { ids } => add_all(list, ids.as_slice()),
-        Select::AllBut { ids } => add_all(list, ids.as_slice()),
+        Select::These { ids } => add_all(named, ids.as_slice()),
+        Select::AllBut { ids } => add_all(named, ids.as_slice()),
         Select::All | Select::Off => Ok(()),
     }
 }
 
 /// Adds the numbers that aren't there yet.
-fn add_all(list: &mut List<u64>, ids: &[u64]) -> Result<(), AllocError>
-    ensures { OnOk result (list.new ≡ spec.with_new list.old ids.now) }
+fn add_all(named: &mut IndexSet<u64>, ids: &[u64]) -> Result<(), AllocError>
+    ensures { OnOk result (named.new.keys ≡ spec.with_new named.old.keys ids.now) }
 {
     for id in ids {
-        add(list, *id)?;
+        add(named, *id)?;
     }
     Ok(())
 }
 
 /// Adds a number that isn't there yet.
-fn add(list: &mut List<u64>, id: u64) -> Result<(), AllocError>
-    ensures { OnOk result (list.new ≡ spec.with_new list.old (id ∷ [])) }
+fn add(named: &mut IndexSet<u64>, id: u64) -> Result<(), AllocError>
+    ensures { OnOk result (named.new.keys ≡ spec.with_new named.old.keys (id ∷ [])) }
 {
-    if list.as_slice().contains(&id) {
-        return Ok(());
-    }
-    list.push(id)
+    named.insert(id)?;
+    Ok(())
 }

@@ -7,4 +7,4 @@ use Rattle.merge_words.proofs.files.named_in.Given as goal
 
 abbrev pub invariant-loop-item : goal.invariant-loop-item
 invariant-loop-item l =
-    with_new l.list (flat_map (λ (i : Item). ids_of i.value) (drop l.item-index l.items)) ≡ with_new [] (flat_map (λ (i : Item). ids_of i.value) l.items)
+    with_new l.named.keys (flat_map (λ (i : Item). ids_of i.value) (drop l.item-index l.items)) ≡ with_new [] (flat_map (λ (i : Item). ids_of i.value) l.items)
