@@ -1,7 +1,8 @@
 //! Calls of the system that open files to be changed.
 
-ghost use Rattle.std.specs.Prelude.{◌≡◌, pos, ◌<ℤ◌, IfOk};
+ghost use Rattle.std.specs.Prelude.{◌≡◌, ◌↔◌, pos, ◌<ℤ◌, IfOk, IsTrue};
 ghost use Rattle.std.specs.Fd.{file_raw_fd};
+ghost use Rattle.mkv_host.specs.Errors.{IsUnsynced};
 
 use crate::locks::lock;
 use crate::pair::OpenFile;
@@ -153,6 +154,8 @@ pub fn settle_folder<R: fs::Files<File = File>>(system: &R, name: &str) -> io::R
     }
 }
 
-fn is_unsynced(kind: ErrorKind) -> bool {
+fn is_unsynced(kind: ErrorKind) -> bool
+    ensures { IsTrue result ↔ IsUnsynced kind }
+{
     matches!(kind, ErrorKind::InvalidInput | ErrorKind::Unsupported)
 }

@@ -1,7 +1,8 @@
 //! Calls of the system that make outputs.
 
-ghost use Rattle.std.specs.Prelude.{◌≡◌, pos, ◌<ℤ◌, true, IfOk};
+ghost use Rattle.std.specs.Prelude.{◌≡◌, ◌↔◌, pos, ◌<ℤ◌, true, IfOk, IsTrue};
 ghost use Rattle.std.specs.Fd.{file_raw_fd};
+ghost use Rattle.mkv_host.specs.Errors.{IsIrreplaceable};
 
 use crate::locks::{own, share};
 use crate::system::{Node, above_streams, folder_of, node_of};
@@ -113,7 +114,9 @@ fn replaced_at<R: fs::Files<File = File>>(
 
 /// Checks whether a file that wasn't replaced, for an error of this kind, is one that never can be: its folder takes no new
 /// file or name, the new file can't have its owner and mode, or its name is a mount point.
-pub fn is_irreplaceable(kind: ErrorKind) -> bool {
+pub fn is_irreplaceable(kind: ErrorKind) -> bool
+    ensures { IsTrue result ↔ IsIrreplaceable kind }
+{
     matches!(
         kind,
         ErrorKind::PermissionDenied
