@@ -48,7 +48,7 @@ def ends(session, program):
         tools, folder = os.path.join(room, "tools"), os.path.join(room, "folder")
         os.makedirs(tools)
         for name, source in (("mkvsuite", program), ("mkvsuite-progress", os.path.join(ROOT, "tools/mkvsuite-progress"))):
-            shutil.copy(source, os.path.join(tools, name))
+            os.symlink(source, os.path.join(tools, name))
         os.makedirs(os.path.join(folder, "tools"))
         os.symlink(os.path.join(tools, "mkvsuite"), os.path.join(folder, "tools/run"))
         os.symlink(os.path.join(ROOT, "tools/make-samples"), os.path.join(folder, "tools/make-samples"))
