@@ -1,4 +1,4 @@
--- The digits of a number are no other octet; and what stands before and behind the first octet of its kind.
+-- Laws on the bytes of decimal digits, and on `lacks` and `cut`.
 use Rattle.std.proofs.Common.{◌≡◌, ℕ, suc, ◌+◌, ◌^◌, ◌<◌, Bool, true, false, not, nat_lt, List, [], ◌∷◌, ◌++◌, length, take, drop, Some, refl, ◌∙◌, arith, eqb-true}
 use Rattle.std.proofs.lemmas.Bool.{and_parts, not-true}
 use Rattle.std.proofs.lemmas.Grind.{common_steps}
@@ -12,7 +12,7 @@ use Rattle.std.specs.Str.Parse.{AllDigits}
 use Rattle.std.specs.Fmt.{decimal}
 use Rattle.mkv_io.specs.Octets.{cut, lacks}
 
--- ---- the digits of a number
+-- ---- values of digits
 value_digit : (c : ℕ) → digit_value c < 10 → is_ascii_digit c ≡ true
 value_digit c small = grind (arith, nat_tests, common_steps)
 
@@ -23,7 +23,7 @@ all_digits (c ∷ cs) all = rw (value_digit c all.0, all_digits cs all.1) refl
 pub decimal_all : (n : ℕ) → n < 2 ^ 64 → list_all is_ascii_digit (decimal n) ≡ true
 decimal_all n small = all_digits (decimal n) (decimal_is_IsNumeral n small).0.1
 
--- ---- digits are no other octet
+-- ---- a digit differs from each byte that isn't a digit
 pub digit_is_not : (o b : ℕ) → is_ascii_digit o ≡ false → is_ascii_digit b ≡ true → (b == o) ≡ false
 digit_is_not o b other is = split (b == o) refl
   where
@@ -31,11 +31,11 @@ digit_is_not o b other is = split (b == o) refl
     split true same = let e : b ≡ o = eqb-true b o same in absurd (cc)
     split false same = same
 
--- no octet of these is another, or neither the first nor those behind it
+-- If a text doesn't contain the byte `o`, neither its first byte nor the rest does.
 pub lacks_parts : (o b : ℕ) (bs : List ℕ) → lacks o (b ∷ bs) ≡ true → ((b == o) ≡ false) × (lacks o bs ≡ true)
 lacks_parts o b bs none = let parts = and_parts (not (b == o)) (lacks o bs) none in (not-true (b == o) parts.0, parts.1)
 
--- two texts, one behind the other
+-- A text made of two texts without the byte `o` doesn't contain `o`.
 pub lacks_both : (o : ℕ) (a b : List ℕ) → lacks o a ≡ true → lacks o b ≡ true → lacks o (a ++ b) ≡ true
 lacks_both o a b p q = list_all-append (λ c. not (c == o)) a b ∙ rw (p, q) refl
 
@@ -48,12 +48,12 @@ digits_lack o (b ∷ bs) other all =
 pub decimal_lacks : (o n : ℕ) → is_ascii_digit o ≡ false → n < 2 ^ 64 → lacks o (decimal n) ≡ true
 decimal_lacks o n other small = digits_lack o (decimal n) other (decimal_all n small)
 
--- the first octet of digits is no other octet, whatever stands behind them
+-- A nonempty text of digits, followed by anything, doesn't begin with a byte that isn't a digit.
 pub first_other : (o : ℕ) (ds rest : List ℕ) → is_ascii_digit o ≡ false → 0 < length ds → list_all is_ascii_digit ds ≡ true → (slice_index (ds ++ rest) 0 == o) ≡ false
 first_other o [] rest other some all = absurd (omega arith)
 first_other o (d ∷ ds) rest other some all = digit_is_not o d other (and_parts (is_ascii_digit d) (list_all is_ascii_digit ds) all).0
 
--- ---- what stands before and behind the first such octet
+-- ---- the parts before and after the first byte of a kind
 same_octet : (o : ℕ) → (o == o) ≡ true
 same_octet o = grind (arith, nat_tests)
 

@@ -1,4 +1,4 @@
--- Calls that only write to live files, one after the other: laws for whoever writes files.
+-- Laws on calls in sequence that only write to live files. Callers that write files use them.
 use Rattle.std.proofs.Common.{◌≡◌, ◌≤◌, ℕ, Bool, true, false, MatchBool, List, [], ◌∷◌, Result, Ok, Err, refl, sym, ◌∙◌, ap, subst, arith}
 use Rattle.mkv_io.specs.Asked.{IsNotAmong}
 use Rattle.mkv_io.specs.Faults.{HasCause, HasIncreased}
@@ -12,7 +12,7 @@ use Rattle.mkv_io.specs.declared.outside.FileId.{FileId}
 use Rattle.mkv_io.specs.declared.reads.Reads.{Ghosts}
 use Rattle.mkv_io.specs.declared.files.Files as writing
 
--- a file is the same after two calls
+-- A file that two calls leave the same is the same after both.
 pub IsSameFile-twice : (a b c : LiveFiles) (file : ℕ) → IsSameFile a b file → IsSameFile b c file → IsSameFile a c file
 IsSameFile-twice a b c file first next = record {
   alive = next.alive ∙ first.alive;
@@ -20,9 +20,9 @@ IsSameFile-twice a b c file first next = record {
   content = λ live. next.content (first.alive ∙ live) ∙ first.content live;
 }
 
--- ---- what stays
+-- ---- unchanged files
 
--- nothing happens
+-- No call uses no name.
 pub UsesOnly-none : {S : Type 0} (r : Ghosts S) (f : writing.Ghosts S) (opened written : List (List ℕ)) (files : S) → UsesOnly r f opened written files files
 UsesOnly-none r f opened written files = record {
   live = λ file. refl;
@@ -32,7 +32,7 @@ UsesOnly-none r f opened written files = record {
   asks = λ name besides unasked. unasked;
 }
 
--- two calls
+-- Two calls that use only these names do so together.
 pub UsesOnly-then : {S : Type 0} (r : Ghosts S) (f : writing.Ghosts S) (opened written : List (List ℕ)) (a b c : S) → UsesOnly r f opened written a b → UsesOnly r f opened written b c → UsesOnly r f opened written a c
 UsesOnly-then r f opened written a b c first next = record {
   live = λ file. next.live file ∙ first.live file;
@@ -51,7 +51,7 @@ UsesOnly-then r f opened written a b c first next = record {
         let P : List ℕ → Type 0 = λ name. AreOthers name written in
         next.others file (subst P (sym (first.holders file live)) other)
 
--- what uses only these names uses only these and more
+-- A call that uses only the names in two lists uses only names in longer lists.
 pub UsesOnly-more : {S : Type 0} (r : Ghosts S) (f : writing.Ghosts S) (opened written more_opened more_written : List (List ℕ)) (old new : S) → ((name : List ℕ) → AreOthers name more_opened → AreOthers name opened) → ((name : List ℕ) → AreOthers name more_written → AreOthers name written) → UsesOnly r f opened written old new → UsesOnly r f more_opened more_written old new
 UsesOnly-more r f opened written more_opened more_written old new open_among among kept = record {
   live = kept.live;
@@ -61,7 +61,7 @@ UsesOnly-more r f opened written more_opened more_written old new open_among amo
   asks = asks-more opened written more_opened more_written (f.asked old) (f.asked new) open_among among kept.asks;
 }
 
--- a call that leaves all that stands uses none
+-- A call that leaves `standing`, and asks for nothing, uses no name.
 pub UsesOnly-standing : {S : Type 0} (r : Ghosts S) (f : writing.Ghosts S) (opened written : List (List ℕ)) (old new : S) → r.standing new ≡ r.standing old → f.given new ≡ f.given old → KeepsHolders (live_files r old).live (f.holder old) (f.holder new) → f.asked new ≡ f.asked old → UsesOnly r f opened written old new
 UsesOnly-standing r f opened written old new stands given holders asked = record {
   live = λ file. ap (λ standing. (r.files standing).live file) stands;
@@ -75,7 +75,7 @@ UsesOnly-standing r f opened written old new stands given holders asked = record
   asks = asks-none (IsNotAmong opened written) (f.asked old) (f.asked new) asked;
 }
 
--- ---- calls that open none
+-- ---- calls that open no file
 
 pub KeepsOthers-none : {S : Type 0} (r : Ghosts S) (f : writing.Ghosts S) (names : List (List ℕ)) (files : S) → KeepsOthers r f names files files
 KeepsOthers-none r f names files = UsesOnly-none r f [] names files
@@ -83,21 +83,21 @@ KeepsOthers-none r f names files = UsesOnly-none r f [] names files
 pub KeepsOthers-then : {S : Type 0} (r : Ghosts S) (f : writing.Ghosts S) (names : List (List ℕ)) (a b c : S) → KeepsOthers r f names a b → KeepsOthers r f names b c → KeepsOthers r f names a c
 KeepsOthers-then r f names a b c first next = UsesOnly-then r f [] names a b c first next
 
--- what leaves all names but these leaves all but these and more
+-- A call that leaves all names outside `names` leaves all outside a longer list `more`.
 pub KeepsOthers-more : {S : Type 0} (r : Ghosts S) (f : writing.Ghosts S) (names more : List (List ℕ)) (old new : S) → ((name : List ℕ) → AreOthers name more → AreOthers name names) → KeepsOthers r f names old new → KeepsOthers r f more old new
 KeepsOthers-more r f names more old new among kept = UsesOnly-more r f [] names [] more old new (λ name others. others) among kept
 
--- a call that only reads leaves all names
+-- A call that only reads leaves all names.
 pub KeepsOthers-read : {S : Type 0} (r : Ghosts S) (f : writing.Ghosts S) (names : List (List ℕ)) (old new : S) → OnlyReads r old new → f.given new ≡ f.given old → ((file : ℕ) → f.holder new file ≡ f.holder old file) → f.asked new ≡ f.asked old → KeepsOthers r f names old new
 KeepsOthers-read r f names old new reads given holders asked = UsesOnly-standing r f [] names old new reads.standing given (λ file live. holders file) asked
 
 -- ---- calls that write
 
--- nothing is written
+-- No call writes nothing.
 pub WritesOnly-none : {S : Type 0} (r : Ghosts S) (f : writing.Ghosts S) (names : List (List ℕ)) (files : S) → WritesOnly r f names files files
 WritesOnly-none r f names files = record { kept = KeepsOthers-none r f names files; given = refl; reading = refl; octets = refl; faults = omega arith }
 
--- two calls
+-- Two calls that write only under these names do so together.
 pub WritesOnly-then : {S : Type 0} (r : Ghosts S) (f : writing.Ghosts S) (names : List (List ℕ)) (a b c : S) → WritesOnly r f names a b → WritesOnly r f names b c → WritesOnly r f names a c
 WritesOnly-then r f names a b c first next = record {
   kept = KeepsOthers-then r f names a b c first.kept next.kept;
@@ -107,7 +107,7 @@ WritesOnly-then r f names a b c first next = record {
   faults = let earlier = first.faults in let later = next.faults in omega arith;
 }
 
--- a call that writes only under these names writes only under these and more
+-- A call that writes only under the names in `names` writes only under a longer list `more`.
 pub WritesOnly-more : {S : Type 0} (r : Ghosts S) (f : writing.Ghosts S) (names more : List (List ℕ)) (old new : S) → ((name : List ℕ) → AreOthers name more → AreOthers name names) → WritesOnly r f names old new → WritesOnly r f more old new
 WritesOnly-more r f names more old new among only = record {
   kept = KeepsOthers-more r f names more old new among only.kept;
@@ -117,7 +117,7 @@ WritesOnly-more r f names more old new among only = record {
   faults = only.faults;
 }
 
--- a count that is told by its cause hasn't fallen
+-- A count with a known cause hasn't fallen.
 pub HasCause-later : {T E : Type 0} (is_fault : E → Bool) (before now : ℕ) (result : Result T E) → HasCause is_fault before now result → before ≤ now
 HasCause-later is_fault before now (Ok value) is = omega (arith, is)
 HasCause-later is_fault before now (Err fault) cause = step (is_fault fault) cause
@@ -126,7 +126,7 @@ HasCause-later is_fault before now (Err fault) cause = step (is_fault fault) cau
     step true rose = rose.later
     step false same = omega (arith, same)
 
--- an append or an overwrite of a live file
+-- An append or an overwrite writes only under the name of its live file.
 pub WritesOnly-one : {S T E : Type 0} (r : Ghosts S) (f : writing.Ghosts S) (old new : S) (file : FileId) (is_fault : E → Bool) (result : Result T E)
     → StaysAtWriting r f.holder f.given f.asked old new file
     → HasCause is_fault (f.writing_faults old) (f.writing_faults new) result

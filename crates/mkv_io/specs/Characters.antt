@@ -1,8 +1,8 @@
--- Characters of texts and of words, as octets: marks, the first digit, and any that is given as a text.
+-- Codes of ASCII characters.
 use Rattle.std.specs.Prelude.{ℕ, slice_index, codes}
 use Prim.Native.String.{String}
 
--- the octet of a text of one character
+-- the first byte of `text`, which is one character
 abbrev pub char : String → ℕ
 char text = slice_index (codes text) 0
 

@@ -1,15 +1,15 @@
--- The content of a file, a list of octets, and what reading and writing make of it.
+-- The content of a file, a list of bytes, and the effects of reads and writes on it.
 use Rattle.std.specs.Prelude.{ℕ, ◌+◌, List, ◌++◌, length, take, drop, Option, option_map}
 
--- the next n octets from a place on
+-- the next `n` bytes of `bytes` from the offset `at`
 abbrev pub octets_from : List ℕ → ℕ → ℕ → List ℕ
 octets_from bytes at n = take n (drop at bytes)
 
--- a content with these octets in place of as many from a place on
+-- `bytes` with the bytes `now` in place of the same number of bytes from the offset `at`
 abbrev pub overwritten : List ℕ → ℕ → List ℕ → List ℕ
 overwritten bytes at now = take at bytes ++ (now ++ drop (at + length now) bytes)
 
--- the same of a content that may not be told, or may not be there
+-- ---- the same changes for a content that may be invisible to the proof, or absent
 
 abbrev pub with_appended : List ℕ → Option (List ℕ) → Option (List ℕ)
 with_appended more content = option_map (λ bytes. bytes ++ more) content

@@ -1,4 +1,4 @@
--- Which faults a run tells that reads and writes.
+-- The faults that count as causes when a call reads and writes.
 use Rattle.std.specs.Prelude.{Bool, true, false, Result}
 use Rattle.mkv_io.specs.Faults.{HasCause}
 use Rattle.mkv_io.specs.declared.reads.Reads.{Ghosts}
@@ -6,20 +6,19 @@ use Rattle.mkv_io.specs.declared.files.Files as writing
 use Rattle.mkv_io.specs.declared.remux_end.RemuxEnd.{RemuxEnd}
 use Rattle.mkv_io.specs.declared.remux_end.RemuxEnd.TheVariants as remux_end
 
--- an end that tells a fault of reading
+-- The end is a fault of reading.
 abbrev pub is_remux_read_fault : RemuxEnd → Bool
 is_remux_read_fault remux_end.ReadFault = true
 is_remux_read_fault remux_end.WriteFault = false
 is_remux_read_fault remux_end.Memory = false
 
--- an end that tells a fault of writing
+-- The end is a fault of writing.
 abbrev pub is_remux_write_fault : RemuxEnd → Bool
 is_remux_write_fault remux_end.ReadFault = false
 is_remux_write_fault remux_end.WriteFault = true
 is_remux_write_fault remux_end.Memory = false
 
--- A read fault is told only where the count of reading faults rose, and a write fault where that of writing did. Each
--- other count stands.
+-- A read fault has increased the count of reading faults, and a write fault the count of writing faults. Otherwise the counts are as before.
 pub record HasRemuxCause {S T : Type 0} (r : Ghosts S) (f : writing.Ghosts S) (old new : S) (result : Result T RemuxEnd) : Type 0 where
   pub reading : HasCause is_remux_read_fault (r.reading_faults old) (r.reading_faults new) result
   pub writing : HasCause is_remux_write_fault (f.writing_faults old) (f.writing_faults new) result

@@ -1,4 +1,4 @@
--- The names of the kinds of damage, as they stand in a line. They are this project's.
+-- The names of the kinds of damage, as messages print them. They are this project's.
 use Rattle.std.specs.Prelude.{ℕ, List, codes}
 use Rattle.mkv_io.specs.declared.damage.Kind.{Kind}
 use Rattle.mkv_io.specs.declared.damage.Kind.TheVariants.{NotEbml, BadId, BadSize, TooLong, Truncated, DocType, ReadVersion, MaxLengths, NoSegment, NoTracks, BadValue, MissingChild, RepeatedTrack, Encoding, TrackScale, HeaderTooLarge, ShortBlock, BadLacing, BlockTooLarge, TimeTooLarge, NoTimestamp, TooMany, UnknownSize, BadFrame}

@@ -1,7 +1,7 @@
--- Lists, whatever their elements are.
+-- Lists with elements of any type.
 use Rattle.std.specs.Prelude.{Bool, true, false, List, [], ◌∷◌}
 
--- a list has elements
+-- The list has elements.
 abbrev pub is_some_of : {A : Type 0} → List A → Bool
 is_some_of [] = false
 is_some_of (x ∷ xs) = true

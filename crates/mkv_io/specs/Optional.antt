@@ -1,7 +1,7 @@
--- What may be there, or not.
+-- Options in sequence.
 use Rattle.std.specs.Prelude.{Option, option_and_then}
 
--- what comes next, where something is there
+-- the value of `f` at the value of `o`, or None if `o` is None
 infixl 10 ◌>>=◌
 abbrev pub ◌>>=◌ : {A B : Type 0} → Option A → (A → Option B) → Option B
 o >>= f = option_and_then f o

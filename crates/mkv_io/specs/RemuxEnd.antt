@@ -1,4 +1,4 @@
--- Why a run that reads and writes ends early.
+-- The conversion of errors to the end of a run that reads and writes.
 use Rattle.mkv_io.specs.declared.outside.MakeFault.{MakeFault}
 use Rattle.mkv_io.specs.declared.outside.MakeFault.TheVariants as make_fault
 use Rattle.mkv_io.specs.declared.outside.ReadEnd.{ReadEnd}

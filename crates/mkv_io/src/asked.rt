@@ -1,18 +1,18 @@
-//! Which files were asked for.
+//! Names of the files that a run asked to open or to make.
 
 ghost use Rattle.std.specs.Prelude.{◌≡◌, ◌<◌, length, vec_capacity, IfOk, OnOk};
 
 use crate::octets::Text;
 use std::alloc::{AllocError, Global};
 
-/// A name under which a file was opened, or was to be made.
+/// Name under which a file was opened, or was to be made.
 #[derive(Debug, Drop)]
 pub enum Asked {
     Opened(Text),
     Made(Text),
 }
 
-/// A name that is to be asked for, and room for it behind those of before.
+/// Returns a copy of `name`, and reserves room in `asked` for one more entry.
 pub fn room_for_name(asked: &mut Vec<Asked>, alloc: Global, name: &str) -> Result<Text, AllocError>
     ensures same { asked.new.items ≡ asked.old.items }
     ensures room { OnOk result (length asked.new.items < vec_capacity asked.new) }

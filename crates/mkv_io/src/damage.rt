@@ -1,17 +1,17 @@
-//! What is wrong with a file, and where.
+//! Kinds of damage, and the damaged place of a file.
 
 ghost use Rattle.std.specs.Prelude.{◌≡◌};
 
 use std::fmt;
 
-/// What is wrong, in the order in which the causes of a refusal are told.
+/// Kind of damage. The causes of a refusal are reported in this order.
 #[derive(Clone, Copy, Debug, PartialEq, Eq)]
 pub enum Kind {
     /// The file doesn't begin with an EBML header.
     NotEbml,
-    /// No Element ID stands in an Element's place (RFC 8794, section 5, Element ID).
+    /// The bytes where an Element begins aren't an Element ID (RFC 8794, section 5, Element ID).
     BadId,
-    /// The first octet of an Element Data Size is `00` (RFC 8794, section 6, Element Data Size).
+    /// The first byte of an Element Data Size is `00` (RFC 8794, section 6, Element Data Size).
     BadSize,
     /// An Element passes its parent's end, but not the file's.
     TooLong,
@@ -27,40 +27,40 @@ pub enum Kind {
     NoSegment,
     /// The Segment has no Tracks.
     NoTracks,
-    /// A value is not of its Element's type or range.
+    /// A value doesn't have its Element's type, or is out of its range.
     BadValue,
-    /// An Element that must be there is missing.
+    /// A mandatory Element is missing.
     MissingChild,
-    /// Two tracks have one TrackNumber.
+    /// Two tracks have the same TrackNumber.
     RepeatedTrack,
     /// A track's ContentEncodings can't be undone.
     Encoding,
     /// A track has a TrackTimestampScale other than 1.
     TrackScale,
-    /// An Element that is read whole is over its limit.
+    /// An Element that is read whole is larger than its limit.
     HeaderTooLarge,
     /// A block ends inside its own header.
     ShortBlock,
-    /// No frame sizes fit a block's lace (RFC 9559, section 10.3, Block Lacing).
+    /// No frame sizes fit a block's lacing (RFC 9559, section 10.3, Block Lacing).
     BadLacing,
-    /// A block is over its limit.
+    /// A block is larger than its limit.
     BlockTooLarge,
-    /// A block's time, duration or reference is over its limit.
+    /// A block's timestamp, duration or reference is out of its range.
     TimeTooLarge,
-    /// A block stands before its Cluster's Timestamp.
+    /// A block precedes its Cluster's Timestamp.
     NoTimestamp,
-    /// Something is there more often, or deeper, than the limit.
+    /// Something occurs more often, or is nested deeper, than the limit.
     TooMany,
-    /// An Element has an unknown size that is neither a Segment at level 0 nor a Cluster in its Segment.
+    /// An Element other than a Segment at level 0 or a Cluster in its Segment has an unknown size.
     UnknownSize,
-    /// A frame isn't of its codec's form.
+    /// A frame doesn't have the format of its codec.
     BadFrame,
 }
 
 impl Kind {
     ghost use Rattle.mkv_io.specs.Kind.{kind_name};
 
-    /// The kind's name, as it stands in a line.
+    /// Returns the kind's name, as messages print it.
     #[tactic(auto, unfolding(crate::specs::Kind::kind_name))]
     pub fn name(self) -> &'static str
         ensures { result.now ≡ kind_name self }
@@ -105,12 +105,12 @@ impl fmt::Display for Kind {
     }
 }
 
-/// A place where a file isn't made of valid Elements and blocks, and what is wrong there.
+/// Place where a file isn't made of valid Elements and blocks, with the kind of damage.
 #[derive(Clone, Copy, Debug, PartialEq, Eq)]
 pub struct Damage {
     pub kind: Kind,
-    /// The ID of the Element in question, with its marker; 0 where it can't be read or none is meant.
+    /// ID of the Element that is damaged, with its marker; 0 if it can't be read, or if no Element is meant.
     pub id: u32,
-    /// Octets from the start of the file to the place in question.
+    /// Offset in bytes of the damaged place from the start of the file.
     pub offset: u64,
 }

@@ -1,14 +1,14 @@
-//! An entry of a text: the plain type of what a SubRip file has, and of what a lane makes blocks of.
+//! Timed text: an entry of a SubRip file, or a block of a text track.
 
 use crate::octets::Text;
 
-/// A text that is shown for some time, in nanoseconds.
+/// Text that is shown from `start` for `duration`, both in nanoseconds.
 #[derive(Debug, Drop)]
 pub struct Entry {
-    /// When it is shown.
+    /// Start, in nanoseconds.
     pub start: u64,
-    /// For how long.
+    /// Duration, in nanoseconds.
     pub duration: u64,
-    /// What is shown.
+    /// Text that is shown.
     pub text: Text,
 }

@@ -14,45 +14,46 @@ ghost use Rattle.mkv_io.specs.declared.outside.TheConstants.{LONGEST_FILE};
 use crate::outside::{Failed, FileId, MakeFault, OpenFault};
 use crate::reads::Reads;
 
-/// Files with names. A name has a content; a live file is one that was opened under a name, and
-/// its content is that name's.
+/// Files with names. Each name has a content or none. A live file is one that was opened under a name, and its
+/// content is that name's content.
 pub trait Files: Reads {
-    /// The content of every name, where it is told.
+    /// Content of each name, if it is visible to the proof.
     ghost names: { Self → Names };
 
-    /// The name under which a live file was opened.
+    /// Name under which each live file was opened.
     ghost holder: { Self → ℕ → List ℕ };
 
-    /// Every number below this one was given to a file or passed over, and none is given twice.
+    /// Bound of the file numbers: each smaller number was given to a file or passed over, and no number is given
+    /// twice.
     ghost given: { Self → ℕ };
 
-    /// How often making or writing failed.
+    /// Number of calls that failed to make or write a file.
     ghost writing_faults: { Self → ℕ };
 
-    /// The names under which files were opened or made, in order; that of a `create` that failed may be among them.
+    /// Names under which files were opened or made, in order. The name of a `create` that failed may be among them.
     ghost asked: { Self → List Asked };
 
-    /// Opens the file of a name.
+    /// Opens the file `name` for reading and writing, and returns its number.
     fn open_file(&mut self, name: &str) -> Result<FileId, OpenFault>
         ensures missing { IfVisible (names self.old) (λ world. IsErrOf result OpenFault.Missing ↔ (world name.now ≡ None)) }
         ensures opened { IfOk result (IsOpenedFile Self.Reads names holder given self.old self.new name.now) }
 
-        // At the last number no file is opened.
+        // No file is opened after the last number was given.
         ensures full { given self.old ≡ last_count → IsErrOf result OpenFault.Missing ⊎ IsErrOf result OpenFault.Failed }
 
-        // A refusal leaves everything but the count of faults.
+        // A refusal leaves everything as it was, except the count of faults.
         ensures err { OnErr result (Self.standing self.new ≡ Self.standing self.old) }
         ensures stays { StaysAtOpening Self.Reads names holder given writing_faults self.old self.new }
 
         ensures cause { HasCause is_open_failure (Self.reading_faults self.old) (Self.reading_faults self.new) result }
         ensures asks { AsksFor (Opened name.now) (asked self.old) (asked self.new) result };
 
-    /// Makes the content of a name empty, whatever it was, and opens it. After a refusal the
-    /// content is as before or empty.
+    /// Opens the file `name` with an empty content, whatever it had before. After a refusal its content is as before,
+    /// or empty.
     fn create(&mut self, name: &str) -> Result<FileId, MakeFault>
         ensures made { IfOk result (IsMadeFile Self.Reads names holder given self.old self.new name.now) }
 
-        // At the last number no file is made.
+        // No file is made after the last number was given.
         ensures full { given self.old ≡ last_count → IsErrOf result MakeFault.Failed }
 
         ensures refused { LeavesUnmade Self.Reads names self.old self.new name.now result }
@@ -62,22 +63,22 @@ pub trait Files: Reads {
         ensures cause { HasCause is_make_failure (writing_faults self.old) (writing_faults self.new) result }
         ensures unread { ReadsNothing Self.Reads self.old self.new };
 
-    /// Adds octets at the end of a live file. After `Failed` a first part of them is there.
+    /// Appends `bytes` to the live file `file`. After `Failed` the file may have gained a prefix of `bytes`.
     fn append(&mut self, file: FileId, bytes: &[u8]) -> Result<(), MakeFault>
         requires { IsLive Self.Reads self.old file }
         ensures ok { OnOk result (AddsOctets Self.Reads names holder self.old self.new file bytes.now) }
         ensures failed { IsErrOf result MakeFault.Failed → AddsFirst Self.Reads names holder self.old self.new file bytes.now }
         ensures memory { IsErrOf result MakeFault.Memory → Self.standing self.new ≡ Self.standing self.old }
 
-        // No file grows past 2^48 octets.
+        // No file grows past 2^48 bytes.
         ensures short { LONGEST_FILE < file_size Self.Reads self.old file + length bytes.now → IsErrOf result MakeFault.Failed }
 
         ensures stays { StaysAtWriting Self.Reads holder given asked self.old self.new file }
         ensures cause { HasCause is_make_failure (writing_faults self.old) (writing_faults self.new) result }
         ensures unread { ReadsNothing Self.Reads self.old self.new };
 
-    /// Writes octets over those of a live file, from `at` octets behind its first on. After
-    /// `Failed` those of the range may be anything.
+    /// Writes `bytes` over the same number of bytes of the live file `file`, from the offset `at`. After `Failed` the
+    /// bytes of this range may be anything.
     fn overwrite(&mut self, file: FileId, at: u64, bytes: &[u8]) -> Result<(), Failed>
         requires live { IsLive Self.Reads self.old file }
         requires range { at + length bytes.now ≤ file_size Self.Reads self.old file }
@@ -88,26 +89,28 @@ pub trait Files: Reads {
         ensures cause { HasCause is_failure (writing_faults self.old) (writing_faults self.new) result }
         ensures unread { ReadsNothing Self.Reads self.old self.new };
 
-    /// Ends a live file. The content of its name stays.
+    /// Closes the live file `file`. The content of its name stays.
     fn close(&mut self, file: FileId)
         requires { IsLive Self.Reads self.old file }
         ensures ended { (live_files Self.Reads self.new).live file.n ≡ false }
         ensures stays { StaysAtClosing Self.Reads names holder given writing_faults asked self.old self.new file }
         ensures unread { ReadsNothing Self.Reads self.old self.new };
 
-    /// Where the names are told, a live file's content is that of the name under which it was opened.
+    /// If the names are visible to the proof, a live file's content is the content of the name under which it was
+    /// opened.
     ghost named: { (x : Self) (file : ℕ) → (Self.Reads.files (Self.Reads.standing x)).live file ≡ true → IfVisible (names x) (λ world. (Self.Reads.files (Self.Reads.standing x)).content file ≡ world (holder x file)) };
 
-    /// Where the names are told, the name of a live file has a content.
+    /// If the names are visible to the proof, the name of a live file has a content.
     ghost there: { (x : Self) (file : ℕ) → (Self.Reads.files (Self.Reads.standing x)).live file ≡ true → IfVisible (names x) (λ world. is_some (world (holder x file)) ≡ true) };
 
-    /// A live file's number was given to it.
+    /// A live file's number was given before.
     ghost numbered: { (x : Self) (file : ℕ) → (Self.Reads.files (Self.Reads.standing x)).live file ≡ true → file < given x };
 
-    /// At the last number no file is opened or made any more.
+    /// No number past the last one is ever given.
     ghost last: { (x : Self) → given x ≤ last_count };
 
-    // Names, holders, numbers, writing faults and what was asked for are functions of what reading leaves.
+    // Names, holders, numbers, writing faults and asked names depend only on `standing`, which reading doesn't
+    // change.
     ghost names_stand: { (a b : Self) → Self.Reads.standing a ≡ Self.Reads.standing b → names a ≡ names b };
 
     ghost holders_stand: { (a b : Self) → Self.Reads.standing a ≡ Self.Reads.standing b → (file : ℕ) → holder a file ≡ holder b file };

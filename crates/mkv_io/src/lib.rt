@@ -1,8 +1,10 @@
 #![tactic(auto)]
 
-//! The outside as the suite sees it: files that are read, files that are written, and a report of lines; and the plain
-//! values that it speaks of. Each of the three is a trait whose ghost members say what it holds, how often it failed, and
-//! how much of it was read. Code above is generic over these traits and is proved from their clauses alone.
+//! Interfaces to the system: files that are read, files that are written, and a report of lines; and the plain values
+//! that these use.
+//!
+//! Each of the three interfaces is a trait. Its ghost members describe its contents, how often it failed, and how
+//! much of it was read. Code of other crates is generic over these traits, and is proved from their contracts only.
 
 mod asked;
 mod damage;

@@ -1,4 +1,4 @@
-//! A list of values, which contracts see as a list.
+//! A vector that contracts see as a list of values.
 
 ghost use Rattle.std.specs.Prelude.{◌≡◌, [], ◌∷◌, ◌++◌, ◌<◌, ◌≤◌, length, slice_get, OnOk, OnErr, IfOk, IsTrue, ◌↔◌};
 ghost use Rattle.std.specs.Option.{option_copied};
@@ -29,14 +29,14 @@ impl<T: Drop> List<T> {
         }
     }
 
-    /// Takes no memory.
+    /// Makes a list of the values of `items`, without allocating.
     pub fn from_vec(items: Vec<T>) -> Self
         ensures { result ≡ items.items }
     {
         List { items }
     }
 
-    /// Takes no memory.
+    /// Returns the values, without allocating.
     pub fn into_vec(self) -> Vec<T>
         ensures { result.items ≡ self }
     {
@@ -55,7 +55,7 @@ impl<T: Drop> List<T> {
         self.items.is_empty()
     }
 
-    /// The value at a place, counted from 0.
+    /// Returns a reference to the value at index `k`, if there is one.
     pub fn get(&self, k: usize) -> Option<&T>
         ensures { option_copied result ≡ slice_get self.now k }
     {
@@ -68,7 +68,7 @@ impl<T: Drop> List<T> {
         self.items.as_slice()
     }
 
-    /// Adds a value at the end, which is dropped where there is no memory.
+    /// Appends `item`. If memory runs out, `item` is dropped.
     pub fn push(&mut self, item: T) -> Result<(), AllocError>
         ensures ok { OnOk result (self.new ≡ self.old ++ item ∷ []) }
         ensures err { OnErr result (self.new ≡ self.old) }

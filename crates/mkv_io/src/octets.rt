@@ -1,4 +1,4 @@
-//! Octets and text in memory, which contracts see as lists of octets.
+//! Bytes and text in memory, which contracts see as lists of bytes.
 
 ghost use Rattle.std.specs.Prelude.{◌≡◌, ◌+◌, ◌<◌, ◌≤◌, ◌^◌, [], ◌++◌, length, take, drop, OnOk, OnErr, IfOk, IsTrue, ◌↔◌};
 ghost use Rattle.std.specs.String.{string_bytes};
@@ -7,7 +7,7 @@ ghost use Rattle.std.specs.Str.{IsUtf8};
 use std::alloc::{AllocError, Global};
 use std::marker::Model;
 
-/// Octets that grow at the end.
+/// Bytes that grow at the end.
 #[derive(Clone, Debug, Drop)]
 pub struct Bytes {
     octets: Vec<u8>,
@@ -30,7 +30,7 @@ impl Bytes {
         }
     }
 
-    /// No octets yet, with memory for so many.
+    /// Returns an empty buffer with memory for `room` bytes.
     pub fn with_room(alloc: Global, room: usize) -> Result<Bytes, AllocError>
         ensures { IfOk result (λ bytes. bytes ≡ []) }
     {
@@ -39,21 +39,21 @@ impl Bytes {
         })
     }
 
-    /// Takes no memory.
+    /// Makes a buffer of the bytes of `octets`, without allocating.
     pub fn from_vec(octets: Vec<u8>) -> Self
         ensures { result ≡ octets.items }
     {
         Bytes { octets }
     }
 
-    /// Takes no memory.
+    /// Returns the bytes, without allocating.
     pub fn into_vec(self) -> Vec<u8>
         ensures { result.items ≡ self }
     {
         self.octets
     }
 
-    /// How many octets there are.
+    /// Returns the number of bytes.
     pub fn len(&self) -> usize
         ensures exact { result ≡ length self.now }
         ensures most { result < 2 ^ 63 }
@@ -73,7 +73,7 @@ impl Bytes {
         self.octets.as_slice()
     }
 
-    /// Adds octets at the end.
+    /// Appends `bytes`.
     pub fn append(&mut self, bytes: &[u8]) -> Result<(), AllocError>
         ensures ok { OnOk result (self.new ≡ self.old ++ bytes.now) }
         ensures err { OnErr result (self.new ≡ self.old) }
@@ -81,7 +81,7 @@ impl Bytes {
         self.octets.extend_from_slice(bytes)
     }
 
-    /// Writes octets over as many others, from `at` octets behind the first on.
+    /// Writes `bytes` over the same number of bytes, from the offset `at`.
     pub fn overwrite(&mut self, at: usize, bytes: &[u8])
         requires { at + length bytes.now ≤ length self.old }
         ensures { self.new ≡ take at self.old ++ (bytes.now ++ drop (at + length bytes.now) self.old) }
@@ -89,7 +89,7 @@ impl Bytes {
         self.octets[at..at + bytes.len()].copy_from_slice(bytes);
     }
 
-    /// Drops all but the first octets, so many of them. The memory stays.
+    /// Keeps only the first `len` bytes. The memory stays reserved.
     pub fn truncate(&mut self, len: usize)
         requires { len ≤ length self.old }
         ensures { self.new ≡ take len self.old }
@@ -97,7 +97,7 @@ impl Bytes {
         self.octets.truncate(len);
     }
 
-    /// Drops all octets. The memory stays.
+    /// Removes all bytes. The memory stays reserved.
     pub fn clear(&mut self)
         ensures { self.new ≡ [] }
     {
@@ -105,7 +105,7 @@ impl Bytes {
     }
 }
 
-/// UTF-8 text that grows at the end. Contracts see its octets.
+/// UTF-8 text that grows at the end. Contracts see its bytes.
 #[derive(Clone, Debug, Drop)]
 pub struct Text {
     text: String,
@@ -129,14 +129,14 @@ impl Text {
         }
     }
 
-    /// Takes no memory.
+    /// Makes a text of `text`, without allocating.
     pub fn from_string(text: String) -> Self
         ensures { result ≡ string_bytes text }
     {
         Text { text }
     }
 
-    /// How many octets the text has.
+    /// Returns the number of bytes of the text.
     pub fn len(&self) -> usize
         ensures exact { result ≡ length self.now }
         ensures most { result < 2 ^ 63 }
@@ -157,7 +157,7 @@ impl Text {
         self.text.as_str()
     }
 
-    /// Adds text at the end.
+    /// Appends `text`.
     pub fn append(&mut self, text: &str) -> Result<(), AllocError>
         ensures ok { OnOk result (self.new ≡ self.old ++ text.now) }
         ensures err { OnErr result (self.new ≡ self.old) }

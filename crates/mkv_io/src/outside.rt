@@ -1,4 +1,4 @@
-//! What the calls to files and reports take and answer.
+//! Parameters and errors of the calls to files and reports.
 
 ghost use Rattle.std.specs.Prelude.{◌≡◌};
 ghost use Rattle.mkv_io.specs.declared.outside.MakeFault.TheVariants as make_fault;
@@ -7,45 +7,45 @@ ghost use Rattle.mkv_io.specs.declared.outside.ReadEnd.TheVariants as read_end;
 
 use std::alloc::{AllocError, AllocFailed};
 
-/// No file is longer than so many octets.
+/// Largest length of a file, in bytes.
 pub const LONGEST_FILE: u64 = 1 << 48;
 
-/// The number of a live file: one that was opened and is not closed yet.
+/// Number of a live file: one that was opened and isn't closed yet.
 #[derive(Clone, Copy, Debug, PartialEq, Eq)]
 pub struct FileId {
     pub n: u64,
 }
 
-/// A call of the outside failed, and its count of faults rose.
+/// Error of a call to the system, which has increased its count of faults.
 #[derive(Clone, Copy, Debug, PartialEq, Eq)]
 pub struct Failed;
 
-/// Why a file isn't opened.
+/// Reason why a file isn't opened.
 #[derive(Clone, Copy, Debug, PartialEq, Eq)]
 pub enum OpenFault {
-    /// There is no file of that name.
+    /// No file has that name.
     Missing,
-    /// The outside failed.
+    /// The system failed.
     Failed,
-    /// There is no memory.
+    /// Memory ran out.
     Memory,
 }
 
-/// Why a file isn't made, or doesn't grow.
+/// Reason why a file isn't made, or doesn't grow.
 #[derive(Clone, Copy, Debug, PartialEq, Eq)]
 pub enum MakeFault {
-    /// The outside failed.
+    /// The system failed.
     Failed,
-    /// There is no memory.
+    /// Memory ran out.
     Memory,
 }
 
-/// Why a call that reads a file ends early.
+/// Reason why a call that reads a file ends early.
 #[derive(Clone, Copy, Debug, PartialEq, Eq)]
 pub enum ReadEnd {
     /// A read failed.
     ReadFault,
-    /// There is no memory.
+    /// Memory ran out.
     Memory,
 }
 

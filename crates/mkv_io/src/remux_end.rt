@@ -1,4 +1,4 @@
-//! Why a run that reads and writes ends early.
+//! Reasons why a run that reads and writes files ends early.
 
 ghost use Rattle.std.specs.Prelude.{◌≡◌};
 ghost use Rattle.mkv_io.specs.declared.remux_end.RemuxEnd.TheVariants as remux_end;
@@ -6,14 +6,14 @@ ghost use Rattle.mkv_io.specs.declared.remux_end.RemuxEnd.TheVariants as remux_e
 use crate::outside::{Failed, MakeFault, ReadEnd};
 use std::alloc::{AllocError, AllocFailed};
 
-/// Why a run that reads files and writes others ends early.
+/// Reason why a run that reads files and writes others ends early.
 #[derive(Clone, Copy, Debug, PartialEq, Eq)]
 pub enum RemuxEnd {
     /// An input couldn't be read.
     ReadFault,
     /// An output couldn't be made or written.
     WriteFault,
-    /// There is no memory.
+    /// Memory ran out.
     Memory,
 }
 
@@ -43,8 +43,7 @@ impl From<ReadEnd> for RemuxEnd {
     }
 }
 
-/// A bare failure is that of octets which were to be written over others. Whoever calls `read_at` turns its
-/// failure into a `ReadEnd` first.
+/// A bare `Failed` is the failure of an overwrite. A caller of `read_at` turns its failure into a `ReadEnd` first.
 impl From<Failed> for RemuxEnd {
     ghost from_gives = { λ _ end. end ≡ remux_end.WriteFault };
 

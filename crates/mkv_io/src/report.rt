@@ -1,4 +1,4 @@
-//! Lines that are told to the user.
+//! Lines that are printed for the user.
 
 ghost use Rattle.std.specs.Prelude.{◌≡◌, ◌⊎◌, ℕ, List, ◌∷◌, [], Option, OnOk, OnErr};
 ghost use Rattle.mkv_io.specs.Faults.{HasCause, is_failure};
@@ -6,15 +6,15 @@ ghost use Rattle.mkv_io.specs.Lines.{MaySay, with_lines};
 
 use crate::outside::Failed;
 
-/// A report, to which lines are added. It takes no memory for them.
+/// Report, to which lines are added without allocating.
 pub trait Report {
-    /// The lines so far, each without its line end, where they are told.
+    /// Lines printed up to now, each without its line end, if they are visible to the proof.
     ghost lines: { Self → Option (List (List ℕ)) };
 
-    /// How often a line couldn't be told.
+    /// Number of lines that couldn't be printed.
     ghost faults: { Self → ℕ };
 
-    /// Adds a line. After a refusal it is there or not.
+    /// Prints `line` and a line end. After a refusal the line may be there or not.
     fn say(&mut self, line: &str) -> Result<(), Failed>
         ensures ok { OnOk result (lines self.new ≡ with_lines (lines self.old) (line.now ∷ [])) }
         ensures err { OnErr result (MaySay (lines self.old) (lines self.new) line.now) }
