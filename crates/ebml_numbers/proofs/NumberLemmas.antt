@@ -20,9 +20,9 @@ use Rattle.ebml_numbers.specs.declared.number.NumFault.TheVariants.{More, Bad}
 use Rattle.ebml_numbers.specs.Number.{width, marker, vint_data, all_ones, id_fits, is_id_data, id_of_width, id_at, is_id_of_width, is_id, size_of_data, size_at, StartsWithZero, AreOctets, announced, IsCut, IsSettled, IsIdWithin, IsSizeWithin, IsKnownBelow, size_octets, id_octets, uint_of, uint_width, uint_octets, int_of, magnitude, int_fits, int_width, int_octets, int_octets_in}
 use Rattle.ebml_numbers.proofs.WidthLemmas.{pow256, width-le, width-pos, width-wide, width-marker, width-of, least_width-is, uint_width-IsLeast, int_width-IsLeast}
 
--- ---- octets as a number
+-- ---- bytes as a number
 
--- a number of n and k octets is that of the first n, above that of the next k
+-- The number of `n + k` bytes is the number of the first `n` bytes, shifted by `k` bytes, plus the number of the next `k`.
 big_from-add : (i n k : ℕ) (o : List ℕ) → big_from i (n + k) o ≡ big_from i n o * 256 ^ k + big_from (i + n) k o
 big_from-add i zero k o = let e : 0 + k ≡ k = omega arith in let f : i + 0 ≡ i = omega arith in rw (e, f) (omega arith)
 big_from-add i (suc n) k o =
@@ -30,13 +30,13 @@ big_from-add i (suc n) k o =
     let f : i + suc n ≡ suc i + n = omega arith in
     rw (e, f, big_from-add (suc i) n k o, pow-add 256 n k) (omega arith)
 
--- so the first n octets are what stands above the next k
+-- So a right shift by `k` bytes gives the number of the first `n` bytes.
 pub big_number-shift : (n k : ℕ) (o : List ℕ) → AreOctets o → big_number n o ≡ big_number (n + k) o / 2 ^ (8 * k)
 big_number-shift n k o octets =
     let rest : big_from (0 + n) k o < 2 ^ (8 * k) = rw (← pow256 k) (big_from-lt (0 + n) k o octets) in
     rw (big_from-add 0 n k o, pow256 k) (sym (shr_high (big_number n o) (8 * k) (big_from (0 + n) k o) rest))
 
--- the first w of eight octets, by a shift of all eight
+-- The number of the first `w` of eight bytes is a right shift of all eight.
 pub big_number_of_word : (w : ℕ) (o : List ℕ) → AreOctets o → w ≤ 8 → big_number w o ≡ big_number 8 o / 2 ^ (64 - 8 * w)
 big_number_of_word w o octets most =
     let whole : w + (8 - w) ≡ 8 = omega arith in
@@ -46,7 +46,7 @@ big_number_of_word w o octets most =
 
 -- ---- marker and data
 
--- behind a first octet whose marker says k + 1 octets stand k octets of data
+-- A first byte whose marker means `k + 1` bytes is followed by `k` bytes of data.
 vint-bounds_at : (k first : ℕ) (rest : List ℕ) → AreOctets (first ∷ rest) → k < 8 → 2 ^ (7 - k) ≤ first → first < 2 ^ (8 - k) → (marker (suc k) ≤ big_number (suc k) (first ∷ rest)) × (big_number (suc k) (first ∷ rest) < 2 * marker (suc k))
 vint-bounds_at k first rest octets few reaches below =
     let tail = big_from-lt 1 k (first ∷ rest) octets in
@@ -58,7 +58,7 @@ vint-bounds_at k first rest octets few reaches below =
     let to : (first + 1) * 2 ^ (8 * k) ≤ 2 ^ (8 - k) * 2 ^ (8 * k) = mul-le-mul_right (2 ^ (8 * k)) (omega arith) in
     (rw unit (omega arith), rw unit (omega arith))
 
--- a number that its first octet announces is its marker and less than that again
+-- A number with the width that its first byte gives is at least its marker, and less than twice the marker.
 pub vint-bounds : (first : ℕ) (rest : List ℕ) → AreOctets (first ∷ rest) → 0 < first → (marker (width first) ≤ big_number (width first) (first ∷ rest)) × (big_number (width first) (first ∷ rest) < 2 * marker (width first))
 vint-bounds first rest octets some =
     let stands = width-marker first some (octets 0) in
@@ -70,13 +70,13 @@ vint-bounds first rest octets some =
     let P : ℕ → Type 0 = λ k. (marker k ≤ big_number k (first ∷ rest)) × (big_number k (first ∷ rest) < 2 * marker k) in
     subst P w bounds
 
--- so its data are what stands above the marker
+-- So its data are the number minus its marker.
 pub vint_data-is : (first : ℕ) (rest : List ℕ) → AreOctets (first ∷ rest) → 0 < first → vint_data (width first) (first ∷ rest) ≡ big_number (width first) (first ∷ rest) - marker (width first)
 vint_data-is first rest octets some =
     let bounds = vint-bounds first rest octets some in
     mod-eq-sub-mod bounds.0 ∙ mod-eq_of_lt (omega (arith, bounds.0, bounds.1))
 
--- ---- what a reader finds, by cases
+-- ---- results of a reader, by cases
 
 pub id_at-bad : (first : ℕ) (rest : List ℕ) → first < 16 → id_at (first ∷ rest) ≡ Err Bad
 unfolding id_at
@@ -104,7 +104,7 @@ unfolding size_at
 size_at-cut first rest some short =
     cond-false (first == 0) _ _ (pos-eqb first some) ∙ cond-true (nat_lt (length (first ∷ rest)) (width first)) _ _ (lt-ltb _ _ short)
 
--- the size in the first w octets
+-- the size in the first `w` bytes
 abbrev pub size_of_width : ℕ → List ℕ → SizeRead
 size_of_width w octets = record { size = size_of_data w (vint_data w octets); len = w }
 
@@ -113,7 +113,7 @@ unfolding size_at
 size_at-whole first rest some whole =
     cond-false (first == 0) _ _ (pos-eqb first some) ∙ cond-false (nat_lt (length (first ∷ rest)) (width first)) _ _ (le-ltb _ _ whole)
 
--- ---- four octets settle an ID, and eight a size
+-- ---- four bytes settle an ID, and eight bytes a size
 
 pub id_at-take : (n : ℕ) (o : List ℕ) → 4 ≤ n → id_at (take n o) ≡ id_at o
 id_at-take zero o four = absurd (omega arith)
@@ -144,9 +144,9 @@ size_at-take (suc n) (suc first ∷ rest) eight =
       | inr whole ↦ size_at-whole (suc first) (take n rest) (omega arith) (omega arith) ∙ rw number refl ∙ sym (size_at-whole (suc first) rest (omega arith) whole)
     ]
 
--- ---- what was found
+-- ---- properties of a result
 
--- where an ID was found, the octets that it announces are here
+-- A reader of an ID whose bytes are all here asks for no more.
 id_of_width-more : (w n : ℕ) (o : List ℕ) → id_of_width w o ≡ Err (More n) → ⊥
 id_of_width-more w n o is = go (is_id_data w (vint_data w o)) _ is
   where
@@ -154,7 +154,7 @@ id_of_width-more w n o is = go (is_id_data w (vint_data w o)) _ is
     go true read e = cc
     go false read e = cc
 
--- more octets are asked for exactly where the number is cut
+-- A reader asks for more bytes if and only if the number is cut.
 pub id_at-more : (n : ℕ) (o : List ℕ) → id_at o ≡ Err (More n) → IsCut 4 n o
 unfolding id_at
 id_at-more n [] is = let one : 1 ≡ n = cc in record { announced = one; short = omega arith; allowed = omega arith }
@@ -212,7 +212,7 @@ size_at-is_cut n (first ∷ rest) cut =
     ] in
     size_at-cut first rest some (omega arith) ∙ ap (λ (x : ℕ). Err (More x)) same
 
--- no size begins with a zero octet, and that alone is bad
+-- A size is `Bad` if and only if its first byte is zero.
 pub size_at-zero : (o : List ℕ) → size_at o ≡ Err Bad → StartsWithZero o
 unfolding size_at
 size_at-zero [] is = absurd (cc)
@@ -229,9 +229,9 @@ pub size_at-is_zero : (o : List ℕ) → StartsWithZero o → size_at o ≡ Err 
 size_at-is_zero [] zero_first = absurd (omega arith)
 size_at-is_zero (first ∷ rest) zero_first = let same : first ≡ 0 = zero_first.1 in rw same (size_at-bad rest)
 
--- ---- what is read of a number
+-- ---- parts of a number that was read
 
--- an ID of at most 4 octets, all of them here, is the number in those that the first octet announces
+-- An ID that was read has at most 4 bytes, all of them here. It is the number in the bytes that its first byte announces.
 pub record ReadsId (o : List ℕ) (r : IdRead) : Type 0 where
   pub announced : announced o ≡ r.len
   pub few : r.len ≤ 4
@@ -275,7 +275,7 @@ id_at-read (first ∷ rest) r reads =
     id_at-whole first rest high (omega (arith, reads.inside))
     ∙ rw w (cond-true (is_id_data r.len (vint_data r.len (first ∷ rest))) _ _ reads.least ∙ ap (λ (x : ℕ). Ok (record { id = x; len = r.len })) reads.number)
 
--- a size of at most 8 octets likewise
+-- A size that was read has at most 8 bytes, all of them here.
 pub record ReadsSize (o : List ℕ) (r : SizeRead) : Type 0 where
   pub announced : announced o ≡ r.len
   pub few : r.len ≤ 8
@@ -320,16 +320,16 @@ size_at-read (first ∷ rest) r reads =
     ] in
     size_at-whole first rest some (omega (arith, reads.inside)) ∙ rw w (ap (λ (x : Size). Ok (record { size = x; len = r.len })) reads.size)
 
--- ---- a number is settled by its own octets
+-- ---- a number depends only on its own bytes
 
--- octets that agree in the first n announce the same
+-- Lists of bytes with the same first `n` bytes announce the same width.
 announced-front : (n : ℕ) (o p : List ℕ) → 1 ≤ n → n ≤ length o → take n p ≡ take n o → announced p ≡ announced o
 announced-front zero o p some inside same = absurd (omega arith)
 announced-front (suc n) [] p some inside same = absurd (omega arith)
 announced-front (suc n) (x ∷ xs) [] some inside same = absurd (cc)
 announced-front (suc n) (x ∷ xs) (y ∷ ys) some inside same = let first : y ≡ x = cc in ap width first
 
--- a number has at least one octet
+-- A number has at least one byte.
 pub announced-pos : (o : List ℕ) → 1 ≤ announced o
 announced-pos [] = omega arith
 announced-pos (first ∷ rest) = width-pos first
@@ -368,7 +368,7 @@ size_at-front o p r is same =
 pub size_at-alone : (o : List ℕ) (r : SizeRead) → size_at o ≡ Ok r → size_at (take r.len o) ≡ Ok r
 size_at-alone o r is = size_at-front o (take r.len o) r is (take-take r.len r.len o (omega arith))
 
--- further octets change neither an ID nor that there is none
+-- Further bytes change neither an ID nor `Bad`.
 pub id_at-append : (o rest : List ℕ) → IsSettled (id_at o) → id_at (o ++ rest) ≡ id_at o
 unfolding id_at
 id_at-append [] rest settled = absurd settled
@@ -397,7 +397,7 @@ size_at-append (suc first ∷ tail) rest settled =
           size_at-whole (suc first) (tail ++ rest) (omega arith) (omega arith) ∙ rw number refl ∙ sym (size_at-whole (suc first) tail (omega arith) whole))
     ]
 
--- ---- bounds of what is read
+-- ---- bounds of numbers that are read
 
 both_true : (a b : Bool) → (a && b) ≡ true → (a ≡ true) × (b ≡ true)
 both_true true b h = (refl, h)
@@ -407,7 +407,7 @@ one_true : (a b : Bool) → (a || b) ≡ true → (a ≡ true) ⊎ (b ≡ true)
 one_true true b h = inl refl
 one_true false b h = inr h
 
--- a valid ID is one of 1 to 4 octets
+-- A valid ID has a width of 1 to 4 bytes.
 pub is_id-width : (n : ℕ) → is_id n ≡ true → (w : ℕ) × (1 ≤ w) × (w ≤ 4) × (is_id_of_width w n ≡ true)
 unfolding is_id
 is_id-width n valid =
@@ -448,7 +448,7 @@ is_id-of_width w n some most valid =
       ]
     ]
 
--- a valid ID of w octets is its marker above data that w octets need
+-- A valid ID of `w` bytes is the marker plus data that fit `w` bytes, and no fewer.
 pub record IsIdNumber (w n : ℕ) : Type 0 where
   pub reaches : marker w ≤ n
   pub below : n < 2 * marker w
@@ -462,7 +462,7 @@ IsIdNumber-from w n valid =
     let below = ltb-true _ _ (both_true (nat_le 1 (n - marker w)) _ fits.0).1 in
     record { reaches = reaches; below = omega arith; least = parts.1 }
 
--- what is read as an ID is valid
+-- An ID that was read is valid.
 pub id_at-within : (o : List ℕ) (r : IdRead) → AreOctets o → id_at o ≡ Ok r → IsIdWithin (length o) r
 id_at-within [] r octets is = (let reads = id_at-reads [] r is in let one = reads.announced in let none = reads.inside in absurd (omega arith))
 id_at-within (first ∷ rest) r octets is =
@@ -486,7 +486,7 @@ id_at-within (first ∷ rest) r octets is =
       inside = reads.inside;
     }
 
--- a known size of at most 8 octets is less than all ones in eight
+-- A known size of at most 8 bytes is less than 2^56 - 1.
 size_of_data-below : (w v : ℕ) → w ≤ 8 → v < marker w → IsKnownBelow (2 ^ 56 - 1) (size_of_data w v)
 size_of_data-below w v most below =
     let P : Size → Type 0 = λ size. IsKnownBelow (2 ^ 56 - 1) size in
@@ -507,7 +507,7 @@ size_at-within o r is =
       inside = reads.inside;
     }
 
--- what holds of each value that an answer may have
+-- A property of each possible value of a result holds if the result is a value.
 pub IfOk-each : {T E : Type 0} (P : T → Type 0) (r : Result T E) → ((x : T) → r ≡ Ok x → P x) → IfOk r P
 IfOk-each P (Ok x) each = each x refl
 IfOk-each P (Err e) each = tt
@@ -518,13 +518,13 @@ id_at-found o octets = IfOk-each (IsIdWithin (length o)) (id_at o) (λ read is. 
 pub size_at-found : (o : List ℕ) → IfOk (size_at o) (IsSizeWithin (length o))
 size_at-found o = IfOk-each (IsSizeWithin (length o)) (size_at o) (λ read is. size_at-within o read is)
 
--- ---- what is written is read back
+-- ---- written numbers are read back
 
 byte_at-div : (k x : ℕ) → byte_at k x ≡ x / 256 ^ k % 256
 byte_at-div zero x = ap (λ (y : ℕ). y % 256) (sym (div-one x))
 byte_at-div (suc k) x = refl
 
--- a number's first octet announces its width, where its marker stands there
+-- The first byte of a number of `k + 1` bytes, marker and data, announces this width.
 vint-first : (k n : ℕ) → k < 8 → marker (suc k) ≤ n → n < 2 * marker (suc k) → width (byte_at k n) ≡ suc k
 vint-first k n few reaches below =
     let unit = pow256 k in
@@ -540,7 +540,7 @@ vint-first k n few reaches below =
     let next : 9 - suc k ≡ 8 - k = omega arith in
     rw is (width-of (suc k) (n / 2 ^ (8 * k)) (omega arith) (omega arith) (rw least from) (rw next to))
 
--- the octets of a number of w octets, marker and data, and what follows them
+-- The list `o` begins with the number `n` of `w` bytes, marker and data.
 record IsSpelled (w n : ℕ) (o : List ℕ) : Type 0 where
   announced : announced o ≡ w
   inside : w ≤ length o
@@ -563,7 +563,7 @@ IsSpelled-big_bytes (suc k) n rest some most reaches below =
       value = ap (λ (x : ℕ). x % marker (suc k)) number ∙ mod-eq-sub-mod reaches ∙ mod-eq_of_lt (omega arith);
     }
 
--- a valid ID's octets are as many as its width
+-- A valid ID of `w` bytes is written in `w` bytes.
 pub uint_width-is_id : (w n : ℕ) → 1 ≤ w → w ≤ 8 → marker w ≤ n → n < 2 * marker w → uint_width n ≡ w
 unfolding uint_width
 uint_width-is_id w n some most reaches below =
@@ -572,7 +572,7 @@ uint_width-is_id w n some most reaches below =
     least_width-is (λ k. nat_lt n (256 ^ k)) w some most (lt-ltb _ _ (rw (pow256 w) (omega arith)))
     (λ k one less. let short : 2 ^ (8 * k) ≤ 2 ^ (7 * w) = pow_mono (omega arith) in le-ltb _ _ (rw (pow256 k) (omega arith)))
 
--- an ID that is written is read, whatever follows it
+-- An ID that is written is read back, whatever follows it.
 pub id_at-octets : (n : ℕ) (rest : List ℕ) → is_id n ≡ true → id_at (id_octets n ++ rest) ≡ Ok (record { id = n; len = uint_width n })
 id_at-octets n rest valid =
     let at = is_id-width n valid in
@@ -587,7 +587,7 @@ id_at-octets n rest valid =
       least = rw spelled.value is.least;
     }))
 
--- a valid ID takes 1 to 4 octets, and is a number of 32 bits
+-- A valid ID takes 1 to 4 bytes, and is less than 2^32.
 pub is_id-bounds : (n : ℕ) → is_id n ≡ true → (1 ≤ uint_width n) × (uint_width n ≤ 4) × (n < 2 ^ 32)
 is_id-bounds n valid =
     let at = is_id-width n valid in
@@ -597,7 +597,7 @@ is_id-bounds n valid =
     let room : 2 ^ suc (7 * at.0) ≤ 2 ^ 32 = pow_mono {j = 32} (omega (arith, at.2)) in
     (omega (arith, at.1), omega (arith, at.2), omega (arith, is.below))
 
--- a size that is written is read, whatever follows it
+-- A size that is written is read back, whatever follows it.
 pub size_at-octets : (v w : ℕ) (rest : List ℕ) → 1 ≤ w → w ≤ 8 → v < all_ones w → size_at (size_octets v w ++ rest) ≡ Ok (record { size = Known v; len = w })
 size_at-octets v w rest some most fits =
     let spelled = IsSpelled-big_bytes w (marker w + v) rest some most (omega arith) (omega arith) in
@@ -616,7 +616,7 @@ length-size_octets v w = length-bytes_high_first w (marker w + v)
 pub length-uint_octets : (v : ℕ) → length (uint_octets v) ≡ uint_width v
 length-uint_octets v = length-bytes_high_first (uint_width v) v
 
--- an unsigned number that is written is read from exactly its octets
+-- An unsigned number that is written is read from exactly its bytes.
 pub uint_of-octets : (v : ℕ) → v < 2 ^ 64 → uint_of (uint_octets v) ≡ v
 uint_of-octets v small =
     let fits = (uint_width-IsLeast v small).fits in
@@ -628,15 +628,15 @@ pub length-int_octets : (z : ℤ) → length (int_octets z) ≡ int_width z
 length-int_octets (pos n) = length-bytes_high_first (int_width (pos n)) n
 length-int_octets (negsuc n) = length-bytes_high_first (int_width (negsuc n)) (256 ^ int_width (negsuc n) - suc n)
 
--- octets of a number are a number again
+-- The bytes of a number are read as this number.
 big_number-octets : (w x : ℕ) → x < 256 ^ w → big_number w (big_bytes w x) ≡ x
 big_number-octets w x fits = ap (big_number w) (sym (append-nil (big_bytes w x))) ∙ big_number-reads_back w x [] fits
 
--- m stands for the sign, so what is n and one below it is -n-1
+-- Here `m` is 256^w: the two's complement of `-n-1` is read back.
 below_whole : (m n : ℕ) → suc n ≤ m → pos (m - suc n) -ℤ pos m ≡ negsuc n
 below_whole m n inside = omega (arith, ints)
 
--- two's complement of the octets of a number that fits is that number
+-- The two's complement of a number in a width that it fits is read as this number.
 pub twos_complement-octets : (w : ℕ) (z : ℤ) → 1 ≤ w → int_fits z w ≡ true → twos_complement w (big_number w (int_octets_in w z)) ≡ z
 twos_complement-octets w (pos n) some fits =
     let small = ltb-true n (2 ^ (8 * w - 1)) fits in
@@ -650,32 +650,32 @@ twos_complement-octets w (negsuc n) some fits =
     rw (big_number-octets w (256 ^ w - suc n) (omega arith), unit)
     (cond-false (nat_lt (2 ^ (8 * w) - suc n) (2 ^ (8 * w - 1))) _ _ (le-ltb _ _ (omega arith)) ∙ below_whole (2 ^ (8 * w)) n (omega arith))
 
--- a signed number that is written is read from exactly its octets
+-- A signed number that is written is read from exactly its bytes.
 pub int_of-octets : (z : ℤ) → magnitude z < 2 ^ 63 → int_of (int_octets z) ≡ z
 int_of-octets z small =
     let least = int_width-IsLeast z small in
     rw (length-int_octets z) (twos_complement-octets (int_width z) z least.some (lt-ltb _ _ least.fits))
 
--- ---- written octets
+-- ---- written bytes
 
--- what is written are octets
+-- The elements of `big_bytes` are bytes.
 pub big_bytes-AreOctets : (n x : ℕ) → AreOctets (big_bytes n x)
 big_bytes-AreOctets zero x zero = omega arith
 big_bytes-AreOctets zero x (suc i) = omega arith
 big_bytes-AreOctets (suc n) x zero = rw (byte_at-div n x) (mod-lt (x / 256 ^ n) (omega arith))
 big_bytes-AreOctets (suc n) x (suc i) = big_bytes-AreOctets n x i
 
--- ---- enough octets
+-- ---- enough bytes
 
 settled_unless_cut : {T : Type 0} (r : Result T NumFault) → ((n : ℕ) → r ≡ Err (More n) → ⊥) → IsSettled r
 settled_unless_cut (Ok read) uncut = tt
 settled_unless_cut (Err Bad) uncut = tt
 settled_unless_cut (Err (More n)) uncut = uncut n refl
 
--- four octets settle an ID, since no ID asks for more
+-- Four bytes settle an ID, since no ID asks for more.
 pub id_at-four : (o : List ℕ) → 4 ≤ length o → IsSettled (id_at o)
 id_at-four o four = settled_unless_cut (id_at o) (λ n more. let cut = id_at-more n o more in omega (arith, cut.short, cut.allowed))
 
--- eight octets settle a size
+-- Eight bytes settle a size.
 pub size_at-eight : (o : List ℕ) → 8 ≤ length o → IsSettled (size_at o)
 size_at-eight o eight = settled_unless_cut (size_at o) (λ n more. let cut = size_at-more n o more in omega (arith, cut.short, cut.allowed))

@@ -1,4 +1,4 @@
--- What was read is written again.
+-- Numbers that were read are written as the same bytes.
 use Rattle.std.proofs.Common.{◌≡◌, inl, inr, ℕ, zero, suc, ◌+◌, ◌-◌, ◌*◌, ◌/◌, ◌^◌, ◌<◌, ◌≤◌, ◌==◌, Bool, true, false, if◌then◌else◌, List, [], ◌∷◌, slice_index, append-nil, length, take, drop, ℤ, pos, negsuc, Ok, refl, sym, ◌∙◌, ap, ap₂, subst, arith}
 use Rattle.std.proofs.lemmas.Bool.{cases_lt}
 use Rattle.std.proofs.lemmas.Bool.Decides.{nat_tests}
@@ -20,12 +20,12 @@ pub length-int_octets_in : (w : ℕ) (z : ℤ) → length (int_octets_in w z) �
 length-int_octets_in w (pos n) = length-bytes_high_first w n
 length-int_octets_in w (negsuc n) = length-bytes_high_first w (256 ^ w - suc n)
 
--- a signed number is read from its two's complement in a width that it fits
+-- A signed number is read from its two's complement in a width that it fits.
 pub int_of-octets_in : (w : ℕ) (z : ℤ) → 1 ≤ w → int_fits z w ≡ true → int_of (int_octets_in w z) ≡ z
 int_of-octets_in w z some fits =
     rw (length-int_octets_in w z) (twos_complement-octets w z some fits)
 
--- ---- octets of a number
+-- ---- bytes of a number
 
 octets-tail : (x : ℕ) (l : List ℕ) → AreOctets (x ∷ l) → AreOctets l
 octets-tail x l octets = λ i. octets (suc i)
@@ -48,7 +48,7 @@ AreOctets-drop zero l octets = octets
 AreOctets-drop (suc k) [] octets = octets
 AreOctets-drop (suc k) (x ∷ l) octets = AreOctets-drop k l (octets-tail x l octets)
 
--- octets that are as many and one number are the same
+-- Lists of bytes with the same length and the same number are equal.
 same-octets : (n : ℕ) (a b : List ℕ) → AreOctets a → AreOctets b → length a ≡ n → length b ≡ n → big_from 0 n a ≡ big_from 0 n b → a ≡ b
 same-octets zero [] [] oa ob la lb same = refl
 same-octets zero [] (y ∷ b) oa ob la lb same = absurd (omega arith)
@@ -67,7 +67,7 @@ same-octets (suc n) (x ∷ a) (y ∷ b) oa ob la lb same =
     let again : x * w + ra ≡ x * w + rb = whole ∙ ap (λ (k : ℕ). k * w + rb) (sym first) in
     ap₂ (λ k l. k ∷ l) first (same-octets n a b ta tb (omega arith) (omega arith) (omega arith))
 
--- A number's octets are those that it was read from.
+-- A number that was read from `n` bytes is written as the same bytes.
 pub big_bytes-again : (n : ℕ) (o : List ℕ) → AreOctets o → n ≤ length o → big_bytes n (big_number n o) ≡ take n o
 big_bytes-again n o octets inside =
     let x : ℕ = big_number n o in
@@ -95,7 +95,7 @@ id-spelled (first ∷ rest) r octets is =
 
 -- ---- a size
 
--- a known size is the data, which aren't all 1
+-- The data of a known size are the size, and their bits aren't all 1.
 known-data : (w d v : ℕ) → size_of_data w d ≡ Known v → (d ≡ v) × ((d ≡ all_ones w) → ⊥)
 known-data w d v is = split (d == all_ones w) refl is
   where

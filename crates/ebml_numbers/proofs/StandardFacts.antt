@@ -1,4 +1,4 @@
--- Numbers that the rules of RFC 8794, sections 5 (Element ID) and 6 (Element Data Size), settle, computed, so that a wrong definition does not check.
+-- Computed examples for the rules of RFC 8794, sections 5 (Element ID) and 6 (Element Data Size). A wrong definition fails here.
 use Rattle.std.proofs.Common.{◌≡◌, ℕ, true, false, [], ◌∷◌, ◌++◌, replicate, pos, negsuc, Result, Ok, Err, refl}
 use Rattle.std.specs.Int.Count.{count_leading_zeros}
 use Rattle.ebml_numbers.specs.declared.number.IdRead.{IdRead}
@@ -17,7 +17,7 @@ size v w = Ok (record { size = Known v; len = w })
 abbrev unknown : ℕ → Result SizeRead NumFault
 unknown w = Ok (record { size = Unknown; len = w })
 
--- IDs: no more octets than must be, and data neither all 0 nor all 1
+-- IDs take the fewest bytes, and their data are neither all 0 nor all 1.
 pub record AreIds : Type 0 where
   pub ebml : id_at (0x1A ∷ 0x45 ∷ 0xDF ∷ 0xA3 ∷ []) ≡ id 0x1A45DFA3 4
   pub followed : id_at (0xEC ∷ 0x81 ∷ 0 ∷ []) ≡ id 0xEC 1
@@ -53,7 +53,7 @@ ids = record {
   marker_written = refl;
 }
 
--- sizes: any width, and data of all 1 for an unknown size
+-- Sizes may have any width, and data of all 1 mean an unknown size.
 pub record AreSizes : Type 0 where
   pub unknown_in_one : size_at (0xFF ∷ []) ≡ unknown 1
   pub unknown_in_eight : size_at (0x01 ∷ replicate 7 0xFF) ≡ unknown 8
@@ -83,7 +83,7 @@ sizes = record {
   least_of_two = refl;
 }
 
--- integers: the fewest octets, at least one
+-- Integers take the fewest bytes, at least one.
 pub record AreIntegers : Type 0 where
   pub nothing : uint_of [] ≡ 0
   pub two_octets : uint_of (1 ∷ 0 ∷ []) ≡ 256

@@ -11,7 +11,7 @@ use Rattle.ebml_numbers.specs.Number.{width, least_width, all_ones, least_size_w
 
 -- ---- powers
 
--- n octets hold 8 n bits
+-- `n` bytes hold `8 n` bits.
 pub pow256 : (n : ℕ) → 256 ^ n ≡ 2 ^ (8 * n)
 pow256 zero = refl
 pow256 (suc n) =
@@ -20,7 +20,7 @@ pow256 (suc n) =
 
 -- ---- leading zeros
 
--- a number that reaches 2^j has at most k - j - 1 zeros in front
+-- A number of `k` bits that reaches 2^j has at most `k - j - 1` leading zeros.
 pub leading_zeros-lt : (k j a : ℕ) → j < k → 2 ^ j ≤ a → count_leading_zeros k a + j < k
 unfolding count_leading_zeros
 leading_zeros-lt zero j a inside reaches = absurd (omega arith)
@@ -31,17 +31,17 @@ leading_zeros-lt (suc k) (suc j) (suc n) inside reaches =
     let rest = leading_zeros-lt k j (suc n / 2) (omega arith) half in
     omega arith
 
--- ---- the width that a first octet states
+-- ---- the width that a first byte gives
 
--- it is at least 1
+-- A width is at least 1.
 pub width-pos : (first : ℕ) → 1 ≤ width first
 width-pos first = omega arith
 
--- a first octet from 2^j on states at most 8 - j octets
+-- A first byte that reaches 2^j gives a width of at most `8 - j` bytes.
 pub width-le : (j first : ℕ) → j < 8 → 2 ^ j ≤ first → width first + j ≤ 8
 width-le j first inside reaches = let zeros = leading_zeros-lt 8 j first inside reaches in omega arith
 
--- a first octet below 16 states more than 4 octets
+-- A first byte below 16 gives a width of more than 4 bytes.
 pub width-wide : (first : ℕ) → first < 16 → 4 < width first
 width-wide first low =
     let top = leading_length 8 first (omega arith) in
@@ -51,7 +51,7 @@ width-wide first low =
     go : (m : ℕ) → first < 2 ^ m → 2 ^ m ≤ 2 * first + 1 → m < 5
     go m over under = elim (cases_lt m 5) [ inl h ↦ h | inr h ↦ (let long : 2 ^ 5 ≤ 2 ^ m = pow_mono h in absurd (omega arith)) ]
 
--- the marker stands where the width says
+-- The highest bit of a nonzero first byte is at the place that its width gives.
 pub width-marker : (first : ℕ) → 0 < first → first < 256 → (2 ^ (8 - width first) ≤ first) × (first < 2 ^ (9 - width first))
 width-marker first some octet =
     let top = leading_top 8 first some octet in
@@ -59,7 +59,7 @@ width-marker first some octet =
     let above : 9 - width first ≡ suc top.0 = omega (arith, top.1) in
     (rw place top.2, rw above top.3)
 
--- and the width is where the marker stands
+-- A first byte with its highest bit at the place for the width `w` gives this width.
 pub width-of : (w first : ℕ) → 1 ≤ w → w ≤ 8 → 2 ^ (8 - w) ≤ first → first < 2 ^ (9 - w) → width first ≡ w
 width-of w first some most reaches below =
     let above : 9 - w ≡ suc (8 - w) = omega arith in
@@ -69,7 +69,7 @@ width-of w first some most reaches below =
 
 -- ---- the least width
 
--- the first that passes a test, of the numbers from a on
+-- `find` returns the first of `n` numbers from `a` on that passes the test.
 find_first : (p : ℕ → Bool) (n a w : ℕ) → a ≤ w → w < a + n → p w ≡ true → ((k : ℕ) → a ≤ k → k < w → p k ≡ false) → find p (range_with_len a n) ≡ Some w
 find_first p zero a w from to passes before = absurd (omega arith)
 find_first p (suc n) a w from to passes before =
@@ -79,11 +79,11 @@ find_first p (suc n) a w from to passes before =
           ∙ find_first p n (a + 1) w (omega arith) (omega arith) passes (λ k more. before k (omega arith))
     ]
 
--- the width that passes where no smaller one does
+-- The least width is the width that passes the test if no smaller one does.
 pub least_width-is : (p : ℕ → Bool) (w : ℕ) → 1 ≤ w → w ≤ 8 → p w ≡ true → ((k : ℕ) → 1 ≤ k → k < w → p k ≡ false) → least_width p ≡ w
 least_width-is p w some most passes before = ap (λ (o : Option ℕ). unwrap_or o 8) (find_first p 8 1 w some (omega arith) passes before)
 
--- of n numbers from a on, one passes first or none does
+-- Of `n` numbers from `a` on, either none passes the test, or there is a first that does.
 first_of_range : (p : ℕ → Bool) (n a : ℕ) → ((k : ℕ) → a ≤ k → k < a + n → p k ≡ false) ⊎ ((w : ℕ) × (a ≤ w) × (w < a + n) × (p w ≡ true) × ((k : ℕ) → a ≤ k → k < w → p k ≡ false))
 first_of_range p zero a = inl (λ k from to. absurd (omega arith))
 first_of_range p (suc n) a =
@@ -95,7 +95,7 @@ first_of_range p (suc n) a =
       ]
     ]
 
--- where a number fits eight octets, the least width that it fits is one
+-- If 8 fits, `least_width` is the least width that fits.
 pub least_width-IsLeast : (p : ℕ → Bool) (Fits : ℕ → Type 0) → ((k : ℕ) → p k ≡ true → Fits k) → ((k : ℕ) → Fits k → p k ≡ true) → Fits 8 → IsLeastWidth Fits (least_width p)
 least_width-IsLeast p Fits sound complete eight =
     elim (first_of_range p 8 1) [
@@ -130,21 +130,21 @@ int_width-IsLeast z small =
 
 -- ---- the digits of a number
 
--- a number of b binary digits reaches each smaller power
+-- A number of `b` binary digits reaches each smaller power of 2.
 pow_reached : (i b n : ℕ) → i < b → 2 ^ b ≤ 2 * n + 1 → 2 ^ i ≤ n
 pow_reached i b n less digits =
     let twice : 2 ^ suc i ≡ 2 ^ i * 2 = pow-suc 2 i in
     let under : 2 ^ suc i ≤ 2 ^ b = pow_mono (omega arith) in
     omega arith
 
--- what the leading zeros of 64 digits leave are a number's digits
+-- A number of 64 bits has 64 minus its leading zeros as digits.
 pub leading_zeros-digits : (n : ℕ) → n < 2 ^ 64 → (n < 2 ^ (64 - count_leading_zeros 64 n)) × (2 ^ (64 - count_leading_zeros 64 n) ≤ 2 * n + 1)
 leading_zeros-digits n small =
     let top = leading_length 64 n small in
     let digits : 64 - count_leading_zeros 64 n ≡ top.0 = omega (arith, top.1) in
     (rw digits top.2, rw digits top.3)
 
--- a number below 2^k has at most k digits
+-- A number below 2^k has at most `k` digits.
 digits_most : (k b n : ℕ) → n < 2 ^ k → 2 ^ b ≤ 2 * n + 1 → b ≤ k
 digits_most k b n small digits =
     elim (cases_lt k b) [
@@ -152,12 +152,12 @@ digits_most k b n small digits =
       | inr fewer ↦ fewer
     ]
 
--- and a number above 0 at least one
+-- A number above 0 has at least one digit.
 digits_some : (b n : ℕ) → 1 ≤ n → n < 2 ^ b → 1 ≤ b
 digits_some zero n some below = absurd (omega arith)
 digits_some (suc b) n some below = omega arith
 
--- a size takes an octet for each seven digits of the next number
+-- A size takes a byte for each seven digits of the next number.
 pub least_size_width-digits : (v b : ℕ) → v < all_ones 8 → v + 1 < 2 ^ b → 2 ^ b ≤ 2 * (v + 1) + 1 → least_size_width v ≡ div_ceil b 7
 unfolding least_size_width
 least_size_width-digits v b small below digits =
@@ -167,7 +167,7 @@ least_size_width-digits v b small below digits =
     least_width-is (λ w. nat_lt v (all_ones w)) (div_ceil b 7) (omega arith) (omega arith) (lt-ltb _ _ (omega arith))
     (λ k one less. let reached = pow_reached (7 * k) b (v + 1) (omega arith) digits in le-ltb _ _ (omega arith))
 
--- an unsigned number takes an octet for each eight digits, and zero one
+-- An unsigned number takes a byte for each eight digits, and zero takes one.
 pub uint_width-digits : (v b : ℕ) → v < 2 ^ 64 → max v 1 < 2 ^ b → 2 ^ b ≤ 2 * max v 1 + 1 → uint_width v ≡ div_ceil b 8
 unfolding uint_width
 uint_width-digits v b small below digits =
@@ -181,7 +181,7 @@ uint_width-digits v b small below digits =
     let two : 2 ^ 1 ≤ 2 ^ (8 * k) = pow_mono {i = 1} (omega arith) in
     le-ltb _ _ (omega (arith, pow256 k)))
 
--- a signed number takes an octet for each eight digits and the sign
+-- A signed number takes a byte for each eight digits, including the sign.
 pub int_width-digits : (z : ℤ) (b : ℕ) → magnitude z < 2 ^ 63 → magnitude z < 2 ^ b → 2 ^ b ≤ 2 * magnitude z + 1 → int_width z ≡ b / 8 + 1
 unfolding int_width
 int_width-digits z b small below digits =

@@ -1,4 +1,4 @@
--- What is written is read, and what was read is written again: RFC 8794, sections 4 (Variable-Size Integer) to 7 (EBML Element Types).
+-- Numbers are read back after writing, and written back after reading: RFC 8794, sections 4 (Variable-Size Integer) to 7 (EBML Element Types).
 use Rattle.std.specs.Prelude.{◌≡◌, true, ℕ, ◌*◌, ◌≤◌, ◌<◌, ℤ, List, length, take, drop, Ok}
 use Rattle.byteorder.specs.Endian.{big_number, big_bytes}
 use Rattle.ebml_numbers.specs.declared.number.IdRead.{IdRead}
@@ -6,34 +6,34 @@ use Rattle.ebml_numbers.specs.declared.number.Size.TheVariants.{Known}
 use Rattle.ebml_numbers.specs.declared.number.SizeRead.{SizeRead}
 use Rattle.ebml_numbers.specs.Number.{AreOctets, marker, all_ones, id_at, id_octets, size_at, size_octets, uint_width, int_of, int_fits, int_octets_in}
 
--- Octets in front of others, and behind others, are octets.
+-- The first `n` bytes of a list of bytes are bytes, and so are the others.
 pub record OctetsStay : Type 0 where
   pub front : (n : ℕ) (octets : List ℕ) → AreOctets octets → AreOctets (take n octets)
   pub behind : (n : ℕ) (octets : List ℕ) → AreOctets octets → AreOctets (drop n octets)
 
--- ---- what is written is read
+-- ---- written numbers are read back
 
--- A signed number that fits so many octets is read from its two's complement in these.
+-- A signed number that fits `w` bytes is read from its two's complement in `w` bytes.
 abbrev pub SignedAreRead : Type 0
 SignedAreRead = (w : ℕ) (z : ℤ) → 1 ≤ w → int_fits z w ≡ true → int_of (int_octets_in w z) ≡ z
 
--- A number that is a marker of w octets and data below it takes w octets.
+-- A number that is the marker of `w` bytes plus smaller data takes `w` bytes.
 abbrev pub MarkersTellWidths : Type 0
 MarkersTellWidths = (w n : ℕ) → 1 ≤ w → w ≤ 8 → marker w ≤ n → n < 2 * marker w → uint_width n ≡ w
 
--- ---- what was read is written again
+-- ---- read numbers are written back
 
--- The octets of a number are those that it was read from.
+-- A number that was read from `n` bytes is written in `n` bytes as the same bytes.
 abbrev pub NumbersAreWrittenAgain : Type 0
 NumbersAreWrittenAgain =
     (n : ℕ) (octets : List ℕ) → AreOctets octets → n ≤ length octets → big_bytes n (big_number n octets) ≡ take n octets
 
--- So are those of an ID.
+-- An ID that was read is written as the bytes that it was read from.
 abbrev pub IdsAreWrittenAgain : Type 0
 IdsAreWrittenAgain =
     (octets : List ℕ) (read : IdRead) → AreOctets octets → id_at octets ≡ Ok read → id_octets read.id ≡ take read.len octets
 
--- The front of octets is a known size in w octets, which fits there.
+-- The list `octets` begins with the known size `size` in `w` bytes, which it fits.
 pub record SpellsSize (octets : List ℕ) (size w : ℕ) : Type 0 where
   pub some : 1 ≤ w
   pub most : w ≤ 8
@@ -41,7 +41,7 @@ pub record SpellsSize (octets : List ℕ) (size w : ℕ) : Type 0 where
   pub inside : w ≤ length octets
   pub front : size_octets size w ≡ take w octets
 
--- The octets of a known size are those that it was read from, in as many octets.
+-- A known size that was read is written in the same width as the bytes that it was read from.
 abbrev pub SizesAreWrittenAgain : Type 0
 SizesAreWrittenAgain =
     (octets : List ℕ) (read : SizeRead) (size : ℕ) → AreOctets octets → size_at octets ≡ Ok read → read.size ≡ Known size

@@ -1,7 +1,7 @@
 #![tactic(auto)]
 
-//! The numbers of EBML, read and written: RFC 8794, sections 4 (Variable-Size Integer) to 7 (EBML Element Types). Nothing
-//! here takes memory. The definitions stand in `specs/Number.antt`, and the laws of what is written and read in
+//! The numbers of EBML, read and written: RFC 8794, sections 4 (Variable-Size Integer) to 7 (EBML Element Types).
+//! Nothing here allocates. The definitions are in `specs/Number.antt`, and the laws on written and read numbers in
 //! `specs/Laws.antt`.
 
 pub mod laws;

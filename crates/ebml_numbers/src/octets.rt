@@ -1,15 +1,15 @@
-//! The octets of a written number.
+//! Bytes of a written number.
 ghost use Rattle.std.specs.Prelude.{◌≡◌, ◌-◌, ◌≤◌, ◌<◌, ◌^◌, drop, replicate};
 ghost use Rattle.byteorder.specs.Endian.{big_bytes};
 
 use byteorder::{BigEndian, ByteOrder};
 
-/// A written number.
+/// Written number.
 #[derive(Clone, Copy, Debug, PartialEq, Eq)]
 pub struct Octets {
-    /// The number's octets, and zeros behind them.
+    /// Bytes of the number, then zeros.
     pub bytes: [u8; 8],
-    /// How many octets the number has: 1 to 8.
+    /// Length of the number in bytes: 1 to 8.
     pub len: u8,
     ghost some: { 1 ≤ len },
     ghost most: { len ≤ 8 },
@@ -19,14 +19,14 @@ pub struct Octets {
 impl Octets {
     ghost use Rattle.ebml_numbers.specs.Octets.{octets_of};
 
-    /// The number's octets alone.
+    /// Returns the bytes of the number, without the zeros after them.
     pub fn as_slice(&self) -> &[u8]
         ensures { result.now ≡ octets_of self.now }
     {
         &self.bytes[..usize::from(self.len)]
     }
 
-    /// The number in so many octets, the highest first.
+    /// Returns `value` in `width` bytes, the highest first.
     pub(crate) fn big_endian(value: u64, width: u8) -> Octets
         requires some { 1 ≤ width }
         requires most { width ≤ 8 }

@@ -1,4 +1,4 @@
-//! Numbers read from the front of octets: RFC 8794, sections 4 to 7.
+//! Numbers read from the start of bytes: RFC 8794, sections 4 to 7.
 ghost use Rattle.std.specs.Prelude.{◌≡◌, ℕ, ◌%◌, ◌≤◌, ◌<◌, ◌↔◌, ◌++◌, List, Err, ◌^◌, length, IfOk};
 ghost use Rattle.byteorder.specs.Endian.{big_number};
 ghost use Rattle.ebml_numbers.specs.Number.{IsCut, IsSettled, IsIdWithin, IsSizeWithin, StartsWithZero, width, marker, all_ones, is_id_data, id_of_width, id_at, size_of_data, size_at, uint_of, int_of};
@@ -7,35 +7,35 @@ use crate::number::{IdRead, NumFault, Size, SizeRead};
 use crate::vint::all_ones;
 use byteorder::{BigEndian, ByteOrder};
 
-/// The Element ID at the front: RFC 8794, section 5 (Element ID).
+/// Reads the Element ID at the start of `bytes`: RFC 8794, section 5 (Element ID).
 pub fn read_id(bytes: &[u8]) -> Result<IdRead, NumFault>
     ensures exact { result ≡ id_at bytes.now }
     ensures found { IfOk result (IsIdWithin (length bytes.now)) }
     ensures more { (n : ℕ) → (result ≡ Err (NumFault.More n)) ↔ IsCut 4 n bytes.now }
 
-    // Four octets settle an ID, and none that follow a settled answer change it.
+    // Four bytes settle an ID, and no bytes after them change a settled result.
     ensures four { 4 ≤ length bytes.now → IsSettled result }
     ensures settled { (rest : List ℕ) → IsSettled result → id_at (bytes.now ++ rest) ≡ result }
 {
     first_id(bytes)
 }
 
-/// The Element Data Size at the front: RFC 8794, section 6 (Element Data Size).
+/// Reads the Element Data Size at the start of `bytes`: RFC 8794, section 6 (Element Data Size).
 pub fn read_size(bytes: &[u8]) -> Result<SizeRead, NumFault>
     ensures exact { result ≡ size_at bytes.now }
     ensures found { IfOk result (IsSizeWithin (length bytes.now)) }
     ensures more { (n : ℕ) → (result ≡ Err (NumFault.More n)) ↔ IsCut 8 n bytes.now }
     ensures bad { (result ≡ Err NumFault.Bad) ↔ StartsWithZero bytes.now }
 
-    // Eight octets settle a size, and none that follow a settled answer change it.
+    // Eight bytes settle a size, and no bytes after them change a settled result.
     ensures eight { 8 ≤ length bytes.now → IsSettled result }
     ensures settled { (rest : List ℕ) → IsSettled result → size_at (bytes.now ++ rest) ≡ result }
 {
     first_size(bytes)
 }
 
-/// The number in all of the octets, 0 where there are none: RFC 8794, section 7.2 (Unsigned
-/// Integer Element).
+/// Returns the number that all of `bytes` encode, or 0 if `bytes` is empty: RFC 8794, section 7.2 (Unsigned Integer
+/// Element).
 pub fn read_uint(bytes: &[u8]) -> u64
     requires { length bytes.now ≤ 8 }
     ensures exact { result ≡ uint_of bytes.now }
@@ -47,8 +47,8 @@ pub fn read_uint(bytes: &[u8]) -> u64
     }
 }
 
-/// The octets' two's complement, 0 where there are none: RFC 8794, section 7.1 (Signed Integer
-/// Element).
+/// Returns the two's complement value of all of `bytes`, or 0 if `bytes` is empty: RFC 8794, section 7.1 (Signed
+/// Integer Element).
 pub fn read_int(bytes: &[u8]) -> i64
     requires { length bytes.now ≤ 8 }
     ensures exact { result ≡ int_of bytes.now }
@@ -98,14 +98,14 @@ fn first_size(bytes: &[u8]) -> Result<SizeRead, NumFault>
     })
 }
 
-// How many octets the number has that begins so.
+// Returns the length in bytes of a number with the first byte `first`.
 fn width_of(first: u8) -> u8
     ensures { result ≡ width first }
 {
     first.leading_zeros() as u8 + 1
 }
 
-// The ID in the first octets, of which it has so many.
+// Returns the ID in the first `width` bytes, or `Bad` if they aren't a valid one.
 fn id_of_width(bytes: &[u8], width: u8) -> Result<IdRead, NumFault>
     requires some { 1 ≤ width }
     requires most { width ≤ 4 }
@@ -122,7 +122,7 @@ fn id_of_width(bytes: &[u8], width: u8) -> Result<IdRead, NumFault>
     })
 }
 
-// Whether an ID of so many octets may have such data, which fewer octets can't hold.
+// Checks whether `value` can be the data of an ID of `width` bytes, and doesn't fit in fewer.
 fn is_id_data(width: u8, value: u64) -> bool
     requires some { 1 ≤ width }
     requires most { width ≤ 8 }
@@ -143,7 +143,7 @@ fn size_of_data(width: u8, value: u64) -> Size
     }
 }
 
-// The data bits of a number of so many octets.
+// Returns the data bits of `number`, which has `width` bytes.
 fn without_marker(number: u64, width: u8) -> u64
     requires { width ≤ 8 }
     ensures { result ≡ number % marker width }
@@ -151,7 +151,7 @@ fn without_marker(number: u64, width: u8) -> u64
     number & all_ones(width)
 }
 
-// The number in the first octets. Where a whole word is here, it is read as one.
+// Returns the number in the first `width` bytes. If eight bytes are here, it reads them as one word.
 fn number(bytes: &[u8], width: u8) -> u64
     requires some { 1 ≤ width }
     requires most { width ≤ 8 }

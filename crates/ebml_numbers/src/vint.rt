@@ -2,7 +2,7 @@
 ghost use Rattle.std.specs.Prelude.{◌≡◌, ◌≤◌};
 ghost use Rattle.ebml_numbers.specs.Number.{all_ones, marker};
 
-// The marker bit of a number of so many octets.
+// Returns the marker bit of a number of `width` bytes.
 pub(crate) fn marker(width: u8) -> u64
     requires { width ≤ 8 }
     ensures { result ≡ marker width }
@@ -10,7 +10,7 @@ pub(crate) fn marker(width: u8) -> u64
     1 << (7 * width)
 }
 
-// The data bits of so many octets, all of them 1.
+// Returns the largest data of `width` bytes: all bits are 1.
 pub(crate) fn all_ones(width: u8) -> u64
     requires { width ≤ 8 }
     ensures { result ≡ all_ones width }

@@ -1,4 +1,4 @@
-//! Numbers written in the fewest octets, or in as many as are asked for: RFC 8794, sections 4 to 7.
+//! Numbers written in the fewest bytes, or in a given width: RFC 8794, sections 4 to 7.
 ghost use Rattle.std.specs.Prelude.{◌≡◌, ◌+◌, ◌*◌, ◌^◌, ◌≤◌, ◌<◌, ◌-◌, IsTrue};
 ghost use Rattle.std.specs.Int.{w64};
 ghost use Rattle.byteorder.specs.Endian.{low_bytes};
@@ -8,17 +8,17 @@ ghost use Rattle.ebml_numbers.specs.Octets.{octets_of};
 use crate::octets::Octets;
 use crate::vint::marker;
 
-/// The fewest octets that hold a known size: 1 to 8.
+/// Returns the fewest bytes, 1 to 8, that can hold the known size `value`.
 pub fn size_width(value: u64) -> u8
     requires { value < all_ones 8 }
     ensures exact { result ≡ least_size_width value }
     ensures least { IsLeastWidth (λ w. value < all_ones w) result }
 {
-    // The data of so many octets may not be all 1, so it is the next number that has to fit.
+    // Data bits that are all 1 mean an unknown size, so `value + 1` must fit.
     digits(value + 1).div_ceil(7)
 }
 
-/// A known size in so many octets: RFC 8794, section 6 (Element Data Size).
+/// Returns the known size `value` in `width` bytes: RFC 8794, section 6 (Element Data Size).
 pub fn put_size(value: u64, width: u8) -> Octets
     requires some { 1 ≤ width }
     requires most { width ≤ 8 }
@@ -26,14 +26,14 @@ pub fn put_size(value: u64, width: u8) -> Octets
     ensures exact { octets_of result ≡ size_octets value width }
     ensures len { result.len ≡ width }
 
-    // It is read back, whatever follows it.
+    // The size is read back, whatever follows it.
     ensures read { ReadsAsSize (octets_of result) value width }
 {
     Octets::big_endian(marker(width) + value, width)
 }
 
-/// An Element ID: RFC 8794, section 5 (Element ID). Of all that are no valid ID, only 0x80 is
-/// written, since RFC 9559 gives it to ChapterDisplay.
+/// Returns the Element ID `id` as bytes: RFC 8794, section 5 (Element ID). The only invalid ID that is written is
+/// 0x80, since RFC 9559 gives it to ChapterDisplay.
 pub fn put_id(id: u32) -> Octets
     requires { IsTrue (is_written_id id) }
     ensures exact { octets_of result ≡ id_octets id }
@@ -45,7 +45,7 @@ pub fn put_id(id: u32) -> Octets
     put_uint(u64::from(id))
 }
 
-/// A number in the fewest octets, at least one: RFC 8794, section 7.2 (Unsigned Integer Element).
+/// Returns `value` in the fewest bytes, at least one: RFC 8794, section 7.2 (Unsigned Integer Element).
 pub fn put_uint(value: u64) -> Octets
     ensures exact { octets_of result ≡ uint_octets value }
     ensures len { result.len ≡ uint_width value }
@@ -55,8 +55,8 @@ pub fn put_uint(value: u64) -> Octets
     Octets::big_endian(value, uint_width(value))
 }
 
-/// A number's two's complement in the fewest octets, at least one: RFC 8794, section 7.1 (Signed
-/// Integer Element).
+/// Returns the two's complement of `value` in the fewest bytes, at least one: RFC 8794, section 7.1 (Signed Integer
+/// Element).
 pub fn put_int(value: i64) -> Octets
     ensures exact { octets_of result ≡ int_octets value }
     ensures len { result.len ≡ int_width value }
@@ -67,7 +67,7 @@ pub fn put_int(value: i64) -> Octets
     Octets::big_endian(low_octets(value, width), width)
 }
 
-// The fewest octets, at least one, that hold a number.
+// Returns the fewest bytes, at least one, that can hold `value`.
 fn uint_width(value: u64) -> u8
     ensures exact { result ≡ uint_width value }
     ensures least { IsLeastWidth (λ w. value < 256 ^ w) result }
@@ -75,7 +75,7 @@ fn uint_width(value: u64) -> u8
     digits(value.max(1)).div_ceil(8)
 }
 
-// The fewest octets, at least one, that hold a signed number: they hold one digit more, the sign.
+// Returns the fewest bytes, at least one, that can hold `value` and its sign bit.
 fn int_width(value: i64) -> u8
     ensures exact { result ≡ int_width value }
     ensures least { IsLeastWidth (λ w. magnitude value < 2 ^ (8 * w - 1)) result }
@@ -83,7 +83,7 @@ fn int_width(value: i64) -> u8
     digits(magnitude(value)) / 8 + 1
 }
 
-// The number in the last so many octets of a signed number.
+// Returns the last `width` bytes of `value` as a number.
 fn low_octets(value: i64, width: u8) -> u64
     requires some { 1 ≤ width }
     requires most { width ≤ 8 }
@@ -93,7 +93,7 @@ fn low_octets(value: i64, width: u8) -> u64
     value.cast_unsigned() & (u64::MAX >> (64 - 8 * width))
 }
 
-// A number without its sign: n of n and of -n-1.
+// Returns `value` without its sign: `n` for both `n` and `-n-1`.
 fn magnitude(value: i64) -> u64
     ensures value { result ≡ magnitude value }
     ensures fits { result < 2 ^ 63 }
@@ -102,7 +102,7 @@ fn magnitude(value: i64) -> u64
     without_sign.cast_unsigned()
 }
 
-// How many binary digits a number has.
+// Returns the number of binary digits of `value`.
 fn digits(value: u64) -> u8
     ensures below { value < 2 ^ result }
     ensures reaches { 2 ^ result ≤ 2 * value + 1 }

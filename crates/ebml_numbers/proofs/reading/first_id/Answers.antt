@@ -1,4 +1,4 @@
--- A first octet of `10` or more announces four octets at most.
+-- A first byte of at least `10` announces at most four bytes.
 use Rattle.std.proofs.Common.{arith}
 use Rattle.ebml_numbers.proofs.WidthLemmas.{width-le}
 use Rattle.ebml_numbers.proofs.reading.first_id.Goals as goal

@@ -1,4 +1,4 @@
--- Four octets are 32 bits.
+-- Four bytes are 32 bits.
 use Rattle.std.proofs.Common.{◌^◌, ◌≤◌, arith}
 use Rattle.std.proofs.Math.Nat.{pow-le-pow_right}
 use Rattle.ebml_numbers.proofs.reading.id_of_width.Goals as goal

@@ -1,4 +1,4 @@
--- The octets are below 256, and the first of a word are what a shift leaves of it.
+-- The bytes are below 256, and a right shift of a word gives its first bytes.
 use Rattle.std.proofs.Common.{sym, arith}
 use Rattle.byteorder.specs.Numbers.{big_from-lt}
 use Rattle.ebml_numbers.specs.Number.{AreOctets}

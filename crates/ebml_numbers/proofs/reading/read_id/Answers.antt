@@ -1,4 +1,4 @@
--- The answer is the definition's, of which these are laws.
+-- The result is the definition's, and each clause is a law on it.
 use Rattle.std.proofs.Common.{◌∙◌, sym, arith}
 use Rattle.ebml_numbers.specs.Number.{AreOctets}
 use Rattle.ebml_numbers.proofs.NumberLemmas.{id_at-found, id_at-more, id_at-is_cut, id_at-four, id_at-append}

@@ -1,4 +1,4 @@
--- The answer is the definition's, of which these are laws.
+-- The result is the definition's, and each clause is a law on it.
 use Rattle.std.proofs.Common.{◌∙◌, sym}
 use Rattle.ebml_numbers.proofs.NumberLemmas.{size_at-found, size_at-more, size_at-is_cut, size_at-zero, size_at-is_zero, size_at-eight, size_at-append}
 use Rattle.ebml_numbers.proofs.reading.read_size.Goals as goal

@@ -1,4 +1,4 @@
--- A mask of 7 w bits is a remainder.
+-- A mask of `7 w` bits is a remainder.
 use Rattle.std.proofs.Common.{◌*◌}
 use Rattle.std.proofs.lemmas.Nat.{and_mask}
 use Rattle.ebml_numbers.proofs.reading.without_marker.Goals as goal

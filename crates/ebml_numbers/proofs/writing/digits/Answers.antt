@@ -1,4 +1,4 @@
--- The digits are those behind the leading zeros of 64.
+-- The digits of a number follow the leading zeros of its 64 bits.
 use Rattle.std.proofs.Common.{arith}
 use Rattle.ebml_numbers.proofs.WidthLemmas.{leading_zeros-digits}
 use Rattle.ebml_numbers.proofs.writing.digits.Goals as goal

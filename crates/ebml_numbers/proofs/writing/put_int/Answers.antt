@@ -1,4 +1,4 @@
--- The last octets, as many as hold the number, are its two's complement.
+-- The last bytes of the number, in a width that it fits, are its two's complement.
 use Rattle.std.proofs.Common.{◌≡◌, ◌∙◌, ap, to_z, of_z, w64}
 use Rattle.std.proofs.lemmas.Int.{to_z-of_z}
 use Rattle.byteorder.specs.Endian.{big_bytes}

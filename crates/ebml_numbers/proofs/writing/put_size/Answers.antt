@@ -1,4 +1,4 @@
--- Marker and data take at most eight bits an octet.
+-- Marker and data take at most eight bits for each byte.
 use Rattle.std.proofs.Common.{ℕ, suc, ◌+◌, ◌*◌, ◌^◌, ◌≤◌, ◌++◌, ◌∙◌, ap, arith}
 use Rattle.std.proofs.Math.Nat.{pow-suc}
 use Rattle.std.proofs.Math.Pow.{pow_mono}

@@ -1,4 +1,4 @@
--- What is written is read back.
+-- A written number is read back.
 use Rattle.std.proofs.Common.{◌∙◌, ap, arith}
 use Rattle.byteorder.specs.Endian.{big_bytes}
 use Rattle.ebml_numbers.specs.Number.{uint_of}
