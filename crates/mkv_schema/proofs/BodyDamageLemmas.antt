@@ -1,4 +1,4 @@
--- What is wrong with a body, by where its Element stands.
+-- Laws on the damage of a body, by the place of its Element.
 use Rattle.std.proofs.Common.{◌≡◌, ◌==◌, ◌&&◌, ◌||◌, nat_lt, not, Bool, true, false, if◌then◌else◌, ℕ, Option, Some, None, refl, sym, ap, ◌∙◌, arith}
 use Rattle.std.proofs.lemmas.Bool.Decides.{nat_tests}
 use Rattle.mkv_schema.specs.declared.ids.TheConstants.{SEGMENT, CLUSTER}
@@ -8,8 +8,8 @@ use Rattle.mkv_schema.specs.declared.element.Header.{Header}
 use Rattle.mkv_schema.specs.Element.{Setting, at_level_0, in_segment, in_master, in_tree, anywhere, may_be_open, is_unknown, stated_end, body_damage}
 use Rattle.mkv_schema.specs.BodyDamage.{IsByPlace, DamagesAreByPlace}
 
--- The two by their tests: the size is unknown, the Element may be open here, its parent is read whole, it is
--- a Segment or a Cluster, it passes the file's end, its parent's, and that is the file's.
+-- Both definitions agree for all values of their seven tests. These are: an unknown size, an Element that may be open, a parent that is read
+-- whole, a Segment or a Cluster. Then: the end of the file is passed, the parent's end is passed, both ends are the same.
 by_tests : (unknown opens whole kind file parent same : Bool) → (opens ≡ true → kind ≡ true) → (opens ≡ true → whole ≡ false) → (same ≡ true → file ≡ parent)
     → (if unknown && not opens then Some UnknownSize else if not whole && file && (not kind || (not opens && same)) then Some Truncated else if parent && not (opens && same) then Some TooLong else None)
     ≡ (if opens then (if parent && not same then Some TooLong else None) else
@@ -41,7 +41,7 @@ by_tests false false false false true parent same kinds wholes ends = refl
 by_tests false false false false false true same kinds wholes ends = refl
 by_tests false false false false false false same kinds wholes ends = refl
 
--- where only a Segment or a Cluster may be open, and none in a master that is read whole
+-- They agree in a setting that lets only a Segment or a Cluster be open, and none in a master that is read whole.
 by_place : (s : Setting) → ((id : ℕ) → s.may_open id ≡ true → may_be_open id ≡ true) → ((id : ℕ) → s.may_open id ≡ true → s.read_whole ≡ false) → IsByPlace s
 by_place s kinds wholes total e h =
     by_tests (is_unknown h.size) (s.may_open h.id) s.read_whole (may_be_open h.id) (nat_lt total (stated_end h)) (nat_lt e (stated_end h)) (e == total)
@@ -55,7 +55,7 @@ or_right : (a b : Bool) → b ≡ true → (a || b) ≡ true
 or_right true b is = refl
 or_right false b is = is
 
--- where the parent ends with the file, a Segment's body isn't too long
+-- If the parent ends with the file, a Segment's body isn't too long.
 none : (segment passes same : Bool) (other : Option Kind) → segment ≡ true → same ≡ true → (if segment then (if passes && not same then Some TooLong else None) else other) ≡ None
 none true true true other is ends = refl
 none true false true other is ends = refl

@@ -1,4 +1,4 @@
--- What follows where an Element stands at a place.
+-- Laws on the Element at a place.
 use Rattle.std.proofs.Common.{zero, suc, ap₂, IfOk, ◌≡◌, ◌==◌, ◌&&◌, ◌∷◌, [], slice_index, nat_lt, not, Bool, true, false, if◌then◌else◌, ℕ, ◌+◌, ◌-◌, ◌≤◌, min, List, length, take, drop, Option, Some, None, Result, Ok, Err, refl, sym, ◌∙◌, ap, subst, arith}
 use Rattle.std.proofs.Math.Nat.{min_comm}
 use Rattle.std.proofs.lemmas.List.{length-take, length-drop, drop-take}
@@ -16,7 +16,7 @@ use Rattle.mkv_schema.specs.declared.element.Header.{Header}
 use Rattle.mkv_schema.specs.Placed.{StandsAt, IsWhole}
 use Rattle.mkv_schema.specs.Element.{Setting, octets_between, display_read, id_in, with_body, with_size, with_id, body_damage, element_in, element_at, has_unknown_size, is_truncated, is_too_long, is_unknown, stated_end}
 
--- the octets from a place on are as many as stand before the end
+-- The bytes between `p` and `e` are `e - p` if the file reaches to `e`.
 pub length-octets_between : (bytes : List ℕ) (p e : ℕ) → length (octets_between bytes p e) ≡ min e (length bytes) - p
 length-octets_between bytes p e = simp (length-drop, length-take)
 
@@ -37,7 +37,7 @@ placed_size s octets total p e id at h (Ok size) behind inside is found =
     let made : Header = record { id = id; offset = p; body = at + size.len; size = size.size } in
     placed_body p e made h (body_damage s total e made) (record { offset = refl; later = omega arith; within = omega arith }) found
 
--- an ID was read from octets that it doesn't pass
+-- An ID that was read has at most the bytes that are here.
 id_in-within : (s : Setting) (octets : List ℕ) (read : IdRead) → id_in s octets ≡ Ok read → read.len ≤ length octets
 id_in-within s octets read is = split (s.display && slice_index octets 0 == CHAPTER_DISPLAY) refl is
   where
@@ -66,7 +66,7 @@ element_at-placed s bytes p e h before_end found =
     let octets = length-octets_between bytes p e in
     element_in-placed s (octets_between bytes p e) (length bytes) p e h (omega arith) found
 
--- the same of whatever stands there
+-- The same for the result, whatever it is.
 pub element_in-is_placed : (s : Setting) (octets : List ℕ) (total p e : ℕ) → p + length octets ≤ e → IfOk (element_in s octets total p e) (StandsAt p e)
 element_in-is_placed s octets total p e inside =
     IfOk-each (StandsAt p e) (element_in s octets total p e) (λ h found. element_in-placed s octets total p e h inside found)
@@ -114,25 +114,25 @@ pub element_in-whole : (s : Setting) (octets : List ℕ) (total p e : ℕ) (h : 
 unfolding element_in
 element_in-whole s octets total p e h found = whole_id s octets total p e h (id_in s octets) found
 
--- the same of whatever stands there
+-- The same for the result, whatever it is.
 pub element_in-is_whole : (s : Setting) (octets : List ℕ) (total p e : ℕ) → IfOk (element_in s octets total p e) (IsWhole s e)
 element_in-is_whole s octets total p e = IfOk-each (IsWhole s e) (element_in s octets total p e) (λ h found. element_in-whole s octets total p e h found)
 
--- ---- twelve octets settle a header
+-- ---- twelve bytes settle a header
 
--- the first octet is the same
+-- The first byte is the same in a nonempty prefix.
 slice_index-take : (n : ℕ) (o : List ℕ) → slice_index (take (suc n) o) 0 ≡ slice_index o 0
 slice_index-take n [] = refl
 slice_index-take n (octet ∷ rest) = refl
 
--- four octets settle an ID
+-- Four bytes settle an ID.
 id_in-take : (s : Setting) (n : ℕ) (o : List ℕ) → id_in s (take (4 + n) o) ≡ id_in s o
 id_in-take s n o =
     let four : 4 + n ≡ suc (3 + n) = omega arith in
     let first : slice_index (take (4 + n) o) 0 ≡ slice_index o 0 = ap (λ m. slice_index (take m o) 0) four ∙ slice_index-take (3 + n) o in
     ap₂ (λ octet read. if s.display && octet == CHAPTER_DISPLAY then display_read else read) first (id_at-take (4 + n) o (omega arith))
 
--- an ID has at most four octets
+-- An ID has at most four bytes.
 id_in-few : (s : Setting) (octets : List ℕ) (read : IdRead) → id_in s octets ≡ Ok read → read.len ≤ 4
 id_in-few s octets read is = split (s.display && slice_index octets 0 == CHAPTER_DISPLAY) is
   where
@@ -140,7 +140,7 @@ id_in-few s octets read is = split (s.display && slice_index octets 0 == CHAPTER
     split true found = let len : 1 ≡ read.len = cc in omega arith
     split false found = (id_at-reads octets read found).few
 
--- eight octets behind an ID settle the size
+-- Eight bytes after an ID settle the size.
 with_id-take : (s : Setting) (n : ℕ) (o : List ℕ) (total p e : ℕ) (read : Result IdRead NumFault) → id_in s o ≡ read → with_id s (take (12 + n) o) total p e read ≡ with_id s o total p e read
 with_id-take s n o total p e (Err fault.Bad) is = refl
 with_id-take s n o total p e (Err (fault.More count)) is = refl
@@ -151,7 +151,7 @@ with_id-take s n o total p e (Ok id) is =
     (ap (λ m. size_at (drop id.len (take m o))) rest
     ∙ ap size_at (drop-take id.len (12 + n - id.len) o) ∙ size_at-take (12 + n - id.len) (drop id.len o) (omega arith))
 
--- so twelve octets or more are as good as all
+-- So twelve or more bytes give the same Element as all.
 pub element_in-take : (s : Setting) (n : ℕ) (o : List ℕ) (total p e : ℕ) → 12 ≤ n → element_in s (take n o) total p e ≡ element_in s o total p e
 unfolding element_in
 element_in-take s n o total p e enough =
@@ -161,7 +161,7 @@ element_in-take s n o total p e enough =
     ∙ ap (with_id s (take (12 + (n - 12)) o) total p e) (ap (λ m. id_in s (take m o)) less ∙ id_in-take s (8 + (n - 12)) o)
     ∙ with_id-take s (n - 12) o total p e (id_in s o) refl
 
--- the first of the first are the first of all
+-- A prefix of a prefix is a prefix of the list.
 pub take-take_min : (m n : ℕ) (l : List ℕ) → take m (take n l) ≡ take (min m n) l
 take-take_min zero n l = ap (λ k. take k l) (sym (min-zero n))
   where
@@ -180,7 +180,7 @@ take-take_min (suc m) (suc n) (x ∷ l) =
     let step : min (suc m) (suc n) ≡ suc (min m n) = omega arith in
     ap (λ rest. x ∷ rest) (take-take_min m n l) ∙ ap (λ k. take k (x ∷ l)) (sym step)
 
--- the octets before an end, as many as a header needs, tell what stands at a place
+-- The bytes that a header needs, up to the parent's end, settle the Element at a place.
 pub element_at-front : (s : Setting) (bytes : List ℕ) (p e n : ℕ) → p ≤ e → n ≡ min (e - p) 12 → element_in s (take n (drop p bytes)) (length bytes) p e ≡ element_at s bytes p e
 element_at-front s bytes p e n before_end is =
     ap (λ o. element_in s o (length bytes) p e) front ∙ element_in-take s 12 (octets_between bytes p e) (length bytes) p e (omega arith)

@@ -1,4 +1,4 @@
--- The Elements from a place on, one step at a time.
+-- The Elements from an offset on, one step at a time.
 use Rattle.std.proofs.Common.{◌≡◌, ℕ, zero, suc, ◌+◌, ◌-◌, ◌<◌, ◌≤◌, nat_lt, Bool, true, false, if◌then◌else◌, List, [], ◌∷◌, Option, Some, None, Result, Ok, Err, refl, sym, ◌∙◌, ap, arith}
 use Rattle.mkv_io.specs.declared.damage.Damage.{Damage}
 use Rattle.mkv_schema.specs.declared.element.Header.{Header}
@@ -9,13 +9,13 @@ use Rattle.mkv_schema.specs.Elements.{ends_segment}
 use Rattle.mkv_schema.specs.Order.{AscendFrom, Level1Ascends}
 use Rattle.mkv_schema.proofs.ElementLemmas.{element_at-placed}
 
--- What stands behind an Element stands behind its first octet.
+-- The function `next` gives an offset after the Element's first byte.
 pub record Advances (s : Setting) (next : Next) (bytes : List ℕ) (e : ℕ) : Type 0 where
   pub on : (p : ℕ) (h : Header) (q : ℕ) → p < e → element_at s bytes p e ≡ Ok h → next h ≡ Ok q → p < q
 
--- ---- more than enough room for Elements changes nothing
+-- ---- a larger bound changes nothing
 
--- what stands behind an Element is the same, where it is the same from any later place on
+-- The run after an Element is the same if all runs from later offsets are.
 behind-same : (p : ℕ) (h : Header) (q : Result ℕ Damage) (f g : ℕ → Run) → ((k : ℕ) → q ≡ Ok k → f k ≡ g k) → behind p h q f ≡ behind p h q g
 behind-same p h (Ok k) f g same = ap (in_front h) (same k refl)
 behind-same p h (Err d) f g same = refl
@@ -28,23 +28,23 @@ if-same : {A : Type 0} (test : Bool) (a b c : A) → b ≡ c → (if test then a
 if-same true a b c same = refl
 if-same false a b c same = same
 
--- at the end nothing stands any more
+-- At the end there are no more Elements.
 within-end : (n : ℕ) (s : Setting) (stops : ℕ → Bool) (next : Next) (bytes : List ℕ) (p e : ℕ) → nat_lt p e ≡ false → elements_within n s stops next bytes p e ≡ ends_at p
 unfolding elements_within
 within-end zero s stops next bytes p e past = refl
 within-end (suc n) s stops next bytes p e past = rw past refl
 
--- where there is room for none, nothing is listed
+-- A bound of zero lists nothing.
 within-zero : (s : Setting) (stops : ℕ → Bool) (next : Next) (bytes : List ℕ) (p e : ℕ) → elements_within zero s stops next bytes p e ≡ ends_at p
 unfolding elements_within
 within-zero s stops next bytes p e = refl
 
--- before it, an Element or a damage
+-- Before the end there is an Element or a damage.
 within-more : (n : ℕ) (s : Setting) (stops : ℕ → Bool) (next : Next) (bytes : List ℕ) (p e : ℕ) → nat_lt p e ≡ true → elements_within (suc n) s stops next bytes p e ≡ (if stops (id_of (element_at s bytes p e)) then ends_at p else step p next (element_at s bytes p e) (λ q. elements_within n s stops next bytes q e))
 unfolding elements_within
 within-more n s stops next bytes p e before_end = rw before_end refl
 
--- any two bounds that allow an Element for each octet give the same
+-- Any two bounds of at least `e - p` give the same run.
 within-same : (n m : ℕ) (s : Setting) (stops : ℕ → Bool) (next : Next) (bytes : List ℕ) (p e : ℕ) → Advances s next bytes e → e - p ≤ n → e - p ≤ m → elements_within n s stops next bytes p e ≡ elements_within m s stops next bytes p e
 within-same zero m s stops next bytes p e advances few enough =
     within-end zero s stops next bytes p e (grind arith) ∙ sym (within-end m s stops next bytes p e (grind arith))
@@ -68,12 +68,12 @@ within-same (suc n) (suc m) s stops next bytes p e advances few enough =
 
 -- ---- the two laws of a list of Elements
 
--- At the end nothing stands any more.
+-- At the end there are no more Elements.
 pub elements-end : (s : Setting) (stops : ℕ → Bool) (next : Next) (bytes : List ℕ) (p e : ℕ) → e ≤ p → elements s stops next bytes p e ≡ ends_at p
 unfolding elements
 elements-end s stops next bytes p e past = within-end (e - p) s stops next bytes p e (grind arith)
 
--- Before it stands an Element, with what is behind it, or a damage, or an ID that ends the list.
+-- Before the end there is an Element and a run after it, or a damage, or an ID that ends the list.
 pub elements-more : (s : Setting) (stops : ℕ → Bool) (next : Next) (bytes : List ℕ) (p e : ℕ) → Advances s next bytes e → p < e → elements s stops next bytes p e ≡ (if stops (id_of (element_at s bytes p e)) then ends_at p else step p next (element_at s bytes p e) (λ q. elements s stops next bytes q e))
 unfolding elements
 elements-more s stops next bytes p e advances inside =
@@ -83,9 +83,9 @@ elements-more s stops next bytes p e advances inside =
     (step-same p next (element_at s bytes p e) _ _
     (λ h k found goes. let later = advances.on p h k inside found goes in within-same (e - p) (e - k) s stops next bytes k e advances (omega arith) (omega arith)))
 
--- ---- where the Elements end
+-- ---- the end of the Elements
 
--- With room for one more, where the others end behind their places, so do these.
+-- If each run with the bound `n` ends at its start or after it, so does each run with the bound `n + 1`.
 end_of_more : (n : ℕ) (s : Setting) (stops : ℕ → Bool) (next : Next) (bytes : List ℕ) (p e : ℕ) → Advances s next bytes e → ((k : ℕ) → k ≤ (elements_within n s stops next bytes k e).end) → p ≤ (elements_within (suc n) s stops next bytes p e).end
 end_of_more n s stops next bytes p e advances further = split (nat_lt p e) refl
   where
@@ -108,25 +108,25 @@ end_of_more n s stops next bytes p e advances further = split (nat_lt p e) refl
     split false past = rw (within-end (suc n) s stops next bytes p e past) (omega arith)
     split true inside = rw (within-more n s stops next bytes p e inside) (stopped (stops (id_of (element_at s bytes p e))) (grind arith))
 
--- so do they with any room
+-- So does a run with any bound.
 end-within : (n : ℕ) (s : Setting) (stops : ℕ → Bool) (next : Next) (bytes : List ℕ) (p e : ℕ) → Advances s next bytes e → p ≤ (elements_within n s stops next bytes p e).end
 end-within zero s stops next bytes p e advances = rw (within-zero s stops next bytes p e) (omega arith)
 end-within (suc n) s stops next bytes p e advances =
     end_of_more n s stops next bytes p e advances (λ k. end-within n s stops next bytes k e advances)
 
--- The Elements end behind the place where they begin.
+-- A run of Elements ends at its start or after it.
 pub elements-end_of : (s : Setting) (stops : ℕ → Bool) (next : Next) (bytes : List ℕ) (p e : ℕ) → Advances s next bytes e → p ≤ (elements s stops next bytes p e).end
 unfolding elements
 elements-end_of s stops next bytes p e advances = end-within (e - p) s stops next bytes p e advances
 
--- ---- the Elements stand one behind the other
+-- ---- the order of the Elements
 
--- what ascends from a place on does so from an earlier one
+-- Elements that ascend from `q` ascend from an earlier offset `p` too.
 pub AscendFrom-later : (p q : ℕ) (list : List Header) → p ≤ q → AscendFrom q list → AscendFrom p list
 AscendFrom-later p q [] later ascends = tt
 AscendFrom-later p q (h ∷ hs) later ascends = (omega (arith, ascends.0), ascends.1)
 
--- With room for one more, where the others ascend from their places, so do these.
+-- If each run with the bound `n` ascends from its start, so does each run with the bound `n + 1`.
 ascend_of_more : (n : ℕ) (s : Setting) (stops : ℕ → Bool) (next : Next) (bytes : List ℕ) (p e : ℕ) → Advances s next bytes e → ((k : ℕ) → AscendFrom k (elements_within n s stops next bytes k e).list) → AscendFrom p (elements_within (suc n) s stops next bytes p e).list
 ascend_of_more n s stops next bytes p e advances further = split (nat_lt p e) refl
   where
@@ -153,20 +153,20 @@ ascend_of_more n s stops next bytes p e advances further = split (nat_lt p e) re
     split false past = rw (within-end (suc n) s stops next bytes p e past) tt
     split true inside = rw (within-more n s stops next bytes p e inside) (stopped (stops (id_of (element_at s bytes p e))) (grind arith))
 
--- so do they with any room
+-- So does a run with any bound.
 ascend-within : (n : ℕ) (s : Setting) (stops : ℕ → Bool) (next : Next) (bytes : List ℕ) (p e : ℕ) → Advances s next bytes e → AscendFrom p (elements_within n s stops next bytes p e).list
 ascend-within zero s stops next bytes p e advances = rw (within-zero s stops next bytes p e) tt
 ascend-within (suc n) s stops next bytes p e advances =
     ascend_of_more n s stops next bytes p e advances (λ k. ascend-within n s stops next bytes k e advances)
 
--- The places of the Elements ascend.
+-- The offsets of the Elements ascend.
 pub elements-ascend : (s : Setting) (stops : ℕ → Bool) (next : Next) (bytes : List ℕ) (p e : ℕ) → Advances s next bytes e → AscendFrom p (elements s stops next bytes p e).list
 unfolding elements
 elements-ascend s stops next bytes p e advances = ascend-within (e - p) s stops next bytes p e advances
 
 -- ---- the lists of this crate advance
 
--- behind an Element of known size
+-- An Element of known size ends after its first byte.
 pub Advances-known : (s : Setting) (bytes : List ℕ) (e : ℕ) → Advances s (λ h. Ok (end_in e h)) bytes e
 Advances-known s bytes e = record {
   on = λ p h q before_end found goes.
@@ -176,7 +176,7 @@ Advances-known s bytes e = record {
       grind arith;
 }
 
--- behind an Element of a Segment, which may be a Cluster of unknown size
+-- So does an Element of a Segment, which may be a Cluster of unknown size.
 pub Advances-segment : (bytes : List ℕ) (e : ℕ) → Advances in_segment (behind_in_segment bytes e) bytes e
 Advances-segment bytes e = record {
   on = λ p h q before_end found goes.
@@ -197,7 +197,7 @@ Advances-segment bytes e = record {
         let is : end_in e h ≡ q = cc in
         grind arith
 
--- so the places of the Elements of level 1 ascend
+-- So the offsets of the Elements of level 1 ascend.
 pub level_1-ascends : Level1Ascends
 level_1-ascends bytes size p e =
     elements-ascend in_segment (ends_segment size) (behind_in_segment bytes e) bytes p e (Advances-segment bytes e)

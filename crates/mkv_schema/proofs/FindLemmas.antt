@@ -4,7 +4,7 @@ use Rattle.std.specs.Option.{option_map}
 use Rattle.std.specs.List.{list_all}
 use denote.Ref.{Bor}
 
--- What is found among the images is the image of what is found.
+-- The first image that passes a test is the image of the first element whose image does.
 pub find-map : {A B : Type 0} (f : A → B) (p : B → Bool) (xs : List A) → option_map f (find (λ x. p (f x)) xs) ≡ find p (map f xs)
 find-map f p [] = refl
 find-map f p (x ∷ xs) =
@@ -13,12 +13,12 @@ find-map f p (x ∷ xs) =
       | false ↦ find-map f p xs
     ]
 
--- To read through a reference and to show is to show what the reference points to.
+-- Reading through a reference commutes with a function on the value.
 pub option_map-map : {A B : Type 0} (f : A → B) (o : Option (Bor A)) → option_map (λ (r : Bor A). f r.now) o ≡ option_map f (option_map (λ (r : Bor A). r.now) o)
 option_map-map f None = refl
 option_map-map f (Some r) = refl
 
--- What is found passes the test that was asked.
+-- The element that `find` returns passes the test.
 pub find-passes : {A : Type 0} (p : A → Bool) (xs : List A) (x : A) → find p xs ≡ Some x → p x ≡ true
 find-passes p [] x found = (cc)
 find-passes p (y ∷ ys) x found =
@@ -29,7 +29,7 @@ find-passes p (y ∷ ys) x found =
     ] in
     here (p y) refl found
 
--- What is found passes each test that all pass.
+-- The element that `find` returns passes each test that all elements pass.
 pub find-all_pass : {A : Type 0} (q p : A → Bool) (xs : List A) (x : A) → list_all q xs ≡ true → find p xs ≡ Some x → q x ≡ true
 find-all_pass q p [] x all found = (cc)
 find-all_pass q p (y ∷ ys) x all found =

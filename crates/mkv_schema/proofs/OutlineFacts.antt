@@ -1,4 +1,4 @@
--- Outlines of small files, computed, so that a wrong definition does not check.
+-- Computed outlines of small files. A wrong definition fails here.
 use Rattle.std.proofs.Common.{◌≡◌, ℕ, [], ◌∷◌, ◌++◌, List, take, slice_set, replicate, Option, Some, None, Result, Ok, Err, refl}
 use Rattle.std.specs.Int.Count.{count_leading_zeros}
 use Rattle.std.specs.Str.{is_utf8, chars}
@@ -16,8 +16,7 @@ use Rattle.mkv_schema.specs.Element.{element_in, element_at, anywhere, in_tree, 
 use Rattle.mkv_schema.specs.Elements.{elements, elements_within}
 use Rattle.mkv_schema.specs.Outline.{Outlined, outline_of, ebml_header, segment_of}
 
--- what a reader of these files wants to know of an outline: ID, place and size of the Segment and of
--- each Element of level 1, the damage, and the end
+-- the parts of an outline that are compared: the Segment's size; ID, offset and size of each Element of level 1; the damage; and the end
 pub record Shown : Type 0 where
   pub segment : Size
   pub list : List (ℕ × ℕ × Size)
@@ -35,11 +34,11 @@ abbrev shown : Result Outlined Damage → Result Shown Damage
 shown (Err d) = Err d
 shown (Ok o) = Ok (record { segment = o.segment.size; list = shown_list o.list; damage = o.damage; end = o.end })
 
--- an outline, of a Segment of this size, with these Elements, and no damage
+-- the outline with this size of the Segment, these Elements and no damage
 abbrev whole : Size → List (ℕ × ℕ × Size) → ℕ → Result Shown Damage
 whole size list end = Ok (record { segment = size; list = list; damage = None; end = end })
 
--- the same, with a damage
+-- the same with the damage `d`
 abbrev damaged : Size → List (ℕ × ℕ × Size) → Damage → ℕ → Result Shown Damage
 damaged size list d end = Ok (record { segment = size; list = list; damage = Some d; end = end })
 
@@ -49,34 +48,34 @@ outline bytes = shown (outline_of 0 bytes)
 abbrev refused : Kind → ℕ → ℕ → Result Shown Damage
 refused kind id offset = Err (damage kind id offset)
 
--- an EBML header of 16 octets with the DocType `matroska`
+-- an EBML header of 16 bytes with the DocType `matroska`
 abbrev header : List ℕ
 header =
     0x1A ∷ 0x45 ∷ 0xDF ∷ 0xA3 ∷ 0x8B ∷ 0x42 ∷ 0x82 ∷ 0x88 ∷ 0x6D ∷ 0x61 ∷ 0x74 ∷ 0x72 ∷ 0x6F ∷ 0x73 ∷ 0x6B ∷ 0x61 ∷ []
 
--- the same, whose DocType has three zero octets at its end
+-- the same with three zero bytes at the end of its DocType
 abbrev header_with_zeros : List ℕ
 header_with_zeros =
     0x1A ∷ 0x45 ∷ 0xDF ∷ 0xA3 ∷ 0x8E ∷ 0x42 ∷ 0x82 ∷ 0x8B ∷ 0x6D ∷ 0x61 ∷ 0x74 ∷ 0x72 ∷ 0x6F ∷ 0x73 ∷ 0x6B ∷ 0x61 ∷
     0 ∷ 0 ∷ 0 ∷ []
 
--- Tracks of 25 octets, with one audio track
+-- a Tracks of 25 bytes with one audio track
 abbrev tracks : List ℕ
 tracks =
     0x16 ∷ 0x54 ∷ 0xAE ∷ 0x6B ∷ 0x94 ∷ 0xAE ∷ 0x92 ∷ 0xD7 ∷ 0x81 ∷ 1 ∷ 0x73 ∷ 0xC5 ∷ 0x81 ∷ 5 ∷ 0x83 ∷ 0x81 ∷
     2 ∷ 0x86 ∷ 0x86 ∷ 0x41 ∷ 0x5F ∷ 0x4F ∷ 0x50 ∷ 0x55 ∷ 0x53 ∷ []
 
--- a Timestamp and two SimpleBlocks, 17 octets
+-- a Timestamp and two SimpleBlocks, 17 bytes
 abbrev cluster_body : List ℕ
 cluster_body =
     0xE7 ∷ 0x81 ∷ 0 ∷ 0xA3 ∷ 0x85 ∷ 0x81 ∷ 0 ∷ 0 ∷ 0x80 ∷ 0xAA ∷ 0xA3 ∷ 0x85 ∷ 0x81 ∷ 0 ∷ 0x14 ∷ 0x80 ∷
     0xBB ∷ []
 
--- the header, a Segment with Tracks and a Cluster: 68 octets
+-- the header and a Segment with Tracks and a Cluster: 68 bytes
 abbrev small : List ℕ
 small = header ++ (0x18 ∷ 0x53 ∷ 0x80 ∷ 0x67 ∷ 0xAF ∷ []) ++ tracks ++ (0x1F ∷ 0x43 ∷ 0xB6 ∷ 0x75 ∷ 0x91 ∷ []) ++ cluster_body
 
--- the same as it is streamed, with unknown sizes, and Cues behind it: 87 octets
+-- the same as a live stream: unknown sizes, and Cues at the end; 87 bytes
 abbrev streamed : List ℕ
 streamed =
     header ++ (0x18 ∷ 0x53 ∷ 0x80 ∷ 0x67 ∷ 1 ∷ replicate 7 0xFF) ++ tracks
@@ -98,11 +97,11 @@ pub outlines : AreOutlines
 unfolding is_utf8 chars encode outline_of ebml_header segment_of elements elements_within element_in id_at size_at entry_of table count_leading_zeros
 outlines = record { segment_alone = refl; zeros_behind_text = refl; small_file = refl; streamed_file = refl }
 
--- the small file with one octet set anew
+-- the small file with the byte `octet` at the offset `at`
 abbrev with_octet : ℕ → ℕ → List ℕ
 with_octet at octet = slice_set small at octet
 
--- the first octets of the small file
+-- the outline of the first `n` bytes of the small file
 abbrev cut : ℕ → Result Shown Damage
 cut n = outline (take n small)
 
@@ -133,7 +132,7 @@ refusals = record {
   other_doc_type = refl;
 }
 
--- a file that the end cuts where an Element ends is whole; elsewhere what is cut is its damage
+-- A file that is cut after an Element is whole. A cut elsewhere is a damage.
 pub record AreDamages : Type 0 where
   pub unknown_segment : outline (with_octet 20 0xFF) ≡ whole Unknown (tracks_at 21 ∷ cluster_at 46 (Known 17) ∷ []) 68
   pub bad_id_first : outline (with_octet 21 0) ≡ damaged (Known 47) [] (damage BadId 0 21) 68
@@ -159,7 +158,7 @@ damages = record {
   cut_in_cluster = refl;
 }
 
--- Elements at a place: the octet `80` in a ChapterAtom and elsewhere, and a body that passes its parent's end.
+-- Elements at a place: the byte `80` in a ChapterAtom and elsewhere, and a body that passes its parent's end.
 pub record AreElements : Type 0 where
   pub display : element_at (in_tree 0xB6) (0x80 ∷ 0x80 ∷ []) 0 2 ≡ Ok (record { id = 0x80; offset = 0; body = 2; size = Known 0 })
   pub no_display : element_at (in_tree 0x45B9) (0x80 ∷ 0x80 ∷ []) 0 2 ≡ Err (damage BadId 0 0)

@@ -1,4 +1,4 @@
--- What stood behind an answer, and what limits leave of one.
+-- Laws on results in sequence, and on the limits of an outline.
 use Rattle.std.proofs.Common.{◌≡◌, ℕ, List, Option, Some, None, [], ◌∷◌, Result, Ok, Err, refl, ◌∙◌, ap}
 use Rattle.mkv_io.specs.declared.damage.Damage.{Damage}
 use Rattle.mkv_schema.specs.declared.element.Header.{Header}
@@ -7,22 +7,22 @@ use Rattle.mkv_schema.specs.Outline.{first_damage, over, header_causes, children
 use Rattle.mkv_io.specs.Results.{and_then, unless}
 use Rattle.mkv_schema.specs.WithoutLimits.{header_without_limit, outline_without_limits, LimitsOnlyRefuse}
 
--- what was made of a value was made of one that was found
+-- A value of `and_then` was made of a value that was found.
 pub and_then-ok : {A B : Type 0} (found : Result A Damage) (more : A → Result B Damage) (y : B) → and_then found more ≡ Ok y → (x : A) × ((found ≡ Ok x) × (more x ≡ Ok y))
 and_then-ok (Ok x) more y is = (x, (refl, is))
 and_then-ok (Err d) more y is = absurd (cc)
 
--- nothing refused a value that was answered
+-- If `unless` returns a value, there was no refusal.
 pub unless-ok : {A : Type 0} (refusal : Option Damage) (x y : A) → unless refusal x ≡ Ok y → (refusal ≡ None) × (x ≡ y)
 unless-ok None x y is = (refl, cc)
 unless-ok (Some d) x y is = absurd (cc)
 
--- where no cause stands, none of the later ones does
+-- If a list of causes has none, neither has its rest.
 pub first_damage-rest : (cause : Option Damage) (causes : List (Option Damage)) → first_damage (cause ∷ causes) ≡ None → first_damage causes ≡ None
 first_damage-rest None causes none = none
 first_damage-rest (Some d) causes none = absurd (cc)
 
--- a header that is read with a limit is read without one
+-- A header that is read with a limit is read without one.
 header-without_limit : (bytes : List ℕ) (h : Header) → ebml_header bytes ≡ Ok h → header_without_limit bytes ≡ Ok h
 unfolding ebml_header
 header-without_limit bytes h is =
@@ -32,7 +32,7 @@ header-without_limit bytes h is =
     ap (λ r. and_then r (λ x. unless (first_damage (children_causes bytes (header_children bytes x))) x)) first.1.0
     ∙ ap (λ c. unless c first.0) none ∙ ap (λ x. Ok x) good.1
 
--- the limits of a reader only refuse
+-- The limits of a reader only refuse files.
 pub limits-only_refuse : LimitsOnlyRefuse
 unfolding outline_of outline_without_limits
 limits-only_refuse held bytes o is =

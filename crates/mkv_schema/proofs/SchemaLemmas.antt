@@ -1,4 +1,4 @@
--- What holds of each row of the table. A rule is a test that is computed over the whole table.
+-- Rules that each row of the table fulfils. A rule is a test that is computed for the whole table.
 use Rattle.std.proofs.Common.{◌≡◌, ◌≢◌, ◌==◌, ◌||◌, ◌↔◌, ℕ, Bool, true, false, not, nat_eq, Option, Some, None, IsSome, IfSome, IsTrue, refl, ap, eqb-true, sym, ◌∙◌, ◌&&◌, ◌<◌, ◌^◌, nat_lt, All, slice_index_or}
 use borrow.Author.Tests.{ltb-true}
 use Rattle.std.proofs.lemmas.List.Sums.{AllPass-from_list_all}
@@ -50,7 +50,7 @@ unfolding table
 table_ids-below = λ k d within.
     ltb-true (slice_index_or table_ids k d) (2 ^ 32) (AllPass-from_list_all (λ n. nat_lt n (2 ^ 32)) table_ids refl k d within)
 
--- ---- Every ID is valid, but for ChapterDisplay's
+-- ---- Every ID except ChapterDisplay's is valid
 
 abbrev pub has_valid_id : Entry → Bool
 has_valid_id e = e.id == CHAPTER_DISPLAY || is_id e.id
@@ -112,9 +112,9 @@ pub table-level1 : list_all is_master_at_level1 table ≡ true
 unfolding table
 table-level1 = refl
 
--- ---- What the rules say of an ID
+-- ---- The rules, for the row of an ID
 
--- What holds where an ID has no row, and with each row that it may have, holds.
+-- A property holds for the row of an ID if it holds for no row, and for each row that the ID may have.
 pub of_entry : (P : Option Entry → Type 0) (id : ℕ) →
     P None → ((e : Entry) → entry_of id ≡ Some e → P (Some e)) → P (entry_of id)
 of_entry P id none some = at (entry_of id) refl
@@ -123,7 +123,7 @@ of_entry P id none some = at (entry_of id) refl
     at None found = none
     at (Some e) found = some e found
 
--- the answers of the table where the row is the one given
+-- results of the look-ups for a given row
 abbrev kind_in : Option Entry → Option ElementKind
 kind_in o = option_map (λ e. e.kind) o
 
@@ -139,7 +139,7 @@ is_level1_in o = option_map_or (λ e. is_child_of SEGMENT e.parents) o false
 abbrev may_stand_in : ℕ → ℕ → Option Entry → Bool
 may_stand_in id parent o = option_map_or (λ e. allows e.parents id parent) o false
 
--- What has the ID of an ID's row has this ID.
+-- A value with the same ID as the row of `id` has the ID `id`.
 pub IfSome-same_id : {A : Type 0} (id_in : A → ℕ) (o : Option A) (id : ℕ) →
     option_map id_in o ≡ option_map (λ (e : Entry). e.id) (entry_of id) → IfSome o (λ x. id_in x ≡ id)
 IfSome-same_id id_in None id same = tt
@@ -149,7 +149,7 @@ IfSome-same_id id_in (Some x) id same =
     (λ e found same. let here : e.id ≡ id = entry_of-id id e found in (cc))
     same
 
--- Every ID of the table but ChapterDisplay's is a valid Element ID.
+-- Every ID of the table except ChapterDisplay's is a valid Element ID.
 pub is_id-kind_of : (id : ℕ) → IsSome (kind_of id) → id ≢ CHAPTER_DISPLAY → IsTrue (is_id id)
 is_id-kind_of id known other = of_entry (λ (o : Option Entry). IsSome (kind_in o) → IsTrue (is_id id)) id (λ known. (cc)) at known
   where
@@ -174,7 +174,7 @@ is_written_id-kind_of id known = of_entry (λ (o : Option Entry). IsSome (kind_i
         let written : has_written_id e ≡ true = entry_of-passes has_written_id table-written id e found in
         rw (← same) written
 
--- A master's ID is one whose kind is Master.
+-- An ID is a master if and only if its kind is Master.
 pub is_master-kind_of : (id : ℕ) → IsTrue (is_master id) ↔ (kind_of id ≡ Some Master)
 is_master-kind_of id =
     of_entry (λ (o : Option Entry). IsTrue (is_master_in o) ↔ (kind_in o ≡ Some Master)) id
@@ -185,7 +185,7 @@ is_master-kind_of id =
     of_kind Master = (λ is. refl, λ is. refl)
     of_kind _ = (λ is. (cc), λ is. (cc))
 
--- Only an Unsigned Integer has a number for its default.
+-- Only an Unsigned Integer has a number as its default.
 pub kind_of-uint_default : (id : ℕ) → IsSome (uint_default id) → kind_of id ≡ Some Uint
 kind_of-uint_default id given =
     of_entry (λ (o : Option Entry). IsSome (option_and_then (λ (e : Entry). option_and_then number_in e.default) o) → kind_in o ≡ Some Uint) id
@@ -199,7 +199,7 @@ kind_of-uint_default id given =
     of_kind k (Some (text_value t)) fits given = (cc)
     of_kind k (Some (number_value n)) fits given = (cc)
 
--- Only a String has a text for its default.
+-- Only a String has a text as its default.
 pub kind_of-text_default : (id : ℕ) → IsSome (text_default id) → kind_of id ≡ Some Ascii
 kind_of-text_default id given =
     of_entry (λ (o : Option Entry). IsSome (option_and_then (λ (e : Entry). option_and_then text_in e.default) o) → kind_in o ≡ Some Ascii) id
@@ -254,7 +254,7 @@ is_master-is_level1 id level =
     (λ e found level. implied (is_child_of SEGMENT e.parents) (is_master_kind e.kind) (entry_of-passes is_master_at_level1 table-level1 id e found) level)
     level
 
--- The laws, for the search.
+-- The laws that the prover's search uses.
 pub ruleset laws = (
   table_ids-distinct,
   table_ids-below,

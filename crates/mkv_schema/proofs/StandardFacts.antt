@@ -1,4 +1,4 @@
--- What the standards say of some Elements, computed from the table.
+-- Facts of the standards on some Elements, computed from the table.
 use Rattle.std.proofs.Common.{◌≡◌, true, false, [], ◌∷◌, filter, Some, None, codes, refl}
 use Rattle.mkv_schema.specs.declared.ids.TheConstants.{EBML, CRC_32, VOID, SEGMENT, SEEK_HEAD, INFO, TIMESTAMP_SCALE, CLUSTER, SIMPLE_BLOCK, BLOCK_GROUP, BLOCK, TRACKS, TRACK_ENTRY, TRACK_NUMBER, LANGUAGE, LANGUAGE_BCP47, CHANNELS, CUES, ATTACHMENTS, CHAPTERS, EDITION_ENTRY, CHAPTER_ATOM, CHAP_LANGUAGE, TAGS, SIMPLE_TAG}
 use Rattle.mkv_schema.specs.declared.kind.ElementKind.TheVariants.{Master, Binary}
@@ -31,7 +31,7 @@ pub kind_of-simple_block : kind_of SIMPLE_BLOCK ≡ Some Binary
 unfolding entry_of table
 kind_of-simple_block = refl
 
--- Void's ID with one bit more is none of the table.
+-- Void's ID with one more bit isn't in the table.
 pub kind_of-0xED : kind_of 0xED ≡ None
 unfolding entry_of table
 kind_of-0xED = refl
@@ -44,7 +44,7 @@ pub may_stand-block : may_stand BLOCK CLUSTER ≡ false
 unfolding entry_of table
 may_stand-block = refl
 
--- A ChapterAtom holds further ones (RFC 9559, section 5.1.7, Chapters Element), and so does a SimpleTag.
+-- A ChapterAtom may contain others (RFC 9559, section 5.1.7, Chapters Element), and so may a SimpleTag.
 pub may_stand-chapter_atom : may_stand CHAPTER_ATOM CHAPTER_ATOM ≡ true
 unfolding entry_of table
 may_stand-chapter_atom = refl
@@ -57,7 +57,7 @@ pub may_stand-edition_entry : may_stand EDITION_ENTRY EDITION_ENTRY ≡ false
 unfolding entry_of table
 may_stand-edition_entry = refl
 
--- A Global Element stands in every master, and in no other Element (RFC 8794, section 11.3, Global Elements).
+-- A Global Element may be in every master, and in no other Element (RFC 8794, section 11.3, Global Elements).
 pub may_stand-void : may_stand VOID TRACK_ENTRY ≡ true
 unfolding entry_of table
 may_stand-void = refl

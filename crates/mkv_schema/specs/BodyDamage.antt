@@ -1,4 +1,5 @@
--- What is wrong with a body, by where its Element stands: RFC 8794, sections 6 (Element Data Size) and 6.2 (Unknown Data Size), and RFC 9559, section 5.1 (Segment Element).
+-- The damage of a body, by the place of its Element: RFC 8794, sections 6 (Element Data Size) and 6.2 (Unknown Data Size), and RFC 9559, section
+-- 5.1 (Segment Element).
 use Rattle.std.specs.Prelude.{◌≡◌, ℕ, ◌==◌, nat_lt, not, ◌&&◌, if◌then◌else◌, Option, Some, None}
 use Rattle.mkv_schema.specs.declared.ids.TheConstants.{SEGMENT}
 use Rattle.mkv_io.specs.declared.damage.Kind.{Kind}
@@ -6,31 +7,32 @@ use Rattle.mkv_io.specs.declared.damage.Kind.TheVariants.{TooLong, Truncated, Un
 use Rattle.mkv_schema.specs.declared.element.Header.{Header}
 use Rattle.mkv_schema.specs.Element.{Setting, at_level_0, in_segment, in_master, in_tree, anywhere, may_be_open, is_unknown, stated_end, body_damage}
 
--- In a file of `total` octets, an Element's parent ends at e, with the file or before.
+-- In each definition `total` is the length of the file in bytes, and `e` the end of the Element's parent, at most `total`.
 
--- A Segment at level 0 and a Cluster in its Segment may have an unknown size, and the end of the file may
--- cut them. Another end of the parent may not.
+-- the damage of a Segment at level 0, or of a Cluster in its Segment. Its size may be unknown, and only the end of the file may cut it.
 abbrev pub damage_of_open : ℕ → ℕ → Header → Option Kind
 damage_of_open total e h = if nat_lt e (stated_end h) && not (e == total) then Some TooLong else None
 
--- An Element of a master that is read whole states its size, and ends with its parent or before.
+-- the damage of an Element of a master that is read whole. Its size must be known, and it must end with its parent or before.
 abbrev pub damage_in_tree : ℕ → Header → Option Kind
 damage_in_tree e h = if is_unknown h.size then Some UnknownSize else if nat_lt e (stated_end h) then Some TooLong else None
 
--- A Segment or a Cluster elsewhere does so too. Where its parent ends with the file, it is the file that cuts it.
+-- the damage of a Segment or a Cluster elsewhere. Its size must be known, and it must end with its parent or before. If its parent ends with the
+-- file, it is truncated.
 abbrev pub damage_of_misplaced : ℕ → ℕ → Header → Option Kind
 damage_of_misplaced total e h =
     if is_unknown h.size then Some UnknownSize else
     if nat_lt e (stated_end h) then Some (if e == total then Truncated else TooLong) else None
 
--- Any other Element does so too. Where it passes the end of the file, it is the file that cuts it.
+-- the damage of any other Element. Its size must be known, and it must end with its parent or before. If it passes the end of the file, it is
+-- truncated.
 abbrev pub damage_of_other : ℕ → ℕ → Header → Option Kind
 damage_of_other total e h =
     if is_unknown h.size then Some UnknownSize else
     if nat_lt total (stated_end h) then Some Truncated else
     if nat_lt e (stated_end h) then Some TooLong else None
 
--- what is wrong with a body, by where its Element stands
+-- the damage of a body, by the place of its Element
 abbrev pub damage_by_place : Setting → ℕ → ℕ → Header → Option Kind
 damage_by_place s total e h =
     if s.may_open h.id then damage_of_open total e h else
@@ -41,8 +43,7 @@ damage_by_place s total e h =
 abbrev pub IsByPlace : Setting → Type 0
 IsByPlace s = (total e : ℕ) (h : Header) → body_damage s total e h ≡ damage_by_place s total e h
 
--- This is what is wrong with a body, wherever an Element may stand. At level 0, where the file is the
--- parent, nothing is wrong with that of a Segment.
+-- In each setting this is the damage of a body. At level 0, whose parent is the file, a Segment's body has no damage.
 pub record DamagesAreByPlace : Type 0 where
   pub level_0 : IsByPlace at_level_0
   pub segment : IsByPlace in_segment

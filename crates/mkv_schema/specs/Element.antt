@@ -13,16 +13,16 @@ use Rattle.mkv_io.specs.declared.damage.Kind.{Kind}
 use Rattle.mkv_io.specs.declared.damage.Kind.TheVariants.{BadId, BadSize, TooLong, Truncated, UnknownSize}
 use Rattle.mkv_schema.specs.declared.element.Header.{Header}
 
--- ---- where an Element stands
+-- ---- the place of an Element
 
--- Where an Element stands: which IDs may have an unknown size here or be cut by the end of the file;
--- whether the octet `80` is an ID here; and whether its parent is read whole, as a tree.
+-- The place of an Element in the file. An ID that passes `may_open` may be open here: it may have an unknown size, or be cut by the end of the
+-- file. If `display` is true, the byte `80` is an ID here. If `read_whole` is true, the parent is read whole, as a tree.
 pub record Setting : Type 0 where
   pub may_open : ℕ → Bool
   pub display : Bool
   pub read_whole : Bool
 
--- at the start of the file, or behind an Element there: a Segment may be open
+-- at the start of the file, or after an Element at level 0: a Segment may be open
 abbrev pub at_level_0 : Setting
 at_level_0 = record { may_open = λ id. id == SEGMENT; display = false; read_whole = false }
 
@@ -34,26 +34,26 @@ in_segment = record { may_open = λ id. id == CLUSTER; display = false; read_who
 abbrev pub in_master : Setting
 in_master = record { may_open = λ id. false; display = false; read_whole = false }
 
--- Directly in a master that is read whole. RFC 9559 gives ChapterDisplay the ID `80`, which RFC 8794
--- doesn't allow; in a ChapterAtom it is read as that.
+-- directly in the master `parent`, which is read whole. RFC 9559 gives ChapterDisplay the ID `80`, which RFC 8794 doesn't allow; in a ChapterAtom
+-- it is read as this ID.
 abbrev pub in_tree : ℕ → Setting
 in_tree parent = record { may_open = λ id. false; display = parent == CHAPTER_ATOM; read_whole = true }
 
--- as if every Segment and every Cluster stood where it may be open
+-- the setting that lets every Segment and every Cluster be open
 abbrev pub anywhere : Setting
 anywhere = record { may_open = λ id. id == SEGMENT || id == CLUSTER; display = false; read_whole = false }
 
--- ---- what its header says
+-- ---- the fields of its header
 
--- the octets from a place on, up to an end
+-- the bytes from the offset `p` up to the offset `e`
 abbrev pub octets_between : List ℕ → ℕ → ℕ → List ℕ
 octets_between bytes p e = drop p (take e bytes)
 
--- ChapterDisplay's ID, read from its one octet
+-- the result of reading ChapterDisplay's ID from its one byte
 abbrev pub display_read : Result IdRead NumFault
 display_read = Ok (record { id = CHAPTER_DISPLAY; len = 1 })
 
--- the ID at the front of octets
+-- the result of reading an ID at the start of the bytes, in the setting `s`
 abbrev pub id_in : Setting → List ℕ → Result IdRead NumFault
 id_in s octets = if s.display && slice_index octets 0 == CHAPTER_DISPLAY then display_read else id_at octets
 
@@ -61,49 +61,49 @@ abbrev pub is_unknown : Size → Bool
 is_unknown (Known n) = false
 is_unknown Unknown = true
 
--- the octets of a body whose size is known
+-- the number of bytes of a body with a known size, or 0
 abbrev pub known : Size → ℕ
 known (Known n) = n
 known Unknown = 0
 
--- the place behind an Element's last octet, as its header states it
+-- the offset after an Element's last byte, by its header
 abbrev pub stated_end : Header → ℕ
 stated_end h = h.body + known h.size
 
--- the same, for a Segment or a Cluster that the end of the file cuts
+-- the same for a Segment or a Cluster that the end of the file may cut
 abbrev pub end_in : ℕ → Header → ℕ
 end_in e h = min (stated_end h) e
 
--- ---- what is wrong with it, in a file of `total` octets
+-- ---- its damage, in a file of `total` bytes
 
 abbrev pub damage : Kind → ℕ → ℕ → Damage
 damage kind id offset = record { kind = kind; id = id; offset = offset }
 
--- A header up to here passes its parent's end: it passes the end of the file too, or not.
+-- the damage of a header at `p` that passes its parent's end; `end` is the end of the header. It is Truncated if it passes the end of the file
+-- too.
 abbrev pub cut_header : Setting → ℕ → ℕ → ℕ → ℕ → Damage
 cut_header s total id p end =
     if not s.read_whole && nat_lt total end then damage Truncated id p else damage TooLong id p
 
--- a Segment or a Cluster
+-- The ID is Segment or Cluster.
 abbrev pub may_be_open : ℕ → Bool
 may_be_open id = id == SEGMENT || id == CLUSTER
 
--- Its size is unknown, and it isn't a Segment or a Cluster where that may be.
+-- The Element `h` has an unknown size, but may not be open in the setting `s`.
 abbrev pub has_unknown_size : Setting → Header → Bool
 has_unknown_size s h = is_unknown h.size && not (s.may_open h.id)
 
--- Its body passes the end of the file. A Segment or a Cluster that may be cut there isn't so, nor is
--- one whose parent ends before the file.
+-- The body of `h` passes the end of the file. This excludes a Segment or a Cluster that may be open here, or whose parent ends before the file.
 abbrev pub is_truncated : Setting → ℕ → ℕ → Header → Bool
 is_truncated s total e h =
     not s.read_whole && nat_lt total (stated_end h)
     && (not (may_be_open h.id) || (not (s.may_open h.id) && e == total))
 
--- Its body passes its parent's end. A Segment or a Cluster that may be cut by the end of the file isn't so there.
+-- The body of `h` passes its parent's end. This excludes an Element that may be open, if its parent ends with the file.
 abbrev pub is_too_long : Setting → ℕ → ℕ → Header → Bool
 is_too_long s total e h = nat_lt e (stated_end h) && not (s.may_open h.id && e == total)
 
--- What is wrong with a body, in the order in which it is told. `BodyDamage` has it by where the Element stands.
+-- the damage of a body, in the order of the checks; `BodyDamage` has it by the place of the Element
 abbrev pub body_damage : Setting → ℕ → ℕ → Header → Option Kind
 body_damage s total e h =
     if has_unknown_size s h then Some UnknownSize else
@@ -129,12 +129,11 @@ with_id s octets total p e (Err fault.Bad) = Err (damage BadId 0 p)
 with_id s octets total p e (Err (fault.More n)) = Err (cut_header s total 0 p (p + n + 1))
 with_id s octets total p e (Ok id) = with_size s total p e id.id (p + id.len) (size_at (drop id.len octets))
 
--- The Element that these octets begin, which stand at place p of a file of `total` octets, up to its
--- parent's end e; or what is wrong there. A header that isn't whole has the octets that its part
--- announces, one for an ID or a size of which nothing is there.
+-- the Element at the start of the bytes, or its damage. The bytes are at the offset `p` of a file of `total` bytes, and reach to its parent's end
+-- `e`. An incomplete header has the length that its part announces, and one byte for an ID or a size without any byte.
 unfoldable pub element_in : Setting → List ℕ → ℕ → ℕ → ℕ → Result Header Damage
 element_in s octets total p e = with_id s octets total p e (id_in s octets)
 
--- The Element at place p of a content, whose parent ends at e: it is read from the octets before e alone.
+-- the Element at the offset `p` of a content, or its damage; it is read only from the bytes before its parent's end `e`
 abbrev pub element_at : Setting → List ℕ → ℕ → ℕ → Result Header Damage
 element_at s bytes p e = element_in s (octets_between bytes p e) (length bytes) p e

@@ -1,4 +1,4 @@
--- The Elements that stand one behind the other: RFC 8794, section 7.7 (Master Element), and section 6.2 (Unknown Data Size).
+-- Elements in sequence: RFC 8794, section 7.7 (Master Element), and section 6.2 (Unknown Data Size).
 use Rattle.std.specs.Prelude.{ℕ, zero, suc, ◌-◌, nat_lt, Bool, false, ◌||◌, if◌then◌else◌, List, [], ◌∷◌, Option, Some, None, Result, Ok, Err}
 use Rattle.ebml_numbers.specs.declared.number.Size.{Size}
 use Rattle.ebml_numbers.specs.declared.number.Size.TheVariants.{Known, Unknown}
@@ -7,30 +7,30 @@ use Rattle.mkv_io.specs.declared.damage.Damage.{Damage}
 use Rattle.mkv_schema.specs.declared.element.Header.{Header}
 use Rattle.mkv_schema.specs.Element.{Setting, in_segment, in_master, element_at, end_in, is_unknown}
 
--- The Elements from a place on; the damage that ends them, if one does; and the place where they end.
+-- the Elements from an offset on; the damage that ends them, if any; and the offset of their end
 pub record Run : Type 0 where
   pub list : List Header
   pub damage : Option Damage
   pub end : ℕ
 
--- nothing more stands here
+-- the run without Elements that ends at `p`
 abbrev pub ends_at : ℕ → Run
 ends_at p = record { list = []; damage = None; end = p }
 
--- what stands here is damaged
+-- the run without Elements that ends at `p` with the damage `d`
 abbrev pub breaks_at : ℕ → Damage → Run
 breaks_at p d = record { list = []; damage = Some d; end = p }
 
--- an Element, and what stands behind it
+-- the run `rest` with the Element `h` before it
 abbrev pub in_front : Header → Run → Run
 in_front h rest = record { list = h ∷ rest.list; damage = rest.damage; end = rest.end }
 
--- the ID at a place where an Element or a damage was found, 0 where it couldn't be read
+-- the ID of an Element or of a damage, or 0 if it couldn't be read
 abbrev pub id_of : Result Header Damage → ℕ
 id_of (Ok h) = h.id
 id_of (Err d) = d.id
 
--- where the Element behind this one begins, or the damage inside it
+-- a function that gives the offset after an Element, or the damage inside it
 abbrev pub Next : Type 0
 Next = Header → Result ℕ Damage
 
@@ -42,8 +42,8 @@ abbrev pub step : ℕ → Next → Result Header Damage → (ℕ → Run) → Ru
 step p next (Err d) rest = breaks_at p d
 step p next (Ok h) rest = behind p h (next h) rest
 
--- The Elements from p on, each where the one before it ends, up to e: they end before an ID that
--- passes the test, whatever the rest of its header is, and at the first damage. (n bounds how many there are.)
+-- the Elements from the offset `p` up to `e`, each after the previous one, but at most `n`. They end before an ID that passes `stops`, whatever
+-- the rest of its header is, and at the first damage.
 unfoldable pub elements_within : ℕ → Setting → (ℕ → Bool) → Next → List ℕ → ℕ → ℕ → Run
 elements_within zero s stops next bytes p e = ends_at p
 elements_within (suc n) s stops next bytes p e =
@@ -52,15 +52,15 @@ elements_within (suc n) s stops next bytes p e =
     step p next (element_at s bytes p e) (λ q. elements_within n s stops next bytes q e))
     else ends_at p
 
--- each Element has at least one octet
+-- the Elements from `p` up to `e`, with a bound that is large enough, since each has at least one byte
 unfoldable pub elements : Setting → (ℕ → Bool) → Next → List ℕ → ℕ → ℕ → Run
 elements s stops next bytes p e = elements_within (e - p) s stops next bytes p e
 
--- no ID ends these Elements
+-- the test that no ID passes
 abbrev pub never : ℕ → Bool
 never id = false
 
--- ---- the masters whose Elements are listed
+-- ---- masters, by how their Elements are listed
 
 -- the children of a master whose end is known, and which isn't a Segment
 abbrev pub children_in : Setting → List ℕ → ℕ → ℕ → Run
@@ -78,11 +78,11 @@ abbrev pub end_of_run : Run → Option Damage → Result ℕ Damage
 end_of_run run None = Ok run.end
 end_of_run run (Some d) = Err d
 
--- where an Element of a Segment ends: a Cluster of unknown size ends with its children
+-- the offset after the Element `h` of a Segment; a Cluster of unknown size ends with its children
 abbrev pub behind_in_segment : List ℕ → ℕ → Next
 behind_in_segment bytes e h = if is_unknown h.size then end_of_run (open_cluster bytes h.body e) (open_cluster bytes h.body e).damage else Ok (end_in e h)
 
--- A Segment of unknown size ends before an Element of level 0, or at the end of the file.
+-- The ID ends a Segment with this size. A Segment of unknown size ends before an Element of level 0, or at the end of the file.
 abbrev pub ends_segment : Size → ℕ → Bool
 ends_segment (Known n) id = false
 ends_segment Unknown id = is_level0 id

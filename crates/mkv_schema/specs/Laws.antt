@@ -1,8 +1,8 @@
--- What holds of every ID of the table: RFC 8794, section 5 (Element ID).
+-- Laws on the IDs of the table: RFC 8794, section 5 (Element ID).
 use Rattle.std.specs.Prelude.{ℕ, IsSome, IsTrue}
 use Rattle.ebml_numbers.specs.Number.{is_written_id}
 use Rattle.mkv_schema.specs.Schema.{kind_of}
 
--- Each ID that the table has may be written.
+-- Each ID in the table may be written.
 abbrev pub IdsMayBeWritten : Type 0
 IdsMayBeWritten = (id : ℕ) → IsSome (kind_of id) → IsTrue (is_written_id id)

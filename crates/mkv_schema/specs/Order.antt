@@ -1,14 +1,14 @@
--- Elements stand one behind the other: RFC 8794, section 7.7 (Master Element).
+-- The order of Elements: RFC 8794, section 7.7 (Master Element).
 use Rattle.std.specs.Prelude.{ℕ, ◌+◌, ◌≤◌, ⊤, List, [], ◌∷◌}
 use Rattle.ebml_numbers.specs.declared.number.Size.{Size}
 use Rattle.mkv_schema.specs.declared.element.Header.{Header}
 use Rattle.mkv_schema.specs.Elements.{level_1}
 
--- The places of these Elements ascend: the first stands at p or behind it, each other behind the one before it.
+-- The offsets of the Elements ascend: the first is at least `p`, and each other one is greater than the previous one.
 abbrev pub AscendFrom : ℕ → List Header → Type 0
 AscendFrom p [] = ⊤
 AscendFrom p (h ∷ hs) = (p ≤ h.offset) × AscendFrom (h.offset + 1) hs
 
--- The places of the Elements of level 1 ascend.
+-- The offsets of the Elements of level 1 ascend.
 abbrev pub Level1Ascends : Type 0
 Level1Ascends = (bytes : List ℕ) (size : Size) (p e : ℕ) → AscendFrom p (level_1 bytes size p e).list

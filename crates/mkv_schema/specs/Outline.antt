@@ -14,7 +14,7 @@ use Rattle.mkv_schema.specs.Elements.{Run, elements, children_in, level_1}
 use Rattle.mkv_schema.specs.Value.{body_of, is_known_value, first_of, uint_in, text_in}
 use Rattle.mkv_io.specs.Results.{unless, and_then}
 
--- ---- refusals, the first that stands
+-- ---- refusals: the first cause decides
 
 -- the first damage of a list of causes
 abbrev pub first_damage : List (Option Damage) → Option Damage
@@ -22,14 +22,14 @@ first_damage [] = None
 first_damage (None ∷ causes) = first_damage causes
 first_damage (Some d ∷ causes) = Some d
 
--- a damage, where a test holds
+-- the damage `d`, if the test is true
 abbrev pub where_it : Bool → Damage → Option Damage
 where_it true d = Some d
 where_it false d = None
 
 -- ---- the EBML header (RFC 8794, section 8.1, EBML Header)
 
--- the octets of the EBML header's ID
+-- the bytes of the EBML header's ID
 abbrev pub ebml_mark : List ℕ
 ebml_mark = 0x1A ∷ 0x45 ∷ 0xDF ∷ 0xA3 ∷ []
 
@@ -37,17 +37,17 @@ ebml_mark = 0x1A ∷ 0x45 ∷ 0xDF ∷ 0xA3 ∷ []
 abbrev pub header_children : List ℕ → Header → Run
 header_children bytes h = children_in (in_tree EBML) bytes h.body (stated_end h)
 
--- an Element whose body is longer than the limit
+-- the damage of an Element whose body is longer than `limit`
 abbrev pub over : ℕ → Header → Option Damage
 over limit h = where_it (nat_lt limit (known h.size)) (damage HeaderTooLarge h.id h.offset)
 
--- the first child whose octets aren't a value of its kind
+-- the damage of the first child in `list` whose bytes aren't a value of its kind
 abbrev pub bad_value : List ℕ → ℕ → List Header → Option Damage
 bad_value bytes parent list =
     option_map (λ h. damage BadValue h.id h.offset)
     (find (λ h. not (is_known_value parent h.id (body_of bytes h))) list)
 
--- where the first Element of an ID stands, 0 where there is none
+-- the offset of the first Element `id` in `list`, or 0 if there is none
 abbrev pub place_of : ℕ → List Header → ℕ
 place_of id list = option_map_or (λ h. h.offset) (first_of id list) 0
 
@@ -59,11 +59,11 @@ is_doc_type (Some text) = bytes_eq text (codes "matroska") || bytes_eq text (cod
 abbrev pub wrong_doc_type : List ℕ → List Header → Option Damage
 wrong_doc_type bytes list = where_it (not (is_doc_type (text_in bytes DOC_TYPE list))) (damage DocType DOC_TYPE (place_of DOC_TYPE list))
 
--- an integer that is above what is read
+-- the damage of an integer `id` above `limit`
 abbrev pub above : List ℕ → ℕ → ℕ → Kind → List Header → Option Damage
 above bytes id limit kind list = where_it (nat_lt limit (uint_in bytes id list)) (damage kind id (place_of id list))
 
--- what refuses the children of an EBML header, in the order in which it is told
+-- the causes that may refuse the children of an EBML header, in the order of the checks
 abbrev pub children_causes : List ℕ → Run → List (Option Damage)
 children_causes bytes children =
     bad_value bytes EBML children.list ∷
@@ -75,16 +75,16 @@ children_causes bytes children =
     above bytes EBML_MAX_SIZE_LENGTH 8 MaxLengths children.list ∷
     []
 
--- what refuses an EBML header, in the order in which it is told
+-- the causes that may refuse an EBML header, in the order of the checks
 abbrev pub header_causes : List ℕ → Header → Run → List (Option Damage)
 header_causes bytes h children = over MAX_HEADER_LEN h ∷ children_causes bytes children
 
--- the Element at the start of a file that begins as an EBML header does
+-- the Element at the start of a file that begins with the EBML header's ID
 abbrev pub first_element : List ℕ → Result Header Damage
 first_element bytes =
     if starts_with nat_eq bytes ebml_mark then element_at at_level_0 bytes 0 (length bytes) else Err (damage NotEbml 0 0)
 
--- the EBML header, or what refuses the file there
+-- the EBML header, or the damage that refuses the file there
 unfoldable pub ebml_header : List ℕ → Result Header Damage
 ebml_header bytes =
     and_then (first_element bytes) (λ h. unless (first_damage (header_causes bytes h (header_children bytes h))) h)
@@ -95,19 +95,19 @@ ebml_header bytes =
 abbrev pub before_segment : List ℕ → ℕ → Run
 before_segment bytes p = elements at_level_0 (λ id. id == SEGMENT) (λ h. Ok (end_in (length bytes) h)) bytes p (length bytes)
 
--- the Segment behind them, or the end of the file
+-- the Segment after the skipped Elements, or NoSegment at the end of the file
 abbrev pub segment_behind : List ℕ → Run → Result Header Damage
 segment_behind bytes run =
     if nat_lt run.end (length bytes) then element_at at_level_0 bytes run.end (length bytes)
     else Err (damage NoSegment 0 (length bytes))
 
--- the Segment that follows an EBML header, or what refuses the file on the way
+-- the Segment that follows an EBML header, or the damage that refuses the file before it
 unfoldable pub segment_of : List ℕ → Header → Result Header Damage
 segment_of bytes ebml =
     let run = before_segment bytes (stated_end ebml) in
     and_then (unless run.damage run) (segment_behind bytes)
 
--- the place up to which a Segment may reach
+-- the greatest offset that a Segment may reach
 abbrev pub segment_bound : List ℕ → Header → ℕ
 segment_bound bytes segment = if is_unknown segment.size then length bytes else end_in (length bytes) segment
 
@@ -117,19 +117,19 @@ segment_run bytes segment = level_1 bytes segment.size segment.body (segment_bou
 
 -- ---- limits of level 1
 
--- an Info, Tracks, Chapters or Tags
+-- The ID is Info, Tracks, Chapters or Tags.
 abbrev pub is_described : ℕ → Bool
 is_described id = id == INFO || id == TRACKS || id == CHAPTERS || id == TAGS
 
--- the octets that they have in a list
+-- the number of bytes of such Elements in `list`
 abbrev pub described : List Header → ℕ
 described list = sum_by (λ h. known h.size) (filter (λ h. is_described h.id) list)
 
--- how many Elements of a list aren't Clusters
+-- the number of Elements in `list` that aren't Clusters
 abbrev pub others : List Header → ℕ
 others list = count_by (λ h. not (h.id == CLUSTER)) list
 
--- An Element with those before it passes a limit; earlier inputs have held so many octets of such Elements.
+-- The Element `h` passes a limit of size, by itself or with the Elements `before`. Earlier inputs have `held` bytes of such Elements.
 abbrev pub passes_size : ℕ → List Header → Header → Bool
 passes_size held before h =
     is_described h.id
@@ -144,7 +144,7 @@ limit_causes held before h =
     where_it (passes_count before h) (damage TooMany h.id h.offset) ∷
     []
 
--- the first Element that passes a limit
+-- the earlier of two refusals by a limit
 abbrev pub first_refusal : Option Damage → Option Damage → Option Damage
 first_refusal None later = later
 first_refusal (Some d) later = Some d
@@ -156,8 +156,7 @@ limits_from held before (h ∷ hs) =
 
 -- ---- the outline
 
--- The EBML header, the Segment, the Elements of level 1, the damage that ends them, if one does, and
--- where the Segment ends.
+-- the EBML header, the Segment, the Elements of level 1, the damage that ends them, if any, and the end of the Segment
 pub record Outlined : Type 0 where
   pub ebml : Header
   pub segment : Header
@@ -165,7 +164,7 @@ pub record Outlined : Type 0 where
   pub damage : Option Damage
   pub end : ℕ
 
--- A Segment of unknown size that a damage ends reaches to the end of the file.
+-- the end of a Segment; a Segment of unknown size that ends with damage reaches to the end of the file
 abbrev pub segment_end : List ℕ → Header → Run → ℕ
 segment_end bytes segment run =
     if is_unknown segment.size then option_map_or (λ (d : Damage). length bytes) run.damage run.end
@@ -185,7 +184,7 @@ within_limits held bytes ebml segment =
     let run = segment_run bytes segment in
     unless (limits_from held [] run.list) (outlined bytes ebml segment run)
 
--- the outline of a file, or the first refusal; earlier inputs have held so many octets
+-- the outline of a file, or the first refusal; earlier inputs have `held` bytes of limited Elements
 unfoldable pub outline_of : ℕ → List ℕ → Result Outlined Damage
 outline_of held bytes =
     and_then (ebml_header bytes) (λ ebml. and_then (segment_of bytes ebml) (λ segment. within_limits held bytes ebml segment))

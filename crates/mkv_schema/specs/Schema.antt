@@ -1,4 +1,4 @@
--- What the table says of an ID: RFC 9559, section 5 (Matroska Schema).
+-- Look-ups in the table by ID: RFC 9559, section 5 (Matroska Schema).
 use Rattle.std.specs.Prelude.{ℕ, ◌==◌, Bool, true, false, ◌||◌, Option, Some, None, if◌then◌else◌, List, map, find}
 use Rattle.std.specs.Option.{option_map, option_map_or, option_and_then}
 use Rattle.mkv_schema.specs.declared.kind.ElementKind.{ElementKind}
@@ -12,7 +12,7 @@ use Rattle.mkv_schema.specs.Table.{Entry, Default, number_value, text_value, tab
 abbrev pub table_ids : List ℕ
 table_ids = map (λ e. e.id) table
 
--- the row of an ID
+-- the row of `id`
 unfoldable pub entry_of : ℕ → Option Entry
 entry_of id = find (λ e. e.id == id) table
 
@@ -26,17 +26,17 @@ abbrev pub is_master_kind : ElementKind → Bool
 is_master_kind Master = true
 is_master_kind _ = false
 
--- the table has a master of this ID
+-- The ID is a master in the table.
 abbrev pub is_master : ℕ → Bool
 is_master id = option_map_or (λ e. is_master_kind e.kind) (entry_of id) false
 
--- ---- Where an Element stands
+-- ---- Parents
 
 abbrev pub is_root : Parents → Bool
 is_root Root = true
 is_root _ = false
 
--- an Element of level 0: EBML, or Segment
+-- The ID is an Element of level 0: EBML, or Segment.
 abbrev pub is_level0 : ℕ → Bool
 is_level0 id = option_map_or (λ e. is_root e.parents) (entry_of id) false
 
@@ -44,22 +44,22 @@ abbrev pub is_child_of : ℕ → Parents → Bool
 is_child_of parent (ChildOf own) = parent == own
 is_child_of parent _ = false
 
--- an Element of level 1: a child of Segment, which no Global Element counts as
+-- The ID is an Element of level 1: a child of Segment, but no Global Element.
 abbrev pub is_level1 : ℕ → Bool
 is_level1 id = option_map_or (λ e. is_child_of SEGMENT e.parents) (entry_of id) false
 
--- one of the parents of the Element id is this one
+-- The ID `parent` is one of the parents of the Element `id`.
 abbrev pub allows : Parents → ℕ → ℕ → Bool
 allows Root id parent = false
 allows AnyMaster id parent = is_master parent
 allows (ChildOf own) id parent = parent == own
 allows (ChildOfOrItself own) id parent = parent == own || parent == id
 
--- an Element of the one ID may stand directly under one of the other
+-- An Element `id` may be a direct child of an Element `parent`.
 abbrev pub may_stand : ℕ → ℕ → Bool
 may_stand id parent = option_map_or (λ e. allows e.parents id parent) (entry_of id) false
 
--- the kind of an Element where it may stand under this parent
+-- the kind of the Element `id`, if it may be a child of `parent`
 abbrev pub kind_under : ℕ → ℕ → Option ElementKind
 kind_under id parent = if may_stand id parent then kind_of id else None
 
@@ -73,10 +73,10 @@ abbrev pub text_in : Default → Option (List ℕ)
 text_in (number_value n) = None
 text_in (text_value t) = Some t
 
--- the number that stands for an integer Element that is empty or missing
+-- the default of the integer Element `id`, which is its value if it is empty or missing
 abbrev pub uint_default : ℕ → Option ℕ
 uint_default id = option_and_then (λ e. option_and_then number_in e.default) (entry_of id)
 
--- the text that stands for a text Element that is missing
+-- the default of the text Element `id`, which is its value if it is missing
 abbrev pub text_default : ℕ → Option (List ℕ)
 text_default id = option_and_then (λ e. option_and_then text_in e.default) (entry_of id)

@@ -7,12 +7,12 @@ use Rattle.mkv_schema.specs.declared.parents.Parents.{Parents}
 use Rattle.mkv_schema.specs.declared.parents.Parents.TheVariants.{Root, AnyMaster, ChildOf, ChildOfOrItself}
 use Rattle.mkv_schema.specs.declared.ids.TheConstants.{EBML, SEGMENT, SEEK_HEAD, SEEK, INFO, CLUSTER, BLOCK_GROUP, TRACKS, TRACK_ENTRY, VIDEO, AUDIO, CONTENT_ENCODINGS, CONTENT_ENCODING, CONTENT_COMPRESSION, CUES, CUE_POINT, CUE_TRACK_POSITIONS, ATTACHMENTS, ATTACHED_FILE, CHAPTERS, EDITION_ENTRY, CHAPTER_ATOM, CHAPTER_DISPLAY, TAGS, TAG, TARGETS, SIMPLE_TAG}
 
--- The value of an Element that is missing. A number is that of an empty integer too; an empty text has no octets.
+-- the default: the value of an Element that is missing. A number is the value of an empty integer too; an empty text has no bytes.
 pub data Default : Type 0 where
   number_value : ℕ → Default
   text_value : List ℕ → Default
 
--- a row of the standards' table
+-- a row of the table
 pub record Entry : Type 0 where
   pub name : List ℕ
   pub id : ℕ
@@ -33,8 +33,8 @@ number n = Some (number_value n)
 abbrev pub text : String → Option Default
 text t = Some (text_value (codes t))
 
--- Name, ID, kind, parents, default. BlockAdditions is a master in RFC 9559; here its octets are kept as they
--- are, so its kind is Binary, and its children have no rows.
+-- the rows: name, ID, kind, parents, default. BlockAdditions is a master in RFC 9559. Here its bytes are copied as they are, so its kind is
+-- Binary, and its children have no rows.
 unfoldable pub table : List Entry
 table =
     -- EBML Header Elements (RFC 8794, section 11.2)

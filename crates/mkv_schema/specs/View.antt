@@ -1,4 +1,4 @@
--- The code's entries as the definition's.
+-- The entries of the code's table as entries of the definition's.
 use Rattle.std.specs.Prelude.{Option}
 use Rattle.std.specs.Option.{option_map}
 use denote.Ref.{Bor}
@@ -14,6 +14,6 @@ shown_default (Text t) = text_value t.now
 abbrev pub shown : CodeEntry → Entry
 shown e = record { name = e.row.name.now; id = e.row.id; kind = e.row.kind; parents = e.parents; default = option_map shown_default e.default }
 
--- what a reference to an entry shows
+-- the entry of the definition that a reference to a code's entry shows
 abbrev pub seen : Option (Bor CodeEntry) → Option Entry
 seen found = option_map (λ (e : Bor CodeEntry). shown e.now) found

@@ -2,15 +2,15 @@
 
 use ebml_numbers::Size;
 
-/// Where an Element stands, and what its header says.
+/// Place of an Element in a file, and the fields of its header.
 #[derive(Clone, Copy, Debug, PartialEq, Eq)]
 pub struct Header {
     /// The Element's ID, with its marker.
     pub id: u32,
-    /// Octets from the start of the file to the Element's first.
+    /// Offset in bytes of the Element from the start of the file.
     pub offset: u64,
-    /// Octets from the start of the file to the first of the Element's body.
+    /// Offset in bytes of the Element's body from the start of the file.
     pub body: u64,
-    /// The octets of the body, as the header states them.
+    /// Size of the body, as the header gives it.
     pub size: Size,
 }

@@ -1,20 +1,20 @@
-//! What holds of every file.
+//! Laws on the Elements of every file.
 ghost use Rattle.mkv_schema.specs.BodyDamage.{DamagesAreByPlace};
 ghost use Rattle.mkv_schema.specs.Order.{Level1Ascends};
 ghost use Rattle.mkv_schema.specs.WithoutLimits.{LimitsOnlyRefuse};
 
-/// What is wrong with a body hangs on where its Element stands (RFC 8794, sections 6, Element Data Size,
-/// and 6.2, Unknown Data Size).
+/// Law: the damage of a body depends on the place of its Element (RFC 8794, sections 6, Element Data Size, and 6.2,
+/// Unknown Data Size).
 pub fn damages_are_by_place()
     ensures { DamagesAreByPlace }
 {}
 
-/// The Elements of level 1 stand one behind the other (RFC 8794, section 7.7, Master Element).
+/// Law: the Elements of level 1 follow each other in the file (RFC 8794, section 7.7, Master Element).
 pub fn level_1_ascends()
     ensures { Level1Ascends }
 {}
 
-/// A reader's limits only refuse: the outline that it finds is that of the file without limits.
+/// Law: a reader's limits only refuse files. An outline that it finds is the outline of the file without limits.
 pub fn limits_only_refuse()
     ensures { LimitsOnlyRefuse }
 {}

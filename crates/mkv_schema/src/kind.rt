@@ -1,27 +1,27 @@
-//! What a row of the table has: RFC 8794, section 7 (EBML Element Types).
+//! Rows of the table: RFC 8794, section 7 (EBML Element Types).
 
-/// What the body of an Element holds (RFC 8794, section 7, EBML Element Types).
+/// Type of an Element's body (RFC 8794, section 7, EBML Element Types).
 #[derive(Clone, Copy, Debug, PartialEq, Eq)]
 pub enum ElementKind {
-    /// Elements (section 7.7, Master Element).
+    /// Other Elements (section 7.7, Master Element).
     Master,
-    /// Section 7.2 (Unsigned Integer Element).
+    /// Unsigned integer (section 7.2, Unsigned Integer Element).
     Uint,
-    /// Section 7.1 (Signed Integer Element).
+    /// Signed integer (section 7.1, Signed Integer Element).
     Int,
-    /// Section 7.3 (Float Element).
+    /// Floating-point number (section 7.3, Float Element).
     Float,
     /// Printable ASCII text (section 7.4, String Element).
     Ascii,
-    /// Section 7.5 (UTF-8 Element).
+    /// UTF-8 text (section 7.5, UTF-8 Element).
     Utf8,
-    /// Section 7.6 (Date Element).
+    /// Date (section 7.6, Date Element).
     Date,
-    /// Octets that the format doesn't look into (section 7.8, Binary Element).
+    /// Bytes without a format of their own (section 7.8, Binary Element).
     Binary,
 }
 
-/// What the standards say of an Element.
+/// Definition of an Element in the standards.
 #[derive(Clone, Copy, Debug, PartialEq, Eq)]
 pub struct Row {
     /// The ID with its marker bit, as the standards print it.

@@ -1,8 +1,10 @@
 #![tactic(auto)]
 
-//! The Elements of Matroska that this suite knows, with their kinds, parents and defaults; and what a Matroska file is: its
-//! Elements, the values of its leaves, and its outline (RFC 8794, sections 11.2, EBML Header Elements, and 11.3, Global
-//! Elements, and RFC 9559, section 5, Matroska Schema). The definitions, which the crates above cite, stand in `specs/`.
+//! The Elements of Matroska that this suite knows, with their kinds, parents and defaults. The definition of a
+//! Matroska file: its Elements, the values of its leaves, and its outline.
+//!
+//! The standards are RFC 8794, sections 11.2 (EBML Header Elements) and 11.3 (Global Elements), and RFC 9559, section
+//! 5 (Matroska Schema). The definitions are in `specs/`.
 
 mod element;
 pub mod element_laws;

@@ -1,14 +1,14 @@
-//! Where the schema has an Element: the paths of RFC 8794 and RFC 9559.
+//! Parents of Elements: the paths of RFC 8794 and RFC 9559.
 
-/// The parents of an Element.
+/// Parents that an Element may have.
 #[derive(Clone, Copy, Debug, PartialEq, Eq)]
 pub enum Parents {
-    /// None: the Element stands at level 0.
+    /// No parent: the Element is at level 0.
     Root,
-    /// Each master of the table, as a Global Element has it.
+    /// Each master of the table, for a Global Element.
     AnyMaster,
-    /// The Element of this ID.
+    /// The Element with this ID.
     ChildOf(u32),
-    /// The Element of this ID, and this Element itself: it may be nested.
+    /// The Element with this ID, or the Element itself: it may be nested.
     ChildOfOrItself(u32),
 }

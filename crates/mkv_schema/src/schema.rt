@@ -1,5 +1,5 @@
-//! What the table says of an ID. Each question goes over the 107 rows from the first on, up to the ID's
-//! own; that of a Global Element's parent does so twice.
+//! Look-ups in the table by ID. Each goes through the 107 rows in order, up to the row of the ID. The look-up of a
+//! Global Element's parent does so twice.
 ghost use Rattle.std.specs.Prelude.{◌≡◌, ◌≢◌, ◌<◌, ◌^◌, ◌↔◌, ℕ, nat_eq, false, Some, IsTrue, IsSome, IfSome, All};
 ghost use Rattle.std.specs.Option.{option_map, option_copied};
 ghost use Rattle.std.specs.List.{IsDistinct};
@@ -11,7 +11,7 @@ use crate::kind::{ElementKind, Row};
 use crate::parents::Parents;
 use crate::table::{DefaultValue, look_up};
 
-/// The row of an ID, which has its marker bit; None where the table doesn't have it.
+/// Returns the row of `id`, which has its marker bit, or None if the table doesn't have it.
 #[tactic(auto, using(crate::proofs::SchemaLemmas::laws))]
 pub fn row(id: u32) -> Option<Row>
     ensures id { IfSome result (λ row. row.id ≡ id) }
@@ -26,7 +26,7 @@ pub fn row(id: u32) -> Option<Row>
     look_up(id).map(|entry| entry.row)
 }
 
-/// Whether the table has a master of this ID.
+/// Checks whether `id` is a master of the table.
 pub fn is_master(id: u32) -> bool
     ensures exact { result ≡ is_master id }
     ensures kind { IsTrue result ↔ (kind_of id ≡ Some ElementKind.Master) }
@@ -34,7 +34,7 @@ pub fn is_master(id: u32) -> bool
     look_up(id).is_some_and(|entry| entry.row.kind == ElementKind::Master)
 }
 
-/// Whether the table has this ID at level 0: EBML, or Segment (RFC 8794, section 8, EBML Document).
+/// Checks whether the table has `id` at level 0: EBML, or Segment (RFC 8794, section 8, EBML Document).
 #[tactic(auto, using(crate::proofs::SchemaLemmas::laws))]
 pub fn is_level0(id: u32) -> bool
     ensures exact { result ≡ is_level0 id }
@@ -44,8 +44,8 @@ pub fn is_level0(id: u32) -> bool
     look_up(id).is_some_and(|entry| entry.parents == Parents::Root)
 }
 
-/// Whether the table has this ID as a child of Segment (RFC 9559, section 5.1, Segment Element). Void and
-/// CRC-32, which may stand at level 1 as in every master, are none.
+/// Checks whether the table has `id` as a child of Segment (RFC 9559, section 5.1, Segment Element). This excludes
+/// Void and CRC-32, which any master may have.
 #[tactic(auto, using(crate::proofs::SchemaLemmas::laws))]
 pub fn is_level1(id: u32) -> bool
     ensures exact { result ≡ is_level1 id }
@@ -55,8 +55,8 @@ pub fn is_level1(id: u32) -> bool
     look_up(id).is_some_and(|entry| entry.parents == Parents::ChildOf(SEGMENT))
 }
 
-/// Whether an Element may stand directly under a parent, by their IDs. Level 0 is no parent, and Void and
-/// CRC-32 may stand under every master (RFC 8794, section 11.3, Global Elements).
+/// Checks whether an Element `id` may be a direct child of an Element `parent`. Level 0 isn't a parent. Every master
+/// may have Void and CRC-32 (RFC 8794, section 11.3, Global Elements).
 #[tactic(auto, using(crate::proofs::SchemaLemmas::laws))]
 pub fn may_stand(id: u32, parent: u32) -> bool
     ensures exact { result ≡ may_stand id parent }
@@ -66,7 +66,7 @@ pub fn may_stand(id: u32, parent: u32) -> bool
     look_up(id).is_some_and(|entry| allows(entry.parents, id, parent))
 }
 
-/// The kind of an Element directly under a parent; None where the table doesn't have it there.
+/// Returns the kind of an Element `id` as a direct child of `parent`, or None if the table doesn't have it there.
 #[tactic(auto, using(crate::proofs::SchemaLemmas::laws))]
 pub fn kind_under(id: u32, parent: u32) -> Option<ElementKind>
     ensures { result ≡ kind_under id parent }
@@ -75,7 +75,7 @@ pub fn kind_under(id: u32, parent: u32) -> Option<ElementKind>
     allows(entry.parents, id, parent).then_some(entry.row.kind)
 }
 
-/// Whether this parent is one of those of an ID.
+/// Checks whether `parent` is one of the parents of `id`.
 fn allows(parents: Parents, id: u32, parent: u32) -> bool
     ensures { result ≡ allows parents id parent }
 {
@@ -87,8 +87,8 @@ fn allows(parents: Parents, id: u32, parent: u32) -> bool
     }
 }
 
-/// The number that stands for an integer Element that is empty or missing; None where the standards
-/// give none.
+/// Returns the default of the integer Element `id`, which is its value if it is empty or missing. Returns None if the
+/// standards give none.
 #[tactic(auto, using(crate::proofs::SchemaLemmas::laws))]
 pub fn uint_default(id: u32) -> Option<u64>
     ensures exact { result ≡ uint_default id }
@@ -100,8 +100,8 @@ pub fn uint_default(id: u32) -> Option<u64>
     }
 }
 
-/// The text that stands for a text Element that is missing: `eng` for Language and ChapLanguage; None
-/// where the standards give none.
+/// Returns the default of the text Element `id`, which is its value if it is missing: `eng` for Language and
+/// ChapLanguage. Returns None if the standards give none.
 #[tactic(auto, using(crate::proofs::SchemaLemmas::laws))]
 pub fn text_default(id: u32) -> Option<&'static str>
     ensures exact { option_copied result ≡ text_default id }

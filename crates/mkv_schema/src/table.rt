@@ -9,15 +9,15 @@ use crate::kind::ElementKind::{Ascii, Binary, Float, Int, Master, Uint, Utf8};
 use crate::kind::Row;
 use crate::parents::Parents::{self, AnyMaster, ChildOf, ChildOfOrItself, Root};
 
-/// The value of an Element that is missing. A number is that of an empty integer too; an empty text has
-/// no octets.
+/// Default: the value of an Element that is missing. A number is the value of an empty integer too; an empty text has
+/// no bytes.
 #[derive(Clone, Copy)]
 pub enum DefaultValue {
     Number(u64),
     Text(&'static str),
 }
 
-/// All that the table has of an Element.
+/// Definition of an Element, with its parents and its default.
 #[derive(Clone, Copy)]
 pub struct Entry {
     pub row: Row,
@@ -72,7 +72,7 @@ static TABLE: [Entry; 107] = [
     entry!("SimpleBlock",          SIMPLE_BLOCK,           Binary, ChildOf(CLUSTER)),
     entry!("BlockGroup",           BLOCK_GROUP,            Master, ChildOf(CLUSTER)),
     entry!("Block",                BLOCK,                  Binary, ChildOf(BLOCK_GROUP)),
-    // a master in RFC 9559; here its octets are kept as they are
+    // A master in RFC 9559; here its bytes are copied as they are.
     entry!("BlockAdditions",       BLOCK_ADDITIONS,        Binary, ChildOf(BLOCK_GROUP)),
     entry!("BlockDuration",        BLOCK_DURATION,         Uint,   ChildOf(BLOCK_GROUP)),
     entry!("ReferenceBlock",       REFERENCE_BLOCK,        Int,    ChildOf(BLOCK_GROUP)),
@@ -157,14 +157,14 @@ static TABLE: [Entry; 107] = [
     entry!("TagString",            TAG_STRING,             Utf8,   ChildOf(SIMPLE_TAG)),
 ];
 
-/// What the table has of an ID.
+/// Returns the entry of `id` in the table.
 pub fn look_up(id: u32) -> Option<&'static Entry>
     ensures { seen result ≡ entry_of id }
 {
     first_of(&TABLE, id)
 }
 
-/// The first of the entries that has this ID.
+/// Returns the first of `entries` with the ID `id`.
 fn first_of(entries: &[Entry], id: u32) -> Option<&Entry>
     ensures { seen result ≡ find (λ e. e.id == id) (map shown entries.now) }
 {

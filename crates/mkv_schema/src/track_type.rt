@@ -1,4 +1,4 @@
-//! The types of tracks that this suite tells apart: RFC 9559, section 5.1.4 (Tracks Element), TrackType.
+//! Track types that this suite distinguishes: RFC 9559, section 5.1.4 (Tracks Element), TrackType.
 
 pub const VIDEO_TRACK: u64 = 1;
 

@@ -1,4 +1,4 @@
--- The search goes over the code's entries; what it finds shows the definition's entry.
+-- The search runs over the code's entries, and its result shows the definition's entry.
 use Rattle.std.proofs.Common.{◌==◌, ◌∙◌, ap, rules}
 use Rattle.std.proofs.lemmas.Iterator.{YieldsList-from_slice}
 use Rattle.std.proofs.lemmas.Iterator.Search.{find_from_yields_List}
