@@ -1,4 +1,4 @@
--- What is spelled as a lace is read as it, and what is read is spelled.
+-- Laws on lacing: a lace is read as its sizes, and sizes that are read are the sizes of a lace.
 use Rattle.std.proofs.Common.{◌≡◌, ◌≢◌, ℕ, zero, suc, ◌+◌, ◌-◌, ◌*◌, ◌/◌, ◌%◌, ◌<◌, ◌≤◌, Bool, true, false, cond, not, ◌==◌, nat_le, nat_lt, List, [], ◌∷◌, ◌++◌, length, take, drop, sum, replicate, slice_index, append-nil, append_assoc, Option, None, Some, Result, Ok, Err, inl, inr, refl, sym, ap, ◌∙◌, subst, arith}
 use Rattle.std.specs.List.{prefix_len, All}
 use Rattle.std.specs.Option.{option_map}
@@ -22,14 +22,14 @@ use Rattle.lacing.specs.Lace.{xiph_octets, IsFirstSize, bias, IsDifference, IsSp
 use Rattle.lacing.specs.Reading.{xiph_size, known_size, first_size, data_of, next_size, any_size, fitting, size_in, with_size, size_then, sizes_in, with_last, frame_sizes_in, is_frame_count, lace_in}
 use Rattle.ebml_numbers.proofs.SpelledLemmas.{AreOctets-drop}
 
--- a pair that is there under a test
+-- A conditional pair is a pair only if its condition is true.
 if_some : {T : Type 0} (b : Bool) (x y : T) (m n : ℕ) → cond {A = Option (T × ℕ)} b (Some (x, m)) None ≡ Some (y, n) → (b ≡ true) × (x ≡ y) × (m ≡ n)
 if_some {T} true x y m n is = let pair : (x, m) ≡ (y, n) = cc in (refl, ap (λ (p : T × ℕ). p.0) pair, ap (λ (p : T × ℕ). p.1) pair)
 if_some false x y m n is = absurd (cc)
 
 -- ---- one size: Xiph
 
--- the length of a run of octets of 255
+-- the number of bytes 255 before the first other byte
 abbrev run_of : List ℕ → ℕ
 run_of octets = prefix_len (λ octet. not (not (octet == 255))) octets
 
@@ -49,7 +49,7 @@ run_of-255 octet o same = rw same (omega arith)
 run_of-other : (octet : ℕ) (o : List ℕ) → octet ≢ 255 → run_of (octet ∷ o) ≡ 0
 run_of-other octet o other = let e : (octet == 255) ≡ false = ne_eqb octet 255 other in cond-false (not (not (octet == 255))) _ _ (rw e refl)
 
--- the run and the octet behind it, where there is one
+-- A sequence of bytes 255 and the byte after it, if there is one.
 run_of-split : (n : ℕ) (o : List ℕ) → run_of o ≡ n → n < length o → (take (suc n) o ≡ replicate n 255 ++ slice_index o n ∷ []) × (slice_index o n ≢ 255)
 run_of-split n [] is inside = absurd (omega arith)
 run_of-split zero (octet ∷ o) is inside = (refl, λ same. let more = run_of-255 octet o same in absurd (omega arith))
@@ -70,7 +70,7 @@ xiph_size-none : (o : List ℕ) → length o ≤ run_of o → xiph_size o ≡ No
 xiph_size-none o outside =
     ap (option_map (λ run. (255 * run + slice_index o run, run + 1))) (cond-false (nat_lt (run_of o) (length o)) _ _ (le-ltb _ _ outside))
 
--- a spelled size is read, whatever follows it
+-- A size that is written is read back, whatever follows it.
 xiph_size-again : (size : ℕ) (rest : List ℕ) → xiph_size (xiph_octets size ++ rest) ≡ Some (size, length (xiph_octets size))
 xiph_size-again size rest =
     let run = size / 255 in
@@ -83,7 +83,7 @@ xiph_size-again size rest =
     let value = div-add-mod size 255 in
     rw (joined, len) (xiph_size-at (replicate run 255 ++ (size % 255 ∷ rest)) (omega arith) ∙ rw (is, slice_index-replicate run (size % 255) rest, value) refl)
 
--- what is read is spelled by the octets that it takes
+-- The bytes of a size that was read encode it.
 xiph_size-found : (o : List ℕ) (size len : ℕ) → AreOctets o → xiph_size o ≡ Some (size, len) → (len ≤ length o) × (take len o ≡ xiph_octets size)
 xiph_size-found o size len octets is =
     elim (cases_lt (run_of o) (length o)) [
@@ -107,7 +107,7 @@ xiph_size-found o size len octets is =
 
 -- ---- one size: EBML
 
--- the data that were read as a size
+-- Data that were read as a size are returned.
 pub data_of-size : (w v : ℕ) → data_of (size_of_data w v) w ≡ v
 data_of-size w v =
     let P : Size → Type 0 = λ size. data_of size w ≡ v in
@@ -116,7 +116,7 @@ data_of-size w v =
       | inr other ↦ subst P (sym (cond-false (v == all_ones w) Unknown (Known v) (ne_eqb v (all_ones w) other))) refl
     ]
 
--- a variable-size integer that is whole is read as a size, whatever follows it
+-- A complete variable-size integer is read as a size, whatever follows it.
 vint-again : (one rest : List ℕ) → announced one ≡ length one → length one ≤ 8 → size_at (one ++ rest) ≡ Ok (record { size = size_of_data (length one) (vint_data (length one) one); len = length one })
 vint-again one rest whole few =
     let read : SizeRead = record { size = size_of_data (length one) (vint_data (length one) one); len = length one } in
@@ -136,7 +136,7 @@ first_size-again size one rest is =
     let joined = size_at-front one (one ++ rest) (record { size = Known size; len = length one }) is (take-append-le (length one) one rest (omega arith)) in
     rw joined refl
 
--- a size that is read is spelled by the octets that it takes
+-- The bytes of a size that was read encode it.
 known_size-is : (s : Size) (l size len : ℕ) → known_size s l ≡ Some (size, len) → (s ≡ Known size) × (l ≡ len)
 known_size-is (Known s) l size len is =
     let pair : (s, l) ≡ (size, len) = cc in
@@ -213,9 +213,9 @@ size_in-found kind before o size len octets is =
     let found = fitting-found (length o) (any_size kind before o) size len is in
     (found.1, (any_size-found kind before o size len octets found.0).1)
 
--- ---- sizes, one behind the other
+-- ---- sizes in sequence
 
--- spelled sizes are read, whatever follows them, where there is room for their frames
+-- Sizes that are written are read back, whatever follows them, if their frames fit.
 sizes_in-again : (kind : Lace) (before : Option ℕ) (sizes head rest : List ℕ) → Spells kind before sizes head → sum sizes ≤ length rest → sizes_in kind (length sizes) before (head ++ rest) ≡ Some (sizes, length head)
 unfolding sizes_in
 sizes_in-again kind before [] head rest spells fits = rw spells refl
@@ -231,7 +231,7 @@ sizes_in-again kind before (size ∷ sizes) head rest spells fits =
     let others = sizes_in-again kind (Some size) sizes more rest spells.4 (omega arith) in
     rw (joined, len) (ap (λ x. size_then x (λ s l. sizes_in kind (length sizes) (Some s) (drop l (one ++ (more ++ rest))))) first ∙ rw (left, others) refl)
 
--- a size that was read, and the sizes behind it
+-- The list is a size that was read, and the sizes after it.
 record IsSizeThen (first : Option (ℕ × ℕ)) (others : ℕ → ℕ → Option (List ℕ × ℕ)) (sizes : List ℕ) (head : ℕ) : Type 0 where
   size : ℕ
   len : ℕ
@@ -268,7 +268,7 @@ take-add zero n o = ap (λ (x : ℕ). take x o) (omega arith)
 take-add (suc m) n [] = let e : suc m + n ≡ suc (m + n) = omega arith in rw e (sym (take-nil n))
 take-add (suc m) n (x ∷ o) = let e : suc m + n ≡ suc (m + n) = omega arith in rw e (ap (λ (y : List ℕ). x ∷ y) (take-add m n o))
 
--- sizes that are read are spelled by the octets that they take, and their frames fit behind
+-- The bytes of sizes that were read encode them, and their frames fit after them.
 sizes_in-found : (kind : Lace) (n : ℕ) (before : Option ℕ) (o sizes : List ℕ) (head : ℕ) → AreOctets o → sizes_in kind n before o ≡ Some (sizes, head)
     → (length sizes ≡ n) × (head ≤ length o) × Spells kind before sizes (take head o)
 unfolding sizes_in
@@ -295,7 +295,7 @@ sizes_in-found kind (suc n) before o sizes head octets is =
 
 -- ---- whole laces
 
--- sizes are all but the last, and the last
+-- A list is all sizes except the last, then the last.
 explicit_sizes-push : (sizes : List ℕ) (last : ℕ) → explicit_sizes (sizes ++ last ∷ []) ≡ sizes
 explicit_sizes-push [] last = refl
 explicit_sizes-push (size ∷ []) last = refl
@@ -312,7 +312,7 @@ explicit_sizes-split [] some = absurd (omega arith)
 explicit_sizes-split (size ∷ []) some = refl
 explicit_sizes-split (size ∷ (next ∷ sizes)) some = ap (λ (x : List ℕ). size ∷ x) (explicit_sizes-split (next ∷ sizes) (omega arith))
 
--- equal sizes are as many times the first
+-- Equal sizes are repetitions of the first.
 AreEqual-replicate : (size : ℕ) (sizes : List ℕ) → All (λ other. other ≡ size) sizes → sizes ≡ replicate (length sizes) size
 AreEqual-replicate size [] equal = refl
 AreEqual-replicate size (s ∷ sizes) equal =
@@ -328,7 +328,7 @@ sum-replicate : (n size : ℕ) → sum (replicate n size) ≡ n * size
 sum-replicate zero size = omega arith
 sum-replicate (suc n) size = sum_by-cons (λ (x : ℕ). x) size (replicate n size) ∙ ap (λ (x : ℕ). size + x) (sum-replicate n size) ∙ (let more = suc-mul n size in omega arith)
 
--- the sizes of a spelled lace are read
+-- The sizes of a written lace are read back.
 spelled-again : (kind : Lace) (head sizes rest : List ℕ) → 1 ≤ length sizes → Spells kind None (explicit_sizes sizes) head → sum sizes ≡ length rest
     → with_last (length (head ++ rest)) (sizes_in kind (length sizes - 1) None (head ++ rest)) ≡ Some (sizes, length head)
 spelled-again kind head sizes rest some spells fits =
@@ -343,7 +343,7 @@ spelled-again kind head sizes rest some spells fits =
     rw (fewer, read) (cond-true (nat_le (length head + sum (explicit_sizes sizes)) (length (head ++ rest))) _ _ (le-leb _ _ (omega arith))
     ∙ ap (λ (ss : List ℕ). Some (ss, length head)) joined)
 
--- and what is read is spelled
+-- Sizes that were read are the sizes of a lace.
 spelled-found : (kind : Lace) (n : ℕ) (o sizes : List ℕ) (head : ℕ) → AreOctets o → 1 ≤ n → with_last (length o) (sizes_in kind (n - 1) None o) ≡ Some (sizes, head)
     → (length sizes ≡ n) × (head ≤ length o) × Spells kind None (explicit_sizes sizes) (take head o) × (head + sum sizes ≡ length o)
 spelled-found kind n o sizes head octets some is = go (sizes_in kind (n - 1) None o) refl is
@@ -396,7 +396,7 @@ frame_sizes_in-again lace.Fixed head sizes rest some is fits =
     rw none (cond-true (length rest % length sizes == 0) _ _ (eq-eqb _ _ equal.0) ∙ ap (λ (ss : List ℕ). Some (ss, 0)) (sym equal.1))
 frame_sizes_in-again lace.Ebml head sizes rest some is fits = spelled-again lace.Ebml head sizes rest some is fits
 
--- What is a lace is read as it.
+-- A lace is read as its sizes.
 pub lace_in-again : (kind : Lace) (head sizes rest : List ℕ) → IsLace kind head sizes (length (head ++ rest)) → lace_in kind (length sizes) (head ++ rest) ≡ Some (sizes, length head)
 unfolding lace_in
 lace_in-again kind head sizes rest is =
@@ -426,7 +426,7 @@ frame_sizes_in-found lace.Fixed n o sizes head octets some is =
     subst (λ (h : ℕ). P sizes h) found.2 (subst (λ (ss : List ℕ). P ss 0) found.1 whole)
 frame_sizes_in-found lace.Ebml n o sizes head octets some is = spelled-found lace.Ebml n o sizes head octets some is
 
--- What is read is a lace.
+-- Sizes that were read are the sizes of a lace.
 pub lace_in-found : (kind : Lace) (n : ℕ) (o sizes : List ℕ) (head : ℕ) → AreOctets o → lace_in kind n o ≡ Some (sizes, head) → FindsLace kind n o sizes head
 unfolding lace_in
 lace_in-found kind n o sizes head octets is = go (is_frame_count n) refl is
@@ -443,7 +443,7 @@ lace_in-found kind n o sizes head octets is = go (is_frame_count n) refl is
           lace = record { some = omega (arith, found.0, range.0); most = omega (arith, found.0, range.1); spelled = found.2; whole = omega (arith, found.3) };
         }
 
--- A lace at the front is read.
+-- A lace at the start of the bytes is read.
 pub lace_in-finds : (kind : Lace) (n : ℕ) (o sizes : List ℕ) (head : ℕ) → FindsLace kind n o sizes head → lace_in kind n o ≡ Some (sizes, head)
 lace_in-finds kind n o sizes head finds =
     let split : take head o ++ drop head o ≡ o = take-append-drop head o in
@@ -452,7 +452,7 @@ lace_in-finds kind n o sizes head finds =
     sym (ap (λ (m : ℕ). lace_in kind m o) finds.count) ∙ sym (ap (lace_in kind (length sizes)) split)
     ∙ lace_in-again kind (take head o) sizes (drop head o) lace ∙ ap (λ (m : ℕ). Some (sizes, m)) own
 
--- Where nothing is read, no front of the octets is the head of a lace.
+-- If nothing is read, no prefix of the bytes is the head of a lace.
 pub lace_in-none : (kind : Lace) (n : ℕ) (o : List ℕ) → lace_in kind n o ≡ None → HasNoLace kind n o
 lace_in-none kind n o none = λ head rest sizes split count is.
     let P : List ℕ → Type 0 = λ x. IsLace kind head sizes (length x) in
@@ -461,7 +461,7 @@ lace_in-none kind n o none = λ head rest sizes split count is.
     let L : ℕ → List ℕ → Option (List ℕ × ℕ) = lace_in kind in
     absurd (cc)
 
--- Within one kind no two lists of as many sizes have one head and total.
+-- Lists of the same number of sizes, with the same kind, head and total, are equal.
 pub IsLace-unique : (kind : Lace) (head a b : List ℕ) (total : ℕ) → length a ≡ length b → IsLace kind head a total → IsLace kind head b total → a ≡ b
 IsLace-unique kind head a b total count one other =
     let rest : List ℕ = replicate (sum a) 0 in
@@ -478,7 +478,7 @@ IsLace-unique kind head a b total count one other =
 
 -- ---- reading in steps
 
--- sizes that were read before others, from so many octets
+-- the sizes `front`, read from `octets` bytes, before others
 abbrev pub with_front : List ℕ → ℕ → Option (List ℕ × ℕ) → Option (List ℕ × ℕ)
 with_front front octets None = None
 with_front front octets (Some (sizes, head)) = Some (front ++ sizes, octets + head)
@@ -491,7 +491,7 @@ pub lace_in-uncounted : (kind : Lace) (n : ℕ) (o : List ℕ) → is_frame_coun
 unfolding lace_in
 lace_in-uncounted kind n o outside = cond-false (is_frame_count n) _ _ outside
 
--- one size more moves from what is left to what was read
+-- One step moves a size from the unread sizes to the read ones.
 pub with_front-step : (kind : Lace) (items : List ℕ) (h m n : ℕ) (before : Option ℕ) (rest : List ℕ) (size len : ℕ) → n ≡ suc m → size_in kind before rest ≡ Some (size, len)
     → with_front items h (sizes_in kind n before rest) ≡ with_front (items ++ size ∷ []) (h + len) (sizes_in kind m (Some size) (drop len rest))
 unfolding sizes_in
@@ -503,13 +503,13 @@ with_front-step kind items h m n before rest size len count first =
     go (Some (sizes, head)) =
         ap (λ (x : List ℕ). Some (x, h + (len + head))) (sym (append_assoc items (size ∷ []) sizes)) ∙ ap (λ (x : ℕ). Some ((items ++ size ∷ []) ++ sizes, x)) (omega arith)
 
--- where the next size isn't read, nothing is
+-- If the next size isn't read, the lace isn't.
 pub with_front-stop : (kind : Lace) (items : List ℕ) (h n : ℕ) (before : Option ℕ) (rest : List ℕ) → 1 ≤ n → size_in kind before rest ≡ None → with_front items h (sizes_in kind n before rest) ≡ None
 unfolding sizes_in
 with_front-stop kind items h zero before rest some none = absurd (omega arith)
 with_front-stop kind items h (suc n) before rest some none = rw none refl
 
--- where none is left, what was read is all
+-- If no size is left, the read ones are all.
 pub with_front-end : (kind : Lace) (items : List ℕ) (h n : ℕ) (before : Option ℕ) (rest : List ℕ) → n ≡ 0 → with_front items h (sizes_in kind n before rest) ≡ Some (items, h)
 unfolding sizes_in
 with_front-end kind items h n before rest none =

@@ -1,4 +1,4 @@
--- What a front settles of a lace holds of it whatever stands behind.
+-- Laws on laces that their first bytes settle: they are laces whatever follows.
 use Rattle.std.proofs.Common.{◌≡◌, ◌⊎◌, ℕ, zero, suc, ◌+◌, ◌-◌, ◌/◌, ◌%◌, ◌==◌, ◌<◌, ◌≤◌, nat_le, inl, inr, Bool, true, false, if◌then◌else◌, List, [], ◌∷◌, ◌++◌, append_assoc, length, take, drop, sum, replicate, slice_index, Option, None, Some, refl, sym, ap, ◌∙◌, subst, arith}
 use Rattle.std.proofs.lemmas.List.{length-append, take-append-drop, take-append-le, drop-append-le, length-take-le, length-drop, length-replicate}
 use Rattle.std.proofs.lemmas.List.Sums.{sum_by-cons}
@@ -12,7 +12,7 @@ use Rattle.lacing.specs.Reading.{any_size, fitting, size_in, with_size, sizes_in
 use Rattle.lacing.specs.Settled.{with_zeros, has_head_within, is_settled, HasLace}
 use Rattle.lacing.proofs.LaceLemmas.{any_size-again, any_size-found, fitting-found, lace_in-found, lace_in-finds, lace_in-frames, lace_in-uncounted}
 
--- ---- zeros behind a front
+-- ---- zeros after the first bytes
 
 AreOctets-cons : (x : ℕ) (xs : List ℕ) → x < 256 → AreOctets xs → AreOctets (x ∷ xs)
 AreOctets-cons x xs first rest = at
@@ -42,13 +42,13 @@ length-with_zeros front len inside =
     let zeros = length-replicate {A = ℕ} (len - length front) 0 in
     omega arith
 
--- ---- what is settled is a lace
+-- ---- a settled lace is a lace
 
 settled-found : (front : List ℕ) (found : Option (List ℕ × ℕ)) → has_head_within front found ≡ true → (sizes : List ℕ) × (head : ℕ) × (found ≡ Some (sizes, head)) × (head ≤ length front)
 settled-found front None is = absurd (cc)
 settled-found front (Some (sizes, head)) is = (sizes, head, refl, leb-true head (length front) is)
 
--- a lace whose head lies within a front is one behind which other octets stand, as many
+-- A lace with its head in the first bytes stays one if other bytes of the same number follow.
 FindsLace-front : (kind : Lace) (count : ℕ) (a b sizes : List ℕ) (head : ℕ) → take head a ≡ take head b → length a ≡ length b → FindsLace kind count a sizes head → FindsLace kind count b sizes head
 FindsLace-front kind count a b sizes head same long finds =
     let P : List ℕ → ℕ → Type 0 = λ front len. IsLace kind front sizes len in
@@ -58,7 +58,7 @@ FindsLace-front kind count a b sizes head same long finds =
       lace = subst (λ (n : ℕ). P (take head b) n) long (subst (λ (o : List ℕ). P o (length a)) same finds.lace);
     }
 
--- Octets whose front settles that they are a lace are one.
+-- Bytes whose first bytes settle that they are a lace are one.
 pub HasLace-settled : (kind : Lace) (count : ℕ) (front octets : List ℕ) → AreOctets front → front ≡ take (length front) octets → is_settled kind count front (length octets) ≡ true → HasLace kind count front octets
 HasLace-settled kind count front octets are is settled =
     let found = settled-found front (lace_in kind count (with_zeros front (length octets))) settled in
@@ -74,9 +74,9 @@ HasLace-settled kind count front octets are is settled =
     let finds = FindsLace-front kind count whole octets sizes head (own ∙ sym other) (length-with_zeros front (length octets) inside) first in
     record { sizes = sizes; head = head; inside = found.3; finds = finds; read = lace_in-finds kind count octets sizes head finds }
 
--- ---- one size at a front
+-- ---- one size in the first bytes
 
--- what is read of a front is read whatever stands behind it
+-- A size that is read from the first bytes is read whatever follows them.
 any_size-whole : (kind : Lace) (before : Option ℕ) (o rest : List ℕ) (size len : ℕ) → AreOctets o → any_size kind before o ≡ Some (size, len) → (len ≤ length o) × (any_size kind before (o ++ rest) ≡ Some (size, len))
 any_size-whole kind before o rest size len octets is =
     let found = any_size-found kind before o size len octets is in
@@ -85,7 +85,7 @@ any_size-whole kind before o rest size len octets is =
     let own = length-take-le len o found.0 in
     (found.0, ap (any_size kind before) (sym split) ∙ again ∙ ap (λ (n : ℕ). Some (size, n)) own)
 
--- and what its octets spell alone
+-- A size that lies in the first bytes is read from them.
 any_size-front : (kind : Lace) (before : Option ℕ) (o rest : List ℕ) (size len : ℕ) → AreOctets (o ++ rest) → any_size kind before (o ++ rest) ≡ Some (size, len) → len ≤ length o → any_size kind before o ≡ Some (size, len)
 any_size-front kind before o rest size len octets is inside =
     let found = any_size-found kind before (o ++ rest) size len octets is in
@@ -95,14 +95,14 @@ any_size-front kind before o rest size len octets is inside =
     let own : length (take len (o ++ rest)) ≡ len = ap length front ∙ length-take-le len o inside in
     ap (any_size kind before) (sym split) ∙ again ∙ ap (λ (n : ℕ). Some (size, n)) own
 
--- the octets behind so many of a front, and zeros
+-- The bytes from the offset `head` on are the rest of the first bytes, then zeros.
 behind : (front : List ℕ) (len head : ℕ) → head ≤ length front → drop head (with_zeros front len) ≡ drop head front ++ replicate (len - length front) 0
 behind front len head inside = drop-append-le head front (replicate (len - length front) 0) inside
 
 room : (front : List ℕ) (len head : ℕ) → length front ≤ len → length (drop head (with_zeros front len)) ≡ len - head
 room front len head within = length-drop head (with_zeros front len) ∙ ap (λ (n : ℕ). n - head) (length-with_zeros front len within)
 
--- A size that is read of the front stands there.
+-- A size that is read from the first bytes is a size of the whole.
 pub size_in-settled : (kind : Lace) (before : Option ℕ) (front : List ℕ) (len head size octets : ℕ) → AreOctets front → length front ≤ len → head ≤ length front → fitting (len - head) (any_size kind before (drop head front)) ≡ Some (size, octets)
     → (size_in kind before (drop head (with_zeros front len)) ≡ Some (size, octets)) × (head + octets ≤ length front) × (head + octets + size ≤ len)
 unfolding size_in
@@ -118,7 +118,7 @@ size_in-settled kind before front len head size octets are within inside is =
       omega (arith, found.1, whole.0),
     )
 
--- Where none is, one that stands there passes the front.
+-- If none is read, a size of the whole ends after the first bytes.
 pub size_in-unsettled : (kind : Lace) (before : Option ℕ) (front : List ℕ) (len head size octets : ℕ) → AreOctets front → length front ≤ len → head ≤ length front → fitting (len - head) (any_size kind before (drop head front)) ≡ None
     → size_in kind before (drop head (with_zeros front len)) ≡ Some (size, octets) → length front < head + octets
 unfolding size_in
@@ -137,14 +137,14 @@ size_in-unsettled kind before front len head size octets are within inside none 
           absurd (cc))
     ]
 
--- ---- sizes, one behind the other
+-- ---- sizes in sequence
 
--- behind so many octets, which spelled sizes of this sum, the others are read of the front and leave room
+-- After `head` bytes, which encode sizes with the sum `total`, the other sizes lie in the first bytes and leave room.
 abbrev pub settles_rest : List ℕ → ℕ → ℕ → ℕ → Option (List ℕ × ℕ) → Bool
 settles_rest front len head total None = false
 settles_rest front len head total (Some (sizes, more)) = if nat_le (head + more + (total + sum sizes)) len then nat_le (head + more) (length front) else false
 
--- at first all are to be read
+-- At first all sizes are unread.
 pub settles_rest-all : (front : List ℕ) (len : ℕ) (found : Option (List ℕ × ℕ)) → settles_rest front len 0 0 found ≡ has_head_within front (with_last len found)
 settles_rest-all front len None = refl
 settles_rest-all front len (Some (sizes, head)) =
@@ -158,7 +158,7 @@ settles_rest-all front len (Some (sizes, head)) =
     choose true = refl
     choose false = refl
 
--- one more is read
+-- One step reads a size.
 pub settles_rest-more : (kind : Lace) (front : List ℕ) (len head total m n : ℕ) (before : Option ℕ) (rest : List ℕ) (size octets : ℕ) → n ≡ suc m → size_in kind before rest ≡ Some (size, octets)
     → settles_rest front len head total (sizes_in kind n before rest) ≡ settles_rest front len (head + octets) (total + size) (sizes_in kind m (Some size) (drop octets rest))
 unfolding sizes_in
@@ -174,7 +174,7 @@ settles_rest-more kind front len head total m n before rest size octets count fi
         ap (λ (p : ℕ). if nat_le (p + (total + sum (size ∷ sizes))) len then nat_le p (length front) else false) place
         ∙ ap (λ (t : ℕ). if nat_le (head + octets + more + t) len then nat_le (head + octets + more) (length front) else false) all
 
--- where the next isn't within the front, the lace isn't settled
+-- If the next size doesn't lie in the first bytes, the lace isn't settled.
 pub settles_rest-stop : (kind : Lace) (front : List ℕ) (len head total n : ℕ) (before : Option ℕ) (rest : List ℕ) → 1 ≤ n → ((size octets : ℕ) → size_in kind before rest ≡ Some (size, octets) → length front < head + octets)
     → settles_rest front len head total (sizes_in kind n before rest) ≡ false
 unfolding sizes_in
@@ -195,7 +195,7 @@ settles_rest-stop kind front len head total (suc m) before rest some past = firs
     first None is = rw is refl
     first (Some (size, octets)) is = rw is (others size octets (sizes_in kind m (Some size) (drop octets rest)) (past size octets is))
 
--- where none is left, the last has what is left
+-- If no size is left, the last one gets the bytes that remain.
 pub settles_rest-end : (kind : Lace) (front : List ℕ) (len head total n : ℕ) (before : Option ℕ) (rest : List ℕ) → n ≡ 0 → head ≤ length front → settles_rest front len head total (sizes_in kind n before rest) ≡ nat_le (head + total) len
 unfolding sizes_in
 settles_rest-end kind front len head total n before rest none inside =
@@ -219,7 +219,7 @@ is_settled-uncounted kind count front len outside = ap (has_head_within front) (
 pub is_settled-counted : (kind : Lace) (count : ℕ) (front : List ℕ) (len : ℕ) → is_frame_count count ≡ true → is_settled kind count front len ≡ has_head_within front (frame_sizes_in kind count (with_zeros front len))
 is_settled-counted kind count front len inside = ap (has_head_within front) (lace_in-frames kind count (with_zeros front len) inside)
 
--- a lace that has no head, where there is one
+-- A lace without a head is settled if there is one.
 headless : (front sizes : List ℕ) (b : Bool) → has_head_within front (if b then Some (sizes, 0) else None) ≡ b
 headless front sizes true = le-leb 0 (length front) (omega arith)
 headless front sizes false = refl
@@ -233,7 +233,7 @@ is_settled-fixed count front len inside within =
     ∙ headless front (replicate count (length (with_zeros front len) / count)) (length (with_zeros front len) % count == 0)
     ∙ ap (λ (n : ℕ). n % count == 0) (length-with_zeros front len within)
 
--- of sizes that are spelled
+-- A lace with encoded sizes is settled by them.
 pub is_settled-spelled : (kind : Lace) (count : ℕ) (front : List ℕ) (len : ℕ) → (kind ≡ lace.Xiph) ⊎ (kind ≡ lace.Ebml) → is_frame_count count ≡ true → length front ≤ len
     → is_settled kind count front len ≡ has_head_within front (with_last len (sizes_in kind (count - 1) None (with_zeros front len)))
 is_settled-spelled kind count front len is inside within =

@@ -1,4 +1,5 @@
--- Laces that the rules of RFC 9559, section 10.3 (Block Lacing), settle, computed, so that a wrong definition does not check. The sizes 800, 500 and 1000 are the standard's own.
+-- Computed laces by the rules of RFC 9559, section 10.3 (Block Lacing). A wrong definition fails here. The sizes 800, 500 and 1000 are the
+-- standard's own.
 use Rattle.std.proofs.Common.{◌≡◌, ℕ, true, false, List, [], ◌∷◌, replicate, None, Some, refl}
 use Rattle.std.specs.Int.Count.{count_leading_zeros}
 use Rattle.ebml_numbers.specs.Number.{size_at, least_size_width}

@@ -1,4 +1,4 @@
--- What is written is the head of a lace.
+-- Laws on written lacing: it is the head of a lace.
 use Rattle.std.proofs.Common.{◌≡◌, ℕ, suc, ◌+◌, ◌-◌, ◌*◌, ◌/◌, ◌%◌, ◌^◌, ◌<◌, ◌≤◌, nat_le, List, [], ◌∷◌, ◌++◌, length, take, drop, slice_index, sum, All, IfSome, replicate, append-nil, Option, None, Some, Ok, refl, sym, ap, ◌∙◌, subst, arith}
 use Rattle.std.proofs.Math.Nat.{pow-suc}
 use Rattle.std.proofs.lemmas.Bool.{le-leb, leb-true}
@@ -19,7 +19,7 @@ use Rattle.lacing.specs.Reading.{data_of, lace_in}
 use Rattle.lacing.specs.Writing.{distance, difference_width, difference_octets, ebml_octets, octets_of_size, octets_of_sizes, lace_head, CanLace}
 use Rattle.lacing.proofs.LaceLemmas.{data_of-size, lace_in-again, last_of, explicit_sizes-split}
 
--- the kinds whose head spells sizes
+-- The kind encodes sizes in its head.
 abbrev SpellsSizes : Lace → Type 0
 SpellsSizes lace.None = ⊥
 SpellsSizes lace.Xiph = Unit {0}
@@ -34,7 +34,7 @@ difference_width-IsLeast before size small low =
     least_width-IsLeast (λ w. nat_le (distance before size) (bias w)) (λ w. distance before size ≤ bias w)
     (λ k. leb-true (distance before size) (bias k)) (λ k. le-leb (distance before size) (bias k)) (omega arith)
 
--- the data of a difference, which are not all 1
+-- The data of a difference aren't all 1.
 pub difference-lt : (before size w : ℕ) → 1 ≤ w → distance before size ≤ bias w → (before ≤ size + bias w) × (size + bias w - before < all_ones w)
 difference-lt before size w some fits =
     let digits : 7 * w ≡ suc (7 * w - 1) = omega arith in
@@ -68,7 +68,7 @@ IsDifference-octets before size small low =
       sum = rw (len, is_data) (omega (arith, value.0));
     }
 
--- each size is spelled by its octets
+-- The bytes of each size encode it.
 IsSpelling-octets : (kind : Lace) (before : Option ℕ) (size : ℕ) → SpellsSizes kind → IfSome before (λ b. b < 2 ^ 32) → size < 2 ^ 32 → IsSpelling kind before size (octets_of_size kind before size)
 IsSpelling-octets lace.None before size spells small low = absurd spells
 IsSpelling-octets lace.Xiph before size spells small low = refl
@@ -78,7 +78,7 @@ IsSpelling-octets lace.Ebml (Some before) size spells small low = IsDifference-o
 
 -- ---- a head
 
--- sizes are spelled by their octets
+-- The bytes of sizes in sequence encode them.
 Spells-octets : (kind : Lace) (before : Option ℕ) (sizes : List ℕ) → SpellsSizes kind → IfSome before (λ b. b < 2 ^ 32) → All (λ s. s < 2 ^ 32) sizes → Spells kind before sizes (octets_of_sizes kind before sizes)
 unfolding octets_of_sizes
 Spells-octets kind before [] spells small low = refl
@@ -91,7 +91,7 @@ Spells-octets kind before (size ∷ sizes) spells small low =
       Spells-octets kind (Some size) sizes spells here (All-tail (λ s. s < 2 ^ 32) size sizes low),
     )
 
--- a kind that spells no sizes has no head
+-- A kind that encodes no sizes has an empty head.
 octets_of_sizes-none : (kind : Lace) (before : Option ℕ) (sizes : List ℕ) → ((b : Option ℕ) (size : ℕ) → octets_of_size kind b size ≡ []) → octets_of_sizes kind before sizes ≡ []
 unfolding octets_of_sizes
 octets_of_sizes-none kind before [] none = refl
@@ -102,7 +102,7 @@ All-explicit_sizes P [] all = all
 All-explicit_sizes P (size ∷ []) all = All-nil P
 All-explicit_sizes P (size ∷ (next ∷ sizes)) all = All-cons P size (explicit_sizes (next ∷ sizes)) (All-head P size (next ∷ sizes) all) (All-explicit_sizes P (next ∷ sizes) (All-tail P size (next ∷ sizes) all))
 
--- sizes of a small sum are small
+-- Sizes with a small sum are small.
 All-sum : (sizes : List ℕ) (n : ℕ) → sum sizes ≤ n → All (λ s. s ≤ n) sizes
 All-sum [] n small = All-nil (λ s. s ≤ n)
 All-sum (size ∷ sizes) n small =
@@ -117,11 +117,11 @@ IsLaceHead-octets lace.Fixed sizes can = (can.fits, octets_of_sizes-none lace.Fi
 IsLaceHead-octets lace.Ebml sizes can =
     Spells-octets lace.Ebml None (explicit_sizes sizes) tt tt (All-explicit_sizes (λ s. s < 2 ^ 32) sizes (All-weaker (λ s. s ≤ 2 ^ 26) (λ s. s < 2 ^ 32) (λ s h. omega arith) sizes (All-sum sizes (2 ^ 26) can.total)))
 
--- What is written is a lace.
+-- The written bytes are the head of a lace.
 pub IsLace-octets : (kind : Lace) (sizes : List ℕ) → CanLace kind sizes → IsLace kind (lace_head kind sizes) sizes (length (lace_head kind sizes) + sum sizes)
 IsLace-octets kind sizes can = record { some = can.some; most = can.most; spelled = IsLaceHead-octets kind sizes can; whole = refl }
 
--- And with its frames behind it, it is split into the same sizes.
+-- With its frames after it, the head is read as the same sizes.
 pub lace_in-octets : (kind : Lace) (sizes frames : List ℕ) → CanLace kind sizes → length frames ≡ sum sizes → lace_in kind (length sizes) (lace_head kind sizes ++ frames) ≡ Some (sizes, length (lace_head kind sizes))
 lace_in-octets kind sizes frames can fits =
     let whole : length (lace_head kind sizes) + sum sizes ≡ length (lace_head kind sizes ++ frames) = omega (arith, length-append (lace_head kind sizes) frames) in
@@ -130,7 +130,7 @@ lace_in-octets kind sizes frames can fits =
 
 -- ---- lengths
 
--- a size takes an octet for each 255 of it, and 8 octets at most besides; all are counted 255 times
+-- A size takes a byte for each 255 of its value, and at most 8 bytes more. The lemma counts 255 times the bytes.
 length-octets_of_size : (kind : Lace) (before : Option ℕ) (size : ℕ) → IfSome before (λ b. b < 2 ^ 32) → size < 2 ^ 32 → 255 * length (octets_of_size kind before size) ≤ size + 2040
 length-octets_of_size lace.None before size small low = omega arith
 length-octets_of_size lace.Xiph before size small low =
@@ -166,7 +166,7 @@ explicit_sizes-take (size ∷ (next ∷ sizes)) some =
     let count : length (size ∷ (next ∷ sizes)) - 1 ≡ suc (length (next ∷ sizes) - 1) = omega arith in
     rw count (ap (λ (x : List ℕ). size ∷ x) (explicit_sizes-take (next ∷ sizes) (omega arith)))
 
--- the octets from one size on are its own and those from the next on
+-- The bytes from one size on are its own bytes, then the bytes from the next size on.
 pub octets_of_sizes-more : (kind : Lace) (before : Option ℕ) (sizes : List ℕ) (i size : ℕ) → i < length sizes → size ≡ slice_index sizes i
     → octets_of_sizes kind before (drop i sizes) ≡ octets_of_size kind before size ++ octets_of_sizes kind (Some size) (drop (i + 1) sizes)
 unfolding octets_of_sizes
@@ -176,7 +176,7 @@ pub octets_of_sizes-end : (kind : Lace) (before : Option ℕ) (sizes : List ℕ)
 unfolding octets_of_sizes
 octets_of_sizes-end kind before sizes i outside = rw (drop_all i sizes outside) refl
 
--- a lace's head has 2^19 octets at most
+-- The head of a lace has at most 2^19 bytes.
 pub length-lace_head : (kind : Lace) (sizes : List ℕ) → CanLace kind sizes → length (octets_of_sizes kind None (explicit_sizes sizes)) ≤ 2 ^ 19
 length-lace_head kind sizes can =
     let low = All-explicit_sizes (λ s. s < 2 ^ 32) sizes (All-weaker (λ s. s ≤ 2 ^ 26) (λ s. s < 2 ^ 32) (λ s h. omega arith) sizes (All-sum sizes (2 ^ 26) can.total)) in

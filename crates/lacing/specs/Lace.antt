@@ -1,31 +1,32 @@
--- Laces: RFC 9559, section 10.3 (Block Lacing).
+-- Lacing: RFC 9559, section 10.3 (Block Lacing). A lace is the head of a block, with the sizes of its frames, and these frames.
 use Rattle.std.specs.Prelude.{◌≡◌, ℕ, ◌+◌, ◌-◌, ◌*◌, ◌/◌, ◌%◌, ◌^◌, ◌≤◌, ⊤, List, [], ◌∷◌, ◌++◌, length, take, sum, All, replicate, Option, None, Some, Ok}
 use Rattle.ebml_numbers.specs.declared.number.Size.TheVariants.{Known}
 use Rattle.ebml_numbers.specs.Number.{announced, vint_data, size_at}
 use Rattle.lacing.specs.declared.kind.Lace.{Lace}
 use Rattle.lacing.specs.declared.kind.Lace.TheVariants as lace
 
--- ---- how a size is spelled
+-- ---- the encoding of a size
 
--- in Xiph lacing a size is the sum of octets of 255 and one of less
+-- in Xiph lacing a size is the sum of bytes 255 and one smaller byte
 abbrev pub xiph_octets : ℕ → List ℕ
 xiph_octets size = replicate (size / 255) 255 ++ size % 255 ∷ []
 
--- in EBML lacing the first size is an Element Data Size, and a known one
+-- In EBML lacing the first size is a known Element Data Size, and `octets` are its bytes.
 abbrev pub IsFirstSize : ℕ → List ℕ → Type 0
 IsFirstSize size octets = size_at octets ≡ Ok (record { size = Known size; len = length octets })
 
--- the data of a difference of 0 in n octets
+-- the data of a difference of 0 in `n` bytes
 abbrev pub bias : ℕ → ℕ
 bias n = 2 ^ (7 * n - 1) - 1
 
--- Each further size is its difference to the size before, in a variable-size integer of any width. Data of all 1 count like others.
+-- The bytes encode the size `size` as its difference to the previous size `before`, in a variable-size integer of any width. Data of all 1 are a
+-- difference like others.
 pub record IsDifference (before size : ℕ) (octets : List ℕ) : Type 0 where
   pub whole : announced octets ≡ length octets
   pub few : length octets ≤ 8
   pub sum : before + vint_data (length octets) octets ≡ size + bias (length octets)
 
--- the octets spell a size behind the size before it, if any
+-- The bytes encode the size `size` after the size `before`, if any.
 abbrev pub IsSpelling : Lace → Option ℕ → ℕ → List ℕ → Type 0
 IsSpelling lace.None before size octets = ⊥
 IsSpelling lace.Xiph before size octets = octets ≡ xiph_octets size
@@ -33,51 +34,51 @@ IsSpelling lace.Fixed before size octets = ⊥
 IsSpelling lace.Ebml None size octets = IsFirstSize size octets
 IsSpelling lace.Ebml (Some before) size octets = IsDifference before size octets
 
--- the octets spell sizes, one behind the other
+-- The bytes encode the sizes in sequence, the first after the size `before`, if any.
 abbrev pub Spells : Lace → Option ℕ → List ℕ → List ℕ → Type 0
 Spells kind before [] octets = octets ≡ []
 Spells kind before (size ∷ sizes) octets =
     (one : List ℕ) × (more : List ℕ) × (octets ≡ one ++ more) × IsSpelling kind before size one × Spells kind (Some size) sizes more
 
--- ---- what a lace is
+-- ---- the parts of a lace
 
--- the sizes that a head spells: the last is what the others leave
+-- the sizes that a head contains: all except the last, which follows from the others
 abbrev pub explicit_sizes : List ℕ → List ℕ
 explicit_sizes [] = []
 explicit_sizes (size ∷ []) = []
 explicit_sizes (size ∷ (next ∷ sizes)) = size ∷ explicit_sizes (next ∷ sizes)
 
--- each size is the first
+-- The sizes are equal.
 abbrev pub AreEqual : List ℕ → Type 0
 AreEqual [] = ⊤
 AreEqual (size ∷ sizes) = All (λ other. other ≡ size) sizes
 
--- the head of a lace of these sizes
+-- The bytes `head` are the head of a lace with the frame sizes `sizes`.
 abbrev pub IsLaceHead : Lace → List ℕ → List ℕ → Type 0
 IsLaceHead lace.None head sizes = (length sizes ≡ 1) × (head ≡ [])
 IsLaceHead lace.Xiph head sizes = Spells lace.Xiph None (explicit_sizes sizes) head
 IsLaceHead lace.Fixed head sizes = AreEqual sizes × (head ≡ [])
 IsLaceHead lace.Ebml head sizes = Spells lace.Ebml None (explicit_sizes sizes) head
 
--- 1 to 256 sizes, whose head and frames make so many octets
+-- The list has 1 to 256 sizes. The head and the frames have `total` bytes together.
 pub record IsLace (kind : Lace) (head sizes : List ℕ) (total : ℕ) : Type 0 where
   pub some : 1 ≤ length sizes
   pub most : length sizes ≤ 256
   pub spelled : IsLaceHead kind head sizes
   pub whole : length head + sum sizes ≡ total
 
--- the octets are a lace of so many frames, these sizes behind a head of so many octets
+-- The bytes are a lace of `frames` frames with the sizes `sizes`, and a head of `head` bytes.
 pub record FindsLace (kind : Lace) (frames : ℕ) (octets sizes : List ℕ) (head : ℕ) : Type 0 where
   pub count : length sizes ≡ frames
   pub inside : head ≤ length octets
   pub lace : IsLace kind (take head octets) sizes (length octets)
 
--- no front of the octets is the head of a lace of so many frames
+-- No prefix of the bytes is the head of a lace of `frames` frames.
 abbrev pub HasNoLace : Lace → ℕ → List ℕ → Type 0
 HasNoLace kind frames octets =
     (head rest sizes : List ℕ) → octets ≡ head ++ rest → length sizes ≡ frames → IsLace kind head sizes (length octets) → ⊥
 
--- within one kind no two lists of as many sizes have one head and total
+-- Lists of the same number of sizes, with the same kind, head and total, are equal.
 abbrev pub HeadSettlesSizes : Type 0
 HeadSettlesSizes =
     (kind : Lace) (head a b : List ℕ) (total : ℕ) → length a ≡ length b → IsLace kind head a total → IsLace kind head b total → a ≡ b

@@ -1,29 +1,29 @@
--- What octets at the front settle of a lace: RFC 9559, section 10.3 (Block Lacing).
+-- Laces that their first bytes settle: RFC 9559, section 10.3 (Block Lacing).
 use Rattle.std.specs.Prelude.{◌≡◌, ℕ, ◌-◌, ◌≤◌, nat_le, Bool, true, false, List, ◌++◌, length, take, replicate, Option, Some, None}
 use Rattle.ebml_numbers.specs.Number.{AreOctets}
 use Rattle.lacing.specs.declared.kind.Lace.{Lace}
 use Rattle.lacing.specs.Lace.{FindsLace}
 use Rattle.lacing.specs.Reading.{lace_in, sizes_in, with_last}
 
--- a front of so many octets, with zeros in place of the others
+-- `len` bytes that begin with `front` and continue with zeros
 abbrev pub with_zeros : List ℕ → ℕ → List ℕ
 with_zeros front len = front ++ replicate (len - length front) 0
 
--- there is a lace, and its head lies within the front
+-- There is a lace, and its head lies in `front`.
 abbrev pub has_head_within : List ℕ → Option (List ℕ × ℕ) → Bool
 has_head_within front None = false
 has_head_within front (Some (sizes, head)) = nat_le head (length front)
 
--- The front of so many octets settles that they are a lace of so many frames: with zeros in place of the others they are
--- one, and its head lies within the front.
+-- The first bytes `front` settle that `len` bytes are a lace of `count` frames. With zeros after them they are a lace, and its head lies in
+-- `front`.
 abbrev pub is_settled : Lace → ℕ → List ℕ → ℕ → Bool
 is_settled kind count front len = has_head_within front (lace_in kind count (with_zeros front len))
 
--- The front of so many octets settles all sizes of so many frames but the last, and these leave it a size of 0 or more.
+-- The first bytes `front` settle all sizes of `count` frames except the last, and leave the last one a size of 0 or more.
 abbrev pub settles_sizes : Lace → ℕ → List ℕ → ℕ → Bool
 settles_sizes kind count front len = has_head_within front (with_last len (sizes_in kind (count - 1) None (with_zeros front len)))
 
--- The octets are a lace of so many frames, whose head lies within this front of them.
+-- The bytes are a lace of `frames` frames, and its head lies in `front`.
 pub record HasLace (kind : Lace) (frames : ℕ) (front octets : List ℕ) : Type 0 where
   pub sizes : List ℕ
   pub head : ℕ
@@ -31,7 +31,7 @@ pub record HasLace (kind : Lace) (frames : ℕ) (front octets : List ℕ) : Type
   pub finds : FindsLace kind frames octets sizes head
   pub read : lace_in kind frames octets ≡ Some (sizes, head)
 
--- Octets whose front settles that they are a lace are one, whatever stands behind it.
+-- Bytes whose first bytes settle that they are a lace are one, whatever follows.
 abbrev pub FrontSettlesLace : Type 0
 FrontSettlesLace =
     (kind : Lace) (count : ℕ) (front octets : List ℕ) → AreOctets front → front ≡ take (length front) octets

@@ -1,22 +1,22 @@
 //! The kinds of lacing: RFC 9559, section 10.3 (Block Lacing).
 
-/// How the frames of a block are laced: RFC 9559, section 10.3 (Block Lacing).
+/// Kind of lacing of a block's frames: RFC 9559, section 10.3 (Block Lacing).
 #[derive(Clone, Copy, Debug, PartialEq, Eq)]
 pub enum Lace {
-    /// One frame, and no lace.
+    /// No lacing: one frame.
     None,
-    /// Sizes as runs of octets of 255.
+    /// Xiph lacing: sizes as sequences of bytes 255.
     Xiph,
-    /// Frames of one size.
+    /// Fixed-size lacing: frames of one size.
     Fixed,
-    /// A size and the differences from one to the next.
+    /// EBML lacing: a size, then the difference of each size to the previous one.
     Ebml,
 }
 
-/// Why octets are not split into frames.
+/// Reason why bytes aren't divided into frames.
 #[derive(Clone, Copy, Debug, PartialEq, Eq)]
 pub enum LaceEnd {
-    /// No sizes of so many frames fit the octets.
+    /// No sizes for this number of frames fit the bytes.
     Bad,
     /// Memory ran out.
     Memory,

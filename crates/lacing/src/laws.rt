@@ -1,19 +1,19 @@
-//! What holds of every lace: RFC 9559, section 10.3 (Block Lacing).
+//! Laws on lacing: RFC 9559, section 10.3 (Block Lacing).
 ghost use Rattle.lacing.specs.Lace.{HeadSettlesSizes};
 ghost use Rattle.lacing.specs.Reading.{ReadsTheLace};
 ghost use Rattle.lacing.specs.Settled.{FrontSettlesLace};
 
-/// Within one kind of lacing no two lists of as many sizes have one head and total.
+/// Law: lists of the same number of sizes, with the same kind, head and total, are equal.
 pub fn head_settles_sizes()
     ensures { HeadSettlesSizes }
 {}
 
-/// The sizes and the head that are read are those of a lace, and those of a lace are read.
+/// Law: a reader finds the lace at the start of the bytes, and finds one only if there is one.
 pub fn the_lace_is_read()
     ensures { ReadsTheLace }
 {}
 
-/// Where octets at the front settle that there is a lace, there is one, whatever stands behind them.
+/// Law: if the first bytes settle that there is a lace, there is one, whatever follows them.
 pub fn the_front_settles_the_lace()
     ensures { FrontSettlesLace }
 {}

@@ -1,4 +1,4 @@
-//! A lace read from the front: RFC 9559, section 10.3 (Block Lacing).
+//! Lacing that is read: RFC 9559, section 10.3 (Block Lacing).
 ghost use Rattle.std.specs.Prelude.{◌≡◌, ◌+◌, ◌-◌, ◌*◌, ◌^◌, ◌≤◌, ◌<◌, [], Err, None, length, drop, sum, position, not, ◌==◌, ◌≢◌, IfOk, IfSome, OnOk, OnErr};
 ghost use Rattle.smallvec.specs.SmallVec.{HasRoomFor};
 ghost use Rattle.lacing.specs.Lace.{FindsLace, HasNoLace};
@@ -10,8 +10,8 @@ use ebml_numbers::{Size, read_size};
 use smallvec::SmallVec;
 use std::alloc::Global;
 
-/// Splits the octets behind a block's frame count into `count` frames, and answers how many octets
-/// the head of the lace has. The sizes of the frames stand in `sizes` then, in octets.
+/// Divides `bytes`, which follow a block's frame count, into `count` frames. Writes the sizes of the frames in bytes
+/// to `sizes`, and returns the length of the lace's head in bytes.
 pub fn split(
     kind: Lace,
     count: u16,
@@ -20,17 +20,17 @@ pub fn split(
 ) -> Result<u32, LaceEnd>
     requires { length bytes.now ≤ 2 ^ 25 }
 
-    // The sizes are those of a lace, and Bad is answered where there is none.
+    // The sizes are the sizes of a lace. The result is Bad if there is none.
     ensures found { IfOk result (FindsLace kind count bytes.now sizes.new.items) }
     ensures bad { result ≡ Err LaceEnd.Bad → HasNoLace kind count bytes.now }
 
-    // What stands afterwards. Up to eight frames take no memory.
+    // On failure: up to eight frames take no memory.
     ensures empty { result ≡ Err LaceEnd.Bad → sizes.new.items ≡ [] }
     ensures same { result ≡ Err LaceEnd.Memory → sizes.new ≡ sizes.old }
     ensures memory { result ≡ Err LaceEnd.Memory → 8 < count }
     ensures capacity { sizes.old.capacity ≤ sizes.new.capacity }
 
-    // The same as a function.
+    // The same result as a function.
     ensures read { Splits (lace_in kind count bytes.now) sizes.new.items result }
 {
     if !is_frame_count(count) {
@@ -54,7 +54,7 @@ pub(crate) fn is_frame_count(count: u16) -> bool
     (1..=256).contains(&count)
 }
 
-// Drops the sizes, and has room for so many.
+// Empties `sizes` and reserves room for `count` of them.
 fn make_room(count: usize, sizes: &mut SmallVec<u32, 8, Global>) -> Result<(), LaceEnd>
     ensures ok { OnOk result ((sizes.new.items ≡ []) × (count ≤ sizes.new.capacity)) }
     ensures err { OnErr result (sizes.new ≡ sizes.old) }
@@ -70,7 +70,7 @@ fn make_room(count: usize, sizes: &mut SmallVec<u32, 8, Global>) -> Result<(), L
     Ok(())
 }
 
-// The sizes of some frames, for which there is room.
+// Appends the sizes of `count` frames to `sizes`, which has room for them.
 fn frames(
     kind: Lace,
     count: usize,
@@ -125,7 +125,7 @@ fn equal_frames(count: usize, bytes: &[u8], sizes: &mut SmallVec<u32, 8, Global>
     Some(0)
 }
 
-// All sizes but the last are spelled, and the last is what they leave.
+// Appends the sizes of the frames. The head has all sizes except the last, which gets the bytes that are left.
 fn spelled_frames(
     kind: Lace,
     count: usize,
@@ -156,7 +156,7 @@ fn spelled_frames(
     Some(head as u32)
 }
 
-// The size behind so many octets, whose frame has room behind it, and how many octets spell it.
+// Returns the size at the offset `at`, if its frame fits in the bytes, and the number of bytes of the size itself.
 #[tactic(auto, unfolding(crate::specs::Reading::size_in))]
 fn size_in(kind: Lace, before: Option<u32>, bytes: &[u8], at: usize) -> Option<(u32, usize)>
     requires short { length bytes.now ≤ 2 ^ 25 }
@@ -168,7 +168,8 @@ fn size_in(kind: Lace, before: Option<u32>, bytes: &[u8], at: usize) -> Option<(
     fitting_size(kind, before, rest, rest.len())
 }
 
-/// The size at the front of octets, whose frame has room where so many octets are left, and how many octets spell it.
+/// Returns the size at the start of `rest` and the number of bytes that encode it, if its frame fits in the bytes
+/// that are left.
 pub(crate) fn fitting_size(
     kind: Lace,
     before: Option<u32>,
@@ -192,7 +193,7 @@ pub(crate) fn fitting_size(
     }
 }
 
-// A run of octets of 255 and the octet behind it add up to the size.
+// Reads a size as the sum of bytes 255 and the byte after them.
 fn xiph_size(bytes: &[u8]) -> Option<(u64, usize)>
     requires { length bytes.now ≤ 2 ^ 25 }
     ensures read { result ≡ xiph_size bytes.now }
@@ -202,7 +203,7 @@ fn xiph_size(bytes: &[u8]) -> Option<(u64, usize)>
     Some((255 * run as u64 + u64::from(bytes[run]), run + 1))
 }
 
-// How many octets of 255 stand before another octet.
+// Returns the number of bytes 255 before the first other byte.
 fn run_of(bytes: &[u8]) -> Option<usize>
     ensures read { result ≡ position (λ octet. not (octet == 255)) bytes.now }
     ensures inside { IfSome result (λ run. run < length bytes.now) }
@@ -210,7 +211,7 @@ fn run_of(bytes: &[u8]) -> Option<usize>
     bytes.iter().position(|octet| *octet != 255)
 }
 
-// The first size, or the size before with a difference.
+// Reads the first size, or a difference and adds it to the previous size `before`.
 fn ebml_size(before: Option<u32>, bytes: &[u8]) -> Option<(u64, usize)>
     ensures read { result ≡ ebml_size before bytes.now }
     ensures small { IfSome result (λ front. (front.0 < 2 ^ 57) × (front.1 < 2 ^ 57)) }
@@ -230,7 +231,7 @@ fn ebml_size(before: Option<u32>, bytes: &[u8]) -> Option<(u64, usize)>
     Some((size, len))
 }
 
-// The data of a variable-size integer that was read as a size.
+// Returns the data of a variable-size integer that was read as a size.
 fn data_of(size: Size, len: u8) -> u64
     requires { len ≤ 8 }
     ensures { result ≡ data_of size len }

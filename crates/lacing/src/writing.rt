@@ -1,4 +1,4 @@
-//! A lace written: RFC 9559, section 10.3 (Block Lacing).
+//! Lacing that is written: RFC 9559, section 10.3 (Block Lacing).
 ghost use Rattle.std.specs.Prelude.{◌≡◌, ◌+◌, ◌^◌, ◌<◌, ◌≤◌, ◌++◌, None, length, take, drop, sum};
 ghost use Rattle.ebml_numbers.specs.Octets.{octets_of};
 ghost use Rattle.lacing.specs.Lace.{explicit_sizes, IsLace};
@@ -9,7 +9,7 @@ use crate::difference::{bias, difference_width};
 use crate::kind::Lace;
 use ebml_numbers::{Octets, put_size, size_width};
 
-/// How many octets the head of a lace of these sizes has.
+/// Returns the length in bytes of the head of a lace with the frame sizes `sizes`.
 pub fn lace_len(kind: Lace, sizes: &[u32]) -> u32
     requires { CanLace kind sizes.now }
     ensures exact { result ≡ length (lace_head kind sizes.now) }
@@ -18,20 +18,20 @@ pub fn lace_len(kind: Lace, sizes: &[u32]) -> u32
     spelled_len(kind, explicit_sizes(sizes))
 }
 
-/// Writes the head of a lace of these sizes, in octets, each spelled as short as can be.
+/// Writes the head of a lace with the frame sizes `sizes` to `out`, each size in the fewest bytes.
 pub fn put_lace(kind: Lace, sizes: &[u32], out: &mut [u8])
     requires can { CanLace kind sizes.now }
     requires room { length out.old ≡ length (lace_head kind sizes.now) }
     ensures exact { out.new ≡ lace_head kind sizes.now }
 
-    // It is the head of a lace, and with the frames behind it is split into the same sizes.
+    // It is the head of a lace, which is divided into the same sizes once its frames follow.
     ensures lace { IsLace kind out.new sizes.now (length out.new + sum sizes.now) }
     ensures read { IsReadBack kind sizes.now out.new }
 {
     put_spelled(kind, explicit_sizes(sizes), out);
 }
 
-// The sizes that a head spells.
+// Returns the sizes that a head contains.
 fn explicit_sizes(sizes: &[u32]) -> &[u32]
     requires { 1 ≤ length sizes.now }
     ensures { result.now ≡ explicit_sizes sizes.now }
@@ -64,7 +64,7 @@ fn put_spelled(kind: Lace, sizes: &[u32], out: &mut [u8])
     }
 }
 
-// How many octets spell a size behind the size before it, if any.
+// Returns the number of bytes of the size `size` after the size `before`, if any.
 fn size_len(kind: Lace, before: Option<u32>, size: u32) -> u32
     ensures { result ≡ length (octets_of_size kind before size) }
 {
@@ -75,7 +75,7 @@ fn size_len(kind: Lace, before: Option<u32>, size: u32) -> u32
     }
 }
 
-// Writes the octets of a size at a place, and answers the place behind them.
+// Writes the bytes of the size `size` to `out` at the offset `at`, and returns the offset after them.
 fn put_spelling_at(kind: Lace, before: Option<u32>, size: u32, at: usize, out: &mut [u8]) -> usize
     requires { at + length (octets_of_size kind before size) ≤ length out.old }
     ensures place { result ≡ at + length (octets_of_size kind before size) }
@@ -85,7 +85,7 @@ fn put_spelling_at(kind: Lace, before: Option<u32>, size: u32, at: usize, out: &
     at + put_spelling(kind, before, size, &mut out[at..])
 }
 
-// Writes the octets of a size to the front, and answers how many they are.
+// Writes the bytes of the size `size` to the start of `out`, and returns their number.
 fn put_spelling(kind: Lace, before: Option<u32>, size: u32, out: &mut [u8]) -> usize
     requires { length (octets_of_size kind before size) ≤ length out.old }
     ensures len { result ≡ length (octets_of_size kind before size) }
@@ -120,7 +120,7 @@ fn put_ebml(before: Option<u32>, size: u32, out: &mut [u8]) -> usize
     len
 }
 
-// The first size, or its difference to the size before, in the fewest octets.
+// Returns the first size, or its difference to the size `before`, in the fewest bytes.
 fn ebml_octets(before: Option<u32>, size: u32) -> Octets
     ensures octets { octets_of result ≡ ebml_octets before size }
     ensures len { result.len ≡ length (ebml_octets before size) }

@@ -1,4 +1,4 @@
--- The bias of eight octets is the greatest.
+-- The bias of eight bytes is the greatest.
 use Rattle.std.proofs.Common.{◌-◌, ◌*◌, ◌^◌, ◌≤◌, arith}
 use Rattle.std.proofs.Math.Pow.{pow_mono}
 use Rattle.std.proofs.lemmas.Nat.{shl_whole}

@@ -1,4 +1,4 @@
--- The sizes so far are equal, and there is room for the others.
+-- The sizes up to now are equal, and there is room for the others.
 use Rattle.std.proofs.Common.{◌≡◌, ◌-◌, ◌≤◌, length, replicate}
 use Rattle.lacing.proofs.reading.equal_frames.Given as goal
 

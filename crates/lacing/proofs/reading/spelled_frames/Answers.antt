@@ -1,4 +1,4 @@
--- Each turn moves one size from what is left to what was read; at the end the rest is the last size.
+-- Each turn moves one size from the unread sizes to the read ones; at the end the rest is the last size.
 use Rattle.std.proofs.Common.{◌≡◌, ℕ, ◌-◌, ◌+◌, ◌<◌, ◌≤◌, nat_le, ◌∷◌, ◌++◌, [], List, drop, length, sum, Some, None, ◌∙◌, sym, ap, arith}
 use Rattle.std.proofs.lemmas.Bool.{cond-true, cond-false, le-leb, lt-leb}
 use Rattle.std.proofs.lemmas.List.{drop-drop, length-append}

@@ -1,4 +1,4 @@
--- What is left to be read behind what was read is what was to be read at first.
+-- The read sizes and the unread ones make the list of all sizes.
 use Rattle.std.proofs.Common.{◌≡◌, ◌-◌, ◌*◌, ◌^◌, ◌≤◌, length, drop, sum, None}
 use Rattle.lacing.specs.Reading.{sizes_in}
 use Rattle.lacing.proofs.LaceLemmas.{with_front}

@@ -1,4 +1,4 @@
--- What was read is a lace, and where nothing is read there is none.
+-- Sizes that were read are a lace, and if none are read, there is no lace.
 use Rattle.std.proofs.Common.{◌≡◌, true, ◌∙◌, ap, sym, arith}
 use Rattle.ebml_numbers.specs.Number.{AreOctets}
 use Rattle.lacing.specs.Reading.{frame_sizes_in, is_frame_count}

@@ -1,4 +1,4 @@
--- Each turn takes one size from what is left; at the end the last has what the others leave.
+-- Each turn takes one unread size; at the end the last one gets the bytes that remain.
 use Rattle.std.proofs.Common.{◌≡◌, ◌+◌, ◌-◌, drop, None, Some, ◌∙◌, sym, ap, arith}
 use Rattle.std.proofs.lemmas.List.{drop-drop, take_rest}
 use Rattle.ebml_numbers.specs.Number.{AreOctets}
@@ -17,7 +17,7 @@ loop-left-init c =
       small = omega arith;
     }
 
--- the next size isn't within the front
+-- The next size doesn't lie in the first bytes.
 pub returns-in_default : goal.returns-in_default
 returns-in_default c =
     let left = c.loop-left in

@@ -1,4 +1,4 @@
--- What is left settles the lace where all sizes do.
+-- The unread sizes settle the lace if and only if all sizes do.
 use Rattle.std.proofs.Common.{◌≡◌, ◌-◌, ◌*◌, ◌^◌, ◌≤◌, length, drop, None}
 use Rattle.lacing.specs.Reading.{sizes_in, with_last}
 use Rattle.lacing.specs.Settled.{has_head_within, with_zeros}

@@ -1,4 +1,4 @@
--- What is written is a lace, which is read again.
+-- The written bytes are a lace, which is read back.
 use Rattle.lacing.proofs.WritingLemmas.{IsLace-octets, lace_in-octets}
 use Rattle.lacing.proofs.writing.put_lace.Goals as goal
 

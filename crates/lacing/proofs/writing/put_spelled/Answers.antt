@@ -1,4 +1,4 @@
--- A turn moves one size's octets from what is left to what is written.
+-- A turn moves the bytes of one size from the unwritten to the written ones.
 use Rattle.std.proofs.Common.{◌≡◌, ◌+◌, ◌++◌, length, take, drop, slice_index, None, Some, append_assoc, append-nil, ◌∙◌, ap, sym, refl, arith}
 use Rattle.std.proofs.lemmas.List.{length-append, length-take-le, take_all}
 use Rattle.lacing.specs.Writing.{octets_of_size, octets_of_sizes}

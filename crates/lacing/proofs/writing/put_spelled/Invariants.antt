@@ -1,4 +1,4 @@
--- What is written and what is left are the octets of all sizes.
+-- The written and the unwritten bytes are the bytes of all sizes.
 use Rattle.std.proofs.Common.{◌≡◌, ◌≤◌, ◌++◌, length, take, drop, None}
 use Rattle.lacing.specs.Writing.{octets_of_sizes}
 use Rattle.lacing.proofs.writing.put_spelled.Given as goal

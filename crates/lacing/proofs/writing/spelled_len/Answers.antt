@@ -1,4 +1,4 @@
--- A turn counts one size's octets.
+-- A turn counts the bytes of one size.
 use Rattle.std.proofs.Common.{◌≡◌, ◌+◌, length, drop, slice_index, None, Some, ap, refl, arith}
 use Rattle.std.proofs.lemmas.List.{length-append}
 use Rattle.lacing.specs.Writing.{octets_of_size, octets_of_sizes}

@@ -1,4 +1,4 @@
--- What is counted and what is left are the octets of all sizes.
+-- The counted and the uncounted bytes are the bytes of all sizes.
 use Rattle.std.proofs.Common.{◌≡◌, ◌+◌, length, drop, None}
 use Rattle.lacing.specs.Writing.{octets_of_sizes}
 use Rattle.lacing.proofs.writing.spelled_len.Given as goal
