@@ -1,4 +1,4 @@
--- How calls join that read and write the two files of a disk, by what they leave and why they fail.
+-- Laws on sequences of calls that read and write the two files of a disk, by their effects and causes.
 use Rattle.std.proofs.Common.{◌≡◌, inl, inr, ℕ, ◌+◌, ◌≤◌, Bool, true, false, IsTrue, List, ap, sym, ◌∙◌, subst, arith, MatchBool, Result, Ok, Err}
 use Rattle.mkv_io.specs.Faults.{HasIncreased}
 use Rattle.mkv_io.specs.declared.reads.Reads as reads
@@ -9,7 +9,7 @@ use Rattle.mkv_disk.specs.Writing.{HasDiskCause, HasNoFault, HasOneFault, KeepsO
 use Rattle.mkv_disk.specs.declared.disk.Disk.{Ghosts}
 use Rattle.mkv_disk.proofs.MomentsLemmas.{after_same}
 
--- what a call leaves that only reads
+-- The call changes nothing that reading leaves.
 pub record IsLeft {S : Type 0} (r : reads.Ghosts S) (d : Ghosts S) (old new : S) : Type 0 where
   pub standing : r.standing new ≡ r.standing old
   pub pair : d.pair new ≡ d.pair old
@@ -20,7 +20,7 @@ pub record IsLeft {S : Type 0} (r : reads.Ghosts S) (d : Ghosts S) (old new : S)
   pub writing : d.writing_faults new ≡ d.writing_faults old
 
 module _ {S : Type 0} (r : reads.Ghosts S) (d : Ghosts S) where
-  -- a call that only reads
+  -- A call that only reads keeps the files open.
   pub left-keeps : (old new : S) (n : ℕ) → IsLeft r d old new → r.octets_read old ≤ r.octets_read new → r.octets_read new ≤ r.octets_read old + n → KeepsOpen r d old new n
   left-keeps old new n left least most = record {
     live = λ file. ap (λ s. (r.files s).live file) left.standing;
@@ -36,11 +36,11 @@ module _ {S : Type 0} (r : reads.Ghosts S) (d : Ghosts S) where
     at_rest = λ told. subst IsSynced (sym left.pair) (ready.at_rest told);
   }
 
-  -- a run behind it
+  -- A sequence of calls after a call that only reads.
   pub left-run : (old mid new : S) (P : List ℕ → List ℕ → Type 0) → IsLeft r d old mid → LeavesOnly d.moment d.left_since mid new P → LeavesOnly d.moment d.left_since old new P
   left-run old mid new P left run = after_same d.moment d.left_since old mid new P left.moment left.back left.forth run
 
-  -- two calls
+  -- Two calls.
   pub keeps-then : (old mid new : S) (n more : ℕ) → KeepsOpen r d old mid n → KeepsOpen r d mid new more → KeepsOpen r d old new (n + more)
   keeps-then old mid new n more first second = record {
     live = λ file. second.live file ∙ first.live file;
@@ -56,7 +56,7 @@ module _ {S : Type 0} (r : reads.Ghosts S) (d : Ghosts S) where
   pub none-then : (old mid new : S) → HasNoFault r d old mid → HasNoFault r d mid new → HasNoFault r d old new
   none-then old mid new first second = record { reading = second.reading ∙ first.reading; writing = second.writing ∙ first.writing }
 
-  -- behind a call that failed at nothing
+  -- A call after another one without a fault.
   pub cause-then : {T E : Type 0} (is_fault : E → Bool) (old mid new : S) (result : Result T E) → HasNoFault r d old mid → HasDiskCause r d is_fault mid new result → HasDiskCause r d is_fault old new result
   cause-then is_fault old mid new (Ok value) none cause = none-then old mid new none cause
   cause-then is_fault old mid new (Err e) none cause = by_test (is_fault e) cause

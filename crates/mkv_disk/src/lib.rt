@@ -1,7 +1,7 @@
 #![tactic(auto)]
 
-//! A disk with two files, as edits see it: a medium, and a sidecar beside it. What a crash may leave of
-//! them at any moment is a part of its meaning.
+//! A disk with two files, as an edit in place uses it: the file that is edited, and a journal beside it. Its
+//! definition includes their possible contents after a crash at any moment.
 
 mod disk;
 
