@@ -1,4 +1,4 @@
--- What is written is read again.
+-- Laws on trees that are written: they are read back.
 use Rattle.std.proofs.Common.{◌≡◌, ◌≢◌, ◌⊎◌, inl, inr, ℕ, ◌+◌, ◌-◌, ◌<◌, ◌≤◌, ◌==◌, nat_lt, Bool, true, false, ◌&&◌, if◌then◌else◌, List, [], ◌∷◌, ◌++◌, slice_index, append-nil, append_assoc, length, length-append, take, drop, Option, Some, None, IsSome, Result, Ok, Err, refl, sym, ◌∙◌, ap, ap₂, arith}
 use Rattle.std.proofs.lemmas.Bool.{le-ltb}
 use Rattle.std.proofs.lemmas.Bool.Decides.{nat_tests}
@@ -32,18 +32,18 @@ use Rattle.lemmas.proofs.PlainLemmas.{both-true as both}
 
 -- ---- an ID
 
--- An ID is read where it is written: a valid one, or ChapterDisplay's in a ChapterAtom.
+-- An ID that may be read under `parent`: a valid one, or ChapterDisplay's in a ChapterAtom.
 abbrev pub IsReadIn : ℕ → ℕ → Type 0
 IsReadIn parent id = (is_id id ≡ true) ⊎ ((id ≡ CHAPTER_DISPLAY) × (parent ≡ CHAPTER_ATOM))
 
--- the octet `80` begins no valid ID
+-- The byte `80` begins no valid ID.
 id_at-display : (rest : List ℕ) → id_at (0x80 ∷ rest) ≡ Err fault.Bad
 unfolding count_leading_zeros
 id_at-display rest =
     let one : width 0x80 ≡ 1 = refl in
     id_at-whole 0x80 rest (omega arith) (omega arith)
 
--- octets that begin with a valid ID don't begin with `80`
+-- Bytes that begin with a valid ID don't begin with `80`.
 no-display : (octets : List ℕ) (read : IdRead) → id_at octets ≡ Ok read → slice_index octets 0 ≡ CHAPTER_DISPLAY → ⊥
 no-display [] read is first = absurd (omega arith)
 no-display (o ∷ rest) read is first =
@@ -74,7 +74,7 @@ id_in-again parent id rest (inr (same, atom)) =
 
 -- ---- a header
 
--- the header of an Element at place p
+-- the header of an Element `id` at the offset `p` with a body of `size` bytes
 abbrev pub header_of : ℕ → ℕ → ℕ → Header
 header_of p id size = record { id = id; offset = p; body = p + length (header_octets id size); size = Known size }
 
@@ -104,7 +104,7 @@ element_in-again parent total e p id size rest reads small fits =
     ∙ ap (λ b. with_body (record { id = id; offset = p; body = b; size = Known size }) (body_damage (in_tree parent) total e (record { id = id; offset = p; body = b; size = Known size }))) place
     ∙ body-again parent total e p id size fits
 
--- ---- an Element in front of others
+-- ---- an Element before others
 
 pub header_at-again : (parent p id : ℕ) (body rest : List ℕ) → IsReadIn parent id → length body ≤ longest → header_at parent p (element_octets id body ++ rest) ≡ Ok (header_of p id (length body))
 header_at-again parent p id body rest reads small =
@@ -130,7 +130,7 @@ some-header id size rest small =
     let least = (least_size_width-IsLeast size (omega arith)).some in
     omega (arith, length-append (header_octets id size) rest, length-header_octets id size, least)
 
--- An Element is read, and then what is behind it.
+-- An Element is read, then the Elements after it.
 pub grove-again : (room left parent p id : ℕ) (body rest : List ℕ) → IsReadIn parent id → length body ≤ longest
     → grove room left parent p (element_octets id body ++ rest) ≡ and_then (grown grove room left parent (header_of p id (length body)) body) (λ g. and_then (grove room g.left parent (p + length (element_octets id body)) rest) (with_first g.tree))
 grove-again room left parent p id body rest reads small =
@@ -145,14 +145,14 @@ grove-again room left parent p id body rest reads small =
     ∙ ap (λ b. and_then (grown grove room left parent h b) (λ g. and_then (grove room g.left parent (stated_end h) (behind p h octets)) (with_first g.tree))) (inside-again p id body rest)
     ∙ ap₂ (λ q o. and_then (grown grove room left parent h body) (λ g. and_then (grove room g.left parent q o) (with_first g.tree))) end (behind-again p id body rest)
 
--- ---- trees in front of others
+-- ---- trees before others
 
--- ChapterDisplay is a master of the table, and stands in a ChapterAtom alone
+-- ChapterDisplay is a master of the table, and only a ChapterAtom may have it.
 pub display-parent : (parent : ℕ) → is_master_in parent CHAPTER_DISPLAY ≡ (parent == CHAPTER_ATOM && true)
 unfolding entry_of table
 display-parent parent = refl
 
--- a master of the table is read where it stands
+-- The ID of a master of the table is read under its parent.
 pub master-reads : (parent id : ℕ) → is_master_in parent id ≡ true → IsReadIn parent id
 master-reads parent id is = split (id == CHAPTER_DISPLAY) refl
   where
@@ -173,15 +173,15 @@ master-reads parent id is = split (id == CHAPTER_DISPLAY) refl
 
 -- ---- the trees of a body
 
--- so many more nodes fit as are written
+-- the result of reading the trees `ns` with `left` nodes left
 abbrev pub read_as : Nodes → ℕ → Result Grove Damage
 read_as ns left = Ok (record { trees = list_of ns; left = left })
 
--- what a reader finds of trees at the front of a body, with the trees behind them already known
+-- The trees `ns` are read back from their written bytes.
 Follows : ℕ → ℕ → Nodes → Type 0
 Follows room parent ns = (left p : ℕ) → length (octets_all ns) ≤ longest → kept_all ns ≤ left → grove room left parent p (octets_all ns) ≡ read_as (placed_all p ns) (left - kept_all ns)
 
--- a leaf, and then the others
+-- A leaf, then the other trees.
 leaf-again : (room parent left p id at : ℕ) (body : List ℕ) (ns : Nodes) → IsLeafIn parent id body → is_filler id ≡ false → Follows room parent ns
     → length (element_octets id body ++ octets_all ns) ≤ longest → 1 + kept_all ns ≤ left
     → grove room left parent p (element_octets id body ++ octets_all ns) ≡ read_as (node (leaf id p body) (placed_all (p + length (element_octets id body)) ns)) (left - (1 + kept_all ns))
@@ -200,7 +200,7 @@ leaf-again room parent left p id at body ns stands keeps follows small enough =
     leaf-grown : (left == 0) ≡ false → grown grove room left parent (header_of p id (length body)) body ≡ Ok (record { tree = leaf id p body; left = left - 1 })
     leaf-grown some = rw (some, stands.no_master, stands.value) refl
 
--- a master, and then the others
+-- A master, then the other trees.
 master-again : (room parent left p id at : ℕ) (kids ns : Nodes) → is_master_in parent id ≡ true → 0 < room → Follows (room - 1) id kids → Follows room parent ns
     → length (element_octets id (octets_all kids) ++ octets_all ns) ≤ longest → kept_all kids + 1 + kept_all ns ≤ left
     → grove room left parent p (element_octets id (octets_all kids) ++ octets_all ns)
@@ -226,7 +226,7 @@ master-again room parent left p id at kids ns stands deep inner follows small en
         rw (some, stands, more) (ap (λ r. and_then r (as_master (header_of p id (length (octets_all kids))))) found
         ∙ ap (λ ns. Ok (record { tree = master id p ns; left = left - 1 - kept_all kids })) (nodes-list (placed_all (p + length (header_octets id (length (octets_all kids)))) kids)))
 
--- a leaf, left out or not
+-- A leaf, written or not, then the other trees.
 leaf-step : (room parent left p id at : ℕ) (body : List ℕ) (ns : Nodes) → IsLeafIn parent id body → Follows room parent ns
     → (f : Bool) → is_filler id ≡ f → length ((if f then [] else element_octets id body) ++ octets_all ns) ≤ longest → (if f then kept_all ns else 1 + kept_all ns) ≤ left
     → grove room left parent p ((if f then [] else element_octets id body) ++ octets_all ns)
@@ -235,7 +235,7 @@ unfolding Follows
 leaf-step room parent left p id at body ns stands follows true is small enough = follows left p small enough
 leaf-step room parent left p id at body ns stands follows false is small enough = leaf-again room parent left p id at body ns stands is follows small enough
 
--- a master, left out or not
+-- A master, written or not, then the other trees.
 master-step : (room parent left p id at : ℕ) (kids ns : Nodes) → is_master_in parent id ≡ true → 0 < room → Follows (room - 1) id kids → Follows room parent ns
     → (f : Bool) → length ((if f then [] else element_octets id (octets_all kids)) ++ octets_all ns) ≤ longest → (if f then kept_all ns else kept_all kids + 1 + kept_all ns) ≤ left
     → grove room left parent p ((if f then [] else element_octets id (octets_all kids)) ++ octets_all ns)
@@ -244,7 +244,7 @@ unfolding Follows
 master-step room parent left p id at kids ns stands deep inner follows true small enough = follows left p small enough
 master-step room parent left p id at kids ns stands deep inner follows false small enough = master-again room parent left p id at kids ns stands deep inner follows small enough
 
--- What is written of trees that stand under a parent is read as these, at their places.
+-- The written bytes of valid trees are read as these trees, with their own offsets.
 follows-all : (ns : Nodes) (room parent : ℕ) → AllStandIn parent ns → depth_all ns ≤ room → Follows room parent ns
 unfolding Follows
 follows-all none room parent stand low = λ left p small enough. let all : left - 0 ≡ left = omega arith in grove-end room left parent p ∙ ap (read_as none) (sym all)
@@ -258,7 +258,7 @@ pub grove-octets : (ns : Nodes) (room left parent p : ℕ) → AllStandIn parent
 unfolding Follows
 grove-octets ns room left parent p stand low small enough = follows-all ns room parent stand low left p small enough
 
--- What is written behind a sound master's header is read as the tree again, at its places.
+-- The written bytes of a valid master's body are read as the tree, with its own offsets.
 pub sound-again : (n : Node) (nodes : ℕ) → IsMaster n → IsSound n → KeepsLimits n → kept n ≤ nodes → IsReadAgain nodes n
 sound-again (leaf id at body) nodes is sound within few = absurd (cc)
 sound-again (master id at kids) nodes is sound within few =
@@ -271,7 +271,7 @@ sound-again (master id at kids) nodes is sound within few =
           ∙ ap (λ ns. Ok (master id offset ns)) (nodes-list (placed_all base kids)));
     }
 
--- no more is written than there is
+-- The number of written Elements is at most the number of all.
 pub kept_all-le : (ns : Nodes) → kept_all ns ≤ count_all ns
 kept_all-le none = omega arith
 kept_all-le (node (leaf id at body) ns) = split (is_filler id) (kept_all-le ns)

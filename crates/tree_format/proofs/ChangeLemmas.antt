@@ -1,4 +1,4 @@
--- How long and how deep a list of trees is that was changed.
+-- Laws on the length and depth of a list of trees after a change.
 use Rattle.std.proofs.Common.{◌≡◌, ◌≤◌, ℕ, zero, suc, ◌+◌, max, List, [], ◌∷◌, ◌++◌, length, flat_map, Bool, true, false, cond, not, ◌==◌, take, drop, get_or, nat_lt, ◌<◌, position, Option, Some, None, refl, sym, ap, ◌∙◌, arith, length-append, add-one}
 use Rattle.std.proofs.lemmas.Bool.Decides.{nat_tests}
 use Rattle.std.proofs.lemmas.List.{take-append-drop, take_all, drop_all}
@@ -11,16 +11,16 @@ use Rattle.tree_format.specs.NormalForm.{octets}
 use Rattle.tree_format.specs.Changes.{without, placed_at, with_child}
 use Rattle.tree_format.proofs.NodeLemmas.{depth_all-append}
 
--- ---- octets
+-- ---- bytes
 
--- how many octets trees take, one behind the other
+-- the number of bytes of the trees in sequence
 abbrev long : List Node → ℕ
 long ns = length (flat_map octets ns)
 
 long-append : (ms ns : List Node) → long (ms ++ ns) ≡ long ms + long ns
 long-append ms ns = ap length (flat_map-append octets ms ns) ∙ length-append (flat_map octets ms) (flat_map octets ns)
 
--- trees of some IDs are no longer than all
+-- Trees without an ID have at most the bytes of all trees.
 pub long-without : (id : ℕ) (ns : List Node) → length (flat_map octets (without id ns)) ≤ length (flat_map octets ns)
 long-without id [] = omega arith
 long-without id (n ∷ ns) = split (not (id_of n == id)) (long-without id ns)
@@ -29,7 +29,7 @@ long-without id (n ∷ ns) = split (not (id_of n == id)) (long-without id ns)
     split true rest = omega (arith, length-append (octets n) (flat_map octets (without id ns)), length-append (octets n) (flat_map octets ns))
     split false rest = omega (arith, length-append (octets n) (flat_map octets ns))
 
--- the first of an ID, and none where there is no other
+-- the place of the first tree with the ID `id`, or the length of the list
 abbrev first_at : ℕ → List Node → ℕ
 first_at id ns = position_or_len (λ m. id_of m == id) ns
 
@@ -39,7 +39,7 @@ without-other id n ns other = ap (λ b. cond (not b) (n ∷ without id ns) (with
 without-same : (id : ℕ) (n : Node) (ns : List Node) → (id_of n == id) ≡ true → without id (n ∷ ns) ≡ without id ns
 without-same id n ns same = ap (λ b. cond (not b) (n ∷ without id ns) (without id ns)) same
 
--- the trees before the first of an ID, and those of other IDs from there on
+-- The trees without an ID are the trees before the first one with it, then the trees without it from there on.
 long-split : (id : ℕ) (ns : List Node) → long (take (first_at id ns) ns) + long (without id (drop (first_at id ns) ns)) ≡ long (without id ns)
 long-split id [] = omega arith
 long-split id (n ∷ ns) = split (id_of n == id) refl (long-split id ns)
@@ -52,7 +52,7 @@ long-split id (n ∷ ns) = split (id_of n == id) refl (long-split id ns)
         ap (λ i. long (take i (n ∷ ns)) + long (without id (drop i (n ∷ ns)))) more
         ∙ omega (arith, rest, length-append (octets n) (flat_map octets (take (first_at id ns) ns)), length-append (octets n) (flat_map octets (without id ns)), ap long (without-other id n ns is))
 
--- the first of an ID isn't one of another
+-- The first tree with an ID isn't one with another ID.
 long-behind_first : (id : ℕ) (ns : List Node) (d : Node) → first_at id ns < length ns → long (without id (drop (first_at id ns) ns)) ≡ long (without id (drop (first_at id ns + 1) ns))
 long-behind_first id ns d inside =
     let next : drop (first_at id ns + 1) ns ≡ drop (suc (first_at id ns)) ns = rw add-one refl in
@@ -60,7 +60,7 @@ long-behind_first id ns d inside =
     ∙ ap long (without-same id (get_or ns (first_at id ns) d) (drop (suc (first_at id ns)) ns) (passes_at_first (λ m. id_of m == id) ns d inside))
     ∙ ap (λ l. long (without id l)) (sym next)
 
--- With a child in its place they are as long as those of other IDs, and the child.
+-- After a child is set, the bytes are the bytes of the trees with another ID, plus its own.
 pub long-with_child : (n : Node) (ns : List Node) → length (flat_map octets (with_child n ns)) ≡ length (flat_map octets (without (id_of n) ns)) + length (octets n)
 long-with_child n ns = split (nat_lt (first_at (id_of n) ns) (length ns)) refl
   where
@@ -106,7 +106,7 @@ deep-placed_at n ns (Some k) =
     let fewer : deep (drop (k + 1) ns) ≤ deep (drop k ns) = rw next (deep-drop_one k ns) in
     omega (arith, behind, fewer, depth_all-append (take k ns) (n ∷ without (id_of n) (drop (k + 1) ns)), deep-take_drop k ns)
 
--- with a child in its place they are no deeper than they were, or than the child
+-- After a child is set, the list is at most as deep as before, or as the child.
 pub deep-with_child : (n : Node) (ns : List Node) → depth_all (nodes_of (with_child n ns)) ≤ max (depth n) (depth_all (nodes_of ns))
 deep-with_child n ns = deep-placed_at n ns (position (λ m. id_of m == id_of n) ns)
 

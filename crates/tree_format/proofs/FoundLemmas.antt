@@ -1,4 +1,4 @@
--- What was read stands where the table allows it, so it can be written and read again.
+-- Laws on trees that were read: they are valid, so they can be written and read back.
 use Rattle.std.proofs.Common.{◌≡◌, inl, inr, ℕ, zero, suc, ◌+◌, ◌-◌, ◌<◌, ◌≤◌, ◌==◌, Bool, true, false, ◌&&◌, if◌then◌else◌, List, [], ◌∷◌, slice_index, length, Result, Ok, Err, refl, sym, ◌∙◌, ap, subst, arith}
 use Rattle.std.proofs.lemmas.Bool.Decides.{nat_tests}
 use Rattle.ebml_numbers.specs.declared.number.IdRead.{IdRead}
@@ -45,7 +45,7 @@ header_at-reads : (parent p : ℕ) (octets : List ℕ) (h : Header) → AreOctet
 unfolding element_in
 header_at-reads parent p octets h bytes is = of_id parent octets (p + length octets) p (p + length octets) h (id_in (in_tree parent) octets) bytes refl is
 
--- what the table doesn't have as a master here has a valid ID
+-- An Element that isn't a master in the table here has a valid ID.
 leaf-id : (parent id : ℕ) → IsReadIn parent id → is_master_in parent id ≡ false → is_id id ≡ true
 leaf-id parent id (inl valid) leaf_here = valid
 leaf-id parent id (inr (display, atom)) leaf_here =
@@ -54,7 +54,7 @@ leaf-id parent id (inr (display, atom)) leaf_here =
 
 -- ---- trees
 
--- an Element that was read stands under its parent
+-- An Element that was read may be a child of its parent.
 grown-stands : (room left parent : ℕ) (h : Header) (body : List ℕ) (g : Grown) → IsReadIn parent h.id → ((inner : Grove) → grove (room - 1) (left - 1) h.id h.body body ≡ Ok inner → AllStandIn h.id (nodes_of inner.trees))
     → grown grove room left parent h body ≡ Ok g → StandsIn parent g.tree
 grown-stands room left parent h body g reads inside_stands is = split (left == 0) (is_master_in parent h.id) (room == 0) (is_known_value parent h.id body) refl refl is
@@ -78,7 +78,7 @@ grown-stands room left parent h body g reads inside_stands is = split (left == 0
         of_tree (leaf h.id h.offset body) (left - 1) (cc) (record { id_stands = leaf-id parent h.id reads mis; no_master = mis; value = vis })
     split false false r false mis vis is = absurd (cc)
 
--- so do all that are read from a body
+-- So may all Elements that are read from a body.
 grove-stands_within : (n : ℕ) (room left parent p : ℕ) (octets : List ℕ) (g : Grove) → length octets ≤ n → AreOctets octets → grove room left parent p octets ≡ Ok g → AllStandIn parent (nodes_of g.trees)
 grove-stands_within n room left parent p [] g few bytes is =
     let same : record { trees = []; left = left } ≡ g = (let end = grove-end room left parent p in cc) in
@@ -121,7 +121,7 @@ tree_of-sound id offset base nodes body n bytes is = split (nodes == 0) is
         let found = and_then-ok (grove (deepest - 1) (nodes - 1) id base body) (as_root id offset) n is in
         of_grove found.0 found.1.0 found.1.1
 
--- ---- how many there are
+-- ---- the number of Elements
 
 grown-count : (room left parent : ℕ) (h : Header) (body : List ℕ) (g : Grown) → ((inner : Grove) → grove (room - 1) (left - 1) h.id h.body body ≡ Ok inner → count_all (nodes_of inner.trees) + inner.left ≡ left - 1)
     → grown grove room left parent h body ≡ Ok g → count g.tree + g.left ≡ left
@@ -172,7 +172,7 @@ grove-count_within (suc n) room left parent p (o ∷ octets) g few is =
     let P : Grove → Type 0 = λ x. count_all (nodes_of x.trees) + x.left ≡ left in
     subst P same (omega arith)
 
--- A tree that was read has no more Elements than are allowed.
+-- A tree that was read has at most the allowed number of Elements.
 pub tree_of-count : (id offset base nodes : ℕ) (body : List ℕ) (n : Node) → tree_of id offset body base nodes ≡ Ok n → count n ≤ nodes
 tree_of-count id offset base nodes body n is = split (nodes == 0) refl is
   where
@@ -190,7 +190,7 @@ tree_of-count id offset base nodes body n is = split (nodes == 0) refl is
         let found = and_then-ok (grove (deepest - 1) (nodes - 1) id base body) (as_root id offset) n is in
         of_grove found.0 full found.1.0 found.1.1
 
--- It is a master of the ID that was given.
+-- It is a master with the given ID.
 pub tree_of-root : (id offset base nodes : ℕ) (body : List ℕ) (n : Node) → tree_of id offset body base nodes ≡ Ok n → IsMaster n × (id_of n ≡ id)
 tree_of-root id offset base nodes body n is = split (nodes == 0) is
   where
@@ -206,7 +206,7 @@ tree_of-root id offset base nodes body n is = split (nodes == 0) is
         let found = and_then-ok (grove (deepest - 1) (nodes - 1) id base body) (as_root id offset) n is in
         of_grove found.0 found.1.1
 
--- What was read, and keeps the limits, is read again from what is written of it.
+-- A tree that was read, and keeps the limits, is read back from its written bytes.
 pub tree_of-again : (id offset base nodes more : ℕ) (body : List ℕ) (n : Node) → AreOctets body → tree_of id offset body base nodes ≡ Ok n → KeepsLimits n → nodes ≤ more → IsReadAgain more n
 tree_of-again id offset base nodes more body n octets is limits enough =
     let few = tree_of-count id offset base nodes body n is in

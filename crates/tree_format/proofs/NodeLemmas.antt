@@ -11,12 +11,12 @@ pub nodes-list : (ns : Nodes) → nodes_of (list_of ns) ≡ ns
 nodes-list none = refl
 nodes-list (node n ns) = ap (node n) (nodes-list ns)
 
--- what is written of a list of trees, one behind the other
+-- A list of trees is written as the trees in sequence.
 pub octets_all-flat : (ns : List Node) → octets_all (nodes_of ns) ≡ flat_map octets ns
 octets_all-flat [] = refl
 octets_all-flat (n ∷ ns) = ap (λ l. octets n ++ l) (octets_all-flat ns)
 
--- trees in a row are as deep as the deepest of them
+-- A list of trees is as deep as its deepest one.
 pub depth_all-append : (ms ns : List Node) → depth_all (nodes_of (ms ++ ns)) ≡ max (depth_all (nodes_of ms)) (depth_all (nodes_of ns))
 depth_all-append [] ns = omega arith
 depth_all-append (m ∷ ms) ns = let rest = depth_all-append ms ns in omega arith

@@ -1,4 +1,4 @@
--- What is read step by step is what is said over all Elements.
+-- Reading step by step gives the tree that is defined over all Elements at once.
 use Rattle.std.proofs.Common.{◌≡◌, ℕ, zero, suc, ◌+◌, ◌-◌, ◌<◌, ◌≤◌, ◌==◌, nat_le, Bool, true, false, not, if◌then◌else◌, List, [], ◌∷◌, ◌++◌, map, length, length-append, Option, Some, None, Result, Ok, Err, refl, sym, ◌∙◌, ap, arith}
 use Rattle.std.proofs.lemmas.Bool.Decides.{nat_tests}
 use Rattle.mkv_io.specs.declared.damage.Damage.{Damage}
@@ -17,7 +17,7 @@ use Rattle.tree_format.proofs.AgainLemmas.{sound-again}
 use Rattle.tree_format.specs.Order.{Listed, Found, Listing, found, followed, listed_from, elements_within, elements_in, NodeContext, in_order, all_in_order, told_at, too_deep, no_value, one_too_many, causes, first_refused, tree_in_order, tree_without_limits}
 use Rattle.mkv_schema.proofs.OutlineLemmas.{unless-ok}
 
--- ---- the first refusal of lists in a row
+-- ---- the first refusal of concatenated lists
 
 first_damage-first : (o : Option Damage) (os : List (Option Damage)) → first_damage (o ∷ os) ≡ first_refusal o (first_damage os)
 first_damage-first None os = refl
@@ -41,7 +41,7 @@ first_refused-append nodes before (s ∷ a) b =
     ∙ refusal-assoc (first_damage (causes nodes before s)) (first_refused nodes (before + 1) a) _
     ∙ ap (λ r. first_refusal r (first_refused nodes (before + suc (length a)) b)) (sym (first_refused-first nodes before s a))
 
--- ---- how many there are
+-- ---- the number of Elements
 
 mutual
   length-in_order : (parent around : ℕ) (n : Node) → length (in_order parent around n) ≡ count n
@@ -65,7 +65,7 @@ where-not : (b : Bool) (d : Damage) → where_it b d ≡ None → b ≡ false
 where-not true d is = absurd (cc)
 where-not false d is = refl
 
--- where none is refused, none is one too many
+-- An Element that isn't refused is within the allowed number.
 few-nodes : (nodes before : ℕ) (s : NodeContext) → first_damage (causes nodes before s) ≡ None → before < nodes
 few-nodes nodes before s is =
     let first : where_it (nat_le nodes before) (told_at TooMany s) ≡ None =
@@ -81,7 +81,7 @@ none-few nodes before (s ∷ spots) enough is =
     let rest = none-few nodes (before + 1) spots (omega arith) (none-later _ _ both) in
     omega arith
 
--- ---- what refuses one Element
+-- ---- causes that refuse one Element
 
 full-cause : (nodes before : ℕ) (s : NodeContext) → nat_le nodes before ≡ true → first_damage (causes nodes before s) ≡ Some (told_at TooMany s)
 full-cause nodes before s full = rw full refl
@@ -104,22 +104,22 @@ master-cause nodes before parent around id at kids few = rw few (split (nat_le d
 
 -- ---- a body
 
--- what refuses the Elements of a list, or the damage that ends them
+-- the first refusal of the Elements of a list, or the damage that ends them
 abbrev refusal : ℕ → ℕ → ℕ → ℕ → Listed → Option Damage
 refusal nodes before parent around all = first_refusal (first_refused nodes before (all_in_order parent around (nodes_of all.trees))) all.damage
 
--- the Elements with how many more nodes there may be, unless something refuses them
+-- the Elements and the number of nodes that may follow, unless something refuses them
 abbrev answer : ℕ → ℕ → ℕ → ℕ → ℕ → Listed → Result Grove Damage
 answer nodes before parent around left all =
     unless (refusal nodes before parent around all) (record { trees = all.trees; left = left - count_all (nodes_of all.trees) })
 
--- a reader and a listing say the same
+-- The reader `read` and the listing `listing` give the same results.
 Agrees : Reader → Listing → Type 0
 Agrees read listing =
     (room left nodes before around parent p : ℕ) (octets : List ℕ) → room + around ≡ deepest → left + before ≡ nodes
     → read room left parent p octets ≡ answer nodes before parent around left (listing parent p octets)
 
--- what refuses an Element, or the damage inside it
+-- the first refusal of an Element, or the damage inside it
 abbrev refusal_of : ℕ → ℕ → ℕ → ℕ → Found → Option Damage
 refusal_of nodes before parent around one = first_refusal (first_refused nodes before (in_order parent around one.tree)) one.damage
 
@@ -144,13 +144,13 @@ then-unless : {A B : Type 0} (o : Option Damage) (x : A) (f : A → B) → and_t
 then-unless None x f = refl
 then-unless (Some d) x f = refl
 
--- an Element that is refused ends all
+-- An Element that is refused ends the list.
 stops : {A : Type 0} (nodes before : ℕ) (s : NodeContext) (more : List NodeContext) (inner : Option Damage) (x : A) (d : Damage) → first_damage (causes nodes before s) ≡ Some d
     → unless (first_refusal (first_refused nodes before (s ∷ more)) inner) x ≡ Err d
 stops nodes before s more inner x d is =
     ap (λ r. unless (first_refusal r inner) x) (first_refused-first nodes before s more ∙ ap (λ c. first_refusal c (first_refused nodes (before + 1) more)) is)
 
--- one that isn't leaves those behind it
+-- An Element that isn't refused leaves the Elements after it.
 goes : {A : Type 0} (nodes before : ℕ) (s : NodeContext) (more : List NodeContext) (inner : Option Damage) (x : A) → first_damage (causes nodes before s) ≡ None
     → unless (first_refusal (first_refused nodes before (s ∷ more)) inner) x ≡ unless (first_refusal (first_refused nodes (before + 1) more) inner) x
 goes nodes before s more inner x is =
@@ -233,7 +233,7 @@ grown-answer read listing agrees room left nodes before around parent h body low
         leaf-cause nodes before parent around h.id h.offset body full ∙ ap (λ b. if b then None else Some (damage BadValue h.id h.offset)) vis in
         first ∙ sym (ap (answer_of nodes before parent around left) (found-leaf mis) ∙ stops nodes before leaf_spot [] None _ (damage BadValue h.id h.offset) cause)
 
--- an Element, and then those behind it
+-- An Element, then the Elements after it.
 behind-answer : (read : Reader) (listing : Listing) → Agrees read listing → (room left nodes before around parent p : ℕ) (octets : List ℕ) (one : Found) → room + around ≡ deepest → left + before ≡ nodes
     → and_then (answer_of nodes before parent around left one) (λ g. and_then (read room g.left parent p octets) (with_first g.tree))
     ≡ answer nodes before parent around left (followed one.tree one.damage (listing parent p octets))
@@ -285,7 +285,7 @@ behind-answer read listing agrees room left nodes before around parent p octets 
         ∙ ap (λ k. let x : Grove = record { trees = one.tree ∷ rest.trees; left = k } in unless verdict x) fewer
         ∙ sym (ap (λ o. unless (first_refusal o rest.damage) all_read) (in_all others None is))
 
--- a body, read and listed alike
+-- A body is read as it is listed.
 within-answer : (n : ℕ) → Agrees (grove_within n) (elements_within n)
 unfolding Agrees grove_within elements_within
 within-answer n room left nodes before around parent p [] low few =
@@ -302,7 +302,7 @@ within-answer (suc n) room left nodes before around parent p (o ∷ octets) low 
         (grown-answer (grove_within n) (elements_within n) agrees room left nodes before around parent h (inside p h (o ∷ octets)) low few)
         ∙ behind-answer (grove_within n) (elements_within n) agrees room left nodes before around parent (stated_end h) (behind p h (o ∷ octets)) (found (elements_within n) parent h (inside p h (o ∷ octets))) low few
 
--- The tree that is read step by step is the one that is said over all Elements.
+-- Reading step by step gives the tree that is defined over all Elements at once.
 pub tree_of-in_order : (id offset : ℕ) (body : List ℕ) (base nodes : ℕ) → tree_of id offset body base nodes ≡ tree_in_order id offset body base nodes
 unfolding grove elements_in Agrees
 tree_of-in_order id offset body base nodes = split (nodes == 0) refl
@@ -336,7 +336,7 @@ tree_of-in_order id offset body base nodes = split (nodes == 0) refl
 
 -- ---- without a reader's limits
 
--- an Element that nothing refuses is a value of its kind
+-- A leaf that nothing refuses is a value of its kind.
 value-stands : (nodes before : ℕ) (s : NodeContext) → first_damage (causes nodes before s) ≡ None → no_value s ≡ None
 value-stands nodes before s is =
     let later : first_damage (too_deep s ∷ no_value s ∷ []) ≡ None = none-later (one_too_many nodes before s) _ (sym (first_damage-first (one_too_many nodes before s) (too_deep s ∷ no_value s ∷ [])) ∙ is) in
@@ -351,7 +351,7 @@ values-stand nodes before (s ∷ spots) is =
     first_damage-first (no_value s) (map no_value spots)
     ∙ ap (λ o. first_refusal o (first_damage (map no_value spots))) (value-stands nodes before s (none-first _ _ both)) ∙ rest
 
--- A tree that is read with limits is the one that is read without them.
+-- A tree that is read with limits is the tree without limits.
 pub tree_of-without_limits : (id offset : ℕ) (body : List ℕ) (base nodes : ℕ) (n : Node) → tree_of id offset body base nodes ≡ Ok n → tree_without_limits id offset body base ≡ Ok n
 tree_of-without_limits id offset body base nodes n is =
     let parts = unless-ok _ _ n (sym (tree_of-in_order id offset body base nodes) ∙ is) in
@@ -362,7 +362,7 @@ tree_of-without_limits id offset body base nodes n is =
     ap (λ o. unless (first_refusal o all.damage) tree) (values-stand nodes 0 (in_order 0 0 tree) refused_none)
     ∙ ap (λ o. unless o tree) damage_none ∙ ap (λ t. let r : Result Node Damage = Ok t in r) parts.1
 
--- What is written behind a sound master's header is read again without limits, too.
+-- The written bytes of a valid master's body are read back without limits too.
 pub sound-without_limits : (n : Node) → IsMaster n → IsSound n → KeepsLimits n → IsReadWithoutLimits n
 sound-without_limits n is sound within =
     let again = sound-again n (kept n) is sound within (omega arith) in
@@ -370,7 +370,7 @@ sound-without_limits n is sound within =
 
 -- ---- one Element at a time
 
--- two listings give the same of every list that is shorter
+-- The listings `f` and `g` give the same for every list of fewer than `n` bytes.
 AlikeBelow : ℕ → Listing → Listing → Type 0
 AlikeBelow n f g = (parent p : ℕ) (octets : List ℕ) → length octets < n → f parent p octets ≡ g parent p octets
 

@@ -10,14 +10,14 @@ use Rattle.tree_format.specs.Changes.{without, placed_at, with_child, part, HasN
 use Rattle.tree_format.specs.Laws.{ChildrenChange}
 use Rattle.lemmas.proofs.PlainLemmas.{differ-false as apart}
 
--- where there is none of an ID, none is taken out
+-- If no child has an ID, a removal of this ID changes nothing.
 pub without-none : (id : ℕ) (ns : List Node) → HasNone id ns → without id ns ≡ ns
 without-none id [] none = refl
 without-none id (n ∷ ns) none =
     ap (λ (t : Bool). cond (not t) (n ∷ without id ns) (without id ns)) (All-head (λ k. (id_of k == id) ≡ false) n ns none)
     ∙ ap (λ l. n ∷ l) (without-none id ns (All-tail (λ k. (id_of k == id) ≡ false) n ns none))
 
--- the place of the first of an ID
+-- The first child with an ID is at the end of the others before it.
 pub place-first : (id : ℕ) (m : Node) (front back : List Node) → (id_of m == id) ≡ true → HasNone id front → position_or_len (λ k. id_of k == id) (front ++ m ∷ back) ≡ length front
 place-first id m [] back is none = ap (λ (t : Bool). cond (not t) (1 + position_or_len (λ k. id_of k == id) back) 0) is
 place-first id m (x ∷ front) back is none =
@@ -26,7 +26,7 @@ place-first id m (x ∷ front) back is none =
 
 -- ---- the first of an ID
 
--- the first child of an ID, with those before it and behind it
+-- the first child with the ID `id`, and the children before and after it
 pub record SplitAt (id : ℕ) (ns : List Node) : Type 0 where
   pub front : List Node
   pub first : Node
@@ -35,7 +35,7 @@ pub record SplitAt (id : ℕ) (ns : List Node) : Type 0 where
   pub is : (id_of first == id) ≡ true
   pub none_before : HasNone id front
 
--- there is no child of an ID, or a first one
+-- There is no child with an ID, or a first one.
 pub split-first : (id : ℕ) (ns : List Node) → HasNone id ns ⊎ SplitAt id ns
 split-first id [] = inl (All-nil (λ k. (id_of k == id) ≡ false))
 split-first id (n ∷ ns) = of (split-first id ns) (id_of n == id) refl
@@ -52,7 +52,7 @@ split-first id (n ∷ ns) = of (split-first id ns) (id_of n == id) refl
       none_before = All-cons (λ k. (id_of k == id) ≡ false) n s.front is s.none_before;
     })
 
--- ---- a child in a place
+-- ---- a child that is set
 
 pub with_child-at : (n m : Node) (front back : List Node) → (id_of m == id_of n) ≡ true → HasNone (id_of n) front → with_child n (front ++ m ∷ back) ≡ front ++ n ∷ without (id_of n) back
 with_child-at n m front back is no_front =
@@ -84,7 +84,7 @@ part-none id [] lacks = refl
 part-none id (n ∷ ns) lacks =
     ap (λ (t : Bool). cond t (n ∷ part id ns) (part id ns)) (All-head (λ k. (id_of k == id) ≡ false) n ns lacks) ∙ part-none id ns (All-tail (λ k. (id_of k == id) ≡ false) n ns lacks)
 
--- another ID taken out leaves these
+-- A removal of another ID leaves the children with the ID `id`.
 pub part-without : (id other : ℕ) (ns : List Node) → (other == id) ≡ false → part id (without other ns) ≡ part id ns
 part-without id other [] apart = refl
 part-without id other (n ∷ ns) apart = of (id_of n == other) (id_of n == id) refl refl (part-without id other ns apart)
@@ -97,7 +97,7 @@ part-without id other (n ∷ ns) apart = of (id_of n == other) (id_of n == id) r
     of true false is_other is_id rest = rest
     of false t is_other is_id rest = ap (λ (b : Bool). cond b (n ∷ part id (without other ns)) (part id (without other ns))) is_id ∙ ap (λ (l : List Node). cond t (n ∷ l) l) rest
 
--- the ID itself taken out leaves none
+-- A removal of the ID leaves no child with it.
 pub none-without : (id : ℕ) (ns : List Node) → HasNone id (without id ns)
 none-without id [] = All-nil (λ k. (id_of k == id) ≡ false)
 none-without id (n ∷ ns) = of (id_of n == id) refl (none-without id ns)
@@ -106,7 +106,7 @@ none-without id (n ∷ ns) = of (id_of n == id) refl (none-without id ns)
     of true is rest = rest
     of false is rest = All-cons (λ k. (id_of k == id) ≡ false) n (without id ns) is rest
 
--- a child of another ID in its place leaves these
+-- A child with another ID that is set leaves the children with the ID `id`.
 pub part-other : (id : ℕ) (c : Node) (ns : List Node) → (id_of c == id) ≡ false → part id (with_child c ns) ≡ part id ns
 part-other id c ns apart = of (split-first (id_of c) ns)
   where
@@ -130,7 +130,7 @@ part-other id c ns apart = of (split-first (id_of c) ns)
 itself : (n : Node) → (id_of n == id_of n) ≡ true
 itself n = grind (arith, nat_tests)
 
--- a child in its place is the only one of its ID
+-- A child that is set is the only one with its ID.
 pub part-set : (n : Node) (ns : List Node) → part (id_of n) (with_child n ns) ≡ n ∷ []
 part-set n ns = of (split-first (id_of n) ns)
   where
@@ -145,7 +145,7 @@ part-set n ns = of (split-first (id_of n) ns)
         ap (part (id_of n)) (ap (with_child n) s.whole ∙ with_child-at n s.first s.front s.back s.is s.none_before)
         ∙ alone s.front (without (id_of n) s.back) s.none_before (none-without (id_of n) s.back)
 
--- What a change leaves of the children of each ID.
+-- The effects of a change on the children with each ID.
 pub children-change : ChildrenChange
 children-change = record {
   at = λ n m front back same none_before. with_child-at n m front back (eq-eqb (id_of m) (id_of n) same) none_before;

@@ -1,10 +1,10 @@
--- Where trees stand, and what was left out, is nothing to what is written.
+-- The offsets of trees, and Elements that aren't written, don't change the written bytes.
 use Rattle.std.proofs.Common.{◌≡◌, ℕ, ◌+◌, Bool, true, false, if◌then◌else◌, List, [], ◌++◌, length, refl, sym, ap, ap₂, ◌∙◌}
 use Rattle.tree_format.specs.Node.{Node, Nodes, leaf, master, none, node}
 use Rattle.tree_format.specs.NormalForm.{is_filler, header_octets, kept_octets, octets, octets_all}
 use Rattle.tree_format.specs.Standing.{placed, placed_all, placed_in}
 
--- an Element, and then the others
+-- An Element, then the other trees.
 placed-step : (p : ℕ) (f : Bool) (written : List ℕ) (n' : Node) (ns : Nodes) → written ≡ octets n' → ((p : ℕ) → octets_all (placed_all p ns) ≡ octets_all ns) → (f ≡ true → written ≡ [])
     → octets_all (if f then placed_all p ns else node n' (placed_all (p + length written) ns)) ≡ written ++ octets_all ns
 placed-step p true written n' ns same rest nothing = rest p ∙ ap (λ l. l ++ octets_all ns) (sym (nothing refl))

@@ -24,9 +24,9 @@ use Rattle.tree_format.specs.Fits.{Fits}
 use Rattle.tree_format.specs.Reading.{Reader, Grove, Grown, header_at, inside, behind, is_master_in, refused, as_master, grown, with_first, first_then, grove_within, grove}
 use Rattle.lemmas.proofs.PlainLemmas.{or-true}
 
--- ---- where a header stands
+-- ---- the place of a header
 
--- what a body has that isn't damaged
+-- An Element without damage has a known size, and ends in its parent.
 pub record IsWhole (e : ℕ) (h : Header) : Type 0 where
   pub known : is_unknown h.size ≡ false
   pub ends : stated_end h ≤ e
@@ -61,7 +61,7 @@ header_at-fits parent p octets h is =
     let whole = whole-id parent octets (p + length octets) p (p + length octets) h _ is in
     record { offset = placed.offset; later = placed.later; known = whole.known; ends = whole.ends }
 
--- its body and what is behind it are shorter than all
+-- Its body, and the bytes after it, are shorter than all bytes.
 pub length-inside : (p : ℕ) (octets : List ℕ) (h : Header) → Fits p (p + length octets) h → length (inside p h octets) < length octets
 length-inside p octets h fits =
     let later = fits.later in let ends = fits.ends in
@@ -72,7 +72,7 @@ length-behind p octets h fits =
     let later = fits.later in let ends = fits.ends in
     simp length-drop (omega arith)
 
--- ---- more than enough room for Elements changes nothing
+-- ---- a larger bound changes nothing
 
 pub and_then-same : {A B : Type 0} (r : Result A Damage) (f g : A → Result B Damage) → ((x : A) → r ≡ Ok x → f x ≡ g x) → and_then r f ≡ and_then r g
 and_then-same (Ok x) f g same = same x refl
@@ -86,7 +86,7 @@ grown-same f g room left parent h body same =
     else if is_known_value parent h.id body then Ok (record { tree = leaf h.id h.offset body; left = left - 1 })
     else refused BadValue h.id h.offset) same
 
--- two readers give the same of every list that is shorter
+-- The readers `f` and `g` give the same for every list of fewer than `n` bytes.
 SameBelow : ℕ → Reader → Reader → Type 0
 SameBelow n f g = (room left parent p : ℕ) (octets : List ℕ) → length octets < n → f room left parent p octets ≡ g room left parent p octets
 
@@ -110,12 +110,12 @@ within-same (suc n) (suc m) room left parent p (o ∷ octets) few enough =
 
 -- ---- the two laws of a body
 
--- Where no octet is left, no Element stands.
+-- If no byte is left, there is no Element.
 pub grove-end : (room left parent p : ℕ) → grove room left parent p [] ≡ Ok (record { trees = []; left = left })
 unfolding grove grove_within
 grove-end room left parent p = refl
 
--- Where some are left, an Element stands, with what is behind it, or a damage.
+-- Otherwise there is an Element and the Elements after it, or a damage.
 pub grove-more : (room left parent p : ℕ) (octets : List ℕ) → 0 < length octets → grove room left parent p octets ≡ and_then (header_at parent p octets) (first_then grove room left parent p octets)
 unfolding grove grove_within SameBelow
 grove-more room left parent p [] some = absurd (omega arith)
@@ -160,34 +160,34 @@ pub header_at-id : (parent p : ℕ) (octets : List ℕ) (h : Header) → AreOcte
 unfolding element_in
 header_at-id parent p octets h bytes is = id-of-id parent octets (p + length octets) p (p + length octets) h (id_in (in_tree parent) octets) bytes refl is
 
--- its size is known
+-- The size of an Element that is read is known.
 pub header_at-known : (parent p : ℕ) (octets : List ℕ) (h : Header) → header_at parent p octets ≡ Ok h → h.size ≡ Unknown → ⊥
 header_at-known parent p octets h is open_ =
     let known : is_unknown h.size ≡ false = (header_at-fits parent p octets h is).known in
     let never : is_unknown Unknown ≡ false = rw open_ at known in
     cc
 
--- ---- reading on
+-- ---- reading in steps
 
--- what was read before stands in front
+-- the trees `ns` that were read, then the trees of `g`
 abbrev pub all_in_front : List Node → Grove → Result Grove Damage
 all_in_front ns g = Ok (record { trees = ns ++ g.trees; left = g.left })
 
--- Trees were read from the front of a body, and what is left of it is read on.
+-- The trees `trees` were read from the start of a body, and `rest` is still unread.
 pub record ReadOn (room before left parent place at : ℕ) (body rest : List ℕ) (trees : List Node) : Type 0 where
   pub ends : at + length rest ≡ place + length body
   pub shallow : depth_all (nodes_of trees) ≤ room
   pub same : grove room before parent place body ≡ and_then (grove room left parent at rest) (all_in_front trees)
 
 module _ (room before left parent place at : ℕ) (body rest : List ℕ) (trees : List Node) (on : ReadOn room before left parent place at body rest trees) where
-  -- the end is the end of all
+  -- At the end the trees are all.
   pub read-all : rest ≡ [] → grove room before parent place body ≡ Ok (record { trees = trees; left = left })
   read-all none =
       on.same ∙ ap (λ r. and_then (grove room left parent at r) (all_in_front trees)) none
       ∙ ap (λ r. and_then r (all_in_front trees)) (grove-end room left parent at)
       ∙ ap (λ ns. Ok (record { trees = ns; left = left })) (append-nil trees)
 
-  -- a damage is the damage of all
+  -- A damage is the damage of the whole body.
   pub read-damaged : (d : Damage) → 0 < length rest → header_at parent at rest ≡ Err d → grove room before parent place body ≡ Err d
   read-damaged d some is =
       on.same ∙ ap (λ r. and_then r (all_in_front trees)) (grove-more room left parent at rest some ∙ ap (λ r. and_then r (first_then grove room left parent at rest)) is)
@@ -201,7 +201,7 @@ module _ (room before left parent place at : ℕ) (body rest : List ℕ) (trees 
   move n (Ok g) = ap (λ ns. Ok (record { trees = ns; left = g.left })) (sym (append_assoc trees (n ∷ []) g.trees))
   move n (Err d) = refl
 
-  -- an Element that was read stands behind the others
+  -- An Element that was read is appended to the trees.
   pub read-more : (n : Node) (now : ℕ) (h : Header) → 0 < length rest → depth n ≤ room → header_at parent at rest ≡ Ok h → grown grove room left parent h (inside at h rest) ≡ Ok (record { tree = n; left = now })
       → ReadOn room before now parent place (stated_end h) body (behind at h rest) (trees ++ n ∷ [])
   read-more n now h some low is inner =

@@ -1,4 +1,4 @@
--- Trees of small masters, computed, so that a wrong definition does not check.
+-- Computed trees of small masters. A wrong definition fails here.
 use Rattle.std.proofs.Common.{◌≡◌, ℕ, zero, suc, ◌+◌, List, [], ◌∷◌, ◌++◌, replicate, Result, Ok, Err, refl}
 use Rattle.std.specs.Int.Count.{count_leading_zeros}
 use Rattle.std.specs.Str.{is_utf8, chars}
@@ -15,7 +15,7 @@ use Rattle.tree_format.specs.NormalForm.{octets, element_octets}
 use Rattle.tree_format.specs.Reading.{tree_of, grove, grove_within}
 use Rattle.tree_format.specs.Order.{elements_in, elements_within, tree_in_order, tree_without_limits}
 
--- ---- what octets mean, in a master whose header stands at 95 and whose body at 100
+-- ---- trees of bytes, in a master with its header at 95 and its body at 100
 
 abbrev read : ℕ → List ℕ → ℕ → Result Node Damage
 read id body nodes = tree_of id 95 body 100 nodes
@@ -26,11 +26,11 @@ found id kids = Ok (master id 95 kids)
 abbrev wrong : Kind → ℕ → ℕ → Result Node Damage
 wrong kind id p = Err (damage kind id p)
 
--- an Element alone
+-- the only Element of a list
 abbrev only : Node → Nodes
 only n = node n none
 
--- TrackNumber 5 with a size of eight octets, in a TrackEntry
+-- TrackNumber 5 with a size of eight bytes, in a TrackEntry
 abbrev wide : List ℕ
 wide = 0xD7 ∷ 1 ∷ replicate 6 0 ++ 1 ∷ 5 ∷ []
 
@@ -105,20 +105,19 @@ pub written : AreWritten
 unfolding uint_width least_size_width
 written = record { nothing = refl; wide_size = refl; display = refl; fillers_left_out = refl }
 
--- ---- depth: ChapterAtoms inside one another
+-- ---- depth: nested ChapterAtoms
 
--- so many of them, one inside the other
+-- `n` nested ChapterAtoms
 abbrev atoms : ℕ → List ℕ
 atoms zero = []
 atoms (suc n) = element_octets 0xB6 (atoms n)
 
--- the same as trees, whose headers have two octets
+-- the same as trees, with headers of two bytes
 abbrev atom_trees : ℕ → ℕ → Nodes
 atom_trees zero p = none
 atom_trees (suc n) p = only (master 0xB6 p (atom_trees n (p + 2)))
 
--- A master around 31 others is as deep as can be; one around 32 has one that is too deep, which stands
--- behind 32 headers of two octets.
+-- A master around 31 nested ones has the maximum depth. A master around 32 has one that is too deep, after 32 headers of two bytes.
 pub record AreDepths : Type 0 where
   pub deepest : tree_of 0xB6 0 (atoms 31) 2 99 ≡ Ok (master 0xB6 0 (atom_trees 31 2))
   pub too_deep : tree_of 0xB6 0 (atoms 32) 2 99 ≡ wrong TooMany 0xB6 64
@@ -127,13 +126,13 @@ pub depths : AreDepths
 unfolding grove grove_within element_in id_at size_at entry_of table count_leading_zeros uint_width least_size_width
 depths = record { deepest = refl; too_deep = refl }
 
--- ---- over all Elements, and without limits
+-- ---- over all Elements at once, and without limits
 
--- a float of three octets, in an Audio
+-- a float of three bytes, in an Audio
 abbrev bad_float : List ℕ
 bad_float = 0xB5 ∷ 0x83 ∷ 0 ∷ 0 ∷ 0 ∷ []
 
--- One too many is told before its value is; and what is wrong in front comes first.
+-- Too many nodes are reported before a bad value, and earlier damage before later damage.
 pub record AreRefusalsInOrder : Type 0 where
   pub filled : tree_in_order 0xAE 95 filled 100 6 ≡ found 0xAE filled_tree
   pub one_too_many : tree_in_order 0xE1 95 bad_float 100 1 ≡ wrong TooMany 0xB5 100
@@ -145,7 +144,7 @@ pub refusals_in_order : AreRefusalsInOrder
 unfolding is_utf8 chars encode elements_in elements_within element_in id_at size_at entry_of table count_leading_zeros
 refusals_in_order = record { filled = refl; one_too_many = refl; no_value = refl; value_in_front = refl; damage_inside = refl }
 
--- However deep masters stand, and however many there are, a value is one of its kind.
+-- Without limits on depth and number, a value must still be one of its kind.
 pub record AreFree : Type 0 where
   pub as_deep_as_can_be : tree_without_limits 0xB6 0 (atoms 32) 2 ≡ Ok (master 0xB6 0 (atom_trees 32 2))
   pub filled : tree_without_limits 0xAE 95 filled 100 ≡ found 0xAE filled_tree

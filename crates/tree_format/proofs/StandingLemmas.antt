@@ -1,4 +1,4 @@
--- Changes of children keep what stands.
+-- Changes of children keep a tree valid.
 use Rattle.std.proofs.Common.{◌≡◌, ℕ, zero, suc, ◌+◌, ◌==◌, ◌≤◌, ◌<◌, Bool, true, false, not, cond, List, [], ◌∷◌, ◌++◌, take, drop, filter, position, find, slice_get, Option, Some, None, IfSome, sym, subst, arith}
 use Rattle.std.specs.Option.{option_copied}
 use denote.Ref.{Bor}
@@ -38,7 +38,7 @@ stand-placed_at parent n ns (Some k) one stand =
     stand-append parent (take k ns) (n ∷ without (id_of n) (drop (k + 1) ns)) (stand-take parent k ns stand)
     (one, stand-without parent (id_of n) (drop (k + 1) ns) (stand-drop parent (k + 1) ns stand))
 
--- what is inside a master, as a list
+-- The children of a valid master, as a list, are valid under it.
 sound-children : (n : Node) (ns : List Node) → IsMaster n → Stand (id_of n) ns → IsSound (with_children n ns)
 sound-children (leaf id at body) ns is stand = absurd (cc)
 sound-children (master id at kids) ns is stand = stand
@@ -47,7 +47,7 @@ children-sound : (n : Node) → IsSound n → Stand (id_of n) (children n)
 children-sound (leaf id at body) sound = tt
 children-sound (master id at kids) sound = let P : Nodes → Type 0 = AllStandIn id in subst P (sym (nodes-list kids)) sound
 
--- a child that may stand in a master is set there
+-- A master with a valid child that is set is valid.
 pub sound-set : (n child : Node) → IsMaster n → IsSound n → StandsIn (id_of n) child → IsSound (with_children n (with_child child (children n)))
 sound-set n child is sound stands =
     sound-children n (with_child child (children n)) is (stand-placed_at (id_of n) child (children n) (position (λ m. id_of m == id_of child) (children n)) stands (children-sound n sound))
@@ -64,7 +64,7 @@ pub ruleset keeps = (sound-set, sound-push, sound-remove)
 
 -- ---- room
 
--- what is found among children leaves room for the master around it
+-- A tree that is found among the children leaves room for a master around it.
 find-low : (p : Node → Bool) (ns : List Node) → depth_all (nodes_of ns) < deepest → IfSome (find p ns) HasRoom
 find-low p [] low = tt
 find-low p (n ∷ ns) low = split (p n) (find-low p ns (omega arith))

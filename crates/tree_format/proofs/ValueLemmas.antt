@@ -11,7 +11,7 @@ uint_value-some : (id : ℕ) (body : List ℕ) → 0 < length body → uint_valu
 uint_value-some id [] some = absurd (omega arith)
 uint_value-some id (o ∷ body) some = refl
 
--- a number that is written in a leaf is its value
+-- A number that is written to a leaf is its value.
 pub uint_value-octets : (id value : ℕ) (body : List ℕ) → value < 2 ^ 64 → body ≡ uint_octets value → uint_value id body ≡ value
 uint_value-octets id value body small is =
     let least = (uint_width-IsLeast value small).some in
@@ -21,7 +21,7 @@ uint_value-octets id value body small is =
 pub int_of-body : (value : ℤ) (body : List ℕ) → magnitude value < 2 ^ 63 → body ≡ int_octets value → int_of body ≡ value
 int_of-body value body small is = ap int_of is ∙ int_of-octets value small
 
--- a text without a zero octet is the whole of its octets
+-- A text without a zero byte has all of its bytes.
 pub text_of-whole : (body : List ℕ) → HasNoZero body → text_of body ≡ body
 text_of-whole [] whole = refl
 text_of-whole (o ∷ body) whole = split (not (o == 0)) (text_of-whole body) whole

@@ -1,10 +1,9 @@
--- Where an Element of a master stands that is read whole: RFC 8794, section 6 (Element Data Size).
+-- The place of an Element in a master that is read whole: RFC 8794, section 6 (Element Data Size).
 use Rattle.std.specs.Prelude.{◌≡◌, ◌<◌, ◌≤◌, ℕ, false}
 use Rattle.mkv_schema.specs.declared.element.Header.{Header}
 use Rattle.mkv_schema.specs.Element.{is_unknown, stated_end}
 
--- An Element of a master that is read whole stands where it was looked for; its size is known; and it
--- doesn't pass the end.
+-- The Element `h` is at the offset `p`, its size is known, and it ends at `e` or before.
 pub record Fits (p e : ℕ) (h : Header) : Type 0 where
   pub offset : h.offset ≡ p
   pub later : p < h.body

@@ -1,4 +1,4 @@
--- What holds of every master that is read whole.
+-- Laws on masters that are read whole.
 use Rattle.std.specs.Prelude.{◌≡◌, ◌≢◌, ◌<◌, ℕ, List, [], ◌∷◌, ◌++◌, length, None, Ok}
 use Rattle.tree_format.specs.Node.{Node, id_of, IsMaster}
 use Rattle.tree_format.specs.Reading.{header_at, tree_of}
@@ -6,29 +6,29 @@ use Rattle.tree_format.specs.Order.{listed_from, elements_in, tree_in_order, tre
 use Rattle.tree_format.specs.Changes.{without, with_child, part, HasNone}
 use Rattle.tree_format.specs.Standing.{IsSound, KeepsLimits, IsReadWithoutLimits}
 
--- Elements are listed one at a time: none where no octet is left, and otherwise what stands there.
+-- Elements are listed one at a time: none if no byte is left, and otherwise the Element at the next byte.
 pub record ElementsAreListed : Type 0 where
   pub end : (parent p : ℕ) → elements_in parent p [] ≡ record { trees = []; damage = None }
   pub more : (parent p : ℕ) (octets : List ℕ) → 0 < length octets
       → elements_in parent p octets ≡ listed_from elements_in parent p octets (header_at parent p octets)
 
--- The tree that is read one step after the other is the one that is said over all Elements.
+-- Reading step by step gives the tree that is defined over all Elements at once.
 abbrev pub TreesAreInOrder : Type 0
 TreesAreInOrder =
     (id offset : ℕ) (body : List ℕ) (base nodes : ℕ) → tree_of id offset body base nodes ≡ tree_in_order id offset body base nodes
 
--- A tree that is read with limits is the one that is read without them.
+-- A tree that is read with limits is the tree without limits.
 abbrev pub LimitsChangeNoTree : Type 0
 LimitsChangeNoTree =
     (id offset : ℕ) (body : List ℕ) (base nodes : ℕ) (n : Node) → tree_of id offset body base nodes ≡ Ok n
     → tree_without_limits id offset body base ≡ Ok n
 
--- What is written of a sound master that keeps the limits is read again without limits.
+-- A valid master that keeps the limits is read back without limits from its written bytes.
 abbrev pub SoundTreesAreReadAgain : Type 0
 SoundTreesAreReadAgain = (n : Node) → IsMaster n → IsSound n → KeepsLimits n → IsReadWithoutLimits n
 
--- What a change of a master's children leaves: a child that is set takes the place of the first of its ID, or
--- the last place, and is the only one of its ID; those of every other ID stay as they are.
+-- A child that is set takes the place of the first child with its ID, or the last place. It is the only child with its ID. Children with another
+-- ID stay.
 pub record ChildrenChange : Type 0 where
   pub at : (n m : Node) (front back : List Node) → id_of m ≡ id_of n → HasNone (id_of n) front
       → with_child n (front ++ m ∷ back) ≡ front ++ n ∷ without (id_of n) back

@@ -1,8 +1,8 @@
 -- A master that is read whole, as a tree of its Elements: RFC 8794, section 7.7 (Master Element).
 use Rattle.std.specs.Prelude.{◌≡◌, ◌<◌, ℕ, ◌+◌, max, Bool, true, false, List, [], ◌∷◌}
 
--- An Element and what is inside: a leaf has its ID, the place of its header and its octets, a master
--- its ID, that place and its children. An Element that was made has the place 0.
+-- An Element with its contents. A leaf has its ID, the offset of its header and its bytes. A master has its ID, that offset and its children. A
+-- new Element has the offset 0.
 mutual
   pub data Node : Type 0 where
     leaf : ℕ → ℕ → List ℕ → Node
@@ -32,26 +32,26 @@ abbrev pub is_leaf : Node → Bool
 is_leaf (leaf id at body) = true
 is_leaf (master id at kids) = false
 
--- it has children, or may have some
+-- The Element is a master: it may have children.
 abbrev pub IsMaster : Node → Type 0
 IsMaster n = is_leaf n ≡ false
 
--- a leaf's octets
+-- the bytes of a leaf
 abbrev pub body_of : Node → List ℕ
 body_of (leaf id at body) = body
 body_of (master id at kids) = []
 
--- a master's children
+-- the children of a master
 abbrev pub children : Node → List Node
 children (leaf id at body) = []
 children (master id at kids) = list_of kids
 
--- a master with other children
+-- the master with the children `ns`
 abbrev pub with_children : Node → List Node → Node
 with_children (leaf id at body) ns = leaf id at body
 with_children (master id at kids) ns = master id at (nodes_of ns)
 
--- how many Elements there are, this one counted
+-- the number of Elements, including this one
 abbrev mutual
   pub count : Node → ℕ
   count (leaf id at body) = 1
@@ -61,7 +61,7 @@ abbrev mutual
   count_all none = 0
   count_all (node n ns) = count n + count_all ns
 
--- how many masters stand inside one another, this one counted
+-- the number of nested masters, including this one
 abbrev mutual
   pub depth : Node → ℕ
   depth (leaf id at body) = 0
@@ -71,10 +71,10 @@ abbrev mutual
   depth_all none = 0
   depth_all (node n ns) = max (depth n) (depth_all ns)
 
--- the most masters that stand inside one another
+-- the maximum number of nested masters
 abbrev pub deepest : ℕ
 deepest = 32
 
--- a tree may be a child: with a master around it, it isn't too deep
+-- The tree may be a child: a master around it isn't nested too deep.
 abbrev pub HasRoom : Node → Type 0
 HasRoom n = depth n < deepest

@@ -1,27 +1,26 @@
--- The octets that a tree is written in: RFC 8794, sections 5 (Element ID) and 6 (Element Data Size).
+-- The bytes that a tree is written as: RFC 8794, sections 5 (Element ID) and 6 (Element Data Size).
 use Rattle.std.specs.Prelude.{ℕ, ◌-◌, ◌^◌, ◌==◌, Bool, ◌||◌, if◌then◌else◌, List, [], ◌++◌, length}
 use Rattle.ebml_numbers.specs.Number.{id_octets, size_octets, least_size_width}
 use Rattle.mkv_schema.specs.declared.ids.TheConstants.{VOID, CRC_32}
 use Rattle.tree_format.specs.Node.{Node, Nodes, leaf, master, none, node}
 
--- Void and CRC-32 say nothing of what a master holds, and are left out (section 11.3, Global Elements).
+-- The ID is Void or CRC-32. These have no content of their own, and aren't written (section 11.3, Global Elements).
 abbrev pub is_filler : ℕ → Bool
 is_filler id = id == VOID || id == CRC_32
 
--- an ID, and the size of a body in the fewest octets
+-- the ID `id`, then the size of a body in the fewest bytes
 abbrev pub header_octets : ℕ → ℕ → List ℕ
 header_octets id size = id_octets id ++ size_octets size (least_size_width size)
 
--- an Element with this body
+-- an Element with the body `body`
 abbrev pub element_octets : ℕ → List ℕ → List ℕ
 element_octets id body = header_octets id (length body) ++ body
 
--- an Element that isn't left out
+-- an Element, or nothing if it isn't written
 abbrev pub kept_octets : ℕ → List ℕ → List ℕ
 kept_octets id body = if is_filler id then [] else element_octets id body
 
--- The normal form: headers as short as they can be, Void and CRC-32 left out at every depth, and each
--- other leaf's octets as they are.
+-- the normal form of a tree. Headers are as short as possible, Void and CRC-32 are left out at every depth, and each other leaf has its bytes.
 abbrev mutual
   pub octets : Node → List ℕ
   octets (leaf id at body) = kept_octets id body
@@ -31,11 +30,11 @@ abbrev mutual
   octets_all none = []
   octets_all (node n ns) = octets n ++ octets_all ns
 
--- what is written behind an Element's header
+-- the bytes after an Element's header
 abbrev pub content : Node → List ℕ
 content (leaf id at body) = body
 content (master id at kids) = octets_all kids
 
--- the most octets behind a header: a size of eight octets whose bits aren't all 1 (section 6.2, Unknown Data Size)
+-- the maximum number of bytes after a header: a size of eight bytes whose bits aren't all 1 (section 6.2, Unknown Data Size)
 abbrev pub longest : ℕ
 longest = 2 ^ 56 - 2

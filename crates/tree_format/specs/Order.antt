@@ -1,4 +1,4 @@
--- A master that is read whole, said over all its Elements: RFC 8794, section 7.7 (Master Element). The limits are this project's.
+-- A master that is read whole, defined over all its Elements at once: RFC 8794, section 7.7 (Master Element). The limits are this project's.
 use Rattle.std.specs.Prelude.{ℕ, zero, suc, ◌+◌, nat_le, not, ◌&&◌, if◌then◌else◌, List, [], ◌∷◌, ◌++◌, length, map, Option, Some, None, Result, Ok, Err}
 use Rattle.std.specs.List.{enumerate_from}
 use Rattle.mkv_io.specs.declared.damage.Damage.{Damage}
@@ -14,60 +14,59 @@ use Rattle.tree_format.specs.Reading.{header_at, inside, behind, is_master_in}
 
 -- ---- the Elements of a body
 
--- the Elements of a body as trees, one behind the other, and the damage that ends them, if one does
+-- the Elements of a body as trees in sequence, and the damage that ends them, if any
 pub record Listed : Type 0 where
   pub trees : List Node
   pub damage : Option Damage
 
--- an Element as a tree, and the damage inside it, if there is one
+-- an Element as a tree, and the damage inside it, if any
 pub record Found : Type 0 where
   pub tree : Node
   pub damage : Option Damage
 
--- what lists the Elements of a body: its master's ID, its place and its octets
+-- a function that lists the Elements of a body from its master's ID, its offset and its bytes
 abbrev pub Listing : Type 0
 Listing = ℕ → ℕ → List ℕ → Listed
 
--- A master has the Elements of its body inside; whatever isn't a master of the table here is a leaf.
+-- the tree of an Element: a master with the Elements of its body. An Element that the table doesn't have as a master here is a leaf.
 abbrev pub found : Listing → ℕ → Header → List ℕ → Found
 found listing parent h body =
     if is_master_in parent h.id
     then (let kids = listing h.id h.body body in record { tree = master h.id h.offset (nodes_of kids.trees); damage = kids.damage })
     else record { tree = leaf h.id h.offset body; damage = None }
 
--- an Element and those behind it; a damage inside it ends them all
+-- the Element `n` before the others; a damage inside it ends the list
 abbrev pub followed : Node → Option Damage → Listed → Listed
 followed n None rest = record { trees = n ∷ rest.trees; damage = rest.damage }
 followed n (Some d) rest = record { trees = n ∷ []; damage = Some d }
 
--- what stands at a place: an Element and those behind it, or a damage
+-- the Element at the offset `p` and the Elements after it, or a damage
 abbrev pub listed_from : Listing → ℕ → ℕ → List ℕ → Result Header Damage → Listed
 listed_from listing parent p octets (Err d) = record { trees = []; damage = Some d }
 listed_from listing parent p octets (Ok h) =
     let first = found listing parent h (inside p h octets) in
     followed first.tree first.damage (listing parent (stated_end h) (behind p h octets))
 
--- All Elements of a body, one behind the other and each master with those inside it, up to the first
--- damage. (n bounds how many there are.)
+-- the Elements of a body in sequence, each master with its contents, up to the first damage; `n` bounds their number
 unfoldable pub elements_within : ℕ → Listing
 elements_within n parent p [] = record { trees = []; damage = None }
 elements_within zero parent p (o ∷ octets) = record { trees = []; damage = None }
 elements_within (suc n) parent p (o ∷ octets) =
     listed_from (elements_within n) parent p (o ∷ octets) (header_at parent p (o ∷ octets))
 
--- each Element has at least one octet
+-- the same with a bound that is large enough, since each Element has at least one byte
 unfoldable pub elements_in : Listing
 elements_in parent p octets = elements_within (length octets) parent p octets
 
--- ---- what refuses an Element
+-- ---- causes that refuse an Element
 
--- an Element of a tree, its parent's ID, and how many masters are around it
+-- an Element of a tree, the ID of its parent, and the number of masters around it
 pub record NodeContext : Type 0 where
   pub parent : ℕ
   pub around : ℕ
   pub node : Node
 
--- the Elements of a tree in the order in which their headers stand
+-- the Elements of a tree in the order of their headers
 abbrev mutual
   pub in_order : ℕ → ℕ → Node → List NodeContext
   in_order parent around (leaf id at body) = record { parent = parent; around = around; node = leaf id at body } ∷ []
@@ -78,41 +77,41 @@ abbrev mutual
   all_in_order parent around none = []
   all_in_order parent around (node n ns) = in_order parent around n ++ all_in_order parent around ns
 
--- a damage that is told at an Element
+-- the damage `kind` at the Element of `s`
 abbrev pub told_at : Kind → NodeContext → Damage
 told_at kind s = damage kind (id_of s.node) (offset_of s.node)
 
--- a master inside more masters than may be around it
+-- the damage of a master that is nested too deep
 abbrev pub too_deep : NodeContext → Option Damage
 too_deep s = where_it (not (is_leaf s.node) && nat_le deepest s.around) (told_at TooMany s)
 
--- a leaf that isn't a value of its kind
+-- the damage of a leaf that isn't a value of its kind
 abbrev pub no_value : NodeContext → Option Damage
 no_value s = where_it (is_leaf s.node && not (is_known_value s.parent (id_of s.node) (body_of s.node))) (told_at BadValue s)
 
--- one node too many: as many stand before it as there may be
+-- the damage of a node after the allowed `nodes` nodes; `before` nodes precede it
 abbrev pub one_too_many : ℕ → ℕ → NodeContext → Option Damage
 one_too_many nodes before s = where_it (nat_le nodes before) (told_at TooMany s)
 
--- what refuses an Element, in the order in which it is told
+-- the causes that may refuse an Element, in the order of the checks
 abbrev pub causes : ℕ → ℕ → NodeContext → List (Option Damage)
 causes nodes before s = one_too_many nodes before s ∷ too_deep s ∷ no_value s ∷ []
 
--- the first Element that is refused, where so many stand before the first of them
+-- the refusal of the first Element that is refused; `before` nodes precede the first of the list
 abbrev pub first_refused : ℕ → ℕ → List NodeContext → Option Damage
 first_refused nodes before spots = first_damage (map (λ s. first_damage (causes nodes s.0 s.1)) (enumerate_from before spots))
 
 -- ---- the tree
 
--- The tree of a master with this ID, whose header stands at a place and whose body at another, of at most
--- so many nodes, its own counted: all its Elements, unless one of them is refused or a damage ends them.
+-- the tree of a master with the ID `id`, its header at `offset` and its body at `base`, with at most `nodes` nodes including itself. If an
+-- Element is refused, or a damage ends the Elements, it is the first damage.
 abbrev pub tree_in_order : ℕ → ℕ → List ℕ → ℕ → ℕ → Result Node Damage
 tree_in_order id offset body base nodes =
     let all = elements_in id base body in
     let tree = master id offset (nodes_of all.trees) in
     unless (first_refusal (first_refused nodes 0 (in_order 0 0 tree)) all.damage) tree
 
--- The same without a reader's limits: however many nodes there are, and however deep masters stand in one another.
+-- the same without a reader's limits on the number of nodes and on nested masters
 abbrev pub tree_without_limits : ℕ → ℕ → List ℕ → ℕ → Result Node Damage
 tree_without_limits id offset body base =
     let all = elements_in id base body in

@@ -1,5 +1,4 @@
--- What the octets of a master that is read whole mean, one behind the other: RFC 8794, section 7.7 (Master Element).
--- `Order` says the same over all its Elements.
+-- A master that is read whole, read step by step: RFC 8794, section 7.7 (Master Element). `Order` defines the same over all its Elements at once.
 use Rattle.std.specs.Prelude.{ℕ, zero, suc, ◌+◌, ◌-◌, ◌==◌, Bool, ◌&&◌, if◌then◌else◌, List, [], ◌∷◌, length, take, drop, Result, Ok, Err}
 use Rattle.mkv_schema.specs.Schema.{is_master, may_stand}
 use Rattle.mkv_io.specs.declared.damage.Damage.{Damage}
@@ -11,28 +10,28 @@ use Rattle.mkv_io.specs.Results.{and_then}
 use Rattle.mkv_schema.specs.Value.{is_known_value}
 use Rattle.tree_format.specs.Node.{Node, leaf, master, nodes_of, deepest}
 
--- The header of the Element that these octets begin, which stand at place p of a file and are all that
--- is left of a master; or what is wrong there. Nothing of the file outside the master counts.
+-- the header of the Element at the start of the bytes, or its damage. The bytes are at the offset `p` of a file, and are the rest of a master.
+-- Bytes outside the master don't count.
 abbrev pub header_at : ℕ → ℕ → List ℕ → Result Header Damage
 header_at parent p octets = element_in (in_tree parent) octets (p + length octets) p (p + length octets)
 
--- the octets of the Element's body, and those behind the Element
+-- the bytes of the Element's body, and the bytes after the Element
 abbrev pub inside : ℕ → Header → List ℕ → List ℕ
 inside p h octets = take (known h.size) (drop (h.body - p) octets)
 
 abbrev pub behind : ℕ → Header → List ℕ → List ℕ
 behind p h octets = drop (stated_end h - p) octets
 
--- the table has it as a master under this parent: what it doesn't have there is a leaf
+-- The table has `id` as a master under `parent`. Any other Element is a leaf.
 abbrev pub is_master_in : ℕ → ℕ → Bool
 is_master_in parent id = may_stand id parent && is_master id
 
--- an Element as a tree, and how many more nodes there may be
+-- an Element as a tree, and the number of nodes that may follow
 pub record Grown : Type 0 where
   pub tree : Node
   pub left : ℕ
 
--- the Elements of a body as trees, and how many more nodes there may be
+-- the Elements of a body as trees, and the number of nodes that may follow
 pub record Grove : Type 0 where
   pub trees : List Node
   pub left : ℕ
@@ -40,16 +39,16 @@ pub record Grove : Type 0 where
 abbrev pub refused : {A : Type 0} → Kind → ℕ → ℕ → Result A Damage
 refused kind id p = Err (damage kind id p)
 
--- how a body is read: how deep masters may stand in it, how many nodes may be there, its master's ID,
--- its place and its octets
+-- a function that reads the Elements of a body. Its arguments are the number of masters that may be nested in it, the number of nodes that it may
+-- have, its master's ID, its offset and its bytes.
 abbrev pub Reader : Type 0
 Reader = ℕ → ℕ → ℕ → ℕ → List ℕ → Result Grove Damage
 
 abbrev pub as_master : Header → Grove → Result Grown Damage
 as_master h g = Ok (record { tree = master h.id h.offset (nodes_of g.trees); left = g.left })
 
--- An Element with its body. It is one node; a master needs room for one more inside another; and a leaf
--- of the table is a value of its kind.
+-- the tree of an Element with the body `body`, or its damage. It counts as one node. A master needs room for one more nested master, and a leaf
+-- of the table must be a value of its kind.
 abbrev pub grown : Reader → ℕ → ℕ → ℕ → Header → List ℕ → Result Grown Damage
 grown read room left parent h body =
     if left == 0 then refused TooMany h.id h.offset else
@@ -61,29 +60,28 @@ grown read room left parent h body =
 abbrev pub with_first : Node → Grove → Result Grove Damage
 with_first n g = Ok (record { trees = n ∷ g.trees; left = g.left })
 
--- an Element, and then what stands behind it
+-- the tree of an Element, then the Elements after it
 abbrev pub first_then : Reader → ℕ → ℕ → ℕ → ℕ → List ℕ → Header → Result Grove Damage
 first_then read room left parent p octets h =
     and_then (grown read room left parent h (inside p h octets)) (λ g.
     and_then (read room g.left parent (stated_end h) (behind p h octets)) (with_first g.tree))
 
--- The Elements of a body, one behind the other, or the first damage in the order in which they stand.
--- (n bounds how many there are.)
+-- the Elements of a body in sequence, or the first damage in their order; `n` bounds their number
 unfoldable pub grove_within : ℕ → Reader
 grove_within n room left parent p [] = Ok (record { trees = []; left = left })
 grove_within zero room left parent p (o ∷ octets) = Ok (record { trees = []; left = left })
 grove_within (suc n) room left parent p (o ∷ octets) =
     and_then (header_at parent p (o ∷ octets)) (first_then (grove_within n) room left parent p (o ∷ octets))
 
--- each Element has at least one octet
+-- the same with a bound that is large enough, since each Element has at least one byte
 unfoldable pub grove : Reader
 grove room left parent p octets = grove_within (length octets) room left parent p octets
 
 abbrev pub as_root : ℕ → ℕ → Grove → Result Node Damage
 as_root id offset g = Ok (master id offset (nodes_of g.trees))
 
--- The tree of a master with this ID, whose header stands at a place and whose body at another, of at
--- most so many nodes, its own counted; or the first damage in the order in which the Elements stand.
+-- the tree of a master with the ID `id`, its header at `offset` and its body at `base`, or the first damage in the order of the Elements. It may
+-- have `nodes` nodes, including itself.
 abbrev pub tree_of : ℕ → ℕ → List ℕ → ℕ → ℕ → Result Node Damage
 tree_of id offset body base nodes =
     if nodes == 0 then refused TooMany id offset else

@@ -1,4 +1,4 @@
--- Trees that can be written and read again: each Element stands where RFC 9559, section 5 (Matroska Schema), has it.
+-- Trees that can be written and read back: each Element is at a place that RFC 9559, section 5 (Matroska Schema), allows.
 use Rattle.std.specs.Prelude.{◌≡◌, ◌≤◌, ⊤, ℕ, ◌+◌, true, false, if◌then◌else◌, List, length, Ok}
 use Rattle.ebml_numbers.specs.Number.{is_id}
 use Rattle.mkv_schema.specs.Value.{is_known_value}
@@ -7,15 +7,13 @@ use Rattle.tree_format.specs.NormalForm.{is_filler, header_octets, octets, octet
 use Rattle.tree_format.specs.Reading.{is_master_in, tree_of}
 use Rattle.tree_format.specs.Order.{tree_without_limits}
 
--- A leaf stands under a parent: its ID is a valid one; the table has no master of that ID there; and its
--- octets are a value of its kind.
+-- The leaf may be a child of `parent`. Its ID is a valid one, the table has no master with this ID there, and its bytes are a value of its kind.
 pub record IsLeafIn (parent id : ℕ) (body : List ℕ) : Type 0 where
   pub id_stands : is_id id ≡ true
   pub no_master : is_master_in parent id ≡ false
   pub value : is_known_value parent id body ≡ true
 
--- An Element stands under a parent: a leaf as the table allows, a master where the table has it, and so
--- what is inside.
+-- The Element may be a child of `parent`: a leaf as the table allows, or a master if the table has it there. The same is true of its contents.
 abbrev mutual
   pub StandsIn : ℕ → Node → Type 0
   StandsIn parent (leaf id at body) = IsLeafIn parent id body
@@ -25,19 +23,19 @@ abbrev mutual
   AllStandIn parent none = ⊤
   AllStandIn parent (node n ns) = StandsIn parent n × AllStandIn parent ns
 
--- What is inside an Element stands there.
+-- The tree is valid: each Element in it may be a child of its parent.
 abbrev pub IsSound : Node → Type 0
 IsSound (leaf id at body) = ⊤
 IsSound (master id at kids) = AllStandIn id kids
 
--- an Element of an ID, whose children stand in it
+-- The Element has the ID `own` and is valid.
 pub record IsSoundOf (own : ℕ) (n : Node) : Type 0 where
   pub id : id_of n ≡ own
   pub sound : IsSound n
 
--- ---- what is read again
+-- ---- trees that are read back
 
--- how many Elements are written
+-- the number of Elements that are written
 abbrev mutual
   pub kept : Node → ℕ
   kept (leaf id at body) = 1
@@ -47,7 +45,7 @@ abbrev mutual
   kept_all none = 0
   kept_all (node n ns) = if is_filler (id_of n) then kept_all ns else kept n + kept_all ns
 
--- An Element as it stands once it is written at a place: without what is left out, each at its own place.
+-- the tree as it is read back after it is written at `p`: without Void and CRC-32, and each Element with its own offset
 abbrev mutual
   pub placed : ℕ → Node → Node
   placed p (leaf id at body) = leaf id p body
@@ -57,21 +55,21 @@ abbrev mutual
   placed_all p none = none
   placed_all p (node n ns) = if is_filler (id_of n) then placed_all p ns else node (placed p n) (placed_all (p + length (octets n)) ns)
 
--- a master whose header and whose body stand at these places
+-- the same for a master with its header at `offset` and its body at `base`
 abbrev pub placed_in : ℕ → ℕ → Node → Node
 placed_in offset base (leaf id at body) = leaf id offset body
 placed_in offset base (master id at kids) = master id offset (placed_all base kids)
 
--- Behind its header a tree is no more octets than a size can tell, and it isn't too deep.
+-- The bytes after the tree's header fit a size, and it isn't nested too deep.
 pub record KeepsLimits (n : Node) : Type 0 where
   pub long : length (content n) ≤ longest
   pub deep : depth n ≤ deepest
 
--- What is written of a master behind its header is read again where so many nodes are allowed: as the
--- same tree, without what is left out, each Element at its own place.
+-- The written bytes of a master's body are read back with at most `nodes` nodes. The result is the same tree, without Void and CRC-32, and each
+-- Element with its own offset.
 pub record IsReadAgain (nodes : ℕ) (n : Node) : Type 0 where
   pub read : (offset base : ℕ) → tree_of (id_of n) offset (content n) base nodes ≡ Ok (placed_in offset base n)
 
--- The same without a reader's limits, which don't count where a file is written.
+-- The same without a reader's limits, which don't apply to a written file.
 pub record IsReadWithoutLimits (n : Node) : Type 0 where
   pub read : (offset base : ℕ) → tree_without_limits (id_of n) offset (content n) base ≡ Ok (placed_in offset base n)

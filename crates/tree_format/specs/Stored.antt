@@ -1,4 +1,4 @@
--- How the logic stores a tree.
+-- The encoding of a tree in the logic.
 use Rattle.std.proofs.Common.{◌≡◌, ◌≢◌, ℕ, ap, arith}
 use Rattle.std.specs.Coded.{Coded, coded_ℕ, coded_list}
 use base.Stored.{Gv, gnil, gnum, gcons}
@@ -26,7 +26,7 @@ abbrev mutual
   nodes_code none = gcons (gnum 0) gnil
   nodes_code (node n ns) = gcons (gnum 1) (gcons (node_code n) (nodes_code ns))
 
--- two trees that are stored alike are one
+-- Trees with the same encoding are equal.
 mutual
   pub node_inj : (x y : Node) → node_code x ≡ node_code y → x ≡ y
   node_inj (leaf a b c) (leaf d e f) p =

@@ -1,7 +1,7 @@
--- Text that its octets end: RFC 8794, sections 7.4 (String Element) and 7.5 (UTF-8 Element).
+-- Text up to its first zero byte: RFC 8794, sections 7.4 (String Element) and 7.5 (UTF-8 Element).
 use Rattle.std.specs.Prelude.{◌≡◌, ℕ, ◌==◌, true, not, List}
 use Rattle.std.specs.List.{list_all}
 
--- no octet is zero, so none ends the text before its end
+-- No byte is zero, so the text has all bytes.
 abbrev pub HasNoZero : List ℕ → Type 0
 HasNoZero octets = list_all (λ octet. not (octet == 0)) octets ≡ true

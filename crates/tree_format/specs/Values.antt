@@ -1,4 +1,4 @@
--- The values among the children of a master that is held as a tree: RFC 8794, section 7 (EBML Element Types).
+-- Values among the children of a master that is a tree: RFC 8794, section 7 (EBML Element Types).
 use Rattle.std.specs.Prelude.{◌≡◌, ℕ, ◌==◌, Bool, true, not, List, Option, Some, find, unwrap_or}
 use Rattle.std.specs.Option.{option_map, option_map_or, option_and_then}
 use Rattle.mkv_schema.specs.declared.kind.ElementKind.TheVariants.{Uint}
@@ -10,15 +10,15 @@ use Rattle.mkv_schema.specs.Outline.{where_it}
 use Rattle.mkv_schema.specs.Value.{uint_value, text_of}
 use Rattle.tree_format.specs.Node.{Node, id_of, offset_of, body_of, children}
 
--- the first child of an ID, which gives the value
+-- the first child with the ID `id`, which gives the value
 abbrev pub first_child : ℕ → Node → Option Node
 first_child id tree = find (λ n. id_of n == id) (children tree)
 
--- the value of an unsigned integer: where it is empty, the table's default, or 0
+-- the value of an unsigned integer; an empty one is the table's default, or 0
 abbrev pub integer_of : Node → ℕ
 integer_of n = uint_value (id_of n) (body_of n)
 
--- the unsigned integer of an ID among the children, where it stands
+-- the unsigned integer `id` among the children, if there is one
 abbrev pub integer_in : ℕ → Node → Option ℕ
 integer_in id tree = option_map integer_of (first_child id tree)
 
@@ -26,16 +26,16 @@ integer_in id tree = option_map integer_of (first_child id tree)
 abbrev pub uint_in : ℕ → Node → ℕ
 uint_in id tree = unwrap_or (integer_in id tree) (unwrap_or (uint_default id) 0)
 
--- the text of an ID among the children, up to its first zero octet, or the table's default
+-- the text `id` among the children, up to its first zero byte, or the table's default
 abbrev pub text_in : ℕ → Node → Option (List ℕ)
 text_in id tree = option_map_or (λ n. Some (text_of (body_of n))) (first_child id tree) (text_default id)
 
--- the first child of an ID, where it fails a test, told at its own place
+-- the damage `kind` at the first child with the ID `id`, if it fails the test `passes`
 abbrev pub failing_child : Kind → ℕ → (Node → Bool) → Node → Option Damage
 failing_child kind id passes tree =
     option_and_then (λ n. where_it (not (passes n)) (damage kind id (offset_of n))) (first_child id tree)
 
--- the table has an unsigned integer of an ID under this parent
+-- The table has `id` as an unsigned integer under `parent`.
 pub record HasUint (parent id : ℕ) : Type 0 where
   pub stands : may_stand id parent ≡ true
   pub kind : kind_of id ≡ Some Uint

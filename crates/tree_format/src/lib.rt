@@ -1,8 +1,10 @@
 #![tactic(auto)]
 
-//! The trees of masters that are read whole: what octets mean as a tree, the normal form that a tree is
-//! written in, and changes of its children. The definitions, which the crates above cite, stand in
-//! `specs/`; the calls, which do nothing, carry laws of them.
+//! Masters that are read whole, as trees. The crate defines the tree that bytes encode, the normal form that a tree
+//! is written in, and changes of its children.
+//!
+//! The definitions, which higher crates use, are in `specs/`. The calls do nothing: they carry laws on the
+//! definitions.
 
 mod laws;
 mod limits;

@@ -1,4 +1,4 @@
-//! Limits that are this project's.
+//! Limits of a reader. They are this project's.
 
-/// The most Elements of a master that is read whole of a file, itself counted.
+/// Maximum number of Elements of a master that is read whole, including itself.
 pub const MAX_NODES: u32 = 65_536;

@@ -1,4 +1,4 @@
--- What a change leaves of the children of each ID.
+-- The effects of a change on the children with each ID.
 use Rattle.tree_format.proofs.PartLemmas.{children-change}
 use Rattle.tree_format.proofs.laws.children_change.Goals as goal
 

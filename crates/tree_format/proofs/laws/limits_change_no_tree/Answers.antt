@@ -1,4 +1,4 @@
--- A tree that is read with limits is the one without.
+-- A tree that is read with limits is the tree without limits.
 use Rattle.tree_format.proofs.OrderLemmas.{tree_of-without_limits}
 use Rattle.tree_format.proofs.laws.limits_change_no_tree.Goals as goal
 
