@@ -1,4 +1,4 @@
--- Blocks of small files, computed, so that a wrong definition does not check.
+-- Computed blocks of small files. A wrong definition fails here.
 use Rattle.std.proofs.Common.{◌≡◌, ℕ, ◌+◌, ◌-◌, ◌*◌, ◌/◌, ◌%◌, ◌^◌, true, false, List, [], ◌∷◌, ◌++◌, length, take, drop, slice_set, replicate, map, flat_map, Some, None, Result, Ok, Err, refl}
 use Rattle.std.specs.Prelude.{ℤ, pos, negsuc}
 use Rattle.std.specs.Int.Count.{count_leading_zeros}
@@ -19,12 +19,12 @@ use Rattle.block_format.specs.Block.{Block}
 use Rattle.block_format.specs.Elements.{Rules, with_limits, without_limits, simple_block, block_group}
 use Rattle.block_format.specs.Events.{Event, block, damaged, stopped, events_of, blocks_of, damages_of, last_of}
 
--- ---- what a block's octets spell (RFC 9559, sections 10.1, Block Structure, 10.2, SimpleBlock Structure, and 10.3, Block Lacing)
+-- ---- the content of blocks (RFC 9559, sections 10.1, Block Structure, 10.2, SimpleBlock Structure, and 10.3, Block Lacing)
 
 abbrev spelled : ℕ → ℤ → ℕ → List (List ℕ) → Result Content Kind
 spelled track relative flags frames = Ok (record { track = track; relative = relative; flags = flags; frames = frames })
 
--- track 1, no time, and these flags, with these octets behind
+-- the content of a block of track 1 at time 0 with the flags `flags`, whose data are `octets`
 abbrev laced : ℕ → List ℕ → Result Content Kind
 laced flags octets = content_in (0x81 ∷ 0 ∷ 0 ∷ flags ∷ octets)
 
@@ -93,58 +93,58 @@ flags = record {
 
 -- ---- a small file
 
--- an EBML header of 16 octets with the DocType `matroska`
+-- an EBML header of 16 bytes with the DocType `matroska`
 abbrev header : List ℕ
 header =
     0x1A ∷ 0x45 ∷ 0xDF ∷ 0xA3 ∷ 0x8B ∷ 0x42 ∷ 0x82 ∷ 0x88 ∷ 0x6D ∷ 0x61 ∷ 0x74 ∷ 0x72 ∷ 0x6F ∷ 0x73 ∷ 0x6B ∷ 0x61 ∷ []
 
--- Tracks of 25 octets, with one audio track
+-- a Tracks of 25 bytes with one audio track
 abbrev tracks : List ℕ
 tracks =
     0x16 ∷ 0x54 ∷ 0xAE ∷ 0x6B ∷ 0x94 ∷ 0xAE ∷ 0x92 ∷ 0xD7 ∷ 0x81 ∷ 1 ∷ 0x73 ∷ 0xC5 ∷ 0x81 ∷ 5 ∷ 0x83 ∷ 0x81 ∷
     2 ∷ 0x86 ∷ 0x86 ∷ 0x41 ∷ 0x5F ∷ 0x4F ∷ 0x50 ∷ 0x55 ∷ 0x53 ∷ []
 
--- a Timestamp of this tick and SimpleBlocks there and 20 ticks later, 17 octets
+-- a Timestamp `tick` and SimpleBlocks there and 20 ticks later, 17 bytes
 abbrev cluster_body : ℕ → List ℕ
 cluster_body tick =
     0xE7 ∷ 0x81 ∷ tick ∷ 0xA3 ∷ 0x85 ∷ 0x81 ∷ 0 ∷ 0 ∷ 0x80 ∷ 0xAA ∷ 0xA3 ∷ 0x85 ∷ 0x81 ∷ 0 ∷ 0x14 ∷ 0x80 ∷
     0xBB ∷ []
 
--- the same in a Cluster of 22 octets
+-- the same in a Cluster of 22 bytes
 abbrev cluster_at : ℕ → List ℕ
 cluster_at tick = (0x1F ∷ 0x43 ∷ 0xB6 ∷ 0x75 ∷ 0x91 ∷ []) ++ cluster_body tick
 
--- the header, a Segment with Tracks and a Cluster: 68 octets
+-- the header and a Segment with Tracks and a Cluster: 68 bytes
 abbrev small : List ℕ
 small = header ++ (0x18 ∷ 0x53 ∷ 0x80 ∷ 0x67 ∷ 0xAF ∷ []) ++ tracks ++ cluster_at 0
 
--- the same with a second Cluster: 90 octets
+-- the same with a second Cluster: 90 bytes
 abbrev two_clusters : List ℕ
 two_clusters = header ++ (0x18 ∷ 0x53 ∷ 0x80 ∷ 0x67 ∷ 0xC5 ∷ []) ++ tracks ++ cluster_at 0 ++ cluster_at 40
 
--- the small file as it is streamed, with unknown sizes, and Cues behind it: 87 octets
+-- the small file as a live stream: unknown sizes, and Cues at the end; 87 bytes
 abbrev streamed : List ℕ
 streamed =
     header ++ (0x18 ∷ 0x53 ∷ 0x80 ∷ 0x67 ∷ 1 ∷ replicate 7 0xFF) ++ tracks
     ++ (0x1F ∷ 0x43 ∷ 0xB6 ∷ 0x75 ∷ 1 ∷ replicate 7 0xFF) ++ cluster_body 0 ++ (0x1C ∷ 0x53 ∷ 0xBB ∷ 0x6B ∷ 0x80 ∷ [])
 
--- the Segment behind the EBML header
+-- the Segment after the EBML header
 abbrev segment : ℕ → Size → Header
 segment body size = record { id = 0x18538067; offset = 16; body = body; size = size }
 
--- what a file gives whose ticks are milliseconds
+-- the events of a file whose ticks are milliseconds
 abbrev given_by : ℕ → Size → List ℕ → List Event
 given_by body size bytes = events_of (with_limits 1000000) bytes (segment body size)
 
--- the small file with one octet set anew
+-- the small file with the byte `octet` at the offset `at`
 abbrev with_octet : ℕ → ℕ → List Event
 with_octet at octet = given_by 21 (Known 47) (slice_set small at octet)
 
--- the first octets of the small file
+-- the first `n` bytes of the small file
 abbrev cut : ℕ → List Event
 cut n = given_by 21 (Known 47) (take n small)
 
--- a SimpleBlock of track 1, a key frame of one octet, at this time
+-- a SimpleBlock of track 1, a keyframe of one byte, with the timestamp `time`
 abbrev simple_at : ℤ → ℕ → ℕ → Block
 simple_at time octet offset = record {
   track = 1;
@@ -161,15 +161,15 @@ simple_at time octet offset = record {
   offset = offset;
 }
 
--- the same, at so many milliseconds
+-- the same at `ms` milliseconds
 abbrev simple : ℕ → ℕ → ℕ → Event
 simple ms octet offset = block (simple_at (pos (ms * 1000000)) octet offset)
 
--- a damage of a kind, with an ID and a place, behind which reading goes on
+-- a damage after which reading goes on
 abbrev goes_on : Kind → ℕ → ℕ → Event
 goes_on kind id offset = damaged (damage kind id offset)
 
--- the same, where it ends what is read
+-- a damage that ends the reading
 abbrev ends : Kind → ℕ → ℕ → Event
 ends kind id offset = stopped (damage kind id offset)
 
@@ -207,9 +207,9 @@ whole_files = record {
   open_before_another = refl;
 }
 
--- ---- what is wrong with a file
+-- ---- damage of a file
 
--- the small file with one octet set anew
+-- Damage of the small file with one changed byte.
 pub record AreDamages : Type 0 where
   pub no_cluster : with_octet 46 0 ≡ ends BadId 0 46 ∷ []
   pub short_cluster : with_octet 50 0x90 ≡ first ∷ goes_on TooLong 0xA3 61 ∷ ends Truncated 0xBB 67 ∷ []
@@ -243,11 +243,11 @@ damages = record {
   long_block = refl;
 }
 
--- what each of these many first octets of the small file gives
+-- Each of these prefixes of the small file gives the events `events`.
 abbrev CutsGive : List ℕ → List Event → Type 0
 CutsGive places events = map cut places ≡ replicate (length places) events
 
--- Where a Cluster is cut between its children nothing is wrong, and elsewhere the damage ends what is read.
+-- A Cluster that is cut between its children has no damage. A cut elsewhere is a damage that ends the reading.
 pub record AreCut : Type 0 where
   pub between : CutsGive (46 ∷ 51 ∷ 54 ∷ []) []
   pub in_cluster_id : CutsGive (47 ∷ 48 ∷ 49 ∷ []) (ends Truncated 0 46 ∷ [])
@@ -269,7 +269,7 @@ cuts = record {
   in_second = refl;
 }
 
--- two Clusters, with something wrong in the first, whose size is known or not, or behind both
+-- Two Clusters with damage in the first one, whose size is known or not, or after both.
 pub record AreBehindDamages : Type 0 where
   pub closed : given_by 21 (Known 69) (slice_set two_clusters 62 0x82) ≡ first ∷ goes_on ShortBlock 0xA3 61 ∷ simple 40 0xAA 76 ∷ simple 60 0xBB 83 ∷ []
   pub not_closed : given_by 21 (Known 69) (slice_set (slice_set two_clusters 62 0x82) 50 0xFF) ≡ first ∷ ends ShortBlock 0xA3 61 ∷ []
@@ -289,13 +289,13 @@ behind_damages = record {
   in_both = refl;
 }
 
--- ---- a Cluster of a Segment that begins a file: its children stand at 12
+-- ---- a Cluster of a Segment that begins a file: its children begin at 12
 
--- an Element with a size in two octets
+-- an Element with a size of two bytes
 abbrev element : List ℕ → List ℕ → List ℕ
 element id body = id ++ (0x40 + length body / 256) ∷ length body % 256 ∷ body
 
--- what a Segment with one Cluster gives
+-- the events of a Segment with one Cluster
 abbrev given_by_cluster : Rules → List ℕ → List Event
 given_by_cluster r children =
     let cluster = element (0x1F ∷ 0x43 ∷ 0xB6 ∷ 0x75 ∷ []) children in
@@ -321,18 +321,18 @@ pub timestamps : AreTimestamps
 unfolding events_of elements elements_within element_in id_at size_at simple_block block_group content_in entry_of table count_leading_zeros
 timestamps = record { empty = refl; two_octets = refl; second_one = refl; behind_block = refl; nine_octets = refl; later_nine_octets = refl }
 
--- ---- a BlockGroup: it stands at 15 and its children at 18
+-- ---- a BlockGroup: it begins at 15 and its children at 18
 
--- what a Cluster with a Timestamp of 10 and this group gives
+-- the events of a Cluster with the Timestamp 10 and a group with the children `children`
 abbrev given_by_group : List ℕ → List Event
 given_by_group children = given_by_cluster (with_limits 1000000) (timestamp (10 ∷ []) ++ element (0xA0 ∷ []) children)
 
--- a Block of track 1, 5 ticks later, which isn't to be shown, with the frame CC; its flags have the bits
--- of a key frame and of one that may be left out, which a Block hasn't
+-- a Block of track 1, 5 ticks later, which isn't shown, with the frame CC. Its flags have the bits of a keyframe and of a discardable one, which
+-- a Block doesn't have.
 abbrev block_octets : List ℕ
 block_octets = 0xA1 ∷ 0x85 ∷ 0x81 ∷ 0 ∷ 5 ∷ 0x89 ∷ 0xCC ∷ []
 
--- another
+-- another Block
 abbrev other_block : List ℕ
 other_block = 0xA1 ∷ 0x85 ∷ 0x82 ∷ 0 ∷ 6 ∷ 0 ∷ 0xDD ∷ []
 
@@ -354,11 +354,11 @@ others = 0xA4 ∷ 0x81 ∷ 1 ∷ 0x75 ∷ 0xA2 ∷ 0x81 ∷ 5 ∷ 0x41 ∷ 0x42 
 abbrev skipped : List ℕ
 skipped = 0xEC ∷ 0x81 ∷ 0 ∷ 0xBF ∷ 0x84 ∷ 1 ∷ 2 ∷ 3 ∷ 4 ∷ 0x8E ∷ 0x80 ∷ []
 
--- a DiscardPadding of nine octets
+-- a DiscardPadding of nine bytes
 abbrev bad_padding : List ℕ
 bad_padding = 0x75 ∷ 0xA2 ∷ 0x89 ∷ replicate 9 0
 
--- the group with the Block alone
+-- the block of a group that has only the Block
 abbrev grouped : Block
 grouped = record {
   track = 1;
@@ -375,11 +375,11 @@ grouped = record {
   offset = 15;
 }
 
--- a group that gives this block
+-- A group with the children `children` gives the block `b`.
 abbrev IsGroup : List ℕ → Block → Type 0
 IsGroup children b = given_by_group children ≡ block b ∷ []
 
--- a group of which this is wrong
+-- A group with the children `children` has this damage.
 abbrev IsWrong : List ℕ → Kind → ℕ → ℕ → Type 0
 IsWrong children kind id offset = given_by_group children ≡ goes_on kind id offset ∷ []
 
@@ -427,15 +427,15 @@ wrong_groups = record {
 
 -- ---- the limits of a reader, which aren't the format's
 
--- so many references to the block a tick later, in 3 octets each
+-- `n` references to the block a tick later, of 3 bytes each
 abbrev references : ℕ → List ℕ
 references n = flat_map reference (replicate n 1)
 
--- a group with as many references
+-- the block of a group with `n` references
 abbrev referring : ℕ → Block
 referring n = record grouped { key = false; references = replicate n (pos 1000000) }
 
--- what a Cluster with this Timestamp and a SimpleBlock gives
+-- the events of a Cluster with the Timestamp `ticks` and a SimpleBlock
 abbrev given_at : Rules → List ℕ → List Event
 given_at r ticks = given_by_cluster r (timestamp ticks ++ simple_block_octets)
 
@@ -443,15 +443,15 @@ given_at r ticks = given_by_cluster r (timestamp ticks ++ simple_block_octets)
 abbrev early_block : List ℕ
 early_block = 0xA3 ∷ 0x85 ∷ 0x81 ∷ 0x80 ∷ 0 ∷ 0x80 ∷ 0xAA ∷ []
 
--- a Cluster with a group whose BlockDuration has eight octets, of which the first is this and the others are 0
+-- a Cluster with a group whose BlockDuration has eight bytes: `octet`, then zeros
 abbrev with_duration : ℕ → List ℕ
 with_duration octet = timestamp (10 ∷ []) ++ element (0xA0 ∷ []) (block_octets ++ (0x9B ∷ 0x88 ∷ octet ∷ replicate 7 0))
 
--- one whose ReferenceBlock has
+-- the same for its ReferenceBlock
 abbrev with_reference : ℕ → List ℕ
 with_reference octet = timestamp (10 ∷ []) ++ element (0xA0 ∷ []) (block_octets ++ (0xFB ∷ 0x88 ∷ octet ∷ replicate 7 0))
 
--- where nanoseconds are counted
+-- the block of the group with ticks of one nanosecond
 abbrev grouped_at_15 : Block
 grouped_at_15 = record grouped { time = pos 15 }
 
@@ -480,7 +480,7 @@ times = record {
   too_far_free_of_limits = refl;
 }
 
--- 64 references, and one more; the last of them stands at 217
+-- 64 references, and one more; the last of them begins at 217.
 pub record AreCounts : Type 0 where
   pub most : given_by_group (block_octets ++ references 64) ≡ block (referring 64) ∷ []
   pub one_more : given_by_group (block_octets ++ references 65) ≡ goes_on TooMany 0xFB 217 ∷ []
@@ -491,8 +491,8 @@ pub counts : AreCounts
 unfolding events_of elements elements_within element_in id_at size_at simple_block block_group content_in entry_of table count_leading_zeros
 counts = record { most = refl; one_more = refl; free_of_limits = refl; short_block_first = refl }
 
--- A block whose body has so many octets: one that is too large is told before all else, and the Timestamp
--- before what the octets spell.
+-- the header of a block with a body of `octets` bytes. A block that is too large is reported before all other damage, and a missing Timestamp
+-- before damage of the content.
 abbrev sized : ℕ → ℕ → Header
 sized id octets = record { id = id; offset = 20; body = 25; size = Known octets }
 

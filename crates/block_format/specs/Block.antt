@@ -6,11 +6,10 @@ use Rattle.lacing.specs.declared.kind.Lace.{Lace}
 use Rattle.block_format.specs.declared.limits.TheConstants.{TOO_LARGE_TIME}
 use Rattle.block_format.specs.Content.{Content, is_key, is_invisible, is_discardable, lace_of}
 
--- A SimpleBlock or a BlockGroup: the number of its track; its time in nanoseconds; whether it can be decoded
--- without another block, isn't to be shown, may be left out, and is a group; the kind of its lacing and
--- its frames; its duration, where it has one, and the times of the blocks that it refers to less its own,
--- in nanoseconds; the octets of what else is kept of its group, in their order; and the place of its
--- header in the file.
+-- A SimpleBlock or a BlockGroup. It has the number of its track and its timestamp in nanoseconds. Four flags follow: it is a keyframe, it isn't
+-- shown, it may be discarded, it is a group. Then: the kind of its lacing, its frames, its duration if it has one, and its references. A
+-- reference is the timestamp of another block minus its own. Durations and references are in nanoseconds. `kept` has the bytes of all other
+-- Elements of the group, in their order, and `offset` is the place of its header in the file.
 pub record Block : Type 0 where
   pub track : ℕ
   pub time : ℤ
@@ -25,29 +24,29 @@ pub record Block : Type 0 where
   pub kept : List ℕ
   pub offset : ℕ
 
--- ---- times
+-- ---- timestamps
 
--- so many ticks, of `scale` nanoseconds each
+-- `ticks` ticks of `scale` nanoseconds each, in nanoseconds
 abbrev pub nanoseconds : ℕ → ℤ → ℤ
 nanoseconds scale ticks = ticks *ℤ pos scale
 
--- the time of a block is the Cluster's Timestamp and its own, which counts from there
+-- the timestamp of a block in nanoseconds: the Cluster's Timestamp plus the block's own, in ticks of `scale` nanoseconds
 abbrev pub time_of : ℕ → ℕ → Content → ℤ
 time_of scale timestamp content = nanoseconds scale (pos timestamp +ℤ content.relative)
 
 abbrev pub is_too_large : ℤ → Bool
 is_too_large time = nat_le TOO_LARGE_TIME (nat_abs time)
 
--- its time, its duration or a reference is too large
+-- The block's timestamp, its duration or a reference is too large.
 abbrev pub has_too_large_time : Block → Bool
 has_too_large_time block =
     is_too_large block.time
     || option_map_or (λ duration. is_too_large (pos duration)) block.duration false
     || list_any is_too_large block.references
 
--- ---- what an Element's content makes of a block
+-- ---- blocks that are made of a content
 
--- a SimpleBlock with this content
+-- the block of a SimpleBlock with the content `content`
 abbrev pub simple_block_with : ℕ → ℕ → ℕ → Content → Block
 simple_block_with scale timestamp offset content = record {
   track = content.track;

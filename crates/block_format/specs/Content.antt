@@ -1,4 +1,4 @@
--- What the octets of a Block or a SimpleBlock spell: RFC 9559, sections 10.1 (Block Structure), 10.2 (SimpleBlock Structure) and 10.3 (Block Lacing).
+-- The content of a Block or a SimpleBlock: RFC 9559, sections 10.1 (Block Structure), 10.2 (SimpleBlock Structure) and 10.3 (Block Lacing).
 use Rattle.std.specs.Prelude.{ℕ, ◌+◌, ◌==◌, nat_lt, Bool, not, ◌||◌, if◌then◌else◌, ℤ, List, [], ◌∷◌, length, take, drop, slice_index, bit_and, Option, Some, None, Result, Ok, Err}
 use Rattle.ebml_numbers.specs.Number.{announced, vint_data, int_of}
 use Rattle.lacing.specs.declared.kind.Lace.{Lace}
@@ -9,26 +9,26 @@ use Rattle.mkv_io.specs.declared.damage.Kind.TheVariants.{ShortBlock, BadLacing}
 
 -- ---- the header
 
--- the track number, two octets of time and one of flags
+-- the length of the header: the track number, two bytes of time and one of flags
 abbrev pub header_len : List ℕ → ℕ
 header_len octets = announced octets + 3
 
--- The octets end inside the header, or the track number begins with `00`, which announces no width.
+-- The bytes end inside the header, or the track number begins with `00`, which gives no width.
 abbrev pub has_no_header : List ℕ → Bool
 has_no_header octets = slice_index octets 0 == 0 || nat_lt (length octets) (header_len octets)
 
--- the number of the track, any data of a variable-size integer
+-- the track number, which may be any data of a variable-size integer
 abbrev pub track_in : List ℕ → ℕ
 track_in octets = vint_data (announced octets) octets
 
--- ticks from the Cluster's Timestamp to the block's, with their sign
+-- the signed number of ticks from the Cluster's Timestamp to the block's
 abbrev pub relative_in : List ℕ → ℤ
 relative_in octets = int_of (take 2 (drop (announced octets) octets))
 
 abbrev pub flags_in : List ℕ → ℕ
 flags_in octets = slice_index octets (announced octets + 2)
 
--- what stands behind the header
+-- the bytes after the header
 abbrev pub data_in : List ℕ → List ℕ
 data_in octets = drop (header_len octets) octets
 
@@ -37,15 +37,15 @@ data_in octets = drop (header_len octets) octets
 abbrev pub has_flag : ℕ → ℕ → Bool
 has_flag flag flags = not (bit_and flags flag == 0)
 
--- the keyframe flag of a SimpleBlock; a Block has none
+-- The flags have the keyframe flag of a SimpleBlock. A Block has no such flag.
 abbrev pub is_key : ℕ → Bool
 is_key flags = has_flag 0x80 flags
 
--- decoded, and not shown
+-- The block is decoded, but not shown.
 abbrev pub is_invisible : ℕ → Bool
 is_invisible flags = has_flag 0x08 flags
 
--- may be left out where there is no time for it; a Block has no such flag
+-- The block may be left out if there is no time for it. A Block has no such flag.
 abbrev pub is_discardable : ℕ → Bool
 is_discardable flags = has_flag 0x01 flags
 
@@ -56,28 +56,28 @@ lace_of_bits bits =
     if bits == 0x04 then lace.Fixed else
     lace.Ebml
 
--- the two bits that name the kind of lacing
+-- the kind of lacing, by its two bits
 abbrev pub lace_of : ℕ → Lace
 lace_of flags = lace_of_bits (bit_and flags 0x06)
 
 -- ---- the frames
 
--- octets cut into frames of these sizes
+-- the bytes divided into frames with the sizes `sizes`
 abbrev pub frames_cut : List ℕ → List ℕ → List (List ℕ)
 frames_cut [] octets = []
 frames_cut (size ∷ sizes) octets = take size octets ∷ frames_cut sizes (drop size octets)
 
--- the frames behind the head of a lace, whose sizes it tells
+-- the frames after the head of a lace, divided by the sizes in the head
 abbrev pub frames_behind : List ℕ → Option (List ℕ × ℕ) → Result (List (List ℕ)) Kind
 frames_behind octets None = Err BadLacing
 frames_behind octets (Some (sizes, head)) = Ok (frames_cut sizes (drop head octets))
 
--- before the head of a lace stands an octet with the number of the frames, less one
+-- the frames of a lace; a byte before its head has the number of the frames, minus one
 abbrev pub laced_frames : Lace → List ℕ → Result (List (List ℕ)) Kind
 laced_frames kind [] = Err ShortBlock
 laced_frames kind (less_one ∷ octets) = frames_behind octets (lace_in kind (less_one + 1) octets)
 
--- the frames of the octets behind the header: without lacing they are one
+-- the frames in the bytes after the header; without lacing they are one frame
 abbrev pub frames_in : Lace → List ℕ → Result (List (List ℕ)) Kind
 frames_in lace.None octets = Ok (octets ∷ [])
 frames_in lace.Xiph octets = laced_frames lace.Xiph octets
@@ -86,7 +86,7 @@ frames_in lace.Ebml octets = laced_frames lace.Ebml octets
 
 -- ---- the whole
 
--- what a Block or a SimpleBlock spells
+-- the content of a Block or a SimpleBlock
 pub record Content : Type 0 where
   pub track : ℕ
   pub relative : ℤ
@@ -97,7 +97,7 @@ abbrev pub content_with : List ℕ → Result (List (List ℕ)) Kind → Result 
 content_with octets (Err kind) = Err kind
 content_with octets (Ok frames) = Ok (record { track = track_in octets; relative = relative_in octets; flags = flags_in octets; frames = frames })
 
--- what these octets spell, or why they are no block
+-- the content that the bytes encode, or the kind of their damage
 unfoldable pub content_in : List ℕ → Result Content Kind
 content_in octets =
     if has_no_header octets then Err ShortBlock else content_with octets (frames_in (lace_of (flags_in octets)) (data_in octets))

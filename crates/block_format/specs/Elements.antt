@@ -1,4 +1,5 @@
--- A SimpleBlock and a BlockGroup as a block, or the first thing that is wrong: RFC 9559, sections 5.1.3 (Cluster Element), 10.1 (Block Structure) and 10.2 (SimpleBlock Structure). The kinds, their order and the limits are this project's.
+-- A SimpleBlock and a BlockGroup as a block, or their first damage: RFC 9559, sections 5.1.3 (Cluster Element), 10.1 (Block Structure) and 10.2
+-- (SimpleBlock Structure). The kinds, their order and the limits are this project's.
 use Rattle.std.specs.Prelude.{ℕ, ◌*◌, ◌==◌, nat_lt, Bool, true, false, not, ◌&&◌, if◌then◌else◌, ℤ, List, [], ◌∷◌, length, map, filter, slice_get, flat_map, Option, Some, None, Result, Ok, Err}
 use Rattle.std.specs.List.{list_any}
 use Rattle.std.specs.Option.{option_map}
@@ -17,7 +18,7 @@ use Rattle.block_format.specs.declared.limits.TheConstants.{SLICES, MAX_BLOCK_LE
 use Rattle.block_format.specs.Content.{Content, content_in, is_invisible, lace_of}
 use Rattle.block_format.specs.Block.{Block, nanoseconds, time_of, has_too_large_time, simple_block_with}
 
--- How blocks are read: with the limits of a reader or without, and how many nanoseconds a tick has.
+-- the rules for reading blocks: with the limits of a reader or without, and the nanoseconds per tick
 pub record Rules : Type 0 where
   pub limits : Bool
   pub scale : ℕ
@@ -25,17 +26,17 @@ pub record Rules : Type 0 where
 abbrev pub with_limits : ℕ → Rules
 with_limits scale = record { limits = true; scale = scale }
 
--- what is written is read back without a reader's limits
+-- the rules for reading a written file back: without the limits of a reader
 abbrev pub without_limits : ℕ → Rules
 without_limits scale = record { limits = false; scale = scale }
 
--- ---- of every block
+-- ---- every block
 
--- its body is longer than a reader takes
+-- the damage of a block whose body is longer than a reader's limit
 abbrev pub too_long : Rules → Header → Option Damage
 too_long r h = where_it (r.limits && nat_lt MAX_BLOCK_LEN (known h.size)) (damage BlockTooLarge h.id h.offset)
 
--- the Timestamp that stands before it
+-- the Timestamp before the block, or NoTimestamp
 abbrev pub timestamp_or : Header → Option ℕ → Result ℕ Damage
 timestamp_or h None = Err (damage NoTimestamp h.id h.offset)
 timestamp_or h (Some timestamp) = Ok timestamp
@@ -44,18 +45,18 @@ timestamp_or h (Some timestamp) = Ok timestamp
 abbrev pub timestamp_for : Rules → Option ℕ → Header → Result ℕ Damage
 timestamp_for r timestamp h = and_then (unless (too_long r h) timestamp) (timestamp_or h)
 
--- a kind of damage is told with an ID and a place
+-- a result whose damage gets the ID `id` and the offset `offset`
 abbrev pub at_place : {A : Type 0} → ℕ → ℕ → Result A Kind → Result A Damage
 at_place id offset (Ok x) = Ok x
 at_place id offset (Err kind) = Err (damage kind id offset)
 
--- a block whose times aren't too large for a reader
+-- a block whose timestamps aren't too large for a reader
 abbrev pub in_time : Rules → ℕ → Block → Result Block Damage
 in_time r id block = unless (where_it (r.limits && has_too_large_time block) (damage TimeTooLarge id block.offset)) block
 
 -- ---- a SimpleBlock
 
--- The block of a SimpleBlock behind this Timestamp of its Cluster, or the first thing that is wrong.
+-- the block of a SimpleBlock after the Timestamp `timestamp` of its Cluster, or its first damage
 unfoldable pub simple_block : Rules → List ℕ → Option ℕ → Header → Result Block Damage
 simple_block r bytes timestamp h =
     and_then (timestamp_for r timestamp h) (λ time.
@@ -67,50 +68,50 @@ simple_block r bytes timestamp h =
 abbrev pub group_run : List ℕ → Header → Run
 group_run bytes h = children_in in_master bytes h.body (stated_end h)
 
--- The first child that isn't a value of its kind, or the damage that ends the children.
+-- the damage of the first child that isn't a value of its kind, or the damage that ends the children
 abbrev pub group_refusal : List ℕ → Run → Option Damage
 group_refusal bytes run = first_damage (bad_value bytes BLOCK_GROUP run.list ∷ run.damage ∷ [])
 
 abbrev pub group_children : List ℕ → Header → Result (List Header) Damage
 group_children bytes h = unless (group_refusal bytes (group_run bytes h)) (group_run bytes h).list
 
--- the Block of a group, of several the first
+-- the first Block of a group, or MissingChild
 abbrev pub block_or : Header → Option Header → Result Header Damage
 block_or h None = Err (damage MissingChild BLOCK h.offset)
 block_or h (Some block) = Ok block
 
--- every ReferenceBlock counts
+-- the ReferenceBlocks among the children, all of which count
 abbrev pub references_among : List Header → List Header
 references_among children = filter (λ c. c.id == REFERENCE_BLOCK) children
 
--- the first ReferenceBlock that is one too many for a reader
+-- the damage of the first ReferenceBlock after a reader's limit
 abbrev pub too_many_references : Rules → List Header → Option Damage
 too_many_references r children =
     if r.limits then option_map (λ (c : Header). damage TooMany c.id c.offset) (slice_get (references_among children) MAX_REFERENCES) else None
 
--- the BlockDuration, of several the first
+-- the duration in nanoseconds by the first BlockDuration, if there is one
 abbrev pub duration_of : ℕ → List ℕ → List Header → Option ℕ
 duration_of scale bytes children = option_map (λ (c : Header). uint_of (body_of bytes c) * scale) (first_of BLOCK_DURATION children)
 
 abbrev pub references_of : ℕ → List ℕ → List Header → List ℤ
 references_of scale bytes children = map (λ (c : Header). nanoseconds scale (int_of (body_of bytes c))) (references_among children)
 
--- what a block says by itself, or what says nothing of it
+-- the IDs of Elements that aren't copied: the parts of a block, and Elements without content
 abbrev pub left_out : List ℕ
 left_out = BLOCK ∷ BLOCK_DURATION ∷ REFERENCE_BLOCK ∷ VOID ∷ CRC_32 ∷ SLICES ∷ []
 
 abbrev pub is_kept : ℕ → Bool
 is_kept id = not (list_any (λ other. id == other) left_out)
 
--- an Element's octets, its header's and its body's
+-- the bytes of an Element, with its header
 abbrev pub element_octets : List ℕ → Header → List ℕ
 element_octets bytes h = octets_between bytes h.offset (stated_end h)
 
--- all else of a group is kept, in its order
+-- the bytes of all other Elements of a group, in their order, which are copied
 abbrev pub kept_of : List ℕ → List Header → List ℕ
 kept_of bytes children = flat_map (λ (c : Header). element_octets bytes c) (filter (λ (c : Header). is_kept c.id) children)
 
--- A group with these children and this content of its Block, which is key where nothing is referred to.
+-- the block of a group with the children `children` and the content `content` of its Block; it is a keyframe if it has no references
 abbrev pub group_with : ℕ → List ℕ → ℕ → ℕ → List Header → Content → Block
 group_with scale bytes timestamp offset children content = record {
   track = content.track;
@@ -127,14 +128,14 @@ group_with scale bytes timestamp offset children content = record {
   offset = offset;
 }
 
--- the block of a group with these children, of which one is its Block
+-- the block of a group with the children `children`, of which `block` is its Block
 abbrev pub group_among : Rules → List ℕ → ℕ → ℕ → List Header → Header → Result Block Damage
 group_among r bytes timestamp offset children block =
     and_then (at_place BLOCK offset (content_in (body_of bytes block))) (λ content.
     and_then (unless (too_many_references r children) content) (λ content.
     in_time r BLOCK (group_with r.scale bytes timestamp offset children content)))
 
--- The block of a BlockGroup behind this Timestamp of its Cluster, or the first thing that is wrong.
+-- the block of a BlockGroup after the Timestamp `timestamp` of its Cluster, or its first damage
 unfoldable pub block_group : Rules → List ℕ → Option ℕ → Header → Result Block Damage
 block_group r bytes timestamp h =
     and_then (timestamp_for r timestamp h) (λ time.

@@ -1,4 +1,4 @@
--- The blocks and the damages of a file: RFC 9559, sections 5.1 (Segment Element) and 5.1.3 (Cluster Element).
+-- The blocks and the damaged places of a file: RFC 9559, sections 5.1 (Segment Element) and 5.1.3 (Cluster Element).
 use Rattle.std.specs.Prelude.{ℕ, ◌==◌, nat_lt, nat_le, Bool, not, ◌&&◌, if◌then◌else◌, List, [], ◌∷◌, ◌++◌, length, flat_map, slice_get, Option, Some, None, Result, Ok, Err}
 use Rattle.ebml_numbers.specs.Number.{uint_of}
 use Rattle.mkv_schema.specs.declared.ids.TheConstants.{CLUSTER, TIMESTAMP, SIMPLE_BLOCK, BLOCK_GROUP}
@@ -15,15 +15,15 @@ use Rattle.block_format.specs.Elements.{Rules, simple_block, block_group}
 
 -- ---- inside a Cluster
 
--- a block, or something that is wrong
+-- a block, or a damage
 abbrev pub Found : Type 0
 Found = Result Block Damage
 
--- a Timestamp of more octets than an integer has
+-- the damage of a Timestamp with more bytes than an integer may have
 abbrev pub found_in_timestamp : Header → List Found
 found_in_timestamp h = if nat_lt MAX_TIMESTAMP_LEN (known h.size) then Err (damage BadValue h.id h.offset) ∷ [] else []
 
--- what a child of a Cluster gives, where this Timestamp stands before it
+-- the blocks and damage of one child of a Cluster after the Timestamp `timestamp`
 abbrev pub found_at : Rules → List ℕ → Option ℕ → Header → List Found
 found_at r bytes timestamp h =
     if h.id == TIMESTAMP then found_in_timestamp h else
@@ -31,12 +31,12 @@ found_at r bytes timestamp h =
     if h.id == BLOCK_GROUP then block_group r bytes timestamp h ∷ [] else
     []
 
--- The Timestamp that stands before the next child: of several the first counts.
+-- the Timestamp before the next child; the first of several counts
 abbrev pub timestamp_behind : List ℕ → Option ℕ → Header → Option ℕ
 timestamp_behind bytes (Some timestamp) h = Some timestamp
 timestamp_behind bytes None h = if h.id == TIMESTAMP then Some (uint_of (body_of bytes h)) else None
 
--- what children give, one after the other, where this Timestamp stands before them
+-- the blocks and damage of several children in sequence; the Timestamp `timestamp` precedes them
 abbrev pub found_among : Rules → List ℕ → Option ℕ → List Header → List Found
 found_among r bytes timestamp [] = []
 found_among r bytes timestamp (h ∷ hs) =
@@ -47,47 +47,47 @@ abbrev pub found_behind : Option Damage → List Found
 found_behind None = []
 found_behind (Some d) = Err d ∷ []
 
--- what a run of children gives, and the damage that ends it
+-- the blocks and damage of a run of children, with the damage that ends it
 abbrev pub found_in_run : Rules → List ℕ → Option ℕ → Run → List Found
 found_in_run r bytes timestamp run = found_among r bytes timestamp run.list ++ found_behind run.damage
 
--- the children of a Cluster, whose Segment reaches up to e
+-- the children of a Cluster in a Segment that ends at `e`
 abbrev pub cluster_run : List ℕ → ℕ → Header → Run
 cluster_run bytes e h = if is_unknown h.size then open_cluster bytes h.body e else children_in in_master bytes h.body (end_in e h)
 
--- what a Cluster gives
+-- the blocks and damage of a Cluster
 abbrev pub found_in : Rules → List ℕ → ℕ → Header → List Found
 found_in r bytes e h = found_in_run r bytes None (cluster_run bytes e h)
 
--- the damage that is found, if it is one
+-- the damage of a result, if it is one
 abbrev pub wrong_in : Found → List Damage
 wrong_in (Ok block) = []
 wrong_in (Err d) = d ∷ []
 
--- the first damage among what is found: in a Cluster no other is told
+-- the first damage among the results; only this one is reported for a Cluster
 abbrev pub first_wrong : List Found → Option Damage
 first_wrong found = slice_get (flat_map wrong_in found) 0
 
 -- ---- the whole file
 
--- A block; a damage behind which reading goes on, or one that ends what is read.
+-- A block; a damage after which reading goes on; or a damage that ends the reading.
 pub data Event : Type 0 where
   block : Block → Event
   damaged : Damage → Event
   stopped : Damage → Event
 
--- A Cluster is closed: its size is known, and it ends within a file of `total` octets.
+-- The Cluster `h` is closed: its size is known, and it ends within a file of `total` bytes.
 abbrev pub is_closed : ℕ → Header → Bool
 is_closed total h = not (is_unknown h.size) && nat_le (stated_end h) total
 
--- What was found in a Cluster, up to and with its first damage, and then what stands behind the Cluster: behind
--- a damage only where the Cluster is closed.
+-- the events of a Cluster up to its first damage, then the events `rest` after the Cluster. After a damage `rest` follows only if the Cluster is
+-- closed.
 abbrev pub events_then : Bool → List Found → List Event → List Event
 events_then closed [] rest = rest
 events_then closed (Ok b ∷ found) rest = block b ∷ events_then closed found rest
 events_then closed (Err d ∷ found) rest = if closed then damaged d ∷ rest else stopped d ∷ []
 
--- the blocks and damages of the Clusters among Elements of level 1, which this damage ends, if one does
+-- the events of the Clusters among Elements of level 1, which the damage `wrong` ends, if any
 abbrev pub events_among : Rules → List ℕ → ℕ → List Header → Option Damage → List Event
 events_among r bytes e [] None = []
 events_among r bytes e [] (Some d) = stopped d ∷ []
@@ -95,42 +95,42 @@ events_among r bytes e (h ∷ hs) wrong =
     if h.id == CLUSTER then events_then (is_closed (length bytes) h) (found_in r bytes e h) (events_among r bytes e hs wrong)
     else events_among r bytes e hs wrong
 
--- the blocks and damages of a run of Elements of level 1, in a Segment that reaches up to e
+-- the events of a run of Elements of level 1, in a Segment that ends at `e`
 abbrev pub events_in_run : Rules → List ℕ → ℕ → Run → List Event
 events_in_run r bytes e run = events_among r bytes e run.list run.damage
 
--- The blocks and the damages of a file with this Segment, in the order of the file.
+-- the events of a file with the Segment `segment`: its blocks and its damage, in the order of the file
 unfoldable pub events_of : Rules → List ℕ → Header → List Event
 events_of r bytes segment = events_in_run r bytes (segment_bound bytes segment) (segment_run bytes segment)
 
--- ---- what is seen of them
+-- ---- parts of events
 
--- the block that an event is, if it is one
+-- the block of an event, if it is one
 abbrev pub block_in : Event → List Block
 block_in (block b) = b ∷ []
 block_in (damaged d) = []
 block_in (stopped d) = []
 
--- the damage that an event is, if it is one
+-- the damage of an event, if it is one
 abbrev pub damage_in : Event → List Damage
 damage_in (block b) = []
 damage_in (damaged d) = d ∷ []
 damage_in (stopped d) = d ∷ []
 
--- the damage that an event is, if it ends what is read
+-- the damage of an event, if it ends the reading
 abbrev pub stop_in : Event → List Damage
 stop_in (block b) = []
 stop_in (damaged d) = []
 stop_in (stopped d) = d ∷ []
 
--- the blocks among events
+-- the blocks among the events
 abbrev pub blocks_of : List Event → List Block
 blocks_of events = flat_map block_in events
 
--- the damages among events, each of them
+-- all damage among the events
 abbrev pub damages_of : List Event → List Damage
 damages_of events = flat_map damage_in events
 
--- The damage that ends what is read, if one does. Of a file it is the last event.
+-- the damage that ends the reading, if any; it is the last event of a file
 abbrev pub last_of : List Event → Option Damage
 last_of events = slice_get (flat_map stop_in events) 0

@@ -1,8 +1,8 @@
 #![tactic(auto)]
 
-//! The blocks of a file: what a SimpleBlock and a BlockGroup spell, what is wrong with one, and the
-//! blocks and damages of a file in its order, as RFC 9559, sections 5.1.3 (Cluster Element) and 10
-//! (Cluster Blocks), has them. The definitions, which the crates above cite, stand in `specs/`.
+//! The blocks of a file: the contents of a SimpleBlock and a BlockGroup, their damage, and the blocks and damaged
+//! places of a file in its order. The standard is RFC 9559, sections 5.1.3 (Cluster Element) and 10 (Cluster Blocks).
+//! The definitions, which higher crates use, are in `specs/`.
 
 mod limits;
 
