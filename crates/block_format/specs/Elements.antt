@@ -80,7 +80,7 @@ abbrev pub block_or : Header → Option Header → Result Header Damage
 block_or h None = Err (damage MissingChild BLOCK h.offset)
 block_or h (Some block) = Ok block
 
--- the ReferenceBlocks among the children, all of which count
+-- the ReferenceBlocks among the children; each of them counts
 abbrev pub references_among : List Header → List Header
 references_among children = filter (λ c. c.id == REFERENCE_BLOCK) children
 
@@ -128,7 +128,7 @@ group_with scale bytes timestamp offset children content = record {
   offset = offset;
 }
 
--- the block of a group with the children `children`, of which `block` is its Block
+-- the block of a group with the children `children` and the Block `block`
 abbrev pub group_among : Rules → List ℕ → ℕ → ℕ → List Header → Header → Result Block Damage
 group_among r bytes timestamp offset children block =
     and_then (at_place BLOCK offset (content_in (body_of bytes block))) (λ content.
