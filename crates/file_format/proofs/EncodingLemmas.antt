@@ -1,4 +1,4 @@
--- When the encodings of a track can be undone.
+-- Laws on encodings of a track that can be undone.
 use Rattle.std.proofs.Common.{◌≡◌, ◌≤◌, ℕ, ◌==◌, Bool, true, false, not, ◌&&◌, cond, List, [], ◌∷◌, length, filter, find, Option, Some, None, is_none, refl, sym, subst, ap, ◌∙◌, arith}
 use Rattle.std.specs.Prelude.{slice_get}
 use Rattle.std.specs.Option.{option_map_or, option_and_then}
@@ -14,7 +14,7 @@ use Rattle.file_format.specs.Encoding.{settings_of, most_stripped, strips_header
 
 -- ---- the ContentEncoding Elements among others
 
--- the first that passes a test leads those that pass
+-- The first element that passes a test is the first of all that pass.
 filter-found : (p : Node → Bool) (ns : List Node) (n : Node) → find p ns ≡ Some n → (rest : List Node) × (filter p ns ≡ n ∷ rest)
 filter-found p [] n found = absurd (cc)
 filter-found p (m ∷ ns) n found = split (p m) found (filter-found p ns n)
@@ -31,11 +31,11 @@ filter-none p (m ∷ ns) found = split (p m) found (filter-none p ns)
     split true found rest = absurd (cc)
     split false found rest = rest found
 
--- there is none
+-- Without a ContentEncoding there is nothing to undo.
 pub undone-none : (encodings : Node) → first_child CONTENT_ENCODING encodings ≡ None → can_be_undone (encodings_of encodings) ≡ true
 undone-none encodings found = ap can_be_undone (filter-none (λ n. id_of n == CONTENT_ENCODING) (children encodings) found)
 
--- there is one, alone or not
+-- With a ContentEncoding, it must be the only one and strip headers.
 undone-some : (encodings n : Node) → first_child CONTENT_ENCODING encodings ≡ Some n → can_be_undone (encodings_of encodings) ≡ (is_none (slice_get (encodings_of encodings) 1) && strips_headers n)
 undone-some encodings n found =
     let all = filter-found (λ m. id_of m == CONTENT_ENCODING) (children encodings) n found in
@@ -45,11 +45,11 @@ undone-some encodings n found =
     alone [] = refl
     alone (m ∷ rest) = refl
 
--- there is one alone
+-- A ContentEncoding that is the only one must strip headers.
 pub undone-one : (encodings n : Node) → first_child CONTENT_ENCODING encodings ≡ Some n → slice_get (encodings_of encodings) 1 ≡ None → can_be_undone (encodings_of encodings) ≡ strips_headers n
 undone-one encodings n found alone = undone-some encodings n found ∙ ap (λ o. is_none o && strips_headers n) alone
 
--- ---- how much is put back
+-- ---- the number of bytes that are put back
 
 both : (a b : Bool) → (a && b) ≡ true → b ≡ true
 both true b is = is
@@ -62,7 +62,7 @@ passes-none false d is = absurd (cc)
 settings-few : (n : Node) → strips_headers n ≡ true → length (settings_of n) ≤ most_stripped
 settings-few n strips = grind (arith, nat_tests)
 
--- with the first ContentEncodings that can be undone
+-- If the first ContentEncodings can be undone, the prefix keeps the limit.
 prefix-few : (entry : Node) → bad_encoding entry ≡ None → length (prefix_of entry) ≤ most_stripped
 prefix-few entry none = of_encodings (first_child CONTENT_ENCODINGS entry) none
   where
@@ -79,7 +79,7 @@ first-none : (a b : Option Damage) → first_damage (a ∷ b ∷ []) ≡ None �
 first-none None b is = refl
 first-none (Some d) b is = absurd (cc)
 
--- What is put back in front of each frame keeps the limit, where nothing keeps the track from being used.
+-- If the track can be used, the prefix of each frame keeps the limit.
 pub usable-few : (entry : Node) (cause : Option Damage) (prefix : List ℕ) → cause ≡ first_damage (usable_causes entry) → cause ≡ None → prefix ≡ prefix_of entry → length prefix ≤ most_stripped
 usable-few entry cause prefix found none is =
     let P : List ℕ → Type 0 = λ l. length l ≤ most_stripped in

@@ -1,4 +1,4 @@
--- The first Elements, and the first numbers, that pass a test.
+-- Laws on the first Elements, and the first numbers, that pass a test.
 use Rattle.std.proofs.Common.{◌≡◌, ◌≢◌, ◌<◌, ◌≤◌, ℕ, zero, suc, ◌+◌, ◌==◌, Bool, true, false, not, ◌&&◌, cond, List, [], ◌∷◌, length, find, take, get_or, Some, None, refl, sym, ap, ap₂, ◌∙◌, arith, eq-eqb, get_or-take, length-take}
 use Rattle.std.specs.Prelude.{slice_get}
 use Rattle.std.specs.List.{range_with_len, AllPairs}
@@ -9,7 +9,7 @@ use Rattle.tree_format.specs.Node.{Node, id_of}
 use Rattle.tree_format.specs.Changes.{without}
 use Rattle.file_format.specs.Refusal.{firsts, is_repeated, first_repeated}
 
--- ---- the first that passes
+-- ---- the first one that passes
 
 pub find-same : (p q : Node → Bool) → ((m : Node) → p m ≡ q m) → (ns : List Node) → find p ns ≡ find q ns
 find-same p q same [] = refl
@@ -24,7 +24,7 @@ find-without p id (n ∷ ns) = split (not (id_of n == id)) (find-without p id ns
     split true rest = ap (cond (p n) (Some n)) rest
     split false rest = rest
 
--- what is found passes
+-- The Element that `find` returns passes the test.
 pub find-passes : (q : Node → Bool) (ns : List Node) (m : Node) → find q ns ≡ Some m → q m ≡ true
 find-passes q [] m found = absurd (cc)
 find-passes q (n ∷ ns) m found = split (q n) refl found (find-passes q ns m)
@@ -33,13 +33,13 @@ find-passes q (n ∷ ns) m found = split (q n) refl found (find-passes q ns m)
     split true is found rest = let same : n ≡ m = cc in ap q (sym same) ∙ is
     split false is found rest = rest found
 
--- ---- the first of each ID
+-- ---- the first one of each ID
 
--- of another ID than an Element, and passes
+-- The Element `m` has another ID than `n`, and passes `p`.
 abbrev other : (Node → Bool) → Node → Node → Bool
 other p n m = not (id_of m == id_of n) && p m
 
--- where nothing passes among the firsts, the first of an ID doesn't
+-- If none of the first Elements passes, the first one with an ID doesn't.
 pub firsts-none : (p : Node → Bool) (ns : List Node) (id : ℕ) (m : Node) → find p (firsts ns) ≡ None → find (λ n. id_of n == id) ns ≡ Some m → p m ≡ false
 firsts-none p [] id m none found = absurd (cc)
 firsts-none p (n ∷ ns) id m none found =
@@ -56,7 +56,7 @@ firsts-none p (n ∷ ns) id m none found =
         let fails = rest (sym (find-without p (id_of n) (firsts ns)) ∙ none) found in
         rw apart at fails
 
--- what passes first among the firsts is the first of its ID
+-- The first of the first Elements that passes is the first one with its ID.
 pub firsts-some : (p : Node → Bool) (ns : List Node) (m : Node) → find p (firsts ns) ≡ Some m → (find (λ n. id_of n == id_of m) ns ≡ Some m) × (p m ≡ true)
 firsts-some p [] m found = absurd (cc)
 firsts-some p (n ∷ ns) m found = by_test (p n) refl found (firsts-some (other p n) ns m)
@@ -120,7 +120,7 @@ none-get [] k past = refl
 none-get (n ∷ ns) zero past = absurd (omega arith)
 none-get (n ∷ ns) (suc k) past = none-get ns k (omega arith)
 
--- a number stands before no index exactly where the numbers are distinct
+-- No number is repeated if and only if the numbers are distinct.
 pub distinct-from_none : (ns : List ℕ) → first_repeated ns ≡ None → AllPairs ◌≢◌ ns
 distinct-from_none ns none i j d before inside same =
     let start : 0 + j ≡ j = omega arith in

@@ -1,4 +1,4 @@
--- The scales of small files, computed, so that a wrong definition does not check.
+-- Computed timestamp scales of small files. A wrong definition fails here.
 use Rattle.std.proofs.Common.{◌≡◌, ℕ, ◌+◌, List, [], ◌∷◌, ◌++◌, length, replicate, Option, Some, None, Result, Ok, refl}
 use Rattle.std.specs.Int.Count.{count_leading_zeros}
 use Rattle.std.specs.Str.{is_utf8, chars}
@@ -18,11 +18,11 @@ use Rattle.file_format.specs.Info.{info_refusal, file_scale, scale_without_limit
 
 -- ---- Elements
 
--- an EBML header of 16 octets with the DocType `matroska`
+-- an EBML header of 16 bytes with the DocType `matroska`
 abbrev header : List ℕ
 header = 0x1A ∷ 0x45 ∷ 0xDF ∷ 0xA3 ∷ 0x8B ∷ 0x42 ∷ 0x82 ∷ 0x88 ∷ 0x6D ∷ 0x61 ∷ 0x74 ∷ 0x72 ∷ 0x6F ∷ 0x73 ∷ 0x6B ∷ 0x61 ∷ []
 
--- an Element with an ID of four octets, and fewer than 127 octets inside
+-- an Element with an ID of four bytes and a body of fewer than 127 bytes
 abbrev element : ℕ → ℕ → ℕ → ℕ → List ℕ → List ℕ
 element a b c d body = a ∷ b ∷ c ∷ d ∷ (0x80 + length body) ∷ body
 
@@ -32,7 +32,7 @@ info body = element 0x15 0x49 0xA9 0x66 body
 abbrev tracks : List ℕ
 tracks = element 0x16 0x54 0xAE 0x6B []
 
--- Tracks of an unknown size, which is a damage
+-- a Tracks of unknown size, which is a damage
 abbrev open_tracks : List ℕ
 open_tracks = 0x16 ∷ 0x54 ∷ 0xAE ∷ 0x6B ∷ 0xFF ∷ []
 
@@ -58,7 +58,7 @@ programs =
 abbrev scale_of_file : List ℕ → Result ℕ Damage
 scale_of_file bytes = and_then (outline_of 0 bytes) (λ o. Ok (file_scale bytes o.segment))
 
--- of one whose Segment has these Elements
+-- the scale of a file whose Segment has the Elements `body`
 abbrev read : List ℕ → Result ℕ Damage
 read body = scale_of_file (header ++ element 0x18 0x53 0x80 0x67 body)
 
@@ -115,7 +115,7 @@ pub free_scales : AreFreeScales
 unfolding is_utf8 chars encode scale_without_limits outline_of ebml_header segment_of elements elements_within element_in id_at size_at entry_of table count_leading_zeros elements_in trees_within
 free_scales = record { no_info = refl; second_scale = refl; damaged_info = refl }
 
--- ---- what refuses an Info whose header stands at 21 and whose body at 26
+-- ---- the damage that refuses an Info with its header at 21 and its body at 26
 
 abbrev refusal : List ℕ → Result (Option Damage) Damage
 refusal body = and_then (tree_of 0x1549A966 21 body 26 65536) (λ tree. Ok (info_refusal tree))

@@ -1,4 +1,4 @@
--- Where the scale of an Info and that of its file come from.
+-- Laws on the scale of an Info, and of its file.
 use Rattle.std.proofs.Common.{◌≡◌, ◌<◌, ℕ, ◌==◌, Bool, true, false, not, List, [], ◌∷◌, Option, Some, None, IfSome, Result, Ok, Err, IsOk, refl, ap, ◌∙◌, arith, unwrap_or}
 use Rattle.std.specs.Option.{option_map, option_and_then}
 use Rattle.std.proofs.lemmas.Bool.Decides.{nat_tests}
@@ -18,7 +18,7 @@ use Rattle.tree_format.proofs.OrderLemmas.{tree_of-without_limits}
 use Rattle.file_format.specs.declared.scale.TheConstants.{DEFAULT_SCALE}
 use Rattle.file_format.specs.Info.{scale_of, info_refusal, first_info, info_tree, info_without_limits, scale_in, scale_at, file_scale, scale_without_limits, LimitsChangeNoScale}
 
--- ---- what the table has in an Info
+-- ---- entries of the table in an Info
 
 pub default : unwrap_or (uint_default TIMESTAMP_SCALE) 0 ≡ DEFAULT_SCALE
 unfolding entry_of table
@@ -33,7 +33,7 @@ timestamp_scale = record { stands = refl; kind = refl }
 pub scale-none : (info : Node) → first_child TIMESTAMP_SCALE info ≡ None → scale_of info ≡ DEFAULT_SCALE
 scale-none info found = ap (λ o. unwrap_or (option_map integer_of o) (unwrap_or (uint_default TIMESTAMP_SCALE) 0)) found ∙ default
 
--- a scale that isn't refused isn't 0
+-- A scale that isn't refused isn't 0.
 pub scale-some : (info : Node) → info_refusal info ≡ None → 0 < scale_of info
 scale-some info none = split (first_child TIMESTAMP_SCALE info) none
   where

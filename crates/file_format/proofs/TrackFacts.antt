@@ -1,4 +1,4 @@
--- The tracks of small Tracks Elements, and which can be used, computed, so that a wrong definition does not check.
+-- Computed tracks of small Tracks Elements, and their use. A wrong definition fails here.
 use Rattle.std.proofs.Common.{◌≡◌, ℕ, ◌+◌, ◌-◌, ◌^◌, true, false, length, List, [], ◌∷◌, ◌++◌, map, codes, replicate, Option, Some, None, Result, Ok, Err, refl}
 use Rattle.std.specs.Int.Count.{count_leading_zeros}
 use Rattle.std.specs.Str.{is_utf8, chars}
@@ -18,7 +18,7 @@ use Rattle.file_format.specs.Refusal.{refusal_of, too_many}
 use Rattle.file_format.specs.Encoding.{strips_headers, usable_prefix}
 use Rattle.file_format.specs.TrackType.{type_name}
 
--- what an entry says
+-- the values of an entry
 pub record Said : Type 0 where
   pub number : ℕ
   pub uid : ℕ
@@ -31,7 +31,7 @@ pub record Said : Type 0 where
 abbrev said : Node → Said
 said e = record { number = number_of e; uid = uid_of e; type = type_of e; codec = codec_of e; language = language_of e; default_duration = default_duration_of e; offset = offset_of e }
 
--- what the entries of a Tracks Element say whose header stands at 21 and whose body at 26
+-- the values of the entries of a Tracks Element with its header at 21 and its body at 26
 abbrev tracks : List ℕ → Result (List Said) Damage
 tracks body = and_then (tree_of 0x1654AE6B 21 body 26 65536) (λ tree. unless (refusal_of tree) (map said (entries_of tree)))
 
@@ -40,7 +40,7 @@ refused kind id offset = Err (damage kind id offset)
 
 -- ---- Elements
 
--- an entry of fewer than 127 octets
+-- an entry of fewer than 127 bytes
 abbrev entry : List ℕ → List ℕ
 entry body = 0xAE ∷ (0x80 + length body) ∷ body
 
@@ -57,7 +57,7 @@ type n = 0x83 ∷ 0x81 ∷ n ∷ []
 abbrev codec : List ℕ
 codec = 0x86 ∷ 0x86 ∷ 0x41 ∷ 0x5F ∷ 0x4F ∷ 0x50 ∷ 0x55 ∷ 0x53 ∷ []
 
--- a DefaultDuration of so many nanoseconds, in octets
+-- a DefaultDuration with the bytes `octets`
 abbrev duration : List ℕ → List ℕ
 duration octets = 0x23 ∷ 0xE3 ∷ 0x83 ∷ (0x80 + length octets) ∷ octets
 
@@ -67,35 +67,35 @@ language text = 0x22 ∷ 0xB5 ∷ 0x9C ∷ (0x80 + length text) ∷ text
 abbrev language_bcp47 : List ℕ → List ℕ
 language_bcp47 text = 0x22 ∷ 0xB5 ∷ 0x9D ∷ (0x80 + length text) ∷ text
 
--- a DefaultDuration of 2^48 nanoseconds, in 11 octets
+-- a DefaultDuration of 2^48 nanoseconds, 11 bytes
 abbrev long_duration : List ℕ
 long_duration = duration (1 ∷ replicate 6 0)
 
--- an audio track of this number and this type, in 18 octets
+-- an audio track with the number `n` and the type `k`, 18 bytes
 abbrev track : ℕ → ℕ → List ℕ
 track n k = number n ++ uid ++ type k ++ codec
 
 abbrev opus : List ℕ
 opus = track 1 2
 
--- what is said of a track with this number and type at this place
+-- the values of a track with this number and type at this offset
 abbrev track_said : ℕ → ℕ → ℕ → Said
 track_said n k offset = record { number = n; uid = 5; type = k; codec = codes "A_OPUS"; language = codes "eng"; default_duration = None; offset = offset }
 
 abbrev opus_said : Said
 opus_said = track_said 1 2 26
 
--- a ContentEncodings that strips two octets
+-- a ContentEncodings that strips two bytes
 abbrev encodings : List ℕ
 encodings = 0x6D ∷ 0x80 ∷ 0x8F ∷ 0x62 ∷ 0x40 ∷ 0x8C ∷ 0x50 ∷ 0x34 ∷ 0x89 ∷ 0x42 ∷ 0x54 ∷ 0x81 ∷ 3 ∷ 0x42 ∷ 0x55 ∷ 0x82 ∷ 0x0B ∷ 0x77 ∷ []
 
--- ---- what is read
+-- ---- entries that are read
 
--- the one track of an entry
+-- The entry with the body `body` is read as the only track.
 abbrev one : List ℕ → Said → Type 0
 one body track = tracks (entry body) ≡ Ok (track ∷ [])
 
--- what is said of an audio track with more behind it
+-- the values of an audio track with more Elements
 abbrev in_language : List ℕ → Said
 in_language text = record opus_said { language = text }
 
@@ -145,7 +145,7 @@ reads = record {
   second_duration = refl;
 }
 
--- ---- what is refused
+-- ---- entries that are refused
 
 pub record AreRefused : Type 0 where
   pub number_0 : tracks (entry (track 0 2)) ≡ refused BadValue 0xD7 28
@@ -182,13 +182,13 @@ refuses = record {
   repeated_later = refl;
 }
 
--- ---- which frames can be used
+-- ---- frames that can be used
 
--- an Element with an ID of two octets, and fewer than 127 octets inside
+-- an Element with an ID of two bytes and a body of fewer than 127 bytes
 abbrev element : ℕ → ℕ → List ℕ → List ℕ
 element first second body = first ∷ second ∷ (0x80 + length body) ∷ body
 
--- a ContentEncodings with these Elements inside
+-- a ContentEncodings with the Elements `body`
 abbrev all_encodings : List ℕ → List ℕ
 all_encodings body = element 0x6D 0x80 body
 
@@ -210,7 +210,7 @@ algorithm n = element 0x42 0x54 (n ∷ [])
 abbrev settings : List ℕ → List ℕ
 settings octets = element 0x42 0x55 octets
 
--- header stripping of one octet
+-- header stripping of one byte
 abbrev stripping : List ℕ
 stripping = compression (algorithm 3 ++ settings (7 ∷ []))
 
@@ -221,8 +221,7 @@ scale octets = 0x23 ∷ 0x31 ∷ 0x4F ∷ (0x80 + length octets) ∷ octets
 abbrev two : List ℕ
 two = 0x40 ∷ 0 ∷ 0 ∷ 0 ∷ []
 
--- what is to be put back in front of the frames of an audio track, whose entry stands at 26, with these
--- Elements from 46 on
+-- the bytes to put back before the frames of an audio track; its entry is at 26, and has the Elements `more` from 46 on
 abbrev usable : List ℕ → Result (List ℕ) Damage
 usable more = and_then (tree_of 0xAE 26 (opus ++ more) 28 65536) usable_prefix
 
@@ -290,7 +289,7 @@ unusables = record {
   scale_behind = refl;
 }
 
--- a ContentEncoding that strips so many octets
+-- a ContentEncoding that strips `n` bytes
 abbrev stripped : ℕ → Node
 stripped n = master 0x6240 70 (nodes_of (master 0x5034 73 (nodes_of (leaf 0x4254 76 (3 ∷ []) ∷ leaf 0x4255 80 (replicate n 7) ∷ [])) ∷ []))
 
@@ -302,7 +301,7 @@ pub limits : AreLimits
 unfolding entry_of table
 limits = record { most = refl; one_more = refl }
 
--- ---- how many there may be
+-- ---- the maximum number of entries
 
 abbrev many : ℕ → Option Damage
 many n = too_many (replicate n (master 0xAE 70 (nodes_of [])))

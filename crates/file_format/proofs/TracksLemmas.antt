@@ -1,4 +1,4 @@
--- A Tracks Element is refused exactly where its entries aren't tracks.
+-- A Tracks Element is refused if and only if its entries aren't tracks.
 use Rattle.std.proofs.Common.{◌≡◌, ◌<◌, ◌≤◌, ℕ, ◌+◌, ◌==◌, nat_le, Bool, true, false, ◌&&◌, ◌||◌, cond, List, [], ◌∷◌, length, map, find, Option, Some, None, IsSome, IfSome, refl, ap, subst, arith, eqb-true, All, ◌↔◌, ◌⊎◌, inl, inr}
 use Rattle.std.specs.Prelude.{slice_get, is_none}
 use Rattle.std.specs.Option.{option_map, option_and_then}
@@ -45,11 +45,11 @@ either false b false d is = absurd (cc)
 
 -- ---- one entry
 
--- no value of an entry is bad
+-- An entry that isn't refused for a value has no bad value.
 no-bad : (entry : Node) → bad_value entry ≡ None → find is_bad (firsts (children entry)) ≡ None
 no-bad entry is = map-none _ (find is_bad (firsts (children entry))) is
 
--- the number of an entry without a bad value isn't 0
+-- The number of an entry without a bad value isn't 0.
 number-good : (entry : Node) (o : Option Node) → bad_value entry ≡ None → first_child TRACK_NUMBER entry ≡ o → IsSome o → 0 < number_of entry
 number-good entry None good is some = absurd (cc)
 number-good entry (Some n) good is some =
@@ -68,7 +68,7 @@ duration-good entry (Some n) good is =
     let below : integer_of n < too_long = grind (arith, nat_tests) in
     rw is below
 
--- an entry that lacks nothing
+-- An entry without a missing child has all mandatory ones.
 all-there : {A : Type 0} (f : ℕ → A) (a b c : Option Node) → option_map f (cond (is_none a) (Some TRACK_NUMBER) (cond (is_none b) (Some TRACK_TYPE) (cond (is_none c) (Some CODEC_ID) None))) ≡ None → IsSome a × IsSome b × IsSome c
 all-there f (Some a) (Some b) (Some c) is = (refl, refl, refl)
 all-there f (Some a) (Some b) None is = absurd (cc)
@@ -81,7 +81,7 @@ there-all f (Some a) (Some b) None x y z = absurd (cc)
 there-all f (Some a) None c x y z = absurd (cc)
 there-all f None b c x y z = absurd (cc)
 
--- so an entry in which nothing is wrong is a track
+-- So an entry without damage is a track.
 track-from_none : (entry : Node) → bad_value entry ≡ None → missing_child entry ≡ None → IsTrack entry
 track-from_none entry good whole =
     let there = all-there (λ id. damage MissingChild id (offset_of entry)) (first_child TRACK_NUMBER entry) (first_child TRACK_TYPE entry) (first_child CODEC_ID entry) whole in
@@ -92,14 +92,14 @@ track-from_none entry good whole =
       duration = duration-good entry (first_child DEFAULT_DURATION entry) good refl;
     }
 
--- ---- a track, in which nothing is wrong
+-- ---- a track has no damage
 
 number-there : (entry : Node) (o : Option Node) → first_child TRACK_NUMBER entry ≡ o → 0 < number_of entry → IsSome o
 unfolding entry_of table
 number-there entry (Some n) is above = refl
 number-there entry None is above = let none : 0 < 0 = rw is at above in absurd (omega arith)
 
--- its first TrackNumber isn't 0
+-- The first TrackNumber of a track isn't 0.
 number-not_bad : (entry m : Node) → IsTrack entry → first_child TRACK_NUMBER entry ≡ Some m → (integer_of m == 0) ≡ true → ⊥
 number-not_bad entry m track is bad = let above : 0 < integer_of m = rw is at track.number in (grind (arith, nat_tests))
 
@@ -161,7 +161,7 @@ four-none None None (Some c) d is = absurd (cc)
 four-none None (Some b) c d is = absurd (cc)
 four-none (Some a) b c d is = absurd (cc)
 
--- a Tracks Element is refused exactly where its entries aren't tracks
+-- A Tracks Element is refused if and only if its entries aren't tracks.
 pub refusal-none : (tracks : Node) → (refusal_of tracks ≡ None) ↔ AreTracks (entries_of tracks)
 refusal-none tracks = (λ is. to (entries_of tracks) is, λ are. from (entries_of tracks) are)
   where

@@ -1,4 +1,5 @@
--- Whether a track's frames can be used, and what was taken from the front of each: RFC 9559, section 5.1.4 (Tracks Element), ContentEncodings and TrackTimestampScale. The kinds, their order and the limit are this project's.
+-- Tracks whose frames can be used, and the bytes that were stripped from each frame: RFC 9559, section 5.1.4 (Tracks Element), ContentEncodings
+-- and TrackTimestampScale. The kinds, their order and the limit are this project's.
 use Rattle.std.specs.Prelude.{ℕ, ◌==◌, nat_le, Bool, true, false, ◌&&◌, ◌||◌, List, [], ◌∷◌, length, filter, Option, Result}
 use Rattle.std.specs.Option.{option_map_or, option_and_then}
 use Rattle.std.specs.Str.{bytes_eq}
@@ -12,11 +13,11 @@ use Rattle.tree_format.specs.Values.{first_child, uint_in, failing_child}
 
 -- ---- one ContentEncoding
 
--- the ContentCompAlgo of its first ContentCompression; where it has none, 0 as the table's default
+-- the ContentCompAlgo of the first ContentCompression, or 0, the table's default, if there is none
 abbrev pub algorithm_of : Node → ℕ
 algorithm_of encoding = option_map_or (λ c. uint_in CONTENT_COMP_ALGO c) (first_child CONTENT_COMPRESSION encoding) 0
 
--- the first ContentCompSettings of its first ContentCompression, empty where there are none
+-- the first ContentCompSettings of the first ContentCompression, or no bytes if there is none
 abbrev pub settings_of : Node → List ℕ
 settings_of encoding = option_map_or body_of (option_and_then (λ c. first_child CONTENT_COMP_SETTINGS c) (first_child CONTENT_COMPRESSION encoding)) []
 
@@ -24,11 +25,11 @@ settings_of encoding = option_map_or body_of (option_and_then (λ c. first_child
 abbrev pub header_stripping : ℕ
 header_stripping = 3
 
--- the most octets that are put back in front of a frame
+-- the maximum number of bytes that are put back before a frame
 abbrev pub most_stripped : ℕ
 most_stripped = 4096
 
--- frames alone are compressed (scope 1, type 0), by header stripping, and not too many octets were taken
+-- The encoding only compresses frames (scope 1, type 0), by header stripping, with at most `most_stripped` bytes.
 abbrev pub strips_headers : Node → Bool
 strips_headers encoding =
     uint_in CONTENT_ENCODING_SCOPE encoding == 1
@@ -42,35 +43,35 @@ strips_headers encoding =
 abbrev pub encodings_of : Node → List Node
 encodings_of encodings = filter (λ n. id_of n == CONTENT_ENCODING) (children encodings)
 
--- there is none, or one alone that strips headers
+-- The list of encodings is empty, or its only encoding strips headers.
 abbrev pub can_be_undone : List Node → Bool
 can_be_undone [] = true
 can_be_undone (e ∷ []) = strips_headers e
 can_be_undone (e ∷ f ∷ es) = false
 
--- an empty float, or 1.0 in four or eight octets
+-- The bytes are an empty float, or 1.0 in four or eight bytes.
 abbrev pub is_one : List ℕ → Bool
 is_one octets =
     bytes_eq octets []
     || bytes_eq octets (0x3F ∷ 0x80 ∷ 0 ∷ 0 ∷ [])
     || bytes_eq octets (0x3F ∷ 0xF0 ∷ 0 ∷ 0 ∷ 0 ∷ 0 ∷ 0 ∷ 0 ∷ [])
 
--- the first ContentEncodings, where it can't be undone
+-- the damage of the first ContentEncodings, if it can't be undone
 abbrev pub bad_encoding : Node → Option Damage
 bad_encoding entry = failing_child Encoding CONTENT_ENCODINGS (λ e. can_be_undone (encodings_of e)) entry
 
--- the first TrackTimestampScale, where it isn't 1
+-- the damage of the first TrackTimestampScale, if it isn't 1
 abbrev pub bad_scale : Node → Option Damage
 bad_scale entry = failing_child TrackScale TRACK_TIMESTAMP_SCALE (λ s. is_one (body_of s)) entry
 
--- what keeps a track's frames from being used, in the order in which it is told
+-- the causes for which a track's frames can't be used, in the order of the checks
 abbrev pub usable_causes : Node → List (Option Damage)
 usable_causes entry = bad_encoding entry ∷ bad_scale entry ∷ []
 
--- what header stripping took from the front of each frame, empty where nothing was taken
+-- the bytes that header stripping removed from the start of each frame, or no bytes
 abbrev pub prefix_of : Node → List ℕ
 prefix_of entry = option_map_or settings_of (option_and_then (λ e. first_child CONTENT_ENCODING e) (first_child CONTENT_ENCODINGS entry)) []
 
--- the octets to put back in front of each frame, unless something keeps the track from being used
+-- the bytes to put back before each frame, unless the track can't be used
 abbrev pub usable_prefix : Node → Result (List ℕ) Damage
 usable_prefix entry = unless (first_damage (usable_causes entry)) (prefix_of entry)

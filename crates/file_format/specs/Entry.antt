@@ -1,4 +1,4 @@
--- What a TrackEntry says of its track: RFC 9559, section 5.1.4 (Tracks Element).
+-- The values of a TrackEntry: RFC 9559, section 5.1.4 (Tracks Element).
 use Rattle.std.specs.Prelude.{ℕ, ◌==◌, List, [], Option, filter, unwrap_or}
 use Rattle.mkv_schema.specs.declared.ids.TheConstants.{TRACK_ENTRY, TRACK_NUMBER, TRACK_UID, TRACK_TYPE, CODEC_ID, LANGUAGE, LANGUAGE_BCP47, DEFAULT_DURATION}
 use Rattle.tree_format.specs.Node.{Node, id_of, children}
@@ -8,11 +8,11 @@ use Rattle.tree_format.specs.Values.{integer_in, uint_in, text_in}
 abbrev pub entries_of : Node → List Node
 entries_of tracks = filter (λ n. id_of n == TRACK_ENTRY) (children tracks)
 
--- the TrackNumber, by which Blocks name the track
+-- the TrackNumber, which Blocks use for the track
 abbrev pub number_of : Node → ℕ
 number_of entry = uint_in TRACK_NUMBER entry
 
--- the TrackUID, 0 where there is none
+-- the TrackUID, or 0 if there is none
 abbrev pub uid_of : Node → ℕ
 uid_of entry = uint_in TRACK_UID entry
 
@@ -24,10 +24,10 @@ type_of entry = uint_in TRACK_TYPE entry
 abbrev pub codec_of : Node → List ℕ
 codec_of entry = unwrap_or (text_in CODEC_ID entry) []
 
--- the language that is shown: LanguageBCP47's text where it stands, an empty one too, else Language's
+-- the language that is shown: the text of LanguageBCP47 if it is present, even if empty, or else of Language
 abbrev pub language_of : Node → List ℕ
 language_of entry = unwrap_or (text_in LANGUAGE_BCP47 entry) (unwrap_or (text_in LANGUAGE entry) [])
 
--- the DefaultDuration in nanoseconds, where it stands
+-- the DefaultDuration in nanoseconds, if it is present
 abbrev pub default_duration_of : Node → Option ℕ
 default_duration_of entry = integer_in DEFAULT_DURATION entry

@@ -1,13 +1,13 @@
--- The blocks and the damages of a file whose ticks are its Info's: RFC 9559, section 5.1.2 (Info Element).
+-- The blocks and the damaged places of a file in the ticks of its Info: RFC 9559, section 5.1.2 (Info Element).
 use Rattle.std.specs.Prelude.{ℕ, Bool, if◌then◌else◌, List}
 use Rattle.mkv_schema.specs.declared.element.Header.{Header}
 use Rattle.file_format.specs.Info.{file_scale, scale_without_limits}
 use Rattle.block_format.specs.Events.{Event, events_of}
 
--- nanoseconds a tick of a content with this Segment, its Info read with the limits of a reader or without
+-- the nanoseconds per tick of a content with the Segment `segment`; its Info is read with the limits of a reader or without
 abbrev pub scale_in : Bool → List ℕ → Header → ℕ
 scale_in limits bytes segment = if limits then file_scale bytes segment else scale_without_limits bytes segment
 
--- The blocks and the damages of a content with this Segment, with the limits of a reader or without.
+-- the events of a content with the Segment `segment`, with the limits of a reader or without
 abbrev pub file_events : Bool → List ℕ → Header → List Event
 file_events limits bytes segment = events_of (record { limits = limits; scale = scale_in limits bytes segment }) bytes segment

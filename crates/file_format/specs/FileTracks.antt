@@ -13,7 +13,7 @@ use Rattle.tree_format.specs.Order.{tree_without_limits}
 use Rattle.file_format.specs.Entry.{entries_of}
 use Rattle.file_format.specs.Refusal.{refusal_of}
 
--- a Tracks Element of a content as a tree, or the first damage inside: with a reader's limits, and without them
+-- a Tracks Element of a content as a tree, or the first damage in it: with a reader's limits, and without them
 abbrev pub tracks_tree : List ℕ → Header → Result Node Damage
 tracks_tree bytes h = tree_of h.id h.offset (body_of bytes h) h.body MAX_NODES
 
@@ -24,20 +24,20 @@ tracks_without_limits bytes h = tree_without_limits h.id h.offset (body_of bytes
 abbrev pub entries_in : Node → Result (List Node) Damage
 entries_in tracks = unless (refusal_of tracks) (entries_of tracks)
 
--- the entries of a Tracks Element that is read so; none where there is none
+-- the entries of a Tracks Element that `read` reads, or none if there is no Tracks
 abbrev pub entries_at : (Header → Result Node Damage) → Option Header → Result (List Node) Damage
 entries_at read None = Ok []
 entries_at read (Some h) = and_then (read h) entries_in
 
--- the TrackEntries of a content with this Segment, for a reader with limits: those of its first Tracks
+-- the TrackEntries of the first Tracks of a content with the Segment `segment`, for a reader with limits
 unfoldable pub file_entries : List ℕ → Header → Result (List Node) Damage
 file_entries bytes segment = entries_at (tracks_tree bytes) (first_of TRACKS (segment_run bytes segment).list)
 
--- the same without a reader's limits on nodes and on masters inside one another
+-- the same without a reader's limits on nodes and on nested masters
 unfoldable pub entries_without_limits : List ℕ → Header → Result (List Node) Damage
 entries_without_limits bytes segment = entries_at (tracks_without_limits bytes) (first_of TRACKS (segment_run bytes segment).list)
 
--- The entries that a reader with limits finds are those of the file without limits.
+-- The entries that a reader with limits finds are the entries without limits.
 abbrev pub LimitsChangeNoEntry : Type 0
 LimitsChangeNoEntry =
     (bytes : List ℕ) (segment : Header) (entries : List Node) → file_entries bytes segment ≡ Ok entries

@@ -1,4 +1,4 @@
--- What an Info says of its file: RFC 9559, section 5.1.2 (Info Element). What refuses it is this project's.
+-- The values of an Info: RFC 9559, section 5.1.2 (Info Element). The causes that refuse it are this project's.
 use Rattle.std.specs.Prelude.{◌≡◌, ℕ, ◌==◌, not, List, Option, Some, None, IfSome, Result, Ok, Err, IsOk}
 use Rattle.mkv_schema.specs.declared.ids.TheConstants.{INFO, TIMESTAMP_SCALE}
 use Rattle.mkv_io.specs.declared.damage.Damage.{Damage}
@@ -15,38 +15,38 @@ use Rattle.file_format.specs.declared.scale.TheConstants.{DEFAULT_SCALE}
 
 -- ---- an Info
 
--- nanoseconds a tick: the TimestampScale, or the table's default where it is empty or missing
+-- the nanoseconds per tick: the TimestampScale, or the table's default if it is empty or missing
 abbrev pub scale_of : Node → ℕ
 scale_of info = uint_in TIMESTAMP_SCALE info
 
--- what refuses an Info: a TimestampScale of 0
+-- the damage that refuses an Info: a TimestampScale of 0
 abbrev pub info_refusal : Node → Option Damage
 info_refusal info = failing_child BadValue TIMESTAMP_SCALE (λ n. not (integer_of n == 0)) info
 
 -- ---- a file
 
--- the first Info of a content with this Segment, which stands before any damage of level 1
+-- the first Info of a content with the Segment `segment`, before any damage of level 1
 abbrev pub first_info : List ℕ → Header → Option Header
 first_info bytes segment = first_of INFO (segment_run bytes segment).list
 
--- an Info of a content as a tree, or the first damage inside: with a reader's limits, and without them
+-- an Info of a content as a tree, or the first damage in it: with a reader's limits, and without them
 abbrev pub info_tree : List ℕ → Header → Result Node Damage
 info_tree bytes h = tree_of h.id h.offset (body_of bytes h) h.body MAX_NODES
 
 abbrev pub info_without_limits : List ℕ → Header → Result Node Damage
 info_without_limits bytes h = tree_without_limits h.id h.offset (body_of bytes h) h.body
 
--- the scale of what was read of an Info; a damaged one says nothing
+-- the scale of an Info that was read, or the default if it has damage
 abbrev pub scale_in : Result Node Damage → ℕ
 scale_in (Ok info) = scale_of info
 scale_in (Err damage) = DEFAULT_SCALE
 
--- the scale of an Info that is read so, or the default where there is none
+-- the scale of an Info that `read` reads, or the default if there is none
 abbrev pub scale_at : (Header → Result Node Damage) → Option Header → ℕ
 scale_at read None = DEFAULT_SCALE
 scale_at read (Some h) = scale_in (read h)
 
--- nanoseconds a tick of a content with this Segment, for a reader with limits: those of its first Info
+-- the nanoseconds per tick by the first Info of a content with the Segment `segment`, for a reader with limits
 unfoldable pub file_scale : List ℕ → Header → ℕ
 file_scale bytes segment = scale_at (info_tree bytes) (first_info bytes segment)
 
@@ -54,7 +54,7 @@ file_scale bytes segment = scale_at (info_tree bytes) (first_info bytes segment)
 unfoldable pub scale_without_limits : List ℕ → Header → ℕ
 scale_without_limits bytes segment = scale_at (info_without_limits bytes) (first_info bytes segment)
 
--- Where a reader with limits can read the first Info, or there is none, both scales are one.
+-- If a reader with limits can read the first Info, or there is none, both scales are equal.
 abbrev pub LimitsChangeNoScale : Type 0
 LimitsChangeNoScale =
     (bytes : List ℕ) (segment : Header) → IfSome (first_info bytes segment) (λ h. IsOk (info_tree bytes h))

@@ -1,4 +1,4 @@
--- What refuses a Tracks Element: RFC 9559, section 5.1.4 (Tracks Element). The kinds, their order and the limits are this project's.
+-- The damage that refuses a Tracks Element: RFC 9559, section 5.1.4 (Tracks Element). The kinds, their order and the limits are this project's.
 use Rattle.std.specs.Prelude.{ℕ, ◌==◌, ◌^◌, nat_le, Bool, ◌&&◌, ◌||◌, List, [], ◌∷◌, length, map, find, take, slice_get, slice_index, Option, is_none}
 use Rattle.std.specs.Option.{option_map, option_and_then}
 use Rattle.std.specs.List.{list_any, range_with_len}
@@ -12,9 +12,9 @@ use Rattle.tree_format.specs.Changes.{without}
 use Rattle.tree_format.specs.Values.{first_child, integer_of}
 use Rattle.file_format.specs.Entry.{entries_of, number_of}
 
--- ---- of one entry
+-- ---- one entry
 
--- of each ID the first Element, which gives the value
+-- the first Element with each ID, which gives the value
 abbrev pub firsts : List Node → List Node
 firsts [] = []
 firsts (n ∷ ns) = n ∷ without (id_of n) (firsts ns)
@@ -23,53 +23,53 @@ firsts (n ∷ ns) = n ∷ without (id_of n) (firsts ns)
 abbrev pub too_long : ℕ
 too_long = 2 ^ 48
 
--- a TrackNumber of 0, or a DefaultDuration that is too long
+-- The Element is a TrackNumber of 0, or a DefaultDuration that is too long.
 abbrev pub is_bad : Node → Bool
 is_bad n = (id_of n == TRACK_NUMBER && integer_of n == 0) || (id_of n == DEFAULT_DURATION && nat_le too_long (integer_of n))
 
--- the first value of an entry that is bad, told at its own place
+-- the damage of the first bad value of an entry
 abbrev pub bad_value : Node → Option Damage
 bad_value entry = option_map (λ n. damage BadValue (id_of n) (offset_of n)) (find is_bad (firsts (children entry)))
 
--- what an entry must have, in the order in which it is missed
+-- the IDs of the mandatory children of an entry, in the order of the checks
 abbrev pub mandatory : List ℕ
 mandatory = TRACK_NUMBER ∷ TRACK_TYPE ∷ CODEC_ID ∷ []
 
--- the first of these that an entry lacks, told at the entry's place
+-- the damage of an entry without a mandatory child, at the entry's place
 abbrev pub missing_child : Node → Option Damage
 missing_child entry = option_map (λ id. damage MissingChild id (offset_of entry)) (find (λ id. is_none (first_child id entry)) mandatory)
 
--- ---- of all entries
+-- ---- all entries
 
 -- the damage of the first entry that has one
 abbrev pub first_in : (Node → Option Damage) → List Node → Option Damage
 first_in cause entries = first_damage (map cause entries)
 
--- a damage at the place of the entry with this index, counted from 0, where there is one
+-- the damage `told` at the entry with the index `k`, counted from 0, if there is one
 abbrev pub told_at : List Node → (ℕ → Damage) → ℕ → Option Damage
 told_at entries told k = option_map (λ entry. told (offset_of entry)) (slice_get entries k)
 
--- the number at an index stands before it too
+-- The number at the index `k` is among the numbers before it.
 abbrev pub is_repeated : List ℕ → ℕ → Bool
 is_repeated numbers k = list_any (λ n. n == slice_index numbers k) (take k numbers)
 
--- the least index whose number stands before it
+-- the least index whose number is among the numbers before it
 abbrev pub first_repeated : List ℕ → Option ℕ
 first_repeated numbers = find (is_repeated numbers) (range_with_len 0 (length numbers))
 
--- the first entry with the TrackNumber of one before it
+-- the damage of the first entry with the TrackNumber of an earlier one
 abbrev pub repeated_number : List Node → Option Damage
 repeated_number entries = option_and_then (told_at entries (damage RepeatedTrack TRACK_NUMBER)) (first_repeated (map number_of entries))
 
--- the most entries
+-- the maximum number of entries
 abbrev pub most_tracks : ℕ
 most_tracks = 1024
 
--- the first entry that is one too many
+-- the damage of the first entry after the maximum
 abbrev pub too_many : List Node → Option Damage
 too_many entries = told_at entries (damage TooMany TRACK_ENTRY) most_tracks
 
--- what refuses the entries, in the order in which it is told
+-- the causes that may refuse the entries, in the order of the checks
 abbrev pub causes : List Node → List (Option Damage)
 causes entries =
     first_in bad_value entries ∷
@@ -78,6 +78,6 @@ causes entries =
     too_many entries ∷
     []
 
--- what refuses a Tracks Element
+-- the damage that refuses a Tracks Element
 abbrev pub refusal_of : Node → Option Damage
 refusal_of tracks = first_damage (causes (entries_of tracks))

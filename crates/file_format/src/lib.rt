@@ -1,8 +1,10 @@
 #![tactic(auto)]
 
-//! What a file is beyond its Elements: its tracks, the scale of its Info, and its blocks in that scale, as RFC 9559,
-//! sections 5.1.2 (Info Element) and 5.1.4 (Tracks Element), has them. The definitions, which the crates above cite,
-//! stand in `specs/`; the calls, which do nothing, carry laws of them.
+//! The tracks of a file, the timestamp scale of its Info, and its blocks in this scale. The standard is RFC 9559,
+//! sections 5.1.2 (Info Element) and 5.1.4 (Tracks Element).
+//!
+//! The definitions, which higher crates use, are in `specs/`. The calls do nothing: they carry laws on the
+//! definitions.
 
 mod info_laws;
 mod scale;

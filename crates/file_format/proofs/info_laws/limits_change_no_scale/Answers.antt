@@ -1,4 +1,4 @@
--- Limits that are kept change no scale.
+-- Limits that are kept don't change the scale.
 use Rattle.file_format.proofs.InfoLemmas.{limits-no-scale}
 use Rattle.file_format.proofs.info_laws.limits_change_no_scale.Goals as goal
 

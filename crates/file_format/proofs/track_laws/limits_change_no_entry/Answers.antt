@@ -1,4 +1,4 @@
--- Limits that are kept change no entry.
+-- Limits that are kept don't change the entries.
 use Rattle.file_format.proofs.FileLemmas.{limits-no-entry}
 use Rattle.file_format.proofs.track_laws.limits_change_no_entry.Goals as goal
 
