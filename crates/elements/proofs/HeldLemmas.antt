@@ -1,4 +1,4 @@
--- What a window keeps of what it holds, and what it reads on behind that.
+-- Laws on the bytes that a window keeps, and on the bytes that it reads after them.
 use Rattle.std.proofs.Common.{◌≡◌, ◌⊎◌, inl, inr, nat_le, ℕ, zero, suc, ◌+◌, ◌-◌, ◌≤◌, Bool, true, false, nat_lt, min, ◌||◌, if◌then◌else◌, List, [], ◌++◌, length, take, drop, refl, sym, ap, ◌∙◌, arith}
 use Rattle.std.proofs.lemmas.List.{drop-take, drop-drop, drop_all, take-append-le, take_at, drop_at, take_all, take_min, length-append, length-take, length-take-le, length-drop, take-take}
 use Rattle.std.proofs.lemmas.Bool.Decides.{nat_tests}
@@ -12,7 +12,7 @@ use Rattle.mkv_io.specs.declared.reads.Reads.{Ghosts}
 use Rattle.elements.specs.Looks.{Goes}
 use Rattle.elements.specs.Window.{ReadAhead, Holds, HasNotPassed, HasRange, end_ahead, front_from, held_from, kept_from}
 
--- of the octets in the front of a buffer the last k, which stand behind d others
+-- The last `k` bytes that a buffer holds are its bytes after `d` others.
 pub last-held : (buf rest : List ℕ) (end k d : ℕ) → end ≤ length buf → k ≡ end - d → take k (take (end - (end - k)) (drop (end - k) buf) ++ rest) ≡ drop d (take end buf)
 last-held buf rest end zero d within is = sym (drop_all d (take end buf) (omega (arith, length-take-le end buf within)))
 last-held buf rest end (suc k) d within is =
@@ -25,14 +25,14 @@ last-held buf rest end (suc k) d within is =
     ∙ take_at (take (suc k) (drop d buf)) rest (suc k) here
     ∙ sym (ap (λ n. drop d (take n buf)) whole ∙ drop-take d (suc k) buf)
 
--- the same of what is kept, or nothing
+-- The same for the bytes that are kept, or none.
 pub last-kept : (none : Bool) (buf rest : List ℕ) (end k d : ℕ) → end ≤ length buf → k ≡ length (if none then [] else drop d (take end buf))
     → take k (take (end - (end - k)) (drop (end - k) buf) ++ rest) ≡ (if none then [] else drop d (take end buf))
 last-kept true buf rest end k d within is = ap (λ n. take n (take (end - (end - k)) (drop (end - k) buf) ++ rest)) is
 last-kept false buf rest end k d within is =
     last-held buf rest end k d within (is ∙ length-drop d (take end buf) ∙ ap (λ n. n - d) (length-take-le end buf within))
 
--- the octets from a place on that a window holds are the file's
+-- The bytes that a window holds from an offset on are the file's.
 rest-held : (bytes : List ℕ) (w : ReadAhead) (at n : ℕ) → w.at ≤ at → n ≡ length w.octets - (at - w.at) → Holds bytes w → drop (at - w.at) w.octets ≡ octets_from bytes at n
 rest-held bytes w at zero from none holds = drop_all (at - w.at) w.octets (omega (arith, none))
 rest-held bytes w at (suc n) from some holds =
@@ -42,7 +42,7 @@ rest-held bytes w at (suc n) from some holds =
     ∙ drop-take (at - w.at) (suc n) (drop w.at bytes)
     ∙ ap (take (suc n)) (drop-drop (at - w.at) w.at bytes ∙ ap (λ m. drop m bytes) place)
 
--- what is kept is the file's
+-- The bytes that are kept are the file's.
 kept-octets : (before past : Bool) (bytes : List ℕ) (w : ReadAhead) (at : ℕ) → nat_lt at w.at ≡ before → Holds bytes w
     → (if before || past then [] else drop (at - w.at) w.octets) ≡ octets_from bytes at (length (if before || past then [] else drop (at - w.at) w.octets))
 kept-octets true past bytes w at is holds = refl
@@ -55,7 +55,7 @@ kept-octets false false bytes w at is holds =
 pub kept-held : (bytes : List ℕ) (w : ReadAhead) (size at : ℕ) → Holds bytes w → kept_from w size at ≡ octets_from bytes at (length (kept_from w size at))
 kept-held bytes w size at holds = kept-octets (nat_lt at w.at) (nat_lt size (end_ahead w)) bytes w at refl holds
 
--- a window that hasn't passed a place keeps all that it holds from there on
+-- A window that hasn't passed an offset keeps all that it holds from there on.
 counted : (before past : Bool) (w : ReadAhead) (size at : ℕ) → nat_lt at w.at ≡ before → nat_lt size (end_ahead w) ≡ past → HasNotPassed w at size
     → length (if before || past then [] else drop (at - w.at) w.octets) ≡ end_ahead w - at
 counted true past w size at here there place = let from = place.from in grind (arith, nat_tests)
@@ -65,7 +65,7 @@ counted false false w size at here there place = let long = length-drop (at - w.
 pub kept-count : (w : ReadAhead) (size at : ℕ) → HasNotPassed w at size → length (kept_from w size at) ≡ end_ahead w - at
 kept-count w size at place = counted (nat_lt at w.at) (nat_lt size (end_ahead w)) w size at refl refl place
 
--- octets that are read behind others of the file
+-- Bytes that are read after others of the file continue them.
 pub read-behind : (bytes buf sub : List ℕ) (at len k count : ℕ) → len ≤ length buf → count ≤ length sub → take len buf ≡ octets_from bytes at len → take count sub ≡ octets_from bytes (at + len) count
     → take (len + count) (put_mid len k buf sub) ≡ octets_from bytes at (len + count)
 read-behind bytes buf sub at len k count within few front next =
@@ -75,7 +75,7 @@ read-behind bytes buf sub at len k count within few front next =
     ∙ ap (λ (o : List ℕ). octets_from bytes at len ++ take count o) (sym (drop-drop len at bytes))
     ∙ sym (take-add len count (drop at bytes))
 
--- a buffer has room for what was read into it behind its front
+-- A buffer has room for bytes that were read into it after its start.
 pub put-length : (buf sub : List ℕ) (len k count : ℕ) → len ≤ length buf → count ≤ length sub → len + count ≤ length (put_mid len k buf sub)
 put-length buf sub len k count within few =
     let front = length-take-le len buf within in
@@ -83,7 +83,7 @@ put-length buf sub len k count within few =
     let rest = length-append sub (post_of len k buf) in
     omega (arith, few, front, whole, rest)
 
--- a buffer that holds octets of the file, behind which further ones were read, holds both
+-- A buffer that holds bytes of the file, and then reads further ones, holds both.
 pub held-behind : (bytes buf sub : List ℕ) (at len k count : ℕ) → len ≤ length buf → count ≤ length sub → Holds bytes (record { at = at; octets = take len buf })
     → take count sub ≡ octets_from bytes (at + len) count → Holds bytes (record { at = at; octets = take (len + count) (put_mid len k buf sub) })
 held-behind bytes buf sub at len k count within few front next =
@@ -91,7 +91,7 @@ held-behind bytes buf sub at len k count within few front next =
     read-behind bytes buf sub at len k count within few held next
     ∙ ap (octets_from bytes at) (sym (length-take-le (len + count) (put_mid len k buf sub) (put-length buf sub len k count within few)))
 
--- what was kept of what a window held and what was read behind it, up to an end, is the file's
+-- The bytes that a window kept, then the bytes that it read, are the file's.
 pub read-whole : (bytes into sub : List ℕ) (w : ReadAhead) (size at kept end : ℕ) → Holds bytes w → kept ≡ length (kept_from w size at) → take kept into ≡ kept_from w size at
     → kept ≤ end → end ≤ length into → length sub ≡ length (take (end - kept) (drop kept into)) → sub ≡ octets_from bytes (at + kept) (length (take (end - kept) (drop kept into)))
     → take end (put_mid kept (end - kept) into sub) ≡ octets_from bytes at end
@@ -106,7 +106,7 @@ read-whole bytes into sub w size at kept end holds is copied within inside long 
     ∙ read-behind bytes into sub at kept (end - kept) (end - kept) (omega (arith, within, inside)) (omega (arith, long, few)) held next
     ∙ ap (octets_from bytes at) whole
 
--- a buffer into which octets up to an end were read has room up to there
+-- A buffer has room for the bytes that were read into it up to `end`.
 pub read-room : (into sub : List ℕ) (kept end : ℕ) → kept ≤ end → end ≤ length into → length sub ≡ length (take (end - kept) (drop kept into))
     → end ≤ length (put_mid kept (end - kept) into sub)
 read-room into sub kept end within inside long =
@@ -115,11 +115,11 @@ read-room into sub kept end within inside long =
     let room = put-length into sub kept (end - kept) (end - kept) (omega (arith, within, inside)) (omega (arith, long, few)) in
     omega (arith, room, within)
 
--- the octets of a file up to an end are so up to each place before
+-- Bytes of the file up to `end` are bytes of the file up to each earlier place.
 pub front-read : (bytes xs : List ℕ) (at len end : ℕ) → len ≤ end → take end xs ≡ octets_from bytes at end → take len xs ≡ octets_from bytes at len
 front-read bytes xs at len end within read = sym (take-take len end xs within) ∙ ap (take len) read ∙ take-take len end (drop at bytes) within
 
--- those behind such a place are the file's that stand there
+-- The bytes after such a place are the file's.
 pub rest-read : (bytes xs : List ℕ) (at len end : ℕ) → len ≤ end → end ≤ length xs → take end xs ≡ octets_from bytes at end
     → Holds bytes (record { at = at + len; octets = take (end - len) (drop len xs) })
 rest-read bytes xs at len end within inside read =
@@ -131,7 +131,7 @@ rest-read bytes xs at len end within inside read =
     ∙ ap (take (end - len)) (drop-drop len at bytes)
     ∙ ap (octets_from bytes (at + len)) (sym (length-take-le (end - len) (drop len xs) (omega (arith, behind, inside))))
 
--- of a body that isn't held whole fewer octets are
+-- If a body isn't held whole, fewer bytes than its length are held.
 held-less : (short : Bool) (w : ReadAhead) (at len kept : ℕ) → nat_le kept len ≡ short → (HasRange w at len → ⊥) → HasRange w at kept → kept ≤ len
 held-less true w at len kept is less range = grind (arith, nat_tests)
 held-less false w at len kept is less range =
@@ -142,7 +142,7 @@ pub kept-less : (w : ReadAhead) (at len kept : ℕ) → (HasRange w at len → �
 kept-less w at len kept less (inl none) = omega (arith, none)
 kept-less w at len kept less (inr range) = held-less (nat_le kept len) w at len kept refl less range
 
--- a window that has read on from a place, where it kept what it held, has paid for what it read
+-- A window that moved to an offset, and read on, has paid for the bytes that it read.
 pub read_on-goes : {S T E : Type 0} (g : Ghosts S) (file : FileId) (at len wanted size start kept count : ℕ) (old new : ReadAhead) (a b : S) (result : Result T E)
     → at + len ≤ file_size g a file → size ≡ file_size g a file → start ≡ at → kept ≡ length (kept_from old size at) → length new.octets ≡ count
     → OnOk result ((new.at ≡ start) × (count ≡ held_from wanted (file_size g a file) start))
@@ -158,13 +158,13 @@ read_on-goes g file at len wanted size start kept count old new a b (Err e) insi
     let rest : kept ≡ end_ahead old - at = held ∙ ap (λ n. length (kept_from old n at)) whole ∙ kept-count old (file_size g a file) at place in
     omega (arith, from, inside, cost, rest, place.within)
 
--- the front of what is held from a place on is the file's
+-- The bytes that are held from an offset on are the file's.
 front-octets : (before : Bool) (bytes : List ℕ) (w : ReadAhead) (at : ℕ) → nat_lt at w.at ≡ before → Holds bytes w
     → (if before then [] else drop (at - w.at) w.octets) ≡ octets_from bytes at (length (if before then [] else drop (at - w.at) w.octets))
 front-octets true bytes w at is holds = refl
 front-octets false bytes w at is holds = kept-octets false false bytes w at is holds
 
--- so many octets, or all, of what stands in a content
+-- A prefix of bytes of a content is a prefix of the content's bytes.
 take-front : (bytes xs : List ℕ) (at most : ℕ) → xs ≡ octets_from bytes at (length xs) → take most xs ≡ octets_from bytes at (length (take most xs))
 take-front bytes xs at most is =
     let count : length (take most xs) ≡ min most (length xs) = length-take most xs in

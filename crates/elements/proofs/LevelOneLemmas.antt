@@ -9,11 +9,11 @@ use Rattle.mkv_schema.proofs.ElementsLemmas.{elements-end, elements-more, Advanc
 use Rattle.elements.specs.Steps.{StepsOn}
 use Rattle.elements.specs.declared.level_one.Level1Step.TheVariants.{Element}
 
--- at the Segment's bound nothing stands
+-- At the end of the Segment there are no more Elements.
 pub level_1-end : (bytes : List ℕ) (size : Size) (p e : ℕ) → e ≤ p → level_1 bytes size p e ≡ ends_at p
 level_1-end bytes size p e past = elements-end in_segment (ends_segment size) (behind_in_segment bytes e) bytes p e past
 
--- before it, what is found there
+-- Before the end, the Element or the damage that is found decides.
 at_place : List ℕ → Size → ℕ → ℕ → Result Header Damage → Run
 at_place bytes size p e found = if ends_segment size (id_of found) then ends_at p else step p (behind_in_segment bytes e) found (λ q. level_1 bytes size q e)
 
@@ -28,13 +28,13 @@ pub level_1-stops : (bytes : List ℕ) (size : Size) (p e : ℕ) (found : Result
 unfolding at_place
 level_1-stops bytes size p e found inside is stops = level_1-step bytes size p e found inside is ∙ rw stops refl
 
--- a damage breaks it
+-- A damage ends the Segment's Elements.
 pub level_1-breaks : (bytes : List ℕ) (size : Size) (p e : ℕ) (found : Result Header Damage) (d : Damage) → found ≡ Err d → p < e → found ≡ element_at in_segment bytes p e → ends_segment size (id_of found) ≡ false → level_1 bytes size p e ≡ breaks_at p d
 unfolding at_place
 level_1-breaks bytes size p e found d damaged inside is goes =
     level_1-step bytes size p e found inside is ∙ rw (goes, damaged) refl
 
--- an Element stands there, and what is behind it
+-- If an Element is found, the Elements after it follow.
 pub level_1-goes_on : (bytes : List ℕ) (size : Size) (p e : ℕ) (found : Result Header Damage) (h : Header) (next : Result ℕ Damage) → found ≡ Ok h → p < e → found ≡ element_at in_segment bytes p e → ends_segment size (id_of found) ≡ false → next ≡ behind_in_segment bytes e h → StepsOn (Element h next) (level_1 bytes size p e) p (λ q. level_1 bytes size q e)
 unfolding at_place
 level_1-goes_on bytes size p e found h next whole inside is goes behind_it =
@@ -45,5 +45,5 @@ level_1-goes_on bytes size p e found h next whole inside is goes behind_it =
     by_next (Ok q) same = same
     by_next (Err d) same = same
 
--- what stands at a place, by what is found there
+-- The laws on a step, by the Element or damage that is found.
 pub ruleset steps = (level_1-end, level_1-stops, level_1-breaks, level_1-goes_on)

@@ -1,4 +1,4 @@
--- Text, as a test and as a fact.
+-- UTF-8 text, as a test and as a predicate.
 use Rattle.std.proofs.lemmas.Str.{IsUtf8-from_is_utf8, is_utf8-from_IsUtf8}
 
 pub ruleset texts = (IsUtf8-from_is_utf8, is_utf8-from_IsUtf8)

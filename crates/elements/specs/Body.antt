@@ -1,23 +1,23 @@
--- The body of an Element that is held as octets.
+-- The body of a master in memory.
 use Rattle.std.specs.Prelude.{◌≡◌, ℕ, ◌+◌, ◌≤◌, List, length, Result}
 use Rattle.mkv_io.specs.declared.damage.Damage.{Damage}
 use Rattle.mkv_schema.specs.declared.element.Header.{Header}
 use Rattle.mkv_schema.specs.Element.{element_at, octets_between, Setting}
 
--- These octets are what begins at a place of a content of `total` octets.
+-- The bytes `body` are the part of the content from the offset `base`; the content has `total` bytes.
 pub record IsBody (bytes : List ℕ) (base total : ℕ) (body : List ℕ) : Type 0 where
   pub whole : length bytes ≡ total
   pub within : base + length body ≤ total
   pub octets : body ≡ octets_between bytes base (base + length body)
 
--- a fact of each file in which these octets stand so
+-- `P` holds for each content that has `body` at the offset `base`.
 abbrev pub IfBody : ℕ → ℕ → List ℕ → (List ℕ → Type 0) → Type 0
 IfBody base total body P = (bytes : List ℕ) → IsBody bytes base total body → P bytes
 
--- the place behind the last
+-- the offset after the last byte of `body`
 abbrev pub end_behind : ℕ → List ℕ → ℕ
 end_behind base body = base + length body
 
--- In each such file this is the Element at a place of the body, or what is wrong there.
+-- In each such content `found` is the Element at the offset `at` of the body, or its damage.
 abbrev pub IsChildAt : Setting → ℕ → ℕ → List ℕ → ℕ → Result Header Damage → Type 0
 IsChildAt s base total body at found = IfBody base total body (λ bytes. found ≡ element_at s bytes at (end_behind base body))

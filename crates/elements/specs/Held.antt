@@ -1,4 +1,4 @@
--- What a buffer holds of a file.
+-- The bytes of a file that a buffer holds.
 use Rattle.std.specs.Prelude.{◌≡◌, ℕ, ◌+◌, ◌≤◌, List, length, take, Result}
 use Rattle.mkv_io.specs.declared.outside.FileId.{FileId}
 use Rattle.mkv_io.specs.Sources.{IfTold, file_size}
@@ -8,16 +8,16 @@ use Rattle.elements.specs.Looks.{Goes, Looks}
 use Rattle.elements.specs.Window.{Holds, ReadAhead, header_room, held_from, kept_from}
 use Rattle.mkv_io.specs.Contents.{octets_from}
 
--- the octets in its front
+-- the bytes at the start of the buffer that the range describes
 abbrev pub held_in : BufferedRange → List ℕ → ReadAhead
 held_in held buffer = record { at = held.at; octets = take held.len buffer }
 
--- They are as many as it has, or fewer, and are the file's.
+-- The range fits the buffer, and the bytes are the file's.
 pub record HoldsIn {S : Type 0} (g : Ghosts S) (file : FileId) (src : S) (held : BufferedRange) (buffer : List ℕ) : Type 0 where
   pub fits : held.len ≤ length buffer
   pub told : IfTold g src file (λ bytes. Holds bytes (held_in held buffer))
 
--- A call looks at octets through a buffer, and pays for what it reads, as through a window of its length.
+-- A call looks up `len` bytes at the offset `at` through the buffer, with the same cost as a window of its length.
 abbrev pub LooksIn : {S T E : Type 0} → Ghosts S → FileId → ℕ → ℕ → BufferedRange → List ℕ → BufferedRange → List ℕ → S → S → Result T E → Type 0
 LooksIn g file at len old buffer new now_buffer before now result =
     Looks g file (length buffer) at len (held_in old buffer) (held_in new now_buffer) before now result
@@ -26,23 +26,23 @@ abbrev pub GoesIn : {S T E : Type 0} → Ghosts S → FileId → ℕ → Buffere
 GoesIn g file at old buffer new now_buffer before now result =
     Goes g file at (λ _. at) (held_in old buffer) (held_in new now_buffer) before now result
 
--- A buffer stands at a place, and holds what it held from there on.
+-- The range is at the offset `at`, and the buffer holds what it held from there on.
 abbrev pub KeepsFrom : ℕ → ℕ → BufferedRange → List ℕ → BufferedRange → List ℕ → Type 0
 KeepsFrom at total old buffer new now_buffer = held_in new now_buffer ≡ record { at = at; octets = kept_from (held_in old buffer) total at }
 
--- It holds as many octets as are wanted, or those up to the file's end, and stands where it stood.
+-- The range has the same start as before, and has `wanted` bytes or reaches the end of the file.
 abbrev pub HoldsWanted : ℕ → ℕ → BufferedRange → BufferedRange → Type 0
 HoldsWanted wanted size old new = (new.at ≡ old.at) × (new.len ≡ held_from wanted size old.at)
 
--- What was read is at most what is held then and wasn't before.
+-- The bytes that were read are at most the bytes that are newly held.
 abbrev pub ReadsBehind : {S : Type 0} → Ghosts S → FileId → ℕ → BufferedRange → S → S → Type 0
 ReadsBehind g file wanted held old new = g.octets_read new + held.len ≤ g.octets_read old + held_from wanted (file_size g old file) held.at
 
--- A header of an Element at a place is looked at, of a parent that ends somewhere.
+-- A call looks up a header at the offset `at`, in a parent that ends at `end`.
 abbrev pub LooksHeader : {S T E : Type 0} → Ghosts S → FileId → ℕ → ℕ → BufferedRange → List ℕ → BufferedRange → List ℕ → S → S → Result T E → Type 0
 LooksHeader g file at end old buffer new now_buffer before now result =
     LooksIn g file at (header_room at end) old buffer new now_buffer before now result
 
--- A buffer begins with so many octets of a file from a place on.
+-- The buffer begins with `count` bytes of the file from the offset `at`.
 abbrev pub BeginsWith : {S : Type 0} → Ghosts S → S → FileId → ℕ → List ℕ → ℕ → Type 0
 BeginsWith g src file at buffer count = IfTold g src file (λ bytes. take count buffer ≡ octets_from bytes at count)

@@ -1,4 +1,4 @@
--- What the parents of the code are in the definition of an Element at a place.
+-- The parents of the code as settings of the definition of an Element.
 use Rattle.mkv_schema.specs.Element.{Setting, at_level_0, in_segment, in_master, in_tree, anywhere}
 use Rattle.elements.specs.declared.parent.Parent.{Parent}
 use Rattle.elements.specs.declared.parent.Parent.TheVariants.{File, Segment, Master, Tree, Any}

@@ -1,73 +1,73 @@
--- What a window holds of a file.
+-- The bytes of a file that a window holds.
 use Rattle.std.specs.Prelude.{◌≡◌, ℕ, ◌+◌, ◌*◌, ◌-◌, ◌≤◌, min, max, nat_lt, ◌||◌, List, [], length, drop, if◌then◌else◌}
 use Rattle.mkv_io.specs.Contents.{octets_from}
 use Rattle.mkv_schema.specs.declared.limits.TheConstants.{MAX_ELEMENT_HEADER_LEN}
 use Rattle.elements.specs.declared.TheConstants.{LITTLE}
 
--- octets, and the place of the first of them
+-- bytes of a file, and the offset of the first one
 pub record ReadAhead : Type 0 where
   pub at : ℕ
   pub octets : List ℕ
 
--- a window that stands at a place and holds nothing
+-- the window at the offset `at` that holds nothing
 abbrev pub nothing_at : ℕ → ReadAhead
 nothing_at at = record { at = at; octets = [] }
 
--- the window holds nothing, and stands between two places
+-- The window holds nothing, and is at an offset between `from` and `end`.
 pub record IsEmptyWithin (from end : ℕ) (w : ReadAhead) : Type 0 where
   pub nothing : w.octets ≡ []
   pub after : from ≤ w.at
   pub before : w.at ≤ end
 
--- the place behind the last
+-- the offset after the last byte that is held
 abbrev pub end_ahead : ReadAhead → ℕ
 end_ahead w = w.at + length w.octets
 
--- a window's octets are those of this content
+-- The bytes of the window are the bytes of the content at the window's offset.
 abbrev pub Holds : List ℕ → ReadAhead → Type 0
 Holds bytes w = w.octets ≡ octets_from bytes w.at (length w.octets)
 
--- the window holds so many octets from a place on
+-- The window holds the `len` bytes from the offset `at`.
 pub record HasRange (w : ReadAhead) (at len : ℕ) : Type 0 where
   pub from : w.at ≤ at
   pub to : at + len ≤ end_ahead w
 
--- the octets that a header at a place may have, of a parent that ends somewhere
+-- the maximum length of a header at the offset `at`, in a parent that ends at `end`
 abbrev pub header_room : ℕ → ℕ → ℕ
 header_room at end = min (end - at) MAX_ELEMENT_HEADER_LEN
 
--- How many octets a window of so much room is to hold from a place on, of which so many are asked for: 1,024 behind these where it
--- jumps over more than it held, as over the body of a block or of a Cluster, behind which one header may be all that is looked at; else
--- twice as many as it held, where that is more.
+-- the number of bytes that a window of `room` bytes should hold from the offset `at` if `len` are requested. It is twice the number that it held,
+-- but at least 1,024 more than `len`. After a jump over more than it held it is only 1,024 more than `len`. Such a jump skips the body of a block
+-- or a Cluster, and perhaps a single header is looked up after it.
 abbrev pub wanted_at : ℕ → ReadAhead → ℕ → ℕ → ℕ
 wanted_at room w at len = min room (if nat_lt (end_ahead w + length w.octets) at then len + LITTLE else max (len + LITTLE) (2 * length w.octets))
 
--- how many octets are held from a place of a file of `size` octets on, where so many are wanted
+-- the number of bytes that are held from the offset `at` of a file of `size` bytes if `wanted` are wanted
 abbrev pub held_from : ℕ → ℕ → ℕ → ℕ
 held_from wanted size at = min wanted (size - at)
 
--- what a window holds from a place on
+-- the bytes that the window holds from the offset `at`
 abbrev pub front_from : ReadAhead → ℕ → List ℕ
 front_from w at = if nat_lt at w.at then [] else drop (at - w.at) w.octets
 
--- What a window keeps that goes on to a place of a file of `size` octets: what it holds from there on.
+-- the bytes that the window keeps if it moves to the offset `at` of a file of `size` bytes
 abbrev pub kept_from : ReadAhead → ℕ → ℕ → List ℕ
 kept_from w size at = if nat_lt at w.at || nat_lt size (end_ahead w) then [] else drop (at - w.at) w.octets
 
--- The window begins at this place or before it, and ends with a file of `size` octets or before.
+-- The window begins at the offset `at` or before, and ends in a file of `size` bytes.
 pub record HasNotPassed (w : ReadAhead) (at size : ℕ) : Type 0 where
   pub from : w.at ≤ at
   pub within : end_ahead w ≤ size
 
--- What was read since is paid by the way that the window has gone: no octet was read twice.
+-- The move of the window pays for the bytes that were read: none was read twice.
 abbrev pub Pays : ReadAhead → ReadAhead → ℕ → ℕ → Type 0
 Pays old new before now = now + end_ahead old ≤ before + end_ahead new
 
--- What was read since is paid by the way to the end of a file of `size` octets.
+-- The way to the end of a file of `size` bytes pays for the bytes that were read.
 abbrev pub Spends : ℕ → ReadAhead → ℕ → ℕ → Type 0
 Spends size old before now = now + end_ahead old ≤ before + size
 
--- A window that was before a place is so still, and has paid for what was read.
+-- A window that hadn't passed the offset `at` still hasn't, and its move pays for the bytes that were read.
 pub record MovesTo (size at : ℕ) (old new : ReadAhead) (before now : ℕ) : Type 0 where
   pub place : HasNotPassed new at size
   pub pays : Pays old new before now

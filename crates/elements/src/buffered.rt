@@ -18,19 +18,19 @@ use mkv_io::{Damage, Failed, FileId, Reads};
 use mkv_schema::Header;
 use mkv_schema::limits::MAX_ELEMENT_HEADER_LEN;
 
-/// Which octets of a file stand in the front of a buffer.
+/// Byte range of a file that the start of a buffer holds.
 #[derive(Clone, Copy)]
 pub struct BufferedRange {
-    /// Octets from the start of the file to the first.
+    /// Offset in bytes of the range from the start of the file.
     pub at: u64,
-    /// How many there are.
+    /// Number of bytes in the range.
     pub len: usize,
 }
 
 impl BufferedRange {
     ghost use Rattle.elements.specs.Held.{GoesIn, HoldsIn, HoldsWanted, KeepsFrom, LooksHeader, LooksIn, ReadsBehind, held_in};
 
-    /// Whether a buffer holds so many octets from `at` octets behind the file's start on.
+    /// Checks whether `buffer` holds the `len` bytes from the offset `at` of the file.
     pub fn has(self, at: u64, len: usize, buffer: &[u8]) -> bool
         requires { self.len ≤ length buffer.now }
         ensures { IsTrue result ↔ HasRange (held_in self buffer.now) at len }
@@ -40,7 +40,7 @@ impl BufferedRange {
             && len <= self.len - (at - self.at) as usize
     }
 
-    /// Octets that a buffer holds.
+    /// Returns the `len` bytes from the offset `at` of the file, which `buffer` holds.
     pub fn octets_at(self, at: u64, len: usize, buffer: &[u8]) -> &[u8]
         requires inside { self.len ≤ length buffer.now }
         requires range { HasRange (held_in self buffer.now) at len }
@@ -50,7 +50,7 @@ impl BufferedRange {
         &buffer[start..start + len]
     }
 
-    /// The octets that a buffer holds from `at` octets behind the file's start on, but not more than so many.
+    /// Returns the bytes that `buffer` holds from the offset `at` of the file, at most `most`.
     pub fn front_at(self, at: u64, most: usize, buffer: &[u8]) -> &[u8]
         requires { self.len ≤ length buffer.now }
         ensures exact { result.now ≡ take most (front_from (held_in self buffer.now) at) }
@@ -63,7 +63,8 @@ impl BufferedRange {
         &buffer[start..start + count]
     }
 
-    // How many octets are to be held from a place on, of which `len` are asked for, where there is room for so many.
+    // Returns the number of bytes to hold from the offset `at` on if `len` bytes are requested. The buffer has `room`
+    // bytes.
     fn wanted_at(self, room: usize, at: u64, len: usize, buffer: &[u8]) -> usize
         requires { self.len ≤ length buffer.now }
         ensures exact { result ≡ wanted_at room (held_in self buffer.now) at len }
@@ -79,7 +80,7 @@ impl BufferedRange {
         }
     }
 
-    /// How many octets from a place of a file of `total` octets on are held.
+    /// Returns the number of bytes that `buffer` holds from the offset `at` of a file of `total` bytes.
     pub fn kept_at(self, at: u64, total: u64, buffer: &[u8]) -> usize
         requires fits { self.len ≤ length buffer.now }
         requires inside { at ≤ total }
@@ -94,7 +95,7 @@ impl BufferedRange {
         if kept > total - at { 0 } else { kept as usize }
     }
 
-    // Stands at a place, and keeps in the front of the buffer what is held from there on.
+    // Moves the range to the offset `at`, and keeps the bytes that `buffer` holds from there on.
     fn move_to(&mut self, at: u64, total: u64, buffer: &mut [u8])
         requires fits { self.old.len ≤ length buffer.old }
         requires inside { at ≤ total }
@@ -112,7 +113,7 @@ impl BufferedRange {
         *self = BufferedRange { at, len: kept };
     }
 
-    // Reads on behind what is held, up to so many octets in all, or to the file's end.
+    // Reads bytes after the range until it has `wanted` bytes, or reaches the end of the file.
     fn read_on<R: Reads>(
         &mut self,
         buffer: &mut [u8],
@@ -143,7 +144,7 @@ impl BufferedRange {
         Ok(())
     }
 
-    /// Puts octets into the front of a buffer, of which the first stands `at` octets behind the file's start.
+    /// Copies `octets` to the start of `buffer`. They are at the offset `at` of the file.
     pub fn put(at: u64, octets: &[u8], buffer: &mut [u8]) -> BufferedRange
         requires { length octets.now ≤ length buffer.old }
         ensures exact { held_in result buffer.new ≡ record { at = at; octets = octets.now } }
@@ -157,7 +158,7 @@ impl BufferedRange {
         }
     }
 
-    /// Makes a buffer hold so many octets from `at` octets behind the file's start on.
+    /// Makes `buffer` hold the `len` bytes from the offset `at` of the file.
     pub fn hold<R: Reads>(
         &mut self,
         buffer: &mut [u8],
@@ -184,7 +185,7 @@ impl BufferedRange {
         self.read_on(buffer, src, file, wanted)
     }
 
-    /// The Element at a place of a file, under a parent that ends at `end`, or what is wrong there.
+    /// Returns the Element at the offset `at`, in a parent that ends at `end`, or its damage.
     pub fn element<R: Reads>(
         &mut self,
         buffer: &mut [u8],
@@ -215,7 +216,7 @@ impl BufferedRange {
     }
 }
 
-// How many octets a header at a place may have, where its parent ends at `end`.
+// Returns the maximum length of a header at the offset `at`, in a parent that ends at `end`.
 fn header_room(at: u64, end: u64) -> u64
     requires { at ≤ end }
     ensures { result ≡ header_room at end }
@@ -223,8 +224,7 @@ fn header_room(at: u64, end: u64) -> u64
     (end - at).min(MAX_ELEMENT_HEADER_LEN)
 }
 
-// Reads octets into the front of a buffer, as many as it has or up to the file's end, and answers their
-// number.
+// Fills `buffer` from the offset `at` of the file, up to the end of the file at most. Returns the number of bytes.
 #[tactic(auto, using(std::proofs::lemmas::List::take_at))]
 fn read_ahead<R: Reads>(
     src: &mut R,

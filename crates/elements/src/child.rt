@@ -13,8 +13,8 @@ use ebml_numbers::Size;
 use mkv_io::Damage;
 use mkv_schema::Header;
 
-/// The child at `at` octets behind the start of a file of `total` octets, of a master whose body begins at
-/// `base` and is these octets; or what is wrong there.
+/// Returns the child at the offset `at` of a file of `total` bytes, or its damage. The master's body is `body`, at
+/// the offset `base`.
 pub fn child_at(
     parent: Parent,
     body: &[u8],
@@ -33,7 +33,7 @@ pub fn child_at(
     read_header(&body[(at - base) as usize..], parent, total, at, end)
 }
 
-/// The octets of a child's body, of a master whose body begins at `base` and is these octets.
+/// Returns the bytes of the body of `child`. Its master's body is `body`, at the offset `base`.
 pub fn body_in<'a>(body: &'a [u8], base: u64, child: &Header) -> &'a [u8]
     requires from { base ≤ child.now.body }
     requires inside { stated_end child.now ≤ base + length body.now }
@@ -43,7 +43,7 @@ pub fn body_in<'a>(body: &'a [u8], base: u64, child: &Header) -> &'a [u8]
     &body[start..start + known(child.size) as usize]
 }
 
-/// The octets of a body whose size is known, else 0.
+/// Returns the number of bytes of a body with a known size, or 0.
 pub fn known(size: Size) -> u64
     ensures { result ≡ known size }
 {

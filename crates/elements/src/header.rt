@@ -12,10 +12,10 @@ use mkv_io::{Damage, Kind};
 use mkv_schema::Header;
 use mkv_schema::ids::{CHAPTER_DISPLAY, CLUSTER, SEGMENT};
 
-/// The header of the Element that octets begin, or what is wrong with it.
+/// Reads the header of the Element at the start of `octets`, or returns its damage.
 ///
-/// The octets stand `at` octets behind the start of a file of `total` octets, and reach to `end`, the
-/// parent's end; the first `MAX_ELEMENT_HEADER_LEN` of them are enough.
+/// The bytes are at the offset `at` of a file of `total` bytes, and reach to `end`, the parent's end. The first
+/// `MAX_ELEMENT_HEADER_LEN` of them are enough.
 pub fn read_header(
     octets: &[u8],
     parent: Parent,
@@ -69,7 +69,7 @@ fn first_header(
     }
 }
 
-// The ID at the front; ChapterDisplay's is none elsewhere.
+// Reads the ID at the start of `octets`. ChapterDisplay's is valid only in a ChapterAtom.
 fn id_at(octets: &[u8], parent: Parent) -> Result<IdRead, NumFault>
     ensures exact { result ≡ id_in (setting_of parent) octets.now }
     ensures inside { IfOk result (λ read. read.len ≤ length octets.now) }
@@ -83,21 +83,21 @@ fn id_at(octets: &[u8], parent: Parent) -> Result<IdRead, NumFault>
     read_id(octets)
 }
 
-/// A damage of this kind, where an Element stands.
+/// Returns the damage `kind` at the Element `header`.
 pub fn damage_at(kind: Kind, header: &Header) -> Damage
     ensures { result ≡ record { kind = kind; id = header.now.id; offset = header.now.offset } }
 {
     damage(kind, header.id, header.offset)
 }
 
-/// A damage of this kind, of an Element of this ID, so many octets behind the start of the file.
+/// Returns the damage `kind` of an Element `id` at the offset `offset`.
 pub fn damage(kind: Kind, id: u32, offset: u64) -> Damage
     ensures { result ≡ record { kind = kind; id = id; offset = offset } }
 {
     Damage { kind, id, offset }
 }
 
-// A header up to `end` passes its parent's end.
+// Returns the damage of a header that ends at `end`, after its parent's end.
 fn cut_header(parent: Parent, total: u64, id: u32, at: u64, end: u64) -> Damage
     ensures { result ≡ cut_header (setting_of parent) total id at end }
 {
@@ -108,7 +108,7 @@ fn cut_header(parent: Parent, total: u64, id: u32, at: u64, end: u64) -> Damage
     }
 }
 
-// What is wrong with a body.
+// Returns the damage of the body of `header`, if any.
 fn body_damage(header: &Header, parent: Parent, total: u64, end: u64) -> Option<Kind>
     requires { stated_end header.now < 2 ^ 64 }
     ensures { result ≡ body_damage (setting_of parent) total end header.now }

@@ -15,21 +15,21 @@ use ebml_numbers::Size;
 use mkv_io::{Damage, Failed, FileId, Reads};
 use mkv_schema::{Header, is_level0};
 
-/// What stands at a place of a Segment.
+/// Result of a step in a Segment.
 #[derive(Clone, Copy, Debug, PartialEq, Eq)]
 pub enum Level1Step {
-    /// An Element of level 1, and where the one behind it begins, or the damage inside it.
+    /// Element of level 1, and the offset after it, or the damage inside it.
     Element {
         header: Header,
         next: Result<u64, Damage>,
     },
-    /// What stands there is no Element that a Segment may have.
+    /// Damage: there is no valid Element of level 1.
     Damaged(Damage),
-    /// Nothing of the Segment stands there any more.
+    /// End of the Segment.
     End,
 }
 
-/// Whether a Segment ends before an Element of this ID, where its size is unknown.
+/// Checks whether a Segment of the size `size` ends before an Element `id`. Only a Segment of unknown size does.
 pub fn ends_segment(size: Size, id: u32) -> bool
     ensures { result ≡ ends_segment size id }
 {
@@ -39,7 +39,7 @@ pub fn ends_segment(size: Size, id: u32) -> bool
     }
 }
 
-/// What stands at a place of a Segment that has this size and may reach up to `end`.
+/// Returns the next step at the offset `at` of a Segment of the size `size`, which ends at `end` or before.
 #[tactic(auto, using(crate::proofs::LevelOneLemmas::steps))]
 pub fn next_of_segment<W: Lookahead, R: Reads>(
     window: &mut W,

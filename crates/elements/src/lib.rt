@@ -1,8 +1,8 @@
 #![tactic(auto)]
 
-//! One Element after the other, as it is read: the header of an Element, the leaves of a body, the window through which
-//! a file is read, and the way from one Element of level 1 to the next (RFC 8794, sections 5 to 7, and RFC 9559, section 5.1,
-//! Segment Element).
+//! Elements that are read in sequence: the header of an Element, the values of leaves, the window for reading a file,
+//! and the steps over level 1. The standards are RFC 8794, sections 5 to 7, and RFC 9559, section 5.1 (Segment
+//! Element).
 
 mod buffered;
 mod child;
@@ -27,5 +27,5 @@ pub use value::{is_known_value, is_value, text_of};
 pub use walk::{behind, cluster_end, end_in, ends_cluster, id_of};
 pub use window::Window;
 
-/// How many octets are read at once where a few headers are looked at.
+/// Number of bytes that are read at once for a few headers.
 pub const LITTLE: usize = 1024;

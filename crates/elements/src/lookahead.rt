@@ -1,4 +1,4 @@
-//! What a walk over the Elements of a file looks through.
+//! Read-ahead for walks over the Elements of a file.
 
 ghost use Rattle.std.specs.Prelude.{◌≡◌, ℕ, ◌*◌, ◌≤◌, IfOk};
 ghost use Rattle.mkv_io.specs.Faults.{HasCause, is_failure};
@@ -12,16 +12,16 @@ use crate::parent::Parent;
 use mkv_io::{Damage, Failed, FileId, Reads};
 use mkv_schema::Header;
 
-/// Octets of one file that were read at once, through which its Elements are met.
+/// Read-ahead of one file: bytes that were read at once, to look up its Elements.
 pub trait Lookahead {
-    /// What is held of the file.
+    /// Bytes of the file that are held.
     ghost ahead: { Self → ReadAhead };
 
-    /// How many octets are read at once.
+    /// Number of bytes that can be held.
     ghost room: { ℕ };
 
-    /// The Element at a place of a file, under a parent that ends at `end`, or what is wrong there. What is
-    /// held isn't read again. After a failed read nothing is held.
+    /// Returns the Element at the offset `at`, in a parent that ends at `end`, or its damage. Bytes that are held
+    /// aren't read again. After a failed read nothing is held.
     fn element<R: Reads>(
         &mut self,
         src: &mut R,

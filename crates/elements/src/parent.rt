@@ -1,10 +1,10 @@
-//! Where an Element stands.
+//! Parents of Elements, as they affect headers.
 
 ghost use Rattle.std.specs.Prelude.{◌≡◌, ◌==◌};
 
 use mkv_schema::ids::{CHAPTER_ATOM, CLUSTER, SEGMENT};
 
-/// Where an Element stands, which says what its header may be.
+/// Parent of an Element, which determines its valid headers.
 #[derive(Clone, Copy, Debug, PartialEq, Eq)]
 pub enum Parent {
     /// The file: a Segment may have an unknown size, and the end of the file may cut it.
@@ -13,16 +13,16 @@ pub enum Parent {
     Segment,
     /// Another master that isn't read whole.
     Master,
-    /// The master of this ID, which is read whole: whatever passes its end is too long.
+    /// The master with this ID, which is read whole: an Element that passes its end is too long.
     Tree(u32),
-    /// As if every Segment stood in the file, and every Cluster in a Segment.
+    /// Any parent: every Segment and every Cluster may have an unknown size, and the end of the file may cut it.
     Any,
 }
 
 impl Parent {
     ghost use Rattle.elements.specs.Parent.{setting_of};
 
-    /// Whether an Element of this ID may have an unknown size here, or be cut by the end of the file.
+    /// Checks whether an Element `id` may have an unknown size here, or be cut by the end of the file.
     pub fn may_open(self, id: u32) -> bool
         ensures { result ≡ (setting_of self).may_open id }
     {
@@ -34,14 +34,14 @@ impl Parent {
         }
     }
 
-    /// Whether the octet `80` is ChapterDisplay's ID here (RFC 9559, section 5.1.7, Chapters Element).
+    /// Checks whether the byte `80` is ChapterDisplay's ID here (RFC 9559, section 5.1.7, Chapters Element).
     pub fn has_display(self) -> bool
         ensures { result ≡ (setting_of self).display }
     {
         self == Parent::Tree(CHAPTER_ATOM)
     }
 
-    /// Whether the parent is read whole.
+    /// Checks whether the parent is read whole.
     pub fn is_tree(self) -> bool
         ensures { result ≡ (setting_of self).read_whole }
     {

@@ -1,25 +1,24 @@
-//! What is known of a file whose Elements of level 1 are walked over.
+//! The Segment of a file, for readers of level 1.
 
 ghost use Rattle.std.specs.Prelude.{◌≡◌, ◌≤◌, ℕ};
 ghost use Rattle.mkv_schema.specs.declared.element.Header.{Header as HeaderRecord};
 
 use mkv_schema::Header;
 
-/// What knows the Segment of a file, as an outline does. A reader of level 1 takes its word, and needn't
-/// know what else an outline is.
+/// Type with the Segment of a file, such as an outline. A reader of level 1 needs no more of it.
 pub trait HasSegment {
     /// The header of the Segment.
     ghost segment: { Self → HeaderRecord };
 
-    /// The length of the file in octets.
+    /// Length of the file, in bytes.
     ghost total: { Self → ℕ };
 
-    /// The header of the Segment, which begins within the file.
+    /// Returns the header of the Segment, which begins in the file.
     fn segment(&self) -> Header
         ensures exact { result ≡ segment self.now }
         ensures inside { result.body ≤ total self.now };
 
-    /// The length of the file in octets.
+    /// Returns the length of the file, in bytes.
     fn total(&self) -> u64
         ensures { result ≡ total self.now };
 }

@@ -1,4 +1,4 @@
-//! The window that takes no memory.
+//! A window that doesn't allocate.
 
 ghost use Rattle.std.specs.Prelude.{◌≡◌};
 ghost use Rattle.elements.specs.Window.{nothing_at};
@@ -11,7 +11,7 @@ use mkv_io::{Damage, Failed, FileId, Reads};
 use mkv_schema::Header;
 use std::marker::Model;
 
-/// Octets of one file, read at once from a place on, as many as a few headers have.
+/// Window of 1,024 bytes, enough for a few headers.
 #[derive(Drop)]
 pub struct SmallWindow {
     buffer: [u8; LITTLE],
@@ -32,7 +32,7 @@ impl Model for SmallWindow {
 }
 
 impl SmallWindow {
-    /// A window that holds nothing.
+    /// Returns a window that holds nothing.
     pub fn new() -> SmallWindow
         ensures { result ≡ nothing_at 0 }
     {
@@ -42,7 +42,7 @@ impl SmallWindow {
         }
     }
 
-    /// Forgets what the window holds.
+    /// Empties the window.
     pub fn forget(&mut self)
         ensures { self.new ≡ nothing_at 0 }
     {

@@ -6,7 +6,7 @@ ghost use Rattle.mkv_schema.specs.Value.{is_known_value, is_value, text_of};
 
 use mkv_schema::{ElementKind, kind_under};
 
-/// A text's octets, up to its first zero octet.
+/// Returns the bytes of a text, up to its first zero byte.
 pub fn text_of(body: &[u8]) -> &[u8]
     ensures { result.now ≡ text_of body.now }
 {
@@ -20,7 +20,7 @@ fn text_len(body: &[u8]) -> usize
     body.iter().take_while(|octet| **octet != 0).count()
 }
 
-/// Whether octets are a value of this kind.
+/// Checks whether `body` is a value of the kind `kind`.
 #[tactic(auto, using(crate::proofs::TextLemmas::texts))]
 pub fn is_value(kind: ElementKind, body: &[u8]) -> bool
     ensures { result ≡ is_value kind body.now }
@@ -34,8 +34,8 @@ pub fn is_value(kind: ElementKind, body: &[u8]) -> bool
     }
 }
 
-/// Whether octets are a value of an Element of this ID under a parent. An Element that the table doesn't
-/// have there is unknown, and any octets are its body.
+/// Checks whether `body` is a value of an Element `id` under `parent`. Any bytes are the body of an Element that the
+/// table doesn't have there.
 pub fn is_known_value(parent: u32, id: u32, body: &[u8]) -> bool
     ensures { result ≡ is_known_value parent id body.now }
 {

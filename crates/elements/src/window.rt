@@ -1,4 +1,4 @@
-//! The window.
+//! The window with 65,536 bytes.
 
 ghost use Rattle.std.specs.Prelude.{◌≡◌, ℕ, List, ◌+◌, ◌-◌, ◌≤◌, ◌⊎◌, length, take, OnOk, IsTrue, IsOk, IfOk, ◌↔◌};
 ghost use Rattle.mkv_io.specs.Bounds.{ReadsUpTo};
@@ -17,13 +17,13 @@ use mkv_schema::Header;
 use std::alloc::{AllocError, Global};
 use std::marker::Model;
 
-/// How many octets are read at once.
+/// Number of bytes that the window can hold.
 const WINDOW: usize = 65536;
 
-/// The most octets of a body that is looked at through a window.
+/// Maximum length in bytes of a body that is read into the window.
 const SHORT_BODY: usize = 4096;
 
-/// Octets of one file, read at once from a place on.
+/// Window of 65,536 bytes of one file, from an offset on.
 #[derive(Drop)]
 pub struct Window {
     buffer: Vec<u8>,
@@ -44,7 +44,7 @@ impl Model for Window {
 }
 
 impl Window {
-    /// A window that holds nothing, with room for 65,536 octets.
+    /// Returns a window that holds nothing, with room for 65,536 bytes.
     pub fn new(alloc: Global) -> Result<Window, AllocError>
         ensures { IfOk result (λ w. w ≡ nothing_at 0) }
     {
@@ -54,14 +54,14 @@ impl Window {
         })
     }
 
-    /// Whether the window holds so many octets from `at` octets behind the file's start on.
+    /// Checks whether the window holds the `len` bytes from the offset `at` of the file.
     pub fn has(&self, at: u64, len: usize) -> bool
         ensures { IsTrue result ↔ HasRange self.now at len }
     {
         self.held.has(at, len, &self.buffer)
     }
 
-    /// Octets that the window holds.
+    /// Returns the `len` bytes from the offset `at` of the file, which the window holds.
     pub fn octets_at(&self, at: u64, len: usize) -> &[u8]
         requires { HasRange self.now at len }
         ensures { result.now ≡ octets_from self.now.octets (at - self.now.at) len }
@@ -69,10 +69,12 @@ impl Window {
         self.held.octets_at(at, len, &self.buffer)
     }
 
-    /// Makes the window hold so many octets from `at` octets behind the file's start on. It reads nothing where it holds them. Else
-    /// it keeps what it holds from there on, and reads on behind that, until it holds twice as many octets as before, 1,024 more than
-    /// were asked for at least, and 65,536 at most; 1,024 more where it jumps over more than it held; or up to the file's end. After
-    /// a failed read it stands at that place and holds nothing.
+    /// Makes the window hold the `len` bytes from the offset `at` of the file. Reads nothing if it holds them.
+    ///
+    /// Otherwise it keeps the bytes that it holds from `at` on, and reads the bytes after them. It then holds twice
+    /// the earlier number, but at least 1,024 more than `len`, at most 65,536, and none past the end of the file.
+    /// After a jump that is longer than the held range, it holds only 1,024 more than `len`. After a failed read the
+    /// window is at `at` and holds nothing.
     pub fn hold<R: Reads>(
         &mut self,
         src: &mut R,
@@ -94,7 +96,8 @@ impl Window {
             .hold(&mut self.buffer, src, file, at, usize::from(len))
     }
 
-    /// Octets of a body, as many as `into` has: from the window where it holds them all, else read.
+    /// Fills `into` with the bytes of a body from the offset `at`. Takes them from the window if it holds all, and
+    /// otherwise reads them.
     pub fn fill<R: Reads>(
         &self,
         src: &mut R,
@@ -118,9 +121,11 @@ impl Window {
         src.read_at(file, at, into)
     }
 
-    /// Reads a body of so many octets into the front of a buffer that has room for 1,024 more. What the window holds of it isn't read
-    /// again. A short body is looked at through the window; the rest of a long one is read at once, with up to 1,024 octets behind it,
-    /// which the window then holds, since the next header stands there.
+    /// Reads a body of `len` bytes to the start of `into`, which has room for 1,024 more. Bytes that the window holds
+    /// aren't read again.
+    ///
+    /// A short body is read into the window. The rest of a long one is read at once, with up to 1,024 bytes after it.
+    /// The window then holds these, since the next header is there.
     pub fn read_body<R: Reads>(
         &mut self,
         src: &mut R,
@@ -152,7 +157,7 @@ impl Window {
         self.read_through(src, file, at, len, into)
     }
 
-    // Copies so many octets that are held from a place on.
+    // Copies the `len` held bytes from the offset `at` to the start of `into`.
     fn copy(&self, at: u64, len: usize, into: &mut [u8])
         requires range { HasRange self.now at len }
         requires room { len ≤ length into.old }
@@ -162,14 +167,14 @@ impl Window {
         into[..len].copy_from_slice(self.octets_at(at, len));
     }
 
-    /// Forgets what the window holds.
+    /// Empties the window.
     pub fn forget(&mut self)
         ensures { self.new ≡ nothing_at 0 }
     {
         self.held = BufferedRange { at: 0, len: 0 };
     }
 
-    /// The octets that the window holds from `at` octets behind the file's start on, but not more than so many.
+    /// Returns the bytes that the window holds from the offset `at` of the file, at most `most`.
     pub fn front_at(&self, at: u64, most: usize) -> &[u8]
         ensures exact { result.now ≡ take most (front_from self.now at) }
         ensures held { (bytes : List ℕ) → Holds bytes self.now → result.now ≡ octets_from bytes at (length result.now) }
@@ -178,7 +183,7 @@ impl Window {
         self.held.front_at(at, most, &self.buffer)
     }
 
-    // Copies what is held from a place of a file of `total` octets on, and answers how many octets that are.
+    // Copies the bytes that are held from the offset `at` of a file of `total` bytes, and returns their number.
     fn copy_held(&self, at: u64, total: u64, into: &mut [u8]) -> usize
         requires inside { at ≤ total }
         requires room { length (kept_from self.now total at) ≤ length into.old }
@@ -195,7 +200,7 @@ impl Window {
         kept
     }
 
-    // Holds these octets, of which the first stands `at` octets behind the file's start.
+    // Holds the bytes `octets`, which are at the offset `at` of the file.
     fn set(&mut self, at: u64, octets: &[u8])
         requires { length octets.now ≤ WINDOW }
         ensures { self.new ≡ record { at = at; octets = octets.now } }
@@ -203,7 +208,7 @@ impl Window {
         self.held = BufferedRange::put(at, octets, &mut self.buffer);
     }
 
-    // Reads what isn't held of a body, and up to 1,024 octets behind it, at once.
+    // Reads the bytes of a body that aren't held, and up to 1,024 bytes after it, at once.
     fn read_through<R: Reads>(
         &mut self,
         src: &mut R,

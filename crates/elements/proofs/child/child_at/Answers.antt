@@ -5,7 +5,7 @@ use Rattle.elements.specs.Parent.{setting_of}
 use Rattle.elements.proofs.BodyLemmas.{IsBody-rest}
 use Rattle.elements.proofs.child.child_at.Goals as goal
 
--- the rest of the body is what the definition reads
+-- The definition reads the rest of the body.
 pub returns-clause-exact : goal.returns-clause-exact
 returns-clause-exact c = λ bytes is.
     let body = c.args.body.now in

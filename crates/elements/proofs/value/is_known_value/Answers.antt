@@ -5,7 +5,7 @@ use Rattle.mkv_schema.specs.declared.kind.ElementKind.{ElementKind}
 use Rattle.mkv_schema.specs.Value.{is_value}
 use Rattle.elements.proofs.value.is_known_value.Goals as goal
 
--- octets are a known value where they are one of the kind that the Element has under the parent
+-- The bytes are a known value if they are a value of the kind that the Element has under its parent.
 of_kind : (stands : Bool) (known : Option ElementKind) (kind : ElementKind) (body : List ℕ) → (if stands then known else None) ≡ Some kind
     → (if stands then option_map_or (λ k. is_value k body) known true else true) ≡ is_value kind body
 of_kind true known kind body is = ap (λ (o : Option ElementKind). option_map_or (λ k. is_value k body) o true) is

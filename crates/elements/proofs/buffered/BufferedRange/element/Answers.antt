@@ -4,7 +4,7 @@ use Rattle.elements.specs.Held.{held_in}
 use Rattle.elements.proofs.WindowLemmas.{element_at-held}
 use Rattle.elements.proofs.buffered.BufferedRange.element.Goals as goal
 
--- what is held of the file is enough for a header
+-- The held bytes of the file are enough for a header.
 pub returns-clause-ok : goal.returns-clause-ok
 returns-clause-ok g c = λ bytes told.
     let total : c.size-total.result ≡ length bytes =

@@ -5,7 +5,7 @@ use Rattle.elements.specs.Window.{ReadAhead, Holds}
 use Rattle.elements.proofs.HeldLemmas.{kept-held, kept-less, read_on-goes}
 use Rattle.elements.proofs.buffered.BufferedRange.hold.Goals as goal
 
--- what is kept stands in the file, and is less than was asked for
+-- The kept bytes are in the file, and are fewer than requested.
 pub read_on-requires-clause-inside : goal.read_on-requires-clause-inside
 read_on-requires-clause-inside g c = omega (arith, c.move_to.ensures.place, c.move_to.ensures.within, c.size.ensures.exact, c.requires.range)
 
@@ -22,7 +22,7 @@ read_on-requires-clause-holds g c = record {
       subst (λ (w : ReadAhead). Holds bytes w) (sym c.move_to.ensures.keeps) (kept-held bytes (held_in c.args.self.now c.args.buffer.now) c.size.result c.args.at (c.requires.holds.told bytes told));
 }
 
--- what was read is paid by the way
+-- The move of the window pays for the bytes that were read.
 pub returns-clause-goes : goal.returns-clause-goes
 returns-clause-goes g c =
     let held = c.read_on.new.self in

@@ -3,7 +3,7 @@ use Rattle.elements.specs.Window.{ReadAhead}
 use Rattle.elements.proofs.HeldLemmas.{last-kept}
 use Rattle.elements.proofs.buffered.BufferedRange.move_to.Goals as goal
 
--- what was held from the place on stands in the front
+-- The bytes that were held from the offset on are at the start of the buffer.
 pub returns-clause-keeps : goal.returns-clause-keeps
 returns-clause-keeps c =
     let buf = c.args.buffer.now in

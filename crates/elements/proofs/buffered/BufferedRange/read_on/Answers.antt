@@ -2,7 +2,7 @@ use Rattle.std.proofs.Common.{◌≤◌, ◌-◌, length, arith}
 use Rattle.elements.proofs.HeldLemmas.{held-behind, put-length}
 use Rattle.elements.proofs.buffered.BufferedRange.read_on.Goals as goal
 
--- what was read stands behind what was held
+-- The bytes that were read follow the bytes that were held.
 pub returns-clause-holds : goal.returns-clause-holds
 returns-clause-holds g c =
     let buf = c.args.buffer.now in

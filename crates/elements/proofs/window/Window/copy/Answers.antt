@@ -3,7 +3,7 @@ use Rattle.std.proofs.lemmas.List.{length-take-le, take_at}
 use Rattle.elements.proofs.WindowLemmas.{octets_from-held}
 use Rattle.elements.proofs.window.Window.copy.Goals as goal
 
--- what is held is the file's
+-- The held bytes are the file's.
 pub returns-clause-copies : goal.returns-clause-copies
 returns-clause-copies c = λ bytes holds.
     let long : length c.copy_from_slice.new.self ≡ c.args.len =

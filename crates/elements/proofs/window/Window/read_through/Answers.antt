@@ -7,25 +7,25 @@ use Rattle.elements.proofs.window.Window.read_through.Given.{Over}
 use Rattle.elements.proofs.window.Window.read_through.Goals.{After-set}
 use Rattle.elements.proofs.window.Window.read_through.Goals as goal
 
--- what was held of the body stands before the end of what is read
+-- The held bytes of the body end before the end of the read.
 within : (g : Over) (c : After-set g) → c.copy_held-kept.result ≤ c.min-end.result
 within g c =
     let less = kept-less c.args.self.now c.args.at c.args.len c.copy_held-kept.result c.requires.less c.copy_held-kept.ensures.held in
     omega (arith, less, c.min-end.ensures, c.copy_held-kept.ensures.within)
 
--- the buffer has room up to that end
+-- The buffer has room up to that end.
 inside : (g : Over) (c : After-set g) → c.min-end.result ≤ length c.copy_held-kept.new.into
 inside g c = omega (arith, c.min-end.ensures, c.requires.room, c.copy_held-kept.ensures.room)
 
--- the body doesn't reach beyond it
+-- The body doesn't pass that end.
 whole : (g : Over) (c : After-set g) → c.args.len ≤ c.min-end.result
 whole g c = omega (arith, c.min-end.ensures, c.requires.range, c.size-total.ensures.exact)
 
--- what the buffer then has
+-- the bytes of the buffer after the read
 abbrev filled : (g : Over) (c : After-set g) → List ℕ
 filled g c = put_mid c.copy_held-kept.result (c.min-end.result - c.copy_held-kept.result) c.copy_held-kept.new.into c.read_at.new.into
 
--- what was held and what was read behind it is the file's
+-- The held bytes, then the bytes that were read, are the file's.
 read : (g : Over) (c : After-set g) (bytes : List ℕ) → Holds bytes c.args.self.now
     → c.read_at.new.into ≡ octets_from bytes (c.args.at + c.copy_held-kept.result) (length (take (c.min-end.result - c.copy_held-kept.result) (drop c.copy_held-kept.result c.copy_held-kept.new.into)))
     → take c.min-end.result (filled g c) ≡ octets_from bytes c.args.at c.min-end.result
@@ -37,7 +37,7 @@ pub returns-clause-ok : goal.returns-clause-ok
 returns-clause-ok g c = λ bytes told.
     front-read bytes (filled g c) c.args.at c.args.len c.min-end.result (whole g c) (read g c bytes (c.requires.holds bytes told) (c.in_ok-read_at.ensures.ok bytes told))
 
--- what stands behind the body is held
+-- The bytes after the body are held.
 pub returns-clause-holds : goal.returns-clause-holds
 returns-clause-holds g c = λ bytes told.
     let room = read-room c.copy_held-kept.new.into c.read_at.new.into c.copy_held-kept.result c.min-end.result (within g c) (inside g c) c.read_at.auto.into in
