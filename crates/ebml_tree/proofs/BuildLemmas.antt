@@ -20,7 +20,7 @@ use Rattle.ebml_tree.specs.Building.{IsBuilt, IsRead, IsInPlace}
 
 -- ---- no child
 
--- no octets are no children
+-- An empty body has no children.
 empty-tree : (id offset : ℕ) → tree_of id offset [] 0 1 ≡ Ok (master id offset none)
 empty-tree id offset = ap (λ r. and_then r (as_root id offset)) (grove-end (deepest - 1) (1 - 1) id 0)
 
@@ -30,17 +30,17 @@ empty-built id at deep t is =
     let same : t ≡ master id at none = cc in
     record { is = same; stand = tt; shallow = omega arith; short = λ long. omega (arith, long) }
 
--- nothing is built yet
+-- At first there are no children.
 pub built-none : (id at at' deep : ℕ) (t : Node) → at ≡ at' → ((d : ℕ) → IsBuilt id at d [] t) → IsBuilt id at' deep [] t
 built-none id at at' deep t same built = let P : ℕ → Type 0 = λ a. IsBuilt id a deep [] t in subst P same (built deep)
 
--- ---- one child more
+-- ---- one more child
 
 stand-push : (id : ℕ) (ns : List Node) (n : Node) → AllStandIn id (nodes_of ns) → StandsIn id n → AllStandIn id (nodes_of (ns ++ n ∷ []))
 stand-push id [] n stand one = (one, tt)
 stand-push id (m ∷ ns) n stand one = (stand.0, stand-push id ns n stand.1 one)
 
--- A child is put behind the others: what a call that may refuse it answers where it is taken.
+-- The tree `new` is `old` with `child` appended, and isn't too long.
 pub record IsPut (old child new : Node) : Type 0 where
   pub grown : new ≡ with_children old (children old ++ child ∷ [])
   pub short : AreTooLong (children old ++ child ∷ []) → ⊥
@@ -59,7 +59,7 @@ built-push id at deep ns old child new built put stands low =
 pub built-master : (id at deep : ℕ) (ns : List Node) (t : Node) → IsBuilt id at deep ns t → IsMaster t
 built-master id at deep ns t built = let P : Node → Type 0 = IsMaster in subst P (sym built.is) refl
 
--- what is built of a master's children takes its place
+-- A master with new children replaces the old one.
 pub built-with : (n t : Node) (deep : ℕ) (ns : List Node) → IsMaster n → IsBuilt (id_of n) (offset_of n) deep ns t → t ≡ with_children n ns
 built-with (leaf id at body) t deep ns is built = absurd (cc)
 built-with (master id at kids) t deep ns is built = built.is
@@ -71,7 +71,7 @@ child-of own tree n ns i read are inside is =
     let P : ℕ → Type 0 = λ p. StandsIn p n in
     subst P read.id (child-stands tree n ns i read.sound are inside is)
 
--- a master stands where the table has it
+-- A valid child whose ID is a master's was read as a valid master.
 pub stands-read : (parent own : ℕ) (n : Node) → is_master_in parent own ≡ true → StandsIn parent n → id_of n ≡ own → IsRead own n
 stands-read parent own (leaf id at body) has stands is =
     let never : true ≡ false = sym has ∙ ap (is_master_in parent) (sym is) ∙ stands.no_master in
@@ -97,7 +97,7 @@ built-in_place parent own at (master id at' kids) t ks ns has read are built =
     let P : Node → Type 0 = IsInPlace parent (master id at' kids) in
     subst P (sym built.is) (record { stands = (has, built.stand); shallow = omega arith })
 
--- ---- what is written of one child more
+-- ---- the written bytes of one more child
 
 take-step : (xs : List Node) (i : ℕ) (x : Node) → i < length xs → x ≡ get_or xs i x → take (i + 1) xs ≡ take i xs ++ x ∷ []
 take-step xs i x inside is = rw add-one (take-suc xs i x inside ∙ ap (λ y. take i xs ++ y ∷ []) (sym is))
@@ -132,7 +132,7 @@ pub some-of : (o : Option Node) (P : Node → Type 0) (t : Node) → IfSome o P 
 some-of None P t has is = absurd (cc)
 some-of (Some u) P t has is = let same : u ≡ t = cc in subst P same has
 
--- what is written of a child is added, or there is nothing
+-- The tree that a child becomes is appended, or there is none.
 module _ (own at i : ℕ) (xs : List Node) (x old : Node) (inside : i < length xs) (is : x ≡ get_or xs i x) (f : Node → List Node) (o : Option Node)
     (built : IsBuilt own at (depth_all (nodes_of xs)) (flat_map f (take i xs)) old) (exact : option_to_list o ≡ f x) where
   pub step-some : (m new final : Node) → IfSome o (IsInPlace own x) → o ≡ Some m → IsPut old m new → final ≡ new
@@ -146,20 +146,20 @@ module _ (own at i : ℕ) (xs : List Node) (x old : Node) (inside : i < length x
       let P : Node → Type 0 = IsBuilt own at (depth_all (nodes_of xs)) (flat_map f (take (i + 1) xs)) in
       subst P (sym last) (flat-none own at i xs x old inside is f built (sym exact ∙ ap option_to_list lacks))
 
--- ---- what a push answers
+-- ---- the result of `push`
 
 module _ (old child new : Node) (u : Unit {0}) where
-  -- it was taken
+  -- A push that succeeds has appended the child.
   pub put-is : new ≡ with_children old (children old ++ child ∷ []) → (AreTooLong (children old ++ child ∷ []) → IsErr {T = Unit {0}} {E = AllocError} (Ok u)) → IsPut old child new
   put-is ok full = record { grown = ok; short = λ long. (let never = full long in absurd (cc)) }
 
--- a leaf more
+-- One more leaf.
 pub built-leaf : (id at deep own : ℕ) (ns : List Node) (body : List ℕ) (old child new : Node) → IsBuilt id at deep ns old → IsPut old child new → child ≡ leaf own 0 body → StandsIn id child → IsBuilt id at deep (ns ++ leaf own 0 body ∷ []) new
 built-leaf id at deep own ns body old child new built put is stands =
     let P : Node → Type 0 = λ c. IsBuilt id at deep (ns ++ c ∷ []) new in
     subst P is (built-push id at deep ns old child new built put stands (omega (arith, ap depth is)))
 
--- it keeps the limits of what is read again
+-- The tree keeps the limits for reading it back.
 pub built-limits : (id at deep : ℕ) (ns : List Node) (t : Node) → IsBuilt id at deep ns t → deep < deepest → KeepsLimits t
 built-limits id at deep ns t built low =
     let shallow = built.shallow in

@@ -1,4 +1,4 @@
--- Trees of an ID are taken out of a list in one pass.
+-- The trees with an ID are removed from a list in one pass.
 use Rattle.std.proofs.Common.{◌≡◌, ◌≤◌, ◌<◌, ◌⊎◌, inl, inr, ℕ, ◌+◌, ◌==◌, not, cond, Bool, true, false, List, [], ◌∷◌, ◌++◌, length, position, None, take, drop, get_or, set, swap, sym, ap, ap₂, ◌∙◌, arith, append_assoc}
 use Rattle.std.proofs.lemmas.List.{take-set, take-set-le, take_more_set, drop-set-lt, length-set}
 use Rattle.std.proofs.lemmas.List.Edits.{length-swap, swap_is}
@@ -6,20 +6,19 @@ use Rattle.tree_format.specs.Node.{Node, id_of}
 use Rattle.tree_format.specs.Changes.{without, HasChild}
 use Rattle.ebml_tree.proofs.LoopLemmas.{next-is}
 
--- The trees before `from` stay. Of those from there to k, the ones of other IDs stand before `kept`,
--- and what is behind k is as it was.
+-- The trees before `from` stay. The trees with another ID between `from` and `k` are before `kept`, and the trees from `k` on are unchanged.
 pub record Compacted (id from kept k : ℕ) (old now : List Node) : Type 0 where
   pub after : from ≤ kept
   pub before : kept ≤ k
   pub long : length now ≡ length old
   pub same : take kept now ++ without id (drop k now) ≡ take from old ++ without id (drop from old)
 
--- ---- one tree more
+-- ---- one more tree
 
 le-cases : (i j : ℕ) → i ≤ j → (i ≡ j) ⊎ (i < j)
 le-cases i j le = grind arith
 
--- after the tree at k took the place at `kept`, it stands behind those before that place
+-- After the tree at `k` moved to `kept`, it follows the trees before `kept`.
 take-swap : (ns : List Node) (kept k : ℕ) (n : Node) → kept ≤ k → k < length ns → n ≡ get_or ns k n → take (kept + 1) (swap ns kept k) ≡ take kept ns ++ n ∷ []
 take-swap ns kept k n before inside is = ap (take (kept + 1)) (sym made) ∙ split (le-cases kept k before)
   where
@@ -36,21 +35,21 @@ take-swap ns kept k n before inside is = ap (take (kept + 1)) (sym made) ∙ spl
         ∙ take_more_set ns kept (get_or ns k n) (omega arith)
         ∙ ap (λ m. take kept ns ++ m ∷ []) (sym is)
 
--- what is behind k is as it was
+-- The trees after `k` are unchanged.
 drop-swap : (ns : List Node) (kept k : ℕ) (n : Node) → kept ≤ k → k < length ns → drop (k + 1) (swap ns kept k) ≡ drop (k + 1) ns
 drop-swap ns kept k n before inside =
     ap (drop (k + 1)) (sym (swap_is ns kept k n (omega arith) inside))
     ∙ drop-set-lt (k + 1) (set ns kept (get_or ns k n)) k (get_or ns kept n) (omega arith)
     ∙ drop-set-lt (k + 1) ns kept (get_or ns k n) (omega arith)
 
--- the trees of other IDs from k on
+-- The trees with another ID from `k` on.
 without-next : (id k : ℕ) (ns : List Node) (n : Node) (is_id : Bool) → k < length ns → n ≡ get_or ns k n → (id_of n == id) ≡ is_id
     → without id (drop k ns) ≡ cond (not is_id) (n ∷ without id (drop (k + 1) ns)) (without id (drop (k + 1) ns))
 without-next id k ns n is_id inside is tells =
     ap (without id) (next-is k ns n inside is) ∙ ap (λ b. cond (not b) (n ∷ without id (drop (k + 1) ns)) (without id (drop (k + 1) ns))) tells
 
 module _ (id from kept k : ℕ) (old now : List Node) (n : Node) (so_far : Compacted id from kept k old now) (inside : k < length now) (is : n ≡ get_or now k n) where
-  -- one of another ID is kept
+  -- A tree with another ID is kept.
   pub compact-other : (id_of n == id) ≡ false → Compacted id from (kept + 1) (k + 1) old (swap now kept k)
   compact-other other =
       let after = so_far.after in
@@ -66,7 +65,7 @@ module _ (id from kept k : ℕ) (old now : List Node) (n : Node) (so_far : Compa
             ∙ so_far.same;
       }
 
-  -- one of the ID is passed by
+  -- A tree with the ID is skipped.
   pub compact-same : (id_of n == id) ≡ true → Compacted id from kept (k + 1) old now
   compact-same same =
       let before = so_far.before in
@@ -77,9 +76,9 @@ module _ (id from kept k : ℕ) (old now : List Node) (n : Node) (so_far : Compa
         same = ap (λ l. take kept now ++ l) (sym (without-next id k now n true inside is same)) ∙ so_far.same;
       }
 
--- ---- a child of an ID
+-- ---- a child with an ID
 
--- what isn't found isn't there
+-- If none is found, there is none.
 pub none-found : (id own : ℕ) (found all : List Node) → None ≡ position (λ n. id_of n == id) found → found ≡ all → id ≡ own → HasChild own all → ⊥
 none-found id own found all none same is has =
     let no : None ≡ position (λ n. id_of n == own) all = none ∙ ap₂ (λ i l. position (λ n. id_of n == i) l) is same in

@@ -1,4 +1,4 @@
--- A tree's fields, seen as the tree of the definitions.
+-- A tree's fields as a tree of the definitions.
 use Rattle.std.proofs.Common.{◌≡◌, ◌≤◌, ◌<◌, ℕ, ◌+◌, List, [], ◌∷◌, ◌++◌, length, flat_map, true, false, refl, sym, ap, ap₂, append_assoc, ◌∙◌, arith}
 use Rattle.tree_format.specs.Node.{Node, leaf, master, nodes_of, id_of, children, with_children, body_of, depth, depth_all, deepest, HasRoom, IsMaster, is_leaf}
 use Rattle.tree_format.specs.NormalForm.{octets, content, header_octets, kept_octets, is_filler, longest}
@@ -14,7 +14,7 @@ use Rattle.ebml_tree.specs.declared.tree.content.Content.{Content}
 use Rattle.ebml_tree.specs.declared.tree.content.Content.TheVariants.{Body, Children}
 use Rattle.ebml_tree.specs.View.{node_of, kids_of, content_of, depth_of, octets_in, Measured, IsKids, HasKids, IsSame}
 
--- ---- what the fields show
+-- ---- the tree that the fields show
 
 pub view_kids : (c : Content) (id at : ℕ) (n : Node) → node_of id at c ≡ n → children n ≡ kids_of c
 view_kids (Body b) id at n is = rw (← is) refl
@@ -36,7 +36,7 @@ pub view_content : (c : Content) (id at : ℕ) (n : Node) → node_of id at c �
 view_content (Body b) id at n is = rw (← is) refl
 view_content (Children v) id at n is = rw (← is) (octets_all-flat v.items)
 
--- a tree that isn't too deep has room for its children
+-- A tree that isn't nested too deep has room for its children.
 pub view_low : (c : Content) (depth' : ℕ) → depth' ≡ depth_of c → depth' ≤ deepest → depth_all (nodes_of (kids_of c)) < deepest
 view_low (Body b) depth' is low = omega arith
 view_low (Children v) depth' is low = omega arith
@@ -45,7 +45,7 @@ pub view_octets : (c : Content) (id at : ℕ) (n : Node) → node_of id at c ≡
 view_octets (Body b) id at n is = rw (← is) refl
 view_octets (Children v) id at n is = rw (← is) (ap (kept_octets id) (octets_all-flat v.items))
 
--- what holds of the fields is that a tree keeps its limits
+-- A tree whose fields are measured keeps its limits.
 pub view_limits : (id at written depth' : ℕ) (c : Content) (n : Node) → node_of id at c ≡ n → Measured id written depth' c → KeepsLimits n
 view_limits id at written depth' c n is measured =
     let exact = measured.exact in
@@ -54,7 +54,7 @@ view_limits id at written depth' c n is measured =
     let low = measured.not_too_deep in
     record { long = rw (view_content c id at n is) (omega arith); deep = rw (view_depth c id at n is) (omega arith) }
 
--- children that aren't too many or too deep make such a tree
+-- Children that aren't too long or too deep make such a tree.
 pub limits-master : (id at sum : ℕ) (own ns : List Node) → own ≡ ns → (sum ≡ length (flat_map octets own)) × (sum ≤ longest) → depth_all (nodes_of ns) < deepest → KeepsLimits (master id at (nodes_of ns))
 limits-master id at sum own ns is long low =
     let exact = long.0 in
@@ -65,7 +65,7 @@ pub master_kids : (c : Content) (id at : ℕ) (n : Node) → node_of id at c ≡
 master_kids (Body b) id at n is kids = let never : true ≡ false = ap is_leaf is ∙ kids in absurd (cc)
 master_kids (Children v) id at n is kids = tt
 
--- ---- what they show after a change
+-- ---- the tree that they show after a change
 
 pub view_has : (c d : Content) (id at : ℕ) (n : Node) (ns : List Node) → node_of id at c ≡ n → IsMaster n → HasKids d ns → node_of id at d ≡ with_children n ns
 view_has c (Body b) id at n ns is kids has = absurd has
@@ -85,7 +85,7 @@ pub sound-removed : (c d : Content) (id at k : ℕ) (n : Node) → node_of id at
 sound-removed c d id at k n is kids has sound =
     rw (view_has c d id at n (without k (kids_of c)) is kids has, ← view_kids c id at n is) (sound-remove n k kids sound)
 
--- a sound tree whose fields keep the limits is read again
+-- A valid tree whose fields keep the limits is read back.
 pub again-view : (id at written depth' : ℕ) (c : Content) (n : Node) (nodes : ℕ) → node_of id at c ≡ n → Measured id written depth' c → IsMaster n → IsSound n → kept_of n ≤ nodes → IsReadAgain nodes n
 again-view id at written depth' c n nodes is measured m sound few = sound-again n nodes m sound (view_limits id at written depth' c n is measured) few
 
@@ -127,7 +127,7 @@ same_depth (Body b) (Children w) same = absurd same
 same_depth (Children v) (Body b) same = absurd same
 same_depth (Children v) (Children w) same = ap (λ l. depth_all (nodes_of l) + 1) (sym same)
 
--- a header and what is behind it are the whole of an Element that isn't left out
+-- A header, then the content, is the whole of an Element that isn't left out.
 pub written-whole : (c : Content) (id at : ℕ) (n : Node) (before start out : List ℕ) (written : ℕ) (trees : List Node) → node_of id at c ≡ n → is_filler id ≡ false → content_of c ≡ flat_map octets trees → written ≡ length (content_of c)
     → start ≡ before ++ header_octets id written → out ≡ start ++ flat_map octets trees → out ≡ before ++ octets n
 written-whole c id at n before start out written trees is keeps inside exact header behind =
@@ -135,10 +135,10 @@ written-whole c id at n before start out written trees is keeps inside exact hea
     behind ∙ ap (λ l. l ++ flat_map octets trees) header ∙ append_assoc before (header_octets id written) (flat_map octets trees)
     ∙ ap (λ l. before ++ l) (ap₂ (λ k l. header_octets id k ++ l) exact (sym inside) ∙ sym element)
 
--- ---- read again after a change
+-- ---- reading back after a change
 
 module _ (c d : Content) (id at : ℕ) (n : Node) (is : node_of id at c ≡ n) (m : IsMaster n) (sound : IsSound n) where
-  -- with other children that stand here
+  -- With other valid children.
   pub again-has : (ns : List Node) (nodes : ℕ) → HasKids d ns → length (flat_map octets ns) ≤ longest → depth_all (nodes_of ns) < deepest → IsSound (with_children n ns) → kept_of (node_of id at d) ≤ nodes → IsReadAgain nodes (node_of id at d)
   again-has ns nodes has long low stands few =
       let same = view_has c d id at n ns is m has in
@@ -179,7 +179,7 @@ module _ (c d : Content) (id at : ℕ) (n : Node) (is : node_of id at c ≡ n) (
       (omega (arith, deep-without key (kids_of c), depth_kids c (master_kids c id at n is m)))
       (rw (← view_kids c id at n is) (sound-remove n key m sound)) few
 
-  -- with the same children
+  -- With the same children.
   pub again-kept : (written' depth' nodes : ℕ) → Measured id written' depth' c → HasKids d (kids_of c) → kept_of (node_of id at d) ≤ nodes → IsReadAgain nodes (node_of id at d)
   again-kept written' depth' nodes measured has few =
       let same = kept c d id at n is m has in

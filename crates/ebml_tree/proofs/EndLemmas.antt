@@ -1,4 +1,4 @@
--- What follows from a refusal, and from an ID.
+-- Laws on refusals, and on IDs.
 use Rattle.std.proofs.Common.{◌≡◌, ◌≢◌, ℕ, ◌==◌, ◌||◌, Bool, true, false, List, [], ◌∷◌, length, Option, Some, None, IsSome, IsTrue, Result, Ok, Err, IfOk, refl, arith}
 use Rattle.std.proofs.lemmas.Bool.Decides.{nat_tests}
 use Rattle.ebml_numbers.specs.Number.{is_id, is_written_id}
@@ -13,17 +13,17 @@ use Rattle.ebml_tree.specs.declared.end.TreeEnd.{TreeEnd}
 use Rattle.ebml_tree.specs.declared.end.TreeEnd.TheVariants.{Damage, Memory}
 use Rattle.ebml_tree.specs.Outcome.{Refuses, ReadsTree}
 
--- A refusal is passed on where the damage is that of the whole.
+-- A refusal is passed on if the damage of a part is the damage of the whole.
 pub refuses-pass : {A B : Type 0} (end : TreeEnd) (part : Result A Harm) (whole : Result B Harm) → ((d : Harm) → part ≡ Err d → whole ≡ Err d) → Refuses end part → Refuses end whole
 refuses-pass (Damage d) part whole pass refuses = pass d refuses
 refuses-pass Memory part whole pass refuses = tt
 
--- what holds of each tree that the definition has holds of the answer
+-- A property of each tree of the definition holds for the result.
 pub reads-holds : (P : Node → Type 0) (result : Result Node TreeEnd) (read : Result Node Harm) → ReadsTree result read → ((n : Node) → read ≡ Ok n → P n) → IfOk result P
 reads-holds P (Ok n) read reads holds = holds n reads
 reads-holds P (Err end) read reads holds = tt
 
--- the same, where something more is known of the answer
+-- The same with another property of the result.
 pub reads-holds_with : (P Q : Node → Type 0) (result : Result Node TreeEnd) (read : Result Node Harm) → ReadsTree result read → IfOk result Q → ((n : Node) → read ≡ Ok n → Q n → P n) → IfOk result P
 reads-holds_with P Q (Ok n) read reads known holds = holds n reads known
 reads-holds_with P Q (Err end) read reads known holds = tt
@@ -32,7 +32,7 @@ pub none-from_length : (l : List ℕ) → length l ≡ 0 → l ≡ []
 none-from_length [] is = refl
 none-from_length (x ∷ l) is = absurd (omega arith)
 
--- a master's ID can be written
+-- A master's ID can be written.
 pub is_written_id-is_master : (id : ℕ) → IsTrue (is_master id) → is_written_id id ≡ true
 is_written_id-is_master id is = split (id == CHAPTER_DISPLAY) refl
   where

@@ -1,4 +1,4 @@
--- A leaf that is made stands where the table has its ID.
+-- A new leaf is valid under a parent if the table has its ID there.
 use Rattle.std.proofs.Common.{◌≡◌, ◌⊎◌, inl, inr, ◌<◌, ◌^◌, ℕ, suc, ◌+◌, ◌==◌, nat_le, Bool, true, false, not, cond, List, [], ◌∷◌, length, take, get_or, Option, Some, None, Result, Ok, Err, IfOk, refl, sym, ap, subst, ◌∙◌, arith}
 use Rattle.std.specs.declared.alloc.AllocError.{AllocError}
 use Rattle.std.specs.Option.{option_map, option_map_or}
@@ -20,7 +20,7 @@ use Rattle.tree_format.specs.Standing.{StandsIn}
 use Rattle.tree_format.specs.Children.{uint_leaf}
 use Rattle.ebml_tree.specs.Leaves.{IsUintIn, IsTextIn}
 
--- an ID of another kind is no master's
+-- An ID with another kind isn't a master's.
 no-master : (id : ℕ) (kind : ElementKind) → kind_of id ≡ Some kind → is_master_kind kind ≡ false → is_master id ≡ false
 no-master id kind is other = of (entry_of id) is
   where
@@ -36,7 +36,7 @@ leaf-stands parent id kind body valid stands is other value = record {
   value = rw (stands, is) value;
 }
 
--- ---- an integer of 64 bits has at most eight octets
+-- ---- an integer of 64 bits has at most eight bytes
 
 pub uint-stands : (parent id value : ℕ) → IsUintIn parent id → value < 2 ^ 64 → StandsIn parent (uint_leaf id value)
 uint-stands parent id value is small =
@@ -44,7 +44,7 @@ uint-stands parent id value is small =
     let long = length-uint_octets value in
     leaf-stands parent id Uint (uint_octets value) is.valid is.known.stands is.known.kind refl (grind (arith, nat_tests))
 
--- ---- a text up to its first zero octet is a text
+-- ---- a text up to its first zero byte is a text
 
 zero-at : (bs : List ℕ) → prefix_len (λ b. not (b == 0)) bs < length bs → get_or bs (prefix_len (λ b. not (b == 0)) bs) 0 < 128
 zero-at [] inside = absurd (omega arith)
@@ -77,7 +77,7 @@ text-stands parent id text is whole = of is.kind
     of (inl ascii) = leaf-stands parent id Ascii text is.valid is.stands ascii refl (text-utf8 text whole)
     of (inr utf8) = leaf-stands parent id Utf8 text is.valid is.stands utf8 refl (text-utf8 text whole)
 
--- the leaf that a call made, where it did
+-- The leaf that a call made is valid.
 pub text-made : (r : Result Node AllocError) (id : ℕ) (bytes text : List ℕ) → IfOk r (λ tree. tree ≡ leaf id 0 bytes) → bytes ≡ text → IsUtf8 text → (parent : ℕ) → IsTextIn parent id → IfOk r (StandsIn parent)
 text-made (Ok tree) id bytes text made same whole parent is = subst (StandsIn parent) (sym (made ∙ ap (leaf id 0) same)) (text-stands parent id text is whole)
 text-made (Err e) id bytes text made same whole parent is = tt

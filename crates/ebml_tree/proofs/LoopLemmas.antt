@@ -1,4 +1,4 @@
--- Trees, one after the other.
+-- Lists of trees, one tree at a time.
 use Rattle.std.proofs.Common.{◌≡◌, ◌≤◌, ◌<◌, ℕ, ◌+◌, max, List, [], ◌∷◌, ◌++◌, length, flat_map, Bool, true, false, not, cond, ◌==◌, drop, get_or, refl, ap, ◌∙◌, arith, add-one, length-append}
 use Rattle.std.proofs.lemmas.List.{drop_all}
 use Rattle.std.proofs.Math.Seq.{drop-cons}
@@ -7,7 +7,7 @@ use Rattle.tree_format.specs.NormalForm.{octets}
 use Rattle.tree_format.specs.Changes.{without}
 use Rattle.tree_format.proofs.ChangeLemmas.{long-without}
 
--- what is left of a list begins with its next item
+-- The rest of a list begins with its next tree.
 pub next-is : (i : ℕ) (ns : List Node) (n : Node) → i < length ns → n ≡ get_or ns i n → drop i ns ≡ n ∷ drop (i + 1) ns
 next-is i ns n inside is = drop-cons ns i n inside ∙ rw (add-one, ← is) refl
 
@@ -20,7 +20,7 @@ long-next i ns n inside is = ap length (octets-next i ns n inside is) ∙ length
 pub deep-next : (i : ℕ) (ns : List Node) (n : Node) → i < length ns → n ≡ get_or ns i n → depth_all (nodes_of (drop i ns)) ≡ max (depth n) (depth_all (nodes_of (drop (i + 1) ns)))
 deep-next i ns n inside is = ap (λ l. depth_all (nodes_of l)) (next-is i ns n inside is)
 
--- nothing is left at the end
+-- At the end the rest is empty.
 pub octets-none : (i : ℕ) (ns : List Node) → length ns ≤ i → flat_map octets (drop i ns) ≡ []
 octets-none i ns past = ap (flat_map octets) (drop_all i ns past)
 
@@ -32,7 +32,7 @@ deep-none i ns past = ap (λ l. depth_all (nodes_of l)) (drop_all i ns past)
 
 pub ruleset rest = (octets-next, long-next, deep-next, octets-none, long-none, deep-none)
 
--- the items of other IDs that are left
+-- The bytes of the remaining trees with another ID.
 pub others-next : (id i : ℕ) (ns : List Node) (n : Node) → i < length ns → n ≡ get_or ns i n
     → length (flat_map octets (without id (drop i ns))) ≡ cond (id_of n == id) 0 (length (octets n)) + length (flat_map octets (without id (drop (i + 1) ns)))
 others-next id i ns n inside is = ap (λ l. length (flat_map octets (without id l))) (next-is i ns n inside is) ∙ split (id_of n == id)

@@ -1,4 +1,4 @@
--- The texts among the children of a sound master.
+-- Texts among the children of a valid master.
 use Rattle.std.proofs.Common.{◌≡◌, ℕ, Some, inl, inr, sym, subst}
 use Rattle.std.proofs.lemmas.Str.{IsUtf8-from_is_utf8}
 use Rattle.std.specs.Str.{IsUtf8}
@@ -10,11 +10,11 @@ use Rattle.tree_format.specs.Values.{first_child}
 use Rattle.tree_format.proofs.ChildLemmas.{first_child-value}
 use Rattle.ebml_tree.specs.Texts.{HasText}
 
--- a parent is told by its ID
+-- A valid Element has the texts of its ID.
 pub HasText-of : (parent id : ℕ) (n : Node) → IsSoundOf parent n → HasText parent id → HasText (id_of n) id
 HasText-of parent id n is text = let P : ℕ → Type 0 = λ p. HasText p id in subst P (sym is.id) text
 
--- a text is UTF-8
+-- A text is UTF-8.
 pub text-utf8 : (tree n : Node) (id : ℕ) → IsSound tree → HasText (id_of tree) id → first_child id tree ≡ Some n → IsUtf8 (text_of (body_of n))
 text-utf8 tree n id sound text found = elim text.kind [
   | inl is ↦ IsUtf8-from_is_utf8 (text_of (body_of n)) (first_child-value tree n id Ascii sound text.stands is found)

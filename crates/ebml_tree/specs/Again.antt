@@ -1,4 +1,4 @@
--- What is read again of a tree that was built.
+-- Trees that are read back after they are built and written.
 use Rattle.std.specs.Prelude.{◌≡◌, ◌≤◌, ◌<◌, ◌^◌, ℕ, ℤ, List, Result, IfOk, IsErr}
 use Rattle.ebml_numbers.specs.Number.{int_octets, int_of, magnitude, uint_octets}
 use Rattle.mkv_schema.specs.Value.{uint_value}
@@ -6,21 +6,21 @@ use Rattle.tree_format.specs.Node.{IsMaster, Node, body_of, children, id_of}
 use Rattle.tree_format.specs.Changes.{AreTooLong, HasChild, with_child}
 use Rattle.tree_format.specs.Standing.{IsReadAgain, IsSound, StandsIn, kept}
 
--- Octets that were put for a number are that number as a value.
+-- If the bytes encode a number, this number is the value of the leaf.
 abbrev pub HasUint : {E : Type 0} → ℕ → List ℕ → Result Node E → Type 0
 HasUint id octets result = (value : ℕ) → value < 2 ^ 64 → octets ≡ uint_octets value → IfOk result (λ tree. uint_value id (body_of tree) ≡ value)
 
 abbrev pub HasInt : {E : Type 0} → List ℕ → Result Node E → Type 0
 HasInt octets result = (value : ℤ) → magnitude value < 2 ^ 63 → octets ≡ int_octets value → IfOk result (λ tree. int_of (body_of tree) ≡ value)
 
--- What is written of a sound master is read again by whoever reads so many nodes.
+-- The written bytes of a valid master are read back by a reader that allows enough nodes.
 abbrev pub IsReadWhole : Node → Type 0
 IsReadWhole tree = (nodes : ℕ) → IsMaster tree → IsSound tree → kept tree ≤ nodes → IsReadAgain nodes tree
 
--- So it is with one more child, which may stand there.
+-- The same is true of the tree `new`, which has the valid child `child` more than `old`.
 abbrev pub StaysReadable : Node → Node → Node → Type 0
 StaysReadable old child new = (nodes : ℕ) → IsSound old → StandsIn (id_of old) child → kept new ≤ nodes → IsReadAgain nodes new
 
--- A child in another's place is refused only where the children would be too long.
+-- If another child has the ID of `child`, setting it fails only if the children would be too long.
 abbrev pub FailsIfTooLong : {T E : Type 0} → Node → Node → Result T E → Type 0
 FailsIfTooLong old child result = HasChild (id_of child) (children old) → IsErr result → AreTooLong (with_child child (children old))

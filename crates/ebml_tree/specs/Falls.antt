@@ -12,7 +12,7 @@ pub most_below : (ns : List Node) → most (λ n. count n + 1) ns ≤ count_all 
 most_below [] = omega arith
 most_below (n ∷ ns) = omega (arith, most_below ns)
 
--- each child is smaller than its parent
+-- Each child is smaller than its parent.
 pub falls : (id at : ℕ) (c : Content) → max (deep-Content c) 0 ≤ count (node_of id at c)
 falls id at (Body b) = omega arith
 falls id at (Children v) = omega (arith, most_below v.items)

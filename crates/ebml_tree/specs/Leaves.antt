@@ -1,16 +1,16 @@
--- What the table has as leaves under a parent: RFC 9559, section 5 (Matroska Schema).
+-- Leaves that the table allows under a parent: RFC 9559, section 5 (Matroska Schema).
 use Rattle.std.specs.Prelude.{◌≡◌, ◌⊎◌, ℕ, true, Some}
 use Rattle.ebml_numbers.specs.Number.{is_id}
 use Rattle.mkv_schema.specs.Schema.{may_stand, kind_of}
 use Rattle.mkv_schema.specs.declared.kind.ElementKind.TheVariants.{Ascii, Utf8}
 use Rattle.tree_format.specs.Values.{HasUint}
 
--- the table has an unsigned integer of this ID under a parent
+-- The table has `id` as an unsigned integer under `parent`, and `id` is valid.
 pub record IsUintIn (parent id : ℕ) : Type 0 where
   pub valid : is_id id ≡ true
   pub known : HasUint parent id
 
--- the table has a text of this ID under a parent
+-- The table has `id` as a text under `parent`, and `id` is valid.
 pub record IsTextIn (parent id : ℕ) : Type 0 where
   pub valid : is_id id ≡ true
   pub stands : may_stand id parent ≡ true

@@ -1,4 +1,4 @@
--- What the crate's calls answer.
+-- Results of the crate's calls.
 use Rattle.std.specs.Prelude.{◌≡◌, ℕ, List, Result, Ok, Err}
 use Rattle.mkv_io.specs.declared.damage.Damage.{Damage as Harm}
 use Rattle.tree_format.specs.Node.{Node}
@@ -6,17 +6,17 @@ use Rattle.ebml_tree.specs.declared.end.TreeEnd.{TreeEnd}
 use Rattle.ebml_tree.specs.declared.end.TreeEnd.TheVariants.{Damage, Memory}
 use Rattle.tree_format.specs.Reading.{Grove, Grown}
 
--- A refusal is the definition's damage, or there is no memory.
+-- The error is the damage of the definition, or memory ran out.
 abbrev pub Refuses : {A : Type 0} → TreeEnd → Result A Harm → Type 0
 Refuses (Damage damage) read = read ≡ Err damage
 Refuses Memory read = Unit {0}
 
--- An answer is the definition's, a tree or a damage; or there is no memory.
+-- The result is the tree or the damage of the definition, or memory ran out.
 abbrev pub ReadsTree : Result Node TreeEnd → Result Node Harm → Type 0
 ReadsTree (Ok tree) read = read ≡ Ok tree
 ReadsTree (Err end) read = Refuses end read
 
--- The definition reads this tree, or these, and leaves room for so many nodes.
+-- The definition reads this tree, or these trees, and leaves room for `left` nodes.
 abbrev pub GivesTree : Result Grown Harm → ℕ → Node → Type 0
 GivesTree read left tree = read ≡ Ok (record { tree = tree; left = left })
 

@@ -1,4 +1,4 @@
--- What a tree's fields are, as the tree of the definitions.
+-- A tree's fields as a tree of the definitions.
 use Rattle.std.specs.Prelude.{◌≡◌, ◌≤◌, ℕ, ◌+◌, [], true, List, length, flat_map}
 use Rattle.ebml_numbers.specs.Number.{is_written_id}
 use Rattle.tree_format.specs.Node.{Node, leaf, master, nodes_of, depth_all, deepest}
@@ -14,17 +14,17 @@ abbrev pub kids_of : Content → List Node
 kids_of (Body body) = []
 kids_of (Children trees) = trees.items
 
--- the octets behind the header in the normal form
+-- the bytes after the header in the normal form
 abbrev pub content_of : Content → List ℕ
 content_of (Body body) = body.items
 content_of (Children trees) = flat_map octets trees.items
 
--- how many masters stand inside one another
+-- the number of nested masters
 abbrev pub depth_of : Content → ℕ
 depth_of (Body body) = 0
 depth_of (Children trees) = depth_all (nodes_of trees.items) + 1
 
--- The ID can be written; the number of octets behind the header and the depth are known, and keep their limits.
+-- The ID can be written. The number of bytes after the header and the depth are right, and keep their limits.
 pub record Measured (id written' depth' : ℕ) (c : Content) : Type 0 where
   pub id_stands : is_written_id id ≡ true
   pub exact : written' ≡ length (content_of c)
@@ -32,22 +32,22 @@ pub record Measured (id written' depth' : ℕ) (c : Content) : Type 0 where
   pub deep : depth' ≡ depth_of c
   pub not_too_deep : depth' ≤ deepest
 
--- an Element's inside is children, or may have some
+-- The content is children, possibly none.
 abbrev pub IsKids : Content → Type 0
 IsKids (Body body) = ⊥
 IsKids (Children trees) = Unit {0}
 
--- it has just these children
+-- The content is exactly the children `ns`.
 abbrev pub HasKids : Content → List Node → Type 0
 HasKids (Body body) ns = ⊥
 HasKids (Children trees) ns = trees.items ≡ ns
 
--- a leaf's octets
+-- the bytes of a leaf
 abbrev pub octets_in : Content → List ℕ
 octets_in (Body body) = body.items
 octets_in (Children trees) = []
 
--- two insides are the same, as they are seen
+-- Both contents are the same bytes, or the same children.
 abbrev pub IsSame : Content → Content → Type 0
 IsSame (Body a) (Body b) = a.items ≡ b.items
 IsSame (Body a) (Children v) = ⊥

@@ -1,4 +1,4 @@
-//! Why a master isn't read as a tree.
+//! Reasons why a master isn't read as a tree.
 
 ghost use Rattle.std.specs.Prelude.{◌≡◌};
 ghost use Rattle.ebml_tree.specs.declared.end.TreeEnd.TheVariants as tree_end;
@@ -7,13 +7,13 @@ use mkv_io::Damage;
 use std::alloc::{AllocError, AllocFailed};
 use thiserror::Error;
 
-/// Why a master isn't read as a tree.
+/// Reason why a master isn't read as a tree.
 #[derive(Debug, Drop, Error)]
 pub enum TreeEnd {
     /// The master isn't made of valid Elements, or passes a limit.
     #[error("Damage")]
     Damage(Damage),
-    /// There is no memory.
+    /// Memory ran out.
     #[error("Memory")]
     Memory,
 }

@@ -1,8 +1,8 @@
 #![tactic(auto)]
 
-//! Masters that are read whole, as trees: RFC 8794, section 7.7 (Master Element). A tree is read from
-//! a master's octets, changed, and written in the normal form: headers as short as they can be, Void
-//! and CRC-32 left out, other octets as they are.
+//! Masters that are read whole, as trees: RFC 8794, section 7.7 (Master Element). A tree is read from a master's
+//! bytes, changed, and written in the normal form. In this form headers are as short as possible, Void and CRC-32 are
+//! left out, and other leaves keep their bytes.
 
 mod end;
 mod leaves;

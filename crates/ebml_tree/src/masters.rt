@@ -7,7 +7,8 @@ ghost use Rattle.ebml_tree.specs.Building.{IsBuilt};
 use crate::tree::Tree;
 use std::alloc::{AllocError, Global};
 
-/// A master without children. Its header stands `offset` octets from the start of the file; 0 says that it was made.
+/// Returns a master `id` without children. Its header is at the offset `offset` of the file, or is new if `offset` is
+/// 0.
 pub fn empty(alloc: Global, id: u32, offset: u64) -> Result<Tree, AllocError>
     requires { IsTrue (is_master id) }
     ensures { (deep : ℕ) → IfOk result (IsBuilt id offset deep []) }

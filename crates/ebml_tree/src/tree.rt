@@ -1,4 +1,4 @@
-//! An Element that is held whole, with what is inside.
+//! An Element in memory, with its contents.
 
 ghost use Rattle.std.specs.Prelude.{◌≡◌, ◌≤◌, ◌<◌, ◌+◌, ◌^◌, ◌==◌, ◌++◌, ◌∷◌, [], ℕ, length, find, filter, take, slice_get, OnOk, OnErr, IfOk, IsErr, IfSome, IsTrue, Ok, ℤ};
 ghost use Rattle.std.specs.Option.{option_copied};
@@ -20,17 +20,16 @@ use content::{
 };
 use writing::{LONGEST, element_len, is_filler, write_header};
 
-/// The most masters that stand inside one another.
+/// Maximum number of nested masters.
 pub const DEEPEST: u8 = 32;
 
-/// An Element that is held whole: a leaf with its octets, or a master with its children. No more than 32
-/// masters stand inside one another.
+/// Element in memory: a leaf with its bytes, or a master with its children. At most 32 masters are nested.
 #[cycle(tree)]
 #[derive(Drop)]
 pub struct Tree {
     id: u32,
     offset: u64,
-    // octets that are written behind the header
+    // number of bytes that are written after the header
     written: u64,
     depth: u8,
     content: Content,
@@ -68,14 +67,14 @@ impl Tree {
     ghost use Rattle.ebml_numbers.specs.Number.{is_id, uint_octets, int_of, int_octets, magnitude};
     ghost use Rattle.mkv_schema.specs.Value.{uint_value, text_of};
 
-    /// A leaf with these octets, at the place 0.
+    /// Returns a leaf `id` with the bytes `bytes` and the offset 0.
     #[tactic(auto, using(tree_format::proofs::ValueLemmas::values))]
     pub fn leaf(alloc: Global, id: u32, bytes: &[u8]) -> Result<Tree, AllocError>
         requires { IsTrue (is_id id) }
         ensures exact { IfOk result (λ tree. tree ≡ leaf id 0 bytes.now) }
         ensures full { longest < length bytes.now → IsErr result }
 
-        // A value that is put is read back.
+        // A value that is put into a leaf is read back.
         ensures uint { HasUint id bytes.now result }
         ensures int { HasInt bytes.now result }
         ensures text { HasNoZero bytes.now → IfOk result (λ tree. text_of (body_of tree) ≡ bytes.now) }
@@ -83,7 +82,7 @@ impl Tree {
         Tree::of_body(alloc, id, 0, bytes)
     }
 
-    /// The same tree again, with the same places.
+    /// Returns a copy of the tree, with the same offsets.
     #[tactic(auto, using(crate::proofs::ContentLemmas::copies))]
     pub fn copy(&self, alloc: Global) -> Result<Tree, AllocError>
         ensures { IfOk result (λ copy. copy ≡ self.now) }
@@ -107,21 +106,21 @@ impl Tree {
         })
     }
 
-    /// The Element's ID, with its marker.
+    /// Returns the Element's ID, with its marker.
     pub fn id(&self) -> u32
         ensures { result ≡ id_of self.now }
     {
         self.id
     }
 
-    /// The place of the Element's header, in octets from the start of the file; 0 where the Element was made.
+    /// Returns the offset of the Element's header in the file, or 0 if the Element is new.
     pub fn offset(&self) -> u64
         ensures { result ≡ offset_of self.now }
     {
         self.offset
     }
 
-    /// How many masters stand inside one another, this one counted; 0 of a leaf.
+    /// Returns the number of nested masters, including this one, or 0 for a leaf.
     pub fn depth(&self) -> u8
         ensures exact { result ≡ depth self.now }
         ensures most { result ≤ deepest }
@@ -129,7 +128,7 @@ impl Tree {
         self.depth
     }
 
-    /// The children; a leaf has none.
+    /// Returns the children; a leaf has none.
     #[tactic(auto, using(crate::proofs::ContentLemmas::changes))]
     pub fn children(&self) -> &[Tree]
         ensures exact { result.now ≡ children self.now }
@@ -138,7 +137,7 @@ impl Tree {
         self.content.kids()
     }
 
-    /// The first child of an ID.
+    /// Returns the first child with the ID `id`.
     pub fn child(&self, id: u32) -> Option<&Tree>
         ensures exact { option_copied result ≡ find (λ n. id_of n == id) (children self.now) }
         ensures room { IfSome result (λ tree. HasRoom tree.now) }
@@ -146,7 +145,7 @@ impl Tree {
         first_of(self.children(), id)
     }
 
-    /// The child of an ID, counted from 0 among those of that ID.
+    /// Returns the child number `k` of the children with the ID `id`, counted from 0.
     pub fn nth(&self, id: u32, k: usize) -> Option<&Tree>
         ensures exact { option_copied result ≡ slice_get (filter (λ n. id_of n == id) (children self.now)) k }
         ensures room { IfSome result (λ tree. HasRoom tree.now) }
@@ -154,7 +153,7 @@ impl Tree {
         nth_of(self.children(), id, k)
     }
 
-    /// The child at a place, counted from 0.
+    /// Returns the child number `k`, counted from 0.
     pub fn at(&self, k: usize) -> Option<&Tree>
         ensures exact { option_copied result ≡ slice_get (children self.now) k }
         ensures room { IfSome result (λ tree. HasRoom tree.now) }
@@ -162,7 +161,7 @@ impl Tree {
         tree_at(self.children(), k)
     }
 
-    /// The children themselves, each to be changed in its place; a leaf has none. Takes no memory.
+    /// Returns the children, to be changed in place, without allocating. A leaf has none.
     #[tactic(auto, using(crate::proofs::ContentLemmas::changes))]
     pub fn into_children(self) -> Vec<Tree>
         ensures exact { result.items ≡ children self }
@@ -171,7 +170,7 @@ impl Tree {
         self.content.into_kids()
     }
 
-    /// A leaf's octets; a master has none.
+    /// Returns the bytes of a leaf; a master has none.
     #[tactic(auto, using(crate::proofs::ContentLemmas::changes))]
     pub fn body(&self) -> &[u8]
         ensures { result.now ≡ body_of self.now }
@@ -179,8 +178,8 @@ impl Tree {
         self.content.body()
     }
 
-    /// The value of an unsigned integer (RFC 8794, section 7.2, Unsigned Integer Element): where it is
-    /// empty, the table's default, or 0.
+    /// Returns the value of an unsigned integer (RFC 8794, section 7.2, Unsigned Integer Element). If it is empty,
+    /// returns the table's default, or 0.
     pub fn uint(&self) -> u64
         requires { length (body_of self.now) ≤ 8 }
         ensures { result ≡ uint_value (id_of self.now) (body_of self.now) }
@@ -193,7 +192,7 @@ impl Tree {
         }
     }
 
-    /// The value of a signed integer, 0 where it is empty (RFC 8794, section 7.1, Signed Integer Element).
+    /// Returns the value of a signed integer, or 0 if it is empty (RFC 8794, section 7.1, Signed Integer Element).
     pub fn int(&self) -> i64
         requires { length (body_of self.now) ≤ 8 }
         ensures { result ≡ int_of (body_of self.now) }
@@ -201,7 +200,7 @@ impl Tree {
         read_int(self.body())
     }
 
-    /// A text's octets, up to its first zero octet (RFC 8794, sections 7.4, String Element, and 7.5, UTF-8
+    /// Returns the bytes of a text, up to its first zero byte (RFC 8794, sections 7.4, String Element, and 7.5, UTF-8
     /// Element).
     pub fn text(&self) -> &[u8]
         ensures { result.now ≡ text_of (body_of self.now) }
@@ -209,8 +208,8 @@ impl Tree {
         text_of(self.body())
     }
 
-    /// Puts a child in the place of the first of its ID, and removes the others of that ID; where there is
-    /// none, it comes last. On a refusal the child is dropped.
+    /// Puts `child` in place of the first child with its ID, or at the end if there is none. Removes the other
+    /// children with that ID. On failure `child` is dropped.
     #[tactic(auto, using(crate::proofs::ContentLemmas::changes, tree_format::proofs::StandingLemmas::keeps))]
     pub fn set(&mut self, child: Tree) -> Result<(), AllocError>
         requires master { IsMaster self.old }
@@ -218,13 +217,12 @@ impl Tree {
         ensures ok { OnOk result (self.new ≡ with_children self.old (with_child child (children self.old))) }
         ensures err { OnErr result (self.new ≡ self.old) }
 
-        // It is refused where the children would be too long. In another's place it takes no memory, and
-        // is refused only there.
+        // It fails if the children would be too long. In place of another child it takes no memory, so it fails only
+        // then.
         ensures full { AreTooLong (with_child child (children self.old)) → IsErr result }
         ensures replaced { FailsIfTooLong self.old child result }
 
-        // It stays a master. A child that may stand here keeps it sound, and what `put` writes of it is
-        // read again.
+        // It stays a master. A valid child keeps it valid, and the bytes that `put` writes are read back.
         ensures master { IsMaster self.new }
         ensures sound { IsSound self.old → StandsIn (id_of self.old) child → IsSound self.new }
         ensures again { StaysReadable self.old child self.new }
@@ -240,7 +238,7 @@ impl Tree {
         Ok(())
     }
 
-    /// Adds a child behind the others. On a refusal it is dropped.
+    /// Appends `child` to the children. On failure `child` is dropped.
     #[tactic(auto, using(crate::proofs::ContentLemmas::changes, tree_format::proofs::StandingLemmas::keeps))]
     pub fn push(&mut self, child: Tree) -> Result<(), AllocError>
         requires master { IsMaster self.old }
@@ -249,8 +247,7 @@ impl Tree {
         ensures err { OnErr result (self.new ≡ self.old) }
         ensures full { AreTooLong (children self.old ++ child ∷ []) → IsErr result }
 
-        // It stays a master. A child that may stand here keeps it sound, and what `put` writes of it is
-        // read again.
+        // It stays a master. A valid child keeps it valid, and the bytes that `put` writes are read back.
         ensures master { IsMaster self.new }
         ensures sound { IsSound self.old → StandsIn (id_of self.old) child → IsSound self.new }
         ensures again { StaysReadable self.old child self.new }
@@ -266,13 +263,13 @@ impl Tree {
         Ok(())
     }
 
-    /// Removes every child of an ID. Takes no memory.
+    /// Removes every child with the ID `id`, without allocating.
     #[tactic(auto, using(crate::proofs::ContentLemmas::changes, tree_format::proofs::StandingLemmas::keeps))]
     pub fn remove(&mut self, id: u32)
         requires { IsMaster self.old }
         ensures exact { self.new ≡ with_children self.old (without id (children self.old)) }
 
-        // It stays a master, and sound, and what `put` writes of it is read again.
+        // It stays a master and valid, and the bytes that `put` writes are read back.
         ensures master { IsMaster self.new }
         ensures sound { IsSound self.old → IsSound self.new }
         ensures again { (nodes : ℕ) → IsSound self.old → kept self.new ≤ nodes → IsReadAgain nodes self.new }
@@ -282,29 +279,29 @@ impl Tree {
         self.depth = depth_around(self.content.kids());
     }
 
-    /// How many octets the normal form has.
+    /// Returns the number of bytes of the normal form.
     #[tactic(auto, using(crate::proofs::ContentLemmas::written))]
     pub fn written_len(&self) -> u64
         ensures exact { result ≡ length (octets self.now) }
         ensures most { result < 2 ^ 57 }
 
-        // A body or children are never more octets than a size can tell.
+        // A body, or the children together, never have more bytes than a size can express.
         ensures behind { length (content self.now) ≤ longest }
     {
         element_len(self.id, self.written)
     }
 
-    /// Adds the normal form: headers as short as they can be, Void and CRC-32 left out at every depth,
-    /// and other octets as they are. On a refusal nothing is added.
+    /// Appends the normal form to `out`. Headers are as short as possible, Void and CRC-32 are left out at every
+    /// depth, and other leaves keep their bytes. On failure nothing is appended.
     pub fn put(&self, out: &mut Bytes) -> Result<(), AllocError>
         ensures ok { OnOk result (out.new ≡ out.old ++ octets self.now) }
         ensures err { OnErr result (out.new ≡ out.old) }
 
-        // It is the header and what is behind it, or nothing of a Void or a CRC-32.
+        // The bytes are the header and the content, or nothing for a Void or a CRC-32.
         ensures header { octets self.now ≡ kept_octets (id_of self.now) (content self.now) }
 
-        // A sound master is read again from what is written behind its header, with a limit on nodes and
-        // without. Its new places, and what was left out, are nothing to what is written.
+        // The bytes after a valid master's header are read back, with a limit on nodes and without. New offsets, and
+        // Elements that are left out, don't change the written bytes.
         ensures again { IsReadWhole self.now }
         ensures free { IsMaster self.now → IsSound self.now → IsReadWithoutLimits self.now }
         ensures stable { (offset base : ℕ) → octets (placed_in offset base self.now) ≡ octets self.now }
@@ -319,7 +316,7 @@ impl Tree {
         done
     }
 
-    // Adds the normal form; on a refusal, what was there before still stands in front.
+    // Appends the normal form to `out`. On failure `out` begins with the bytes that it had.
     #[tactic(auto, using(crate::proofs::ContentLemmas::written))]
     fn write(&self, out: &mut Vec<u8>) -> Result<(), AllocError>
         ensures ok { OnOk result (out.new.items ≡ out.old.items ++ octets self.now) }

@@ -12,7 +12,7 @@ ghost use Rattle.ebml_tree.specs.Texts.{HasText};
 use crate::tree::Tree;
 use mkv_schema::{text_default, uint_default};
 
-/// The unsigned integer of an ID, where it stands.
+/// Returns the unsigned integer `id` among the children, if there is one.
 pub fn integer_in(tree: &Tree, id: u32) -> Option<u64>
     requires sound { IsSound tree.now }
     requires uint { HasUint (id_of tree.now) id }
@@ -22,7 +22,7 @@ pub fn integer_in(tree: &Tree, id: u32) -> Option<u64>
     Some(child.uint())
 }
 
-/// The same, or the table's default, or 0.
+/// Returns the same, or the table's default, or 0.
 pub fn uint_in(tree: &Tree, id: u32) -> u64
     requires sound { IsSound tree.now }
     requires uint { HasUint (id_of tree.now) id }
@@ -34,7 +34,7 @@ pub fn uint_in(tree: &Tree, id: u32) -> u64
     }
 }
 
-/// The text of an ID up to its first zero octet, or the table's default.
+/// Returns the text `id` among the children, up to its first zero byte, or the table's default.
 pub fn text_in<'a>(tree: &'a Tree, id: u32) -> Option<&'a str>
     requires sound { IsSound tree.now }
     requires text { HasText (id_of tree.now) id }
@@ -46,7 +46,7 @@ pub fn text_in<'a>(tree: &'a Tree, id: u32) -> Option<&'a str>
     }
 }
 
-/// A text up to its first zero octet.
+/// Returns a text, up to its first zero byte.
 pub fn text_of(leaf: &Tree) -> &str
     requires { IsUtf8 (text_of (body_of leaf.now)) }
     ensures { result.now ≡ text_of (body_of leaf.now) }

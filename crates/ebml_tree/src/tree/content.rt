@@ -1,4 +1,4 @@
-//! What is inside an Element.
+//! The contents of an Element.
 
 ghost use Rattle.std.specs.Prelude.{◌≡◌, ◌≤◌, ◌<◌, ◌+◌, ◌==◌, ◌++◌, ◌∷◌, [], length, slice_get, find, flat_map, filter, take, drop, position, OnOk, OnErr, MatchOption, IsOk, Some};
 ghost use Rattle.std.specs.Option.{option_copied};
@@ -10,7 +10,7 @@ use crate::tree::Tree;
 use crate::tree::writing::LONGEST;
 use std::alloc::{AllocError, Global};
 
-// A leaf's octets, or a master's children.
+// Bytes of a leaf, or children of a master.
 #[cycle(tree)]
 #[derive(Drop)]
 pub(super) enum Content {
@@ -92,7 +92,7 @@ impl Content {
     }
 }
 
-// Replaces the first of the child's ID and removes the others, or adds the child.
+// Replaces the first tree with the child's ID and removes the others, or appends the child.
 fn set_in(trees: &mut Vec<Tree>, child: Tree) -> Result<(), AllocError>
     ensures ok { OnOk result (trees.new.items ≡ with_child child trees.old.items) }
     ensures err { OnErr result (trees.new.items ≡ trees.old.items) }
@@ -126,7 +126,7 @@ fn put_at(trees: &mut Vec<Tree>, k: usize, child: Tree)
     remove_from(trees, k + 1, id);
 }
 
-// Removes those of an ID that stand at this place or behind it.
+// Removes the trees with the ID `id` from the place `from` on.
 fn remove_from(trees: &mut Vec<Tree>, from: usize, id: u32)
     requires { from ≤ length trees.old.items }
     ensures { trees.new.items ≡ take from trees.old.items ++ without id (drop from trees.old.items) }
@@ -147,7 +147,7 @@ fn remove_all(trees: &mut Vec<Tree>, id: u32)
     trees.retain(|tree| tree.id() != id);
 }
 
-// How many octets trees take that are written one behind the other.
+// Returns the number of bytes of the trees in the normal form.
 #[tactic(auto, using(crate::proofs::LoopLemmas::rest))]
 pub(super) fn written_together(trees: &[Tree]) -> u64
     requires { length (flat_map octets trees.now) ≤ longest }
@@ -160,7 +160,7 @@ pub(super) fn written_together(trees: &[Tree]) -> u64
     sum
 }
 
-// The same of those of every other ID.
+// Returns the same for the trees with another ID than `id`.
 #[tactic(auto, using(crate::proofs::LoopLemmas::others))]
 pub(super) fn written_without(id: u32, trees: &[Tree]) -> u64
     requires { length (flat_map octets trees.now) ≤ longest }
@@ -175,7 +175,7 @@ pub(super) fn written_without(id: u32, trees: &[Tree]) -> u64
     sum
 }
 
-// How many octets trees take that are written one behind the other, None where they are too many for a body.
+// Returns the number of bytes of the trees in the normal form, or None if a body can't have that many.
 #[tactic(auto, using(crate::proofs::LoopLemmas::rest))]
 pub(super) fn written_within(trees: &[Tree]) -> Option<u64>
     ensures { MatchOption result (Unit {0}) (λ sum. (sum ≡ length (flat_map octets trees.now)) × (sum ≤ longest)) }
@@ -190,7 +190,7 @@ pub(super) fn written_within(trees: &[Tree]) -> Option<u64>
     Some(sum)
 }
 
-// How many masters stand inside one another where one is around these.
+// Returns the number of nested masters of a master around the trees.
 #[tactic(auto, using(crate::proofs::LoopLemmas::rest))]
 pub(super) fn depth_around(trees: &[Tree]) -> u8
     requires { depth_all (nodes_of trees.now) < deepest }
@@ -203,7 +203,7 @@ pub(super) fn depth_around(trees: &[Tree]) -> u8
     most + 1
 }
 
-// The first of an ID.
+// Returns the first tree with the ID `id`.
 pub(super) fn first_of(trees: &[Tree], id: u32) -> Option<&Tree>
     ensures { option_copied result ≡ find (λ n. id_of n == id) trees.now }
 {
@@ -216,7 +216,7 @@ pub(super) fn tree_at(trees: &[Tree], k: usize) -> Option<&Tree>
     trees.get(k)
 }
 
-// The child of an ID, counted from 0 among those of that ID.
+// Returns the tree number `k` of the trees with the ID `id`, counted from 0.
 pub(super) fn nth_of(trees: &[Tree], id: u32, k: usize) -> Option<&Tree>
     ensures { option_copied result ≡ slice_get (filter (λ n. id_of n == id) trees.now) k }
 {

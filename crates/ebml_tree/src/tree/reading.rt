@@ -1,4 +1,4 @@
-//! A master's octets, read as trees.
+//! Trees that are read from a master's bytes.
 
 ghost use Rattle.std.specs.Prelude.{◌≡◌, ◌≤◌, ◌<◌, ◌+◌, ◌^◌, ◌==◌, not, ℕ, length, Ok, Err, IfOk, IfErr, IsTrue};
 ghost use Rattle.ebml_numbers.specs.Number.{is_written_id};
@@ -26,11 +26,11 @@ impl Tree {
     ghost use Rattle.tree_format.specs.Reading.{tree_of};
     ghost use Rattle.ebml_tree.specs.Outcome.{ReadsTree};
 
-    /// The tree of a master, read from its body (RFC 8794, section 7.7, Master Element).
+    /// Reads the tree of a master `id` from its body (RFC 8794, section 7.7, Master Element).
     ///
-    /// The header stands at `offset`, the body at `base`, in octets from the start of the file. The master
-    /// and what is inside, Void and CRC-32 too, may be `nodes` Elements, and 32 masters may stand inside one
-    /// another. A damage is the first in the order in which the Elements stand.
+    /// The header is at `offset` and the body at `base`, in bytes from the start of the file. The tree may have
+    /// `nodes` Elements, including the master, Void and CRC-32, and 32 masters may be nested. A damage is the first
+    /// one in the order of the Elements.
     pub fn parse(
         alloc: Global,
         id: u32,
@@ -43,19 +43,18 @@ impl Tree {
         requires places { base + length body.now ≤ 2 ^ 63 }
         ensures exact { ReadsTree result (tree_of id offset body.now base nodes) }
 
-        // It is a master of this ID; what was read stands where the table allows it, and has no more
-        // Elements than are allowed.
+        // The tree is a valid master with this ID, and has at most `nodes` Elements.
         ensures root { IfOk result (λ tree. IsMaster tree × (id_of tree ≡ id)) }
         ensures sound { IfOk result IsSound }
         ensures count { IfOk result (λ tree. count tree ≤ nodes) }
 
-        // What `put` writes of it behind its header is read again as the same tree, at its new places.
+        // The bytes that `put` writes after its header are read back as the same tree, with new offsets.
         ensures again { (more : ℕ) → nodes ≤ more → IfOk result (IsReadAgain more) }
     {
         Tree::read(alloc, id, offset, body, base, nodes)
     }
 
-    // The tree that the definition has.
+    // Returns the tree that the definition gives.
     #[tactic(auto, using(crate::proofs::EndLemmas::masters))]
     fn read(
         alloc: Global,
@@ -78,7 +77,7 @@ impl Tree {
         Tree::of_children(id, offset, trees)
     }
 
-    // A leaf at a place.
+    // Returns a leaf at the offset `offset`.
     pub(super) fn of_body(
         alloc: Global,
         id: u32,
@@ -101,7 +100,7 @@ impl Tree {
         })
     }
 
-    // A master at a place.
+    // Returns a master at the offset `offset`.
     fn of_children(id: u32, offset: u64, trees: Vec<Tree>) -> Result<Tree, TreeEnd>
         requires id { IsTrue (is_written_id id) }
         requires room { depth_all (nodes_of trees.items) < deepest }
@@ -138,7 +137,7 @@ fn is_master_in(parent: u32, id: u32) -> bool
     may_stand(id, parent) && is_master(id)
 }
 
-// An Element with its header and the octets of its body, as a tree.
+// Returns the tree of an Element with the header `header` and its body.
 #[cycle(reading)]
 fn tree_in(
     alloc: Global,
@@ -176,7 +175,7 @@ fn tree_in(
     Ok(Tree::of_body(alloc, header.id, header.offset, body)?)
 }
 
-// The Elements of a body, as trees.
+// Returns the trees of the Elements of a body.
 #[cycle(reading)]
 fn trees_in(
     alloc: Global,
@@ -206,7 +205,7 @@ fn trees_in(
     Ok(trees)
 }
 
-// The header of the Element that the octets begin, which are all that is left of a master.
+// Returns the header of the Element at the start of `rest`, the unread bytes of a master.
 fn front_header(parent: u32, at: u64, rest: &[u8]) -> Result<Header, Damage>
     requires { at + length rest.now ≤ 2 ^ 63 }
     ensures { result ≡ header_at parent at rest.now }
@@ -215,7 +214,7 @@ fn front_header(parent: u32, at: u64, rest: &[u8]) -> Result<Header, Damage>
     read_header(rest, Parent::Tree(parent), end, at, end)
 }
 
-// The same, with the length of its body.
+// Returns the same, with the length of its body.
 fn header_in(parent: u32, at: u64, rest: &[u8]) -> Result<(Header, u64), Damage>
     requires { at + length rest.now ≤ 2 ^ 63 }
     ensures ok { IfOk result (λ found. header_at parent at rest.now ≡ Ok found.0) }
@@ -231,7 +230,7 @@ fn header_in(parent: u32, at: u64, rest: &[u8]) -> Result<(Header, u64), Damage>
     }
 }
 
-// The octets of an Element's body, and those behind the Element.
+// Returns the bytes of the Element's body, and the bytes after the Element.
 fn cut<'a>(rest: &'a [u8], at: u64, header: &Header, size: u64) -> (&'a [u8], &'a [u8])
     requires fits { Fits at (at + length rest.now) header.now }
     requires size { size ≡ known header.now.size }

@@ -1,4 +1,4 @@
--- A text stands where the table has one.
+-- A text is valid under a parent if the table has one there.
 use Rattle.ebml_tree.proofs.LeafLemmas.{text-made}
 use Rattle.ebml_tree.proofs.leaves.text_leaf.Goals as goal
 

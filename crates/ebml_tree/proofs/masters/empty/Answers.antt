@@ -1,4 +1,4 @@
--- No octets are no children.
+-- An empty body has no children.
 use Rattle.ebml_tree.proofs.BuildLemmas.{empty-built}
 use Rattle.ebml_tree.proofs.masters.empty.Goals as goal
 

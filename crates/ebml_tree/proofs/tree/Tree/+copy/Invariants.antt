@@ -1,4 +1,4 @@
--- So many trees are copied as were looked at.
+-- The copies are the trees that were visited.
 use Rattle.std.proofs.Common.{◌≡◌, take}
 use Rattle.ebml_tree.proofs.tree.Tree.+copy.Given as goal
 

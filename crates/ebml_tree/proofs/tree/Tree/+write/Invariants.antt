@@ -1,4 +1,4 @@
--- What is written, with what is left, is the whole; and what was there before stands in front.
+-- The written bytes and the remaining ones are the whole, after the bytes that were there before.
 use Rattle.std.proofs.Common.{◌≡◌, ◌++◌, length, flat_map, take, drop}
 use Rattle.tree_format.specs.NormalForm.{octets}
 use Rattle.ebml_tree.proofs.tree.Tree.+write.Given as goal

@@ -1,4 +1,4 @@
--- A tree isn't too deep, so its children have room.
+-- A tree isn't nested too deep, so its children have room.
 use Rattle.ebml_tree.proofs.ContentLemmas.{view_low}
 use Rattle.ebml_tree.proofs.tree.Tree.children.Goals as goal
 

@@ -1,4 +1,4 @@
--- The leaf has the octets that were put.
+-- The leaf has the bytes that were put.
 use Rattle.std.proofs.Common.{◌≡◌}
 use Rattle.std.proofs.lemmas.Result.{IfOk-weaker}
 use Rattle.ebml_numbers.specs.Number.{int_of}

@@ -1,4 +1,4 @@
--- What was read is the definition's, and keeps the limits.
+-- The tree that was read is the definition's, and keeps the limits.
 use Rattle.std.proofs.Common.{◌≡◌, ◌≤◌, arith}
 use Rattle.ebml_numbers.specs.Number.{AreOctets}
 use Rattle.tree_format.specs.Node.{count, id_of, IsMaster}

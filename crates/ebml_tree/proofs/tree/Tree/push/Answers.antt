@@ -1,4 +1,4 @@
--- A tree that is as it was is read again, and so is a child that may stand here, with the others.
+-- An unchanged tree is read back, and so is a tree with one more valid child.
 use Rattle.ebml_tree.proofs.ContentLemmas.{again-view, again-kept, again-push}
 use Rattle.ebml_tree.proofs.tree.Tree.push.Goals as goal
 

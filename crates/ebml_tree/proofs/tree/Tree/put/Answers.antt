@@ -1,4 +1,4 @@
--- A tree keeps the limits that the law of the normal form asks for.
+-- A tree keeps the limits that the law of the normal form requires.
 use Rattle.tree_format.proofs.AgainLemmas.{sound-again}
 use Rattle.tree_format.proofs.OrderLemmas.{sound-without_limits}
 use Rattle.tree_format.proofs.PlacedLemmas.{octets-placed_in}

@@ -1,4 +1,4 @@
--- The children that stay still stand.
+-- The remaining children are still valid.
 use Rattle.ebml_tree.proofs.ContentLemmas.{has-master, sound-removed, again-remove}
 use Rattle.ebml_tree.proofs.tree.Tree.remove.Goals as goal
 

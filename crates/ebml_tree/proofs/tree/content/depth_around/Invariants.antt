@@ -1,4 +1,4 @@
--- The deepest so far, with what is left, is the deepest of all.
+-- The maximum of the visited trees and the remaining ones is the maximum of all.
 use Rattle.std.proofs.Common.{◌≡◌, max, drop}
 use Rattle.tree_format.specs.Node.{nodes_of, depth_all}
 use Rattle.ebml_tree.proofs.tree.content.depth_around.Given as goal

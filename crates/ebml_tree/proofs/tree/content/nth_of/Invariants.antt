@@ -1,4 +1,4 @@
--- The place among what is left is that among all.
+-- The tree that is sought among the remaining ones is the tree that is sought among all.
 use Rattle.std.proofs.Common.{◌≡◌, ◌==◌, filter, slice_get, drop}
 use Rattle.tree_format.specs.Node.{id_of}
 use Rattle.ebml_tree.proofs.tree.content.nth_of.Given as goal

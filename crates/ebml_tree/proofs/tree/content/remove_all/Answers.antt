@@ -1,4 +1,4 @@
--- The closure tests the ID alone, so what is kept are the trees of other IDs.
+-- The closure only tests the ID, so the kept trees are the trees with another ID.
 use Rattle.std.proofs.Common.{eqb, not, rules}
 use Rattle.std.proofs.lemmas.Fn.{filter_same}
 use Rattle.tree_format.specs.Node.{id_of}

@@ -1,4 +1,4 @@
--- What was looked at has no other of the ID, and what is left is as it was.
+-- The trees with another ID among the visited ones are kept, and the unvisited ones are unchanged.
 use Rattle.ebml_tree.proofs.CompactLemmas.{Compacted}
 use Rattle.ebml_tree.proofs.tree.content.remove_from.Given as goal
 

@@ -1,4 +1,4 @@
--- Where one has the ID, nothing is added, so no memory is wanted.
+-- If a tree has the ID, nothing is appended, so no memory is needed.
 use Rattle.tree_format.specs.Node.{id_of}
 use Rattle.ebml_tree.proofs.CompactLemmas.{none-found}
 use Rattle.ebml_tree.proofs.tree.content.set_in.Goals as goal

@@ -1,4 +1,4 @@
--- The sum, with what is left, is the whole.
+-- The sum and the bytes of the remaining trees are the bytes of all.
 use Rattle.std.proofs.Common.{◌≡◌, ◌+◌, length, flat_map, drop}
 use Rattle.tree_format.specs.NormalForm.{octets}
 use Rattle.ebml_tree.proofs.tree.content.written_together.Given as goal

@@ -1,4 +1,4 @@
--- The sum, with what is left, is the whole, and it is within the limit.
+-- The sum and the bytes of the remaining trees are the bytes of all, and the sum is within the limit.
 use Rattle.std.proofs.Common.{◌≡◌, ◌≤◌, ◌+◌, length, flat_map, drop}
 use Rattle.tree_format.specs.NormalForm.{octets, longest}
 use Rattle.ebml_tree.proofs.tree.content.written_within.Given as goal

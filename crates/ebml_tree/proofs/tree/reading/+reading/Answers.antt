@@ -1,4 +1,4 @@
--- A body is read one Element at a time, and the first damage is that of all.
+-- A body is read one Element at a time, and the first damage is the damage of the whole.
 use Rattle.std.proofs.Common.{◌≡◌, ◌<◌, length, arith}
 use Rattle.std.proofs.lemmas.Result.{err_from_is_err_and}
 use Rattle.std.proofs.lemmas.Bool.Decides.{nat_tests}

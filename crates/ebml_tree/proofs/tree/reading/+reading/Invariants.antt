@@ -1,4 +1,4 @@
--- A master has less room than its parent, and an Element is read from its parent's octets.
+-- A master has less room than its parent, and an Element is read from its parent's bytes.
 use Rattle.std.proofs.Common.{◌+◌, ◌*◌, length}
 use Rattle.tree_format.proofs.ReadingLemmas.{ReadOn}
 use Rattle.ebml_tree.proofs.tree.reading.+reading.Given as goal

@@ -1,4 +1,4 @@
--- What is read is the definition's, so it stands where that says.
+-- The header that was read is the definition's, so it is at the place of the definition.
 use Rattle.std.proofs.Common.{sym, arith}
 use Rattle.ebml_numbers.specs.Number.{AreOctets}
 use Rattle.tree_format.proofs.ReadingLemmas.{header_at-fits, header_at-id, header_at-known}
