@@ -11,17 +11,17 @@ use Rattle.mkv_schema.specs.Value.{body_of, is_known_value, first_of}
 use Rattle.mkv_schema.proofs.ElementsLemmas.{elements-end, elements-more, Advances-known}
 use Rattle.element_reader.specs.EbmlChildren.{children, child_refusal}
 
--- at the body's end there are no more
+-- At the body's end there are no more children.
 children-end : (bytes : List ℕ) (p e : ℕ) → e ≤ p → children bytes p e ≡ ends_at p
 children-end bytes p e past = elements-end (in_tree EBML) never (λ h. Ok (end_in e h)) bytes p e past
 
--- before it, what stands there
+-- Before it, the Element or damage that is found decides.
 children-step : (bytes : List ℕ) (p e : ℕ) (found : Result Header Damage) → p < e → found ≡ element_at (in_tree EBML) bytes p e → children bytes p e ≡ step p (λ h. Ok (end_in e h)) found (λ q. children bytes q e)
 children-step bytes p e found inside is =
     elements-more (in_tree EBML) never (λ h. Ok (end_in e h)) bytes p e (Advances-known (in_tree EBML) bytes e) inside
     ∙ ap (λ (r : Result Header Damage). step p (λ h. Ok (end_in e h)) r (λ q. children bytes q e)) (sym is)
 
--- ---- what refuses them
+-- ---- the damage that refuses them
 
 pub child_refusal-end : (bytes : List ℕ) (p e : ℕ) → e ≤ p → child_refusal bytes (children bytes p e) ≡ None
 child_refusal-end bytes p e past = ap (child_refusal bytes) (children-end bytes p e past)
@@ -37,7 +37,7 @@ pub child_refusal-goes_on : (bytes : List ℕ) (p e : ℕ) (h : Header) → p < 
 child_refusal-goes_on bytes p e h inside is good =
     ap (child_refusal bytes) (children-step bytes p e (Ok h) inside is) ∙ rw good refl
 
--- ---- the first of an ID
+-- ---- the first with an ID
 
 pub first_child-end : (bytes : List ℕ) (id p e : ℕ) → e ≤ p → first_of id (children bytes p e).list ≡ None
 first_child-end bytes id p e past = ap (λ (r : Run). first_of id r.list) (children-end bytes p e past)

@@ -1,4 +1,4 @@
--- What is kept of the Elements of level 1, one more at a time.
+-- The Elements of level 1 that are kept, one more at a time.
 use Rattle.std.proofs.Common.{◌≡◌, ℕ, zero, suc, IfSome, ◌≤◌, ◌+◌, ◌==◌, nat_lt, Bool, true, false, not, ◌&&◌, ◌||◌, if◌then◌else◌, List, [], ◌∷◌, ◌++◌, length, length-append, Option, Some, None, refl, sym, ◌∙◌, ap, arith}
 use Rattle.std.specs.Option.{option_or, is_some}
 use Rattle.std.specs.List.{All, filter, find, last_or, sum_by}
@@ -52,17 +52,17 @@ Keeps-more held list before after h keeps items first last octets =
       octets = omega (arith, more, octets, keeps.octets);
     }
 
--- the first of two, where the second is none
+-- The first of two options is their first if the second is None.
 pub option_or-none : {X : Type 0} (first : Option X) → first ≡ option_or first None
 option_or-none None = refl
 option_or-none (Some x) = refl
 
--- the first of two, where there is a first
+-- The first of two options is their first if it isn't None.
 pub option_or-first : {X : Type 0} (first later : Option X) → is_some first ≡ true → first ≡ option_or first later
 option_or-first None later is = absurd (cc)
 option_or-first (Some x) later is = refl
 
--- the second, where there is no first
+-- The second is their first if the first is None.
 pub option_or-later : {X : Type 0} (first later : Option X) → is_some first ≡ false → later ≡ option_or first later
 option_or-later None later is = refl
 option_or-later (Some x) later is = absurd (cc)
@@ -78,7 +78,7 @@ passes_count-kept held list kept h keeps = by_id (not (h.id == CLUSTER)) refl
         ∙ ap length (others-more list h ∙ ap (λ test. others_of list ++ (if test then h ∷ [] else [])) is) in
         ap (nat_lt MAX_ELEMENTS) (all ∙ ap (λ (l : List Header). length (l ++ h ∷ [])) (sym keeps.others) ∙ length-append kept.others.items (h ∷ []))
 
--- which of the two limits is told
+-- Either of two limits is reported by its test.
 pub passes-count : (large many : Bool) (a b : Damage) → large ≡ false → many ≡ true → first_damage (where_it large a ∷ where_it many b ∷ []) ≡ Some b
 passes-count false many a b large count = rw count refl
 passes-count true many a b large count = absurd (cc)
@@ -88,12 +88,12 @@ passes-none false false a b large count = refl
 passes-none false true a b large count = absurd (cc)
 passes-none true many a b large count = absurd (cc)
 
--- what holds of one Element holds of a list of it alone
+-- A property of an Element holds for the list of this Element.
 All-one : (P : Header → Type 0) (h : Header) → P h → All P (h ∷ [])
 All-one P h holds zero d below = holds
 All-one P h holds (suc k) d below = absurd (omega arith)
 
--- what holds of each Element holds of the first that is found
+-- A property of each Element holds for the Element that `find` returns.
 pub All-find : (P : Header → Type 0) (test : Header → Bool) (list : List Header) → All P list → IfSome (find test list) P
 All-find P test [] all = tt
 All-find P test (h ∷ hs) all = here (All-find P test hs (λ k d below. all (suc k) d (omega arith))) (test h)
@@ -102,7 +102,7 @@ All-find P test (h ∷ hs) all = here (All-find P test hs (λ k d below. all (su
     here later true = all zero h (omega arith)
     here later false = later
 
--- the Elements that are kept can be read, with one more of a Segment that ends within the file
+-- The kept Elements can be read, and so can one more of a Segment that ends in the file.
 pub IsInFile-more : (total bound : ℕ) (list : List Header) (h : Header) → bound ≤ total → All (IsInFile total) list → IsWhole in_segment bound h → All (IsInFile total) (list ++ unless_cluster h)
 IsInFile-more total bound list h within before whole = All-append (IsInFile total) list (unless_cluster h) before (alone (h.id == CLUSTER) refl)
   where

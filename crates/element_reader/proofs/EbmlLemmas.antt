@@ -1,4 +1,4 @@
--- The Element at the start of a file that begins as an EBML header does.
+-- The Element at the start of a file that begins with the EBML header's ID.
 use Rattle.std.proofs.Common.{◌≡◌, ℕ, ◌+◌, ◌≤◌, nat_eq, nat_lt, Bool, true, false, ◌&&◌, if◌then◌else◌, List, ◌∷◌, length, min, take, drop, Option, Some, None, Result, Ok, Err, refl, sym, ◌∙◌, ap, subst, arith}
 use Rattle.std.proofs.lemmas.Grind.{common_steps}
 use Rattle.std.proofs.lemmas.Bool.Decides.{Decides-eqb}
@@ -23,7 +23,7 @@ use Rattle.mkv_schema.specs.declared.ids.TheConstants.{EBML}
 use Rattle.std.proofs.lemmas.List.{drop-take}
 use Rattle.elements.specs.Body.{IsBody}
 
--- its ID, read from its octets
+-- the result of reading this ID
 abbrev pub mark_read : Result IdRead NumFault
 mark_read = Ok (record { id = EBML; len = 4 })
 
@@ -31,7 +31,7 @@ pub id_at-mark : id_at ebml_mark ≡ mark_read
 unfolding id_at count_leading_zeros
 id_at-mark = refl
 
--- an EBML header of which nothing is wrong doesn't pass the end of the file
+-- An EBML header without damage ends in the file.
 ebml_body : (made h : Header) (total : ℕ) (unknown truncated long : Bool) → (nat_lt total (stated_end made) && true) ≡ truncated → with_body made (if unknown then Some UnknownSize else if truncated then Some Truncated else if long then Some TooLong else None) ≡ Ok h → stated_end h ≤ total
 ebml_body made h total true truncated long is found = absurd (cc)
 ebml_body made h total false true long is found = absurd (cc)
@@ -48,18 +48,18 @@ ebml_size total p e at h (Ok size) found =
     let made : Header = record { id = EBML; offset = p; body = at + size.len; size = size.size } in
     ebml_body made h total (has_unknown_size at_level_0 made) (is_truncated at_level_0 total e made) (is_too_long at_level_0 total e made) refl found
 
--- octets that begin with the mark
+-- Bytes that pass the test begin with the EBML header's ID.
 pub begins : (octets : List ℕ) (test : Bool) → test ≡ starts_with nat_eq octets ebml_mark → test ≡ true → take 4 octets ≡ ebml_mark
 begins octets test is holds = ap (take 4) ((starts_is Decides-eqb octets ebml_mark test is).0 holds)
 
--- the octets that are read for a header begin so where the content does
+-- The bytes that are read for a header begin with it if and only if the content does.
 pub starts_with-front : (bytes : List ℕ) (n : ℕ) → n ≡ min (length bytes) 12 → starts_with nat_eq (take n bytes) ebml_mark ≡ starts_with nat_eq bytes ebml_mark
 starts_with-front bytes n most = ap (pointwise nat_eq ebml_mark) (front bytes n most)
   where
     front : (l : List ℕ) (m : ℕ) → m ≡ min (length l) 12 → take 4 (take m l) ≡ take 4 l
     front l m is = grind (arith, common_steps)
 
--- the Element that octets begin, which begin with the mark, doesn't pass the end of the file
+-- The Element in bytes that begin with it ends in the file.
 pub ebml_inside : (octets : List ℕ) (total : ℕ) (h : Header) → take 4 octets ≡ ebml_mark → element_in at_level_0 octets total 0 total ≡ Ok h → stated_end h ≤ total
 unfolding element_in
 ebml_inside octets total h mark found =
@@ -67,7 +67,7 @@ ebml_inside octets total h mark found =
     let made = subst (λ (r : Result IdRead NumFault). with_id at_level_0 octets total 0 total r ≡ Ok h) read found in
     ebml_size total 0 total (0 + 4) h (size_at (drop 4 octets)) made
 
--- the file begins with the mark, or it is no EBML document
+-- The file begins with it, or isn't an EBML document.
 pub first_element-begins : (bytes : List ℕ) (test : Bool) (found : Result Header Damage) → test ≡ starts_with nat_eq bytes ebml_mark → test ≡ true → found ≡ element_at at_level_0 bytes 0 (length bytes) → found ≡ first_element bytes
 first_element-begins bytes test found is holds same = rw (sym is ∙ holds) same
 
@@ -76,19 +76,19 @@ first_element-other bytes test is fails = rw (sym is ∙ fails) refl
 
 -- ---- the EBML header, from the Element at the start
 
--- no Element stands there
+-- There is no Element.
 pub ebml_header-none : (bytes : List ℕ) (d : Damage) → Err d ≡ first_element bytes → Err d ≡ ebml_header bytes
 unfolding ebml_header
 ebml_header-none bytes d first = ap (λ (found : Result Header Damage). and_then found (λ h. unless (first_damage (header_causes bytes h (header_children bytes h))) h)) first
 
--- its causes refuse it, or nothing does
+-- Its causes refuse it, or nothing does.
 pub ebml_header-is : (bytes : List ℕ) (h : Header) (refusal : Option Damage) → Ok h ≡ first_element bytes → refusal ≡ first_damage (header_causes bytes h (header_children bytes h)) → unless refusal h ≡ ebml_header bytes
 unfolding ebml_header
 ebml_header-is bytes h refusal first causes =
     ap (λ (r : Option Damage). unless r h) causes
     ∙ ap (λ (found : Result Header Damage). and_then found (λ k. unless (first_damage (header_causes bytes k (header_children bytes k))) k)) first
 
--- its size does
+-- Its size refuses it.
 pub ebml_header-over : (bytes : List ℕ) (h : Header) (d : Damage) → Ok h ≡ first_element bytes → Some d ≡ over MAX_HEADER_LEN h → Err d ≡ ebml_header bytes
 ebml_header-over bytes h d first over_is = ebml_header-is bytes h (Some d) first (rest (over MAX_HEADER_LEN h) over_is)
   where
@@ -96,7 +96,7 @@ ebml_header-over bytes h d first over_is = ebml_header-is bytes h (Some d) first
     rest None is = absurd (cc)
     rest (Some e) is = is
 
--- what was read of the file is its body
+-- The bytes that were read from the file are its body.
 pub IsBody-read : (bytes : List ℕ) (base total n : ℕ) (body : List ℕ) → length bytes ≡ total → base + n ≤ total → length body ≡ n → body ≡ take n (drop base bytes) → IsBody bytes base total body
 IsBody-read bytes base total n body whole within count read = record {
   whole = whole;

@@ -18,7 +18,7 @@ use Rattle.mkv_schema.specs.declared.limits.TheConstants.{MAX_HEADER_LEN}
 use Rattle.mkv_schema.specs.Outline.{first_damage, bad_value, over, where_it}
 use Rattle.element_reader.specs.EbmlChildren.{IsShortValue, child_refusal}
 
--- where nothing refuses the children, none has a bad value
+-- If nothing refuses the children, none has a bad value.
 no_bad : (bytes : List ℕ) (run : Run) → child_refusal bytes run ≡ None → bad_value bytes EBML run.list ≡ None
 no_bad bytes run none = split (bad_value bytes EBML run.list) none
   where
@@ -26,7 +26,7 @@ no_bad bytes run none = split (bad_value bytes EBML run.list) none
     split None is = refl
     split (Some d) is = absurd (cc)
 
--- the first of an ID is a value of its kind
+-- The first child with an ID is a value of its kind.
 known_of : (bytes : List ℕ) (id : ℕ) (list : List Header) (h : Header) → bad_value bytes EBML list ≡ None → first_of id list ≡ Some h → is_known_value EBML id (body_of bytes h) ≡ true
 known_of bytes id [] h none first = absurd (cc)
 known_of bytes id (k ∷ ks) h none first = split (λ bad is. known_of bytes id ks h bad is) (is_known_value EBML k.id (body_of bytes k)) (k.id == id) refl refl none first
@@ -39,11 +39,11 @@ known_of bytes id (k ∷ ks) h none first = split (λ bad is. known_of bytes id 
         let its : k.id ≡ id = grind (arith, nat_tests) in
         subst (λ (x : Header). is_known_value EBML id (body_of bytes x) ≡ true) this (subst (λ (n : ℕ). is_known_value EBML n (body_of bytes k) ≡ true) its known_is)
 
--- so it is short, where its values are
+-- So it is short, if its values are.
 pub short_of : (bytes : List ℕ) (run : Run) (id : ℕ) (h : Header) → IsShortValue id → child_refusal bytes run ≡ None → first_of id run.list ≡ Some h → length (body_of bytes h) ≤ 8
 short_of bytes run id h short none first = short (body_of bytes h) (known_of bytes id run.list h (no_bad bytes run none) first)
 
--- an integer that isn't empty is the number of its octets
+-- An integer that isn't empty is the number of its bytes.
 pub uint_value-some : (id : ℕ) (octets : List ℕ) → (length octets ≡ 0 → ⊥) → uint_value id octets ≡ uint_of octets
 uint_value-some id [] some = absurd (some refl)
 uint_value-some id (o ∷ os) some = refl
@@ -55,28 +55,28 @@ uint_value-none id (o ∷ os) none = absurd (omega arith)
 pub take-short : (octets : List ℕ) (n : ℕ) → n ≡ min (length octets) 8 → length octets ≤ 8 → take n octets ≡ octets
 take-short octets n is short = grind (arith, common_steps)
 
--- the integer of an ID is that of its first Element
+-- The integer of an ID is the value of its first Element.
 pub uint_in-is : (bytes : List ℕ) (id : ℕ) (list : List Header) (h : Header) (value : ℕ) → Some h ≡ first_of id list → value ≡ uint_value id (body_of bytes h) → value ≡ uint_in bytes id list
 uint_in-is bytes id list h value first is =
     is ∙ ap (λ found. option_map_or (λ (k : Header). uint_value id (body_of bytes k)) found (uint_value id [])) first
 
--- ---- what refuses an EBML header
+-- ---- the damage that refuses an EBML header
 
--- the children refuse it
+-- The children refuse it.
 pub refused-by_child : (large bad found : Option Damage) (values : List (Option Damage)) (refusal : Damage) → large ≡ None → first_damage (bad ∷ found ∷ []) ≡ Some refusal → first_damage (large ∷ bad ∷ found ∷ values) ≡ Some refusal
 refused-by_child (Some x) bad found values refusal few is = absurd (cc)
 refused-by_child None (Some x) found values refusal few is = is
 refused-by_child None None (Some x) values refusal few is = is
 refused-by_child None None None values refusal few is = absurd (cc)
 
--- or their values do
+-- Their values refuse it.
 pub refused-by_value : (large bad found : Option Damage) (values : List (Option Damage)) → large ≡ None → first_damage (bad ∷ found ∷ []) ≡ None → first_damage (large ∷ bad ∷ found ∷ values) ≡ first_damage values
 refused-by_value (Some x) bad found values few is = absurd (cc)
 refused-by_value None (Some x) found values few is = absurd (cc)
 refused-by_value None None (Some x) values few is = absurd (cc)
 refused-by_value None None None values few is = refl
 
--- a header that isn't longer than the limit
+-- A header within the limit isn't refused for its length.
 pub over-none : (h : Header) → known h.size ≤ MAX_HEADER_LEN → over MAX_HEADER_LEN h ≡ None
 over-none h few = split (nat_lt MAX_HEADER_LEN (known h.size)) (grind (arith, nat_tests))
   where

@@ -1,11 +1,11 @@
--- What is known of a file holds on while the file is the same.
+-- Facts of a file stay true as long as the file is the same.
 use Rattle.std.proofs.Common.{◌≡◌, true, ℕ, sym, ◌∙◌, arith}
 use Rattle.mkv_io.specs.LiveFiles.{LiveFiles, IsSameFile}
 use Rattle.mkv_schema.specs.declared.element.Header.{Header}
 use Rattle.element_reader.specs.Collected.{IsInFile}
 use Rattle.element_reader.specs.LevelOne.{Listing, CanRead}
 
--- a place can be read on
+-- An iterator can go on.
 pub CanRead-kept : (old new : LiveFiles) (p : Listing) → IsSameFile old new p.file.n → CanRead old p → CanRead new p
 CanRead-kept old new p same reads =
     let size = same.size reads.live in
@@ -15,7 +15,7 @@ CanRead-kept old new p same reads =
       holds = λ bytes told. reads.holds bytes (sym (same.content reads.live) ∙ told);
     }
 
--- an Element stands in the file
+-- An Element is in the file.
 pub IsInFile-kept : (old new : LiveFiles) (file : ℕ) (h : Header) → IsSameFile old new file → old.live file ≡ true → IsInFile (old.size file) h → IsInFile (new.size file) h
 IsInFile-kept old new file h same live stands =
     let size = same.size live in

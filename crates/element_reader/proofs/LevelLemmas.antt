@@ -1,4 +1,4 @@
--- The Elements of level 1, on the way through a Segment.
+-- The Elements of level 1, while a reader passes through a Segment.
 use Rattle.std.proofs.Common.{◌≡◌, ℕ, if◌then◌else◌, List, [], ◌∷◌, ◌++◌, length, append-nil, Option, Some, None, refl, sym, ◌∙◌, ap, subst}
 use Rattle.std.specs.Option.{option_map_or}
 use Rattle.mkv_io.specs.declared.damage.Damage.{Damage}
@@ -11,12 +11,12 @@ use Rattle.element_reader.specs.Level.{HasLevel, IsOnWay, all_in_front, nothing_
 use Rattle.element_reader.specs.declared.collected.Collected.{Collected}
 use Rattle.element_reader.specs.declared.level.Level.{Level}
 
--- Elements in front are listed first
+-- The Elements before a run are listed first.
 pub all_in_front-list : (given : List Header) (run : Run) → (all_in_front given run).list ≡ given ++ run.list
 all_in_front-list [] run = refl
 all_in_front-list (h ∷ hs) run = ap (λ l. h ∷ l) (all_in_front-list hs run)
 
--- they leave the damage and the end
+-- They leave the damage and the end of the run.
 pub all_in_front-damage : (given : List Header) (run : Run) → (all_in_front given run).damage ≡ run.damage
 all_in_front-damage [] run = refl
 all_in_front-damage (h ∷ hs) run = all_in_front-damage hs run
@@ -25,12 +25,12 @@ pub all_in_front-end : (given : List Header) (run : Run) → (all_in_front given
 all_in_front-end [] run = refl
 all_in_front-end (h ∷ hs) run = all_in_front-end hs run
 
--- one more in front
+-- One more Element before the run.
 pub all_in_front-more : (given : List Header) (h : Header) (run : Run) → all_in_front given (in_front h run) ≡ all_in_front (given ++ h ∷ []) run
 all_in_front-more [] h run = refl
 all_in_front-more (k ∷ ks) h run = ap (in_front k) (all_in_front-more ks h run)
 
--- the way begins with nothing given
+-- At first the reader has passed nothing.
 pub IsOnWay-begins : (held : ℕ) (run left : Run) (kept : Collected) → run ≡ left → Keeps held [] kept → IsOnWay held run left kept
 IsOnWay-begins held run left kept same keeps = record {
   given = [];
@@ -39,7 +39,7 @@ IsOnWay-begins held run left kept same keeps = record {
   limits = ap (λ (r : Run). limits_from held [] r.list) same;
 }
 
--- an Element that passes no limit is given
+-- It passes an Element within the limits.
 pub IsOnWay-more : (held : ℕ) (run left rest : Run) (kept after : Collected) (h : Header) (refusal : Option Damage) → IsOnWay held run left kept → left ≡ in_front h rest → ((list : List Header) → Keeps held list kept → refusal ≡ first_damage (limit_causes held list h)) → refusal ≡ None → ((list : List Header) → Keeps held list kept → Keeps held (list ++ h ∷ []) after) → IsOnWay held run rest after
 IsOnWay-more held run left rest kept after h refusal way is refuses none keeps =
     let passes : first_damage (limit_causes held way.given h) ≡ None = sym (refuses way.given way.keeps) ∙ none in
@@ -52,7 +52,7 @@ IsOnWay-more held run left rest kept after h refusal way is refuses none keeps =
           ∙ ap (λ d. first_refusal d (limits_from held (way.given ++ h ∷ []) rest.list)) passes;
     }
 
--- at the end of the way all are given
+-- At the end it has passed all.
 pub HasLevel-ended : (held : ℕ) (bytes : List ℕ) (segment : Header) (at : ℕ) (found : Option Damage) (level : Level) → IsOnWay held (segment_run bytes segment) (nothing_left at found) level.kept → level.damage ≡ found → level.end ≡ (if is_unknown segment.size then option_map_or (λ (d : Damage). length bytes) found at else end_in (length bytes) segment) → HasLevel held bytes segment level
 HasLevel-ended held bytes segment at found level way damage end =
     let run = segment_run bytes segment in
@@ -70,7 +70,7 @@ HasLevel-ended held bytes segment at found level way damage end =
           ∙ ap (λ f. if is_unknown segment.size then option_map_or (λ (d : Damage). length bytes) f run.end else end_in (length bytes) segment) run_damage;
     }
 
--- what isn't something is nothing
+-- An option that isn't Some is None.
 pub none_where : (found : Option Damage) → ((d : Damage) → found ≡ Some d → ⊥) → found ≡ None
 none_where None never = refl
 none_where (Some d) never = absurd (never d refl)

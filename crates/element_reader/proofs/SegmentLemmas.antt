@@ -1,4 +1,4 @@
--- The way to the Segment, one step at a time.
+-- The search for the Segment, one step at a time.
 use Rattle.std.proofs.lemmas.Bool.Decides.{nat_tests}
 use Rattle.std.proofs.Common.{eq-eqb, ◌≡◌, ℕ, ◌<◌, ◌≤◌, ◌==◌, nat_lt, Bool, true, false, if◌then◌else◌, List, ◌∷◌, length, Option, Some, None, Result, Ok, Err, refl, sym, ◌∙◌, ap, arith}
 use Rattle.mkv_schema.specs.declared.ids.TheConstants.{SEGMENT}
@@ -11,7 +11,7 @@ use Rattle.mkv_schema.specs.Outline.{before_segment}
 use Rattle.mkv_schema.proofs.ElementsLemmas.{elements-end, elements-more, Advances-known}
 use Rattle.element_reader.specs.Segment.{segment_or_damage, segment_from}
 
--- at the end of the file there is none
+-- At the end of the file there is none.
 pub segment_from-end : (bytes : List ℕ) (p : ℕ) → length bytes ≤ p → segment_from bytes p ≡ Err (damage NoSegment 0 (length bytes))
 segment_from-end bytes p past =
     ap (segment_or_damage bytes) (elements-end at_level_0 (λ id. id == SEGMENT) (λ h. Ok (end_in (length bytes) h)) bytes p (length bytes) past)
@@ -21,7 +21,7 @@ segment_from-end bytes p past =
     nothing true is = absurd (cc)
     nothing false is = refl
 
--- before it, what stands there
+-- Before it, the Element or damage that is found decides.
 at_place : List ℕ → ℕ → Result Header Damage → Run
 at_place bytes p found = if id_of found == SEGMENT then ends_at p else step p (λ h. Ok (end_in (length bytes) h)) found (λ q. before_segment bytes q)
 
@@ -32,7 +32,7 @@ segment_from-step bytes p found inside is =
     (elements-more at_level_0 (λ id. id == SEGMENT) (λ h. Ok (end_in (length bytes) h)) bytes p (length bytes) (Advances-known at_level_0 bytes (length bytes)) inside
     ∙ ap (at_place bytes p) (sym is))
 
--- the Segment itself, or what is wrong with it
+-- The Segment itself, or its damage.
 pub segment_from-found : (bytes : List ℕ) (p : ℕ) (found : Result Header Damage) → p < length bytes → found ≡ element_at at_level_0 bytes p (length bytes) → id_of found ≡ SEGMENT → segment_from bytes p ≡ found
 unfolding at_place
 segment_from-found bytes p found inside is segment =
@@ -43,14 +43,14 @@ segment_from-found bytes p found inside is segment =
     here true is = refl
     here false is = absurd (cc)
 
--- a damage before it
+-- A damage before it.
 pub segment_from-breaks : (bytes : List ℕ) (p : ℕ) (d : Damage) → p < length bytes → Err d ≡ element_at at_level_0 bytes p (length bytes) → (id_of (Err d) ≡ SEGMENT → ⊥) → segment_from bytes p ≡ Err d
 unfolding at_place
 segment_from-breaks bytes p d inside is other =
     let test : (d.id == SEGMENT) ≡ false = grind (arith, nat_tests) in
     segment_from-step bytes p (Err d) inside is ∙ rw test refl
 
--- another Element, which is skipped
+-- Another Element, which is skipped.
 pub segment_from-goes_on : (bytes : List ℕ) (p : ℕ) (h : Header) → p < length bytes → Ok h ≡ element_at at_level_0 bytes p (length bytes) → (id_of (Ok h) ≡ SEGMENT → ⊥) → segment_from bytes p ≡ segment_from bytes (end_in (length bytes) h)
 unfolding at_place
 segment_from-goes_on bytes p h inside is other =
@@ -64,5 +64,5 @@ segment_from-goes_on bytes p h inside is other =
         by_damage None = refl
         by_damage (Some d) = refl
 
--- what stands from a place of level 0 on, by what is found there
+-- The laws on a step at level 0, by the Element or damage that is found.
 pub ruleset ways = (segment_from-end, segment_from-found, segment_from-breaks, segment_from-goes_on)

@@ -1,4 +1,4 @@
--- What is kept of the Elements of level 1 that were met.
+-- Elements of level 1 that a reader keeps.
 use Rattle.std.specs.Prelude.{◌≡◌, ℕ, ◌+◌, ◌≤◌, ◌==◌, not, false, if◌then◌else◌, List, [], ◌∷◌, ◌++◌, filter, Option, None}
 use Rattle.std.specs.List.{last_or}
 use Rattle.mkv_schema.specs.declared.ids.TheConstants.{CLUSTER}
@@ -9,11 +9,11 @@ use Rattle.mkv_schema.specs.Outline.{described, first_damage, is_described, limi
 use Rattle.element_reader.specs.declared.collected.Collected.{Collected}
 use Rattle.mkv_io.specs.declared.damage.Damage.{Damage}
 
--- the Elements other than Clusters
+-- the Elements in `list` other than Clusters
 abbrev pub others_of : List Header → List Header
 others_of list = filter (λ h. not (h.id == CLUSTER)) list
 
--- an Element, where it isn't a Cluster
+-- the Element `h`, unless it is a Cluster
 abbrev pub unless_cluster : Header → List Header
 unless_cluster h = if not (h.id == CLUSTER) then h ∷ [] else []
 
@@ -21,33 +21,33 @@ unless_cluster h = if not (h.id == CLUSTER) then h ∷ [] else []
 abbrev pub last_element : List Header → Option Header
 last_element list = last_or None list
 
--- An Element whose body can be read of a file of `total` octets: its size is known, and it ends within.
+-- The body of the Element `h` can be read from a file of `total` bytes: its size is known, and it ends in the file.
 pub record IsInFile (total : ℕ) (h : Header) : Type 0 where
   pub known : is_unknown h.size ≡ false
   pub inside : stated_end h ≤ total
 
--- the octets of an Info, Tracks, Chapters or Tags
+-- the number of bytes of an Info, Tracks, Chapters or Tags, or 0
 abbrev pub described_octets : Header → ℕ
 described_octets h = if is_described h.id then known h.size else 0
 
--- This is kept of the Elements of a list, where earlier inputs have held so many octets.
+-- The collection `kept` has what is kept of the Elements in `list`; earlier inputs have `held` bytes of limited Elements.
 pub record Keeps (held : ℕ) (list : List Header) (kept : Collected) : Type 0 where
   pub others : kept.others.items ≡ others_of list
   pub first : kept.cluster ≡ first_of CLUSTER list
   pub last : kept.last ≡ last_element list
   pub octets : kept.held ≡ held + described list
 
--- What is said of each list of which this is kept.
+-- `P` holds for each list with this collection.
 abbrev pub OfKept : Collected → (ℕ → List Header → Type 0) → Type 0
 OfKept kept P = (held : ℕ) (list : List Header) → Keeps held list kept → P held list
 
--- An Element that nothing refuses is kept behind those of a list, and one that is no Cluster among the others.
+-- An Element without a refusal is kept after the Elements of a list; unless it is a Cluster, it is one of the others.
 abbrev pub KeepsAlso : Header → Collected → Collected → Option Damage → Type 0
 KeepsAlso h old new refusal = refusal ≡ None → OfKept old (λ held list. Keeps held (list ++ h ∷ []) new)
 
 abbrev pub AddsOther : Header → Collected → Collected → Option Damage → Type 0
 AddsOther h old new refusal = refusal ≡ None → new.others.items ≡ old.others.items ++ unless_cluster h
 
--- the limit that an Element behind those of a list passes, if it does
+-- The result is the damage of the Element `h` if it passes a limit after the Elements of a list.
 abbrev pub RefusesAs : Header → Collected → Option Damage → Type 0
 RefusesAs h kept refusal = OfKept kept (λ held list. refusal ≡ first_damage (limit_causes held list h))

@@ -1,4 +1,4 @@
--- The children of an EBML header, and what refuses them: RFC 8794, section 11.2 (EBML Header Elements).
+-- The children of an EBML header, and the damage that refuses them: RFC 8794, section 11.2 (EBML Header Elements).
 use Rattle.std.specs.Prelude.{◌≡◌, true, ℕ, ◌+◌, ◌≤◌, List, [], ◌∷◌, length, Option, None}
 use Rattle.mkv_schema.specs.declared.ids.TheConstants.{DOC_TYPE, DOC_TYPE_READ_VERSION, EBML, EBML_MAX_ID_LENGTH, EBML_MAX_SIZE_LENGTH, EBML_READ_VERSION}
 use Rattle.mkv_io.specs.declared.damage.Damage.{Damage}
@@ -10,19 +10,19 @@ use Rattle.mkv_schema.specs.Value.{is_known_value, text_in}
 use Rattle.mkv_schema.specs.Outline.{above, bad_value, first_damage, header_causes, header_children, wrong_doc_type}
 use Rattle.elements.specs.Body.{IsBody}
 
--- the children of the EBML header, from a place on
+-- the children of the EBML header from the offset `p` up to `e`
 abbrev pub children : List ℕ → ℕ → ℕ → Run
 children bytes p e = children_in (in_tree EBML) bytes p e
 
--- what refuses them: the first that isn't a value of its kind, or the damage among them
+-- the damage of the first child that isn't a value of its kind, or the damage that ends the children
 abbrev pub child_refusal : List ℕ → Run → Option Damage
 child_refusal bytes run = first_damage (bad_value bytes EBML run.list ∷ run.damage ∷ [])
 
--- a value of this ID in an EBML header has at most 8 octets
+-- A value of `id` in an EBML header has at most 8 bytes.
 abbrev pub IsShortValue : ℕ → Type 0
 IsShortValue id = (body : List ℕ) → is_known_value EBML id body ≡ true → length body ≤ 8
 
--- what refuses the values of an EBML header's children, in the order in which it is told
+-- the causes that may refuse the values of an EBML header's children, in the order of the checks
 abbrev pub value_causes : List ℕ → List Header → List (Option Damage)
 value_causes bytes list =
     wrong_doc_type bytes list ∷
@@ -32,21 +32,21 @@ value_causes bytes list =
     above bytes EBML_MAX_SIZE_LENGTH 8 MaxLengths list ∷
     []
 
--- a body of an EBML header that begins there: its children
+-- the children in a body of an EBML header at the offset `base`
 abbrev pub in_body : List ℕ → ℕ → List ℕ → Run
 in_body bytes base body = children bytes base (base + length body)
 
--- a fact of each file in which these octets stand so, and whose children nothing refuses
+-- `P` holds for each file that has `body` at the offset `base`, if nothing refuses the children in it.
 abbrev pub IfSound : ℕ → ℕ → List ℕ → (List ℕ → Type 0) → Type 0
 IfSound base total body P = (bytes : List ℕ) → IsBody bytes base total body → child_refusal bytes (in_body bytes base body) ≡ None → P bytes
 
--- what refuses the values among the children of a body, and the document type in it
+-- the damage that refuses the values of the children, and the document type among them
 abbrev pub value_refusal : List ℕ → Run → Option Damage
 value_refusal bytes run = first_damage (value_causes bytes run.list)
 
 abbrev pub doc_type_in : List ℕ → Run → Option (List ℕ)
 doc_type_in bytes run = text_in bytes DOC_TYPE run.list
 
--- what refuses an EBML header
+-- the damage that refuses an EBML header
 abbrev pub header_refusal : List ℕ → Header → Option Damage
 header_refusal bytes h = first_damage (header_causes bytes h (header_children bytes h))

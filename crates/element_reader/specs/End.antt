@@ -1,4 +1,4 @@
--- Why a call that reads a file ends early, as the answer of one that reads its outline.
+-- The end of a call that reads a file, as an end of a call that reads its outline.
 use Rattle.mkv_io.specs.declared.outside.ReadEnd.{ReadEnd}
 use Rattle.mkv_io.specs.declared.outside.ReadEnd.TheVariants as read_end
 use Rattle.element_reader.specs.declared.outline_end.OutlineEnd.{OutlineEnd}

@@ -1,17 +1,17 @@
--- What a reader of a header answers.
+-- Results of reading a header.
 use Rattle.std.specs.Prelude.{◌≡◌, ⊤, Bool, true, false, Result, Ok, Err}
 use Rattle.mkv_io.specs.declared.damage.Damage.{Damage}
 use Rattle.mkv_schema.specs.declared.element.Header.{Header}
 use Rattle.element_reader.specs.declared.head_end.HeadEnd.{HeadEnd}
 use Rattle.element_reader.specs.declared.head_end.HeadEnd.TheVariants as head_end
 
--- the Element that stands there, or what is wrong, where the answer is one of these
+-- The result is the Element or the damage `found`, unless a read failed.
 abbrev pub IsHead : Result Header Damage → Result Header HeadEnd → Type 0
 IsHead found (Ok h) = found ≡ Ok h
 IsHead found (Err (head_end.Damage d)) = found ≡ Err d
 IsHead found (Err head_end.ReadFault) = ⊤
 
--- a read failed
+-- The end is a failed read.
 abbrev pub is_head_fault : HeadEnd → Bool
 is_head_fault (head_end.Damage d) = false
 is_head_fault head_end.ReadFault = true

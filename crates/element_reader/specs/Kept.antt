@@ -1,11 +1,11 @@
--- What is known of a file that is read holds on while the file is the same.
+-- Facts of a file that stay true as long as the file is the same.
 use Rattle.std.specs.Prelude.{◌≡◌, true, ℕ}
 use Rattle.mkv_io.specs.LiveFiles.{LiveFiles, IsSameFile}
 use Rattle.mkv_schema.specs.declared.element.Header.{Header}
 use Rattle.element_reader.specs.Collected.{IsInFile}
 use Rattle.element_reader.specs.LevelOne.{Listing, CanRead}
 
--- A place among the Elements of level 1 can be read on, and what an outline kept stands in the file.
+-- A walk over the Elements of level 1 can go on, and an Element of an outline is in the file.
 pub record ReadingsStay : Type 0 where
   pub place : (old new : LiveFiles) (p : Listing) → IsSameFile old new p.file.n → CanRead old p → CanRead new p
   pub element : (old new : LiveFiles) (file : ℕ) (h : Header) → IsSameFile old new file → old.live file ≡ true

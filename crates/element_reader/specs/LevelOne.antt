@@ -1,4 +1,4 @@
--- The Elements of level 1 of a Segment, given one after the other.
+-- The Elements of level 1 of a Segment in sequence.
 use Rattle.std.specs.Prelude.{◌≡◌, true, ℕ, ◌<◌, ◌≤◌, if◌then◌else◌, List, [], ◌∷◌, length, Option, Some, None, Result}
 use Rattle.ebml_numbers.specs.declared.number.Size.{Size}
 use Rattle.mkv_io.specs.declared.outside.FileId.{FileId}
@@ -13,8 +13,8 @@ use Rattle.elements.specs.Window.{ReadAhead, Holds, nothing_at}
 use Rattle.mkv_schema.specs.Outline.{segment_run}
 use Rattle.element_reader.specs.declared.outline.Outline.{Outline}
 
--- A place among the Elements of level 1 of a Segment: its file, the size that the Segment states, the
--- next Element's place, the place up to which the Segment may reach, and what is held of the file.
+-- the state of an iterator over the Elements of level 1: its file, the size in the Segment's header, the next Element's offset, the greatest
+-- offset of the Segment, and the bytes that are held
 pub record Listing : Type 0 where
   pub file : FileId
   pub size : Size
@@ -26,7 +26,7 @@ pub record Listing : Type 0 where
 abbrev pub left : List ℕ → Listing → List Header
 left bytes p = (level_1 bytes p.size p.at p.end).list
 
--- the first place in a Segment of a file of `total` octets, of which nothing is held yet
+-- the state at the start of a Segment of a file of `total` bytes; nothing is held yet
 abbrev pub first_place : Header → ℕ → FileId → Listing
 first_place segment total file = record {
   file = file;
@@ -36,42 +36,42 @@ first_place segment total file = record {
   ahead = nothing_at 0;
 }
 
--- The place is in a live file, and what is held is this file's.
+-- The file of the iterator is live, and the bytes that are held are this file's.
 pub record CanRead (files : LiveFiles) (p : Listing) : Type 0 where
   pub live : files.live p.file.n ≡ true
   pub inside : p.end ≤ files.size p.file.n
   pub holds : IfVisible (files.content p.file.n) (λ bytes. Holds bytes p.ahead)
 
--- the first of the Elements that were left, or none, and those that are left then
+-- The result is the first of the Elements `old`, and `new` are left; or there is none.
 abbrev pub Gives : Option Header → List Header → List Header → Type 0
 Gives (Some h) old new = old ≡ h ∷ new
 Gives None old new = (old ≡ []) × (new ≡ [])
 
--- the same of a place of a content
+-- The same for the Elements of a content.
 abbrev pub GivesNext : List ℕ → Listing → Listing → Option Header → Type 0
 GivesNext bytes old new found = Gives found (left bytes old) (left bytes new)
 
--- the place moves on past an Element, and stays where there is none
+-- The offset grows if there is an Element, and stays if there is none.
 abbrev pub GoesOn : Option Header → ℕ → ℕ → Type 0
 GoesOn (Some h) old new = old < new
 GoesOn None old new = new ≡ old
 
--- The place is another one of the same Segment.
+-- Both states are in the same Segment.
 pub record IsSameSegment (old new : Listing) : Type 0 where
   pub file : new.file ≡ old.file
   pub size : new.size ≡ old.size
   pub end : new.end ≡ old.end
 
--- The place is another one of the same Segment, or the same, and can be read on.
+-- The state `new` is in the same Segment, and the iterator can go on.
 pub record StandsOn (files : LiveFiles) (old new : Listing) : Type 0 where
   pub segment : IsSameSegment old new
   pub inside : new.at ≤ new.end
   pub reads : CanRead files new
 
--- The way from one place to another pays for what is read.
+-- The move from one offset to another pays for the bytes that were read.
 abbrev pub GoesAlong : {S T E : Type 0} → Ghosts S → Listing → Listing → S → S → Result T E → Type 0
 GoesAlong r old new before now result = GoesTo r old.file old.at new.at old.ahead new.ahead before now result
 
--- All Elements of level 1 are left of a file that has this outline.
+-- All Elements of level 1 of a file with this outline are left.
 abbrev pub HasAllElementsLeft : Outline → Listing → Type 0
 HasAllElementsLeft outline p = (bytes : List ℕ) → outline.total ≡ length bytes → left bytes p ≡ (segment_run bytes outline.segment).list

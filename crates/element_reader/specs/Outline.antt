@@ -1,4 +1,4 @@
--- What an `Outline` shows of the file from which it was read: RFC 9559, section 4.5 (Data Layout).
+-- The outline of a file, as `Outline` has it: RFC 9559, section 4.5 (Data Layout).
 use Rattle.std.specs.Prelude.{◌≡◌, ℕ, ⊤, Bool, true, false, ◌==◌, if◌then◌else◌, List, length, Option, Result, Ok, Err}
 use Rattle.mkv_schema.specs.declared.ids.TheConstants.{CLUSTER}
 use Rattle.mkv_io.specs.declared.damage.Damage.{Damage}
@@ -10,9 +10,8 @@ use Rattle.element_reader.specs.Collected.{last_element, others_of}
 use Rattle.element_reader.specs.declared.outline_end.OutlineEnd.{OutlineEnd}
 use Rattle.element_reader.specs.declared.outline_end.OutlineEnd.TheVariants as outline_end
 
--- The length of a file, its EBML header and its Segment; the Elements of level 1 other than Clusters, the
--- first Cluster, and the last of all Elements; the octets of every Info, Tracks, Chapters and Tags; the damage that ends level 1,
--- if one does, and where the Segment ends.
+-- the length of a file, its EBML header and its Segment. Of its Elements of level 1: those other than Clusters, the first Cluster, and the last
+-- of all. Then the number of bytes of all Info, Tracks, Chapters and Tags, the damage that ends level 1, if any, and the end of the Segment.
 pub record FileOutline : Type 0 where
   pub total : ℕ
   pub ebml : Header
@@ -24,7 +23,7 @@ pub record FileOutline : Type 0 where
   pub damage : Option Damage
   pub end : ℕ
 
--- what is shown of an outline
+-- the parts of an outline that are kept
 abbrev pub shown : List ℕ → Outlined → FileOutline
 shown bytes o = record {
   total = length bytes;
@@ -38,22 +37,22 @@ shown bytes o = record {
   end = o.end;
 }
 
--- what is shown of a file, or what refuses it; earlier inputs have held so many octets
+-- the outline of a file, or the damage that refuses it; earlier inputs have `held` bytes of limited Elements
 abbrev pub outline_in : ℕ → List ℕ → Result FileOutline Damage
 outline_in held bytes = and_then (outline_of held bytes) (λ o. Ok (shown bytes o))
 
--- the first Element of level 1 of an ID
+-- the first Element of level 1 with the ID `id`
 abbrev pub first_in : ℕ → FileOutline → Option Header
 first_in id o = if id == CLUSTER then o.cluster else first_of id o.others
 
--- the outline of the file, or what refuses it, where the answer is one of these
+-- The result is the outline or the refusal `found`, unless a read failed or memory ran out.
 abbrev pub IsOutline : Result FileOutline Damage → Result FileOutline OutlineEnd → Type 0
 IsOutline found (Ok o) = found ≡ Ok o
 IsOutline found (Err (outline_end.Refused d)) = found ≡ Err d
 IsOutline found (Err outline_end.ReadFault) = ⊤
 IsOutline found (Err outline_end.Memory) = ⊤
 
--- a read failed
+-- The end is a failed read.
 abbrev pub is_outline_fault : OutlineEnd → Bool
 is_outline_fault (outline_end.Refused d) = false
 is_outline_fault outline_end.ReadFault = true

@@ -1,4 +1,4 @@
--- The Segment that follows a place of level 0: RFC 9559, section 5.1 (Segment Element).
+-- The Segment after an offset at level 0: RFC 9559, section 5.1 (Segment Element).
 use Rattle.std.specs.Prelude.{ℕ, List, Result, Ok, Err}
 use Rattle.mkv_io.specs.declared.damage.Damage.{Damage}
 use Rattle.mkv_schema.specs.declared.element.Header.{Header}
@@ -6,14 +6,14 @@ use Rattle.mkv_schema.specs.Elements.{Run}
 use Rattle.mkv_schema.specs.Outline.{before_segment, segment_behind}
 use Rattle.mkv_io.specs.Results.{and_then, unless}
 
--- the Segment behind the Elements that stand before it, or what refuses the file on the way
+-- the Segment after the skipped Elements, or the damage that refuses the file before it
 abbrev pub segment_or_damage : List ℕ → Run → Result Header Damage
 segment_or_damage bytes run = and_then (unless run.damage run) (segment_behind bytes)
 
 abbrev pub segment_from : List ℕ → ℕ → Result Header Damage
 segment_from bytes from = segment_or_damage bytes (before_segment bytes from)
 
--- where the body of a Segment begins, or the end of the file where there is none
+-- the offset of a Segment's body, or the end of the file if there is no Segment
 abbrev pub body_or : ℕ → Result Header Damage → ℕ
 body_or total (Ok h) = h.body
 body_or total (Err d) = total

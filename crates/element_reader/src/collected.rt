@@ -1,4 +1,4 @@
-//! What is kept of the Elements of level 1.
+//! Elements of level 1 that a reader keeps.
 
 ghost use Rattle.std.specs.Prelude.{◌≡◌, ℕ, ◌+◌, ◌^◌, ◌<◌, ◌++◌, ◌∷◌, [], List, IfOk, false};
 ghost use Rattle.mkv_schema.specs.declared.element.Header.{Header as Placed};
@@ -14,7 +14,7 @@ use mkv_schema::ids::{CHAPTERS, CLUSTER, INFO, TAGS, TRACKS};
 use mkv_schema::limits::{MAX_ELEMENTS, MAX_MASTER_LEN, MAX_MASTERS_LEN};
 use std::alloc::{AllocError, Global};
 
-/// What is kept of the Elements of level 1 that were met.
+/// Kept Elements of level 1, of those read up to now.
 #[derive(Drop)]
 pub struct Collected {
     /// The Elements other than Clusters, in the order of the file.
@@ -23,25 +23,25 @@ pub struct Collected {
     pub cluster: Option<Header>,
     /// The last of all Elements.
     pub last: Option<Header>,
-    /// The octets of every Info, Tracks, Chapters and Tags, with those of earlier inputs.
+    /// Number of bytes of all Info, Tracks, Chapters and Tags, including earlier inputs.
     pub held: u64,
 }
 
-/// Whether this is the ID of an Info, Tracks, Chapters or Tags.
+/// Checks whether `id` is Info, Tracks, Chapters or Tags.
 pub fn is_described(id: u32) -> bool
     ensures { result ≡ is_described id }
 {
     id == INFO || id == TRACKS || id == CHAPTERS || id == TAGS
 }
 
-/// The first Element of an ID.
+/// Returns the first Element with the ID `id`.
 pub fn first_of(list: &[Header], id: u32) -> Option<Header>
     ensures { result ≡ first_of id list.now }
 {
     list.iter().copied().find(|header| header.id == id)
 }
 
-// The octets of an Info, Tracks, Chapters or Tags.
+// Returns the number of bytes of an Info, Tracks, Chapters or Tags, or 0 for another Element.
 fn described_octets(header: &Header) -> u64
     ensures { result ≡ described_octets header.now }
 {
@@ -55,7 +55,7 @@ fn described_octets(header: &Header) -> u64
 impl Collected {
     ghost use Rattle.element_reader.specs.Collected.{AddsOther, Keeps, KeepsAlso, OfKept, RefusesAs, unless_cluster};
 
-    /// Nothing is kept yet, and earlier inputs have held so many octets.
+    /// Returns an empty collection; `held` is the number of such bytes in earlier inputs.
     pub fn new(alloc: Global, held: u64) -> Collected
         ensures none { result.others.items ≡ [] }
         ensures kept { Keeps held [] result }
@@ -68,7 +68,7 @@ impl Collected {
         }
     }
 
-    /// Keeps an Element, or answers the limit that it passes.
+    /// Keeps the Element `header`, or returns the damage if it passes a limit.
     pub fn add(&mut self, header: Header) -> Result<Option<Damage>, AllocError>
         ensures refusal { IfOk result (RefusesAs header self.old) }
         ensures others { IfOk result (AddsOther header self.old self.new) }
@@ -87,7 +87,7 @@ impl Collected {
         Ok(None)
     }
 
-    // The limit that an Element passes with those before it.
+    // Returns the damage of `header` if it passes a limit, by itself or with the Elements before it.
     fn refusal(&self, header: &Header) -> Option<Damage>
         ensures exact { RefusesAs header.now self.now result }
         ensures room { result ≡ None → self.now.held + described_octets header.now < 2 ^ 64 }

@@ -24,10 +24,10 @@ use mkv_schema::ids::{
 use mkv_schema::limits::{MAX_ELEMENT_HEADER_LEN, MAX_HEADER_LEN};
 use std::alloc::Global;
 
-/// The octets of the EBML header's ID, with which a file begins.
+/// Bytes of the EBML header's ID, which begin a file.
 const EBML_MARK: [u8; 4] = [0x1A, 0x45, 0xDF, 0xA3];
 
-// What refuses the values of an EBML header whose body this is.
+// Returns the damage that refuses the values of an EBML header. Its body is `body`, at the offset `base`.
 fn value_refusal(body: &[u8], base: u64, total: u64) -> Option<Damage>
     requires { base + length body.now ≤ LONGEST_FILE }
     ensures { IfSound base total body.now (λ bytes. result ≡ value_refusal bytes (in_body bytes base body.now)) }
@@ -51,7 +51,7 @@ fn value_refusal(body: &[u8], base: u64, total: u64) -> Option<Damage>
         .or(size_length)
 }
 
-/// What refuses an EBML header whose body this is, and has no more octets than are read.
+/// Returns the damage that refuses an EBML header with the body `body`, which isn't longer than the limit.
 pub fn header_refusal(body: &[u8], header: &Header, total: u64) -> Option<Damage>
     requires few { header.now.body + length body.now ≤ LONGEST_FILE }
     requires whole { length body.now ≡ known header.now.size }
@@ -64,7 +64,7 @@ pub fn header_refusal(body: &[u8], header: &Header, total: u64) -> Option<Damage
     value_refusal(body, header.body, total)
 }
 
-// The Element at the start of a file of `total` octets that begins as an EBML header does.
+// Returns the Element at the start of a file of `total` bytes, if the file begins with the EBML header's ID.
 fn first_element<R: Reads>(
     window: &mut Window,
     src: &mut R,
@@ -91,7 +91,7 @@ fn first_element<R: Reads>(
     Ok(read_header(octets, Parent::File, total, 0, total))
 }
 
-/// The EBML header of a file of `total` octets, or what refuses the file there.
+/// Returns the EBML header of a file of `total` bytes, or the damage that refuses the file there.
 pub fn ebml_header<R: Reads>(
     alloc: Global,
     window: &mut Window,

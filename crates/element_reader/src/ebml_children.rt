@@ -14,8 +14,8 @@ use mkv_io::{Damage, Kind};
 use mkv_schema::Header;
 use mkv_schema::ids::EBML;
 
-/// What refuses the children of an EBML header whose body this is: the first that isn't a value of its
-/// kind, or the damage among them.
+/// Returns the damage that refuses the children of an EBML header: the first child that isn't a value of its kind, or
+/// the damage that ends the children.
 pub fn child_refusal(body: &[u8], base: u64, total: u64) -> Option<Damage>
     requires { base + length body.now ≤ LONGEST_FILE }
     ensures { IfBody base total body.now (λ bytes. result ≡ child_refusal bytes (in_body bytes base body.now)) }
@@ -36,7 +36,7 @@ pub fn child_refusal(body: &[u8], base: u64, total: u64) -> Option<Damage>
     None
 }
 
-/// The first child of an ID.
+/// Returns the first child with the ID `id`.
 pub fn first_child(body: &[u8], base: u64, total: u64, id: u32) -> Option<Header>
     requires { base + length body.now ≤ LONGEST_FILE }
     ensures exact { IfBody base total body.now (λ bytes. result ≡ first_of id (in_body bytes base body.now).list) }

@@ -16,7 +16,7 @@ use mkv_io::{Damage, Kind};
 use mkv_schema::ids::DOC_TYPE;
 use mkv_schema::{text_default, uint_default};
 
-/// The unsigned integer of an ID in an EBML header whose body this is, or its default, or 0.
+/// Returns the unsigned integer `id` of an EBML header with the body `body`, or its default, or 0.
 pub fn uint_in(body: &[u8], base: u64, total: u64, id: u32) -> u64
     requires few { base + length body.now ≤ LONGEST_FILE }
     requires short { IsShortValue id }
@@ -36,14 +36,14 @@ pub fn uint_in(body: &[u8], base: u64, total: u64, id: u32) -> u64
     }
 }
 
-/// Whether this is the text of a document type that is read.
+/// Checks whether `text` is a document type that is read.
 pub fn is_doc_type(text: &[u8]) -> bool
     ensures { result ≡ is_doc_type (Some text.now) }
 {
     text == "matroska".as_bytes() || text == "webm".as_bytes()
 }
 
-/// Whether the document type of an EBML header whose body this is is read.
+/// Checks whether the document type of an EBML header with the body `body` is read.
 pub fn has_doc_type(body: &[u8], base: u64, total: u64) -> bool
     requires { base + length body.now ≤ LONGEST_FILE }
     ensures { IfBody base total body.now (λ bytes. result ≡ is_doc_type (doc_type_in bytes (in_body bytes base body.now))) }
@@ -57,7 +57,7 @@ pub fn has_doc_type(body: &[u8], base: u64, total: u64) -> bool
     }
 }
 
-/// Where the first child of an ID stands, 0 where there is none.
+/// Returns the offset of the first child with the ID `id`, or 0 if there is none.
 fn place_of(body: &[u8], base: u64, total: u64, id: u32) -> u64
     requires { base + length body.now ≤ LONGEST_FILE }
     ensures { IfBody base total body.now (λ bytes. result ≡ place_of id (in_body bytes base body.now).list) }
@@ -68,7 +68,7 @@ fn place_of(body: &[u8], base: u64, total: u64, id: u32) -> u64
     }
 }
 
-/// What refuses the document type.
+/// Returns the damage that refuses the document type.
 pub fn wrong_doc_type(body: &[u8], base: u64, total: u64) -> Option<Damage>
     requires { base + length body.now ≤ LONGEST_FILE }
     ensures { IfBody base total body.now (λ bytes. result ≡ wrong_doc_type bytes (in_body bytes base body.now).list) }
@@ -80,7 +80,7 @@ pub fn wrong_doc_type(body: &[u8], base: u64, total: u64) -> Option<Damage>
     Some(damage(Kind::DocType, DOC_TYPE, offset))
 }
 
-/// What refuses an integer that is above what is read.
+/// Returns the damage `kind` if the integer `id` is above `limit`.
 pub fn above(body: &[u8], base: u64, total: u64, id: u32, limit: u64, kind: Kind) -> Option<Damage>
     requires few { base + length body.now ≤ LONGEST_FILE }
     requires short { IsShortValue id }

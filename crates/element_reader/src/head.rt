@@ -14,9 +14,8 @@ use mkv_io::{FileId, Reads};
 use mkv_schema::Header;
 use mkv_schema::limits::MAX_ELEMENT_HEADER_LEN;
 
-/// The header of the Element at `at` octets behind the start of a file, whose parent ends at `end`, as
-/// if every Segment and every Cluster stood where it may be open. It reads at most
-/// `MAX_ELEMENT_HEADER_LEN` octets.
+/// Reads the header of the Element at the offset `at` of a file, in a parent that ends at `end`. Every Segment and
+/// every Cluster may be open. Reads at most `MAX_ELEMENT_HEADER_LEN` bytes.
 pub fn header_at<R: Reads>(src: &mut R, file: FileId, at: u64, end: u64) -> Result<Header, HeadEnd>
     requires live { IsLive R.Reads src.old file }
     requires place { at ≤ end }

@@ -1,11 +1,11 @@
-//! Why no header is read.
+//! Reasons why no header is read.
 
 use mkv_io::Damage;
 
-/// Why no header is read.
+/// Reason why no header is read.
 #[derive(Clone, Copy, Debug, PartialEq, Eq)]
 pub enum HeadEnd {
-    /// What stands there is no Element that the file may have there.
+    /// There is no valid Element of this file.
     Damage(Damage),
     /// A read failed.
     ReadFault,

@@ -1,7 +1,7 @@
-//! What holds of every file that is read.
+//! Laws on files that are read.
 ghost use Rattle.element_reader.specs.Kept.{ReadingsStay};
 
-/// What was read of a file is good while the file is the same, whatever becomes of others.
+/// Law: results of reading a file stay true as long as the file is the same, whatever happens to other files.
 pub fn readings_stay()
     ensures { ReadingsStay }
 {}

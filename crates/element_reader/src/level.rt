@@ -21,15 +21,15 @@ use std::alloc::Global;
 /// The Elements of level 1 of a Segment.
 #[derive(Drop)]
 pub struct Level {
-    /// What is kept of them.
+    /// Elements that are kept.
     pub kept: Collected,
     /// The damage that ends them, if one does.
     pub damage: Option<Damage>,
-    /// Octets from the start of the file to the Segment's end.
+    /// Offset in bytes of the Segment's end from the start of the file.
     pub end: u64,
 }
 
-// Where a Segment ends whose Elements end at a place, by a damage or without one.
+// Returns the end of a Segment whose Elements end at `at`, by a damage or without one.
 fn segment_end(segment: &Header, total: u64, at: u64, damage: Option<Damage>) -> u64
     ensures { result ≡ end_met total segment.now at damage }
 {
@@ -40,7 +40,7 @@ fn segment_end(segment: &Header, total: u64, at: u64, damage: Option<Damage>) ->
     }
 }
 
-// What is collected of a Segment whose Elements end at a place, by a damage or without one.
+// Returns the level of a Segment whose Elements end at `at`, by a damage or without one.
 fn ended(kept: Collected, segment: &Header, total: u64, at: u64, damage: Option<Damage>) -> Level
     ensures kept { result.kept ≡ kept }
     ensures level { EndsWay total segment.now at damage kept result }
@@ -49,7 +49,7 @@ fn ended(kept: Collected, segment: &Header, total: u64, at: u64, damage: Option<
     Level { kept, damage, end }
 }
 
-/// The place up to which a Segment may reach in a file of `total` octets, from the file's start.
+/// Returns the greatest offset that a Segment may reach in a file of `total` bytes.
 pub fn segment_bound(segment: &Header, total: u64) -> u64
     ensures { result ≡ (if is_unknown segment.now.size then total else end_in total segment.now) }
 {
@@ -59,8 +59,8 @@ pub fn segment_bound(segment: &Header, total: u64) -> u64
     }
 }
 
-/// Collects the Elements of level 1 of a Segment, or answers the limit that one passes. The file has
-/// `total` octets, and earlier inputs have held so many octets of Info, Tracks, Chapters and Tags.
+/// Collects the Elements of level 1 of a Segment, or returns the damage of the first one that passes a limit. The
+/// file has `total` bytes, and earlier inputs have `held` bytes of Info, Tracks, Chapters and Tags.
 pub fn collect<R: Reads>(
     alloc: Global,
     window: &mut Window,

@@ -1,4 +1,4 @@
-//! The Elements of level 1, one after the other: RFC 9559, section 5.1 (Segment Element).
+//! The Elements of level 1 in sequence: RFC 9559, section 5.1 (Segment Element).
 
 ghost use Rattle.std.specs.Prelude.{◌≡◌, ℕ, ◌≤◌, List, length, IfOk, OnErr};
 ghost use Rattle.mkv_io.specs.Faults.{HasCause, is_failure};
@@ -15,7 +15,8 @@ use mkv_io::{Failed, FileId, Reads};
 use mkv_schema::Header;
 use std::marker::Model;
 
-/// Gives the Elements of level 1 of a Segment, Clusters too, in the order of the file. It takes no memory.
+/// Iterator over the Elements of level 1 of a Segment, including Clusters, in the order of the file. It doesn't
+/// allocate.
 #[derive(Drop)]
 pub struct LevelOne {
     window: SmallWindow,
@@ -37,7 +38,7 @@ impl Model for LevelOne {
 }
 
 impl LevelOne {
-    /// The Elements of level 1 of a file whose outline this is.
+    /// Returns an iterator over the Elements of level 1 of the file `file` with the outline `outline`.
     pub fn start(outline: &Outline, file: FileId) -> LevelOne
         ensures place { result ≡ first_place outline.now.segment outline.now.total file }
         ensures left { HasAllElementsLeft outline.now result }
@@ -45,7 +46,7 @@ impl LevelOne {
         LevelOne::over(&outline.segment(), outline.total(), file)
     }
 
-    // The Elements of a Segment in a file of `total` octets.
+    // Returns an iterator over the Elements of a Segment in a file of `total` bytes.
     fn over(segment: &Header, total: u64, file: FileId) -> LevelOne
         requires { segment.now.body ≤ total }
         ensures place { result ≡ first_place segment.now total file }
@@ -60,8 +61,8 @@ impl LevelOne {
         }
     }
 
-    /// The next Element. None is answered where no more stand before the Segment's end or a damage, and
-    /// again from then on. After `Failed` nothing is held, and the same Element is looked for again.
+    /// Returns the next Element, or None at the Segment's end or at a damage, and again after that. After `Failed`
+    /// nothing is held, and the next call looks for the same Element again.
     pub fn next<R: Reads>(&mut self, src: &mut R) -> Result<Option<Header>, Failed>
         requires { CanRead (live_files R.Reads src.old) self.old }
         ensures ok { IfRead R.Reads src.old self.old.file result (λ found bytes. GivesNext bytes self.old self.new found) }

@@ -1,4 +1,4 @@
-//! The limits of a reader.
+//! Limits of a reader.
 
 ghost use Rattle.std.specs.Prelude.{◌≡◌};
 ghost use Rattle.mkv_schema.specs.Outline.{over};
@@ -7,7 +7,7 @@ use elements::{damage_at, known};
 use mkv_io::{Damage, Kind};
 use mkv_schema::Header;
 
-/// The refusal of an Element whose body has more octets than the limit.
+/// Returns the damage of an Element whose body has more than `limit` bytes.
 pub fn over(limit: u64, header: &Header) -> Option<Damage>
     ensures { result ≡ over limit header.now }
 {

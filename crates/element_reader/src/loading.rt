@@ -1,4 +1,4 @@
-//! The body of an Element, read whole.
+//! Bodies of Elements that are read whole.
 
 ghost use Rattle.std.specs.Prelude.{length, ◌≡◌, ◌≤◌, ◌↔◌, false, Some, IfOk, IsErrOf};
 ghost use Rattle.mkv_io.specs.Bounds.{ReadsUpTo};
@@ -18,21 +18,21 @@ use mkv_schema::limits::{MAX_CUES_LEN, MAX_HEADER_LEN, MAX_MASTER_LEN};
 use std::alloc::Global;
 use thiserror::Error;
 
-/// Why a body isn't loaded.
+/// Reason why a body isn't loaded.
 #[derive(Debug, Drop, Error)]
 pub enum LoadEnd {
-    /// It has more octets than are loaded of an Element of its ID.
+    /// The body is longer than the limit for its ID.
     #[error("TooLarge")]
     TooLarge(Damage),
     /// A read failed.
     #[error("ReadFault")]
     ReadFault,
-    /// There is no memory.
+    /// Memory ran out.
     #[error("Memory")]
     Memory,
 }
 
-// The most octets that are loaded of an Element of this ID, where there is a limit.
+// Returns the maximum length of a loaded Element with this ID, if there is a limit.
 fn limit_of(id: u32) -> Option<u64>
     ensures { result ≡ limit_of id }
 {
@@ -52,8 +52,8 @@ fn too_large(header: &Header) -> Option<Damage>
     over(limit, header)
 }
 
-/// The body of an Element whose size is known. It is refused where it has more octets than are loaded of
-/// an Element of its ID: 65,536 of EBML, 64 MiB of Cues, 16 MiB of Info, Tracks, Chapters, Tags and SeekHead.
+/// Reads the body of an Element with a known size. Refuses a body that is longer than the limit for its ID: 65,536
+/// bytes for EBML, 64 MiB for Cues, 16 MiB for Info, Tracks, Chapters, Tags and SeekHead.
 pub fn load<R: Reads>(
     alloc: Global,
     src: &mut R,

@@ -19,8 +19,8 @@ use mkv_schema::ids::CLUSTER;
 use std::alloc::Global;
 use std::marker::Model;
 
-/// The EBML header of a file, its Segment, and the Elements of level 1. Of the Clusters it keeps the
-/// first alone, and the last Element whatever it is.
+/// Outline of a file: its EBML header, its Segment, and its Elements of level 1. Of the Clusters only the first is
+/// kept, besides the last Element of all.
 #[derive(Drop)]
 pub struct Outline {
     total: u64,
@@ -57,10 +57,11 @@ impl Outline {
     ghost use Rattle.element_reader.specs.Collected.{IsInFile, last_element};
     ghost use Rattle.element_reader.specs.Outline.{IsOutline, first_in, is_outline_fault, outline_in, shown};
 
-    /// Reads the outline of a file. It is refused where it isn't a Matroska or WebM file that is read,
-    /// has no Segment, or passes a limit of its level 1: 16 MiB for one Info, Tracks, Chapters or Tags,
-    /// 64 MiB for all of them, 4,096 Elements besides Clusters. What is damaged at level 1 ends the list
-    /// there.
+    /// Reads the outline of a file. Refuses a file that isn't a Matroska or WebM file, has no Segment, or passes a
+    /// limit of level 1.
+    ///
+    /// The limits are 16 MiB for one Info, Tracks, Chapters or Tags, 64 MiB for all of them, and 4,096 Elements
+    /// besides Clusters. Damage at level 1 ends the list there.
     pub fn read<R: Reads>(alloc: Global, src: &mut R, file: FileId) -> Result<Outline, OutlineEnd>
         requires { IsLive R.Reads src.old file }
         ensures exact { IfTold R.Reads src.old file (λ bytes. IsOutline (outline_in 0 bytes) result) }
@@ -72,8 +73,8 @@ impl Outline {
         Outline::read_after(alloc, src, file, 0)
     }
 
-    /// Reads the outline of a file that comes after other inputs, whose Info, Tracks, Chapters and Tags
-    /// have `held` octets: with this file's they are at most 64 MiB.
+    /// Reads the outline of a file after other inputs. Their Info, Tracks, Chapters and Tags have `held` bytes, and
+    /// at most 64 MiB together with this file's.
     pub fn read_after<R: Reads>(
         alloc: Global,
         src: &mut R,
@@ -103,21 +104,21 @@ impl Outline {
         })
     }
 
-    /// The octets of the file.
+    /// Returns the length of the file in bytes.
     pub fn total(&self) -> u64
         ensures { result ≡ self.now.total }
     {
         self.total
     }
 
-    /// The EBML header.
+    /// Returns the EBML header.
     pub fn ebml(&self) -> Header
         ensures { result ≡ self.now.ebml }
     {
         self.ebml
     }
 
-    /// The Segment.
+    /// Returns the Segment.
     pub fn segment(&self) -> Header
         ensures exact { result ≡ self.now.segment }
         ensures inside { result.body ≤ self.now.total }
@@ -125,21 +126,21 @@ impl Outline {
         self.segment
     }
 
-    /// The octets of every Info, Tracks, Chapters and Tags of this file.
+    /// Returns the number of bytes of all Info, Tracks, Chapters and Tags of this file.
     pub fn held(&self) -> u64
         ensures { result ≡ self.now.held }
     {
         self.held
     }
 
-    /// How many Elements of level 1 other than Clusters there are.
+    /// Returns the number of Elements of level 1 besides Clusters.
     pub fn count(&self) -> usize
         ensures { result ≡ length self.now.others }
     {
         self.level.kept.others.len()
     }
 
-    /// The Element of level 1 of this number, from 0, in the order of the file. Clusters don't count.
+    /// Returns the Element of level 1 with the number `k`, counted from 0 in the order of the file without Clusters.
     pub fn at(&self, k: usize) -> Header
         requires { k < length self.now.others }
         ensures exact { slice_get self.now.others k ≡ Some result }
@@ -148,7 +149,7 @@ impl Outline {
         self.level.kept.others[k]
     }
 
-    /// The first Element of level 1 of an ID.
+    /// Returns the first Element of level 1 with the ID `id`.
     pub fn first(&self, id: u32) -> Option<Header>
         ensures kept { result ≡ first_in id self.now }
         ensures inside { id ≢ CLUSTER_ID → IfSome result (IsInFile self.now.total) }
@@ -160,14 +161,14 @@ impl Outline {
         first_of(&self.level.kept.others, id)
     }
 
-    /// The place of the first Cluster, in octets from the start of the file.
+    /// Returns the offset of the first Cluster, in bytes from the start of the file.
     pub fn first_cluster(&self) -> Option<u64>
         ensures { result ≡ option_map (λ h. h.offset) self.now.cluster }
     {
         self.level.kept.cluster.map(|header| header.offset)
     }
 
-    /// The last Element of level 1, Clusters too.
+    /// Returns the last Element of level 1, which may be a Cluster.
     pub fn last(&self) -> Option<Header>
         ensures kept { result ≡ self.now.last }
         ensures exact { (bytes : List ℕ) (o : Outlined) → self.now ≡ shown bytes o → result ≡ last_element o.list }
@@ -175,15 +176,15 @@ impl Outline {
         self.level.kept.last
     }
 
-    /// Octets from the start of the file to the Segment's end. A Segment of unknown size that a damage
-    /// ends reaches to the end of the file.
+    /// Returns the offset of the Segment's end, in bytes from the start of the file. A Segment of unknown size that
+    /// ends with damage reaches to the end of the file.
     pub fn end(&self) -> u64
         ensures { result ≡ self.now.end }
     {
         self.level.end
     }
 
-    /// The damage that ends the Elements of level 1, if one does.
+    /// Returns the damage that ends the Elements of level 1, if any.
     pub fn damage(&self) -> Option<Damage>
         ensures { result ≡ self.now.damage }
     {

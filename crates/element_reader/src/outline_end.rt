@@ -1,4 +1,4 @@
-//! Why no outline is read.
+//! Reasons why no outline is read.
 
 ghost use Rattle.std.specs.Prelude.{◌≡◌};
 ghost use Rattle.element_reader.specs.declared.outline_end.OutlineEnd.TheVariants as outline_end;
@@ -7,7 +7,7 @@ use mkv_io::{Damage, Failed, ReadEnd};
 use std::alloc::AllocError;
 use thiserror::Error;
 
-/// Why no outline is read.
+/// Reason why no outline is read.
 #[derive(Debug, Drop, Error)]
 pub enum OutlineEnd {
     /// The file is refused: it isn't Matroska, or passes a limit.
@@ -16,7 +16,7 @@ pub enum OutlineEnd {
     /// A read failed.
     #[error("ReadFault")]
     ReadFault,
-    /// There is no memory.
+    /// Memory ran out.
     #[error("Memory")]
     Memory,
 }

@@ -12,7 +12,8 @@ use mkv_io::{Damage, Failed, FileId, Kind, Reads};
 use mkv_schema::Header;
 use mkv_schema::ids::SEGMENT;
 
-/// The Segment of a file of `total` octets, from a place of level 0 on, or what refuses the file on the way.
+/// Returns the Segment of a file of `total` bytes, from the offset `from` at level 0 on, or the damage that refuses
+/// the file before it.
 #[tactic(auto, using(crate::proofs::SegmentLemmas::ways))]
 pub fn find_segment<R: Reads>(
     window: &mut Window,

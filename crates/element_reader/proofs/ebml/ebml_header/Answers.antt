@@ -8,16 +8,16 @@ use Rattle.mkv_io.specs.Results.{unless}
 use Rattle.element_reader.proofs.EbmlLemmas.{ebml_header-none, ebml_header-is, ebml_header-over, IsBody-read}
 use Rattle.element_reader.proofs.ebml.ebml_header.Goals as goal
 
--- no Element stands at the start
+-- There is no Element at the start.
 pub returns-in-Err-clause-ok : goal.returns-in-Err-clause-ok
 returns-in-Err-clause-ok g c = λ bytes told. ebml_header-none bytes c.in-Err.damage (sym c.in-Err.is ∙ c.in_ok-header.ensures.ok bytes told)
 
--- its size refuses it
+-- Its size refuses it.
 pub returns-in-Some-clause-ok : goal.returns-in-Some-clause-ok
 returns-in-Some-clause-ok g c = λ bytes told.
     ebml_header-over bytes c.in-Ok.header c.in-Some.damage (sym c.in-Ok.is ∙ c.in_ok-header.ensures.ok bytes told) (sym c.in-Some.is ∙ c.over.ensures)
 
--- its causes refuse it
+-- Its causes refuse it.
 pub returns-in-Some-header_refusal-clause-ok : goal.returns-in-Some-header_refusal-clause-ok
 returns-in-Some-header_refusal-clause-ok g c = λ bytes told.
     let h = c.in-Ok.header in
@@ -33,7 +33,7 @@ returns-in-Some-header_refusal-clause-ok g c = λ bytes told.
     let is = IsBody-read bytes h.body c.args.total (known h.size) c.deref.result.now whole within (ap length body ∙ c.fill.auto.into ∙ asked) read in
     ap (λ (r : Option Damage). unless r h) (sym c.in-Some-header_refusal.is) ∙ ebml_header-is bytes h c.header_refusal.result first (c.header_refusal.ensures bytes is)
 
--- nothing refuses it
+-- Nothing refuses it.
 pub returns-clause-ok : goal.returns-clause-ok
 returns-clause-ok g c = λ bytes told.
     let h = c.in-Ok.header in

@@ -9,7 +9,7 @@ use Rattle.ebml_numbers.proofs.NumberLemmas.{IfOk-each}
 use Rattle.element_reader.proofs.EbmlLemmas.{begins, ebml_inside, starts_with-front, first_element-begins, first_element-other}
 use Rattle.element_reader.proofs.ebml.first_element.Goals as goal
 
--- the file doesn't begin as an EBML header does
+-- The file doesn't begin with the EBML header's ID.
 pub returns-then-not-starts_with-clause-ok : goal.returns-then-not-starts_with-clause-ok
 returns-then-not-starts_with-clause-ok g c = λ bytes told.
     let total : c.args.total ≡ length bytes = c.requires.whole ∙ sym (g.met.R.Reads.told_size (g.R.Reads.standing c.args.src.now) c.args.file.n bytes told) in
@@ -18,7 +18,7 @@ returns-then-not-starts_with-clause-ok g c = λ bytes told.
     let test = c.starts_with.ensures.value ∙ ap (λ (o : List ℕ). starts_with nat_eq o ebml_mark) octets ∙ starts_with-front bytes len (c.min-len.ensures ∙ ap (λ n. min n 12) total) in
     ap Err c.damage.ensures ∙ first_element-other bytes c.starts_with.result test c.if-not-starts_with.true
 
--- what is held of the file is enough for a header
+-- The held bytes of the file are enough for a header.
 pub returns-clause-ok : goal.returns-clause-ok
 returns-clause-ok g c = λ bytes told.
     let total : c.args.total ≡ length bytes = c.requires.whole ∙ sym (g.met.R.Reads.told_size (g.R.Reads.standing c.args.src.now) c.args.file.n bytes told) in
@@ -32,7 +32,7 @@ returns-clause-ok g c = λ bytes told.
     ∙ ap (λ n. element_in at_level_0 (take len (drop 0 bytes)) n 0 n) total
     ∙ element_at-front at_level_0 bytes 0 (length bytes) len (omega arith) (omega (arith, most)))
 
--- it doesn't pass the end of the file
+-- The Element ends in the file.
 pub returns-clause-inside : goal.returns-clause-inside
 returns-clause-inside g c =
     IfOk-each (λ h. stated_end h ≤ c.args.total) c.read_header.result

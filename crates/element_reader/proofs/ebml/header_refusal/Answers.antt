@@ -7,7 +7,7 @@ use Rattle.element_reader.proofs.FieldLemmas.{over-none, refused-by_child, refus
 use Rattle.element_reader.proofs.LevelLemmas.{none_where}
 use Rattle.element_reader.proofs.ebml.header_refusal.Goals as goal
 
--- the children refuse it
+-- The children refuse it.
 pub returns-in-Some : goal.returns-in-Some
 returns-in-Some c = λ bytes is.
     let h = c.args.header.now in
@@ -15,7 +15,7 @@ returns-in-Some c = λ bytes is.
     sym (ap (λ n. first_damage (header_causes bytes h (children bytes h.body (h.body + n)))) (sym c.requires.whole)
     ∙ refused-by_child (over MAX_HEADER_LEN h) (bad_value bytes EBML run.list) run.damage (value_causes bytes run.list) c.in-Some.damage (over-none h c.requires.most) (sym (c.in-Some.ensures bytes is)))
 
--- their values are what is left
+-- Otherwise their values decide.
 pub returns : goal.returns
 returns c = λ bytes is.
     let h = c.args.header.now in

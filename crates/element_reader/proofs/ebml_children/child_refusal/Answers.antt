@@ -5,7 +5,7 @@ use Rattle.element_reader.specs.EbmlChildren.{children, child_refusal}
 use Rattle.element_reader.proofs.ChildrenLemmas.{child_refusal-end, child_refusal-breaks, child_refusal-bad, child_refusal-goes_on}
 use Rattle.element_reader.proofs.ebml_children.child_refusal.Goals as goal
 
--- a child isn't a value of its kind
+-- A child isn't a value of its kind.
 pub returns-then-not-is_known_value : goal.returns-then-not-is_known_value
 returns-then-not-is_known_value c = λ bytes is.
     let e = c.args.base + length c.args.body.now in
@@ -13,17 +13,17 @@ returns-then-not-is_known_value c = λ bytes is.
     let bad = sym (c.is_known_value.ensures ∙ ap (is_known_value EBML h.id) (c.body_in.ensures bytes c.args.total is)) ∙ c.if-not-is_known_value.true in
     ap Some c.damage_at.ensures ∙ sym (c.loop-at.invariant.rest bytes is ∙ child_refusal-bad bytes c.loop-at.at e h c.loop-at-test.true (c.in-Ok.ensures.exact bytes is) bad)
 
--- a damage stands among them
+-- There is a damage among them.
 pub returns-in-Err : goal.returns-in-Err
 returns-in-Err c = λ bytes is.
     sym (c.loop-at.invariant.rest bytes is ∙ child_refusal-breaks bytes c.loop-at.at (c.args.base + length c.args.body.now) c.in-Err.damage c.loop-at-test.true (c.in-Err.ensures.exact bytes is))
 
--- nothing refuses them
+-- Nothing refuses them.
 pub returns : goal.returns
 returns c = λ bytes is.
     sym (c.loop-at.invariant.rest bytes is ∙ child_refusal-end bytes c.loop-at.at (c.args.base + length c.args.body.now) c.loop-at-test.false)
 
--- another child is passed
+-- Another child is passed.
 pub loop-at-preserved : goal.loop-at-preserved
 loop-at-preserved c =
     let e = c.args.base + length c.args.body.now in

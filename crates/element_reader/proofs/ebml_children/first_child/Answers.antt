@@ -4,22 +4,22 @@ use Rattle.element_reader.specs.EbmlChildren.{children}
 use Rattle.element_reader.proofs.ChildrenLemmas.{first_child-end, first_child-breaks, first_child-found, first_child-goes_on}
 use Rattle.element_reader.proofs.ebml_children.first_child.Goals as goal
 
--- the first is found
+-- The first child is found.
 pub returns-then-child-id-clause-exact : goal.returns-then-child-id-clause-exact
 returns-then-child-id-clause-exact c = λ bytes is.
     sym (c.loop-at.invariant.rest bytes is ∙ first_child-found bytes c.args.id c.loop-at.at (c.args.base + length c.args.body.now) c.in-Ok.child c.loop-at-test.true (c.in-Ok.ensures.exact bytes is) c.if-child-id.true)
 
--- a damage stands before it
+-- There is a damage before it.
 pub returns-in-Err-clause-exact : goal.returns-in-Err-clause-exact
 returns-in-Err-clause-exact c = λ bytes is.
     sym (c.loop-at.invariant.rest bytes is ∙ first_child-breaks bytes c.args.id c.loop-at.at (c.args.base + length c.args.body.now) _ c.loop-at-test.true (c.in-Err.ensures.exact bytes is))
 
--- there is none
+-- There is none.
 pub returns-clause-exact : goal.returns-clause-exact
 returns-clause-exact c = λ bytes is.
     sym (c.loop-at.invariant.rest bytes is ∙ first_child-end bytes c.args.id c.loop-at.at (c.args.base + length c.args.body.now) c.loop-at-test.false)
 
--- another child is passed
+-- Another child is passed.
 pub loop-at-preserved : goal.loop-at-preserved
 loop-at-preserved c =
     let e = c.args.base + length c.args.body.now in

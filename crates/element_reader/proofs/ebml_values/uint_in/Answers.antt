@@ -6,7 +6,7 @@ use Rattle.element_reader.specs.EbmlChildren.{children}
 use Rattle.element_reader.proofs.FieldLemmas.{uint_in-is, uint_value-none, uint_value-some, short_of, take-short}
 use Rattle.element_reader.proofs.ebml_values.uint_in.Goals as goal
 
--- an empty integer is the default
+-- An empty integer is the default.
 pub returns-then-is_empty : goal.returns-then-is_empty
 returns-then-is_empty c = λ bytes is none.
     let list = (children bytes c.args.base (c.args.base + length c.args.body.now)).list in
@@ -17,7 +17,7 @@ returns-then-is_empty c = λ bytes is none.
     uint_in-is bytes c.args.id list h c.unwrap_or-default.result (c.in-Some.ensures.exact bytes is)
     (default ∙ sym (uint_value-none c.args.id (body_of bytes h) (ap length (sym octets) ∙ empty)))
 
--- another is the number of its octets
+-- Any other integer is the number of its bytes.
 pub returns-else-is_empty : goal.returns-else-is_empty
 returns-else-is_empty c = λ bytes is none.
     let run = children bytes c.args.base (c.args.base + length c.args.body.now) in

@@ -6,7 +6,7 @@ use Rattle.mkv_schema.specs.declared.limits.TheConstants.{MAX_ELEMENT_HEADER_LEN
 use Rattle.mkv_schema.proofs.ElementLemmas.{element_at-front}
 use Rattle.element_reader.proofs.head.header_at.Goals as goal
 
--- what was read is enough for a header
+-- The bytes that were read are enough for a header.
 read_at_place : (bytes octets : List ℕ) (total at end len n : ℕ) → octets ≡ octets_from bytes at n → n ≡ len → total ≡ length bytes → at ≤ end → len ≡ min (end - at) MAX_ELEMENT_HEADER_LEN → element_in anywhere octets total at end ≡ element_at anywhere bytes at end
 read_at_place bytes octets total at end len n read count is place most =
     ap (λ o. element_in anywhere o total at end) (read ∙ ap (octets_from bytes at) count)

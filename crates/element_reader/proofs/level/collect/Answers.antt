@@ -10,7 +10,7 @@ use Rattle.element_reader.proofs.CollectedLemmas.{IsInFile-more}
 use Rattle.element_reader.proofs.LevelLemmas.{IsOnWay-more, none_where}
 use Rattle.element_reader.proofs.level.collect.Goals as goal
 
--- a damage ends the Elements behind the last
+-- A damage ends the Elements after the last.
 pub returns-in-Err-clause-ok : goal.returns-in-Err-clause-ok
 returns-in-Err-clause-ok g c = λ bytes told.
     let now = ap (λ s. (g.R.Reads.files s).content c.args.file.n) c.loop-kept.invariant.same.standing ∙ told in
@@ -23,7 +23,7 @@ returns-in-Err-clause-ok g c = λ bytes told.
     (c.loop-kept.invariant.way bytes told) steps
     (c.in_ok-damage-in-Element.ensures.refusal c.args.held) none (c.in_ok-damage-in-Element.ensures.kept none c.args.held))
 
--- the last Element is kept too
+-- The last Element is kept too.
 pub returns-in-Err-clause-whole : goal.returns-in-Err-clause-whole
 returns-in-Err-clause-whole g c =
     let step = c.in-Element.is ∙ ap (Element c.in-Element.header) c.in-Err.is in
@@ -32,7 +32,7 @@ returns-in-Err-clause-whole g c =
     let more = IsInFile-more c.args.total c.segment_bound-bound.result c.loop-kept.kept.others.items c.in-Element.header c.loop-kept.invariant.within c.loop-kept.invariant.whole (rw step at c.in_ok-next_of_segment.ensures.step.whole) in
     subst (λ (l : List Header). All (IsInFile c.args.total) l) (sym (kept ∙ c.in_ok-damage-in-Element.ensures.others none)) more
 
--- an Element is kept, and the next stands behind it
+-- An Element is kept, and the next one follows.
 pub loop-kept-preserved : goal.loop-kept-preserved
 loop-kept-preserved g c =
     let step = c.in-Element.is ∙ ap (Element c.in-Element.header) c.in-Ok.is in

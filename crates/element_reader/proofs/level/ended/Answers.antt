@@ -5,7 +5,7 @@ use Rattle.mkv_schema.specs.Element.{is_unknown, end_in}
 use Rattle.element_reader.proofs.LevelLemmas.{HasLevel-ended}
 use Rattle.element_reader.proofs.level.ended.Goals as goal
 
--- all Elements were given
+-- The reader has passed all Elements.
 pub returns-clause-level : goal.returns-clause-level
 returns-clause-level c = λ held bytes total way.
     let h = c.args.segment.now in

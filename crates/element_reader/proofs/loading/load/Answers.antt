@@ -5,7 +5,7 @@ use Rattle.mkv_io.specs.Contents.{octets_from}
 use Rattle.mkv_schema.specs.Element.{known}
 use Rattle.element_reader.proofs.loading.load.Goals as goal
 
--- they are the body's
+-- The bytes are the body's.
 pub returns-clause-ok : goal.returns-clause-ok
 returns-clause-ok g c = λ bytes told.
     let h = c.args.header.now in

@@ -4,7 +4,7 @@ use Rattle.mkv_schema.specs.Elements.{id_of}
 use Rattle.element_reader.proofs.SegmentLemmas.{segment_from-found, segment_from-breaks}
 use Rattle.element_reader.proofs.segment.find_segment.Goals as goal
 
--- the Segment itself, or what is wrong with it
+-- The Segment itself, or its damage.
 pub returns-then-id_of-eq-SEGMENT-clause-ok : goal.returns-then-id_of-eq-SEGMENT-clause-ok
 returns-then-id_of-eq-SEGMENT-clause-ok g c = λ bytes told.
     let total : c.args.total ≡ length bytes = c.requires.whole ∙ sym (g.met.R.Reads.told_size (g.R.Reads.standing c.args.src.now) c.args.file.n bytes told) in
@@ -15,7 +15,7 @@ returns-then-id_of-eq-SEGMENT-clause-ok g c = λ bytes told.
     (c.in_ok-found.ensures.ok bytes now ∙ ap (element_at at_level_0 bytes c.loop-at.at) total)
     (sym c.id_of.ensures ∙ c.if-id_of-eq-SEGMENT.true))
 
--- a damage before it
+-- A damage before it.
 pub returns-in-Err-clause-ok : goal.returns-in-Err-clause-ok
 returns-in-Err-clause-ok g c = λ bytes told.
     let total : c.args.total ≡ length bytes = c.requires.whole ∙ sym (g.met.R.Reads.told_size (g.R.Reads.standing c.args.src.now) c.args.file.n bytes told) in

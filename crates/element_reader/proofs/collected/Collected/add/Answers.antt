@@ -4,7 +4,7 @@ use Rattle.mkv_schema.specs.declared.ids.TheConstants.{CLUSTER}
 use Rattle.element_reader.proofs.CollectedLemmas.{Keeps-more, option_or-none, option_or-first, option_or-later}
 use Rattle.element_reader.proofs.collected.Collected.add.Goals as goal
 
--- an Element other than a Cluster
+-- An Element other than a Cluster.
 pub returns-in_ok-push-clause-kept : goal.returns-in_ok-push-clause-kept
 returns-in_ok-push-clause-kept c = λ _ held list keeps.
     let h = c.args.header in
@@ -15,7 +15,7 @@ returns-in_ok-push-clause-kept c = λ _ held list keeps.
     refl
     (ap (λ n. c.args.self.now.held + n) c.described_octets.ensures)
 
--- the first Cluster
+-- The first Cluster.
 pub returns-then-is_none-clause-kept : goal.returns-then-is_none-clause-kept
 returns-then-is_none-clause-kept c = λ _ held list keeps.
     let h = c.args.header in
@@ -26,7 +26,7 @@ returns-then-is_none-clause-kept c = λ _ held list keeps.
     refl
     (ap (λ n. c.args.self.now.held + n) c.described_octets.ensures)
 
--- another Cluster
+-- Another Cluster.
 pub returns-else-is_none-clause-kept : goal.returns-else-is_none-clause-kept
 returns-else-is_none-clause-kept c = λ _ held list keeps.
     let h = c.args.header in

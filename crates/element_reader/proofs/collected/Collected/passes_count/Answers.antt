@@ -4,7 +4,7 @@ use Rattle.mkv_schema.specs.declared.ids.TheConstants.{CLUSTER}
 use Rattle.element_reader.proofs.CollectedLemmas.{passes_count-kept}
 use Rattle.element_reader.proofs.collected.Collected.passes_count.Goals as goal
 
--- one more than are kept
+-- One more than are kept.
 pub returns-then-header-ne-CLUSTER : goal.returns-then-header-ne-CLUSTER
 returns-then-header-ne-CLUSTER c = λ held list keeps.
     let h = c.args.header.now in

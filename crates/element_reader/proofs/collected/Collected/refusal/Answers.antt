@@ -3,7 +3,7 @@ use Rattle.mkv_schema.specs.Outline.{passes_size, passes_count}
 use Rattle.element_reader.proofs.CollectedLemmas.{passes-count, passes-none}
 use Rattle.element_reader.proofs.collected.Collected.refusal.Goals as goal
 
--- there are too many
+-- There are too many.
 pub returns-then-passes_count-clause-exact : goal.returns-then-passes_count-clause-exact
 returns-then-passes_count-clause-exact c = λ held list keeps.
     let h = c.args.header.now in
@@ -12,7 +12,7 @@ returns-then-passes_count-clause-exact c = λ held list keeps.
     (sym (c.passes_size.ensures.exact held list keeps) ∙ c.if-passes_size.false)
     (sym (c.passes_count.ensures held list keeps) ∙ c.if-passes_count.true))
 
--- nothing is passed
+-- No limit is passed.
 pub returns-clause-exact : goal.returns-clause-exact
 returns-clause-exact c = λ held list keeps.
     let h = c.args.header.now in

@@ -1,7 +1,7 @@
 use Rattle.element_reader.proofs.LevelOneLemmas.{left-behind}
 use Rattle.element_reader.proofs.level_one.LevelOne.next.Goals as goal
 
--- the Element is the first of those that were left
+-- The Element is the first of the Elements that were left.
 pub returns-in-Element-clause-ok : goal.returns-in-Element-clause-ok
 returns-in-Element-clause-ok g c = λ bytes told.
     let now = rw (← c.self.view_is) at told in

@@ -5,13 +5,13 @@ use Rattle.element_reader.specs.Segment.{segment_from}
 use Rattle.element_reader.proofs.OutlineLemmas.{outline_in-ebml, outline_in-segment, outline_in-limit, outline_in-found}
 use Rattle.element_reader.proofs.outline.Outline.read_after.Goals as goal
 
--- the EBML header refuses the file
+-- The EBML header refuses the file.
 pub returns-in_err-ebml-clause-exact : goal.returns-in_err-ebml-clause-exact
 returns-in_err-ebml-clause-exact g c = λ bytes told.
     let p = err_from_is_err_and c.from_residual-in_err-ebml.result c.from_residual-in_err-ebml.ensures.1 in
     rw (p.1, p.2) (outline_in-ebml c.args.held bytes c.in_err-ebml.field-0.0 (sym (c.in_ok-ebml_header.ensures.ok bytes told) ∙ c.in_err-ebml.was))
 
--- there is no Segment
+-- There is no Segment.
 pub returns-in_err-segment-clause-exact : goal.returns-in_err-segment-clause-exact
 returns-in_err-segment-clause-exact g c = λ bytes told.
     let p = err_from_is_err_and c.from_residual-in_err-segment.result c.from_residual-in_err-segment.ensures.1 in
@@ -20,7 +20,7 @@ returns-in_err-segment-clause-exact g c = λ bytes told.
     let from = ap (λ n. segment_from bytes (c.in_ok-ebml.ebml.body + n)) (sym c.known.ensures) in
     rw (p.1, p.2) (outline_in-segment c.args.held bytes c.in_ok-ebml.ebml c.in_err-segment.field-0.0 ebml (from ∙ sym (c.in_ok-find_segment.ensures.ok bytes now) ∙ c.in_err-segment.was))
 
--- an Element of level 1 passes a limit
+-- An Element of level 1 passes a limit.
 pub returns-in_err-level-clause-exact : goal.returns-in_err-level-clause-exact
 returns-in_err-level-clause-exact g c = λ bytes told.
     let p = err_from_is_err_and c.from_residual-in_err-level.result c.from_residual-in_err-level.ensures.1 in
@@ -32,7 +32,7 @@ returns-in_err-level-clause-exact g c = λ bytes told.
     let limit = rw c.in_err-level.was at (c.in_ok-collect.ensures.ok bytes later) in
     rw (p.1, p.2) (outline_in-limit c.args.held bytes c.in_ok-ebml.ebml c.in_ok-segment.segment c.in_err-level.field-0.0 ebml segment limit)
 
--- nothing refuses the file
+-- Nothing refuses the file.
 pub returns-clause-exact : goal.returns-clause-exact
 returns-clause-exact g c = λ bytes told.
     let ebml = sym (c.in_ok-ebml_header.ensures.ok bytes told) ∙ c.in_ok-ebml.was in
