@@ -10,8 +10,7 @@ use Rattle.element_reader.specs.declared.collected.Collected.{Collected}
 use Rattle.element_reader.specs.declared.level.Level.{Level}
 use Rattle.mkv_schema.specs.Element.{is_unknown, end_in}
 
--- The level has the Elements of level 1 of a Segment: the ones that are kept, the damage that ends them, and the end of the Segment. None passes
--- a limit.
+-- The level has the kept Elements of level 1 of a Segment, the damage that ends them, and the end of the Segment. None passes a limit.
 pub record HasLevel (held : ℕ) (bytes : List ℕ) (segment : Header) (level : Level) : Type 0 where
   pub limits : limits_from held [] (segment_run bytes segment).list ≡ None
   pub kept : Keeps held (segment_run bytes segment).list level.kept
@@ -40,7 +39,7 @@ pub record IsOnWay (held : ℕ) (whole left : Run) (kept : Collected) : Type 0 w
   pub split : whole ≡ all_in_front given left
   pub limits : limits_from held [] whole.list ≡ limits_from held given left.list
 
--- the end of a Segment: of known size, by its header; of unknown size, where its run ends, or the end of the file after a damage
+-- the end of a Segment. If its size is unknown, it is the end of its run, or the end of the file after a damage.
 abbrev pub end_met : ℕ → Header → ℕ → Option Damage → ℕ
 end_met total segment at damage = if is_unknown segment.size then option_map_or (λ _. total) damage at else end_in total segment
 

@@ -13,8 +13,8 @@ use Rattle.elements.specs.Window.{ReadAhead, Holds, nothing_at}
 use Rattle.mkv_schema.specs.Outline.{segment_run}
 use Rattle.element_reader.specs.declared.outline.Outline.{Outline}
 
--- the state of an iterator over the Elements of level 1: its file, the size in the Segment's header, the next Element's offset, the greatest
--- offset of the Segment, and the bytes that are held
+-- the state of an iterator over the Elements of level 1. It has its file, the size in the Segment's header, the next Element's offset, the
+-- greatest offset of the Segment, and the bytes that are held.
 pub record Listing : Type 0 where
   pub file : FileId
   pub size : Size

@@ -10,8 +10,8 @@ use Rattle.element_reader.specs.Collected.{last_element, others_of}
 use Rattle.element_reader.specs.declared.outline_end.OutlineEnd.{OutlineEnd}
 use Rattle.element_reader.specs.declared.outline_end.OutlineEnd.TheVariants as outline_end
 
--- the length of a file, its EBML header and its Segment. Of its Elements of level 1: those other than Clusters, the first Cluster, and the last
--- of all. Then the number of bytes of all Info, Tracks, Chapters and Tags, the damage that ends level 1, if any, and the end of the Segment.
+-- the length of a file, its EBML header and its Segment; its Elements of level 1 other than Clusters, its first Cluster, and its last Element.
+-- Then the number of bytes of all Info, Tracks, Chapters and Tags, the damage that ends level 1, if any, and the end of the Segment.
 pub record FileOutline : Type 0 where
   pub total : ℕ
   pub ebml : Header

@@ -14,7 +14,7 @@ use mkv_schema::ids::{CHAPTERS, CLUSTER, INFO, TAGS, TRACKS};
 use mkv_schema::limits::{MAX_ELEMENTS, MAX_MASTER_LEN, MAX_MASTERS_LEN};
 use std::alloc::{AllocError, Global};
 
-/// Kept Elements of level 1, of those read up to now.
+/// Elements of level 1 that were read and kept up to now.
 #[derive(Drop)]
 pub struct Collected {
     /// The Elements other than Clusters, in the order of the file.

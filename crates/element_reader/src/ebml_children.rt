@@ -14,8 +14,8 @@ use mkv_io::{Damage, Kind};
 use mkv_schema::Header;
 use mkv_schema::ids::EBML;
 
-/// Returns the damage that refuses the children of an EBML header: the first child that isn't a value of its kind, or
-/// the damage that ends the children.
+/// Returns the damage that refuses the children of an EBML header. This is the first child that isn't a value of its
+/// kind, or the damage that ends them.
 pub fn child_refusal(body: &[u8], base: u64, total: u64) -> Option<Damage>
     requires { base + length body.now ≤ LONGEST_FILE }
     ensures { IfBody base total body.now (λ bytes. result ≡ child_refusal bytes (in_body bytes base body.now)) }

@@ -19,8 +19,8 @@ use mkv_schema::ids::CLUSTER;
 use std::alloc::Global;
 use std::marker::Model;
 
-/// Outline of a file: its EBML header, its Segment, and its Elements of level 1. Of the Clusters only the first is
-/// kept, besides the last Element of all.
+/// Outline of a file: its EBML header, its Segment, and its Elements of level 1. Only the first Cluster is kept,
+/// besides the last Element of all.
 #[derive(Drop)]
 pub struct Outline {
     total: u64,
