@@ -1,4 +1,4 @@
--- Octets that are written through a buffer.
+-- Laws on bytes that are written through a buffer.
 use Rattle.std.proofs.Common.{◌≡◌, ℕ, List, [], ◌++◌, take, drop, Result, Ok, Err, IsErr, IsErrOf, OnOk, refl, sym, ◌∙◌, ap, append_assoc, append-nil}
 use Rattle.std.proofs.lemmas.List.{take-append-drop}
 use Rattle.mkv_io.specs.declared.outside.MakeFault.{MakeFault}
@@ -11,11 +11,11 @@ use Rattle.mkv_outputs.specs.Written.{PassesOn, PassesSome, Passes}
 
 -- ---- one call
 
--- all octets wait
+-- All bytes wait.
 pub PassesOn-none : (names : Names) (holder octets : List ℕ) → PassesOn names names holder octets octets
 PassesOn-none names holder octets = record { written = []; whole = refl; added = sym (with_change-none names holder) }
 
--- all octets are written
+-- All bytes are written.
 pub PassesOn-all : (old new : Names) (holder octets left : List ℕ) → left ≡ [] → new ≡ with_change old holder (with_appended octets) → PassesOn old new holder octets left
 PassesOn-all old new holder octets left none added = record {
   written = octets;
@@ -23,14 +23,14 @@ PassesOn-all old new holder octets left none added = record {
   added = added;
 }
 
--- a first part of the octets is written
+-- A prefix of the bytes is written.
 pub PassesSome-part : (old new : Names) (holder octets : List ℕ) (n : ℕ) → new ≡ with_change old holder (with_appended (take n octets)) → PassesSome old new holder octets
 PassesSome-part old new holder octets n added = record {
   left = drop n octets;
   passed = record { written = take n octets; whole = sym (take-append-drop n octets); added = added };
 }
 
--- a refused append
+-- An append that failed.
 pub PassesSome-refused : {T : Type 0} (fault : MakeFault) (old new : LiveFiles) (names now : Names) (file : ℕ) (holder octets : List ℕ) → (IsErrOf {T = T} (Err fault) make_fault.Failed → AppendsPart old new names now file holder octets) → (IsErrOf {T = T} (Err fault) make_fault.Memory → now ≡ names) → PassesSome names now holder octets
 PassesSome-refused make_fault.Failed old new names now file holder octets failed memory =
     let part = failed refl in PassesSome-part names now holder octets part.kept part.added.names
@@ -41,7 +41,7 @@ PassesSome-refused make_fault.Memory old new names now file holder octets failed
 
 -- ---- two calls
 
--- octets behind others that were written whole
+-- Bytes after others that were all written.
 pub PassesOn-behind : (old mid new : Names) (holder between first next left : List ℕ) → between ≡ holder → PassesOn old mid holder first [] → PassesOn mid new between next left → PassesOn old new holder (first ++ next) left
 PassesOn-behind old mid new holder between first next left same before behind = record {
   written = before.written ++ behind.written;
@@ -50,7 +50,7 @@ PassesOn-behind old mid new holder between first next left same before behind = 
       ∙ with_change-more old holder before.written behind.written;
 }
 
--- octets that were written in part, and others behind them
+-- Bytes that were written in part, and others after them.
 pub PassesSome-more : (old new : Names) (holder first next : List ℕ) → PassesSome old new holder first → PassesSome old new holder (first ++ next)
 PassesSome-more old new holder first next some = record {
   left = some.left ++ next;
@@ -61,7 +61,7 @@ PassesSome-more old new holder first next some = record {
   };
 }
 
--- what was answered for octets behind others that were written whole
+-- The result for bytes after others that were all written.
 pub Passes-behind : {T E : Type 0} (result : Result T E) (old mid new : Names) (holder between first next none left : List ℕ) → none ≡ [] → between ≡ holder → PassesOn old mid holder first none → Passes mid new between next left result → Passes old new holder (first ++ next) left result
 Passes-behind (Ok done) old mid new holder between first next none left is same before behind =
     PassesOn-behind old mid new holder between first next left same (rw is at before) behind
@@ -70,12 +70,12 @@ Passes-behind (Err fault) old mid new holder between first next none left is sam
   passed = PassesOn-behind old mid new holder between first next behind.left same (rw is at before) behind.passed;
 }
 
--- what was answered after a refusal
+-- The result after a failure.
 pub Passes-err : {T E : Type 0} (result : Result T E) (old new : Names) (holder octets left : List ℕ) → IsErr result → PassesSome old new holder octets → Passes old new holder octets left result
 Passes-err (Ok done) old new holder octets left is some = absurd (cc)
 Passes-err (Err fault) old new holder octets left is some = some
 
--- what was answered for an append, where nothing waits
+-- The result of an append if no bytes wait.
 pub Passes-append : {T : Type 0} (result : Result T MakeFault) (old new : LiveFiles) (names now : Names) (file : ℕ) (holder octets left : List ℕ) → left ≡ [] → OnOk result (Appends old new names now file holder octets) → (IsErrOf result make_fault.Failed → AppendsPart old new names now file holder octets) → (IsErrOf result make_fault.Memory → now ≡ names) → Passes names now holder octets left result
 Passes-append (Ok done) old new names now file holder octets left none ok failed memory = PassesOn-all names now holder octets left none ok.names
 Passes-append (Err fault) old new names now file holder octets left none ok failed memory = PassesSome-refused fault old new names now file holder octets failed memory

@@ -1,4 +1,4 @@
--- What becomes of octets that are written through a buffer.
+-- The effects of writing bytes through a buffer.
 use Rattle.std.specs.Prelude.{◌≡◌, ℕ, ◌++◌, List, Result, Ok, Err}
 use Rattle.mkv_io.specs.declared.outside.FileId.{FileId}
 use Rattle.mkv_io.specs.Contents.{with_appended}
@@ -6,26 +6,26 @@ use Rattle.mkv_io.specs.Names.{Names, with_change}
 use Rattle.mkv_io.specs.declared.files.Files.{Ghosts}
 use Rattle.mkv_outputs.specs.declared.sink.Sink.{Sink}
 
--- Of octets the first are appended to a name's content, and these are left.
+-- The first of the bytes `octets` are appended to the content of `holder`, and the bytes `left` follow them.
 pub record PassesOn (old new : Names) (holder octets left : List ℕ) : Type 0 where
   pub written : List ℕ
   pub whole : octets ≡ written ++ left
   pub added : new ≡ with_change old holder (with_appended written)
 
--- Some first octets are appended.
+-- Some of the first bytes are appended.
 pub record PassesSome (old new : Names) (holder octets : List ℕ) : Type 0 where
   pub left : List ℕ
   pub passed : PassesOn old new holder octets left
 
--- What is left waits, unless the call was refused.
+-- The bytes `left` wait, unless the call failed.
 abbrev pub Passes : {T E : Type 0} → Names → Names → List ℕ → List ℕ → List ℕ → Result T E → Type 0
 Passes old new holder octets left (Ok _) = PassesOn old new holder octets left
 Passes old new holder octets left (Err _) = PassesSome old new holder octets
 
--- the same of the name of a live file
+-- The same for the name of a live file.
 abbrev pub PassesTo : {S T E : Type 0} → Ghosts S → FileId → S → S → List ℕ → List ℕ → Result T E → Type 0
 PassesTo f file old new octets left result = Passes (f.names old) (f.names new) (f.holder old file.n) octets left result
 
--- Octets that are written to an output pass to its file behind those that waited, or wait.
+-- Bytes that are written to an output follow the waiting ones into its file, or wait.
 abbrev pub PassesThrough : {S T E : Type 0} → Ghosts S → Sink → Sink → S → S → List ℕ → Result T E → Type 0
 PassesThrough f sink sink' old new octets result = PassesTo f sink.file old new (sink.waiting ++ octets) sink'.waiting result

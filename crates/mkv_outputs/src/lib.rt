@@ -1,7 +1,6 @@
 #![tactic(auto)]
 
-//! Outputs that are written side by side, each through a buffer, and the words for what stands of
-//! outputs under their names.
+//! Outputs that are written side by side, each through a buffer, and definitions of the content of their files.
 
 mod outputs;
 mod sink;

@@ -11,11 +11,11 @@ use mkv_io::{Bytes, Files, MakeFault};
 use std::alloc::{AllocError, Global};
 use std::marker::Model;
 
-/// Of so many outputs the buffers are reserved, and those of others grow.
+/// Number of outputs with reserved buffers. The buffers of further outputs grow.
 const RESERVED: usize = 64;
 
-/// Outputs that are written side by side. What they are given waits in buffers, until it is many octets
-/// or `flush` writes it. After a refusal they may be closed, and nothing else is promised of them.
+/// Outputs that are written side by side. Their bytes wait in buffers until a buffer is full, or until `flush` writes
+/// them. After a failed call outputs may only be closed.
 #[derive(Debug, Drop)]
 pub struct Outputs {
     alloc: Global,
@@ -36,7 +36,7 @@ impl Model for Outputs {
 }
 
 impl Outputs {
-    /// No outputs.
+    /// Returns an empty list of outputs.
     pub fn new(alloc: Global) -> Outputs
         ensures { result ≡ [] }
     {
@@ -46,7 +46,7 @@ impl Outputs {
         }
     }
 
-    /// Makes another output, empty, behind the others. All memory is taken before the name is touched.
+    /// Makes the file `name`, empty, as the last output. Takes all memory before it touches the file.
     pub fn add<F: Files>(&mut self, files: &mut F, name: &str) -> Result<(), MakeFault>
         requires outputs { AreOpen F.Reads files.old self.old }
         requires apart { AreOthers name.now (names_under F.Files.own files.old self.old) }
@@ -63,7 +63,7 @@ impl Outputs {
         Ok(())
     }
 
-    /// Gives octets to the k-th output, from 0.
+    /// Appends `bytes` to the output number `k`, counted from 0.
     pub fn write<F: Files>(
         &mut self,
         files: &mut F,
@@ -79,7 +79,7 @@ impl Outputs {
         write(&mut self.sinks[k], files, bytes)
     }
 
-    /// Writes what waits of the k-th output.
+    /// Writes the waiting bytes of the output number `k`.
     fn flush_one<F: Files>(&mut self, files: &mut F, k: usize) -> Result<(), MakeFault>
         requires below { k < length self.old }
         requires outputs { AreOpen F.Reads files.old self.old }
@@ -91,7 +91,7 @@ impl Outputs {
         flush(&mut self.sinks[k], files)
     }
 
-    /// Writes all that waits.
+    /// Writes all waiting bytes.
     pub fn flush<F: Files>(&mut self, files: &mut F) -> Result<(), MakeFault>
         requires { AreOpen F.Reads files.old self.old }
         ensures finishes { Finishes F.Files.own files.old files.new self.old result }
@@ -106,7 +106,7 @@ impl Outputs {
         Ok(())
     }
 
-    /// Ends the files of the outputs, whatever was answered before. What waits is dropped.
+    /// Closes the files of the outputs, whether earlier calls failed or not. Waiting bytes are dropped.
     pub fn close<F: Files>(self, files: &mut F)
         requires { AreOpen F.Reads files.old self }
         ensures { EndsOnly F.Reads F.Files.own files.old files.new (ids_of self) }
@@ -117,7 +117,7 @@ impl Outputs {
     }
 }
 
-/// The buffer of the k-th output, from 0.
+/// Returns the buffer of the output number `k`, counted from 0.
 fn buffer(alloc: Global, k: usize) -> Result<Bytes, AllocError>
     ensures { IfOk result (λ waiting. waiting ≡ []) }
 {

@@ -1,4 +1,4 @@
-//! One output that is being written.
+//! One output that is written through a buffer.
 
 ghost use Rattle.std.specs.Prelude.{◌≡◌, [], ◌∷◌, OnOk};
 ghost use Rattle.mkv_io.specs.Faults.{HasCause, is_make_failure};
@@ -9,17 +9,17 @@ ghost use Rattle.mkv_outputs.specs.Waiting.{WaitFew};
 
 use mkv_io::{Bytes, FileId, Files, MakeFault};
 
-/// How many octets wait at most.
+/// Maximum number of bytes that wait.
 pub const ROOM: usize = 262_144;
 
-/// A live file, and the octets that wait to be written to it.
+/// Live file, and the bytes that wait to be written to it.
 #[derive(Debug, Drop)]
 pub struct Sink {
     pub file: FileId,
     pub waiting: Bytes,
 }
 
-/// Writes what waits.
+/// Writes the waiting bytes.
 pub fn flush<F: Files>(sink: &mut Sink, files: &mut F) -> Result<(), MakeFault>
     requires live { IsLive F.Reads files.old sink.old.file }
     requires few { WaitFew sink.old }
@@ -37,7 +37,7 @@ pub fn flush<F: Files>(sink: &mut Sink, files: &mut F) -> Result<(), MakeFault>
     Ok(())
 }
 
-/// Writes octets, which may wait.
+/// Writes `bytes`, which may wait.
 pub fn write<F: Files>(sink: &mut Sink, files: &mut F, bytes: &[u8]) -> Result<(), MakeFault>
     requires live { IsLive F.Reads files.old sink.old.file }
     requires few { WaitFew sink.old }
@@ -55,7 +55,7 @@ pub fn write<F: Files>(sink: &mut Sink, files: &mut F, bytes: &[u8]) -> Result<(
     pass(sink, files, bytes)
 }
 
-/// Writes octets where none wait: at once where they would fill the buffer, else they wait.
+/// Writes `bytes` while no other bytes wait: at once if they would fill the buffer, and otherwise later.
 fn pass<F: Files>(sink: &mut Sink, files: &mut F, bytes: &[u8]) -> Result<(), MakeFault>
     requires live { IsLive F.Reads files.old sink.old.file }
     requires none { sink.old.waiting ≡ [] }

@@ -8,18 +8,18 @@ use Rattle.mkv_outputs.proofs.FilesLemmas.{AreLive-added, AreLive-below, AreNewe
 use Rattle.mkv_outputs.proofs.GivenLemmas.{Gives-refused, HaveBeenGiven-added}
 use Rattle.mkv_outputs.proofs.outputs.Outputs.add.Goals as goal
 
--- without memory the name isn't touched
+-- Without memory the file isn't touched.
 pub returns-in_err-waiting-clause-gives : goal.returns-in_err-waiting-clause-gives
 returns-in_err-waiting-clause-gives g c = Gives-refused g.F.Files _ _ c.from_residual.result _ _ c.args.name.now c.from_residual.ensures.0 (inl refl)
 
 pub returns-in_err-reserve-clause-gives : goal.returns-in_err-reserve-clause-gives
 returns-in_err-reserve-clause-gives g c = Gives-refused g.F.Files _ _ c.from_residual-in_err-reserve.result _ _ c.args.name.now c.from_residual-in_err-reserve.ensures.0 (inl refl)
 
--- a refused making leaves the name as it was, or empty
+-- A `create` that fails leaves the file as it was, or empty.
 pub returns-in_err-file-clause-gives : goal.returns-in_err-file-clause-gives
 returns-in_err-file-clause-gives g c = Gives-refused g.F.Files _ _ c.from_residual-in_err-file.result _ _ c.args.name.now c.from_residual-in_err-file.ensures.0 c.in_err-file.ensures.refused.names
 
--- the new output stands behind the others, and has no octets yet
+-- The new output follows the others, and has no bytes yet.
 pub returns-clause-gives : goal.returns-clause-gives
 returns-clause-gives g c = λ since given has.
     let added : c.push_reserved.new.self.items ≡ c.args.self.now ++ record { file = c.in_ok-file.file; waiting = c.in_ok-waiting.waiting } ∷ [] =
@@ -28,7 +28,7 @@ returns-clause-gives g c = λ since given has.
     (HaveBeenGiven-added since _ _ (g.F.Reads.files (g.F.Reads.standing c.args.files.now)).live _ _ c.args.self.now (record { file = c.in_ok-file.file; waiting = c.in_ok-waiting.waiting }) given c.args.name.now has
     c.in_ok-file.ensures.made.names c.in_ok-waiting.ensures c.in_ok-file.ensures.made.is_new.holder c.requires.outputs.live c.create.ensures.stays.holders c.requires.apart)
 
--- its number is new, so the others' files are live as before
+-- Its number is new, so the files of the others are live as before.
 pub returns-clause-only : goal.returns-clause-only
 returns-clause-only g c =
     let added : c.push_reserved.new.self.items ≡ c.args.self.now ++ record { file = c.in_ok-file.file; waiting = c.in_ok-waiting.waiting } ∷ [] =

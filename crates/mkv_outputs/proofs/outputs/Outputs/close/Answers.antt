@@ -7,7 +7,7 @@ use Rattle.mkv_outputs.proofs.FilesLemmas.{closed-more, still-live}
 use Rattle.mkv_outputs.proofs.GivenLemmas.{ids_of-at, length-ids_of}
 use Rattle.mkv_outputs.proofs.outputs.Outputs.close.Goals as goal
 
--- the file is none of those that were closed
+-- The file isn't one that was closed before.
 pub close-requires : goal.close-requires
 close-requires g c =
     let items : c.deref-sink-items.result.now ≡ c.args.self = c.deref-sink-items.ensures.value ∙ c.self.view_is in
@@ -18,7 +18,7 @@ close-requires g c =
     ∙ ap (λ (f : FileId). (g.F.Reads.files (g.F.Reads.standing c.loop-sink.files)).live f.n) (sym (ids_of-at c.args.self c.loop-sink.sink-index c.sink-item.result c.sink-item.result.file below))
     ∙ c.loop-sink.invariant.left c.loop-sink.sink-index c.sink-item.result.file (omega arith) (omega (arith, length-ids_of c.args.self))
 
--- one more file is closed
+-- One more file is closed.
 pub loop-sink-preserved : goal.loop-sink-preserved
 loop-sink-preserved g c =
     let items : c.deref-sink-items.result.now ≡ c.args.self = c.deref-sink-items.ensures.value ∙ c.self.view_is in

@@ -1,4 +1,4 @@
--- Nothing waits of the first outputs; what was given is the same, and only these outputs were written.
+-- No bytes wait for the first outputs. The bytes that were given are the same, and only these outputs were written.
 use Rattle.std.proofs.Common.{◌≡◌, List, length}
 use Rattle.mkv_io.specs.Names.{Names}
 use Rattle.mkv_outputs.specs.Outputs.{Output}

@@ -10,14 +10,14 @@ flush-requires-clause-live g c =
     AreLive-at (g.F.Reads.files (g.F.Reads.standing c.args.files.now)).live c.self.inside.sinks.items c.args.k c.index_mut.result.now
     (rw (← c.self.view_is) at c.requires.outputs.live) (rw (← c.self.view_is) at c.requires.below) c.index_mut.ensures.value
 
--- of what waits and of what comes the first octets are written, and the others wait
+-- The first of the waiting bytes are written, and the others wait.
 pub returns-clause-gives : goal.returns-clause-gives
 returns-clause-gives g c = rw (← c.self.view_is)
     (Gives-flushed g.F.Files c.args.files.now c.flush.new.files c.flush.result (g.F.Reads.files (g.F.Reads.standing c.args.files.now)).live c.self.inside.sinks.items c.args.k
     c.index_mut.result.now c.flush.new.sink c.index_mut.ensures.value c.flush.ensures.file (rw (← c.self.view_is) at c.requires.below)
     (rw (← c.self.view_is) at c.requires.outputs.live) c.flush.ensures.only.kept.holders c.flush.ensures.passes)
 
--- the files are the same and stay open, and only that one is written
+-- The files are the same and stay open, and only one is written.
 pub returns-clause-only : goal.returns-clause-only
 returns-clause-only g c = rw (← c.self.view_is)
     (let same = ids_of-set c.self.inside.sinks.items c.args.k c.index_mut.result.now c.flush.new.sink (c.flush.ensures.file ∙ ap (λ (s : Sink). s.file) c.index_mut.ensures.value) in
@@ -28,7 +28,7 @@ returns-clause-only g c = rw (← c.self.view_is)
           (rw (← c.self.view_is) at c.requires.below) c.index_mut.ensures.value c.flush.ensures.only;
     })
 
--- nothing waits of one more
+-- No bytes wait for one more output.
 pub returns-clause-passed : goal.returns-clause-passed
 returns-clause-passed g c = λ are. OnOk-map c.flush.result
     (λ none. ArePassed-more c.self.inside.sinks.items c.args.k c.flush.new.sink (rw (← c.self.view_is) at c.requires.below) none (rw (← c.self.view_is) at are)) c.flush.ensures.ok

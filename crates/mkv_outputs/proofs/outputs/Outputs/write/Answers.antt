@@ -10,14 +10,14 @@ write-requires-clause-live g c =
     AreLive-at (g.F.Reads.files (g.F.Reads.standing c.args.files.now)).live c.self.inside.sinks.items c.args.k c.index_mut.result.now
     (rw (← c.self.view_is) at c.requires.outputs.live) (rw (← c.self.view_is) at c.requires.below) c.index_mut.ensures.value
 
--- of what waits and of what comes the first octets are written, and the others wait
+-- The first of the waiting and new bytes are written, and the others wait.
 pub returns-clause-gives : goal.returns-clause-gives
 returns-clause-gives g c = rw (← c.self.view_is)
     (Gives-wrote g.F.Files c.args.files.now c.write.new.files c.write.result (g.F.Reads.files (g.F.Reads.standing c.args.files.now)).live c.self.inside.sinks.items c.args.k
     c.index_mut.result.now c.write.new.sink c.args.bytes.now c.index_mut.ensures.value c.write.ensures.file (rw (← c.self.view_is) at c.requires.below)
     (rw (← c.self.view_is) at c.requires.outputs.live) c.write.ensures.only.kept.holders c.write.ensures.passes)
 
--- the files are the same and stay open, and only that one is written
+-- The files are the same and stay open, and only one is written.
 pub returns-clause-only : goal.returns-clause-only
 returns-clause-only g c = rw (← c.self.view_is)
     (let same = ids_of-set c.self.inside.sinks.items c.args.k c.index_mut.result.now c.write.new.sink (c.write.ensures.file ∙ ap (λ (s : Sink). s.file) c.index_mut.ensures.value) in
