@@ -1,4 +1,4 @@
--- A further line of a text that is cut, and the line at a place.
+-- Laws on a text that is divided into lines: one more line, and the line at an index.
 use Rattle.std.proofs.Common.{◌≡◌, ◌⊎◌, inl, inr, ℕ, zero, suc, ◌+◌, ◌-◌, ◌<◌, ◌≤◌, List, [], ◌∷◌, ◌++◌, length, length-append, get_or, Some, None, slice_get, refl, sym, ◌∙◌, ap, subst, arith, add-one}
 use Rattle.std.proofs.lemmas.Grind.{common_steps}
 use Rattle.std.proofs.lemmas.List.{get_or_append_left}
@@ -8,7 +8,7 @@ use Rattle.std.specs.Str.{IsCharBoundary, IsUtf8}
 use Rattle.std.proofs.lemmas.Str.{IsCharBoundary-at_seam, IsCharBoundary-end}
 use Rattle.mkv_memory.specs.Cuts.{AreBoundaries, AreOrdered, EndAt, lines_between, lines_from}
 
--- ---- the line at a place
+-- ---- the line at an index
 
 lines_from-past : (text : List ℕ) (start : ℕ) (ends : List ℕ) (k : ℕ) → length ends ≤ k → slice_get (lines_from text start ends) k ≡ None
 lines_from-past text start [] k past = refl
@@ -20,23 +20,23 @@ lines_from-at text start [] k within = absurd (omega arith)
 lines_from-at text start (end ∷ ends) zero within = refl
 lines_from-at text start (end ∷ ends) (suc k) within = lines_from-at text end ends k (omega arith)
 
--- there are fewer lines than cuts
+-- There are fewer lines than offsets.
 pub line-past : (text cuts : List ℕ) (k : ℕ) → 0 < length cuts → length cuts - 1 ≤ k → slice_get (lines_between text cuts) k ≡ None
 line-past text [] k some past = refl
 line-past text (start ∷ ends) k some past = lines_from-past text start ends k (omega arith)
 
--- a line goes from its cut to the next
+-- A line reaches from its offset to the next.
 pub line-at : (text cuts : List ℕ) (k : ℕ) → k + 1 < length cuts → slice_get (lines_between text cuts) k ≡ Some (slice_range text (get_or cuts k 0) (get_or cuts (k + 1) 0))
 line-at text [] k within = absurd (omega arith)
 line-at text (start ∷ ends) k within = rw add-one (lines_from-at text start ends k (omega arith))
 
--- ---- a further line
+-- ---- one more line
 
--- what lies before the end of a text stays when more follows
+-- A part of a text stays if more text follows.
 slice_range-append : (text more : List ℕ) (start end : ℕ) → end ≤ length text → slice_range (text ++ more) start end ≡ slice_range text start end
 slice_range-append text more start end within = grind (arith, common_steps)
 
--- all that follows the end of a text
+-- The part after the end of a text is what was appended.
 slice_range-rest : (text more : List ℕ) → slice_range (text ++ more) (length text) (length text + length more) ≡ more
 slice_range-rest text more = grind (arith, common_steps)
 
@@ -47,20 +47,20 @@ lines_from-pushed text more start (end ∷ ends) last within =
     ap (λ line. line ∷ lines_from (text ++ more) end (ends ++ (length text + length more) ∷ [])) (slice_range-append text more start end (within zero (omega arith)))
     ∙ ap (λ rest. slice_range text start end ∷ rest) (lines_from-pushed text more end ends last (λ k below. within (suc k) (omega arith)))
 
--- a text and its cuts that grow by a line have that line besides
+-- A text and its offsets with a line appended have one more line.
 pub lines_between-pushed : (text more cuts : List ℕ) → EndAt cuts (length text) → AreBoundaries text cuts → lines_between (text ++ more) (cuts ++ (length text + length more) ∷ []) ≡ lines_between text cuts ++ more ∷ []
 lines_between-pushed text more [] end boundaries = absurd (let some = end.0 in omega arith)
 lines_between-pushed text more (start ∷ ends) end boundaries =
     let count : length (start ∷ ends) - 1 ≡ length ends = omega arith in
     lines_from-pushed text more start ends (rw count at end.1) (λ k below. (boundaries (suc k) (omega arith)).0)
 
--- ---- what always holds of the cuts
+-- ---- properties that the offsets keep
 
--- a place is before the end, or it is there
+-- An offset is before the end, or at the end.
 before_or_at : (i n : ℕ) → i ≤ n → (i < n) ⊎ (i ≡ n)
 before_or_at i n within = grind arith
 
--- a boundary stays one when text follows
+-- A character boundary stays one if text follows.
 IsCharBoundary-append : (text more : List ℕ) (i : ℕ) → IsUtf8 more → IsCharBoundary text i → IsCharBoundary (text ++ more) i
 IsCharBoundary-append text more i utf8 here =
     elim (before_or_at i (length text) here.0) [
@@ -68,7 +68,7 @@ IsCharBoundary-append text more i utf8 here =
       | inr at ↦ subst (λ place. IsCharBoundary (text ++ more) place) (sym at) (IsCharBoundary-at_seam (text ++ more) text more refl utf8)
     ]
 
--- a further cut is before the last, or is the last
+-- One more offset is before the last, or is the last.
 within_or_last : (cuts : List ℕ) (end k : ℕ) → k < length (cuts ++ end ∷ []) → ((k < length cuts) × (get_or (cuts ++ end ∷ []) k 0 ≡ get_or cuts k 0)) ⊎ ((k ≡ length cuts) × (get_or (cuts ++ end ∷ []) k 0 ≡ end))
 within_or_last cuts end k below =
     let count : k ≤ length cuts = omega (arith, length-append cuts (end ∷ [])) in
@@ -98,13 +98,13 @@ EndAt-pushed cuts end =
     let count : length (cuts ++ end ∷ []) - 1 ≡ length cuts = omega (arith, length-append cuts (end ∷ [])) in
     (omega (arith, length-append cuts (end ∷ [])), ap (λ k. get_or (cuts ++ end ∷ []) k 0) count ∙ get_or-append_seam cuts end [] 0)
 
--- all of it
+-- The offsets divide the text into lines.
 pub record IsCut (text cuts : List ℕ) : Type 0 where
   pub boundaries : AreBoundaries text cuts
   pub ordered : AreOrdered cuts
   pub end : EndAt cuts (length text)
 
--- a text and its cuts grow by a line
+-- The text and its offsets have one more line.
 pub record GrowsBy (text now cuts places line : List ℕ) : Type 0 where
   pub text_is : now ≡ text ++ line
   pub cuts_are : places ≡ cuts ++ (length text + length line) ∷ []

@@ -1,4 +1,4 @@
--- What a disk in memory tells after each call.
+-- Laws on the state of a disk in memory after each call.
 use Rattle.std.proofs.Common.{◌≡◌, ◌≢◌, ◌⊎◌, inl, inr, ℕ, zero, suc, ◌+◌, ◌<◌, ◌≤◌, true, List, [], ◌∷◌, length, take, refl, sym, ◌∙◌, ap, subst, arith, length-append, Option, Some, None, unwrap_or, Result, Ok, Err}
 use Rattle.std.specs.Prelude.{OnOk}
 use Rattle.std.proofs.lemmas.Bool.{cases_lt, false≢true}
@@ -29,7 +29,7 @@ module _ (h : History) (file : ℕ) (c : Change) where
   earlier : (k : ℕ) → k ≤ length h.made → take k now.made ≡ take k h.made
   earlier k le = take-append-le k h.made (record { file = file; change = c } ∷ []) le
 
-  -- what is left since an earlier moment was left before, or is left now
+  -- The images since an earlier moment were possible before, or are possible now.
   parted : (t : ℕ) (m s : List ℕ) → LeftSince now t m s → (t ≤ length h.made → LeftSince h t m s ⊎ IsPairImage (pair_of now) m s)
   parted t m s left le = by_count (cases_lt (length h.made) left.0)
     where
@@ -93,7 +93,7 @@ file_of-on : (n : ℕ) (change : DiskFile → DiskFile) (p : Pair) → file_of n
 file_of-on zero change p = refl
 file_of-on (suc n) change p = refl
 
--- ---- a change, or a failure of it
+-- ---- a change, or its failure
 
 module _ {T : Type 0} (old new : SeenDisk) (file : ℕ) (c : Change) where
   pub makes-ok : (r : Result T Failed) → MakesChange old file c r new → OnOk r (pair_in new ≡ on file (changed_by c) (pair_in old))
@@ -109,11 +109,11 @@ module _ {T : Type 0} (old new : SeenDisk) (file : ℕ) (c : Change) where
       subst (λ (h : History). LeavesOnly (λ (x : History). length x.made) LeftSince old.logged.history h P) (sym (ap (λ (d : SeenDisk). d.logged.history) is.1))
       (leaves-same old.logged.history P before)
 
-  -- a write or a cut
+  -- A write or a truncation.
   pub makes-grown : (r : Result T Failed) → (c ≡ synced → ⊥) → MakesChange old file c r new → LeavesOnly (λ (x : History). length x.made) LeftSince old.logged.history new.logged.history (IsPairImage (on file (changed_by c) (pair_in old)))
   makes-grown r isnt is = makes-moment r is (IsPairImage (on file (changed_by c) (pair_in old))) (λ m s image. grown-pair file c (pair_in old) m s isnt image) (λ m s image. image)
 
-  -- the same files are open under the same name, and no other is changed
+  -- The same files are open under the same name, and no other is changed.
   pub makes-opened : (r : Result T Failed) → MakesChange old file c r new → new.opened ≡ old.opened
   makes-opened (Ok x) is = ap (λ (d : SeenDisk). d.opened) is.1
   makes-opened (Err e) is = ap (λ (d : SeenDisk). d.opened) is.1

@@ -1,4 +1,4 @@
--- Calls that are noted, and the changes that they made.
+-- Logged calls, and the changes that they made.
 use Rattle.std.proofs.Common.{◌≡◌, ◌⊎◌, inl, inr, ℕ, zero, suc, ◌+◌, ◌-◌, ◌<◌, ◌≤◌, ◌&&◌, nat_le, nat_lt, true, false, IsTrue, List, [], ◌∷◌, ◌++◌, length, take, drop, get_or, refl, sym, ◌∙◌, ap, subst, arith, length-append, length-drop, length-take}
 use Rattle.std.proofs.lemmas.Bool.{and_parts, cases_lt, le-leb, leb-true, lt-leb, ltb-true, false≢true, true≢false}
 use Rattle.std.proofs.lemmas.List.{drop-append-le, drop_more, length-take-le, take-append-le, take_all}
@@ -16,7 +16,7 @@ use Rattle.mkv_memory.specs.declared.done.Call.{Call}
 use Rattle.mkv_memory.specs.declared.done.Done.{Done}
 use Rattle.mkv_memory.specs.declared.done.Done.TheVariants.{Wrote, Cut, Synced}
 
--- ---- what was noted
+-- ---- logged calls
 
 pub length-made_in : (calls : List Call) (octets : List ℕ) → length (made_in calls octets) ≡ length calls
 length-made_in [] octets = refl
@@ -35,7 +35,7 @@ octets_in-made_in (call ∷ calls) octets le =
     let more = octets_in-made_in calls (drop (octets_done call.done) octets) (omega arith) in
     omega arith
 
--- what is written behind doesn't matter
+-- Bytes after a call's own don't matter.
 change_of-append : (done : Done) (octets more : List ℕ) → octets_done done ≤ length octets → change_of done (octets ++ more) ≡ change_of done octets
 change_of-append (Wrote at len) octets more le = ap (written at) (take-append-le len octets more le)
 change_of-append (Cut len) octets more le = refl
@@ -45,7 +45,7 @@ pub octets_by-append : (calls : List Call) (call : Call) → octets_by (calls ++
 octets_by-append [] call = omega arith
 octets_by-append (first ∷ calls) call = let more = octets_by-append calls call in omega arith
 
--- one call more
+-- One more call.
 pub made_in-append : (calls : List Call) (call : Call) (octets more : List ℕ) → length octets ≡ octets_by calls → made_in (calls ++ call ∷ []) (octets ++ more) ≡ made_in calls octets ++ made_by call more ∷ []
 made_in-append [] call [] more count = refl
 made_in-append [] call (octet ∷ octets) more count = absurd (omega arith)
@@ -57,7 +57,7 @@ made_in-append (first ∷ calls) call octets more count =
     ∙ ap (λ rest. made_by first octets ∷ made_in (calls ++ call ∷ []) rest) (drop-append-le n octets more (omega arith))
     ∙ ap (λ rest. made_by first octets ∷ rest) (made_in-append calls call (drop n octets) more (omega arith))
 
--- ---- what it makes of the two files
+-- ---- its effect on the two files
 
 pub replay-append : (ms : List Made) (m : Made) (p : Pair) → replay (ms ++ m ∷ []) p ≡ step m (replay ms p)
 replay-append [] m p = refl
@@ -72,7 +72,7 @@ reads-changed_by (written at bytes) f = refl
 reads-changed_by (cut len) f = refl
 reads-changed_by synced f = refl
 
--- a change makes a file longer by at most what it writes
+-- A change makes a file longer by at most the bytes that it writes.
 pub length-reads_by : (c : Change) (reads : List ℕ) → CanChange c reads → length (reads_by c reads) ≤ length reads + octets_of c
 length-reads_by (written at bytes) reads can = let size = length-overwritten reads at bytes can.0 in omega arith
 length-reads_by (cut len) reads can = let size = length-take len reads in omega arith
@@ -89,17 +89,17 @@ file_of-sidecar : (n : ℕ) (p : Pair) → (n ≡ 0 → ⊥) → file_of n p ≡
 file_of-sidecar zero p isnt = absurd (isnt refl)
 file_of-sidecar (suc n) p isnt = refl
 
--- it can be made of what is kept as read
+-- It can be made on the stored content.
 pub can-media : (n : ℕ) (c : Change) (p : Pair) (reads : List ℕ) → n ≡ 0 → reads ≡ p.media.reads → CanChange c (file_of n p).reads → CanChange c reads
 can-media n c p reads is same can = subst (CanChange c) (ap (λ k. (file_of k p).reads) is ∙ sym same) can
 
 pub can-sidecar : (n : ℕ) (c : Change) (p : Pair) (reads : List ℕ) → (n ≡ 0 → ⊥) → reads ≡ p.sidecar.reads → CanChange c (file_of n p).reads → CanChange c reads
 can-sidecar n c p reads isnt same can = subst (CanChange c) (ap (λ (f : DiskFile). f.reads) (file_of-sidecar n p isnt) ∙ sym same) can
 
--- ---- a pair that is logged
+-- ---- a logged pair
 
 module _ (fm fs : List ℕ) (room : CallBudget) (calls : List Call) (octets : List ℕ) (count : length octets ≡ octets_by calls) where
-  -- what is kept
+  -- the stored state
   abbrev pub kept : Logged
   kept = logged fm fs calls octets room
 
@@ -114,7 +114,7 @@ module _ (fm fs : List ℕ) (room : CallBudget) (calls : List Call) (octets : Li
       let both = and_parts (nat_lt (length calls) room.calls) (nat_le (length octets + n) room.octets) (sym (has_room-kept n) ∙ ap (λ k. has_room k n) is ∙ room_is) in
       (ltb-true (length calls) room.calls both.0, leb-true (length octets + n) room.octets both.1)
 
-  -- one call more is noted
+  -- One more call is logged.
   pub kept-more : (call : Call) (bytes : List ℕ) → logged fm fs (calls ++ call ∷ []) (octets ++ bytes) room ≡ and_then kept call.file.n (change_of call.done bytes)
   kept-more call bytes = ap (λ made. record { history = record { media = fm; sidecar = fs; made = made }; room = room }) (made_in-append calls call octets bytes count)
 
@@ -193,7 +193,7 @@ module _ (fm fs : List ℕ) (room : CallBudget) (media sidecar octets octets' : 
         sidecar_room = omega arith;
       }
 
--- so many more fit what is left
+-- `n` more bytes fit the room that is left.
 pub le-left : (n r a : ℕ) → a ≤ r → nat_le n (r - a) ≡ nat_le (a + n) r
 le-left n r a within = by_cases (cases_lt r (a + n))
   where
@@ -201,9 +201,9 @@ le-left n r a within = by_cases (cases_lt r (a + n))
     by_cases (inl over) = lt-leb n (r - a) (omega arith) ∙ sym (lt-leb (a + n) r over)
     by_cases (inr fits) = le-leb n (r - a) (omega arith) ∙ sym (le-leb (a + n) r fits)
 
--- ---- one file of the two, call by call
+-- ---- one of the two files, call by call
 
--- a change uses no more than its own octets
+-- A change uses no more than its own bytes.
 pub change_of-take : (done : Done) (octets : List ℕ) → octets_done done ≤ length octets → change_of done (take (octets_done done) octets) ≡ change_of done octets
 change_of-take (Wrote at len) octets le = ap (written at) (take_all len (take len octets) (let size = length-take-le len octets le in omega arith))
 change_of-take (Cut len) octets le = refl
@@ -227,7 +227,7 @@ same-file zero (suc m) p is = absurd (false≢true is)
 same-file (suc n) zero p is = absurd (false≢true is)
 same-file (suc n) (suc m) p is = refl
 
--- the next call of those that are left, and the octets that it wrote
+-- The next call of the remaining ones, and the bytes that it wrote.
 module _ (calls : List Call) (i : ℕ) (d : Call) (inside : i < length calls) (rest : List ℕ) (count : length rest ≡ octets_by (drop i calls)) where
   next : drop i calls ≡ get_or calls i d ∷ drop (i + 1) calls
   next = drop_more calls i d inside

@@ -1,4 +1,4 @@
--- A file that is opened or made, by each fact of it.
+-- Facts of a file that is opened or made.
 use Rattle.std.proofs.Common.{◌≡◌, ◌≢◌, ◌≤◌, ◌<◌, ℕ, List, [], Result, Ok, Err, IfOk}
 use Rattle.mkv_io.specs.Names.{Names, with_content}
 use Rattle.mkv_io.specs.Seen.{IsMadeFile, IsOpenedFile, StayLive}

@@ -1,4 +1,4 @@
--- What a crash may leave of a file after a change, and the images of it that are picked.
+-- The contents that a crash may leave of a file after a change, and the chosen images.
 use Rattle.std.proofs.Common.{◌≡◌, ◌⊎◌, inl, inr, ℕ, zero, suc, ◌+◌, ◌<◌, ◌≤◌, ◌==◌, ◌%◌, ◌&&◌, ◌||◌, min, Bool, true, false, nat_le, nat_lt, if◌then◌else◌, List, [], ◌∷◌, length, take, get_or, slice_index, refl, sym, ◌∙◌, ap, subst, arith, length-take}
 use Rattle.std.specs.List.{enumerate_from, zip}
 use Rattle.std.proofs.lemmas.Bool.{and_parts, cases_lt, cond-false, leb-true, ltb-false, ltb-true}
@@ -15,7 +15,7 @@ use Rattle.mkv_memory.specs.Sound.{IsSound}
 use Rattle.mkv_memory.specs.declared.pending.CrashImage.{CrashImage}
 use Rattle.mkv_memory.specs.declared.pending.CrashImage.TheVariants.{AsRead, AsSynced, Blotted, Mixed}
 
--- ---- what stays sound
+-- ---- files stay valid
 
 pub can-within : (c : Change) (reads : List ℕ) → BeginsWithin c reads → is_too_long c ≡ false → CanChange c reads
 can-within (written at bytes) reads within short = (within, ltb-false LONGEST_FILE (at + length bytes) short)
@@ -73,9 +73,9 @@ pub sound-sidecar : (n : ℕ) (c : Change) (p : Pair) → IsSound p.sidecar → 
 sound-sidecar zero c p sound can = sound
 sound-sidecar (suc n) c p sound can = sound-changed c p.sidecar sound can
 
--- ---- what a crash may leave before and after a change
+-- ---- the contents that a crash may leave before and after a change
 
--- until the next sync, a write or a cut takes nothing away of it
+-- Until the next sync, a write or a truncation removes none of them.
 pub grown : (c : Change) (f : DiskFile) (image : List ℕ) → (c ≡ synced → ⊥) → IsImage f image → IsImage (changed_by c f) image
 grown (written at bytes) f image isnt was =
     let high = was.no_longer in
@@ -89,7 +89,7 @@ pub grown-pair : (n : ℕ) (c : Change) (p : Pair) (m s : List ℕ) → (c ≡ s
 grown-pair zero c p m s isnt was = record { media = grown c p.media m isnt was.media; sidecar = was.sidecar }
 grown-pair (suc n) c p m s isnt was = record { media = was.media; sidecar = grown c p.sidecar s isnt was.sidecar }
 
--- a sync leaves only what might have been left before
+-- A sync leaves only contents that were possible before.
 pub shrunk : (f : DiskFile) (image : List ℕ) → IsSound f → IsImage (all_synced f) image → IsImage f image
 shrunk f image sound now = subst (IsImage f) (sym (clean_image f.reads image now)) sound.reads
 
@@ -97,7 +97,7 @@ pub shrunk-pair : (n : ℕ) (p : Pair) (m s : List ℕ) → IsSound p.media → 
 shrunk-pair zero p m s media sidecar now = record { media = shrunk p.media m media now.media; sidecar = now.sidecar }
 shrunk-pair (suc n) p m s media sidecar now = record { media = now.media; sidecar = shrunk p.sidecar s sidecar now.sidecar }
 
--- ---- images that are picked
+-- ---- chosen images
 
 written-in : (ranges : List Range) (k : ℕ) → is_written ranges k ≡ true → InRanges ranges k
 written-in [] k is = let no : false ≡ true = is in cc
@@ -152,7 +152,7 @@ mixed-at f k low least inside =
     ∙ ap (λ n. (n, get_or (take f.least (zip f.reads f.synced)) k (0, 0))) (omega arith)
     ∙ ap (λ (q : ℕ × ℕ). (k, q)) (get_or-take f.least (zip f.reads f.synced) k (0, 0) inside ∙ get_or-zip f.reads f.synced k (0, 0) (omega arith) (omega arith)))
 
--- each of them is one that a crash may leave
+-- Each of the images is possible after a crash.
 pub picked : (left : CrashImage) (f : DiskFile) → IsSound f → IsImage f (image_of left f)
 picked AsRead f sound = sound.reads
 picked AsSynced f sound = sound.synced
@@ -178,7 +178,7 @@ picked Mixed f sound =
     by_place k true same = refl
     by_place k false same = same
 
--- and no longer than a file may be
+-- None is longer than the limit.
 pub picked-short : (left : CrashImage) (f : DiskFile) → IsSound f → length (image_of left f) ≤ LONGEST_FILE
 picked-short AsRead f sound = sound.short
 picked-short AsSynced f sound = sound.short_synced

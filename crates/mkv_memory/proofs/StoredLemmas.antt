@@ -1,4 +1,4 @@
--- One name's content changes: what becomes of the live files, and of what always holds.
+-- A change of one name's content: its effects on the live files, and on what always holds.
 use Rattle.std.proofs.lemmas.Grind.{common_steps}
 use Rattle.mkv_io.specs.Contents.{overwritten, with_appended, with_overwritten}
 use Rattle.std.proofs.Common.{Result, Ok, Err, OnOk, OnErr, length-append, ◌≡◌, ◌≢◌, ℕ, zero, suc, ◌+◌, ◌<◌, ◌≤◌, List, [], ◌∷◌, ◌++◌, length, take, drop, Option, Some, None, Bool, true, false, is_some, unwrap_or, option_and_then, if◌then◌else◌, refl, sym, ◌∙◌, ap, subst, arith}
@@ -12,23 +12,23 @@ use Rattle.mkv_memory.specs.Stored.{Stored, World, HasShortContents, AreThere, i
 use Rattle.mkv_io.proofs.NamesLemmas.{changed_at-nothing, changed_at-other, changed_at-same}
 use Rattle.mkv_io.specs.declared.outside.TheConstants.{LONGEST_FILE}
 
--- ---- what is stored, by its parts
+-- ---- a store, by its parts
 
 pub Stored-both : {world now : World} {opened names : List (Option (List ℕ))} → now ≡ world → names ≡ opened → ◌≡◌ {A = Stored} (record { world = now; opened = names }) (record { world = world; opened = opened })
 Stored-both same_contents same_names i = record { world = same_contents i; opened = same_names i }
 
--- the same names are open
+-- The same names are open.
 pub Stored-world : {world now : World} (opened : List (Option (List ℕ))) → now ≡ world → ◌≡◌ {A = Stored} (record { world = now; opened = opened }) (record { world = world; opened = opened })
 Stored-world opened same i = record { world = same i; opened = opened }
 
--- a change of the name of a live file is one of that file
+-- A change of the name of a live file is a change of this file.
 pub Stored-changed : (stored : Stored) (file : ℕ) {name : List ℕ} {now : World} (change : Option (List ℕ) → Option (List ℕ)) → name_of_file stored.opened file ≡ Some name → now ≡ changed_at name change stored.world → ◌≡◌ {A = Stored} (record { world = now; opened = stored.opened }) (with_changed_file stored file change)
 Stored-changed stored file change holder changed =
     Stored-world stored.opened (changed ∙ ap (λ name. changed_at (unwrap_or name []) change stored.world) (sym holder))
 
--- ---- what always holds
+-- ---- properties that always hold
 
--- contents stay short where the changed one is
+-- Contents stay short if the changed one is short.
 pub HasShortContents-changed : (world : World) (name : List ℕ) (change : Option (List ℕ) → Option (List ℕ)) → HasShortContents world → length (unwrap_or (change (world name)) []) ≤ LONGEST_FILE → HasShortContents (changed_at name change world)
 HasShortContents-changed world name change short fits other = step (bytes_eq name other) (bytes_eq-Decides name other).0
   where
@@ -36,7 +36,7 @@ HasShortContents-changed world name change short fits other = step (bytes_eq nam
     step true is = let P : List ℕ → Type 0 = λ each. length (unwrap_or (change (world each)) []) ≤ LONGEST_FILE in subst P (is refl) fits
     step false is = short other
 
--- live files keep a content where the change leaves one there
+-- Live files keep a content if the change leaves one.
 pub AreThere-changed : (world : World) (name : List ℕ) (change : Option (List ℕ) → Option (List ℕ)) (opened : List (Option (List ℕ))) → (is_some (world name) ≡ true → is_some (change (world name)) ≡ true) → AreThere world opened → AreThere (changed_at name change world) opened
 AreThere-changed world name change opened stays there file = step (name_of_file opened file) (there file)
   where
@@ -50,7 +50,7 @@ AreThere-changed world name change opened stays there file = step (name_of_file 
     step None here = refl
     step (Some other) here = at other (bytes_eq name other) (bytes_eq-Decides name other).0 here
 
--- a further file is live under a name that has a content
+-- One more file is live under a name with a content.
 pub AreThere-pushed : (world : World) (opened : List (Option (List ℕ))) (name : List ℕ) → is_some (world name) ≡ true → AreThere world opened → AreThere world (opened ++ Some name ∷ [])
 AreThere-pushed world [] name here there zero = here
 AreThere-pushed world [] name here there (suc file) = refl
@@ -59,7 +59,7 @@ AreThere-pushed world (holder ∷ rest) name here there (suc file) = AreThere-pu
 
 -- ---- the live files
 
--- the files of other names are as they were
+-- Files with other names are as before.
 pub IsSameFile-changed : (old new : Stored) (name : List ℕ) (change : Option (List ℕ) → Option (List ℕ)) (file : ℕ) → name_of_file new.opened file ≡ name_of_file old.opened file → new.world ≡ changed_at name change old.world → holder_of old file ≢ name → IsSameFile (files_of old) (files_of new) file
 IsSameFile-changed old new name change file same changed differs = record {
   alive = ap is_some same;
@@ -77,7 +77,7 @@ IsSameFile-changed old new name change file same changed differs = record {
         ∙ ap (option_and_then (changed_at name change old.world)) same
         ∙ step (name_of_file old.opened file) differs
 
--- the file of the changed name is changed
+-- The file with the changed name is changed.
 pub ChangesFile-changed : (old new : Stored) (name : List ℕ) (change : Option (List ℕ) → Option (List ℕ)) (file size : ℕ) → name_of_file old.opened file ≡ Some name → new.opened ≡ old.opened → new.world ≡ changed_at name change old.world → length (unwrap_or (change (old.world name)) []) ≡ size → ChangesFile (files_of old) (files_of new) (Some old.world) (Some new.world) file (holder_of old file) size change
 ChangesFile-changed old new name change file size holder same changed fits = record {
   size = ap (λ content. length (unwrap_or content [])) (now ∙ changed_at-same old.world name change) ∙ fits;
@@ -94,13 +94,13 @@ ChangesFile-changed old new name change file size holder same changed fits = rec
         ∙ ap (option_and_then new.world) holder
         ∙ ap (λ (world : World). world name) changed
 
--- A live file, and the content of its name, is changed; the files of other names stay.
+-- A live file, and the content of its name, is changed; files with other names stay.
 pub record ChangesStored (old new : Stored) (file new_size : ℕ) (change : Option (List ℕ) → Option (List ℕ)) : Type 0 where
   pub opened : new.opened ≡ old.opened
   pub changed : ChangesFile (files_of old) (files_of new) (Some old.world) (Some new.world) file (holder_of old file) new_size change
   pub others : KeepsFiles (files_of old) (files_of new) (λ other. holder_of old other ≢ holder_of old file)
 
--- both of a live file whose name's content is changed
+-- Both hold for a live file whose name's content is changed.
 pub ChangesStored-changed : (old new : Stored) (name : List ℕ) (change : Option (List ℕ) → Option (List ℕ)) (file size : ℕ) → name_of_file old.opened file ≡ Some name → new.opened ≡ old.opened → new.world ≡ changed_at name change old.world → length (unwrap_or (change (old.world name)) []) ≡ size → ChangesStored old new file size change
 ChangesStored-changed old new name change file size holder same changed fits = record {
   opened = same;
@@ -110,14 +110,14 @@ ChangesStored-changed old new name change file size holder same changed fits = r
       (λ is. differs (is ∙ sym (ap (λ name. unwrap_or name []) holder)));
 }
 
--- ---- both kept through a change
+-- ---- both properties through a change
 
--- contents are short, and live files have one
+-- Contents are short, and live files have one.
 pub record IsSound (world : World) (opened : List (Option (List ℕ))) : Type 0 where
   pub short : HasShortContents world
   pub there : AreThere world opened
 
--- a change keeps both where the changed content is short, and is there if it was
+-- A change keeps both if the changed content is short, and exists if it did before.
 pub IsSound-changed : (world now : World) (name : List ℕ) (change : Option (List ℕ) → Option (List ℕ)) (opened : List (Option (List ℕ))) → now ≡ changed_at name change world → IsSound world opened → length (unwrap_or (change (world name)) []) ≤ LONGEST_FILE → (is_some (world name) ≡ true → is_some (change (world name)) ≡ true) → IsSound now opened
 IsSound-changed world now name change opened changed sound fits stays =
     let P : World → Type 0 = λ each. IsSound each opened in
@@ -126,16 +126,16 @@ IsSound-changed world now name change opened changed sound fits stays =
       there = AreThere-changed world name change opened stays sound.there;
     })
 
--- so does a call that changes or leaves the contents
+-- So does a call that changes or leaves the contents.
 pub IsSound-either : {T E : Type 0} (result : Result T E) (world now : World) (name : List ℕ) (change : Option (List ℕ) → Option (List ℕ)) (opened : List (Option (List ℕ))) → OnOk result (now ≡ changed_at name change world) → OnErr result (now ≡ world) → IsSound world opened → length (unwrap_or (change (world name)) []) ≤ LONGEST_FILE → (is_some (world name) ≡ true → is_some (change (world name)) ≡ true) → IsSound now opened
 IsSound-either (Ok value) world now name change opened changed same sound fits stays = IsSound-changed world now name change opened changed sound fits stays
 IsSound-either (Err fault) world now name change opened changed same sound fits stays =
     let P : World → Type 0 = λ each. IsSound each opened in
     subst P (sym same) sound
 
--- ---- what appending and overwriting make of one content
+-- ---- one content after an append or an overwrite
 
--- a content grows by what is added
+-- A content grows by the appended bytes.
 pub length-with_appended : (more : List ℕ) (content : Option (List ℕ)) → is_some content ≡ true → length (unwrap_or (with_appended more content) []) ≡ length (unwrap_or content []) + length more
 length-with_appended more None there = cc
 length-with_appended more (Some bytes) there = length-append bytes more
@@ -144,7 +144,7 @@ pub is_some-with_appended : (more : List ℕ) (content : Option (List ℕ)) → 
 is_some-with_appended more None there = there
 is_some-with_appended more (Some bytes) there = refl
 
--- a content that is written over keeps its length
+-- A content that is overwritten keeps its length.
 pub length-with_overwritten : (at : ℕ) (now : List ℕ) (content : Option (List ℕ)) → at + length now ≤ length (unwrap_or content []) → length (unwrap_or (with_overwritten at now content) []) ≡ length (unwrap_or content [])
 length-with_overwritten at now None within = refl
 length-with_overwritten at now (Some bytes) within = grind (arith, common_steps)
@@ -153,16 +153,16 @@ pub is_some-with_overwritten : (at : ℕ) (now : List ℕ) (content : Option (Li
 is_some-with_overwritten at now None there = there
 is_some-with_overwritten at now (Some bytes) there = refl
 
--- ---- appending to a live file, and overwriting it
+-- ---- append and overwrite of a live file
 
--- a live file's name has a content, whose length is the file's
+-- A live file's name has a content, whose length is the file's.
 pub IsThere-live : (old : Stored) (file : ℕ) (name : List ℕ) → name_of_file old.opened file ≡ Some name → IsSound old.world old.opened → (is_some (old.world name) ≡ true) × (length (unwrap_or (old.world name) []) ≡ (files_of old).size file)
 IsThere-live old file name holder sound = (
   ap (is_there old.world) (sym holder) ∙ sound.there file,
   ap (λ name. length (unwrap_or (option_and_then old.world name) [])) (sym holder),
 )
 
--- an append that is within the limit keeps contents short and there, whether it finds memory or not
+-- An append within the limit keeps both properties, with memory or without.
 pub IsSound-appended : {T E : Type 0} (result : Result T E) (old : Stored) (now : World) (file : ℕ) (name more : List ℕ) → name_of_file old.opened file ≡ Some name → OnOk result (now ≡ changed_at name (with_appended more) old.world) → OnErr result (now ≡ old.world) → IsSound old.world old.opened → (files_of old).size file + length more ≤ LONGEST_FILE → IsSound now old.opened
 IsSound-appended result old now file name more holder changed same sound room =
     let here = IsThere-live old file name holder sound in
@@ -170,14 +170,14 @@ IsSound-appended result old now file name more holder changed same sound room =
     let size = here.1 in
     IsSound-either result old.world now name (with_appended more) old.opened changed same sound (omega arith) (is_some-with_appended more (old.world name))
 
--- and then it changes that file as it says
+-- It changes the file by the appended bytes.
 pub ChangesStored-appended : (old new : Stored) (file : ℕ) (name more : List ℕ) → name_of_file old.opened file ≡ Some name → new.opened ≡ old.opened → new.world ≡ changed_at name (with_appended more) old.world → IsSound old.world old.opened → ChangesStored old new file ((files_of old).size file + length more) (with_appended more)
 ChangesStored-appended old new file name more holder same changed sound =
     let here = IsThere-live old file name holder sound in
     ChangesStored-changed old new name (with_appended more) file _ holder same changed
     (length-with_appended more (old.world name) here.0 ∙ ap (λ n. n + length more) here.1)
 
--- overwriting keeps contents short and there
+-- An overwrite keeps both properties.
 pub IsSound-overwritten : (old : Stored) (world : World) (file : ℕ) (name : List ℕ) (at : ℕ) (now : List ℕ) → name_of_file old.opened file ≡ Some name → world ≡ changed_at name (with_overwritten at now) old.world → IsSound old.world old.opened → at + length now ≤ (files_of old).size file → IsSound world old.opened
 IsSound-overwritten old world file name at now holder changed sound within =
     let here = IsThere-live old file name holder sound in
@@ -186,7 +186,7 @@ IsSound-overwritten old world file name at now holder changed sound within =
     let short = sound.short name in
     IsSound-changed old.world world name (with_overwritten at now) old.opened changed sound (omega arith) (is_some-with_overwritten at now (old.world name))
 
--- and changes that file as it says
+-- It changes the file by the written bytes.
 pub ChangesStored-overwritten : (old new : Stored) (file : ℕ) (name : List ℕ) (at : ℕ) (now : List ℕ) → name_of_file old.opened file ≡ Some name → new.opened ≡ old.opened → new.world ≡ changed_at name (with_overwritten at now) old.world → IsSound old.world old.opened → at + length now ≤ (files_of old).size file → ChangesStored old new file ((files_of old).size file) (with_overwritten at now)
 ChangesStored-overwritten old new file name at now holder same changed sound within =
     let here = IsThere-live old file name holder sound in
@@ -196,7 +196,7 @@ ChangesStored-overwritten old new file name at now holder same changed sound wit
 
 -- ---- making a file
 
--- a name that gets an empty content, and a file that is opened under it, keep contents short and there
+-- After a name gets an empty content, and a file is opened under it, both properties hold.
 pub IsSound-created : (world now : World) (name : List ℕ) (opened : List (Option (List ℕ))) → now ≡ changed_at name (λ _. Some []) world → IsSound world opened → IsSound now (opened ++ Some name ∷ [])
 IsSound-created world now name opened changed sound =
     let kept = IsSound-changed world now name (λ _. Some []) opened changed sound (omega arith) (λ _. refl) in
@@ -206,29 +206,29 @@ IsSound-created world now name opened changed sound =
       there = AreThere-pushed now opened name (ap is_some here) kept.there;
     }
 
--- the file that is opened last has the content of its name
+-- The file that is opened last has the content of its name.
 pub content_of_file-pushed : (stored : Stored) (opened : List (Option (List ℕ))) (name : List ℕ) → stored.opened ≡ opened ++ Some name ∷ [] → content_of_file stored (length opened) ≡ stored.world name
 content_of_file-pushed stored opened name pushed =
     ap (λ names. option_and_then stored.world (name_of_file names (length opened))) pushed
     ∙ ap (option_and_then stored.world) (get_or-append_seam opened (Some name) [] None)
 
--- the file that is made is empty
+-- The file that is made is empty.
 pub size-created : (stored : Stored) (world : World) (opened : List (Option (List ℕ))) (name : List ℕ) → stored.world ≡ changed_at name (λ _. Some []) world → stored.opened ≡ opened ++ Some name ∷ [] → (files_of stored).size (length opened) ≡ 0
 size-created stored world opened name changed pushed =
     ap (λ content. length (unwrap_or content []))
     (content_of_file-pushed stored opened name pushed ∙ ap (λ (each : World). each name) changed
     ∙ changed_at-same world name (λ _. Some []))
 
--- the files of other names are as they were
+-- Files with other names are as before.
 pub IsSameFile-created : (old new : Stored) (name : List ℕ) (file : ℕ) → new.world ≡ changed_at name (λ _. Some []) old.world → new.opened ≡ old.opened ++ Some name ∷ [] → file < length old.opened → holder_of old file ≢ name → IsSameFile (files_of old) (files_of new) file
 IsSameFile-created old new name file changed pushed below differs =
     IsSameFile-changed old new name (λ _. Some []) file
     (ap (λ opened. name_of_file opened file) pushed ∙ get_or_append_left old.opened (Some name ∷ []) None file below)
     changed differs
 
--- ---- overwriting nothing
+-- ---- overwrite of nothing
 
--- the octets that stand at a place, written there, change nothing
+-- Bytes that are written over themselves change nothing.
 pub overwritten-same : (bytes : List ℕ) (at n : ℕ) → at + n ≤ length bytes → overwritten bytes at (take n (drop at bytes)) ≡ bytes
 overwritten-same bytes at n within =
     let count : length (take n (drop at bytes)) ≡ n = grind (arith, common_steps) in
@@ -237,7 +237,7 @@ overwritten-same bytes at n within =
     ∙ ap (λ rest. take at bytes ++ rest) (take-append-drop n (drop at bytes))
     ∙ take-append-drop at bytes
 
--- so a file that stays as it was is one in which some octets of a range were written
+-- So an unchanged file is one with some bytes written over a range.
 pub OverwritesWithin-nothing : (stored : Stored) (file at n : ℕ) → (files_of stored).live file ≡ true → at + n ≤ (files_of stored).size file → OverwritesWithin (files_of stored) (files_of stored) (Some stored.world) (Some stored.world) file (holder_of stored file) at n
 OverwritesWithin-nothing stored file at n live within = record {
   now = now;
@@ -262,14 +262,14 @@ OverwritesWithin-nothing stored file at n live within = record {
     there : with_overwritten at now (stored.world (holder_of stored file)) ≡ stored.world (holder_of stored file)
     there = ap (with_overwritten at now) (sym is_content) ∙ same (content_of_file stored file) within ∙ is_content
 
--- the same contents and the same files are as sound
+-- The same contents and files have the same properties.
 pub IsSound-same : (world now : World) (opened names : List (Option (List ℕ))) → now ≡ world → names ≡ opened → IsSound world opened → IsSound now names
 IsSound-same world now opened names same_contents same_names sound =
     let P : World → Type 0 = λ each. IsSound each names in
     let Q : List (Option (List ℕ)) → Type 0 = λ each. IsSound world each in
     subst P (sym same_contents) (subst Q (sym same_names) sound)
 
--- a file that is opened under a name has the content that the name had
+-- A file that is opened under a name has the content of the name.
 pub content_of_file-told : (old new : Stored) (world : World) (name : List ℕ) (file : ℕ) → new ≡ record { world = old.world; opened = old.opened ++ Some name ∷ [] } → file ≡ length old.opened → Some old.world ≡ Some world → content_of_file new file ≡ world name
 content_of_file-told old new world name file opened number told =
     let is : old.world ≡ world = cc in

@@ -1,26 +1,26 @@
--- A text that is cut into lines.
+-- A text that is divided into lines.
 use Rattle.std.specs.Prelude.{◌≡◌, ℕ, ◌+◌, ◌-◌, ◌<◌, ◌≤◌, List, [], ◌∷◌, length, get_or}
 use Rattle.std.specs.List.{slice_range}
 use Rattle.std.specs.Str.{IsCharBoundary}
 
--- the lines from one cut on to the next, and so on
+-- the lines from the offset `start` to the next one, and so on
 abbrev pub lines_from : List ℕ → ℕ → List ℕ → List (List ℕ)
 lines_from text start [] = []
 lines_from text start (end ∷ ends) = slice_range text start end ∷ lines_from text end ends
 
--- the lines between the cuts of a text
+-- the lines between the given offsets of a text
 abbrev pub lines_between : List ℕ → List ℕ → List (List ℕ)
 lines_between text [] = []
 lines_between text (start ∷ ends) = lines_from text start ends
 
--- Every cut is at the boundary of a character.
+-- Each offset is a character boundary.
 abbrev pub AreBoundaries : List ℕ → List ℕ → Type 0
 AreBoundaries text cuts = (k : ℕ) → k < length cuts → IsCharBoundary text (get_or cuts k 0)
 
--- Every cut is at most the next one.
+-- Each offset is at most the next one.
 abbrev pub AreOrdered : List ℕ → Type 0
 AreOrdered cuts = (k : ℕ) → k + 1 < length cuts → get_or cuts k 0 ≤ get_or cuts (k + 1) 0
 
--- There is a last cut, and it is here.
+-- There is a last offset, and it is `end`.
 abbrev pub EndAt : List ℕ → ℕ → Type 0
 EndAt cuts end = (0 < length cuts) × (get_or cuts (length cuts - 1) 0 ≡ end)

@@ -1,4 +1,4 @@
--- What can be seen of a value of the type for a disk in memory.
+-- The observable state of the type for a disk in memory.
 use Rattle.mkv_memory.specs.FailingIn.{failures_in}
 use Rattle.mkv_memory.specs.SeenDisk.{SeenDisk}
 use Rattle.mkv_memory.specs.declared.mem_disk.MemDisk.{MemDisk}

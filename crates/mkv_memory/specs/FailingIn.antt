@@ -1,4 +1,4 @@
--- What can be seen of a value that says which calls fail.
+-- The observable state of the type for calls that must fail.
 use Rattle.std.specs.BTreeSet.{contains}
 use Rattle.std.specs.Ordering.{nat_cmp}
 use Rattle.mkv_memory.specs.Failing.{Failures, failures}

@@ -1,4 +1,4 @@
--- What can be seen of a value of the type for files in memory.
+-- The observable state of the type for files in memory.
 use Rattle.std.specs.BTreeMap.{get}
 use Rattle.std.specs.Ordering.{nat_cmp}
 use Rattle.mkv_memory.specs.SeenFiles.{SeenFiles}

@@ -1,27 +1,27 @@
--- What a crash may leave of a file, by the image of it that is picked.
+-- The contents that a crash may leave of a file, by the chosen image.
 use Rattle.std.specs.Prelude.{ℕ, ◌%◌, ◌==◌, ◌&&◌, nat_le, nat_lt, Bool, if◌then◌else◌, List, map, take}
 use Rattle.std.specs.List.{enumerate_from, list_any, zip}
 use Rattle.mkv_disk.specs.Image.{DiskFile, Range}
 use Rattle.mkv_memory.specs.declared.pending.CrashImage.{CrashImage}
 use Rattle.mkv_memory.specs.declared.pending.CrashImage.TheVariants.{AsRead, AsSynced, Blotted, Mixed}
 
--- the octet at a place was written since the file's last sync
+-- The byte at the offset `k` was written since the file's last sync.
 abbrev pub is_written : List Range → ℕ → Bool
 is_written written k = list_any (λ (r : Range). nat_le r.from k && nat_lt k r.to) written
 
--- octets, with FF at the places that pass a test
+-- the bytes with FF at the offsets that pass `test`
 abbrev pub ff_where : (ℕ → Bool) → List ℕ → List ℕ
 ff_where test octets = map (λ (p : ℕ × ℕ). if test p.0 then 255 else p.1) (enumerate_from 0 octets)
 
--- the first octets, so many: those at odd places from the second list, the others from the first
+-- the first `n` bytes: at odd offsets from `odd`, at even offsets from `even`
 abbrev pub mix : ℕ → List ℕ → List ℕ → List ℕ
 mix n even odd = map (λ (p : ℕ × (ℕ × ℕ)). if p.0 % 2 == 1 then p.1.1 else p.1.0) (enumerate_from 0 (take n (zip even odd)))
 
--- what is read, with FF in each octet that was written since the last sync
+-- the content as read, with FF in each byte that was written since the last sync
 abbrev pub blotted : DiskFile → List ℕ
 blotted f = ff_where (is_written f.written) f.reads
 
--- the least length since the last sync: octets at odd places as at that sync, the others as read
+-- the content with the least length since the last sync; bytes at odd offsets are as at that sync, the others as read
 abbrev pub mixed : DiskFile → List ℕ
 mixed f = mix f.least f.reads f.synced
 
@@ -31,7 +31,7 @@ image_of AsSynced f = f.synced
 image_of Blotted f = blotted f
 image_of Mixed f = mixed f
 
--- What is left of the medium and of the sidecar, by the number of the pick.
+-- the images of the edited file and of the journal, by their number `pick`
 abbrev pub left_by : ℕ → CrashImage × CrashImage
 left_by pick =
     if pick == 0 then (AsRead, AsRead)

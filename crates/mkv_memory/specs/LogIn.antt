@@ -1,4 +1,4 @@
--- A history as it is kept: the calls, and apart from them what they wrote.
+-- A history as it is stored: the calls, and separately the bytes that they wrote.
 use Rattle.std.specs.Prelude.{◌≡◌, ◌≤◌, ℕ, zero, suc, ◌+◌, ◌-◌, Bool, true, false, List, [], ◌∷◌, length, take, drop}
 use Rattle.std.specs.Vec.{vec_capacity}
 use Rattle.std.specs.declared.alloc.Global.{Global}
@@ -12,13 +12,13 @@ use Rattle.mkv_memory.specs.declared.done.Done.{Done}
 use Rattle.mkv_memory.specs.declared.done.Done.TheVariants.{Wrote, Cut, Synced}
 use Rattle.mkv_memory.specs.declared.logged_pair.CallBudget.{CallBudget}
 
--- how many octets a call wrote
+-- the number of bytes that a call wrote
 abbrev pub octets_done : Done → ℕ
 octets_done (Wrote at len) = len
 octets_done (Cut len) = 0
 octets_done Synced = 0
 
--- the change that it made, where the octets that it wrote are the next ones
+-- the change that a call made if `octets` begins with the bytes that it wrote
 abbrev pub change_of : Done → List ℕ → Change
 change_of (Wrote at len) octets = written at (take len octets)
 change_of (Cut len) octets = cut len
@@ -27,25 +27,25 @@ change_of Synced octets = synced
 abbrev pub made_by : Call → List ℕ → Made
 made_by call octets = record { file = call.file.n; change = change_of call.done octets }
 
--- the changes that calls made, whose octets stand one behind the other
+-- the changes that the calls made; `octets` has the bytes that they wrote, concatenated
 abbrev pub made_in : List Call → List ℕ → List Made
 made_in [] octets = []
 made_in (call ∷ calls) octets = made_by call octets ∷ made_in calls (drop (octets_done call.done) octets)
 
--- two files after calls that were made to them
+-- the two files after the calls
 abbrev pub replayed : List ℕ → List ℕ → List Call → List ℕ → Pair
 replayed media sidecar calls octets = replay (made_in calls octets) (both media sidecar)
 
--- the one of this number
+-- the file with the number `file` after the calls
 abbrev pub file_replayed : ℕ → List ℕ → List ℕ → List Call → List ℕ → DiskFile
 file_replayed file media sidecar calls octets = file_of file (replayed media sidecar calls octets)
 
--- how many octets they wrote
+-- the number of bytes that the calls wrote
 abbrev pub octets_by : List Call → ℕ
 octets_by [] = 0
 octets_by (call ∷ calls) = octets_done call.done + octets_by calls
 
--- two numbers are those of one file
+-- Both numbers name the same file.
 abbrev pub is_same : ℕ → ℕ → Bool
 is_same zero zero = true
 is_same zero (suc m) = false
@@ -58,8 +58,7 @@ logged media sidecar calls octets room = record {
   room = room;
 }
 
--- What is kept as read is what the history leaves, each change could be made, and there is room for all that may still be
--- done.
+-- The stored contents are the contents that the history leaves. Each change could be made, and there is room for all that may follow.
 pub record IsLogOf (l : Logged) (media sidecar octets : Vec ℕ Global) (calls : Vec Call Global) : Type 0 where
   pub reads_media : media.items ≡ (pair_of l.history).media.reads
   pub reads_sidecar : sidecar.items ≡ (pair_of l.history).sidecar.reads

@@ -1,4 +1,4 @@
--- What can be seen of a value of the type for a report in memory.
+-- The observable state of the type for a report in memory.
 use Rattle.std.specs.BTreeSet.{contains}
 use Rattle.std.specs.Ordering.{nat_cmp}
 use Rattle.std.specs.String.{string_bytes}

@@ -1,4 +1,4 @@
--- What can be seen of a disk in memory, and what a call makes of it.
+-- The observable state of a disk in memory, and the effects of calls on it.
 use Rattle.std.specs.Prelude.{◌≡◌, ℕ, zero, suc, ◌+◌, Bool, true, false, not, ◌||◌, nat_lt, List, [], length, Option, Some, None, unwrap_or, Result, Ok, Err}
 use Rattle.std.proofs.Common.{ap, sym}
 use Rattle.mkv_io.specs.declared.outside.Failed.{Failed}
@@ -16,7 +16,7 @@ use Rattle.mkv_memory.specs.Images.{image_of, left_by}
 use Rattle.mkv_memory.specs.Logged.{Logged, and_then, has_room, unchanged}
 use Rattle.mkv_memory.specs.declared.logged_pair.CallBudget.{CallBudget}
 
--- What was done to the two files, the name under which they were opened, which calls are to fail, and the counts.
+-- the changes of the two files, the name under which they were opened, the calls that must fail, and the counts
 pub record SeenDisk : Type 0 where
   pub logged : Logged
   pub opened : Option (List ℕ)
@@ -25,18 +25,18 @@ pub record SeenDisk : Type 0 where
   pub writing_faults : ℕ
   pub octets_read : ℕ
 
--- the two files, and what a crash may leave of them
+-- the two files, with the contents that a crash may leave
 abbrev pub pair_in : SeenDisk → Pair
 pair_in d = pair_of d.logged.history
 
--- what is read of a file
+-- the content of a file, as reads return it
 abbrev pub reads_in : SeenDisk → ℕ → List ℕ
 reads_in d n = (file_of n (pair_in d)).reads
 
 abbrev pub room_for : ℕ → ℕ → CallBudget
 room_for calls octets = record { calls = calls; octets = octets }
 
--- two files of which nothing is pending, and room for so much; no pair is open, and no call is to fail
+-- two files without pending writes, with room for `room` calls and bytes; no pair is open, and no call must fail
 abbrev pub fresh : List ℕ → List ℕ → CallBudget → SeenDisk
 fresh media sidecar room = record {
   logged = unchanged media sidecar room;
@@ -47,25 +47,25 @@ fresh media sidecar room = record {
   octets_read = 0;
 }
 
--- A disk on one image of each file, by the number of the pick.
+-- a disk on one image of each file, by the number `pick`
 abbrev pub crashed_by : ℕ → SeenDisk → SeenDisk
 crashed_by pick d = fresh (image_of (left_by pick).0 (pair_in d).media) (image_of (left_by pick).1 (pair_in d).sidecar) d.logged.room
 
--- The disk reads what a crash may leave of the other.
+-- The contents of the disk `d` are contents that a crash may leave of `other`.
 abbrev pub IsOnImage : SeenDisk → SeenDisk → Type 0
 IsOnImage other d = IsPairImage (pair_in other) (pair_in d).media.reads (pair_in d).sidecar.reads
 
--- one more call is to fail
+-- the disk with one more call that must fail
 abbrev pub failing_at : SeenDisk → ℕ → SeenDisk
 failing_at old call = record old { failures = with_failure old.failures call }
 
--- a call and every later one is to fail
+-- the disk on which the call number `call` and all later ones must fail
 abbrev pub stopping_at : SeenDisk → ℕ → SeenDisk
 stopping_at old call = record old { failures = with_stop old.failures call }
 
--- ---- which files are live
+-- ---- live files
 
--- the medium has the number 0, its sidecar 1
+-- The file is live. The edited file has the number 0, its journal 1.
 abbrev pub is_live : Option (List ℕ) → ℕ → Bool
 is_live None n = false
 is_live (Some name) zero = true
@@ -77,7 +77,7 @@ content_in p zero = Some p.media.reads
 content_in p (suc zero) = Some p.sidecar.reads
 content_in p (suc (suc n)) = None
 
--- a file's length in octets
+-- the length of a file in bytes
 abbrev pub size_in : Pair → ℕ → ℕ
 size_in p n = length (unwrap_or (content_in p n) [])
 
@@ -88,57 +88,57 @@ live_in opened p = record {
   content = content_in p;
 }
 
--- ---- what calls have in common
+-- ---- common parts of calls
 
--- one more call was made
+-- the disk after one more call
 abbrev pub called : SeenDisk → SeenDisk
 called old = record old { failures = failing.called old.failures }
 
--- one more call was made, and failed to open or to read
+-- the disk after one more call that failed to open or to read
 abbrev pub failed_to_read : SeenDisk → SeenDisk
 failed_to_read old = record (called old) { reading_faults = counted old.reading_faults 1 }
 
--- one more call was made, and failed to write
+-- the disk after one more call that failed to write
 abbrev pub failed_to_write : SeenDisk → SeenDisk
 failed_to_write old = record (called old) { writing_faults = counted old.writing_faults 1 }
 
--- the call that comes next is to fail
+-- The next call must fail.
 abbrev pub fails : SeenDisk → Bool
 fails old = is_to_fail old.failures
 
--- it would make a file longer than any may be
+-- The change would make a file longer than the limit.
 abbrev pub is_too_long : Change → Bool
 is_too_long (written at bytes) = nat_lt LONGEST_FILE (at + length bytes)
 is_too_long (cut len) = false
 is_too_long synced = false
 
--- the call that comes next can't make a change: it is to fail, the room is spent, or the file would be too long
+-- The next call can't make the change: it must fail, the room is used up, or the file would be too long.
 abbrev pub cannot_make : SeenDisk → Change → Bool
 cannot_make old change = fails old || (not (has_room old.logged (octets_of change)) || is_too_long change)
 
--- ---- what each call does
+-- ---- effects of each call
 
--- Opening fails exactly where it is to. Else the pair is open under the name, if there is memory for it.
+-- Opening fails if and only if the call must fail. Otherwise the pair is open under the name, if there is memory for it.
 abbrev pub OpensPair : {T : Type 0} → SeenDisk → List ℕ → Result T OpenFault → SeenDisk → Type 0
 OpensPair old name (Ok _) new = (fails old ≡ false) × (new ≡ record (called old) { opened = Some name })
 OpensPair old name (Err open_fault.Missing) new = ⊥
 OpensPair old name (Err open_fault.Failed) new = (fails old ≡ true) × (new ≡ failed_to_read old)
 OpensPair old name (Err open_fault.Memory) new = (fails old ≡ false) × (new ≡ called old)
 
--- A read fails exactly where it is to, and leaves what it was given. Else it fills it, and counts its octets.
+-- A read fails if and only if the call must fail, and then leaves its buffer. Otherwise it fills the buffer, and counts its bytes.
 abbrev pub ReadsAt : {T : Type 0} → SeenDisk → ℕ → ℕ → List ℕ → List ℕ → Result T Failed → SeenDisk → Type 0
 ReadsAt old file at was into (Ok _) new =
     (fails old ≡ false) × (into ≡ octets_from (reads_in old file) at (length was))
     × (new ≡ record (called old) { octets_read = counted old.octets_read (length was) })
 ReadsAt old file at was into (Err _) new = (fails old ≡ true) × (into ≡ was) × (new ≡ failed_to_read old)
 
--- A change fails exactly where it can't be made, and then uses no room. Else it is made.
+-- A change fails if and only if it can't be made, and then uses no room. Otherwise it is made.
 abbrev pub MakesChange : {T : Type 0} → SeenDisk → ℕ → Change → Result T Failed → SeenDisk → Type 0
 MakesChange old file change (Ok _) new = (cannot_make old change ≡ false) × (new ≡ record (called old) { logged = and_then old.logged file change })
 MakesChange old file change (Err _) new = (cannot_make old change ≡ true) × (new ≡ failed_to_write old)
 
--- ---- what follows at once
+-- ---- direct consequences
 
--- a content that is told has the file's length
+-- A content that is visible to the proof has the file's length.
 pub size-of_told : (opened : Option (List ℕ)) (p : Pair) (n : ℕ) (bytes : List ℕ) → content_in p n ≡ Some bytes → length bytes ≡ (live_in opened p).size n
 size-of_told opened p n bytes told = sym (ap (λ content. length (unwrap_or content [])) told)

@@ -1,4 +1,4 @@
--- What can be seen of files in memory, and what each call makes of it.
+-- The observable state of files in memory, and the effects of each call on it.
 use Rattle.std.specs.Prelude.{◌≡◌, ℕ, ◌+◌, ◌-◌, min, Bool, true, false, ◌||◌, ◌==◌, nat_lt, if◌then◌else◌, List, [], ◌∷◌, ◌++◌, length, take, Option, Some, None, is_some, unwrap_or, Result, Ok, Err}
 use Rattle.mkv_io.specs.declared.asked.Asked.{Asked}
 use Rattle.mkv_io.specs.declared.asked.Asked.TheVariants.{Opened, Made}
@@ -13,8 +13,8 @@ use Rattle.mkv_io.specs.Faults.{counted, last_count}
 use Rattle.mkv_memory.specs.Stored.{Stored, closed, file_octets, opened_under, with_changed_file, with_content_at}
 use Rattle.mkv_io.specs.declared.outside.TheConstants.{LONGEST_FILE}
 
--- What is stored, which calls are to fail, the counts, and the names that were opened or made, in order. A call is told by
--- its number, from 0 on; one that is to fail has a number of octets, which it keeps if it is an append.
+-- the stored names, contents and files, the calls that must fail, the counts, and the names that were opened or made, in order. Calls have
+-- numbers from 0 on. A call that must fail has a number of bytes, which it keeps if it is an append.
 pub record SeenFiles : Type 0 where
   pub stored : Stored
   pub to_fail : ℕ → Option ℕ
@@ -24,7 +24,7 @@ pub record SeenFiles : Type 0 where
   pub octets_read : ℕ
   pub asked : List Asked
 
--- no names, and no call that is to fail
+-- no names, and no call that must fail
 abbrev pub no_files : SeenFiles
 no_files = record {
   stored = record { world = λ _. None; opened = [] };
@@ -36,56 +36,55 @@ no_files = record {
   asked = [];
 }
 
--- one more call is to fail, and keeps so many octets
+-- the files with one more call that must fail and keeps `kept` bytes
 abbrev pub with_failure : SeenFiles → ℕ → ℕ → SeenFiles
 with_failure old call kept = record old { to_fail = λ other. if other == call then Some kept else old.to_fail other }
 
--- other names, contents and files are stored
+-- the files with other names, contents and open files
 abbrev pub with_stored : SeenFiles → Stored → SeenFiles
 with_stored old stored = record old { stored = stored }
 
--- with this content of a name
+-- the files after `name` got the content `bytes`
 abbrev pub with_file : SeenFiles → List ℕ → List ℕ → SeenFiles
 with_file old name bytes = with_stored old (with_content_at old.stored name bytes)
 
--- one more name was opened or made
+-- the files after one more name was opened or made
 abbrev pub with_asked : SeenFiles → Asked → SeenFiles
 with_asked old name = record old { asked = old.asked ++ name ∷ [] }
 
--- ---- what counted calls have in common
+-- ---- common parts of counted calls
 
--- one more call was made
+-- the files after one more call
 abbrev pub called : SeenFiles → SeenFiles
 called old = record old { calls = counted old.calls 1 }
 
--- one more call was made, and failed to open or to read
+-- the files after one more call that failed to open or to read
 abbrev pub failed_to_read : SeenFiles → SeenFiles
 failed_to_read old = record (called old) { reading_faults = counted old.reading_faults 1 }
 
--- one more call was made, and failed to make or to write
+-- the files after one more call that failed to make or to write
 abbrev pub failed_to_write : SeenFiles → SeenFiles
 failed_to_write old = record (called old) { writing_faults = counted old.writing_faults 1 }
 
--- the call that comes next is to fail
+-- The next call must fail.
 abbrev pub is_to_fail : SeenFiles → Bool
 is_to_fail old = is_some (old.to_fail old.calls)
 
--- the call that comes next can open no file: it is to fail, or no number is left
+-- The next call can't open a file: it must fail, or no number is left.
 abbrev pub cannot_open : SeenFiles → Bool
 cannot_open old = is_to_fail old || (length old.stored.opened == last_count)
 
--- ---- what each call does
+-- ---- effects of each call
 
--- A read fails exactly where it is to, and leaves what it was given. Else it fills it, and counts
--- its octets.
+-- A read fails if and only if the call must fail, and then leaves its buffer. Otherwise it fills the buffer, and counts its bytes.
 abbrev pub ReadsAt : {T : Type 0} → SeenFiles → ℕ → ℕ → List ℕ → List ℕ → Result T Failed → SeenFiles → Type 0
 ReadsAt old file at was into (Ok _) new =
     (is_to_fail old ≡ false) × (into ≡ octets_from (file_octets old.stored file) at (length was))
     × (new ≡ record (called old) { octets_read = counted old.octets_read (length was) })
 ReadsAt old file at was into (Err _) new = (is_to_fail old ≡ true) × (into ≡ was) × (new ≡ failed_to_read old)
 
--- A name that isn't there is missing, and no fault. Else opening fails exactly where no file can
--- be opened, and otherwise the next number is that of a file under the name, which was asked for.
+-- A name without a file is missing, which isn't a fault. Otherwise opening fails if and only if no file can be opened. If it succeeds, the next
+-- number is a file under the name, which was asked for.
 abbrev pub OpensName : SeenFiles → List ℕ → Result FileId OpenFault → SeenFiles → Type 0
 OpensName old name (Ok file) new =
     (is_some (old.stored.world name) ≡ true) × (cannot_open old ≡ false) × (file.n ≡ length old.stored.opened)
@@ -96,8 +95,8 @@ OpensName old name (Err open_fault.Failed) new =
 OpensName old name (Err open_fault.Memory) new =
     (is_some (old.stored.world name) ≡ true) × (cannot_open old ≡ false) × (new ≡ called old)
 
--- Making a file fails exactly where none can be opened. Else the name's content is empty, the
--- next number is that of a file under it, and it was asked for.
+-- Making a file fails if and only if no file can be opened. Otherwise the name's content is empty, the next number is a file under it, and the
+-- name was asked for.
 abbrev pub CreatesName : SeenFiles → List ℕ → Result FileId MakeFault → SeenFiles → Type 0
 CreatesName old name (Ok file) new =
     (cannot_open old ≡ false) × (file.n ≡ length old.stored.opened)
@@ -105,17 +104,16 @@ CreatesName old name (Ok file) new =
 CreatesName old name (Err make_fault.Failed) new = (cannot_open old ≡ true) × (new ≡ failed_to_write old)
 CreatesName old name (Err make_fault.Memory) new = (cannot_open old ≡ false) × (new ≡ called old)
 
--- these octets would make a file longer than any may be
+-- The bytes would make the file longer than the limit.
 abbrev pub is_too_much : SeenFiles → ℕ → List ℕ → Bool
 is_too_much old file more = nat_lt LONGEST_FILE (length (file_octets old.stored file) + length more)
 
--- How many octets a failing append keeps: none of too many, else as many as it is to, or all but
--- the last where they are fewer.
+-- the number of bytes that a failing append keeps. It is none if they are too many, and otherwise the number that was set, but never the last
+-- byte.
 abbrev pub kept_by : SeenFiles → ℕ → List ℕ → ℕ
 kept_by old file more = if is_too_much old file more then 0 else min (unwrap_or (old.to_fail old.calls) 0) (length more - 1)
 
--- An append fails exactly where it is to, or where it would add too much, and keeps a part. Else
--- the octets stand at the end.
+-- An append fails if and only if the call must fail, or the bytes are too many; it then keeps a prefix. Otherwise the bytes are appended.
 abbrev pub AppendsTo : {T : Type 0} → SeenFiles → ℕ → List ℕ → Result T MakeFault → SeenFiles → Type 0
 AppendsTo old file more (Ok _) new =
     ((is_to_fail old || is_too_much old file more) ≡ false)
@@ -125,13 +123,13 @@ AppendsTo old file more (Err make_fault.Failed) new =
     × (new ≡ with_stored (failed_to_write old) (with_changed_file old.stored file (with_appended (take (kept_by old file more) more))))
 AppendsTo old file more (Err make_fault.Memory) new = (is_too_much old file more ≡ false) × (new ≡ called old)
 
--- Overwriting fails exactly where it is to, and then changes nothing.
+-- Overwriting fails if and only if the call must fail, and then changes nothing.
 abbrev pub OverwritesIn : {T : Type 0} → SeenFiles → ℕ → ℕ → List ℕ → Result T Failed → SeenFiles → Type 0
 OverwritesIn old file at bytes (Ok _) new =
     (is_to_fail old ≡ false)
     × (new ≡ with_stored (called old) (with_changed_file old.stored file (with_overwritten at bytes)))
 OverwritesIn old file at bytes (Err _) new = (is_to_fail old ≡ true) × (new ≡ failed_to_write old)
 
--- Closing isn't counted, and ends the file alone.
+-- Closing isn't counted, and only closes the file.
 abbrev pub ClosesFile : SeenFiles → ℕ → SeenFiles → Type 0
 ClosesFile old file new = new ≡ with_stored old (closed old.stored file)

@@ -1,10 +1,9 @@
--- What can be seen of a report in memory, and what a call makes of it.
+-- The observable state of a report in memory, and the effects of a call on it.
 use Rattle.std.specs.Prelude.{◌≡◌, ℕ, ◌-◌, Bool, true, false, ◌||◌, ◌==◌, nat_lt, List, [], ◌∷◌, ◌++◌, length, Result, Ok, Err}
 use Rattle.mkv_io.specs.declared.outside.Failed.{Failed}
 use Rattle.mkv_io.specs.Faults.{counted}
 
--- The lines so far, for how many more lines and octets there is room, which calls are to fail, and
--- the counts. A call is told by its number, from 0 on.
+-- the lines up to now, the room for more lines and bytes, the calls that must fail, and the counts. Calls have numbers from 0 on.
 pub record SeenReport : Type 0 where
   pub lines : List (List ℕ)
   pub lines_left : ℕ
@@ -13,7 +12,7 @@ pub record SeenReport : Type 0 where
   pub calls : ℕ
   pub faults : ℕ
 
--- no lines, room for so many lines and octets, and no call that is to fail
+-- no lines, room for `lines` lines and `octets` bytes, and no call that must fail
 abbrev pub no_lines : ℕ → ℕ → SeenReport
 no_lines lines octets = record {
   lines = [];
@@ -24,15 +23,15 @@ no_lines lines octets = record {
   faults = 0;
 }
 
--- one more call is to fail
+-- the report with one more call that must fail
 abbrev pub with_failure : SeenReport → ℕ → SeenReport
 with_failure old call = record old { is_to_fail = λ other. (other == call) || old.is_to_fail other }
 
--- one more call was made
+-- the report after one more call
 abbrev pub called : SeenReport → SeenReport
 called old = record old { calls = counted old.calls 1 }
 
--- one more line, which uses room
+-- the report with one more line, which uses room
 abbrev pub with_line : SeenReport → List ℕ → SeenReport
 with_line old line = record old {
   lines = old.lines ++ line ∷ [];
@@ -40,11 +39,11 @@ with_line old line = record old {
   octets_left = old.octets_left - length line;
 }
 
--- the call that comes next can't tell a line: it is to fail, or the room for lines or octets is spent
+-- The next call can't print the line: it must fail, or the room for lines or bytes is used up.
 abbrev pub cannot_say : SeenReport → List ℕ → Bool
 cannot_say old line = old.is_to_fail old.calls || (old.lines_left == 0) || nat_lt old.octets_left (length line)
 
--- A line fails exactly where it can't be told, and then uses no room. Else it stands after the others.
+-- A line fails if and only if it can't be printed, and then uses no room. Otherwise it is appended.
 abbrev pub SaysLine : {T : Type 0} → SeenReport → List ℕ → Result T Failed → SeenReport → Type 0
 SaysLine old line (Ok _) new = (cannot_say old line ≡ false) × (new ≡ with_line (called old) line)
 SaysLine old line (Err _) new =

@@ -1,4 +1,4 @@
--- A file as it is replayed, and what a disk keeps of it.
+-- A file that is replayed from the log, and the file on the disk.
 use Rattle.std.specs.Prelude.{◌≡◌, ℕ, ◌&&◌, nat_le, nat_lt, Bool, List}
 use Rattle.std.specs.List.{list_any}
 use Rattle.mkv_disk.specs.Image.{DiskFile}
@@ -7,17 +7,17 @@ use Rattle.mkv_memory.specs.Images.{is_written}
 use Rattle.mkv_memory.specs.declared.pending.Pending.{Pending}
 use Rattle.mkv_memory.specs.declared.pending.Span.{Span}
 
--- the octet at a place lies in one of these spans
+-- The byte at the offset `k` is in one of the spans.
 abbrev pub is_noted : List Span → ℕ → Bool
 is_noted spans k = list_any (λ (s : Span). nat_le s.from k && nat_lt k s.to) spans
 
--- It is replayed as the disk keeps it, but for its greatest length, on which no image that is picked depends.
+-- The replayed file is the file on the disk, except for its greatest length, which no chosen image depends on.
 pub record Shows (p : Pending) (f : DiskFile) : Type 0 where
   pub reads : p.reads.items ≡ f.reads
   pub synced : p.synced.items ≡ f.synced
   pub least : p.least ≡ f.least
   pub written : (k : ℕ) → is_noted p.written.items k ≡ is_written f.written k
 
--- A change was made to whatever was replayed.
+-- For each file that was replayed, the change was made to it.
 abbrev pub IsChanged : Pending → Pending → Change → Type 0
 IsChanged old new change = (f : DiskFile) → Shows old f → Shows new (changed_by change f)

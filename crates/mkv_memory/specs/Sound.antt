@@ -1,4 +1,4 @@
--- What holds of the two files of every disk in memory.
+-- Properties of the two files of every disk in memory.
 use Rattle.std.specs.Prelude.{ℕ, zero, suc, ◌≤◌, length}
 use Rattle.std.proofs.Common.{arith}
 use Rattle.mkv_io.specs.declared.outside.TheConstants.{LONGEST_FILE}
@@ -6,15 +6,14 @@ use Rattle.mkv_disk.specs.Image.{DiskFile, IsImage}
 use Rattle.mkv_disk.specs.Pair.{Pair}
 use Rattle.mkv_memory.specs.SeenDisk.{size_in}
 
--- What is read of a file, and what it held at its last sync, are what a crash may leave of it, and no longer than a file may
--- be.
+-- The content as read and the content at the last sync are possible after a crash. Neither is longer than the limit.
 pub record IsSound (f : DiskFile) : Type 0 where
   pub reads : IsImage f f.reads
   pub synced : IsImage f f.synced
   pub short : length f.reads ≤ LONGEST_FILE
   pub short_synced : length f.synced ≤ LONGEST_FILE
 
--- no file is too long
+-- No file is too long.
 pub short-of_sound : (p : Pair) (n : ℕ) → IsSound p.media → IsSound p.sidecar → size_in p n ≤ LONGEST_FILE
 short-of_sound p zero media sidecar = media.short
 short-of_sound p (suc zero) media sidecar = sidecar.short

@@ -1,4 +1,4 @@
--- What a store holds.
+-- The contents of a store.
 use Rattle.mkv_memory.specs.Stored.{Stored, content_of_name}
 use Rattle.mkv_memory.specs.declared.store.Store.{Store}
 

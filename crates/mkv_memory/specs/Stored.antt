@@ -1,4 +1,4 @@
--- What files in memory hold.
+-- The contents of files in memory.
 use Rattle.std.specs.Prelude.{◌≡◌, ℕ, zero, suc, ◌<◌, ◌≤◌, List, [], ◌∷◌, ◌++◌, slice_set, length, Bool, true, Option, Some, None, is_some, unwrap_or, option_and_then, get_or, String}
 use Rattle.std.specs.declared.alloc.Global.{Global}
 use Rattle.std.specs.BTreeMap.{is_at}
@@ -11,20 +11,19 @@ use Rattle.mkv_io.specs.Names.{changed_at}
 use Rattle.mkv_io.specs.LiveFiles.{LiveFiles}
 use Rattle.mkv_io.specs.declared.outside.TheConstants.{LONGEST_FILE}
 
--- the content of each name, None where there is no file of that name
+-- the content of each name, or None if no file has it
 abbrev pub World : Type 0
 World = List ℕ → Option (List ℕ)
 
--- the content of each name in a map of them
+-- the content of each name in a map
 abbrev pub content_of_name : List (String Global × List ℕ) → World
 content_of_name entries name = lookup (is_at (λ key. slice_cmp nat_cmp name (string_bytes key))) entries
 
--- In a map of names one name's content changes, and every other stays.
+-- In a map of names the content of `name` changes by `change`, and every other stays.
 abbrev pub Changes : List ℕ → (Option (List ℕ) → Option (List ℕ)) → List (String Global × List ℕ) → List (String Global × List ℕ) → Type 0
 Changes name change old new = content_of_name new ≡ changed_at name change (content_of_name old)
 
--- The names with their contents, and the name under which each file was opened, by its number; a
--- file that is closed has none.
+-- The names with their contents, and the name under which each file was opened, by its number; a closed file has none.
 pub record Stored : Type 0 where
   pub world : World
   pub opened : List (Option (List ℕ))
@@ -47,83 +46,83 @@ files_of stored = record {
 abbrev pub holder_of : Stored → ℕ → List ℕ
 holder_of stored file = unwrap_or (name_of_file stored.opened file) []
 
--- the octets of a live file
+-- the bytes of a live file
 abbrev pub file_octets : Stored → ℕ → List ℕ
 file_octets stored file = unwrap_or (content_of_file stored file) []
 
--- ---- what becomes of them
+-- ---- changes of a store
 
--- a name gets a content, whatever it was
+-- the store after `name` got the content `bytes`
 abbrev pub with_content_at : Stored → List ℕ → List ℕ → Stored
 with_content_at stored name bytes = record stored { world = changed_at name (λ _. Some bytes) stored.world }
 
--- one more file is opened under a name
+-- the store after one more file was opened under `name`
 abbrev pub opened_under : Stored → List ℕ → Stored
 opened_under stored name = record stored { opened = stored.opened ++ Some name ∷ [] }
 
--- the content of a live file's name is changed
+-- the store after the content of a live file's name changed
 abbrev pub with_changed_file : Stored → ℕ → (Option (List ℕ) → Option (List ℕ)) → Stored
 with_changed_file stored file change = record stored { world = changed_at (holder_of stored file) change stored.world }
 
--- a file is closed
+-- the store after a file was closed
 abbrev pub closed : Stored → ℕ → Stored
 closed stored file = record stored { opened = slice_set stored.opened file None }
 
--- ---- what holds of all such files
+-- ---- properties of all such files
 
--- no name has a content of more than 2^48 octets
+-- No name has a content of more than 2^48 bytes.
 abbrev pub HasShortContents : World → Type 0
 HasShortContents world = (name : List ℕ) → length (unwrap_or (world name) []) ≤ LONGEST_FILE
 
--- a live file's name has a content
+-- The name of a live file has a content.
 abbrev pub is_there : World → Option (List ℕ) → Bool
 is_there world None = true
 is_there world (Some name) = is_some (world name)
 
--- every live file's name has a content
+-- The name of each live file has a content.
 abbrev pub AreThere : World → List (Option (List ℕ)) → Type 0
 AreThere world opened = (file : ℕ) → is_there world (name_of_file opened file) ≡ true
 
--- ---- what follows at once
+-- ---- direct consequences
 
--- a content that is told has the file's size
+-- A content that is visible to the proof has the file's size.
 pub size-of_told : (stored : Stored) (file : ℕ) (bytes : List ℕ) → content_of_file stored file ≡ Some bytes → length bytes ≡ (files_of stored).size file
 size-of_told stored file bytes told = sym (ap (λ content. length (unwrap_or content [])) told)
 
--- where each name's content is short, each live file is
+-- If each name's content is short, each live file is.
 pub short-of_names : (world : World) (name : Option (List ℕ)) → HasShortContents world → length (unwrap_or (option_and_then world name) []) ≤ LONGEST_FILE
 short-of_names world None short = omega arith
 short-of_names world (Some name) short = short name
 
--- a live file's content is that of its name
+-- A live file's content is the content of its name.
 pub content-live : (world : World) (name : Option (List ℕ)) → is_some name ≡ true → option_and_then world name ≡ world (unwrap_or name [])
 content-live world None live = cc
 content-live world (Some name) live = refl
 
--- the same of whatever world is told
+-- The same for a visible world.
 pub content-told : (told world : World) (name : Option (List ℕ)) → is_some name ≡ true → Some told ≡ Some world → option_and_then told name ≡ world (unwrap_or name [])
 content-told told world name live same =
     let is : told ≡ world = cc in
     content-live told name live ∙ ap (λ (each : World). each (unwrap_or name [])) is
 
--- the name of a live file has a content
+-- The name of a live file has a content.
 pub there-live : (world : World) (name : Option (List ℕ)) → is_some name ≡ true → is_there world name ≡ true → is_some (world (unwrap_or name [])) ≡ true
 there-live world None live there = cc
 there-live world (Some name) live there = there
 
--- the same of whatever world is told
+-- The same for a visible world.
 pub there-told : (told world : World) (name : Option (List ℕ)) → is_some name ≡ true → is_there told name ≡ true → Some told ≡ Some world → is_some (world (unwrap_or name [])) ≡ true
 there-told told world name live there same =
     let is : told ≡ world = cc in
     ap (λ (each : World). is_some (each (unwrap_or name []))) (sym is) ∙ there-live told name live there
 
--- a live file has a number below the next one
+-- A live file has a number below the next one.
 pub numbered-live : (opened : List (Option (List ℕ))) (file : ℕ) → is_some (name_of_file opened file) ≡ true → file < length opened
 numbered-live [] zero live = cc
 numbered-live [] (suc file) live = cc
 numbered-live (name ∷ names) zero live = omega arith
 numbered-live (name ∷ names) (suc file) live = let below = numbered-live names file live in omega arith
 
--- a file of this name that is made, and opened
+-- the store after a file with this name was made and opened
 abbrev pub made_under : Stored → List ℕ → Stored
 made_under stored name = opened_under (with_content_at stored name []) name

@@ -1,4 +1,4 @@
-//! What a call does to a file.
+//! Effects of a call on a file.
 
 ghost use Rattle.std.specs.Prelude.{◌≡◌, ◌+◌, ◌<◌, ◌≤◌, ◌^◌, length, vec_capacity, OnOk, IsOk};
 ghost use Rattle.mkv_io.specs.Contents.{overwritten};
@@ -8,7 +8,7 @@ ghost use Rattle.mkv_memory.specs.LogIn.{change_of, octets_done};
 use mkv_io::FileId;
 use std::alloc::AllocError;
 
-/// What a call did to a file. The octets that it wrote stand apart.
+/// Effect of a call on a file. The bytes that it wrote are kept elsewhere.
 #[derive(Clone, Copy)]
 pub enum Done {
     Wrote { at: u64, len: usize },
@@ -16,14 +16,14 @@ pub enum Done {
     Synced,
 }
 
-/// A call that was made to one of the two files.
+/// Call that was made on one of the two files.
 #[derive(Clone, Copy)]
 pub struct Call {
     pub file: FileId,
     pub done: Done,
 }
 
-/// How many octets a call wrote.
+/// Returns the number of bytes that a call wrote.
 pub fn octets_done(done: Done) -> usize
     ensures { result ≡ octets_done done }
 {
@@ -33,7 +33,8 @@ pub fn octets_done(done: Done) -> usize
     }
 }
 
-/// Does it to what is read of a file. Memory is taken where the room of the vector is spent, and only there.
+/// Makes the effect `done`, with the bytes `bytes`, on the content `reads` of a file. Allocates only if the vector
+/// has no room left.
 pub fn apply(reads: &mut Vec<u8>, done: Done, bytes: &[u8]) -> Result<(), AllocError>
     requires count { length bytes.now ≡ octets_done done }
     requires inside { CanChange (change_of done bytes.now) reads.old.items }
@@ -51,7 +52,7 @@ pub fn apply(reads: &mut Vec<u8>, done: Done, bytes: &[u8]) -> Result<(), AllocE
     }
 }
 
-/// Writes octets from a place on, over others and past the end.
+/// Writes `bytes` from the offset `at`, over the bytes there and past the end.
 fn write_over(octets: &mut Vec<u8>, at: usize, bytes: &[u8]) -> Result<(), AllocError>
     requires inside { at ≤ length octets.old.items }
     requires short { at + length bytes.now < 2 ^ 64 }

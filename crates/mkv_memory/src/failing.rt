@@ -1,15 +1,15 @@
-//! Which calls of a disk fail.
+//! Calls of a disk that must fail.
 
 ghost use Rattle.std.specs.Prelude.{◌≡◌, OnOk, OnErr};
 
 use std::alloc::{AllocError, Global};
 use std::collections::BTreeSet;
 
-/// Which calls fail, by their numbers from 0 on, and how many were made.
+/// Set of calls that must fail, by their numbers from 0 on, and the number of calls up to now.
 #[derive(Drop)]
 pub struct Failing {
     single: BTreeSet<u64>,
-    /// This call and every later one fails.
+    /// First call of the final failures: it and all later ones fail.
     stop: Option<u64>,
     made: u64,
 }
@@ -18,7 +18,7 @@ impl Failing {
     ghost use Rattle.mkv_memory.specs.Failing.{called, is_to_fail, no_failures, with_failure, with_stop};
     ghost use Rattle.mkv_memory.specs.FailingIn.{failures_in};
 
-    /// No call was made, and none is to fail.
+    /// Returns a set without calls that must fail; no call was made yet.
     pub fn new(alloc: Global) -> Failing
         ensures { failures_in result ≡ no_failures }
     {
@@ -29,7 +29,7 @@ impl Failing {
         }
     }
 
-    /// Lets the call of a number fail.
+    /// Makes the call number `call` fail.
     pub fn fail_at(&mut self, call: u64) -> Result<(), AllocError>
         ensures ok { OnOk result (failures_in self.new ≡ with_failure (failures_in self.old) call) }
         ensures err { OnErr result (failures_in self.new ≡ failures_in self.old) }
@@ -38,14 +38,14 @@ impl Failing {
         Ok(())
     }
 
-    /// Lets the call of a number fail, and every later one.
+    /// Makes the call number `call` and all later ones fail.
     pub fn stop_at(&mut self, call: u64)
         ensures { failures_in self.new ≡ with_stop (failures_in self.old) call }
     {
         self.stop = Some(self.stop.map_or(call, |stop| stop.min(call)));
     }
 
-    /// Counts a call, and answers whether it is to fail.
+    /// Counts a call, and returns whether it must fail.
     pub fn next(&mut self) -> bool
         ensures fails { result ≡ is_to_fail (failures_in self.old) }
         ensures counted { failures_in self.new ≡ called (failures_in self.old) }

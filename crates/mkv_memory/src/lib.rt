@@ -1,6 +1,6 @@
 #![tactic(auto)]
 
-//! Files, a disk and a report in memory. They tell what they hold, and fail where they are told to.
+//! Files, a disk and a report in memory. Their contents are visible to the proof, and chosen calls fail.
 
 mod done;
 mod failing;

@@ -1,4 +1,4 @@
-//! The two files of a disk in memory, and all that was done to them.
+//! The two files of a disk in memory, with a log of all calls that changed them.
 
 ghost use Rattle.std.specs.Prelude.{◌≡◌, ◌+◌, ◌≤◌, ℕ, [], length, vec_capacity, IfOk, IsTrue};
 ghost use Rattle.mkv_disk.specs.Pair.{both, file_of};
@@ -14,15 +14,15 @@ use mkv_io::FileId;
 use std::alloc::{AllocError, Global};
 use std::marker::Model;
 
-/// For how many calls that change a file there is room, and for how many octets that they write.
+/// Room for calls that change a file, and for the bytes that they write.
 #[derive(Clone, Copy)]
 pub struct CallBudget {
     pub calls: u32,
     pub octets: u64,
 }
 
-/// The two files as they were at first and as they are read, and all that was done to them in between. Memory for
-/// that is taken at first.
+/// The two files as they were at first, their contents now, and a log of all calls in between. All memory for the log
+/// is reserved at first.
 #[derive(Drop)]
 pub struct LoggedPair {
     first_media: Vec<u8>,
@@ -30,7 +30,7 @@ pub struct LoggedPair {
     media: Vec<u8>,
     sidecar: Vec<u8>,
     calls: Vec<Call>,
-    /// What the calls wrote, one's octets behind the other's.
+    /// Bytes that the calls wrote, concatenated.
     octets: Vec<u8>,
     room: CallBudget,
 }
@@ -47,7 +47,7 @@ impl Model for LoggedPair {
 }
 
 impl LoggedPair {
-    /// Two files to which nothing was done yet, with room for so much.
+    /// Returns two unchanged files with room for `room` calls and bytes.
     pub fn new(
         alloc: Global,
         media: &[u8],
@@ -67,14 +67,14 @@ impl LoggedPair {
         })
     }
 
-    /// The room that was made at first.
+    /// Returns the room that was reserved at first.
     pub fn room(&self) -> CallBudget
         ensures { result ≡ self.now.room }
     {
         self.room
     }
 
-    /// What is read of a file.
+    /// Returns the content of `file`, as reads return it.
     pub fn reads(&self, file: FileId) -> &[u8]
         ensures { result.now ≡ (file_of file.n (pair_of self.now.history)).reads }
     {
@@ -85,7 +85,7 @@ impl LoggedPair {
         }
     }
 
-    /// Whether there is room for a further call that writes so many octets.
+    /// Checks whether there is room for one more call that writes `octets` bytes.
     pub fn has_room(&self, octets: usize) -> bool
         ensures { result ≡ has_room self.now octets }
     {
@@ -93,7 +93,7 @@ impl LoggedPair {
             && octets as u64 <= self.room.octets - self.octets.len() as u64
     }
 
-    /// A file, with what is pending of it.
+    /// Returns the file `file` with its pending writes.
     pub fn pending(&self, alloc: Global, file: FileId) -> Result<Pending, AllocError>
         ensures { IfOk result (λ pending. Shows pending (file_of file.n (pair_of self.now.history))) }
     {
@@ -101,7 +101,7 @@ impl LoggedPair {
         replayed(alloc, media, sidecar, &self.calls, &self.octets, file)
     }
 
-    /// Does something to a file, and notes it.
+    /// Makes the effect `done` on `file`, and logs it.
     pub fn make(&mut self, file: FileId, done: Done, bytes: &[u8])
         requires count { length bytes.now ≡ octets_done done }
         requires inside { CanChange (change_of done bytes.now) (file_of file.n (pair_of self.old.history)).reads }
@@ -118,7 +118,7 @@ impl LoggedPair {
     }
 }
 
-/// One of the two files, which were these at first, after calls whose octets stand one behind the other.
+/// Returns one of the two files, which had the contents `media` and `sidecar` at first, after the calls in the log.
 fn replayed(
     alloc: Global,
     media: &[u8],
@@ -143,14 +143,14 @@ fn replayed(
     Ok(pending)
 }
 
-/// Whether two numbers are those of one file.
+/// Checks whether both numbers name the same file.
 fn is_same(file: FileId, other: FileId) -> bool
     ensures { result ≡ is_same file.n other.n }
 {
     (file == MEDIA) == (other == MEDIA)
 }
 
-/// Octets, with room for more of them.
+/// Returns a copy of `bytes` with room for `more` bytes after them.
 fn with_room(alloc: Global, bytes: &[u8], more: u64) -> Result<Vec<u8>, AllocError>
     ensures items { IfOk result (λ octets. octets.items ≡ bytes.now) }
     ensures room { IfOk result (λ octets. length bytes.now + more ≤ vec_capacity octets) }

@@ -17,10 +17,10 @@ use mkv_disk::{Disk, MEDIA, SIDECAR};
 use mkv_io::{Failed, FileId, LONGEST_FILE, OpenFault, Reads, Text};
 use std::alloc::{AllocError, Global};
 
-/// A disk in memory with two files, which any name opens. It tells what it holds and what a crash may leave of it,
-/// and fails at the calls that it is told to, or where its room is spent.
+/// Disk in memory with two files, which any name opens. Its contents, and the contents that a crash may leave, are
+/// visible to the proof. Chosen calls fail, and calls without room.
 ///
-/// Calls of `open_pair`, `read_at`, `write_at`, `cut` and `sync` are counted from 0, from the making on.
+/// Calls of `open_pair`, `read_at`, `write_at`, `cut` and `sync` are counted from 0.
 #[derive(Drop)]
 pub struct MemDisk {
     alloc: Global,
@@ -34,7 +34,7 @@ pub struct MemDisk {
     ghost sidecar_sound: { IsSound (pair_of files.history).sidecar },
 }
 
-/// What a crash leaves of the medium and of the sidecar, by the number of the pick.
+/// Returns the images of the edited file and of the journal that a crash leaves, by their number `pick`.
 fn left_by(pick: u64) -> (CrashImage, CrashImage)
     ensures { result ≡ left_by pick }
 {
@@ -48,7 +48,7 @@ fn left_by(pick: u64) -> (CrashImage, CrashImage)
     }
 }
 
-/// Whether it would make a file longer than any may be.
+/// Checks whether the call would make a file longer than the limit.
 fn is_too_long(done: Done) -> bool
     ensures { (bytes : List ℕ) → length bytes ≡ octets_done done → result ≡ is_too_long (change_of done bytes) }
 {
@@ -63,8 +63,8 @@ impl MemDisk {
     ghost use Rattle.mkv_memory.specs.SeenDisk.{IsOnImage, MakesChange, crashed_by, failing_at, fresh, pair_in, reads_in, room_for, stopping_at};
     ghost use Rattle.mkv_memory.specs.DiskIn.{seen};
 
-    /// A disk with these two files, of which nothing is pending. There is room for so many calls of `write_at`, `cut`
-    /// and `sync`, and for so many octets that they write in all.
+    /// Returns a disk with two files without pending writes. It has room for `calls` calls of `write_at`, `cut` and
+    /// `sync`, and for `octets` bytes that they write in all.
     pub fn new(
         alloc: Global,
         media: &[u8],
@@ -88,7 +88,7 @@ impl MemDisk {
         })
     }
 
-    /// Lets the call of a number fail. It then does nothing.
+    /// Makes the call number `call` fail. It then does nothing.
     pub fn fail_at(&mut self, call: u64) -> Result<(), AllocError>
         ensures ok { OnOk result (seen self.new ≡ failing_at (seen self.old) call) }
         ensures err { OnErr result (seen self.new ≡ seen self.old) }
@@ -96,18 +96,22 @@ impl MemDisk {
         self.failing.fail_at(call)
     }
 
-    /// Lets the call of a number and every later one fail.
+    /// Makes the call number `call` and all later ones fail.
     pub fn stop_at(&mut self, call: u64)
         ensures { seen self.new ≡ stopping_at (seen self.old) call }
     {
         self.failing.stop_at(call);
     }
 
-    /// A disk on one of the images that a crash may leave now, with the room of this one's making. By the pick: 0
-    /// is what is read, 1 what was last synced, 2 the medium as read and the sidecar as last synced, 3 the other way
-    /// round, 4 what is read with FF in each octet that was written since its file's last sync. Any other cuts each
-    /// file to its least length since its last sync, with octets at odd places as at that sync and the others as
-    /// read.
+    /// Returns a disk on an image that a crash may leave now, with the room that this one had at first. The number
+    /// `pick` chooses the image.
+    ///
+    /// With 0 both files are as read, and with 1 as last synced. With 2 the edited file is as read and the journal as
+    /// last synced, and with 3 the reverse. With 4 both are as read, with FF in each byte that was written since its
+    /// file's last sync.
+    ///
+    /// Any other number truncates each file to its least length since its last sync. Bytes at odd offsets are as at
+    /// that sync, the others as read.
     pub fn crashed(&self, alloc: Global, pick: u64) -> Result<MemDisk, AllocError>
         ensures exact { IfOk result (λ disk. seen disk ≡ crashed_by pick (seen self.now)) }
         ensures image { IfOk result (λ disk. IsOnImage (seen self.now) (seen disk)) }
@@ -120,7 +124,7 @@ impl MemDisk {
         MemDisk::new(alloc, &media, &sidecar, room.calls, room.octets)
     }
 
-    /// Does something to a file, unless the call is to fail or there is no room.
+    /// Makes the effect `done` on `file`, unless the call must fail or there is no room.
     fn make(&mut self, file: FileId, done: Done, bytes: &[u8]) -> Result<(), Failed>
         requires count { length bytes.now ≡ octets_done done }
         requires inside { BeginsWithin (change_of done bytes.now) (reads_in (seen self.old) file.n) }

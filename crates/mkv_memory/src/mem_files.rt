@@ -14,11 +14,10 @@ use std::alloc::{AllocError, Global};
 use std::cmp::min;
 use std::collections::BTreeMap;
 
-/// Files in memory, which tell names and contents, and fail at the calls that they are told to. The names that were opened
-/// or made stay known, in order.
+/// Files in memory. Their names and contents are visible to the proof, and chosen calls fail. The names that were
+/// opened or made stay known, in order.
 ///
-/// Calls of `open_file`, `create`, `read_at`, `append` and `overwrite` are counted from 0, from the
-/// making on.
+/// Calls of `open_file`, `create`, `read_at`, `append` and `overwrite` are counted from 0.
 #[derive(Drop)]
 pub struct MemFiles {
     alloc: Global,
@@ -28,7 +27,7 @@ pub struct MemFiles {
     reading_faults: u64,
     writing_faults: u64,
     octets_read: u64,
-    // the names that contracts speak of: no code reads them
+    // the names for contracts: no code reads them
     asked: Vec<Asked>,
 }
 
@@ -38,7 +37,7 @@ impl MemFiles {
     ghost use Rattle.mkv_memory.specs.SeenFiles.{with_file, with_stored, no_files, with_failure};
     ghost use Rattle.mkv_memory.specs.FilesIn.{seen};
 
-    /// Files without names, of which no call fails.
+    /// Returns a store without files; no call must fail.
     pub fn new(alloc: Global) -> Result<MemFiles, AllocError>
         ensures { IsOkAnd result (λ files. seen files ≡ no_files) }
     {
@@ -54,7 +53,7 @@ impl MemFiles {
         })
     }
 
-    /// Sets a name's content. Where the name has live files, theirs changes with it.
+    /// Sets the content of `name` to `bytes`. Live files with this name get it too.
     pub fn put(&mut self, name: &str, bytes: &[u8]) -> Result<(), AllocError>
         requires { length bytes.now ≤ LONGEST_FILE }
         ensures ok { OnOk result (seen self.new ≡ with_file (seen self.old) name.now bytes.now) }
@@ -65,8 +64,8 @@ impl MemFiles {
         self.store.set(name, content)
     }
 
-    /// Lets the call of a number fail. An `append` then keeps so many octets, or all but the last
-    /// where fewer remain.
+    /// Makes the call number `call` fail. If it is an `append`, it keeps the first `kept` bytes, or all except the
+    /// last if there are fewer.
     pub fn fail_at(&mut self, call: u64, kept: u64) -> Result<(), AllocError>
         ensures ok { OnOk result (seen self.new ≡ with_failure (seen self.old) call kept) }
         ensures err { OnErr result (seen self.new ≡ seen self.old) }
@@ -75,14 +74,14 @@ impl MemFiles {
         Ok(())
     }
 
-    /// A name's content, None where there is no file of that name.
+    /// Returns the content of `name`, or None if no file has this name.
     pub fn bytes(&self, name: &str) -> Option<&[u8]>
         ensures { option_map (λ (bytes : Bor (List ℕ)). bytes.now) result ≡ (seen self.now).stored.world name.now }
     {
         self.store.content(name)
     }
 
-    /// Counts a call, and answers the octets that it keeps where it is to fail.
+    /// Counts a call. If it must fail, returns the number of bytes that it keeps.
     fn next_failure(&mut self) -> Option<u64>
         ensures kept { result ≡ get nat_cmp self.old.failing self.old.calls }
         ensures rest { self.new ≡ record self.old { calls = min (self.old.calls + 1) last_count } }
@@ -93,7 +92,7 @@ impl MemFiles {
     }
 }
 
-/// How many octets a failing append keeps: as many as it is told to, and never the last of them.
+/// Returns the number of bytes that a failing append keeps: `kept`, but never the last byte.
 fn kept_of(len: usize, kept: u64) -> usize
     ensures { result ≡ min kept (len - 1) }
 {

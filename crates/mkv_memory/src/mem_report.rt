@@ -9,12 +9,12 @@ use mkv_io::{Failed, Report};
 use std::alloc::{AllocError, Global};
 use std::collections::BTreeSet;
 
-/// A report in memory, which tells its lines, and fails at the calls that it is told to, or where
-/// its room is spent. Calls of `say` are counted from 0, from the making on.
+/// Report in memory. Its lines are visible to the proof, and chosen calls fail, and calls without room. Calls of
+/// `say` are counted from 0.
 #[derive(Drop)]
 pub struct MemReport {
     text: String,
-    /// The lines are the parts of `text` between these places, which begin with its start.
+    /// Offsets that divide `text` into lines, beginning with 0.
     cuts: Vec<usize>,
     lines_left: u32,
     octets_left: u64,
@@ -32,7 +32,7 @@ impl MemReport {
     ghost use Rattle.mkv_memory.specs.SeenReport.{no_lines, with_failure, with_line};
     ghost use Rattle.mkv_memory.specs.ReportIn.{seen};
 
-    /// A report without lines, with room for so many lines, and octets in all. No call is to fail.
+    /// Returns a report without lines, with room for `lines` lines and `octets` bytes in all. No call must fail.
     pub fn new(alloc: Global, lines: u32, octets: u64) -> Result<MemReport, AllocError>
         ensures { IfOk result (λ report. seen report ≡ no_lines lines octets) }
     {
@@ -50,7 +50,7 @@ impl MemReport {
         })
     }
 
-    /// Lets the call of a number fail.
+    /// Makes the call number `call` fail.
     pub fn fail_at(&mut self, call: u64) -> Result<(), AllocError>
         ensures ok { OnOk result (seen self.new ≡ with_failure (seen self.old) call) }
         ensures err { OnErr result (seen self.new ≡ seen self.old) }
@@ -59,7 +59,7 @@ impl MemReport {
         Ok(())
     }
 
-    /// A line, counted from 0, None where there are not so many.
+    /// Returns the line number `k`, counted from 0, or None if there are fewer lines.
     pub fn line(&self, k: usize) -> Option<&str>
         ensures { option_map (λ (line : Bor (List ℕ)). line.now) result ≡ slice_get (seen self.now).lines k }
     {
@@ -69,7 +69,7 @@ impl MemReport {
         Some(&self.text.as_str()[self.cuts[k]..self.cuts[k + 1]])
     }
 
-    /// Adds a line for which there is room.
+    /// Adds `line`, which has room.
     fn add_line(&mut self, line: &str)
         requires lines { 0 < (seen self.old).lines_left }
         requires octets { length line.now ≤ (seen self.old).octets_left }

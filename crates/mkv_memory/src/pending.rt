@@ -1,4 +1,4 @@
-//! A file of which something is pending, and what a crash may leave of it.
+//! A file with pending writes, and the contents that a crash may leave of it.
 
 ghost use Rattle.std.specs.Prelude.{◌≡◌, length, OnOk, IfOk};
 ghost use Rattle.mkv_disk.specs.Image.{DiskFile, clean};
@@ -8,27 +8,29 @@ ghost use Rattle.mkv_memory.specs.LogIn.{change_of, octets_done};
 use crate::done::{Done, apply};
 use std::alloc::{AllocError, Global};
 
-/// What a crash leaves of a file.
+/// Content that a crash leaves of a file.
 #[derive(Clone, Copy)]
 pub enum CrashImage {
-    /// What is read of it.
+    /// Content that reads return.
     AsRead,
-    /// What it held at its last sync.
+    /// Content at the last sync.
     AsSynced,
-    /// What is read of it, with FF in each octet that was written since its last sync.
+    /// Content that reads return, with FF in each byte that was written since the last sync.
     Blotted,
-    /// Its least length since its last sync; octets at odd places as at that sync, the others as read.
+    /// Content with the least length since the last sync. Bytes at odd offsets are as at that sync, the others as
+    /// read.
     Mixed,
 }
 
-/// The places from `from` on that are before `to`.
+/// Offsets from `from` on and below `to`.
 #[derive(Clone, Copy)]
 pub struct Span {
     pub from: u64,
     pub to: u64,
 }
 
-/// A file: what is read of it, what it held at its last sync, its least length since, and where it was written since.
+/// File with pending writes: its content as read, its content at the last sync, its least length since, and the
+/// ranges written since.
 #[derive(Drop)]
 pub struct Pending {
     pub reads: Vec<u8>,
@@ -41,7 +43,7 @@ impl Pending {
     ghost use Rattle.mkv_memory.specs.Images.{ff_where, image_of, mix};
     ghost use Rattle.mkv_memory.specs.Shows.{IsChanged, Shows, is_noted};
 
-    /// A file of which nothing is pending.
+    /// Returns a file without pending writes.
     pub fn new(alloc: Global, octets: &[u8]) -> Result<Pending, AllocError>
         ensures { IfOk result (λ file. Shows file (clean octets.now)) }
     {
@@ -53,7 +55,7 @@ impl Pending {
         })
     }
 
-    /// Does something to it.
+    /// Makes the effect `done` on the file.
     pub fn make(&mut self, done: Done, bytes: &[u8]) -> Result<(), AllocError>
         requires count { length bytes.now ≡ octets_done done }
         requires inside { CanChange (change_of done bytes.now) self.old.reads.items }
@@ -76,7 +78,7 @@ impl Pending {
         Ok(())
     }
 
-    /// What a crash leaves of it.
+    /// Returns the content that a crash leaves, by the image `left`.
     pub fn image(&self, alloc: Global, left: CrashImage) -> Result<Vec<u8>, AllocError>
         ensures { IfOk result (λ octets. (f : DiskFile) → Shows self.now f → octets.items ≡ image_of left f) }
     {
@@ -88,7 +90,7 @@ impl Pending {
         }
     }
 
-    /// Whether an octet was written since the last sync.
+    /// Checks whether the byte at the offset `k` was written since the last sync.
     fn is_written(&self, k: u64) -> bool
         ensures { result ≡ is_noted self.now.written.items k }
     {

@@ -1,4 +1,4 @@
-//! Names with their contents, and the files that are opened under them.
+//! Names with their contents, and the files that are open under them.
 
 ghost use denote.Ref.{Bor};
 ghost use Rattle.std.specs.Prelude.{slice_set, ◌≡◌, ◌≢◌, ℕ, ◌+◌, ◌-◌, ◌<◌, ◌≤◌, ◌^◌, ◌↔◌, List, [], ◌∷◌, ◌++◌, length, Option, Some, None, is_some, option_map, unwrap_or, OnOk, OnErr, IfOk, IsTrue, IsSome};
@@ -13,7 +13,7 @@ use std::collections::BTreeMap;
 
 type Contents = BTreeMap<String, Bytes>;
 
-/// What files in memory hold. The number of a file is its place in `opened`.
+/// Names with their contents, and the open files. The number of a file is its index in `opened`.
 #[derive(Drop)]
 pub struct Store {
     alloc: Global,
@@ -37,14 +37,14 @@ impl Store {
         }
     }
 
-    /// Whether no number is left for a further file.
+    /// Checks whether no number is left for another file.
     pub fn is_full(&self) -> bool
         ensures { IsTrue result ↔ (length (stored_in self.now).opened ≡ 2 ^ 64 - 1) }
     {
         self.opened.len() as u64 == u64::MAX
     }
 
-    /// The content of a name.
+    /// Returns the content of `name`.
     pub fn content(&self, name: &str) -> Option<&[u8]>
         ensures { option_map (λ (bytes : Bor (List ℕ)). bytes.now) result ≡ (stored_in self.now).world name.now }
     {
@@ -54,7 +54,7 @@ impl Store {
         }
     }
 
-    /// The octets of a live file.
+    /// Returns the bytes of the live file `file`.
     pub fn octets(&self, file: FileId) -> &[u8]
         ensures { result.now ≡ unwrap_or (content_of_file (stored_in self.now) file.n) [] }
     {
@@ -64,7 +64,7 @@ impl Store {
         }
     }
 
-    /// Gives a name a content.
+    /// Sets the content of `name`.
     pub fn set(&mut self, name: &str, content: Bytes) -> Result<(), AllocError>
         requires { length content ≤ LONGEST_FILE }
         ensures ok { OnOk result (stored_in self.new ≡ with_content_at (stored_in self.old) name.now content) }
@@ -74,7 +74,7 @@ impl Store {
         Ok(())
     }
 
-    /// Opens a file under a name that has a content.
+    /// Opens a file under `name`, which has a content.
     pub fn open(&mut self, name: &str) -> Result<FileId, AllocError>
         requires there { IsSome ((stored_in self.old).world name.now) }
         requires room { length (stored_in self.old).opened < 2 ^ 64 - 1 }
@@ -89,7 +89,7 @@ impl Store {
         Ok(FileId { n: number })
     }
 
-    /// Gives a name an empty content, and opens a file under it.
+    /// Sets the content of `name` to no bytes, and opens a file under it.
     pub fn create(&mut self, name: &str) -> Result<FileId, AllocError>
         requires { length (stored_in self.old).opened < 2 ^ 64 - 1 }
         ensures number { IfOk result (λ file. file.n ≡ length (stored_in self.old).opened) }
@@ -106,7 +106,7 @@ impl Store {
         Ok(FileId { n: number })
     }
 
-    /// Adds octets to a live file.
+    /// Appends `more` to the live file `file`.
     pub fn append(&mut self, file: FileId, more: &[u8]) -> Result<(), AllocError>
         requires live { IsTrue ((files_of (stored_in self.old)).live file.n) }
         requires room { (files_of (stored_in self.old)).size file.n + length more.now ≤ LONGEST_FILE }
@@ -118,7 +118,7 @@ impl Store {
         Ok(())
     }
 
-    /// Writes octets over those of a live file.
+    /// Writes `bytes` over the live file `file` from the offset `at`.
     pub fn overwrite(&mut self, file: FileId, at: usize, bytes: &[u8])
         requires live { IsTrue ((files_of (stored_in self.old)).live file.n) }
         requires range { at + length bytes.now ≤ (files_of (stored_in self.old)).size file.n }
@@ -128,7 +128,7 @@ impl Store {
         write_over(&mut self.contents, name, at, bytes);
     }
 
-    /// Ends a live file.
+    /// Closes the live file `file`.
     pub fn close(&mut self, file: FileId)
         requires { IsTrue ((files_of (stored_in self.old)).live file.n) }
         ensures { stored_in self.new ≡ closed (stored_in self.old) file.n }
@@ -137,7 +137,7 @@ impl Store {
     }
 }
 
-/// The name of a live file.
+/// Returns the name of the live file `file`.
 fn holder<'a>(opened: &'a Vec<Option<Text>>, file: FileId) -> &'a str
     requires { IsTrue (is_some (name_of_file opened.now.items file.n)) }
     ensures { name_of_file opened.now.items file.n ≡ Some result.now }
@@ -148,7 +148,7 @@ fn holder<'a>(opened: &'a Vec<Option<Text>>, file: FileId) -> &'a str
     }
 }
 
-/// Sets the content of a name.
+/// Sets the content of `name`.
 fn set(contents: &mut Contents, alloc: Global, name: &str, content: Bytes) -> Result<(), AllocError>
     ensures ok { OnOk result (Changes name.now (λ _. Some content) contents.old.entries contents.new.entries) }
     ensures err { OnErr result (content_of_name contents.new.entries ≡ content_of_name contents.old.entries) }
@@ -158,7 +158,7 @@ fn set(contents: &mut Contents, alloc: Global, name: &str, content: Bytes) -> Re
     Ok(())
 }
 
-/// Adds octets to the content of a name.
+/// Appends `more` to the content of `name`.
 fn grow(contents: &mut Contents, name: &str, more: &[u8]) -> Result<(), AllocError>
     ensures ok { OnOk result (Changes name.now (with_appended more.now) contents.old.entries contents.new.entries) }
     ensures err { OnErr result (content_of_name contents.new.entries ≡ content_of_name contents.old.entries) }
@@ -172,7 +172,7 @@ fn grow(contents: &mut Contents, name: &str, more: &[u8]) -> Result<(), AllocErr
     }
 }
 
-/// Writes octets over those of a name's content.
+/// Writes `bytes` over the content of `name` from the offset `at`.
 fn write_over(contents: &mut Contents, name: &str, at: usize, bytes: &[u8])
     requires { at + length bytes.now ≤ length (unwrap_or (content_of_name contents.old.entries name.now) []) }
     ensures { Changes name.now (with_overwritten at bytes.now) contents.old.entries contents.new.entries }

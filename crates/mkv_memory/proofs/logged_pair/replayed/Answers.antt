@@ -14,7 +14,7 @@ use Rattle.mkv_memory.proofs.logged_pair.replayed.Goals.{then-is_same+in_ok-make
 abbrev no_call : Call
 no_call = record { file = record { n = 0 }; done = Wrote 0 0 }
 
--- the octets that are handed on are those of the call
+-- The bytes that are passed on are the call's.
 front-is : (done : Done) (n : ℕ) (front rest : List ℕ) → n ≡ octets_done done → octets_done done ≤ length rest → front ≡ take n rest → change_of done front ≡ change_of done rest
 front-is done n front rest is fits front_is = ap (change_of done) (front_is ∙ ap (λ k. take k rest) is) ∙ change_of-take done rest fits
 

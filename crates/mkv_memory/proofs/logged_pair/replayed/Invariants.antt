@@ -5,7 +5,7 @@ use Rattle.mkv_memory.specs.LogIn.{made_in, octets_by}
 use Rattle.mkv_memory.specs.Shows.{Shows}
 use Rattle.mkv_memory.proofs.logged_pair.replayed.Given as goal
 
--- what is replayed so far, and what is left of it
+-- The calls that were replayed, and the remaining ones.
 abbrev pub invariant-loop-call : goal.invariant-loop-call
 invariant-loop-call l = record {
   count : length l.rest ≡ octets_by (drop l.call-index l.calls);

@@ -2,7 +2,7 @@ use Rattle.std.proofs.lemmas.Map.Text.{btree_map_updates_text}
 use Rattle.mkv_io.proofs.NamesLemmas.{same_world}
 use Rattle.mkv_memory.proofs.store.set.Goals as goal
 
--- an insertion at the name's key changes what is found at that name alone
+-- An insertion at the name's key changes only the content of this name.
 pub returns-clause-ok : goal.returns-clause-ok
 returns-clause-ok c =
     same_world _ _

@@ -3,7 +3,7 @@ use Rattle.mkv_io.specs.Contents.{with_overwritten}
 use Rattle.mkv_memory.proofs.NamesLemmas.{changed_at-set}
 use Rattle.mkv_memory.proofs.store.write_over.Goals as goal
 
--- the name's content, written back, changes that name alone
+-- The name's content, written back, changes only this name.
 pub returns-in-Some : goal.returns-in-Some
 returns-in-Some c =
     let now = c.overwrite.new.self in

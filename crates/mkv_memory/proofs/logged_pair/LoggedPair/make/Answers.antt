@@ -8,7 +8,7 @@ use Rattle.mkv_memory.specs.LogIn.{change_of}
 use Rattle.mkv_memory.proofs.LogLemmas.{logged-more, media-more, room-left, sidecar-more}
 use Rattle.mkv_memory.proofs.logged_pair.LoggedPair.make.Goals as goal
 
--- there is room in each of the lists
+-- There is room in each of the lists.
 
 pub unwrap-requires : goal.unwrap-requires
 unwrap-requires c =
@@ -38,7 +38,7 @@ unwrap-requires-else-eq c =
     let room = c.self.invariant.sidecar_room in
     c.apply-else-eq.ensures.room (omega (arith, left.1, room))
 
--- one call more is noted, and what is read is changed by it
+-- One more call is logged, and it changes the content.
 
 pub invariant_of-self : goal.invariant_of-self
 invariant_of-self c =

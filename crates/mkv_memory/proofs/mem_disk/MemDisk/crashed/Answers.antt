@@ -19,7 +19,7 @@ new-requires-clause-sidecar c =
     let is = c.deref-2.ensures.value ∙ c.in_ok-sidecar.ensures f c.in_ok-pending-2.ensures in
     subst (λ octets. length octets ≤ LONGEST_FILE) (sym is) (picked-short c.left_by-media.result.1 f c.args.self.now.sidecar_sound)
 
--- the disk that is made holds the images that were picked
+-- The new disk has the chosen images.
 pub returns-clause-image : goal.returns-clause-image
 returns-clause-image c =
     let media = (pair_of c.args.self.now.files.history).media in let sidecar = (pair_of c.args.self.now.files.history).sidecar in

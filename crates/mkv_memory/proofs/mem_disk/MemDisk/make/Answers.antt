@@ -13,7 +13,7 @@ make-requires-clause-inside c =
     can-within (change_of c.args.done c.args.bytes.now) (file_of c.args.file.n (pair_of c.args.self.now.files.history)).reads c.requires.inside
     (sym (c.is_too_long.ensures c.args.bytes.now c.requires.count) ∙ c.if-is_too_long.false)
 
--- a change that can be made leaves both files sound
+-- A change that can be made leaves both files valid.
 pub invariant_of-self-2 : goal.invariant_of-self-2
 invariant_of-self-2 c =
     let h = c.args.self.now.files.history in let change = change_of c.args.done c.args.bytes.now in

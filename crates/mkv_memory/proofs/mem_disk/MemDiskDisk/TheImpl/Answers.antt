@@ -8,7 +8,7 @@ use Rattle.mkv_memory.specs.SeenDisk.{pair_in}
 use Rattle.mkv_memory.proofs.DiskLemmas.{live-size, makes-grown, makes-octets, makes-ok, makes-opened, makes-others, makes-reading, makes-size, makes-synced, on_ok}
 use Rattle.mkv_memory.proofs.mem_disk.MemDiskDisk.TheImpl.Goals as goal
 
--- What each call makes of a disk in memory is what every such call has to make.
+-- The effects of each call of a disk in memory fulfil the clauses of the trait.
 
 pub write_at-tells : goal.write_at-tells
 write_at-tells c =

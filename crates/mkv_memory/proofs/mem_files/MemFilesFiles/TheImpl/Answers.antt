@@ -5,7 +5,7 @@ use Rattle.mkv_memory.proofs.SeenFilesLemmas.{AppendsTo-failed, AppendsTo-ok, Ap
 use Rattle.mkv_memory.proofs.NewFileLemmas.{made, opened}
 use Rattle.mkv_memory.proofs.mem_files.MemFilesFiles.TheImpl.Goals as goal
 
--- What each call does to files in memory is what every such call has to do.
+-- The effects of each call of files in memory fulfil the clauses of the traits.
 
 pub open_file-tells : goal.open_file-tells
 open_file-tells c = record {

@@ -3,7 +3,7 @@ use Rattle.mkv_memory.specs.StoreIn.{stored_in}
 use Rattle.mkv_memory.proofs.StoredLemmas.{IsSound-appended, Stored-changed}
 use Rattle.mkv_memory.proofs.store.Store.append.Goals as goal
 
--- within the limit contents stay short, and each live file's name keeps one
+-- Within the limit contents stay short, and each live file's name keeps one.
 pub invariant_of-self : goal.invariant_of-self
 invariant_of-self c =
     let old = c.args.self.now in

@@ -3,14 +3,14 @@ use Rattle.mkv_memory.specs.StoreIn.{stored_in}
 use Rattle.mkv_memory.proofs.StoredLemmas.{IsSound-created, IsSound-same, Stored-both}
 use Rattle.mkv_memory.proofs.store.Store.create.Goals as goal
 
--- where the name finds no memory, nothing has changed
+-- Without memory for the name nothing has changed.
 pub invariant_of-self-in-Break-branch-3 : goal.invariant_of-self-in-Break-branch-3
 invariant_of-self-in-Break-branch-3 c =
     let old = c.args.self.now in
     let sound = IsSound-same (stored_in old).world _ (stored_in old).opened _ c.in_err-set.ensures.err c.reserve.ensures.items (record { short = old.short; there = old.there }) in
     record { short = sound.short; few = rw c.reserve.ensures.items old.few; there = sound.there }
 
--- else the name has an empty content, and a file is opened under it
+-- Otherwise the name has an empty content, and a file is opened under it.
 pub invariant_of-self-2 : goal.invariant_of-self-2
 invariant_of-self-2 c =
     let old = c.args.self.now in

@@ -3,7 +3,7 @@ use Rattle.mkv_memory.specs.StoreIn.{stored_in}
 use Rattle.mkv_memory.proofs.StoredLemmas.{IsSound-either, Stored-world}
 use Rattle.mkv_memory.proofs.store.Store.set.Goals as goal
 
--- a short content is set, or nothing is
+-- A short content is set, or none is.
 pub invariant_of-self : goal.invariant_of-self
 invariant_of-self c =
     let old = c.args.self.now in
