@@ -1,4 +1,4 @@
--- Octets of the sidecar that are written over the medium in pieces, and what a crash leaves of them.
+-- Laws on bytes of the journal that are written over the file in pieces, and on the contents that a crash leaves.
 use Rattle.std.proofs.Common.{◌≡◌, inl, inr, ⊎_elim, ℕ, ◌+◌, ◌<◌, ◌≤◌, List, [], ◌++◌, length, take, drop, slice_index, get_or, refl, sym, ◌∙◌, ap, subst, arith, append_assoc, length-append, length-drop}
 use Rattle.std.proofs.Math.Seq.{take-add}
 use Rattle.std.proofs.lemmas.List.{drop-drop, length-take-le, take-append-drop, take_at}
@@ -15,11 +15,11 @@ use Rattle.sidecar_edit.specs.Copies.{IsCopied, with_copy}
 use Rattle.sidecar_edit.specs.Partly.{IsPartly, IsWritten}
 use Rattle.sidecar_edit.proofs.PartlyLemmas.{all_turns, sum_more, sum_within, turn_image, turn_reaches, turn_state}
 
--- nothing is written
+-- A write of no bytes changes nothing.
 overwritten-none : (xs : List ℕ) (at : ℕ) → overwritten xs at [] ≡ xs
 overwritten-none xs at = ap (λ n. take at xs ++ drop n xs) (omega arith) ∙ take-append-drop at xs
 
--- octets that are written behind others are written with them
+-- Two writes in sequence are one write of both.
 overwritten-overwritten : (xs b c : List ℕ) (at : ℕ) → at ≤ length xs → overwritten (overwritten xs at b) (at + length b) c ≡ overwritten xs at (b ++ c)
 overwritten-overwritten xs b c at le =
     let A = take at xs ++ b in let D = drop (at + length b + length c) xs in
@@ -33,7 +33,7 @@ overwritten-overwritten xs b c at le =
     ∙ ap (λ rest. take at xs ++ rest) (sym (append_assoc b c D))
     ∙ ap (λ n. take at xs ++ (b ++ c ++ drop n xs)) (omega arith)
 
--- the next octets follow the first ones
+-- The next bytes follow the first ones.
 octets_from-add : (xs : List ℕ) (from done n : ℕ) → octets_from xs from (done + n) ≡ octets_from xs from done ++ octets_from xs (from + done) n
 octets_from-add xs from done n = take-add done n (drop from xs) ∙ ap (λ rest. octets_from xs from done ++ take n rest) (drop-drop done from xs ∙ ap (λ k. drop k xs) (omega arith))
 
@@ -54,7 +54,7 @@ module _ (from at : ℕ) (old : Pair) where
     within = λ k written. inr written;
   }
 
-  -- a crash leaves no more than it may leave of one write of them and more
+  -- A crash leaves no more than it may leave of one write of the copied bytes and more.
   pub copied_image : (n len : ℕ) (mid : Pair) (m s : List ℕ) → n ≤ len → from + len ≤ length old.sidecar.reads → Copied n mid → IsPairImage mid m s → IsPairImage (with_copy old from at len) m s
   copied_image n len mid m s le room was image =
       let some = length-octets_from old.sidecar.reads from n (omega arith) in
@@ -72,7 +72,7 @@ module _ (from at : ℕ) (old : Pair) where
       }
 
   module _ (n more : ℕ) (mid : Pair) (inside : at ≤ length old.media.reads) (room : from + n + more ≤ length old.sidecar.reads) (was : Copied n mid) where
-    -- the next ones are written
+    -- The next bytes are written.
     pub copied-more : Copied (n + more) (with_copy mid (from + n) (at + n) more)
     copied-more =
         let some = length-octets_from old.sidecar.reads from n (omega arith) in
@@ -97,20 +97,20 @@ module _ (from at : ℕ) (old : Pair) where
               written;
         }
 
-    -- they begin within what is read
+    -- They begin in the content.
     pub copied_reaches : at + n ≤ length mid.media.reads
     copied_reaches =
         let some = length-octets_from old.sidecar.reads from n (omega arith) in
         let size = ap length was.reads ∙ length-overwritten old.media.reads at (octets_from old.sidecar.reads from n) inside in
         omega arith
 
-    -- and a crash while they are written leaves no more than one write of all
+    -- A crash while they are written leaves no more than one write of all.
     pub piece_image : (len : ℕ) (m s : List ℕ) → n + more ≤ len → from + len ≤ length old.sidecar.reads → IsPairImage (with_copy mid (from + n) (at + n) more) m s → IsPairImage (with_copy old from at len) m s
     piece_image len m s le all image = copied_image (n + more) len (with_copy mid (from + n) (at + n) more) m s le all copied-more image
 
--- ---- the writes of a sidecar, one after the other
+-- ---- the writes of a journal in sequence
 
--- what they are by its first octets
+-- the writes by the journal's first bytes
 abbrev pub writes_by : List ℕ → List ℕ → List Write
 writes_by head S = cut_up (used_in head) (drop (head_len (version_in head)) S)
 
@@ -147,6 +147,6 @@ module _ (head : List ℕ) (k from : ℕ) (place : Place) (few : count_in head �
     pub redone_reaches : Fits (length M) (writes_by head S) → place.at ≤ length p.media.reads
     redone_reaches fits = turn_reaches (used_in head) (drop (head_len (version_in head)) S) M S p k place inside place_is was fits
 
--- all of them are made
+-- All of them are made.
 pub redone_all : (head S : List ℕ) (k : ℕ) → count_in head ≤ 8 → count_in head ≤ k → length (writes_by head S) ≤ k
 redone_all head S k few past = let size = length-used head few in all_turns (used_in head) (drop (head_len (version_in head)) S) k (omega arith)

@@ -1,4 +1,4 @@
--- What the two files stand for at each step of an edit.
+-- The file that the two files recover to at each step of an edit.
 use Rattle.std.proofs.Common.{◌≡◌, inl, inr, ⊎_elim, ℕ, ◌≤◌, true, nat_le, List, [], ◌∷◌, length, drop, take, slice_index, refl, sym, ◌∙◌, ap, subst, arith, Result, Ok}
 use Rattle.std.proofs.lemmas.Bool.{cases_eq, cond-true, le-leb, ne_eqb, not_from_false, or_left, or_right}
 use Rattle.std.proofs.lemmas.List.{get_or-take}
@@ -20,7 +20,7 @@ use Rattle.mkv_disk.specs.Pair.{Pair, both}
 use Rattle.mkv_disk.proofs.MomentsLemmas.{followed, weaker}
 use Rattle.sidecar_edit.specs.Leaves.{IsEditing, IsGated, IsRedoing}
 
--- ---- quiet sidecars
+-- ---- journals without a pending edit
 
 pub state-quiet : (s : List ℕ) → IsQuiet s → state s ≡ Quiet
 state-quiet s quiet = cond-true (is_quiet (head_of s) (length s)) Quiet _ (test quiet)
@@ -35,7 +35,7 @@ recovery-quiet m s quiet = ap (λ g. if_live g (head_of s) (length m) (take KEPT
 pub recovered-quiet : (m s : List ℕ) → IsQuiet s → recovered m s ≡ m
 recovered-quiet m s quiet = ap (λ (r : Result Recovered RecoverEnd). when_applied r m (applied m (writes_in s))) (recovery-quiet m s quiet)
 
--- a file none of whose octets is written yet
+-- A file is torn with none of the writes made.
 pub whole_is_torn : (ws : List _) (file : List ℕ) → Torn ws file file
 whole_is_torn ws file = record { no_shorter = omega arith; no_longer = extent_grows (length file) ws; elsewhere = λ k inside untouched. refl }
 
@@ -48,11 +48,11 @@ module _ (p : Planned) (M : List ℕ) (plan : IsPlan p) (some : 1 ≤ length p.h
   same-writes : writes_in (OPEN ∷ body_of p) ≡ writes_of p
   same-writes = writes-written p.head p.payload plan.sound
 
-  -- its writes fit the file
+  -- The writes of a plan fit the file.
   pub fits-of_plan : Fits (length M) (writes_of p)
   fits-of_plan = subst (λ ws. Fits (length M) ws) same-writes (fits-of_own M (OPEN ∷ body_of p) own)
 
-  -- before the gate is open
+  -- Before the gate is open.
   pub editing-before : (m s : List ℕ) → (m ≡ M) × IsQuiet s → IsEditing p M m s
   editing-before m s has = record {
     stands = inl (recovered-quiet m s has.1 ∙ has.0);
@@ -61,7 +61,7 @@ module _ (p : Planned) (M : List ℕ) (plan : IsPlan p) (some : 1 ≤ length p.h
     no_shorter = let same = ap length has.0 in omega arith;
   }
 
-  -- while the writes are made
+  -- While the writes are made.
   pub editing-writes : (m s : List ℕ) → Torn (writes_of p) M m × (s ≡ OPEN ∷ body_of p) → IsEditing p M m s
   editing-writes m s has =
       let torn = subst (λ ws. Torn ws M m) (sym same-writes) has.0 in
@@ -72,13 +72,13 @@ module _ (p : Planned) (M : List ℕ) (plan : IsPlan p) (some : 1 ≤ length p.h
         no_shorter = has.0.no_shorter;
       }
 
-  -- while the gate is opened
+  -- While the gate is opened.
   pub editing-opening : (m s : List ℕ) → (m ≡ M) × IsGated (0 ∷ body_of p) s → IsEditing p M m s
   editing-opening m s has =
       ⊎_elim (λ (is : s ≡ OPEN ∷ body_of p). editing-writes m s (subst (λ t. Torn (writes_of p) M t) (sym has.0) (whole_is_torn (writes_of p) M), is))
       (λ (closed : IsClosed s). editing-before m s (has.0, inl closed)) has.1
 
-  -- while it is closed again
+  -- While the gate is closed again.
   pub editing-closing : (m s : List ℕ) → (m ≡ applied M (writes_of p)) × IsGated (OPEN ∷ body_of p) s → IsEditing p M m s
   editing-closing m s has =
       let torn : Torn (writes_of p) M m = subst (λ t. Torn (writes_of p) M t) (sym has.0) (edited_is_torn (writes_of p) M fits-of_plan) in
@@ -128,18 +128,18 @@ module _ (M S : List ℕ) (applies : recovery M S ≡ Ok Applied) where
       open-is : OPEN ∷ drop 1 S ≡ S
       open-is = open-octet S (λ quiet. let no : Quiet ≡ Live = sym (state-quiet S quiet) ∙ its.live in cc)
 
--- ---- runs of calls
+-- ---- sequences of calls
 
 module _ {D : Type 0} (moment : D → ℕ) (left_since : D → ℕ → List ℕ → List ℕ → Type 0) (pair : D → Pair) where
-  -- the gate is written over what the pair reads
+  -- The gate is written over the journal of the pair.
   abbrev pub Gates : D → D → Type 0
   Gates b c = LeavesOnly moment left_since b c (λ m s. (m ≡ (pair b).media.reads) × IsGated (pair b).sidecar.reads s)
 
-  -- these writes are made in what the pair reads
+  -- The writes are made in the file of the pair.
   abbrev pub Writes : List Write → D → D → Type 0
   Writes ws b c = LeavesOnly moment left_since b c (λ m s. Torn ws (pair b).media.reads m × (s ≡ (pair b).sidecar.reads))
 
-  -- of an edit
+  -- For an edit.
   module _ (p : Planned) (a : D) (plan : IsPlan p) (some : 1 ≤ length p.head.places) (made : IsMadeFor p.head (pair a).media.reads) where
     abbrev pub M : List ℕ
     M = (pair a).media.reads
@@ -162,7 +162,7 @@ module _ {D : Type 0} (moment : D → ℕ) (left_since : D → ℕ → List ℕ 
     closed b c is run next = followed moment left_since a b c (IsEditing p M) (λ m s. (m ≡ (pair b).media.reads) × IsGated (pair b).sidecar.reads s)
         (λ m s has. editing-closing p M plan some made m s (subst (λ (q : Pair). (m ≡ q.media.reads) × IsGated q.sidecar.reads s) is has)) run next
 
-  -- of an edit that is redone
+  -- For an edit that is redone.
   module _ (a : D) (applies : recovery (pair a).media.reads (pair a).sidecar.reads ≡ Ok Applied) where
     abbrev pub Redo : D → Type 0
     Redo b = LeavesOnly moment left_since a b (IsRedoing (pair a).media.reads (pair a).sidecar.reads)

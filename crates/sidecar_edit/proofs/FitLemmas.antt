@@ -1,4 +1,4 @@
--- The writes of a live record fit the file that it is of, and every file that they have torn.
+-- The writes of a pending record fit the file that it belongs to, and every file that they have torn.
 use Rattle.std.proofs.Common.{◌≡◌, ◌⊎◌, inl, inr, ℕ, zero, suc, ◌+◌, ◌<◌, ◌≤◌, max, Bool, true, false, not, ◌&&◌, ◌||◌, ◌==◌, nat_le, nat_lt, List, [], ◌∷◌, ◌++◌, length, take, drop, slice_index, refl, sym, ◌∙◌, ap, subst, arith, length-take, length-drop, Option, None, Some, IfSome, Ok, if◌then◌else◌}
 use Rattle.std.proofs.lemmas.Bool.{le-leb, le-ltb, lt-ltb, leb-true, ltb-false, eqb-true, and_from, and_parts, and_left, and_right, or_left, or_right, or_from, ltb-true, not_from_true, cond-true, cond-false, cases_lt, true≢false, false≢true}
 use Rattle.std.proofs.lemmas.List.{get_or-take}
@@ -16,7 +16,7 @@ use Rattle.sidecar_edit.proofs.RecordLemmas.{AreKept}
 
 -- ---- writes at places in order
 
--- what is cut up to fill a place fills it, where the octets last
+-- The bytes of a place are as long as the place, if there are enough.
 length-piece : (n : ℕ) (bytes : List ℕ) → n ≤ length bytes → length (take n bytes) ≡ n
 length-piece n bytes le = let size = length-take n bytes in omega arith
 
@@ -43,7 +43,7 @@ extent-in_order old from n (p ∷ ps) bytes order le room =
     end_grows old from [] order = omega arith
     end_grows old from (p ∷ ps) order = let more = end_grows old (p.at + p.len) ps order.3 in let low = order.1 in omega arith
 
--- an octet that no place holds is written by none
+-- A byte that is in no place isn't written.
 pub touched-is : (ps : List Place) (bytes : List ℕ) (k : ℕ) → WritesOctet (cut_up ps bytes) k → is_touched ps k ≡ true
 touched-is [] bytes k touched = absurd touched
 touched-is (p ∷ ps) bytes k (inl here) =
@@ -51,7 +51,7 @@ touched-is (p ∷ ps) bytes k (inl here) =
     or_left (nat_le p.at k && nat_lt k (p.at + p.len)) (is_touched ps k) (and_from (nat_le p.at k) (nat_lt k (p.at + p.len)) (le-leb p.at k low) (lt-ltb k (p.at + p.len) (omega arith)))
 touched-is (p ∷ ps) bytes k (inr there) = or_right (nat_le p.at k && nat_lt k (p.at + p.len)) (is_touched ps k) (touched-is ps (drop p.len bytes) k there)
 
--- ---- rules that are kept, read back
+-- ---- rules that are kept
 
 pub all_kept : (rs : List Rule) → first_breach rs ≡ None → AreKept rs
 all_kept [] none = tt
@@ -73,9 +73,9 @@ order-of_kept old octet (suc n) from (p ∷ ps) kept =
     let two = and_parts (nat_le 1 p.len) (nat_le from p.at) both.0 in
     (leb-true 1 p.len two.0, leb-true from p.at two.1, leb-true p.at (max old from) both.1, order-of_kept old (octet + 16) n (p.at + p.len) ps kept.1)
 
--- ---- live records
+-- ---- pending records
 
--- what holds of a record that is live, by a sidecar's first octets and its length
+-- the properties of a pending record, by a journal's first bytes and its length
 pub record IsLive (h : List ℕ) (n : ℕ) : Type 0 where
   pub long : HEAD_1 ≤ n
   pub version : is_version (version_in h) ≡ true
@@ -117,9 +117,9 @@ module _ (h : List ℕ) (n : ℕ) where
   pub live-is : gate_of h n ≡ Live → IsLive h n
   live-is live = by_quiet (is_quiet h n) refl live
 
--- ---- what fits
+-- ---- writes that fit
 
--- of a list of places, in a test
+-- For a list of places, as a test.
 pub gap_monotone : (octet m n : ℕ) (ps : List Place) → m ≤ n → gap_of octet m ps ≡ None → gap_of octet n ps ≡ None
 gap_monotone octet m n [] le none = refl
 gap_monotone octet m n (p ∷ ps) le none =
@@ -145,7 +145,7 @@ fits-of_gap octet n (p ∷ ps) bytes room none =
         (low, subst (λ len. Fits (max n (p.at + len)) (cut_up ps (drop p.len bytes))) (sym size) (more (sym (cond-true (nat_le p.at n) _ _ is) ∙ none)))
     by_test more false is = let no = sym (cond-false (nat_le p.at n) _ _ is) ∙ none in cc
 
--- no place of so many passes a test
+-- None of `n` offsets passes the test.
 pub none_passes : (test : ℕ → Bool) (at n k : ℕ) → first_place test at n ≡ None → at ≤ k → k < at + n → test k ≡ false
 none_passes test at zero k none low high = absurd (omega arith)
 none_passes test at (suc n) k none low high = by_test (λ none low. none_passes test (at + 1) n k none low (omega arith)) (test at) refl
@@ -164,9 +164,9 @@ if_none_passes test at (suc n) fails =
     cond-false (test at) _ _ (fails at (omega arith) (omega arith))
     ∙ if_none_passes test (at + 1) n (λ k low high. fails k (omega arith) (omega arith))
 
--- ---- a live record, and the file that it is of
+-- ---- a pending record, and the file that it belongs to
 
--- the octets of the writes last for their places
+-- The bytes of the writes are enough for their places.
 pub room-of_live : (s : List ℕ) → IsLive (head_of s) (length s) → sum_of (used_in (head_of s)) ≤ length (drop (head_len (version_in (head_of s))) s)
 room-of_live s live =
     let h = head_of s in
@@ -176,7 +176,7 @@ room-of_live s live =
     let left = length-drop (head_len (version_in h)) s in
     omega arith
 
--- what a record of version 2 says of the file before and after the edit
+-- the fields of a record of version 2 on the file before and after the edit
 pub record IsSecond (h : List ℕ) : Type 0 where
   pub new_len : new_len_in h ≡ max (old_len_in h) (last_end 0 (used_in h))
   pub order : AreInOrder (old_len_in h) 0 (used_in h)
@@ -200,7 +200,7 @@ second-is s live is =
     second_true true b isnt either = let bad : true ≡ false = isnt in cc
     second_true false b isnt either = either
 
--- what is answered of a file beside a live record that is its own
+-- The pending record of the journal `s` belongs to the file `m`.
 pub record IsOwn (m s : List ℕ) : Type 0 where
   pub live : state s ≡ Live
   pub fit : unfit (head_of s) (length m) (take KEPT m) ≡ None
@@ -224,7 +224,7 @@ module _ (m s : List ℕ) (own : IsOwn m s) where
   live : IsLive (head_of s) (length s)
   live = live-is (head_of s) (length s) own.live
 
-  -- the file is as long as the edit passes through
+  -- The file's length is possible during the edit.
   pub record IsKnown : Type 0 where
     pub old : old_len_in (head_of s) ≤ length m
     pub new : length m ≤ new_len_in (head_of s)
@@ -252,7 +252,7 @@ module _ (m s : List ℕ) (own : IsOwn m s) where
             same = abbrev_none _ (sym (cond-false (nat_lt (length m) (old_len_in (head_of s)) || nat_lt (new_len_in (head_of s)) (length m)) _ _ (or_from _ _ below above)) ∙ none);
           }
 
-  -- its writes fit it
+  -- Its writes fit the file.
   pub fits-of_own : Fits (length m) (writes_in s)
   fits-of_own = by_version (version_in (head_of s) == 1) refl
     where
@@ -267,7 +267,7 @@ module _ (m s : List ℕ) (own : IsOwn m s) where
           let old = known.old in
           fits-in_order (old_len_in h) 0 (length m) (used_in h) (drop (head_len (version_in h)) s) two.order (omega arith) (room-of_live s live)
 
-  -- and it is the record of every file that they have torn, too
+  -- It belongs to every file that the writes have torn, too.
   pub own-torn : (t : List ℕ) → Torn (writes_in s) m t → IsOwn t s
   own-torn t torn = record { live = own.live; fit = by_version (version_in (head_of s) == 1) refl }
     where
@@ -298,7 +298,7 @@ module _ (m s : List ℕ) (own : IsOwn m s) where
           ∙ ap (octet_mark h (take KEPT t)) (if_none_passes (differs h (take KEPT t)) 0 KEPT
           (λ k low high. by_octet k (omega arith) old (none_passes (differs h (take KEPT m)) 0 KEPT k known.same low high) (nat_lt k (old_len_in h)) (is_touched (used_in h) k) refl refl))
 
--- what keeps writes from being made is no fault of the disk
+-- A refusal of writes isn't a failure of the disk.
 pub unfit-refused : (h : List ℕ) (n : ℕ) (m : List ℕ) → IfSome (unfit h n m) (λ end. is_disk_fault end ≡ false)
 unfit-refused h n m = by_version (version_in h == 1) refl
   where

@@ -1,4 +1,4 @@
--- What a crash leaves while the sidecar's gate is written, while it is cut, and while a record is written behind it.
+-- Laws on the contents that a crash leaves while the gate is written, while the journal is truncated, and while a record is written.
 use Rattle.std.proofs.Common.{◌≡◌, ◌⊎◌, inl, inr, ⊎_elim, ℕ, zero, suc, ◌+◌, ◌<◌, ◌≤◌, max, List, [], ◌∷◌, length, drop, get_or, slice_index, sym, ◌∙◌, ap, subst, arith, length-drop}
 use Rattle.std.proofs.lemmas.List.{ext_get_or, get_or-drop}
 use Rattle.std.proofs.lemmas.Bool.{cases_eq}
@@ -13,7 +13,7 @@ not_empty : (s : List ℕ) → slice_index s 0 ≡ OPEN → 1 ≤ length s
 not_empty [] is = absurd (omega (arith, is))
 not_empty (octet ∷ s) is = omega arith
 
--- only the first octet may change
+-- Only the first byte may change.
 pub gate_image : (S s : List ℕ) (gate : ℕ) → IsImage (written_at 0 (gate ∷ []) (clean S)) s → IsGated S s
 gate_image S s gate image = by_octet (cases_eq (slice_index s 0) OPEN)
   where
@@ -37,17 +37,17 @@ gate_image S s gate image = by_octet (cases_eq (slice_index s 0) OPEN)
     by_octet (inl is) = inl (ext_get_or 0 s (OPEN ∷ drop 1 S) (size is) (λ i inside. same i inside is))
     by_octet (inr isnt) = inr isnt
 
--- a cut leaves the first octet
+-- A truncation leaves the first byte.
 pub cut_image : (S s : List ℕ) (n : ℕ) → 1 ≤ length S → IsClosed S → 1 ≤ n → IsImage (cut_to n (clean S)) s → IsClosed s
 cut_image S s n some closed one image is = closed (sym (image.elsewhere 0 (omega arith) (λ (none : ⊥). none)) ∙ is)
 
--- behind a closed gate that is synced, a write leaves it closed
+-- A write after a closed gate that is synced leaves it closed.
 pub behind_image : (body s : List ℕ) → IsImage (written_at 1 body (clean (0 ∷ []))) s → IsClosed s
 behind_image body s image is =
     let zero_is : slice_index s 0 ≡ 0 = image.elsewhere 0 (omega arith) (⊎_elim (λ (here : (1 ≤ 0) × (0 < 1 + length body)). let low = here.0 in absurd (omega arith)) (λ (none : ⊥). none)) in
     omega (arith, zero_is, is)
 
--- the same of a pair of which nothing is pending
+-- The same for a pair without pending writes.
 
 pub both_image : (p : Pair) (m s : List ℕ) → IsSynced p → IsPairImage p m s → (m ≡ p.media.reads) × (s ≡ p.sidecar.reads)
 both_image p m s synced image =

@@ -1,4 +1,4 @@
--- What the first octets of a live sidecar say, read off its rules.
+-- The fields of a pending journal's first bytes, by its rules.
 use Rattle.std.proofs.Common.{◌≡◌, ℕ, zero, suc, ◌+◌, ◌<◌, ◌≤◌, ◌^◌, min, max, Bool, true, false, ◌&&◌, ◌||◌, ◌==◌, nat_le, List, [], ◌∷◌, length, take, drop, get_or, slice_index, refl, ap, subst, arith, Option, None, Some}
 use Rattle.std.proofs.lemmas.Bool.{and_parts, cond-false, cond-true, and_from, eqb-true, le-leb, leb-true, ne_eqb}
 use Rattle.std.proofs.lemmas.List.{get_or-drop}
@@ -12,7 +12,7 @@ use Rattle.sidecar_edit.proofs.FitLemmas.{IsLive, live-is}
 use Rattle.sidecar_edit.proofs.ReadingLemmas.{place-is}
 use Rattle.sidecar_edit.proofs.RecordLemmas.{AreKept}
 
--- the used places end in order
+-- The used places end in order.
 ends_grow : (old : Option ℕ) (octet n from : ℕ) (ps : List Place) → AreKept (place_rules old octet n from ps) → from ≤ last_end from (take n ps)
 ends_grow old octet zero from ps kept = omega arith
 ends_grow old octet (suc n) from [] kept = omega arith
@@ -28,7 +28,7 @@ ends_within old octet (suc n) from k [] d kept used inside = absurd (omega arith
 ends_within old octet (suc n) from zero (p ∷ ps) d kept used inside = ends_grow old (octet + 16) n (p.at + p.len) ps kept.1
 ends_within old octet (suc n) from (suc k) (p ∷ ps) d kept used inside = ends_within old (octet + 16) n (p.at + p.len) k ps d kept.1 (omega arith) (omega arith)
 
--- a number of eight octets
+-- A number of eight bytes is below 2^64.
 number_below : (s : List ℕ) (at : ℕ) → ((k : ℕ) → slice_index s k < 256) → number_at s at < 2 ^ 64
 unfolding number_at
 number_below s at octets =
@@ -48,7 +48,7 @@ module _ (h : List ℕ) (n : ℕ) (octets : (k : ℕ) → slice_index h k < 256)
   whole : (version_in h == 1) ≡ false → length h ≡ HEAD
   whole second = let len : head_len (version_in h) ≡ HEAD = cond-false (version_in h == 1) HEAD_1 HEAD second in let fits = room in omega arith
 
-  -- the last write ends no farther than the file
+  -- The last write ends at the new length or before.
   end-within : (b : Bool) → (version_in h == 1) ≡ b → last_end 0 (used_in h) ≤ new_len_in h
   end-within true first = by_old (old_len_of h) live.new_len
     where

@@ -1,4 +1,4 @@
--- Files that are only looked into.
+-- Laws on files that are only looked into.
 use Rattle.std.proofs.Common.{◌≡◌, ◌≢◌, ◌⊎◌, inl, inr, ◌<◌, ◌≤◌, ℕ, Bool, true, false, List, [], Option, Some, None, refl, sym, ◌∙◌, ap, arith}
 use Rattle.std.proofs.lemmas.Bool.{cases_eq}
 use Rattle.mkv_io.specs.Asked.{AsksOnly, IsNotAmong}
@@ -14,12 +14,12 @@ use Rattle.sidecar_edit.specs.declared.held.Gate.{Gate}
 use Rattle.sidecar_edit.specs.Gate.{state}
 use Rattle.sidecar_edit.specs.Pending.{LooksOnly, holds_edit, is_begun}
 
--- what was read of a content that is there
+-- The state was read from a content that exists.
 pub holds-read : (content : Option (List ℕ)) (held : Gate) → content ≢ None → ((bytes : List ℕ) → content ≡ Some bytes → held ≡ state bytes) → is_begun held ≡ holds_edit content
 holds-read None held there read = absurd (there refl)
 holds-read (Some bytes) held there read = ap is_begun (read bytes refl)
 
--- ---- one call after the other
+-- ---- calls in sequence
 
 pub LooksOnly-then : {S : Type 0} (r : Ghosts S) (f : writing.Ghosts S) (opened : List (List ℕ)) (a b c : S) → LooksOnly r f opened a b → LooksOnly r f opened b c → LooksOnly r f opened a c
 LooksOnly-then r f opened a b c first next = record {
@@ -28,7 +28,7 @@ LooksOnly-then r f opened a b c first next = record {
   writing = next.writing ∙ first.writing;
 }
 
--- what looks only into these files looks only into these and more
+-- A call that looks only into these files looks only into these and more.
 pub LooksOnly-more : {S : Type 0} (r : Ghosts S) (f : writing.Ghosts S) (opened more : List (List ℕ)) (old new : S) → ((name : List ℕ) → AreOthers name more → AreOthers name opened) → LooksOnly r f opened old new → LooksOnly r f more old new
 LooksOnly-more r f opened more old new among looks = record {
   kept = UsesOnly-more r f opened [] more [] old new among (λ name others. others) looks.kept;
@@ -36,9 +36,9 @@ LooksOnly-more r f opened more old new among looks = record {
   writing = looks.writing;
 }
 
--- ---- a call that leaves all that stands
+-- ---- a call that leaves `standing`
 
--- Names, holders, numbers, writing faults and what was asked for are functions of what stands.
+-- Names, holders, numbers, writing faults and asked names depend only on `standing`.
 pub record AreStanding {S : Type 0} (r : Ghosts S) (f : writing.Ghosts S) : Type 0 where
   pub names : (a b : S) → r.standing a ≡ r.standing b → f.names a ≡ f.names b
   pub holders : (a b : S) → r.standing a ≡ r.standing b → (file : ℕ) → f.holder a file ≡ f.holder b file
@@ -55,8 +55,7 @@ LooksOnly-standing r f opened old new laws stands = record {
 
 -- ---- a file is opened, read and closed
 
--- A file was opened under a new number, was only read, and was closed.
--- Only files of these names were opened.
+-- A file was opened under a new number, was only read, and was closed. Only files with names in `opens` were opened.
 pub record IsLookedInto {S : Type 0} (r : Ghosts S) (f : writing.Ghosts S) (opens : List (List ℕ)) (old opened read closed : S) (file : ℕ) : Type 0 where
   pub least : f.given old ≤ file
   pub most : file < f.given opened
@@ -87,7 +86,7 @@ UsesOnly-looked r f opens old opened read closed file numbered looked = record {
   asks = asks-both (IsNotAmong opens []) (f.asked old) (f.asked opened) (f.asked closed) looked.asks (asks-none (IsNotAmong opens []) (f.asked opened) (f.asked closed) looked.asked);
 }
   where
-    -- a file that was live before has another number
+    -- A file that was live before has another number.
     differs : (other : ℕ) → (live_files r old).live other ≡ true → other ≢ file
     differs other live is = let below = numbered old other live in let least = looked.least in omega (arith, below, is)
 
@@ -103,7 +102,7 @@ UsesOnly-looked r f opens old opened read closed file numbered looked = record {
         }))
         (looked.closed_others other (differs other live))
 
-    -- the new number is that of no file, before and behind
+    -- No live file has the new number, before or after.
     none : (was : Bool) → (live_files r old).live file ≡ was → false ≡ was
     none true is = absurd (differs file is refl)
     none false is = refl

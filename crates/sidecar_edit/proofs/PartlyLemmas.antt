@@ -1,4 +1,4 @@
--- Writes of the medium, one after the other, and what a crash leaves of them.
+-- Laws on writes of the file in sequence, and on the contents that a crash leaves.
 use Rattle.std.proofs.Common.{◌≡◌, inl, inr, ⊎_elim, ℕ, zero, suc, ◌+◌, ◌<◌, ◌≤◌, max, List, [], ◌∷◌, ◌++◌, length, take, drop, get_or, refl, sym, ◌∙◌, ap, subst, arith, add-one}
 use Rattle.std.proofs.lemmas.List.{drop-drop, take_all, take_more}
 use Rattle.sidecar_edit.specs.declared.place.Place.{Place}
@@ -53,7 +53,7 @@ fits_at (w ∷ ws) n (suc i) d fits inside = fits_at ws (max n (end_of w)) i d f
 
 -- ---- steps
 
--- one write is made in one piece
+-- One write is made in one piece.
 pub written_once : (at : ℕ) (bytes : List ℕ) (p : Pair) → IsWritten at bytes p (on 0 (written_at at bytes) p)
 written_once at bytes p = record { sidecar = refl; reads = refl; synced = refl; least = refl; greatest = omega arith; within = λ k inside. inside }
 
@@ -68,7 +68,7 @@ partly_start ws p synced = record {
 }
 
 module _ (ws : List Write) (i : ℕ) (file beside : List ℕ) (p : Pair) (was : IsPartly ws i file beside p) where
-  -- a crash leaves the writes torn
+  -- A crash leaves the writes torn.
   pub partly_image : (m s : List ℕ) → IsPairImage p m s → Torn ws file m × (s ≡ beside)
   partly_image m s image =
       let least = was.least in let greatest = was.greatest in let low = image.media.no_shorter in let high = image.media.no_longer in
@@ -83,13 +83,13 @@ module _ (ws : List Write) (i : ℕ) (file beside : List ℕ) (p : Pair) (was : 
         clean_image beside s (subst (λ (f : DiskFile). IsImage f s) was.sidecar image.sidecar),
       )
 
-  -- once all are made and synced, the file is as it is to be
+  -- Once all are made and synced, the file is the edited one.
   pub partly_end : length ws ≤ i → on 0 all_synced p ≡ both (applied file ws) beside
   partly_end all =
       let reads : p.media.reads ≡ applied file ws = was.reads ∙ ap (applied file) (take_all i ws all) in
       λ j. record { media = clean (reads j); sidecar = was.sidecar j }
 
-  -- the next write begins within what is read
+  -- The next write begins in the content.
   pub partly_reaches : (d : Write) → Fits (length file) ws → i < length ws → (get_or ws i d).at ≤ length p.media.reads
   partly_reaches d fits inside =
       let at = fits_at ws (length file) i d fits inside in
@@ -97,7 +97,7 @@ module _ (ws : List Write) (i : ℕ) (file beside : List ℕ) (p : Pair) (was : 
       let reads = ap length was.reads in
       omega arith
 
-  -- the next write is made
+  -- The next write is made.
   pub partly_more : (q : Pair) (w : Write) → i < length ws → w ≡ get_or ws i w → IsWritten w.at w.bytes p q → IsPartly ws (i + 1) file beside q
   partly_more q w inside is now =
       let next : take (i + 1) ws ≡ take i ws ++ w ∷ [] = take_more ws i w inside ∙ ap (λ (v : Write). take i ws ++ v ∷ []) (sym is) in
@@ -113,7 +113,7 @@ module _ (ws : List Write) (i : ℕ) (file beside : List ℕ) (p : Pair) (was : 
             (⊎_elim (λ (here : (w.at ≤ k) × (k < w.at + length w.bytes)). touches-last (take i ws) w k here) (λ (before : InRanges p.media.written k). touches-first (take i ws) w k (was.within k before)) (now.within k written));
       }
 
--- ---- writes whose octets stand one behind the other
+-- ---- writes whose bytes are concatenated
 
 length-cut_up : (ps : List Place) (bytes : List ℕ) → length (cut_up ps bytes) ≡ length ps
 length-cut_up [] bytes = refl

@@ -1,4 +1,4 @@
--- The places of a record, one after the other, and their rules.
+-- Laws on the places of a record in sequence, and on their rules.
 use Rattle.std.proofs.Common.{◌≡◌, ℕ, zero, suc, ◌+◌, ◌-◌, ◌<◌, ◌≤◌, min, Bool, true, false, not, ◌&&◌, ◌||◌, ◌==◌, nat_le, if◌then◌else◌, Option, None, Some, List, [], ◌∷◌, ◌++◌, length, take, drop, get_or, refl, sym, ◌∙◌, ap, arith, add-one, length-drop}
 use Rattle.std.proofs.lemmas.Bool.{and_from, cond-false, cond-true, eq-eqb, le-leb}
 use Rattle.std.proofs.lemmas.List.{drop_all, drop_min, drop_more, get_or-take, length-take-le}
@@ -9,7 +9,7 @@ use Rattle.sidecar_edit.specs.Gate.{Rule, are_zeros, counted_rules, first_breach
 use Rattle.mkv_io.specs.Contents.{octets_from}
 use Rattle.sidecar_edit.specs.Recovery.{first_place}
 
--- the k-th place is that at its octets
+-- The place number `k` is the place at its offset.
 pub place-is : (s : List ℕ) (k : ℕ) (d : Place) → k < 8 → get_or (places_in s) k d ≡ place_in s k
 place-is s zero d below = refl
 place-is s (suc zero) d below = refl
@@ -34,14 +34,14 @@ end_more (p ∷ ps) from zero d inside = refl
 end_more (p ∷ ps) from (suc i) d inside =
     ap (λ n. last_end from (take n (p ∷ ps))) (add-one (suc i)) ∙ ap (λ n. last_end (p.at + p.len) (take n ps)) (sym (add-one i)) ∙ end_more ps (p.at + p.len) i d (omega arith)
 
--- one place more
+-- One more place.
 pub sum_next : (s : List ℕ) (k : ℕ) → k < 8 → sum_of (take (k + 1) (places_in s)) ≡ sum_of (take k (places_in s)) + (place_in s k).len
 sum_next s k below = sum_more (places_in s) k no_place below ∙ ap (λ (p : Place). sum_of (take k (places_in s)) + p.len) (place-is s k no_place below)
 
 pub end_next : (s : List ℕ) (k : ℕ) → k < 8 → last_end 0 (take (k + 1) (places_in s)) ≡ (place_in s k).at + (place_in s k).len
 end_next s k below = end_more (places_in s) 0 k no_place below ∙ ap (λ (p : Place). p.at + p.len) (place-is s k no_place below)
 
--- the octets past the end of a file that is shorter than what is kept
+-- The bytes after the end of a file that is shorter than the kept bytes.
 pub padded_rest : (s : List ℕ) (m : ℕ) → version_in s ≡ 2 → HEAD ≤ length s → m ≡ min (old_len_in s) KEPT → are_zeros (drop m (first_in s)) ≡ is_padded s
 padded_rest s m version long is =
     let left = length-drop 168 s in
@@ -50,7 +50,7 @@ padded_rest s m version long is =
     let same : drop m (first_in s) ≡ drop (old_len_in s) (first_in s) = ap (λ n. drop n (first_in s)) (is ∙ ap (λ n. min (old_len_in s) n) (sym size)) ∙ drop_min (old_len_in s) (first_in s) in
     ap are_zeros same ∙ sym (ap (λ b. not b || are_zeros (drop (old_len_in s) (first_in s))) guard)
 
--- the rule of one place more
+-- The rule of one more place.
 
 pub used_step : (s : List ℕ) (old : Option ℕ) (k n from octet : ℕ) → k < 8 → 0 < n
     → first_breach (place_rules old octet n from (drop k (places_in s)))
@@ -68,14 +68,14 @@ pub unused_step : (s : List ℕ) (old : Option ℕ) (k from octet : ℕ) → k <
 unused_step s old k from octet below =
     ap (λ ps. first_breach (place_rules old octet 0 from ps)) (drop_more (places_in s) k no_place below ∙ ap (λ (p : Place). p ∷ drop (k + 1) (places_in s)) (place-is s k no_place below))
 
--- where a rule is kept, the next ones tell
+-- If a rule is kept, the next ones decide.
 pub if_kept : (b : Bool) (rest : Option ℕ) (octet : ℕ) (all : Option ℕ) → all ≡ (if b then rest else Some octet) → b ≡ true → all ≡ rest
 if_kept b rest octet all is kept = is ∙ cond-true b rest (Some octet) kept
 
 pub if_broken : (b : Bool) (rest : Option ℕ) (octet : ℕ) (all : Option ℕ) → all ≡ (if b then rest else Some octet) → b ≡ false → all ≡ Some octet
 if_broken b rest octet all is broken = is ∙ cond-false b rest (Some octet) broken
 
--- what more rules tell behind these
+-- ---- more rules after others
 
 -- the first of two, if there is one
 abbrev pub or_first : Option ℕ → Option ℕ → Option ℕ
@@ -92,7 +92,7 @@ breach-behind (r ∷ rs) qs o is = by_test (breach-behind rs qs) r.kept refl
         cond-false r.kept (first_breach (rs ++ qs)) (Some r.octet) kept
         ∙ ap (λ (first : Option ℕ). or_first first (first_breach qs)) (sym (cond-false r.kept (first_breach rs) (Some r.octet) kept) ∙ is)
 
--- once the first three rules are kept, the places and the zeros behind them tell
+-- If the first three rules are kept, the places and the zeros after them decide.
 pub counted-rest : (s : List ℕ) (o : Option ℕ) → is_total s ≡ true → is_new_len (version_in s) (old_len_of s) (new_len_in s) (last_end 0 (used_in s)) ≡ true → are_zeros (octets_from s 26 6) ≡ true
     → first_breach (place_rules (old_len_of s) 32 (count_in s) 0 (places_in s)) ≡ o → first_breach (counted_rules s) ≡ or_first o (if is_padded s then None else Some 168)
 counted-rest s o total new_len zeros is =
@@ -100,7 +100,7 @@ counted-rest s o total new_len zeros is =
     ∙ cond-true (are_zeros (octets_from s 26 6)) _ _ zeros
     ∙ breach-behind (place_rules (old_len_of s) 32 (count_in s) 0 (places_in s)) (record { octet = 168; kept = is_padded s } ∷ []) o is
 
--- ---- the places that are used, from one on
+-- ---- used places from one on
 
 pub length-used : (s : List ℕ) → count_in s ≤ 8 → length (used_in s) ≡ count_in s
 length-used s few = length-take-le (count_in s) (places_in s) few

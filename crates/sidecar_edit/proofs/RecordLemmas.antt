@@ -1,4 +1,4 @@
--- What is written as a record is read as that record.
+-- Laws on records that are written: they are read as the same records.
 use Rattle.std.proofs.Common.{◌≡◌, ◌⊎◌, inl, inr, ℕ, zero, suc, ◌+◌, ◌-◌, ◌<◌, ◌≤◌, ◌^◌, max, true, ◌&&◌, ◌==◌, List, [], ◌∷◌, ◌++◌, length, take, drop, get_or, refl, sym, ◌∙◌, ap, subst, arith, length-append, replicate, Option, None, Some, nat_lt, nat_le}
 use Rattle.std.proofs.lemmas.List.{take_at, take_all, drop_all, drop_at, length-replicate}
 use Rattle.std.proofs.lemmas.Bool.{le-leb, le-ltb, lt-leb, eq-eqb, and_from, or_from, or_right, cond-true, cond-false, cases_lt}
@@ -11,7 +11,7 @@ use Rattle.sidecar_edit.specs.declared.held.Gate.TheVariants.{Live}
 use Rattle.sidecar_edit.specs.Fields.{Head, AreInOrder, IsSound, head_octets, head_of, last_end, magic, number_at, total_in, new_len_in, version_in, count_in, places_in, used_in, old_len_in, first_in, no_place, slot, sum_of, cut_up, writes_in, zeros}
 use Rattle.sidecar_edit.specs.Gate.{Rule, first_breach, are_zeros, gate_of, is_count, is_new_len, is_padded, is_quiet, is_total, is_version, old_len_of, place_rules, rules_of, state, unless_broken}
 
--- the k-th place, or none
+-- the place number `k`, or zero
 abbrev pub nth : List Place → ℕ → Place
 nth ps k = get_or ps k no_place
 
@@ -21,7 +21,7 @@ last_end_grows : (old from : ℕ) (ps : List Place) → AreInOrder old from ps �
 last_end_grows old from [] order = omega arith
 last_end_grows old from (p ∷ ps) order = let more = last_end_grows old (p.at + p.len) ps order.3 in let low = order.1 in omega arith
 
--- places in order end no farther than the file with all their octets behind it
+-- Places in order end at most at the end of the file plus all their bytes.
 pub last_end_most : (old from : ℕ) (ps : List Place) → AreInOrder old from ps → last_end from ps ≤ max old from + sum_of ps
 last_end_most old from [] order = omega arith
 last_end_most old from (p ∷ ps) order =
@@ -41,7 +41,7 @@ len_most [] (suc k) = omega arith
 len_most (p ∷ ps) zero = omega arith
 len_most (p ∷ ps) (suc k) = let more = len_most ps k in omega arith
 
--- every number of a sound record has eight octets
+-- Each number of a valid record fits eight bytes.
 pub record AreShort (h : Head) : Type 0 where
   pub total : HEAD + sum_of h.places < 256 ^ 8
   pub new_len : h.new_len < 256 ^ 8
@@ -63,7 +63,7 @@ short-of_sound h sound =
 
 -- ---- the fields
 
--- a record's octets, with what stands behind the length before the edit
+-- the bytes of a record, with `rest` after the length before the edit
 abbrev pub fixed : ℕ → Head → List ℕ → List ℕ
 fixed gate h rest =
     let ps = h.places in
@@ -72,7 +72,7 @@ fixed gate h rest =
     ++ (slot ps 4 ++ (slot ps 5 ++ (slot ps 6 ++ (slot ps 7
     ++ (big_bytes 8 h.old_len ++ rest))))))))))))
 
--- eight places, none where there are not so many
+-- eight places, with zeros after the given ones
 abbrev eight : List Place → List Place
 eight ps = nth ps 0 ∷ nth ps 1 ∷ nth ps 2 ∷ nth ps 3 ∷ nth ps 4 ∷ nth ps 5 ∷ nth ps 6 ∷ nth ps 7 ∷ []
 
@@ -114,7 +114,7 @@ module _ (gate : ℕ) (h : Head) (rest : List ℕ) (short : AreShort h) where
       λ i. record { at = at0 i; len = len0 i } ∷ record { at = at1 i; len = len1 i } ∷ record { at = at2 i; len = len2 i } ∷ record { at = at3 i; len = len3 i }
       ∷ record { at = at4 i; len = len4 i } ∷ record { at = at5 i; len = len5 i } ∷ record { at = at6 i; len = len6 i } ∷ record { at = at7 i; len = len7 i } ∷ []
 
--- eight places are those that there are, and then none
+-- Eight places are the given ones, then zeros.
 eight-is : (ps : List Place) → length ps ≤ 8 → eight ps ≡ ps ++ replicate (8 - length ps) no_place
 eight-is [] few = refl
 eight-is (a ∷ []) few = refl
@@ -129,7 +129,7 @@ eight-is (a ∷ b ∷ c ∷ d ∷ e ∷ f ∷ g ∷ k ∷ l ∷ ps) few = absurd
 
 -- ---- rules that are kept
 
--- all of them are kept
+-- The rules are kept.
 abbrev pub AreKept : List Rule → Type 0
 AreKept [] = Unit {0}
 AreKept (r ∷ rs) = (r.kept ≡ true) × AreKept rs
@@ -160,9 +160,9 @@ are_zeros-replicate : (n : ℕ) → are_zeros (zeros n) ≡ true
 are_zeros-replicate zero = refl
 are_zeros-replicate (suc n) = are_zeros-replicate n
 
--- ---- a record that is written is live, and its writes are those that were written
+-- ---- a written record is pending, and has the writes that were written
 
--- the octets that are kept of a file, and zeros past its end
+-- the kept bytes of a file, then zeros
 abbrev pub padded : Head → List ℕ
 padded h = h.first ++ zeros (KEPT - length h.first)
 
@@ -254,7 +254,7 @@ module _ (h : Head) (payload : List ℕ) (sound : IsSound h) where
       let size = length-padded h sound in
       ap (λ rest. fixed OPEN h rest) (take_at (padded h) payload KEPT size)
 
-  -- its writes are those that were written
+  -- Its writes are the writes that were written.
   pub writes-written : writes_in whole ≡ cut_up h.places payload
   writes-written =
       let size = length-padded h sound in
@@ -262,7 +262,7 @@ module _ (h : Head) (payload : List ℕ) (sound : IsSound h) where
       let rest : drop HEAD whole ≡ payload = drop_at (padded h) payload KEPT size in
       ap (λ ps. cut_up ps (drop HEAD whole)) used ∙ ap (λ bytes. cut_up h.places bytes) rest
 
-  -- it is live, where all of its writes' octets stand there
+  -- It is pending, if it has all bytes of its writes.
   pub live-written : 1 ≤ length h.places → length payload ≡ sum_of h.places → state whole ≡ Live
   live-written some full =
       let size = length-padded h sound in

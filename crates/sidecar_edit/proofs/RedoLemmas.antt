@@ -8,15 +8,15 @@ use Rattle.sidecar_edit.specs.Writes.{Write, end_of, applied, extent, Fits, Writ
 pub length-overwritten : (old : List ℕ) (at : ℕ) (bytes : List ℕ) → at ≤ length old → length (overwritten old at bytes) ≡ max (length old) (at + length bytes)
 length-overwritten old at bytes le = grind (arith, length-append, length-take, length-drop)
 
--- inside the range stand the bytes
+-- In the range there are the written bytes.
 pub overwritten_inside : (old : List ℕ) (at : ℕ) (bytes : List ℕ) (k : ℕ) → at ≤ length old → at ≤ k → k < at + length bytes → get_or (overwritten old at bytes) k 0 ≡ get_or bytes (k - at) 0
 overwritten_inside old at bytes k le low high = grind (arith, places)
 
--- and outside of it what stood there
+-- Outside it the bytes stay.
 pub overwritten_outside : (old : List ℕ) (at : ℕ) (bytes : List ℕ) (k : ℕ) → at ≤ length old → (k < at) ⊎ (at + length bytes ≤ k) → get_or (overwritten old at bytes) k 0 ≡ get_or old k 0
 overwritten_outside old at bytes k le out = grind (arith, places)
 
--- writes never make a file shorter
+-- Writes never make a file shorter.
 pub extent_grows : (n : ℕ) (ws : List Write) → n ≤ extent n ws
 extent_grows n [] = omega arith
 extent_grows n (w ∷ ws) = omega (arith, extent_grows (max n (end_of w)) ws)
@@ -27,7 +27,7 @@ length-applied file (w ∷ ws) fits =
     let size = length-overwritten file w.at w.bytes fits.0 in
     length-applied (overwritten file w.at w.bytes) ws (subst (λ n. Fits n ws) (sym size) fits.1) ∙ ap (λ n. extent n ws) size
 
--- one write more on both sides
+-- One more write on both sides.
 torn_rest : (w : Write) (ws : List Write) (file torn : List ℕ) → w.at ≤ length file → Torn (w ∷ ws) file torn → Torn ws (overwritten file w.at w.bytes) (overwritten torn w.at w.bytes)
 torn_rest w ws file torn le was =
     let size = length-overwritten file w.at w.bytes le in
@@ -53,7 +53,7 @@ torn_rest w ws file torn le was =
     at_place k inside untouched (inr above) (inl before) = same_inside k above before
     at_place k inside untouched (inr above) (inr behind) = same_outside k (omega arith) (inr behind) untouched
 
--- the heart: redone over any torn file, the writes give the edited file
+-- The main lemma: redone over any torn file, the writes give the edited file.
 pub redone : (ws : List Write) (file torn : List ℕ) → Fits (length file) ws → Torn ws file torn → applied torn ws ≡ applied file ws
 redone [] file torn fits was =
     ext_get_or 0 torn file (omega (arith, was.no_shorter, was.no_longer)) (λ k inside. was.elsewhere k (omega (arith, was.no_longer)) (λ (none : ⊥). none))
@@ -61,7 +61,7 @@ redone (w ∷ ws) file torn fits was =
     let size = length-overwritten file w.at w.bytes fits.0 in
     redone ws (overwritten file w.at w.bytes) (overwritten torn w.at w.bytes) (subst (λ n. Fits n ws) (sym size) fits.1) (torn_rest w ws file torn fits.0 was)
 
--- bytes that no write touches stay
+-- Bytes that no write changes stay.
 pub applied_elsewhere : (ws : List Write) (file : List ℕ) (k : ℕ) → Fits (length file) ws → k < length file → (WritesOctet ws k → ⊥) → get_or (applied file ws) k 0 ≡ get_or file k 0
 applied_elsewhere [] file k fits inside untouched = refl
 applied_elsewhere (w ∷ ws) file k fits inside untouched =
@@ -74,7 +74,7 @@ applied_elsewhere (w ∷ ws) file k fits inside untouched =
     outside (inr above) (inl before) = absurd (untouched (inl (above, before)))
     outside (inr above) (inr behind) = inr behind
 
--- the edited file is torn too, so that redoing the writes leaves it
+-- The edited file is torn too, so that redoing the writes leaves it.
 pub edited_is_torn : (ws : List Write) (file : List ℕ) → Fits (length file) ws → Torn ws file (applied file ws)
 edited_is_torn ws file fits = record {
   no_shorter = omega (arith, length-applied file ws fits, extent_grows (length file) ws);

@@ -1,4 +1,4 @@
--- Sidecars of small files, computed, so that a wrong definition does not check.
+-- Computed journals of small files. A wrong definition fails here.
 use Rattle.std.proofs.Common.{◌≡◌, ℕ, List, [], ◌∷◌, ◌++◌, refl, Err}
 use Rattle.sidecar_edit.specs.declared.held.Gate.TheVariants.{Live, Quiet, Bad}
 use Rattle.sidecar_edit.specs.declared.outcome.Mark.TheVariants.{Length, Octet}
@@ -7,7 +7,7 @@ use Rattle.sidecar_edit.specs.Fields.{number_at, zeros}
 use Rattle.sidecar_edit.specs.Gate.{state}
 use Rattle.sidecar_edit.specs.Recovery.{recovered, recovery}
 
--- a number below 256 in eight octets
+-- a number below 256 in eight bytes
 abbrev eight : ℕ → List ℕ
 eight n = 0 ∷ 0 ∷ 0 ∷ 0 ∷ 0 ∷ 0 ∷ 0 ∷ n ∷ []
 
@@ -15,27 +15,27 @@ eight n = 0 ∷ 0 ∷ 0 ∷ 0 ∷ 0 ∷ 0 ∷ 0 ∷ n ∷ []
 abbrev name : List ℕ
 name = 0x4D ∷ 0x4B ∷ 0x56 ∷ 0x45 ∷ 0x44 ∷ 0x49 ∷ 0x54 ∷ []
 
--- a record by its gate, length, new length, version, number of writes, and what stands behind these
+-- a record by its gate, length, new length, version, number of writes, and the bytes after these
 abbrev record_of : ℕ → ℕ → ℕ → ℕ → ℕ → List ℕ → List ℕ
 record_of gate total new_len version count rest =
     gate ∷ name ++ eight total ++ eight new_len ++ version ∷ count ∷ zeros 6 ++ rest
 
--- a file of four octets, of which the second is to be 7 and two are to be added: 1 7 3 4 8 9
+-- a file of four bytes; the edit changes the second to 7 and appends two: 1 7 3 4 8 9
 abbrev file : List ℕ
 file = 1 ∷ 2 ∷ 3 ∷ 4 ∷ []
 
 abbrev edited : List ℕ
 edited = 1 ∷ 7 ∷ 3 ∷ 4 ∷ 8 ∷ 9 ∷ []
 
--- one octet at 1, two at 4
+-- one byte at 1, two bytes at 4
 abbrev two_places : List ℕ
 two_places = eight 1 ++ eight 1 ++ eight 4 ++ eight 2 ++ zeros 96
 
--- the record of this edit in version 1: 160 octets and three
+-- the record of this edit in version 1: 160 bytes and three
 abbrev first : List ℕ
 first = record_of 0xA5 163 6 1 2 (two_places ++ 7 ∷ 8 ∷ 9 ∷ [])
 
--- and in version 2: 232 octets and three
+-- the record of this edit in version 2: 232 bytes and three
 abbrev second : List ℕ
 second = record_of 0xA5 235 6 2 2 (two_places ++ eight 4 ++ file ++ zeros 60 ++ 7 ∷ 8 ∷ 9 ∷ [])
 
@@ -49,7 +49,7 @@ state-second : state second ≡ Live
 unfolding number_at
 state-second = refl
 
--- a closed gate, an empty file and one octet ask for nothing
+-- A closed gate, an empty file and one byte have no pending edit.
 state-closed : state (record_of 0x37 163 6 1 2 (two_places ++ 7 ∷ 8 ∷ 9 ∷ [])) ≡ Quiet
 state-closed = refl
 
@@ -59,21 +59,21 @@ state-empty = refl
 state-one : state (0xA5 ∷ []) ≡ Quiet
 state-one = refl
 
--- a file that is shorter than any record is bad at its end
+-- A file that is shorter than any record is bad at its end.
 state-short : state (0xA5 ∷ name) ≡ Bad 8
 state-short = refl
 
--- and one that lacks the record's last octet too
+-- So is a file without the record's last byte.
 state-cut : state (record_of 0xA5 163 6 1 2 (two_places ++ 7 ∷ 8 ∷ [])) ≡ Bad 162
 unfolding number_at
 state-cut = refl
 
--- octets behind the record don't count
+-- Bytes after the record don't count.
 state-longer : state (first ++ 1 ∷ 2 ∷ []) ≡ Live
 unfolding number_at
 state-longer = refl
 
--- each field in its turn
+-- Each field in turn.
 state-total : state (record_of 0xA5 164 6 1 2 (two_places ++ 7 ∷ 8 ∷ 9 ∷ 0 ∷ [])) ≡ Bad 8
 unfolding number_at
 state-total = refl
@@ -82,7 +82,7 @@ state-new_len : state (record_of 0xA5 163 5 1 2 (two_places ++ 7 ∷ 8 ∷ 9 ∷
 unfolding number_at
 state-new_len = refl
 
--- version 1 allows a new length past the last write, version 2 doesn't
+-- Version 1 allows a new length past the last write, version 2 doesn't.
 state-longer_first : state (record_of 0xA5 163 9 1 2 (two_places ++ 7 ∷ 8 ∷ 9 ∷ [])) ≡ Live
 unfolding number_at
 state-longer_first = refl
@@ -91,14 +91,14 @@ state-longer_second : state (record_of 0xA5 235 9 2 2 (two_places ++ eight 4 ++ 
 unfolding number_at
 state-longer_second = refl
 
--- a wrong version hides what counts writes, and a wrong number of writes too
+-- A wrong version hides the fields that depend on the number of writes, and so does a wrong number.
 state-version : state (record_of 0xA5 164 6 3 2 (two_places ++ 7 ∷ 8 ∷ 9 ∷ [])) ≡ Bad 24
 state-version = refl
 
 state-count : state (record_of 0xA5 164 6 1 9 (two_places ++ 7 ∷ 8 ∷ 9 ∷ [])) ≡ Bad 25
 state-count = refl
 
--- writes that overlap, that are empty, that leave a gap behind the file, and a place that isn't used and isn't zero
+-- Writes that overlap, are empty, or leave a gap after the file, and an unused place that isn't zero.
 state-overlap : state (record_of 0xA5 163 6 1 2 (eight 4 ++ eight 2 ++ eight 5 ++ eight 1 ++ zeros 96 ++ 7 ∷ 8 ∷ 9 ∷ [])) ≡ Bad 48
 unfolding number_at
 state-overlap = refl
@@ -115,17 +115,17 @@ state-unused : state (record_of 0xA5 161 2 1 1 (eight 1 ++ eight 1 ++ eight 0 ++
 unfolding number_at
 state-unused = refl
 
--- zeros past the end of the file before the edit
+-- Zeros after the end of the file before the edit.
 state-padded : state (record_of 0xA5 235 6 2 2 (two_places ++ eight 4 ++ file ++ 1 ∷ zeros 59 ++ 7 ∷ 8 ∷ 9 ∷ [])) ≡ Bad 168
 unfolding number_at
 state-padded = refl
 
--- a record of version 2 that is cut before what it keeps of the file: the rules that need it aren't looked at
+-- A record of version 2 that ends before its kept bytes: rules that need them are skipped.
 state-cut_second : state (record_of 0xA5 235 9 2 2 (two_places ++ zeros 4)) ≡ Bad 164
 unfolding number_at
 state-cut_second = refl
 
--- ---- what the two stand for
+-- ---- the file that two files recover to
 
 recovered-first : recovered file first ≡ edited
 unfolding number_at
@@ -135,7 +135,7 @@ recovered-second : recovered file second ≡ edited
 unfolding number_at
 recovered-second = refl
 
--- a file that the writes have torn, and one that is edited already
+-- A file that the writes have torn, and one that is edited already.
 recovered-torn : recovered (1 ∷ 0 ∷ 3 ∷ 4 ∷ 5 ∷ []) second ≡ edited
 unfolding number_at
 recovered-torn = refl
@@ -144,11 +144,11 @@ recovered-again : recovered edited second ≡ edited
 unfolding number_at
 recovered-again = refl
 
--- beside a closed gate the file is as it is
+-- With a closed gate the file is unchanged.
 recovered-closed : recovered file (record_of 0 235 6 2 2 (two_places ++ eight 4 ++ file ++ zeros 60 ++ 7 ∷ 8 ∷ 9 ∷ [])) ≡ file
 recovered-closed = refl
 
--- another file: of a length that the edit doesn't pass through, or with another octet where nothing is written
+-- Another file: with a length that is impossible during the edit, or with another byte that no write changes.
 foreign-short : recovery (1 ∷ 2 ∷ 3 ∷ []) second ≡ Err (Foreign Length 4 3)
 unfolding number_at
 foreign-short = refl
@@ -161,7 +161,7 @@ foreign-octet : recovery (1 ∷ 2 ∷ 5 ∷ 4 ∷ []) second ≡ Err (Foreign (O
 unfolding number_at
 foreign-octet = refl
 
--- version 1 knows only a gap: the second write begins past the end of a file of three octets
+-- Version 1 only detects a gap: the second write begins after the end of a file of three bytes.
 gap-first : recovery (1 ∷ 2 ∷ 3 ∷ []) first ≡ Err (BadSidecar 48)
 unfolding number_at
 gap-first = refl

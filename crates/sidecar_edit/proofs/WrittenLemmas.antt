@@ -1,4 +1,4 @@
--- A record that is written beside a file is that file's own, and what a crash leaves of its edit stands for the edited file.
+-- A record that is written for a file belongs to it. The contents that a crash leaves during its edit recover to the edited file.
 use Rattle.std.proofs.Common.{◌≡◌, ℕ, ◌+◌, ◌-◌, ◌<◌, ◌≤◌, Bool, true, false, not, ◌&&◌, ◌||◌, nat_lt, List, length, take, slice_index, refl, sym, ◌∙◌, ap, arith, Result}
 use Rattle.std.proofs.lemmas.Bool.{le-ltb, eq-eqb, and_left, and_right, or_from, not_from_true, cond-false, ltb-true}
 use Rattle.std.proofs.lemmas.List.{get_or-drop, get_or_append_left}
@@ -15,7 +15,7 @@ module _ (h : Head) (payload file : List ℕ) (sound : IsSound h) (some : 1 ≤ 
   old-is : old_len_in (f h sound) ≡ length file
   old-is = read-old_len OPEN h (padded h) (short-of_sound h sound) ∙ made.len
 
-  -- no octet that is kept differs
+  -- No kept byte differs.
   same-octet : (k : ℕ) → k < KEPT → (b : Bool) → nat_lt k (old_len_in (f h sound)) ≡ b → differs (f h sound) (take KEPT file) k ≡ false
   same-octet k low false before = and_left (nat_lt k (old_len_in (f h sound)) && not (is_touched (used_in (f h sound)) k)) _ (and_left (nat_lt k (old_len_in (f h sound))) _ before)
   same-octet k low true before =
@@ -35,9 +35,9 @@ module _ (h : Head) (payload file : List ℕ) (sound : IsSound h) (some : 1 ≤ 
         ∙ ap (octet_mark (f h sound) (take KEPT file)) (if_none_passes (differs (f h sound) (take KEPT file)) 0 KEPT (λ k low high. same-octet k (omega arith) (nat_lt k (old_len_in (f h sound))) refl));
   }
 
--- ---- what images stand for
+-- ---- files that crash images recover to
 
--- where a record is a file's own, each file that its writes have torn stands for the edited one
+-- If a record belongs to a file, each file that its writes have torn recovers to the edited one.
 pub recovered-torn : (file s torn : List ℕ) → IsOwn file s → Torn (writes_in s) file torn → recovered torn s ≡ applied file (writes_in s)
 recovered-torn file s torn own is =
     ap (λ (r : Result Recovered _). when_applied r torn (applied torn (writes_in s))) (own-applies torn s (own-torn file s own torn is))

@@ -1,17 +1,17 @@
--- The record of an edit as it stands in a sidecar, octet for octet. Numbers are big-endian. The layout is this project's.
+-- The record of an edit in a journal (FILE.mkvedit), byte for byte. Numbers are big-endian. The layout is this project's.
 --
---   0            gate: A5 is open, all else is closed
+--   0            gate: A5 is open, any other byte is closed
 --   1 to 7       MKVEDIT
---   8 to 15      how many octets the record has, the gate counted
---   16 to 23     the file's length after the edit
+--   8 to 15      length of the record in bytes, including the gate
+--   16 to 23     length of the file after the edit
 --   24           version, 1 or 2
 --   25           number of writes, 1 to 8
 --   26 to 31     zero
---   32 to 159    eight places of writes, each an offset and a length of eight octets; those that aren't used are zero
+--   32 to 159    eight places of writes, each an offset and a length of eight bytes; unused ones are zero
 --   version 2:
---   160 to 167   the file's length before the edit
---   168 to 231   its first 64 octets before the edit, zeros past its end
---   then, at 160 in version 1 and at 232 in version 2, the octets of the writes, in their order
+--   160 to 167   length of the file before the edit
+--   168 to 231   first 64 bytes of the file before the edit, zeros after its end
+--   then, at 160 in version 1 and at 232 in version 2, the bytes of the writes, in their order
 use Rattle.std.specs.Prelude.{◌≡◌, ◌≤◌, ℕ, zero, suc, ◌+◌, ◌*◌, ◌==◌, max, min, if◌then◌else◌, List, [], ◌∷◌, ◌++◌, length, take, drop, replicate, slice_index, get_or, ◌-◌}
 use Rattle.byteorder.specs.Endian.{big_number, big_bytes}
 use Rattle.mkv_io.specs.Contents.{octets_from}
@@ -24,9 +24,9 @@ use Rattle.mkv_io.specs.declared.outside.TheConstants.{LONGEST_FILE}
 abbrev pub magic : List ℕ
 magic = 77 ∷ 75 ∷ 86 ∷ 69 ∷ 68 ∷ 73 ∷ 84 ∷ []
 
--- ---- reading: what the octets before those of the writes say
+-- ---- reading: the fields before the bytes of the writes
 
--- a number of eight octets
+-- the number in the eight bytes from the offset `at`
 unfoldable pub number_at : List ℕ → ℕ → ℕ
 number_at s at = big_number 8 (drop at s)
 
@@ -42,7 +42,7 @@ version_in s = slice_index s 24
 abbrev pub count_in : List ℕ → ℕ
 count_in s = slice_index s 25
 
--- the place of a write, from 0
+-- the place of the write number `k`, counted from 0
 abbrev pub place_in : List ℕ → ℕ → Place
 place_in s k = record { at = number_at s (32 + 16 * k); len = number_at s (40 + 16 * k) }
 
@@ -61,64 +61,64 @@ old_len_in s = number_at s 160
 abbrev pub first_in : List ℕ → List ℕ
 first_in s = octets_from s 168 KEPT
 
--- how many octets stand before those of the writes
+-- the number of bytes before the bytes of the writes
 abbrev pub head_len : ℕ → ℕ
 head_len version = if version == 1 then HEAD_1 else HEAD
 
--- a sidecar's first octets, which say all but what the writes write
+-- the first bytes of a journal, which have all fields before the bytes of the writes
 abbrev pub head_of : List ℕ → List ℕ
 head_of sidecar = take HEAD sidecar
 
--- the writes at these places, of these octets in order
+-- the writes at the given places, with the bytes `bytes` in order
 abbrev pub cut_up : List Place → List ℕ → List Write
 cut_up [] bytes = []
 cut_up (p ∷ ps) bytes = record { at = p.at; bytes = take p.len bytes } ∷ cut_up ps (drop p.len bytes)
 
--- The writes that a sidecar holds.
+-- the writes in a journal
 abbrev pub writes_in : List ℕ → List Write
 writes_in sidecar =
     let head = head_of sidecar in
     cut_up (used_in head) (drop (head_len (version_in head)) sidecar)
 
--- ---- writing: what stands behind the gate
+-- ---- writing: the bytes after the gate
 
 abbrev pub no_place : Place
 no_place = record { at = 0; len = 0 }
 
--- a place's sixteen octets
+-- the sixteen bytes of a place
 abbrev pub spelled : Place → List ℕ
 spelled p = big_bytes 8 p.at ++ big_bytes 8 p.len
 
--- the k-th of them, zero where there are not so many
+-- the bytes of the place number `k`, or zeros if there are fewer
 abbrev pub slot : List Place → ℕ → List ℕ
 slot ps k = spelled (get_or ps k no_place)
 
--- how many octets the writes at these places write
+-- the number of bytes that the writes at the given places write
 abbrev pub sum_of : List Place → ℕ
 sum_of [] = 0
 sum_of (p ∷ ps) = p.len + sum_of ps
 
--- What is known of the file before an edit, and the places of the writes: all that stands before their octets.
+-- the file before an edit, and the places of the writes: all fields before the bytes of the writes
 pub record Head : Type 0 where
   pub old_len : ℕ
   pub new_len : ℕ
   pub first : List ℕ
   pub places : List Place
 
--- ---- what an edit may write
+-- ---- writes that an edit may have
 
--- Each place has octets, begins no sooner than the one before it ends, and no farther than the end of a file of this length or
--- of the one before it.
+-- Each place has bytes. It begins at or after the end of the previous one. It begins at most at the end of the file of `old` bytes or of the
+-- previous place.
 abbrev pub AreInOrder : ℕ → ℕ → List Place → Type 0
 AreInOrder old from [] = Unit {0}
 AreInOrder old from (p ∷ ps) = (1 ≤ p.len) × (from ≤ p.at) × (p.at ≤ max old from) × AreInOrder old (p.at + p.len) ps
 
--- where the last of them ends, `from` where there is none
+-- the end of the last place, or `from` if there is none
 abbrev pub last_end : ℕ → List Place → ℕ
 last_end from [] = from
 last_end from (p ∷ ps) = last_end (p.at + p.len) ps
 
--- These may be the places of an edit, and this the file before and after it.
+-- The places may be the places of an edit of this file, and the length after it is right.
 pub record IsSound (h : Head) : Type 0 where
   pub few : length h.places ≤ MAX_WRITES
   pub order : AreInOrder h.old_len 0 h.places
@@ -127,7 +127,7 @@ pub record IsSound (h : Head) : Type 0 where
   pub new_len : h.new_len ≡ max h.old_len (last_end 0 h.places)
   pub first : length h.first ≡ min KEPT h.old_len
 
--- The record says of the file before the edit what this file is.
+-- The record was made for the file `file`.
 pub record IsMadeFor (h : Head) (file : List ℕ) : Type 0 where
   pub len : h.old_len ≡ length file
   pub first : h.first ≡ take KEPT file
@@ -135,27 +135,27 @@ pub record IsMadeFor (h : Head) (file : List ℕ) : Type 0 where
 abbrev pub zeros : ℕ → List ℕ
 zeros n = replicate n 0
 
--- before the places, in version 2
+-- the bytes before the places, in version 2
 abbrev pub front_octets : ℕ → ℕ → ℕ → List ℕ
 front_octets total new_len count =
     magic ++ (big_bytes 8 total ++ (big_bytes 8 new_len ++ (2 ∷ count ∷ 0 ∷ 0 ∷ 0 ∷ 0 ∷ 0 ∷ 0 ∷ [])))
 
--- the first n of the eight places
+-- the first `n` of the eight places
 abbrev pub slots : ℕ → List Place → List ℕ
 slots zero ps = []
 slots (suc n) ps = slots n ps ++ slot ps n
 
--- what the record knows the file by
+-- the bytes that identify the file
 abbrev pub mark_octets : ℕ → List ℕ → List ℕ
 mark_octets old_len first = big_bytes 8 old_len ++ (first ++ zeros (KEPT - length first))
 
--- The octets from the gate's end to the first octet of the writes, in version 2.
+-- the bytes after the gate up to the bytes of the writes, in version 2
 abbrev pub head_octets : Head → List ℕ
 head_octets h =
     front_octets (HEAD + sum_of h.places) h.new_len (length h.places)
     ++ (slots MAX_WRITES h.places ++ mark_octets h.old_len h.first)
 
--- A plan of an edit: what stands before the octets of its writes, and these octets, one write's behind the other's.
+-- a plan of an edit: the fields before the bytes of its writes, and these bytes, concatenated
 pub record Planned : Type 0 where
   pub head : Head
   pub payload : List ℕ
@@ -163,11 +163,11 @@ pub record Planned : Type 0 where
 abbrev pub writes_of : Planned → List Write
 writes_of p = cut_up p.head.places p.payload
 
--- what stands behind the gate for it
+-- the bytes of the record after the gate
 abbrev pub body_of : Planned → List ℕ
 body_of p = head_octets p.head ++ p.payload
 
--- It may be made, if it has a write.
+-- The plan may be made, if it has a write.
 pub record IsPlan (p : Planned) : Type 0 where
   pub sound : IsSound p.head
   pub full : length p.payload ≡ sum_of p.head.places

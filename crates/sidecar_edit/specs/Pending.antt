@@ -1,4 +1,4 @@
--- Whether an edit of a file is pending, and what a call leaves that only looks. The rule is this project's.
+-- Pending edits, and the effects of a call that only looks for one. The rule is this project's.
 use Rattle.std.specs.Prelude.{◌≡◌, ℕ, Bool, true, false, List, [], Option, Some, None}
 use Rattle.mkv_io.specs.Writing.{UsesOnly}
 use Rattle.mkv_io.specs.declared.reads.Reads.{Ghosts}
@@ -8,23 +8,22 @@ use Rattle.sidecar_edit.specs.declared.held.Gate.TheVariants.{Live, Quiet, Bad}
 use Rattle.sidecar_edit.specs.Gate.{state}
 use Rattle.sidecar_edit.specs.Name.{sidecar_of}
 
--- an edit was begun, and is to be redone
+-- The state is a pending edit, which must be redone.
 abbrev pub is_begun : Gate → Bool
 is_begun Live = true
 is_begun Quiet = false
 is_begun (Bad offset) = false
 
--- a sidecar, if it is there, holds such an edit
+-- A journal exists and has a pending edit.
 abbrev pub holds_edit : Option (List ℕ) → Bool
 holds_edit None = false
 holds_edit (Some sidecar) = is_begun (state sidecar)
 
--- An edit of the file of this name is pending, in a world of names: its sidecar is there, and is live.
+-- An edit of the file `name` is pending: its journal exists and has a pending edit.
 abbrev pub is_pending : (List ℕ → Option (List ℕ)) → List ℕ → Bool
 is_pending world name = holds_edit (world (sidecar_of name))
 
--- A call that only looks into files of these names leaves which files are live, each live one as it was, and the content of
--- every name.
+-- A call that only looks into files with names in `opened` leaves the same files live and unchanged, and the content of every name.
 pub record LooksOnly {S : Type 0} (r : Ghosts S) (f : writing.Ghosts S) (opened : List (List ℕ)) (old new : S) : Type 0 where
   pub kept : UsesOnly r f opened [] old new
   pub names : f.names new ≡ f.names old

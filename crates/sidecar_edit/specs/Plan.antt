@@ -1,21 +1,21 @@
--- A plan as it is kept: the record's octets from the gate's end on, with what they say.
+-- A plan as it is stored: the bytes of the record after the gate, with their fields.
 use Rattle.std.specs.Prelude.{◌≡◌, ℕ, ◌-◌, List, drop}
 use Rattle.sidecar_edit.specs.declared.place.Place.{Place}
 use Rattle.sidecar_edit.specs.declared.place.TheConstants.{HEAD}
 use Rattle.sidecar_edit.specs.Fields.{IsPlan, Planned, body_of}
 
--- a plan by its parts
+-- the plan with these parts
 abbrev pub planned : ℕ → ℕ → List ℕ → List Place → List ℕ → Planned
 planned old_len new_len first places payload = record {
   head = record { old_len = old_len; new_len = new_len; first = first; places = places };
   payload = payload;
 }
 
--- the plan that is kept so
+-- the plan that is stored as `octets`
 abbrev pub planned_in : ℕ → ℕ → List ℕ → List Place → List ℕ → Planned
 planned_in old_len new_len first places octets = planned old_len new_len first places (drop (HEAD - 1) octets)
 
--- It may be made, and these octets are its record's.
+-- The plan may be made, and `octets` are the bytes of its record.
 pub record IsRecorded (p : Planned) (octets : List ℕ) : Type 0 where
   pub plan : IsPlan p
   pub is : octets ≡ body_of p

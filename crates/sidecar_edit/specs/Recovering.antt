@@ -1,4 +1,4 @@
--- What recovering a file makes of it and its sidecar, and what a crash may leave on the way.
+-- The results of recovering a file with its journal, and the contents that a crash may leave.
 use Rattle.std.specs.Prelude.{◌≡◌, ℕ, List, [], ◌∷◌, Result, Ok, Err}
 use Rattle.mkv_io.specs.Sources.{file_size}
 use Rattle.mkv_io.specs.declared.reads.Reads as reads
@@ -16,30 +16,30 @@ use Rattle.sidecar_edit.specs.declared.outcome.RecoverEnd.TheVariants.{DiskFault
 use Rattle.sidecar_edit.specs.Recovery.{recovered, recovery}
 use Rattle.sidecar_edit.specs.Leaves.{IsRedoing}
 
--- These are the first octets of the pair's sidecar, which is live.
+-- The bytes `head` are the first bytes of the pair's journal, which has a pending edit.
 pub record IsHeadOf {D : Type 0} (r : reads.Ghosts D) (d : Ghosts D) (disk : D) (head : List ℕ) : Type 0 where
   pub sound : IsLiveHead head (file_size r disk SIDECAR)
   pub its : OfReads d disk (λ M S. (head ≡ head_of S) × (state S ≡ Live))
 
--- The answer is what recovering this file beside this sidecar comes to, unless the disk failed. Where the edit was applied,
--- the file is the one that the two stand for, beside a closed gate, and nothing is pending.
+-- The result is the result of recovering the file `M` with the journal `S`, unless the disk failed. If an edit was applied, the file is the
+-- recovered one, the gate is closed, and nothing is pending.
 abbrev pub IsRecovered : List ℕ → List ℕ → Result Recovered RecoverEnd → Pair → Type 0
 IsRecovered M S (Err DiskFault) p = Unit {0}
 IsRecovered M S (Ok Applied) p = (recovery M S ≡ Ok Applied) × (p ≡ both (recovered M S) (0 ∷ []))
 IsRecovered M S other p = recovery M S ≡ other
 
--- Nothing is changed, where no edit was applied and the disk didn't fail.
+-- Nothing is changed, unless an edit was applied or the disk failed.
 abbrev pub KeepsUnlessApplied : {T : Type 0} → Result Recovered RecoverEnd → T → T → Type 0
 KeepsUnlessApplied (Err DiskFault) old new = Unit {0}
 KeepsUnlessApplied (Ok Applied) old new = Unit {0}
 KeepsUnlessApplied other old new = new ≡ old
 
--- While an edit is redone, the two stand for what they stood for; else a crash leaves them as they were.
+-- While an edit is redone, the two files recover to the same file. Otherwise a crash leaves them as they were.
 abbrev pub LeftBy : Result Recovered RecoverEnd → List ℕ → List ℕ → List ℕ → List ℕ → Type 0
 LeftBy (Ok Applied) M S m s = IsRedoing M S m s
 LeftBy (Ok Nothing) M S m s = (m ≡ M) × (s ≡ S)
 LeftBy (Err end) M S m s = (m ≡ M) × (s ≡ S)
 
--- What a crash may leave of a file M beside a sidecar S while they are recovered.
+-- The contents `m` and `s` are what a crash may leave of the file `M` and the journal `S` while they are recovered.
 abbrev pub IsRecovering : List ℕ → List ℕ → List ℕ → List ℕ → Type 0
 IsRecovering M S m s = LeftBy (recovery M S) M S m s

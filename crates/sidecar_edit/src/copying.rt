@@ -1,4 +1,4 @@
-//! Octets of the sidecar are copied to the medium.
+//! Bytes of the journal are copied to the file.
 
 ghost use Rattle.std.specs.Prelude.{◌≡◌, ◌<◌, ◌≤◌, ◌+◌, ◌^◌, ℕ, length, min, OnOk, IsTrue};
 ghost use Rattle.mkv_io.specs.Faults.{is_failure};
@@ -11,11 +11,11 @@ use crate::place::Place;
 use mkv_disk::{Disk, MEDIA, SIDECAR};
 use mkv_io::Failed;
 
-/// At most so many octets are copied at once.
+/// Maximum number of bytes that are copied at once.
 const PIECE: u64 = 4096;
 
-/// Copies octets of the sidecar, from `from` octets behind its first on, to a place of the medium. They are
-/// made sure of by the next sync.
+/// Copies bytes of the journal from the offset `from` to the place `place` of the file. They are safe only after the
+/// next sync.
 pub fn copy<D: Disk>(disk: &mut D, from: u64, place: Place) -> Result<(), Failed>
     requires live { IsLive D.Reads disk.old MEDIA × IsLive D.Reads disk.old SIDECAR }
     requires range { from + place.len ≤ file_size D.Reads disk.old SIDECAR }
@@ -38,7 +38,7 @@ pub fn copy<D: Disk>(disk: &mut D, from: u64, place: Place) -> Result<(), Failed
     Ok(())
 }
 
-/// Copies as many octets as `part` holds.
+/// Copies the bytes that fit `part` from the offset `from` of the journal to the offset `at` of the file.
 fn copy_piece<D: Disk>(disk: &mut D, from: u64, at: u64, part: &mut [u8]) -> Result<(), Failed>
     requires live { IsLive D.Reads disk.old MEDIA × IsLive D.Reads disk.old SIDECAR }
     requires range { from + length part.old ≤ file_size D.Reads disk.old SIDECAR }

@@ -17,7 +17,7 @@ use crate::plan::Plan;
 use mkv_disk::{Disk, MEDIA, SIDECAR};
 use mkv_io::Failed;
 
-/// Writes the record of a plan behind the gate of a settled sidecar, and makes sure of it.
+/// Writes the record of `plan` after the gate of a settled journal, and syncs it.
 fn write_record<D: Disk>(plan: &Plan, disk: &mut D) -> Result<(), Failed>
     requires live { IsLive D.Reads disk.old SIDECAR }
     requires settled { IsTrue D.told → D.pair disk.old ≡ both (D.pair disk.old).media.reads (0 ∷ []) }
@@ -31,7 +31,7 @@ fn write_record<D: Disk>(plan: &Plan, disk: &mut D) -> Result<(), Failed>
     disk.sync(SIDECAR)
 }
 
-/// Makes the writes of a plan, and makes sure of them.
+/// Makes the writes of `plan` in the file, and syncs them.
 fn write_media<D: Disk>(plan: &Plan, disk: &mut D) -> Result<(), Failed>
     requires live { IsLive D.Reads disk.old MEDIA }
     requires at_rest { AtRest D.Disk.own disk.old }
@@ -50,8 +50,8 @@ fn write_media<D: Disk>(plan: &Plan, disk: &mut D) -> Result<(), Failed>
     disk.sync(MEDIA)
 }
 
-/// Makes the edit of a plan beside a settled sidecar. A crash at any moment leaves two files that stand for
-/// the medium as it was or as it is to be, and beside a live record that is exactly the plan's.
+/// Makes the edit of `plan` with a settled journal. A crash at any moment leaves two files that recover to the file
+/// before or after the edit. If the journal has a pending edit then, it is exactly the plan's.
 pub fn commit<D: Disk>(plan: &Plan, disk: &mut D) -> Result<(), DiskFault>
     requires live { (IsLive D.Reads disk.old MEDIA) × (IsLive D.Reads disk.old SIDECAR) }
     requires settled { IsTrue D.told → D.pair disk.old ≡ both (D.pair disk.old).media.reads (0 ∷ []) }
@@ -69,7 +69,7 @@ pub fn commit<D: Disk>(plan: &Plan, disk: &mut D) -> Result<(), DiskFault>
     Ok(())
 }
 
-/// The disk failed.
+/// Failure of the disk.
 #[derive(Clone, Copy, Debug, PartialEq, Eq)]
 pub struct DiskFault;
 

@@ -1,4 +1,4 @@
-//! Whether the file beside a live record is the one that the record was made for.
+//! Checks that the file beside a pending journal is the one that the record was made for.
 
 ghost use Rattle.std.specs.Prelude.{◌≡◌, ◌≢◌, ◌≤◌, ◌<◌, ℕ, ◌+◌, ◌&&◌, ◌||◌, nat_le, nat_lt, min, length, slice_index, Option, IfSome, false};
 ghost use Rattle.sidecar_edit.specs.Fields.{count_in, new_len_in, old_len_in, used_in, version_in};
@@ -8,14 +8,14 @@ use crate::head::{number_at, place_in};
 use crate::outcome::{Mark, RecoverEnd};
 use crate::place::{HEAD, HEAD_1, KEPT, MAX_WRITES, Place};
 
-/// Whether a write writes an octet.
+/// Checks whether a write at `place` changes the byte at the offset `k`.
 fn touches(place: Place, k: u64) -> bool
     ensures { result ≡ (nat_le place.at k && nat_lt k (place.at + place.len)) }
 {
     place.at <= k && u128::from(k) < u128::from(place.at) + u128::from(place.len)
 }
 
-/// Whether a write of a record writes an octet.
+/// Checks whether a write of the record in `head` changes the byte at the offset `k`.
 fn is_touched(head: &[u8], k: u64) -> bool
     requires long { HEAD_1 ≤ length head.now }
     requires few { count_in head.now ≤ MAX_WRITES }
@@ -30,14 +30,14 @@ fn is_touched(head: &[u8], k: u64) -> bool
     false
 }
 
-/// An octet of a file's first ones, 0 past their end.
+/// Returns the byte at the offset `k` of `media`, the file's first bytes, or 0 after their end.
 fn octet_at(media: &[u8], k: usize) -> u8
     ensures { result ≡ slice_index media.now k }
 {
     media.get(k).copied().unwrap_or(0)
 }
 
-/// Whether an octet that the edit doesn't change isn't the one that is kept.
+/// Checks whether the byte at the offset `k`, which the edit doesn't change, differs from the byte in the record.
 fn differs(head: &[u8], media: &[u8], k: usize) -> bool
     requires head { length head.now ≡ HEAD }
     requires few { count_in head.now ≤ MAX_WRITES }
@@ -49,7 +49,7 @@ fn differs(head: &[u8], media: &[u8], k: usize) -> bool
         && octet_at(media, k) != head[168 + k]
 }
 
-/// Where a file's first octets differ from what is kept of them.
+/// Returns the refusal for the first byte that differs from the record, if any.
 fn octet_mark(head: &[u8], media: &[u8]) -> Option<RecoverEnd>
     requires head { length head.now ≡ HEAD }
     requires few { count_in head.now ≤ MAX_WRITES }
@@ -67,7 +67,7 @@ fn octet_mark(head: &[u8], media: &[u8]) -> Option<RecoverEnd>
     None
 }
 
-/// Whether a file's length is none that the edit passes through.
+/// Checks whether `size` is a length that the file can't have before, during or after the edit.
 fn has_other_length(head: &[u8], size: u64) -> bool
     requires { HEAD_1 + 8 ≤ length head.now }
     ensures { result ≡ (nat_lt size (old_len_in head.now) || nat_lt (new_len_in head.now) size) }
@@ -75,7 +75,8 @@ fn has_other_length(head: &[u8], size: u64) -> bool
     size < number_at(head, 160) || number_at(head, 16) < size
 }
 
-/// By what a file of so many octets, with these first ones, differs from that of a record of version 2.
+/// Returns the refusal if a file of `size` bytes with the first bytes `media` isn't the file of a record of version
+/// 2.
 fn foreign_of(head: &[u8], size: u64, media: &[u8]) -> Option<RecoverEnd>
     requires head { length head.now ≡ HEAD }
     requires few { count_in head.now ≤ MAX_WRITES }
@@ -91,14 +92,15 @@ fn foreign_of(head: &[u8], size: u64, media: &[u8]) -> Option<RecoverEnd>
     octet_mark(head, media)
 }
 
-/// Whether a write begins no farther than an end.
+/// Checks whether a write begins at `end` or before.
 fn begins_within(place: Place, end: u128) -> bool
     ensures { result ≡ nat_le place.at end }
 {
     u128::from(place.at) <= end
 }
 
-/// Where a record of version 1 begins to write past the end of a file of so many octets.
+/// Returns the refusal if a write of a record of version 1 begins after the end of a file of `size` bytes and the
+/// earlier writes.
 fn gap_of(head: &[u8], size: u64) -> Option<RecoverEnd>
     requires long { HEAD_1 ≤ length head.now }
     requires few { count_in head.now ≤ MAX_WRITES }
@@ -117,7 +119,8 @@ fn gap_of(head: &[u8], size: u64) -> Option<RecoverEnd>
     None
 }
 
-/// What keeps the writes of a live record from being made in a file of so many octets, with these first ones.
+/// Returns the refusal if the writes of a pending record don't fit a file of `size` bytes with the first bytes
+/// `media`.
 pub fn unfit(head: &[u8], size: u64, media: &[u8]) -> Option<RecoverEnd>
     requires long { HEAD_1 ≤ length head.now }
     requires few { count_in head.now ≤ MAX_WRITES }

@@ -1,4 +1,4 @@
-//! The gate of a sidecar, its first octet, and what stands behind it.
+//! The gate of a journal, its first byte, and the record after it.
 
 ghost use Rattle.std.specs.Prelude.{◌≡◌, ◌≤◌, ℕ, [], ◌∷◌, length, drop, take, OnOk, IsTrue};
 ghost use Rattle.mkv_io.specs.Faults.{HasCause, is_failure};
@@ -12,7 +12,7 @@ ghost use Rattle.sidecar_edit.specs.Leaves.{IsGated};
 use mkv_disk::{Disk, SIDECAR};
 use mkv_io::Failed;
 
-/// Writes the gate, and makes sure of it.
+/// Writes the gate, and syncs it.
 pub fn set_gate<D: Disk>(disk: &mut D, gate: u8) -> Result<(), Failed>
     requires live { IsLive D.Reads disk.old SIDECAR }
     requires at_rest { AtRest D.Disk.own disk.old }
@@ -25,7 +25,7 @@ pub fn set_gate<D: Disk>(disk: &mut D, gate: u8) -> Result<(), Failed>
     disk.sync(SIDECAR)
 }
 
-/// Cuts a sidecar whose gate is closed to its gate, and makes sure of it.
+/// Truncates a journal with a closed gate to its gate, and syncs it.
 pub fn cut_down<D: Disk>(disk: &mut D) -> Result<(), Failed>
     requires live { IsLive D.Reads disk.old SIDECAR }
     requires at_rest { AtRest D.Disk.own disk.old }
@@ -39,7 +39,7 @@ pub fn cut_down<D: Disk>(disk: &mut D) -> Result<(), Failed>
     disk.sync(SIDECAR)
 }
 
-/// Closes the gate, and cuts the sidecar to it.
+/// Closes the gate, and truncates the journal to it.
 pub fn close<D: Disk>(disk: &mut D) -> Result<(), Failed>
     requires live { IsLive D.Reads disk.old SIDECAR }
     requires at_rest { AtRest D.Disk.own disk.old }
@@ -52,8 +52,8 @@ pub fn close<D: Disk>(disk: &mut D) -> Result<(), Failed>
     cut_down(disk)
 }
 
-/// Makes of a quiet sidecar one octet, a closed gate. A longer one is cut first: behind a gate that is torn
-/// open, an older record would count.
+/// Turns a journal without a pending edit into one byte, a closed gate. A longer journal is truncated first: after a
+/// torn write of the gate, an older record would count.
 pub fn settle<D: Disk>(disk: &mut D) -> Result<(), Failed>
     requires live { IsLive D.Reads disk.old SIDECAR }
     requires at_rest { AtRest D.Disk.own disk.old }

@@ -1,4 +1,4 @@
-//! What a sidecar's first octets say.
+//! Fields of a journal's first bytes.
 
 ghost use Rattle.std.specs.Prelude.{◌≡◌, ◌≤◌, ◌<◌, ◌+◌, ◌*◌, ◌^◌, ◌&&◌, ◌==◌, nat_le, length, min};
 ghost use Rattle.sidecar_edit.specs.Fields.{count_in, head_len, last_end, number_at, place_in, places_in, sum_of, total_in, used_in, version_in};
@@ -8,7 +8,7 @@ use crate::held::Gate;
 use crate::place::{HEAD, HEAD_1, KEPT, MAX_OCTETS, MAX_WRITES, OPEN, Place};
 use byteorder::{BigEndian, ByteOrder};
 
-/// A number of eight octets.
+/// Returns the number in the eight bytes from the offset `at`.
 #[tactic(auto, unfolding(crate::specs::Fields::number_at))]
 pub fn number_at(head: &[u8], at: usize) -> u64
     requires { at + 8 ≤ length head.now }
@@ -17,7 +17,7 @@ pub fn number_at(head: &[u8], at: usize) -> u64
     BigEndian::read_u64(&head[at..])
 }
 
-/// The place of a write, from 0.
+/// Returns the place of the write number `k`, counted from 0.
 pub fn place_in(head: &[u8], k: usize) -> Place
     requires { 48 + 16 * k ≤ length head.now }
     ensures { result ≡ place_in head.now k }
@@ -28,7 +28,7 @@ pub fn place_in(head: &[u8], k: usize) -> Place
     }
 }
 
-/// How many writes a record has.
+/// Returns the number of writes of the record.
 pub fn count_in(head: &[u8]) -> usize
     requires { HEAD_1 ≤ length head.now }
     ensures { result ≡ count_in head.now }
@@ -36,7 +36,7 @@ pub fn count_in(head: &[u8]) -> usize
     usize::from(head[25])
 }
 
-/// How many octets stand before those of the writes.
+/// Returns the number of bytes before the bytes of the writes.
 pub fn head_len(head: &[u8]) -> u64
     requires { HEAD_1 ≤ length head.now }
     ensures { result ≡ head_len (version_in head.now) }
@@ -44,7 +44,7 @@ pub fn head_len(head: &[u8]) -> u64
     if head[24] == 1 { HEAD_1 } else { HEAD }
 }
 
-/// How many octets the writes write.
+/// Returns the number of bytes that the writes write.
 #[tactic(auto, using(crate::proofs::ReadingLemmas::sum_next))]
 fn sum_in(head: &[u8]) -> u128
     requires long { HEAD_1 ≤ length head.now }
@@ -58,7 +58,7 @@ fn sum_in(head: &[u8]) -> u128
     sum
 }
 
-/// Where the last write ends.
+/// Returns the offset of the end of the last write.
 #[tactic(auto, using(crate::proofs::ReadingLemmas::end_next))]
 fn end_in(head: &[u8]) -> u128
     requires long { HEAD_1 ≤ length head.now }
@@ -79,7 +79,7 @@ fn are_zeros(octets: &[u8]) -> bool
     octets.iter().all(|&octet| octet == 0)
 }
 
-/// The file's length before the edit, where the record has it and the sidecar is long enough for it.
+/// Returns the file's length before the edit, if the record has it and the journal is long enough for it.
 fn old_len_of(head: &[u8]) -> Option<u64>
     requires { HEAD_1 ≤ length head.now }
     ensures { result ≡ old_len_of head.now }
@@ -91,7 +91,7 @@ fn old_len_of(head: &[u8]) -> Option<u64>
     }
 }
 
-/// Whether the record's length is that of what stands in it, and it writes at most 16 MiB.
+/// Checks whether the record's length is the sum of its parts, and its writes have at most 16 MiB.
 fn is_total(head: &[u8]) -> bool
     requires long { HEAD_1 ≤ length head.now }
     requires few { count_in head.now ≤ MAX_WRITES }
@@ -102,7 +102,7 @@ fn is_total(head: &[u8]) -> bool
         && u128::from(number_at(head, 8)) == u128::from(head_len(head)) + sum
 }
 
-/// Whether the length after the edit is right.
+/// Checks whether the length after the edit is right.
 fn is_new_len(head: &[u8]) -> bool
     requires long { HEAD_1 ≤ length head.now }
     requires few { count_in head.now ≤ MAX_WRITES }
@@ -116,7 +116,7 @@ fn is_new_len(head: &[u8]) -> bool
     }
 }
 
-/// Whether the octets past the end of a file that has fewer than are kept are zero.
+/// Checks whether the record has zeros after the end of a file that is shorter than its kept bytes.
 fn is_padded(head: &[u8]) -> bool
     requires { HEAD_1 ≤ length head.now }
     ensures { result ≡ is_padded head.now }
@@ -129,7 +129,7 @@ fn is_padded(head: &[u8]) -> bool
     are_zeros(&first[old_len as usize..])
 }
 
-/// Whether a place that is used has octets, begins no sooner than the one before it ends, and is joined.
+/// Checks whether a used place has bytes, begins at the end of the previous one or after it, and leaves no gap.
 fn is_used(place: Place, from: u128, old_len: Option<u64>) -> bool
     ensures { result ≡ (nat_le 1 place.len && nat_le from place.at && is_joined old_len from place) }
 {
@@ -140,14 +140,14 @@ fn is_used(place: Place, from: u128, old_len: Option<u64>) -> bool
     place.len >= 1 && from <= u128::from(place.at) && joined
 }
 
-/// Whether a place is as one that isn't used.
+/// Checks whether a place is zero, as an unused one must be.
 fn is_zero(place: Place) -> bool
     ensures { result ≡ ((place.at == 0) && (place.len == 0)) }
 {
     place.at == 0 && place.len == 0
 }
 
-/// The first octet to which a breach of the rules of places is laid.
+/// Returns the offset of the first place that breaks a rule, if any.
 fn place_breach(head: &[u8], old_len: Option<u64>) -> Option<u64>
     requires long { HEAD_1 ≤ length head.now }
     requires few { count_in head.now ≤ MAX_WRITES }
@@ -164,7 +164,7 @@ fn place_breach(head: &[u8], old_len: Option<u64>) -> Option<u64>
     unused_breach(head)
 }
 
-/// The same of the places that aren't used.
+/// Returns the offset of the first unused place that isn't zero, if any.
 fn unused_breach(head: &[u8]) -> Option<u64>
     requires long { HEAD_1 ≤ length head.now }
     requires few { count_in head.now ≤ MAX_WRITES }
@@ -179,7 +179,7 @@ fn unused_breach(head: &[u8]) -> Option<u64>
     None
 }
 
-/// The first octet to which a breach of the record's rules is laid.
+/// Returns the offset of the first field that breaks a rule of the record, if any.
 pub fn first_breach(head: &[u8]) -> Option<u64>
     requires { HEAD_1 ≤ length head.now }
     ensures { result ≡ first_breach (rules_of head.now) }
@@ -197,7 +197,7 @@ pub fn first_breach(head: &[u8]) -> Option<u64>
     counted_breach(head)
 }
 
-/// The same of the rules that count writes.
+/// Returns the same for the rules that depend on the number of writes.
 fn counted_breach(head: &[u8]) -> Option<u64>
     requires long { HEAD_1 ≤ length head.now }
     requires few { count_in head.now ≤ MAX_WRITES }
@@ -219,7 +219,7 @@ fn counted_breach(head: &[u8]) -> Option<u64>
     }
 }
 
-/// What a sidecar of so many octets holds, by the first of them.
+/// Returns the state of a journal of `size` bytes by its first bytes `head`.
 pub fn gate_of(head: &[u8], size: u64) -> Gate
     requires { length head.now ≡ min HEAD size }
     ensures exact { result ≡ gate_of head.now size }

@@ -1,15 +1,15 @@
-//! What a sidecar holds.
+//! State of a journal.
 
-/// What a sidecar holds.
+/// State of a journal.
 #[derive(Clone, Copy, Debug, PartialEq, Eq)]
 pub enum Gate {
-    /// An edit that was begun, and is to be redone.
+    /// Pending edit, which must be redone.
     Live,
-    /// Nothing that counts.
+    /// No pending edit.
     Quiet,
-    /// The gate is open, and no record stands behind it.
+    /// Open gate without a valid record.
     Bad {
-        /// Octets from the start of the sidecar to what is wrong first.
+        /// Offset in bytes of the first error from the start of the journal.
         offset: u64,
     },
 }

@@ -1,7 +1,7 @@
 #![tactic(auto)]
 
-//! Edits of a file in place, beside a sidecar with the record of the edit: a stop at any moment leaves a pair that stands
-//! for the file as it was or as it is to be, and that can be recovered. Whether an edit was begun and isn't done is asked here.
+//! Edits of a file in place, with a journal that has the record of the edit. A stop at any moment leaves two files
+//! that recover to the file before or after the edit. This crate also checks whether an edit is pending.
 
 mod copying;
 mod edit;

@@ -1,4 +1,4 @@
-//! The name of a sidecar.
+//! The name of a journal.
 
 ghost use Rattle.std.specs.Prelude.{◌≡◌, IfOk};
 ghost use Rattle.sidecar_edit.specs.Name.{sidecar_of};
@@ -6,10 +6,10 @@ ghost use Rattle.sidecar_edit.specs.Name.{sidecar_of};
 use mkv_io::Text;
 use std::alloc::{AllocError, Global};
 
-/// What stands behind the name of a file in that of its sidecar.
+/// Suffix of a file's name in the name of its journal.
 pub const SUFFIX: &str = ".mkvedit";
 
-/// The name of the sidecar of a file of this name.
+/// Returns the name of the journal of the file `name`.
 pub fn sidecar_name(alloc: Global, name: &str) -> Result<Text, AllocError>
     ensures { IfOk result (λ sidecar. sidecar ≡ sidecar_of name.now) }
 {

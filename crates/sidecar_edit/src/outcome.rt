@@ -1,45 +1,45 @@
-//! What comes of a sidecar.
+//! Results of recovering a file.
 
 ghost use Rattle.std.specs.Prelude.{◌≡◌};
 ghost use Rattle.sidecar_edit.specs.declared.outcome.RecoverEnd.TheVariants as recover_end;
 
 use mkv_io::Failed;
 
-/// By what a file is told from the one that a record was made for.
+/// Difference between a file and the file that a record was made for.
 #[derive(Clone, Copy, Debug, PartialEq, Eq)]
 pub enum Mark {
-    /// Its length, in octets.
+    /// Length in bytes.
     Length,
-    /// An octet that the edit doesn't change.
+    /// Byte that the edit doesn't change.
     Octet {
-        /// Octets from the start of the file to it.
+        /// Offset in bytes from the start of the file.
         at: u64,
     },
 }
 
-/// What was done to recover a file.
+/// Success of recovering a file.
 #[derive(Clone, Copy, Debug, PartialEq, Eq)]
 pub enum Recovered {
-    /// The edit was made whole.
+    /// The edit was completed.
     Applied,
-    /// No edit had been begun.
+    /// No edit was pending.
     Nothing,
 }
 
-/// Why a file isn't recovered.
+/// Reason why a file isn't recovered.
 #[derive(Clone, Copy, Debug, PartialEq, Eq)]
 pub enum RecoverEnd {
-    /// The sidecar holds no record where it should, or one whose writes leave a gap behind the file.
+    /// The journal should have a record and has no valid one, or its writes leave a gap after the file.
     BadSidecar {
-        /// Octets from the start of the sidecar to what is wrong first.
+        /// Offset in bytes of the first error from the start of the journal.
         offset: u64,
     },
     /// The record was made for another file.
     Foreign {
         mark: Mark,
-        /// The file's length before the edit, or the octet that is kept.
+        /// Length of the file before the edit, or byte in the record.
         kept: u64,
-        /// The length or the octet that is found.
+        /// Length or byte of the file that was found.
         found: u64,
     },
     /// The disk failed.

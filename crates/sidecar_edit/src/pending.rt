@@ -1,4 +1,4 @@
-//! The sidecar of a file is looked into.
+//! A look at the journal of a file.
 
 ghost use Rattle.std.specs.Prelude.{◌≡◌, [], ◌∷◌, IfOk};
 ghost use Rattle.mkv_io.specs.Bounds.{ReadsUpTo};
@@ -14,8 +14,8 @@ use crate::reading::state;
 use mkv_io::{Files, OpenFault, ReadEnd};
 use std::alloc::Global;
 
-/// Whether an edit of the file of a name is pending. A sidecar that isn't there has none; one that can't be opened or
-/// read is a `ReadFault`.
+/// Checks whether an edit of the file `name` is pending. No edit is pending if there is no journal. A journal that
+/// can't be opened or read is a `ReadFault`.
 pub fn is_pending<F: Files>(alloc: Global, name: &str, files: &mut F) -> Result<bool, ReadEnd>
     ensures exact { IfVisible (F.names files.old) (λ world. IfOk result (λ pending. pending ≡ is_pending world name.now)) }
     ensures looks { LooksOnly F.Reads F.Files.own (sidecar_of name.now ∷ []) files.old files.new }
@@ -34,7 +34,7 @@ pub fn is_pending<F: Files>(alloc: Global, name: &str, files: &mut F) -> Result<
     Ok(is_begun(held?))
 }
 
-/// Whether a sidecar holds an edit that is to be redone.
+/// Checks whether the state is a pending edit.
 fn is_begun(held: Gate) -> bool
     ensures { result ≡ is_begun held }
 {

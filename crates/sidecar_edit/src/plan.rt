@@ -11,15 +11,15 @@ use std::marker::Model;
 
 const ZEROS: [u8; KEPT as usize] = [0; KEPT as usize];
 
-/// What is written over a file, as the record of it that stands in a sidecar. The record knows the file by its
-/// length and its first octets, and holds what is written, and no copy of the file.
+/// Writes over a file, as the record of a journal. The record identifies the file by its length and its first bytes.
+/// It has the bytes that are written, and no copy of the file.
 #[derive(Debug, Drop)]
 pub struct Plan {
     old_len: u64,
     new_len: u64,
     first: Bytes,
     places: Vec<Place>,
-    /// The record from the gate's end on.
+    /// Bytes of the record after the gate.
     octets: Bytes,
 }
 
@@ -35,8 +35,8 @@ impl Model for Plan {
 }
 
 impl Plan {
-    /// A plan of writes at these places, of these octets in order, over a file of a length, which is then
-    /// another, and with these first octets.
+    /// Returns a plan of writes at `places`, with the bytes `payload` in order. The file has the length `old_len`
+    /// before and `new_len` after, and the first bytes `first`.
     pub fn new(
         alloc: Global,
         old_len: u64,
@@ -67,21 +67,21 @@ impl Plan {
         })
     }
 
-    /// How many writes there are.
+    /// Returns the number of writes.
     pub fn count(&self) -> usize
         ensures { result ≡ length self.now.head.places }
     {
         self.places.len()
     }
 
-    /// Where they write, in order.
+    /// Returns the places of the writes, in order.
     pub fn places(&self) -> &[Place]
         ensures { result.now ≡ self.now.head.places }
     {
         self.places.as_slice()
     }
 
-    /// What they write, one's octets behind the other's.
+    /// Returns the bytes of all writes, concatenated.
     pub fn payload(&self) -> &[u8]
         ensures same { result.now ≡ self.now.payload }
         ensures full { length result.now ≡ sum_of self.now.head.places }
@@ -89,7 +89,7 @@ impl Plan {
         &self.octets.as_slice()[HEAD as usize - 1..]
     }
 
-    /// What stands in the sidecar behind the gate.
+    /// Returns the bytes of the journal after the gate.
     pub fn body(&self) -> &[u8]
         ensures same { result.now ≡ body_of self.now }
         ensures sound { IsPlan self.now }
@@ -97,14 +97,14 @@ impl Plan {
         self.octets.as_slice()
     }
 
-    /// The file's length in octets after it.
+    /// Returns the length of the file after the edit, in bytes.
     pub fn new_len(&self) -> u64
         ensures { result ≡ self.now.head.new_len }
     {
         self.new_len
     }
 
-    /// The file's first octets before the edit, 64 or as many as it has.
+    /// Returns the file's first bytes before the edit: 64, or all if it has fewer.
     pub fn first(&self) -> &[u8]
         ensures { result.now ≡ self.now.head.first }
     {
@@ -112,7 +112,7 @@ impl Plan {
     }
 }
 
-/// Adds what stands before the places of so many writes, in a record of so many octets.
+/// Appends the bytes before the places of `count` writes, in a record of `total` bytes.
 fn append_front(octets: &mut Bytes, total: u64, new_len: u64, count: u8) -> Result<(), AllocError>
     ensures { OnOk result (octets.new ≡ octets.old ++ front_octets total new_len count) }
 {
@@ -123,7 +123,7 @@ fn append_front(octets: &mut Bytes, total: u64, new_len: u64, count: u8) -> Resu
     Ok(())
 }
 
-/// Adds the eight places, of which those that aren't used are zero.
+/// Appends the eight places; unused ones are zero.
 fn append_places(octets: &mut Bytes, places: &[Place]) -> Result<(), AllocError>
     ensures { OnOk result (octets.new ≡ octets.old ++ slots MAX_WRITES places.now) }
 {
@@ -133,7 +133,7 @@ fn append_places(octets: &mut Bytes, places: &[Place]) -> Result<(), AllocError>
     Ok(())
 }
 
-/// Adds the k-th place, zeros where there are not so many.
+/// Appends the place number `k`, or zeros if there are fewer.
 fn append_place(octets: &mut Bytes, places: &[Place], k: usize) -> Result<(), AllocError>
     ensures { OnOk result (octets.new ≡ octets.old ++ slot places.now k) }
 {
@@ -143,7 +143,7 @@ fn append_place(octets: &mut Bytes, places: &[Place], k: usize) -> Result<(), Al
     Ok(())
 }
 
-/// The zeros past the end of a file that has fewer octets than are kept.
+/// Returns the zeros after the end of a file that is shorter than the kept bytes.
 fn zeros_behind(first: &[u8]) -> &'static [u8]
     requires { length first.now ≤ KEPT }
     ensures { result.now ≡ zeros (KEPT - length first.now) }
@@ -151,7 +151,7 @@ fn zeros_behind(first: &[u8]) -> &'static [u8]
     &ZEROS[first.len()..]
 }
 
-/// Adds what the record knows the file by: its length before the edit, and its first octets.
+/// Appends the bytes that identify the file: its length before the edit, and its first bytes.
 fn append_marks(octets: &mut Bytes, old_len: u64, first: &[u8]) -> Result<(), AllocError>
     requires { length first.now ≤ KEPT }
     ensures { OnOk result (octets.new ≡ octets.old ++ mark_octets old_len first.now) }

@@ -1,4 +1,4 @@
-//! What a sidecar holds, read from a file.
+//! The state of a journal, read from a file.
 
 ghost use Rattle.std.specs.Prelude.{◌≡◌, min, false, IfOk, IfSome, length, take};
 ghost use Rattle.mkv_io.specs.Bounds.{ReadsUpTo};
@@ -16,7 +16,7 @@ use crate::place::{HEAD, KEPT};
 use mkv_disk::{MEDIA, SIDECAR};
 use mkv_io::{Failed, FileId, Reads};
 
-/// Reads a file's first octets, as many as `first` holds or the file has, and answers how many.
+/// Reads the first bytes of a file, up to the length of `first`, and returns their number.
 #[tactic(auto, using(std::proofs::lemmas::List::take_at))]
 pub fn read_first<R: Reads>(src: &mut R, file: FileId, first: &mut [u8]) -> Result<usize, Failed>
     requires { IsLive R.Reads src.old file }
@@ -31,7 +31,7 @@ pub fn read_first<R: Reads>(src: &mut R, file: FileId, first: &mut [u8]) -> Resu
     Ok(count)
 }
 
-/// What a sidecar holds. No memory is taken.
+/// Returns the state of the journal `file`, without allocating.
 pub fn state<R: Reads>(src: &mut R, file: FileId) -> Result<Gate, Failed>
     requires live { IsLive R.Reads src.old file }
     ensures ok { IfOk result (λ gate. IfTold R.Reads src.old file (λ bytes. gate ≡ state bytes)) }
@@ -44,7 +44,7 @@ pub fn state<R: Reads>(src: &mut R, file: FileId) -> Result<Gate, Failed>
     Ok(gate_of(&head[..count], src.size(file)))
 }
 
-/// What keeps the writes of a live sidecar with these first octets from being made in the medium.
+/// Returns the refusal if the writes of a pending journal with the first bytes `head` don't fit the file.
 pub fn unfit_medium<R: Reads>(head: &[u8], src: &mut R) -> Result<Option<RecoverEnd>, Failed>
     requires live { IsLive R.Reads src.old MEDIA }
     requires head { IsLiveHead head.now (file_size R.Reads src.old SIDECAR) }

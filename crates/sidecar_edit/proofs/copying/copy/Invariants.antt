@@ -9,7 +9,7 @@ use Rattle.sidecar_edit.specs.declared.copying.TheConstants.{PIECE}
 use Rattle.sidecar_edit.proofs.CopiesLemmas.{Copied}
 use Rattle.sidecar_edit.proofs.copying.copy.Given as goal
 
--- the first octets are copied
+-- The first bytes are copied.
 abbrev pub invariant-loop-done : goal.invariant-loop-done
 invariant-loop-done g l =
     let old = g.D.Disk.pair l.fn.disk in

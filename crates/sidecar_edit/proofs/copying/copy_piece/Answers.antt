@@ -7,7 +7,7 @@ use Rattle.mkv_io.specs.Contents.{octets_from}
 use Rattle.sidecar_edit.specs.Copies.{with_copy}
 use Rattle.sidecar_edit.proofs.copying.copy_piece.Goals as goal
 
--- reading leaves the pair, and what a crash may leave of it
+-- A read leaves the pair, and the contents that a crash may leave.
 pub returns-clause-any_moment : goal.returns-clause-any_moment
 returns-clause-any_moment g c = λ told.
     let old = c.args.disk.now in let mid = c.read_at.new.self in

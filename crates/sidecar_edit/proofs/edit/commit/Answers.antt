@@ -16,7 +16,7 @@ returns-in_err-set_gate-clause-any_moment g c = λ told.
     opened _ _ g.D.Disk.pair c.args.plan.now _ sound some made _ _ (c.in_ok-write_record.ensures.ok told)
     (recorded _ _ g.D.Disk.pair c.args.plan.now _ sound some made _ (c.write_record.ensures.any_moment told)) (c.set_gate.ensures.any_moment told)
 
--- what stands once the gate is open
+-- the pair once the gate is open
 gate_is_open : (p q : Pair) (M body : List ℕ) → p ≡ both M (0 ∷ body) → q ≡ both p.media.reads (OPEN ∷ drop 1 p.sidecar.reads) → q ≡ both M (OPEN ∷ body)
 gate_is_open p q M body before after = after ∙ ap (λ (r : Pair). both r.media.reads (OPEN ∷ drop 1 r.sidecar.reads)) before
 

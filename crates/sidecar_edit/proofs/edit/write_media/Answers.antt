@@ -19,7 +19,7 @@ loop-place-init g c = record {
   faults = refl;
 }
 
--- the place of a turn is the plan's
+-- The place of a turn is the plan's.
 inside_is : (items ps : List Place) (i : ℕ) → items ≡ ps → i < length items → i < length ps
 inside_is items ps i same inside = let size = ap length same in omega arith
 

@@ -6,7 +6,7 @@ use Rattle.sidecar_edit.specs.Writes.{Torn}
 use Rattle.sidecar_edit.specs.Partly.{IsPartly}
 use Rattle.sidecar_edit.proofs.edit.write_media.Given as goal
 
--- the first writes are made
+-- The first writes are made.
 abbrev pub invariant-loop-place : goal.invariant-loop-place
 invariant-loop-place g l =
     let M = (g.D.Disk.pair l.fn.disk).media.reads in

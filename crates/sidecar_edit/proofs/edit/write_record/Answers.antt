@@ -6,7 +6,7 @@ pub returns-in_err-write_at-clause-any_moment : goal.returns-in_err-write_at-cla
 returns-in_err-write_at-clause-any_moment g c = λ told.
     weaker _ _ _ _ _ _ (λ m s image. record_write_image (g.D.Disk.pair c.args.disk.now) (g.D.Disk.pair c.args.disk.now).media.reads c.body.result.now m s (c.requires.settled told) image) (c.write_at.ensures.any_moment told)
 
--- until the sync, it may be there or not
+-- Until the sync, the record may be there or not.
 pub returns-clause-any_moment : goal.returns-clause-any_moment
 returns-clause-any_moment g c = λ told.
     written_then _ _ g.D.Disk.pair _ _ _ _ _ (λ m s image. record_write_image (g.D.Disk.pair c.args.disk.now) (g.D.Disk.pair c.args.disk.now).media.reads c.body.result.now m s (c.requires.settled told) image)

@@ -6,7 +6,7 @@ use Rattle.sidecar_edit.specs.Recovery.{foreign_of, gap_of, is_disk_fault, unfit
 use Rattle.sidecar_edit.proofs.FitLemmas.{unfit-refused}
 use Rattle.sidecar_edit.proofs.fit.unfit.Goals as goal
 
--- whatever is answered as it should be is no fault of the disk
+-- A result by the definition isn't a failure of the disk.
 refused : (h m : _) (n : _) (o : Option RecoverEnd) → o ≡ unfit h n m → IfSome o (λ end. is_disk_fault end ≡ false)
 refused h m n o is = subst (λ (u : Option RecoverEnd). IfSome u (λ end. is_disk_fault end ≡ false)) (sym is) (unfit-refused h n m)
 

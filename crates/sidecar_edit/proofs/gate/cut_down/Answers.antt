@@ -6,7 +6,7 @@ pub returns-in_err-cut-clause-any_moment : goal.returns-in_err-cut-clause-any_mo
 returns-in_err-cut-clause-any_moment g c = λ told.
     weaker _ _ _ _ _ _ (λ m s image. cut_write_image (g.D.Disk.pair c.args.disk.now) m s (c.requires.at_rest told) (c.requires.closed told).0 (c.requires.closed told).1 image) (c.cut.ensures.any_moment told)
 
--- until the sync, it may be there or not
+-- Until the sync, the truncation may be done or not.
 pub returns-clause-any_moment : goal.returns-clause-any_moment
 returns-clause-any_moment g c = λ told.
     written_then _ _ g.D.Disk.pair _ _ _ _ _ (λ m s image. cut_write_image (g.D.Disk.pair c.args.disk.now) m s (c.requires.at_rest told) (c.requires.closed told).0 (c.requires.closed told).1 image)

@@ -6,7 +6,7 @@ use Rattle.sidecar_edit.specs.Pending.{holds_edit}
 use Rattle.sidecar_edit.proofs.LooksLemmas.{UsesOnly-looked, holds-read}
 use Rattle.sidecar_edit.proofs.pending.is_pending.Goals as goal
 
--- the sidecar was there, and what it holds was read
+-- The journal existed, and its state was read.
 pub returns-clause-exact : goal.returns-clause-exact
 returns-clause-exact g c = λ world told.
     let name = c.as_str.result.now in
@@ -17,7 +17,7 @@ returns-clause-exact g c = λ world told.
     (λ bytes is. c.in_ok-held.ensures.ok bytes (c.in-Ok.ensures.opened.content world told ∙ is))
     ∙ ap (λ (n : List ℕ). holds_edit (world n)) named
 
--- the sidecar was opened, read and closed
+-- The journal was opened, read and closed.
 pub returns-clause-looks : goal.returns-clause-looks
 returns-clause-looks g c =
     let laws = g.met.F.Files in

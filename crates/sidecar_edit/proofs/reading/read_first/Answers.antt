@@ -2,7 +2,7 @@ use Rattle.std.proofs.Common.{◌≡◌, ◌∙◌, min, ap, take, drop, length,
 use Rattle.std.proofs.lemmas.List.{length-take-le, take_at, take_min}
 use Rattle.sidecar_edit.proofs.reading.read_first.Goals as goal
 
--- as many octets are asked for as there are
+-- The number of bytes that are read is the number that there are.
 pub returns-clause-ok : goal.returns-clause-ok
 returns-clause-ok g c = λ bytes told.
     let n = length c.args.first.now in

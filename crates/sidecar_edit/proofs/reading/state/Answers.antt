@@ -3,7 +3,7 @@ use Rattle.sidecar_edit.specs.Fields.{head_of}
 use Rattle.sidecar_edit.specs.Gate.{gate_of}
 use Rattle.sidecar_edit.proofs.reading.state.Goals as goal
 
--- the first octets that were read are all that a state hangs on
+-- The state depends only on the first bytes that were read.
 pub returns-clause-ok : goal.returns-clause-ok
 returns-clause-ok g c = λ bytes told.
     let size = g.met.R.Reads.told_size (g.R.Reads.standing c.args.src.now) c.args.file.n bytes told in

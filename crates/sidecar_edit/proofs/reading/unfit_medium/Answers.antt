@@ -3,7 +3,7 @@ use Rattle.sidecar_edit.specs.declared.place.TheConstants.{KEPT}
 use Rattle.sidecar_edit.specs.Recovery.{unfit}
 use Rattle.sidecar_edit.proofs.reading.unfit_medium.Goals as goal
 
--- the first octets and the length are all that it hangs on
+-- The refusal depends only on the first bytes and the length.
 pub returns-clause-ok : goal.returns-clause-ok
 returns-clause-ok g c = λ bytes told.
     let head = c.args.head.now in

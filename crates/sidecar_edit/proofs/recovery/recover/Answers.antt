@@ -11,7 +11,7 @@ use Rattle.sidecar_edit.proofs.RecoverLemmas.{recovering-after, recovering-reads
 use Rattle.sidecar_edit.proofs.recovery.recover.Given.{Over}
 use Rattle.sidecar_edit.proofs.recovery.recover.Goals as goal
 
--- what reading leaves
+-- A read leaves the state.
 stands : (g : Over) (old new : g.row.D.Denot) → g.D.Reads.standing new ≡ g.D.Reads.standing old → IsLeft g.D.Reads g.D.Disk old new
 stands g old new same = record {
   standing = same;
@@ -23,7 +23,7 @@ stands g old new same = record {
   writing = g.met.D.Disk.writing_stands new old same;
 }
 
--- ---- reading leaves all as it was
+-- ---- a read leaves everything unchanged
 
 pub returns-in_err-count-clause-any_moment : goal.returns-in_err-count-clause-any_moment
 returns-in_err-count-clause-any_moment g c = λ told.
@@ -40,7 +40,7 @@ returns-in-Bad-clause-any_moment g c = λ told.
     let a = c.args.disk.now in let b = c.read_first.new.src in
     recovering-reads g.D.Reads g.D.Disk a b (stands g a b c.read_first.ensures.only.standing) (c.requires.at_rest told) (λ m s left. g.met.D.Disk.only_now a m s told left)
 
--- ---- what the sidecar holds is read off its first octets
+-- ---- the state depends on the first bytes
 
 pub returns-in-Quiet-clause-ok : goal.returns-in-Quiet-clause-ok
 returns-in-Quiet-clause-ok g c = λ told.
@@ -81,7 +81,7 @@ redo_own-requires-clause-head g c =
           (its, state-read S (take c.in_ok-count.count c.read_first.new.first) c.size.result Live its len (sym c.in-Live.is ∙ c.gate_of.ensures.exact));
     }
 
--- ---- a live sidecar, behind the read
+-- ---- a pending journal, after the read
 
 pub returns-in-Live-clause-ok : goal.returns-in-Live-clause-ok
 returns-in-Live-clause-ok g c = λ told.

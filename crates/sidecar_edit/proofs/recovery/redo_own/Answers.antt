@@ -13,7 +13,7 @@ use Rattle.sidecar_edit.proofs.RecoverLemmas.{fault-told, left-head, recovered-r
 use Rattle.sidecar_edit.proofs.recovery.redo_own.Given.{Over}
 use Rattle.sidecar_edit.proofs.recovery.redo_own.Goals as goal
 
--- what reading leaves
+-- A read leaves the state.
 stands : (g : Over) (old new : g.row.D.Denot) → g.D.Reads.standing new ≡ g.D.Reads.standing old → IsLeft g.D.Reads g.D.Disk old new
 stands g old new same = record {
   standing = same;
@@ -65,7 +65,7 @@ returns-in-Some-clause-cause g c =
 
 -- ---- an edit that is redone
 
--- the record is the medium's own
+-- The record belongs to the file.
 applies : (old mid : Pair) → mid ≡ old → (head : List ℕ) (end : Option RecoverEnd) → (head ≡ head_of old.sidecar.reads) × (state old.sidecar.reads ≡ Live)
     → end ≡ unfit head (length old.media.reads) (take KEPT old.media.reads) → end ≡ None → recovery mid.media.reads mid.sidecar.reads ≡ Ok Applied
 applies old mid same head end its is none =

@@ -21,7 +21,7 @@ loop-k-init g c =
       faults = record { reading = refl; writing = refl };
     }
 
--- a turn is that of a place that is used
+-- A turn belongs to a used place.
 used : (k end count : ℕ) → k < end → end ≡ count → k < count
 used k end count inside is = omega arith
 

@@ -9,7 +9,7 @@ use Rattle.sidecar_edit.specs.Partly.{IsPartly}
 use Rattle.sidecar_edit.proofs.CopiesLemmas.{writes_by}
 use Rattle.sidecar_edit.proofs.recovery.redo_writes.Given as goal
 
--- the first writes are made
+-- The first writes are made.
 abbrev pub invariant-loop-k : goal.invariant-loop-k
 invariant-loop-k g l =
     let M = (g.D.Disk.pair l.fn.disk).media.reads in

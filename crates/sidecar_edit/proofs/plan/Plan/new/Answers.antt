@@ -18,7 +18,7 @@ octets_are c =
     four ∙ ap (λ octets. octets ++ c.args.payload.now) (three ∙ ap (λ octets. octets ++ marks) (two ∙ ap (λ octets. octets ++ eight) one))
     ∙ ap (λ n. front_octets (HEAD + n) c.args.new_len (length c.args.places.items) ++ (eight ++ marks) ++ c.args.payload.now) c.requires.full
 
--- what is kept of the first octets is these
+-- The stored first bytes are the given ones.
 first_is : (c : goal.After-from_vec) → c.from_vec.result ≡ c.args.first.now
 first_is c = grind (arith, common_steps)
 
