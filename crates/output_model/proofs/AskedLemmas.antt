@@ -1,4 +1,4 @@
--- What is asked of the headers of Elements that stand in a content is asked of the Elements.
+-- A question on the headers of Elements in a content is a question on the Elements.
 use Rattle.std.proofs.Common.{◌≡◌, ℕ, suc, ◌+◌, ◌==◌, not, Bool, true, false, cond, List, [], ◌∷◌, ◌++◌, length, map, filter, flat_map, find, All, Some, None, refl, ◌∙◌, ap, ap₂}
 use Rattle.std.specs.List.{AllZip}
 use Rattle.std.specs.Option.{option_map}
@@ -10,13 +10,13 @@ use Rattle.output_model.specs.Element.{Element, HoldsAt, octets_of, joined, head
 use Rattle.output_model.proofs.HeldLemmas.{held-left, held-right}
 use Rattle.output_model.proofs.ReadLemmas.{body_of-read, octets-read}
 
--- a header in a content is that of an Element
+-- The header `h` in the content is a header of the Element `d`.
 pub record IsRead (bytes : List ℕ) (h : Header) (d : Element) : Type 0 where
   pub id_is : h.id ≡ d.id
   pub body_is : body_of bytes h ≡ d.body
   pub octets_are : octets_between bytes h.offset (stated_end h) ≡ octets_of d
 
--- the headers of Elements that stand there are theirs
+-- The headers of Elements at their place are the headers in the content.
 pub headers-read : (bytes : List ℕ) (ds : List Element) (p : ℕ) → HoldsAt bytes p (joined ds) → AllZip (IsRead bytes) (headers_in_place p ds) ds
 headers-read bytes [] p stand = tt
 headers-read bytes (d ∷ ds) p stand =
@@ -25,7 +25,7 @@ headers-read bytes (d ∷ ds) p stand =
       headers-read bytes ds (p + length (octets_of d)) (held-right bytes p (octets_of d) (joined ds) stand),
     )
 
--- ---- the first of an ID
+-- ---- the first with an ID
 
 pub first_of-read : {A : Type 0} (bytes : List ℕ) (value : List ℕ → A) (id : ℕ) (hs : List Header) (ds : List Element) → AllZip (IsRead bytes) hs ds
     → option_map (λ (h : Header). value (body_of bytes h)) (first_of id hs) ≡ option_map (λ (d : Element). value d.body) (find (λ (d : Element). d.id == id) ds)
@@ -42,7 +42,7 @@ first_of-read bytes value id (h ∷ hs) (d ∷ ds) are =
     split true same rest = ap (λ v. Some v) same
     split false same rest = rest
 
--- ---- those whose IDs pass a test
+-- ---- Elements whose IDs pass a test
 
 pub map-read : {A : Type 0} (bytes : List ℕ) (value : List ℕ → A) (passes : ℕ → Bool) (hs : List Header) (ds : List Element) → AllZip (IsRead bytes) hs ds
     → map (λ (h : Header). value (body_of bytes h)) (filter (λ (h : Header). passes h.id) hs) ≡ map (λ (d : Element). value d.body) (filter (λ (d : Element). passes d.id) ds)
@@ -91,7 +91,7 @@ length-read bytes passes (h ∷ hs) (d ∷ ds) are =
     split true rest = ap suc rest
     split false rest = rest
 
--- ---- none that fails a test
+-- ---- no Element fails a test
 
 pub find-none : (bytes : List ℕ) (passes : ℕ → List ℕ → Bool) (hs : List Header) (ds : List Element) → AllZip (IsRead bytes) hs ds → All (λ (d : Element). passes d.id d.body ≡ true) ds
     → find (λ (h : Header). not (passes h.id (body_of bytes h))) hs ≡ None

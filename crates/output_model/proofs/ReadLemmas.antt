@@ -1,4 +1,4 @@
--- Elements that are written are read where they stand.
+-- Written Elements are read back at their offsets.
 use Rattle.std.proofs.Common.{◌≡◌, ℕ, ◌+◌, ◌≤◌, ◌==◌, nat_lt, not, min, Bool, true, false, ◌&&◌, if◌then◌else◌, List, [], ◌∷◌, ◌++◌, slice_index, append-nil, append_assoc, length, length-append, drop, All, Some, None, Ok, refl, sym, ◌∙◌, ap, ap₂, arith}
 use Rattle.std.proofs.lemmas.Bool.{le-ltb, cond-false}
 use Rattle.std.proofs.lemmas.List.Elements.{All-head, All-tail}
@@ -26,7 +26,7 @@ length-header_of d =
 pub length-octets_of : (d : Element) → length (octets_of d) ≡ length (header_of d) + length d.body
 length-octets_of d = length-append (header_of d) d.body
 
--- an Element has at least one octet
+-- An Element has at least one byte.
 pub octets_of-some : (d : Element) → IsElement d → 1 ≤ length (octets_of d)
 octets_of-some d is =
     let some = is.some in
@@ -43,7 +43,7 @@ and-first : (a b : Bool) → a ≡ false → (a && b) ≡ false
 and-first true b is = absurd (cc)
 and-first false b is = refl
 
--- nothing is wrong with a body of known size that passes no end
+-- A body of known size that passes no end has no damage.
 pub body-stands : (s : Setting) (total e : ℕ) (h : Header) → is_unknown h.size ≡ false → stated_end h ≤ e → stated_end h ≤ total → with_body h (body_damage s total e h) ≡ Ok h
 body-stands s total e h known ends within =
     ap (with_body h)
@@ -51,7 +51,7 @@ body-stands s total e h known ends within =
     ∙ cond-false (is_truncated s total e h) (Some Truncated) _ (and-middle (not s.read_whole) (nat_lt total (stated_end h)) _ (le-ltb _ _ within))
     ∙ cond-false (is_too_long s total e h) (Some TooLong) _ (and-first (nat_lt e (stated_end h)) _ (le-ltb _ _ ends)))
 
--- a valid ID is read, where the octet `80` is none
+-- A valid ID is read, in a setting that doesn't read the byte `80` as an ID.
 id_in-read : (s : Setting) (id : ℕ) (rest : List ℕ) → s.display ≡ false → is_id id ≡ true → id_in s (id_octets id ++ rest) ≡ Ok (record { id = id; len = uint_width id })
 id_in-read s id rest plain valid =
     ap (λ (b : Bool). if b && slice_index (id_octets id ++ rest) 0 == CHAPTER_DISPLAY then display_read else id_at (id_octets id ++ rest)) plain
@@ -74,35 +74,35 @@ element_in-read s d rest total p e plain is ends within =
     ∙ ap (λ b. with_body (record { id = d.id; offset = p; body = b; size = Known (length d.body) }) (body_damage s total e (record { id = d.id; offset = p; body = b; size = Known (length d.body) }))) place
     ∙ body-stands s total e (header_in_place p d) refl (omega arith) (omega arith)
 
--- An Element that stands at a place is read there.
+-- An Element at an offset is read there.
 pub element_at-read : (s : Setting) (bytes : List ℕ) (d : Element) (p e : ℕ) → s.display ≡ false → IsElement d → HoldsAt bytes p (octets_of d) → p + length (octets_of d) ≤ e
     → element_at s bytes p e ≡ Ok (header_in_place p d)
 element_at-read s bytes d p e plain is stands ends =
     ap (λ o. element_in s o (length bytes) p e) (held-front bytes p e (octets_of d) stands ends)
     ∙ element_in-read s d (octets_between bytes (p + length (octets_of d)) e) (length bytes) p e plain is ends (held-within bytes p (octets_of d) stands (octets_of-some d is))
 
--- its body stands behind its header
+-- Its body follows its header.
 pub stands-body : (bytes : List ℕ) (p : ℕ) (d : Element) → HoldsAt bytes p (octets_of d) → HoldsAt bytes (p + length (header_of d)) d.body
 stands-body bytes p d stands = held-right bytes p (header_of d) d.body stands
 
 pub body_of-read : (bytes : List ℕ) (p : ℕ) (d : Element) → HoldsAt bytes p (octets_of d) → body_of bytes (header_in_place p d) ≡ d.body
 body_of-read bytes p d stands = stands-body bytes p d stands
 
--- header and body
+-- The bytes of an Element are its header and body.
 pub octets-read : (bytes : List ℕ) (p : ℕ) (d : Element) → HoldsAt bytes p (octets_of d) → octets_between bytes p (stated_end (header_in_place p d)) ≡ octets_of d
 octets-read bytes p d stands =
     let end : p + length (header_of d) + length d.body ≡ p + length (octets_of d) = omega (arith, length-octets_of d) in
     ap (octets_between bytes p) end ∙ stands
 
--- ---- Elements, one behind the other
+-- ---- Elements in sequence
 
--- a list that no Element of known size ends, and each of which the next follows at its end
+-- No Element of known size ends this list, and the next one follows at its end.
 pub record Lists (s : Setting) (stops : ℕ → Bool) (next : Next) (bytes : List ℕ) (e : ℕ) : Type 0 where
   pub plain : s.display ≡ false
   pub advances : Advances s next bytes e
   pub next_is : (h : Header) → is_unknown h.size ≡ false → next h ≡ Ok (end_in e h)
 
--- an Element, and then what stands behind it
+-- An Element, then the Elements after it.
 pub elements-read_one : (s : Setting) (stops : ℕ → Bool) (next : Next) (bytes : List ℕ) (d : Element) (p e : ℕ) → Lists s stops next bytes e → IsElement d → stops d.id ≡ false → HoldsAt bytes p (octets_of d) → p + length (octets_of d) ≤ e
     → elements s stops next bytes p e ≡ in_front (header_in_place p d) (elements s stops next bytes (p + length (octets_of d)) e)
 elements-read_one s stops next bytes d p e lists is goes stands ends =
@@ -134,13 +134,13 @@ elements-read s stops next bytes (d ∷ ds) p e lists are go stand ends =
 pub Lists-children : (s : Setting) (bytes : List ℕ) (e : ℕ) → s.display ≡ false → Lists s never (λ h. Ok (end_in e h)) bytes e
 Lists-children s bytes e plain = record { plain = plain; advances = Advances-known s bytes e; next_is = λ h known. refl }
 
--- the children of a body that begins with Elements are these, and then what stands behind them
+-- If a body begins with Elements, its children are these, then the Elements after them.
 pub children-read : (s : Setting) (bytes : List ℕ) (ds : List Element) (p e : ℕ) → s.display ≡ false → All IsElement ds → HoldsAt bytes p (joined ds) → p + length (joined ds) ≤ e
     → children_in s bytes p e ≡ all_in_front (headers_in_place p ds) (children_in s bytes (p + length (joined ds)) e)
 children-read s bytes ds p e plain are stand ends =
     elements-read s never (λ h. Ok (end_in e h)) bytes ds p e (Lists-children s bytes e plain) are (λ k d below. refl) stand ends
 
--- of a body that is nothing but Elements they are just these
+-- If a body consists of Elements, its children are exactly these.
 pub children-all : (s : Setting) (bytes : List ℕ) (ds : List Element) (p : ℕ) → s.display ≡ false → All IsElement ds → HoldsAt bytes p (joined ds)
     → children_in s bytes p (p + length (joined ds)) ≡ record { list = headers_in_place p ds; damage = None; end = p + length (joined ds) }
 children-all s bytes ds p plain are stand =

@@ -1,5 +1,4 @@
--- Outputs that are printed elsewhere, computed, so that a wrong definition does not check: their octets were written
--- down by hand.
+-- Computed outputs, whose bytes were written down by hand. A wrong definition fails here.
 use Rattle.std.proofs.Common.{◌≡◌, ℕ, pos, negsuc, Bool, ◌&&◌, true, false, List, [], ◌∷◌, ◌++◌, length, map, replicate, codes, None, Some, refl}
 use Rattle.ebml_numbers.specs.Number.{uint_octets, uint_width, int_width, least_size_width}
 use Rattle.mkv_schema.specs.declared.ids.TheConstants.{INFO, TIMESTAMP_SCALE, MUXING_APP, WRITING_APP, TRACKS, TRACK_ENTRY, TRACK_NUMBER, TRACK_UID, TRACK_TYPE, FLAG_LACING, LANGUAGE, CODEC_ID, ATTACHMENTS, CUES, CHAPTERS, TAGS}
@@ -15,7 +14,7 @@ use Rattle.output_model.specs.Cluster.{OutputCluster, cluster_element, clusters}
 use Rattle.output_model.specs.SeekHead.{area_elements}
 use Rattle.output_model.specs.Document.{Front, Document, ebml_element, layout, opened, cues_for}
 
--- a SimpleBlock of lane 1 with one frame
+-- a SimpleBlock of output track 1 with one frame
 abbrev simple : ℕ → Bool → List ℕ → OutputBlock
 simple tick key frame = record {
   lane = 1;
@@ -43,7 +42,7 @@ header-webm = refl
 
 -- ---- blocks
 
--- a SimpleBlock of two frames in a Xiph lace, each with two octets in front
+-- A SimpleBlock of two frames in a Xiph lace, each with a prefix of two bytes.
 pub laced : octets_of (block_element 0 (record (simple 0 true []) {
   lace = lace.Xiph;
   frames = (0x0B ∷ 0x77 ∷ 0xAA ∷ []) ∷ (0x0B ∷ 0x77 ∷ 0xBB ∷ 0xCC ∷ []) ∷ [];
@@ -51,7 +50,7 @@ pub laced : octets_of (block_element 0 (record (simple 0 true []) {
 unfolding uint_width least_size_width octets_of_sizes
 laced = refl
 
--- a group with a duration, two references and a DiscardPadding that is kept; of its flags only those of a Block are written
+-- A group with a duration, two references and a copied DiscardPadding. Only the flags of a Block are written.
 pub group : octets_of (block_element 1000 (record (simple 998 false (0x48 ∷ 0x69 ∷ [])) {
   invisible = true;
   discardable = true;
@@ -65,11 +64,11 @@ group = refl
 
 -- ---- Clusters
 
--- a scale of 1000 nanoseconds, and the limits of a merge that sets none
+-- a scale of 1000 nanoseconds, and the default limits of a merge
 abbrev fine : ClusterLimits
 fine = record { blocks = 65535; span = 5000000000; scale = 1000 }
 
--- the octets of blocks that are cut into Clusters
+-- the bytes of blocks that are divided into Clusters
 abbrev cut : ClusterLimits → List OutputBlock → List (List ℕ)
 cut limits bs = map (λ (c : OutputCluster). octets_of (cluster_element c)) (clusters limits bs)
 
@@ -77,12 +76,12 @@ pub one-cluster : cut fine (simple 0 true (0xAA ∷ []) ∷ simple 20 true (0xBB
 unfolding uint_width least_size_width
 one-cluster = refl
 
--- 65,535 ticks apart: sixteen bits can't tell that
+-- Blocks that are 65,535 ticks apart need two Clusters: sixteen bits can't hold the difference.
 pub two-clusters : cut fine (simple 0 true (0xAA ∷ []) ∷ simple 65535 true (0xBB ∷ []) ∷ []) ≡ (0x1F ∷ 0x43 ∷ 0xB6 ∷ 0x75 ∷ 0x8A ∷ 0xE7 ∷ 0x81 ∷ 0x00 ∷ 0xA3 ∷ 0x85 ∷ 0x81 ∷ 0x00 ∷ 0x00 ∷ 0x80 ∷ 0xAA ∷ []) ∷ (0x1F ∷ 0x43 ∷ 0xB6 ∷ 0x75 ∷ 0x8B ∷ 0xE7 ∷ 0x82 ∷ 0xFF ∷ 0xFF ∷ 0xA3 ∷ 0x85 ∷ 0x81 ∷ 0x00 ∷ 0x00 ∷ 0x80 ∷ 0xBB ∷ []) ∷ []
 unfolding uint_width least_size_width
 two-clusters = refl
 
--- 5,000 milliseconds are within the span, 5,001 are not
+-- 5,000 milliseconds are within the span, 5,001 aren't.
 abbrev millis : ClusterLimits
 millis = record { blocks = 65535; span = 5000000000; scale = 1000000 }
 
@@ -103,19 +102,19 @@ info = master INFO 0 (nodes_of (
 abbrev tracks : List Node → Node
 tracks children = master TRACKS 0 (nodes_of (master TRACK_ENTRY 0 (nodes_of children) ∷ []))
 
--- a TrackEntry of a number, a UID, a type and a codec
+-- a TrackEntry with a number, a UID, a type and a codec
 abbrev track : ℕ → ℕ → List ℕ → Node
 track uid kind codec = tracks (
     leaf TRACK_NUMBER 0 (1 ∷ []) ∷ leaf TRACK_UID 0 (uid ∷ []) ∷ leaf TRACK_TYPE 0 (kind ∷ []) ∷ leaf CODEC_ID 0 codec ∷ [])
 
--- an output of one Cluster, with a cue point for each block that is key where `cued` is set
+-- an output with one Cluster, and a cue point for each keyframe if `cued` is true
 abbrev output : Node → Bool → List OutputBlock → Document
 output entries cued bs =
     let front : Front = record { webm = false; info = info; tracks = entries; attachments = [] } in
     let cs : List OutputCluster = clusters millis bs in
     record { front = front; clusters = cs; cues = cues_for (λ b. cued && b.key) front cs; chapters = None; tags = None }
 
--- audio of two blocks, and no cue point: 393 octets
+-- audio with two blocks and no cue point: 393 bytes
 abbrev audio : Document
 audio = output (track 5 2 (codes "A_OPUS")) false (simple 0 true (0xAA ∷ []) ∷ simple 20 true (0xBB ∷ []) ∷ [])
 
@@ -123,12 +122,12 @@ pub layout-audio : layout audio ≡ (0x1A ∷ 0x45 ∷ 0xDF ∷ 0xA3 ∷ 0xA3 �
 unfolding uint_width least_size_width
 layout-audio = refl
 
--- the same before its size and its area are overwritten
+-- The same before its size and its area are overwritten.
 pub opened-audio : opened audio ≡ (0x1A ∷ 0x45 ∷ 0xDF ∷ 0xA3 ∷ 0xA3 ∷ 0x42 ∷ 0x86 ∷ 0x81 ∷ 0x01 ∷ 0x42 ∷ 0xF7 ∷ 0x81 ∷ 0x01 ∷ 0x42 ∷ 0xF2 ∷ 0x81 ∷ 0x04 ∷ 0x42 ∷ 0xF3 ∷ 0x81 ∷ 0x08 ∷ 0x42 ∷ 0x82 ∷ 0x88 ∷ 0x6D ∷ 0x61 ∷ 0x74 ∷ 0x72 ∷ 0x6F ∷ 0x73 ∷ 0x6B ∷ 0x61 ∷ 0x42 ∷ 0x87 ∷ 0x81 ∷ 0x04 ∷ 0x42 ∷ 0x85 ∷ 0x81 ∷ 0x02 ∷ 0x18 ∷ 0x53 ∷ 0x80 ∷ 0x67 ∷ 0x01 ∷ 0xFF ∷ 0xFF ∷ 0xFF ∷ 0xFF ∷ 0xFF ∷ 0xFF ∷ 0xFF ∷ []) ++ (0xEC ∷ 0x01 ∷ 0x00 ∷ 0x00 ∷ 0x00 ∷ 0x00 ∷ 0x00 ∷ 0x00 ∷ 0xF7 ∷ []) ++ replicate 247 0 ++ (0x15 ∷ 0x49 ∷ 0xA9 ∷ 0x66 ∷ 0xA1 ∷ 0x2A ∷ 0xD7 ∷ 0xB1 ∷ 0x83 ∷ 0x0F ∷ 0x42 ∷ 0x40 ∷ 0x4D ∷ 0x80 ∷ 0x8A ∷ 0x6D ∷ 0x6B ∷ 0x76 ∷ 0x73 ∷ 0x75 ∷ 0x69 ∷ 0x74 ∷ 0x65 ∷ 0x20 ∷ 0x31 ∷ 0x57 ∷ 0x41 ∷ 0x8A ∷ 0x6D ∷ 0x6B ∷ 0x76 ∷ 0x73 ∷ 0x75 ∷ 0x69 ∷ 0x74 ∷ 0x65 ∷ 0x20 ∷ 0x31 ∷ []) ++ (0x16 ∷ 0x54 ∷ 0xAE ∷ 0x6B ∷ 0x94 ∷ 0xAE ∷ 0x92 ∷ 0xD7 ∷ 0x81 ∷ 0x01 ∷ 0x73 ∷ 0xC5 ∷ 0x81 ∷ 0x05 ∷ 0x83 ∷ 0x81 ∷ 0x02 ∷ 0x86 ∷ 0x86 ∷ 0x41 ∷ 0x5F ∷ 0x4F ∷ 0x50 ∷ 0x55 ∷ 0x53 ∷ []) ++ (0x1F ∷ 0x43 ∷ 0xB6 ∷ 0x75 ∷ 0x91 ∷ 0xE7 ∷ 0x81 ∷ 0x00 ∷ 0xA3 ∷ 0x85 ∷ 0x81 ∷ 0x00 ∷ 0x00 ∷ 0x80 ∷ 0xAA ∷ 0xA3 ∷ 0x85 ∷ 0x81 ∷ 0x00 ∷ 0x14 ∷ 0x80 ∷ 0xBB ∷ [])
 unfolding uint_width least_size_width
 opened-audio = refl
 
--- video of two blocks, the first of which is key and has a cue point: 414 octets
+-- video with two blocks, the first of which is a keyframe with a cue point: 414 bytes
 abbrev video : Document
 video = output (track 7 1 (codes "V_VP8")) true (simple 0 true (0xAA ∷ []) ∷ simple 20 false (0xBB ∷ []) ∷ [])
 
@@ -136,7 +135,7 @@ pub layout-video : layout video ≡ (0x1A ∷ 0x45 ∷ 0xDF ∷ 0xA3 ∷ 0xA3 �
 unfolding uint_width least_size_width
 layout-video = refl
 
--- subtitles of one group with a duration and a cue point: 436 octets
+-- subtitles with one group with a duration and a cue point: 436 bytes
 abbrev subtitles : Document
 subtitles = output (tracks (
     leaf TRACK_NUMBER 0 (1 ∷ []) ∷ leaf TRACK_UID 0 (1 ∷ []) ∷ leaf TRACK_TYPE 0 (17 ∷ []) ∷ leaf FLAG_LACING 0 (0 ∷ [])
@@ -149,7 +148,7 @@ layout-subtitles = refl
 
 -- ---- the area
 
--- six Seeks of 21 octets, as many as there can be, and a Void of 125 octets: 131 and 125 make 256
+-- six Seeks of 21 bytes, the maximum, and a Void of 125 bytes: 131 and 125 make 256
 abbrev six : List Seek
 six =
     record { id = INFO; position = 256 } ∷ record { id = TRACKS; position = 294 } ∷ record { id = ATTACHMENTS; position = 319 }
@@ -159,7 +158,7 @@ pub area-six : joined (area_elements six) ≡ (0x11 ∷ 0x4D ∷ 0x9B ∷ 0x74 �
 unfolding uint_width least_size_width
 area-six = refl
 
--- a Void of 128 octets has a size of one octet, one of 129 a size of eight
+-- A Void of 128 bytes has a size of one byte, a Void of 129 bytes a size of eight.
 pub void-short : octets_of (void_element 128) ≡ 0xEC ∷ 0xFE ∷ replicate 126 0
 unfolding uint_width least_size_width
 void-short = refl

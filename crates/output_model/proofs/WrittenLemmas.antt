@@ -1,4 +1,4 @@
--- Elements that were read are Elements that stand there.
+-- Elements that were read are Elements at their offsets.
 use Rattle.std.proofs.Common.{◌≡◌, inl, inr, ℕ, zero, suc, ◌+◌, ◌-◌, ◌<◌, ◌≤◌, ◌==◌, min, Bool, true, false, ◌&&◌, if◌then◌else◌, List, [], ◌∷◌, ◌++◌, slice_index, length, length-append, take, drop, Option, Some, None, Result, Ok, Err, refl, sym, ◌∙◌, ap, ap₂, subst, arith}
 use Rattle.std.proofs.lemmas.Bool.{cases_lt}
 use Rattle.std.proofs.lemmas.List.{length-drop}
@@ -27,13 +27,13 @@ use Rattle.output_model.proofs.ReadLemmas.{length-header_of, length-octets_of}
 
 -- ---- an Element
 
--- An Element that was read stands there as it is written, with its size in so many octets.
+-- The Element `d` is at the offset `p` as it is written, and has the header `h`.
 pub record IsWritten (bytes : List ℕ) (p : ℕ) (h : Header) (d : Element) : Type 0 where
   pub piece : IsElement d
   pub stands : HoldsAt bytes p (octets_of d)
   pub header : h ≡ header_in_place p d
 
--- an ID, a size and a body behind one another are an Element
+-- An ID, a size and a body in sequence are an Element.
 written-parts : (bytes : List ℕ) (p id len v w : ℕ) → is_id id ≡ true → id_octets id ≡ octets_between bytes p (p + len) → 1 ≤ w → w ≤ 8 → v < all_ones w → size_octets v w ≡ octets_between bytes (p + len) (p + len + w) → p + len + w + v ≤ length bytes
     → IsWritten bytes p (record { id = id; offset = p; body = p + len + w; size = Known v }) (record { id = id; width = w; body = octets_between bytes (p + len + w) (p + len + w + v) })
 written-parts bytes p id len v w valid id_is some most fits size_is within =
@@ -56,7 +56,7 @@ written-parts bytes p id len v w valid id_is some most fits size_is within =
     places : (p len w n : ℕ) → n ≡ len + w → p + n ≡ p + len + w
     places p len w n is = omega arith
 
--- an Element that was read, with what stands there
+-- an Element that was read, with its place in the content
 abbrev pub Written : List ℕ → ℕ → Header → Type 0
 Written bytes p h = (d : Element) × IsWritten bytes p h d
 
@@ -64,7 +64,7 @@ body-same : (made h : Header) (found : Option Kind) → with_body made found ≡
 body-same made h None is = cc
 body-same made h (Some kind) is = absurd (cc)
 
--- what is between two places, from octets up to a later end
+-- The bytes between two offsets are a prefix of the bytes up to a later end.
 between-front : (bytes : List ℕ) (p e n : ℕ) → p + n ≤ e → take n (octets_between bytes p e) ≡ octets_between bytes p (p + n)
 between-front bytes p e n before_end =
     let end : e ≡ p + (e - p) = omega arith in
@@ -97,7 +97,7 @@ written-size bytes p e r z h octets before_end is_r is_z same known within = by_
         let d : Element = record { id = r.id; width = z.len; body = octets_between bytes (p + r.len + z.len) (p + r.len + z.len + v) } in
         (d, record { piece = found.piece; stands = found.stands; header = sym made ∙ found.header })
 
--- An Element of known size that was read is an Element that stands there.
+-- An Element of known size that was read is an Element at its offset.
 pub element-written : (s : Setting) (bytes : List ℕ) (p e : ℕ) (h : Header) → AreOctets bytes → p ≤ e → s.display ≡ false → element_at s bytes p e ≡ Ok h → is_unknown h.size ≡ false → stated_end h ≤ length bytes → Written bytes p h
 unfolding element_in
 element-written s bytes p e h octets before_end plain found known within =
@@ -137,7 +137,7 @@ children-end bytes p e is =
       whole = omega arith;
     }
 
--- an Element in front of others
+-- An Element before others.
 children-more : (bytes : List ℕ) (p e : ℕ) → AreOctets bytes → p < e → e ≤ length bytes
     → ((q : ℕ) → p < q → q ≤ e → (children_in in_master bytes q e).damage ≡ None → AreWritten bytes q e (children_in in_master bytes q e).list)
     → (children_in in_master bytes p e).damage ≡ None → AreWritten bytes p e (children_in in_master bytes p e).list
@@ -185,7 +185,7 @@ children-more bytes p e octets inside within rest none = by_found (element_at in
         least : (n : ℕ) → n ≤ e → min n e ≡ n
         least n less = omega arith
 
--- The children of a master that no damage ends are Elements that stand there, up to its end.
+-- If no damage ends the children of a master, they are Elements at their offsets, up to its end.
 pub children-written : (n : ℕ) (bytes : List ℕ) (p e : ℕ) → AreOctets bytes → p ≤ e → e ≤ length bytes → e - p ≤ n → (children_in in_master bytes p e).damage ≡ None → AreWritten bytes p e (children_in in_master bytes p e).list
 children-written zero bytes p e octets before_end within few none = children-end bytes p e (omega arith)
 children-written (suc n) bytes p e octets before_end within few none = elim (cases_lt p e) [

@@ -7,7 +7,7 @@ use Rattle.tree_format.specs.Node.{Node, leaf, children, with_children}
 use Rattle.tree_format.specs.Changes.{with_child}
 use Rattle.output_model.specs.declared.attachment.Attachment.{Attachment}
 
--- So many octets of a content, from a place on. Where it isn't told, as many zeros stand for them.
+-- the `n` bytes of a content from the offset `at`, or `n` zeros if it is invisible to the proof
 abbrev pub octets_told : Option (List ℕ) → ℕ → ℕ → List ℕ
 octets_told None at n = replicate n 0
 octets_told (Some bytes) at n = octets_from bytes at n
@@ -16,8 +16,7 @@ octets_told (Some bytes) at n = octets_from bytes at n
 abbrev pub data_of : LiveFiles → Attachment → List ℕ
 data_of files a = octets_told (files.content a.file.n) a.at a.len
 
--- An AttachedFile that has these octets as its FileData, in the place of its first FileData, and of no other; where it
--- has none, behind all else.
+-- the AttachedFile with `bytes` as its FileData, in place of its first FileData, or after all other children. It has no other FileData.
 abbrev pub with_data : List ℕ → Node → Node
 with_data bytes entry = with_children entry (with_child (leaf FILE_DATA 0 bytes) (children entry))
 

@@ -1,4 +1,4 @@
--- The octets of a block: RFC 9559, sections 5.1.3 (Cluster Element), 10.1 (Block Structure), 10.2 (SimpleBlock Structure) and 10.3 (Block Lacing).
+-- The bytes of a block: RFC 9559, sections 5.1.3 (Cluster Element), 10.1 (Block Structure), 10.2 (SimpleBlock Structure) and 10.3 (Block Lacing).
 use Rattle.std.specs.Prelude.{ℕ, ◌+◌, ◌-◌, Bool, if◌then◌else◌, ℤ, pos, ◌-ℤ◌, List, [], ◌∷◌, ◌++◌, length, map, Option, None, Some}
 use Rattle.std.specs.List.{concat}
 use Rattle.ebml_numbers.specs.Number.{int_octets, int_octets_in}
@@ -14,18 +14,18 @@ use Rattle.output_model.specs.OutputBlock.{OutputBlock}
 abbrev pub flag : ℕ → Bool → ℕ
 flag value set = if set then value else 0
 
--- the two bits that name a kind of lacing
+-- the two bits of a kind of lacing
 abbrev pub lace_bits : Lace → ℕ
 lace_bits lace.None = 0x00
 lace_bits lace.Xiph = 0x02
 lace_bits lace.Fixed = 0x04
 lace_bits lace.Ebml = 0x06
 
--- of a Block: it isn't to be shown, and its lacing
+-- the flags of a Block: it isn't shown, and its lacing
 abbrev pub block_flags : OutputBlock → ℕ
 block_flags b = flag 0x08 b.invisible + lace_bits b.lace
 
--- of a SimpleBlock: besides, it is a key frame, and it may be left out
+-- the flags of a SimpleBlock: also, it is a keyframe, and it may be discarded
 abbrev pub simple_block_flags : OutputBlock → ℕ
 simple_block_flags b = flag 0x80 b.key + flag 0x01 b.discardable + block_flags b
 
@@ -34,11 +34,11 @@ flags_of b = if b.group then block_flags b else simple_block_flags b
 
 -- ---- the frames
 
--- the number of frames of these sizes, less one, and the head of their lace
+-- the number of frames with the sizes `sizes`, minus one, and the head of their lace
 abbrev pub count_and_head : Lace → List ℕ → List ℕ
 count_and_head kind sizes = (length sizes - 1) ∷ lace_head kind sizes
 
--- what stands in front of frames of these sizes; without lacing nothing
+-- the bytes before frames with the sizes `sizes`; without lacing there are none
 abbrev pub lace_octets : Lace → List ℕ → List ℕ
 lace_octets lace.None sizes = []
 lace_octets lace.Xiph sizes = count_and_head lace.Xiph sizes
@@ -48,13 +48,13 @@ lace_octets lace.Ebml sizes = count_and_head lace.Ebml sizes
 abbrev pub frame_octets : Lace → List (List ℕ) → List ℕ
 frame_octets kind frames = lace_octets kind (map length frames) ++ concat frames
 
--- ---- the Block, in a Cluster of this Timestamp
+-- ---- the Block, in a Cluster with the Timestamp `timestamp`
 
--- ticks from the Cluster's Timestamp to the block's, with their sign
+-- the signed number of ticks from the Cluster's Timestamp to the block's
 abbrev pub relative_to : ℕ → OutputBlock → ℤ
 relative_to timestamp b = pos b.tick -ℤ pos timestamp
 
--- the track number, which takes one octet, the relative timestamp, which takes two, and the flags
+-- the track number in one byte, the relative timestamp in two, and the flags
 abbrev pub block_header : ℕ → OutputBlock → List ℕ
 block_header timestamp b = (0x80 + b.lane) ∷ int_octets_in 2 (relative_to timestamp b) ++ flags_of b ∷ []
 
@@ -70,12 +70,12 @@ duration_elements (Some ticks) = uint_element BLOCK_DURATION ticks ∷ []
 abbrev pub reference_element : ℤ → Element
 reference_element ticks = element REFERENCE_BLOCK (int_octets ticks)
 
--- the Block, the BlockDuration where there is one, and each ReferenceBlock
+-- the Block, the BlockDuration if there is one, and each ReferenceBlock
 abbrev pub group_elements : ℕ → OutputBlock → List Element
 group_elements timestamp b =
     element BLOCK (block_octets timestamp b) ∷ duration_elements b.duration ++ map reference_element b.references
 
--- behind these stands what else is kept of the group
+-- the body of the group: these Elements, then the copied bytes of its other Elements
 abbrev pub group_octets : ℕ → OutputBlock → List ℕ
 group_octets timestamp b = joined (group_elements timestamp b) ++ b.kept
 

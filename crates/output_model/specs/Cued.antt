@@ -1,4 +1,5 @@
--- The cue points of an output, and the document that is made of blocks: RFC 9559, section 5.1.5 (Cues Element). Which blocks get a point is this project's.
+-- The cue points of an output, and the document that is made of blocks: RFC 9559, section 5.1.5 (Cues Element). The choice of blocks with a cue
+-- point is this project's.
 use Rattle.std.specs.Prelude.{◌-◌, Bool, true, false, List, Option}
 use Rattle.std.specs.List.{slice_get}
 use Rattle.std.specs.Option.{unwrap_or}
@@ -15,11 +16,11 @@ is_cue_by Never key = false
 is_cue_by Key key = key
 is_cue_by All key = true
 
--- A block gets a point by the rule of its lane; the rules are those of the lanes from 1 on.
+-- The block gets a cue point by the rule of its output track; the rules are in the order of the tracks from 1 on.
 abbrev pub is_cue : List CueRule → OutputBlock → Bool
 is_cue rules b = is_cue_by (unwrap_or (slice_get rules (b.lane - 1)) Never) b.key
 
--- An output with this in front of its Clusters, these blocks, cue points by these rules, and this behind.
+-- the output with the given part before its Clusters, the blocks, cue points by the rules, Chapters and Tags
 abbrev pub document_of : ClusterLimits → List CueRule → Front → Option Node → Option Node → List OutputBlock → Document
 document_of limits rules front chapters tags blocks = record {
   front = front;

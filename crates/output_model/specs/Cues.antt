@@ -9,32 +9,31 @@ use Rattle.output_model.specs.Cluster.{OutputCluster, timestamp_element, cluster
 
 -- ---- the points of blocks
 
--- The point of a block, where its Cluster stands so many octets inside the Segment, and its Element so many
--- octets inside the Cluster.
+-- the cue point of a block; its Cluster is at the offset `cluster` in the Segment, and its Element at the offset `relative` in the Cluster
 abbrev pub point_of : ℕ → ℕ → OutputBlock → CuePoint
 point_of cluster relative b = record { tick = b.tick; lane = b.lane; cluster = cluster; relative = relative }
 
--- none where the block isn't one of those that get a point
+-- the cue point, if the block gets one
 abbrev pub points_where : Bool → CuePoint → List CuePoint
 points_where cued point = if cued then point ∷ [] else []
 
--- the points of the blocks of a Cluster that pass a test; the first block stands so many octets inside it
+-- the cue points of the blocks of a Cluster that pass the test; the first block is at the offset `relative` in the Cluster
 abbrev pub points_in : (OutputBlock → Bool) → ℕ → ℕ → ℕ → List OutputBlock → List CuePoint
 points_in cued cluster timestamp relative [] = []
 points_in cued cluster timestamp relative (b ∷ bs) =
     points_where (cued b) (point_of cluster relative b)
     ++ points_in cued cluster timestamp (relative + length (octets_of (block_element timestamp b))) bs
 
--- those of a Cluster that stands so many octets inside the Segment: its blocks stand behind its Timestamp
+-- the cue points of a Cluster at the offset `cluster` in the Segment; its blocks follow its Timestamp
 abbrev pub cluster_points : (OutputBlock → Bool) → ℕ → OutputCluster → List CuePoint
 cluster_points cued cluster c = points_in cued cluster c.timestamp (length (octets_of (timestamp_element c.timestamp))) c.blocks
 
--- those of Clusters, the first of which stands so many octets inside the Segment
+-- the cue points of Clusters in sequence, the first at the offset `cluster` in the Segment
 abbrev pub points_from : (OutputBlock → Bool) → ℕ → List OutputCluster → List CuePoint
 points_from cued cluster [] = []
 points_from cued cluster (c ∷ cs) = cluster_points cued cluster c ++ points_from cued (cluster + length (octets_of (cluster_element c))) cs
 
--- ---- their octets
+-- ---- their bytes
 
 abbrev pub positions_element : CuePoint → Element
 positions_element p = master_element CUE_TRACK_POSITIONS
@@ -43,7 +42,7 @@ positions_element p = master_element CUE_TRACK_POSITIONS
 abbrev pub point_element : CuePoint → Element
 point_element p = master_element CUE_POINT (uint_element CUE_TIME p.tick ∷ positions_element p ∷ [])
 
--- without points there are no Cues
+-- the Cues Element, or nothing without cue points
 abbrev pub cues_elements : List CuePoint → List Element
 cues_elements [] = []
 cues_elements (p ∷ ps) = master_element CUES (map point_element (p ∷ ps)) ∷ []

@@ -1,4 +1,5 @@
--- An output and its octets: RFC 8794, section 8 (EBML Document), and RFC 9559, sections 4.5 (Data Layout), 5.1 (Segment Element) and 6 (Matroska Element Ordering). The order of the Elements is this project's.
+-- An output and its bytes: RFC 8794, section 8 (EBML Document), and RFC 9559, sections 4.5 (Data Layout), 5.1 (Segment Element) and 6 (Matroska
+-- Element Ordering). The order of the Elements is this project's.
 use Rattle.std.specs.Prelude.{ℕ, ◌+◌, Bool, if◌then◌else◌, List, [], ◌∷◌, ◌++◌, length, map, take, codes, Option, Some, None}
 use Rattle.ebml_numbers.specs.Number.{all_ones, id_octets, size_octets}
 use Rattle.mkv_schema.specs.declared.ids.TheConstants.{EBML, EBML_VERSION, EBML_READ_VERSION, EBML_MAX_ID_LENGTH, EBML_MAX_SIZE_LENGTH, DOC_TYPE, DOC_TYPE_VERSION, DOC_TYPE_READ_VERSION, SEGMENT, ATTACHMENTS}
@@ -13,16 +14,14 @@ use Rattle.output_model.specs.Cluster.{OutputCluster, cluster_element}
 use Rattle.output_model.specs.Cues.{points_from, cues_elements}
 use Rattle.output_model.specs.SeekHead.{area_elements, open_area, seeks_from}
 
--- What stands in front of the Clusters: whether it is WebM, the Info, the Tracks, and the AttachedFiles, each
--- with its FileData.
+-- the part before the Clusters: whether it is WebM, the Info, the Tracks, and the AttachedFiles, each with its FileData
 pub record Front : Type 0 where
   pub webm : Bool
   pub info : Node
   pub tracks : Node
   pub attachments : List Node
 
--- What is written: what stands in front; the Clusters; the cue points, in the order of their blocks; and
--- Chapters and Tags, where there are any.
+-- an output: the part before the Clusters; the Clusters; the cue points, in the order of their blocks; Chapters and Tags, if there are any
 pub record Document : Type 0 where
   pub front : Front
   pub clusters : List OutputCluster
@@ -41,9 +40,9 @@ ebml_element webm = master_element EBML (
     ∷ uint_element EBML_MAX_ID_LENGTH 4 ∷ uint_element EBML_MAX_SIZE_LENGTH 8
     ∷ element DOC_TYPE (doc_type webm) ∷ uint_element DOC_TYPE_VERSION 4 ∷ uint_element DOC_TYPE_READ_VERSION 2 ∷ [])
 
--- ---- what stands in the Segment, behind the area
+-- ---- the Elements in the Segment after the area
 
--- a record in its normal form
+-- a tree in its normal form
 abbrev pub tree_element : Node → Element
 tree_element n = element (id_of n) (content n)
 
@@ -51,19 +50,19 @@ abbrev pub tree_elements : Option Node → List Element
 tree_elements None = []
 tree_elements (Some n) = tree_element n ∷ []
 
--- without attachments there is no Attachments Element
+-- the Attachments Element, or nothing without attachments
 abbrev pub attachments_elements : List Node → List Element
 attachments_elements [] = []
 attachments_elements (n ∷ ns) = master_element ATTACHMENTS (map tree_element (n ∷ ns)) ∷ []
 
--- in front of the Clusters
+-- the Elements before the Clusters
 abbrev pub front_elements : Front → List Element
 front_elements f = tree_element f.info ∷ tree_element f.tracks ∷ attachments_elements f.attachments
 
 abbrev pub clusters_elements : List OutputCluster → List Element
 clusters_elements cs = map cluster_element cs
 
--- Behind the Clusters, where the end of a part is known: Chapters are cut by it.
+-- the Elements after the Clusters; the end of a part is known then, and limits its Chapters
 abbrev pub back_with : List CuePoint → Option Node → Option Node → List Element
 back_with cues chapters tags = cues_elements cues ++ (tree_elements chapters ++ tree_elements tags)
 
@@ -73,49 +72,48 @@ back_elements d = back_with d.cues d.chapters d.tags
 abbrev pub elements_behind_area : Document → List Element
 elements_behind_area d = front_elements d.front ++ (clusters_elements d.clusters ++ back_elements d)
 
--- ---- places, in octets inside the Segment
+-- ---- offsets in bytes in the Segment
 
--- of the first Cluster
+-- the offset of the first Cluster
 abbrev pub clusters_at : Front → ℕ
 clusters_at f = AREA + length (joined (front_elements f))
 
--- of what stands behind the Clusters
+-- the offset of the Elements after the Clusters
 abbrev pub back_at : Document → ℕ
 back_at d = clusters_at d.front + length (joined (clusters_elements d.clusters))
 
--- of the Elements but the Clusters, of which the SeekHead tells
+-- the offsets of the Elements other than Clusters, for the SeekHead
 abbrev pub seeks_of : Document → List Seek
 seeks_of d = seeks_from AREA (front_elements d.front) ++ seeks_from (back_at d) (back_elements d)
 
--- the points of the blocks that pass a test, up to the limit
+-- the cue points of the blocks that pass the test, up to the limit
 abbrev pub cues_for : (OutputBlock → Bool) → Front → List OutputCluster → List CuePoint
 cues_for cued front cs = take MAX_CUES (points_from cued (clusters_at front) cs)
 
 -- ---- the file
 
--- The EBML header; a Segment whose size has these octets; the area; and what stands behind it.
+-- the EBML header; a Segment whose size has the bytes `size`; the area; and the bytes `rest` after it
 abbrev pub file_with : Bool → List ℕ → List Element → List ℕ → List ℕ
 file_with webm size area rest = octets_of (ebml_element webm) ++ (id_octets SEGMENT ++ (size ++ (joined area ++ rest)))
 
--- the size of a Segment with so many octets behind its area
+-- the size of a Segment with `rest` bytes after its area
 abbrev pub segment_size : ℕ → List ℕ
 segment_size rest = size_octets (AREA + rest) 8
 
--- an unknown size: all data bits are 1
+-- an unknown size, whose data bits are all 1
 abbrev pub unknown_size : List ℕ
 unknown_size = size_octets (all_ones 8) 8
 
--- The octets of an output.
+-- the bytes of an output
 abbrev pub layout : Document → List ℕ
 layout d =
     let rest = joined (elements_behind_area d) in
     file_with d.front.webm (segment_size (length rest)) (area_elements (seeks_of d)) rest
 
--- An output that is being written, with these octets behind what stands in front: its size is unknown, and its
--- area is one Void.
+-- an output that is being written, with the bytes `rest` after the part before the Clusters; its size is unknown, and its area is one Void
 abbrev pub opened_with : Front → List ℕ → List ℕ
 opened_with f rest = file_with f.webm unknown_size open_area (joined (front_elements f) ++ rest)
 
--- The same with all that stands behind, before the Segment's size and the area are overwritten.
+-- the same with all Clusters and the Elements after them, before the Segment's size and the area are overwritten
 abbrev pub opened : Document → List ℕ
 opened d = opened_with d.front (joined (clusters_elements d.clusters) ++ joined (back_elements d))

@@ -7,65 +7,64 @@ use Rattle.mkv_schema.specs.declared.element.Header.{Header}
 use Rattle.mkv_schema.specs.Element.{octets_between}
 use Rattle.mkv_schema.specs.Elements.{Run}
 
--- An Element as it is written: its ID, how many octets tell its size, and its body.
+-- an Element as it is written: its ID, the width of its size in bytes, and its body
 pub record Element : Type 0 where
   pub id : ℕ
   pub width : ℕ
   pub body : List ℕ
 
--- its ID and its size
+-- the header of an Element: its ID and its size
 abbrev pub header_of : Element → List ℕ
 header_of e = id_octets e.id ++ size_octets (length e.body) e.width
 
 abbrev pub octets_of : Element → List ℕ
 octets_of e = header_of e ++ e.body
 
--- Elements, one behind the other
+-- Elements in sequence
 abbrev pub joined : List Element → List ℕ
 joined es = flat_map octets_of es
 
--- Its ID is a valid one, and so many octets can tell its size, which isn't an unknown one.
+-- The Element has a valid ID. Its width can hold its size, which isn't an unknown one.
 pub record IsElement (e : Element) : Type 0 where
   pub id_stands : is_id e.id ≡ true
   pub some : 1 ≤ e.width
   pub most : e.width ≤ 8
   pub fits : length e.body < all_ones e.width
 
--- ---- what is written with as short a header as can be
+-- ---- Elements with the shortest header
 
 abbrev pub element : ℕ → List ℕ → Element
 element id body = record { id = id; width = least_size_width (length body); body = body }
 
--- an unsigned integer in its fewest octets
+-- an unsigned integer in its fewest bytes
 abbrev pub uint_element : ℕ → ℕ → Element
 uint_element id value = element id (uint_octets value)
 
--- a master with these children
+-- a master with the children `children`
 abbrev pub master_element : ℕ → List Element → Element
 master_element id children = element id (joined children)
 
--- A Void of so many octets in all, 2 or more (section 11.3.2, Void Element): its size has one octet where that is
--- enough, else eight.
+-- a Void of `total` bytes, at least 2 (section 11.3.2, Void Element); its size has one byte if that is enough, and otherwise eight
 abbrev pub void_element : ℕ → Element
 void_element total =
     if nat_le total 128 then record { id = VOID; width = 1; body = replicate (total - 2) 0 }
     else record { id = VOID; width = 8; body = replicate (total - 9) 0 }
 
--- ---- where it stands
+-- ---- its place
 
--- A content holds these octets at a place.
+-- The content has the bytes `octets` at the offset `p`.
 abbrev pub HoldsAt : List ℕ → ℕ → List ℕ → Type 0
 HoldsAt bytes p octets = octets_between bytes p (p + length octets) ≡ octets
 
--- the header of an Element at a place
+-- the header of an Element at the offset `p`
 abbrev pub header_in_place : ℕ → Element → Header
 header_in_place p e = record { id = e.id; offset = p; body = p + length (header_of e); size = Known (length e.body) }
 
--- the headers of Elements that stand one behind the other, from a place on
+-- the headers of Elements in sequence from the offset `p` on
 abbrev pub headers_in_place : ℕ → List Element → List Header
 headers_in_place p [] = []
 headers_in_place p (e ∷ es) = header_in_place p e ∷ headers_in_place (p + length (octets_of e)) es
 
--- Elements in front of those of a run
+-- the run with the Elements `hs` before it
 abbrev pub all_in_front : List Header → Run → Run
 all_in_front hs run = record { list = hs ++ run.list; damage = run.damage; end = run.end }

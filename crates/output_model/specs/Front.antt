@@ -1,10 +1,10 @@
--- What stands in front of the Clusters, by what the files hold.
+-- The part before the Clusters, with the data of attached files.
 use Rattle.std.specs.Prelude.{map}
 use Rattle.mkv_io.specs.LiveFiles.{LiveFiles}
 use Rattle.output_model.specs.Attached.{attached_file}
 use Rattle.output_model.specs.Document.{Front}
 use Rattle.output_model.specs.declared.front.Front as given
 
--- it, with the data that the files have
+-- the part before the Clusters, with the data in the files
 abbrev pub front_with : LiveFiles → given.Front → Front
 front_with files f = record { webm = f.webm; info = f.info; tracks = f.tracks; attachments = map (attached_file files) f.attachments }

@@ -1,4 +1,4 @@
--- What is written is read, and what was read is written so: RFC 8794, section 7.7 (Master Element).
+-- Written Elements are read back, and Elements that were read are written as the same bytes: RFC 8794, section 7.7 (Master Element).
 use Rattle.std.specs.Prelude.{◌≡◌, ◌≤◌, ℕ, ◌+◌, false, List, length, All, None}
 use Rattle.ebml_numbers.specs.Number.{AreOctets}
 use Rattle.mkv_schema.specs.declared.element.Header.{Header}
@@ -6,13 +6,13 @@ use Rattle.mkv_schema.specs.Element.{Setting, in_master}
 use Rattle.mkv_schema.specs.Elements.{children_in}
 use Rattle.output_model.specs.Element.{Element, IsElement, HoldsAt, joined, headers_in_place}
 
--- The children of a master whose body is Elements, one behind the other, are these, at their places.
+-- If the body of a master is Elements in sequence, its children are these Elements, at their offsets.
 abbrev pub ElementsAreRead : Type 0
 ElementsAreRead =
     (s : Setting) (bytes : List ℕ) (es : List Element) (p : ℕ) → s.display ≡ false → All IsElement es → HoldsAt bytes p (joined es)
     → children_in s bytes p (p + length (joined es)) ≡ record { list = headers_in_place p es; damage = None; end = p + length (joined es) }
 
--- Headers are those of Elements that a content holds from a place up to an end.
+-- The headers are headers of Elements that the content has from the offset `p` up to `e`.
 pub record AreWritten (bytes : List ℕ) (p e : ℕ) (hs : List Header) : Type 0 where
   pub elements : List Element
   pub headers : hs ≡ headers_in_place p elements
@@ -20,7 +20,7 @@ pub record AreWritten (bytes : List ℕ) (p e : ℕ) (hs : List Header) : Type 0
   pub held : HoldsAt bytes p (joined elements)
   pub whole : p + length (joined elements) ≡ e
 
--- The children of a master that no damage ends are Elements that fill its body, each with a valid ID and a size.
+-- If no damage ends the children of a master, they are Elements that fill its body, each with a valid ID and a known size.
 abbrev pub ChildrenAreWritten : Type 0
 ChildrenAreWritten =
     (bytes : List ℕ) (p e : ℕ) → AreOctets bytes → p ≤ e → e ≤ length bytes → (children_in in_master bytes p e).damage ≡ None

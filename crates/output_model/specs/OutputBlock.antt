@@ -7,10 +7,9 @@ use Rattle.block_format.specs.Content.{frames_cut}
 use Rattle.output_model.specs.declared.TheConstants.{MAX_PREFIX_LEN}
 use Rattle.output_model.specs.declared.heads.OutHead.{OutHead}
 
--- A block: the number of its lane, from 1 on, or 0 where it stands in no output yet; its tick; whether it can be
--- decoded without another block, isn't to be shown, may be left out, and is a group; the kind of its lacing
--- and its frames; its duration in ticks, where it has one, and the ticks from it to the blocks that it refers
--- to; and the octets of what else is kept of its group.
+-- a block of an output. It has the number of its output track, from 1 on, or 0 if it isn't in an output yet, and its tick. Four flags follow: it
+-- is a keyframe, it isn't shown, it may be discarded, it is a group. Then: the kind of its lacing, its frames, its duration in ticks, if it has
+-- one, and the ticks from it to the blocks that it references. `kept` has the copied bytes of other Elements of the group.
 pub record OutputBlock : Type 0 where
   pub lane : ℕ
   pub tick : ℕ
@@ -24,10 +23,10 @@ pub record OutputBlock : Type 0 where
   pub references : List ℤ
   pub kept : List ℕ
 
--- ---- as a lane hands it out
+-- ---- a borrowed block of an output track
 
--- What a lane hands out of a block: what it says of itself; what is put in front of each frame; the octets of
--- the frames and their sizes; the ticks that it refers to; and what else is kept of its group.
+-- the parts of a block that an output track returns by reference: its header fields, the bytes before each frame, the bytes and the sizes of the
+-- frames, the referenced ticks, and the copied bytes of the group
 pub record Lent : Type 0 where
   pub head : OutHead
   pub prefix : List ℕ
@@ -36,11 +35,11 @@ pub record Lent : Type 0 where
   pub references : List ℤ
   pub kept : List ℕ
 
--- octets in front of each frame
+-- the frames with the bytes `prefix` before each
 abbrev pub prefixed : List ℕ → List (List ℕ) → List (List ℕ)
 prefixed prefix frames = map (λ frame. prefix ++ frame) frames
 
--- the block that is handed out
+-- the block with these parts
 abbrev pub lent_block : Lent → OutputBlock
 lent_block l = record {
   lane = 0;
@@ -56,12 +55,12 @@ lent_block l = record {
   kept = l.kept;
 }
 
--- the block as it stands in an output: in a lane of this number, at this tick of its part
+-- the block in an output, on the output track `lane` at the tick `tick` of its part
 abbrev pub in_output : ℕ → ℕ → OutputBlock → OutputBlock
 in_output lane tick b = record b { lane = lane; tick = tick }
 
--- A lane hands out 1 to 256 frames whose sizes its lace can tell, 32 MiB in all, a prefix of 4,096 octets, 64
--- references, and 32 MiB of what else is kept, at most.
+-- A block has 1 to 256 frames whose sizes its lace can express, at most 32 MiB together. It has a prefix of at most 4,096 bytes, at most 64
+-- references, and at most 32 MiB of other Elements.
 pub record CanBeLent (kind : Lace) (prefix : ℕ) (sizes : List ℕ) (references kept : ℕ) : Type 0 where
   pub some : 1 ≤ length sizes
   pub most : length sizes ≤ 256
@@ -71,7 +70,7 @@ pub record CanBeLent (kind : Lace) (prefix : ℕ) (sizes : List ℕ) (references
   pub references_most : references ≤ MAX_REFERENCES
   pub kept_most : kept ≤ MAX_BLOCK_LEN
 
--- A block is handed out within these limits, and its sizes cut its octets.
+-- The block keeps these limits, and its sizes divide its bytes.
 pub record IsLent (l : Lent) : Type 0 where
   pub limits : CanBeLent l.head.lace (length l.prefix) l.sizes (length l.references) (length l.kept)
   pub whole : length l.body ≡ sum l.sizes

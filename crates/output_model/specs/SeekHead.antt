@@ -1,4 +1,4 @@
--- The area in front of an output: RFC 9559, sections 5.1.1 (SeekHead Element) and 16 (Segment Position). Its length is this project's.
+-- The reserved area of an output: RFC 9559, sections 5.1.1 (SeekHead Element) and 16 (Segment Position). Its length is this project's.
 use Rattle.std.specs.Prelude.{ℕ, ◌+◌, ◌-◌, List, [], ◌∷◌, length, map}
 use Rattle.byteorder.specs.Endian.{big_bytes}
 use Rattle.ebml_numbers.specs.Number.{id_octets}
@@ -7,7 +7,7 @@ use Rattle.output_model.specs.Element.{Element, element, master_element, octets_
 use Rattle.output_model.specs.declared.TheConstants.{AREA}
 use Rattle.output_model.specs.declared.places.Seek.{Seek}
 
--- the position takes eight octets
+-- a Seek, whose position takes eight bytes
 abbrev pub seek_element : Seek → Element
 seek_element s = master_element SEEK (element SEEK_ID (id_octets s.id) ∷ element SEEK_POSITION (big_bytes 8 s.position) ∷ [])
 
@@ -18,11 +18,11 @@ seek_head seeks = master_element SEEK_HEAD (map seek_element seeks)
 abbrev pub area_elements : List Seek → List Element
 area_elements seeks = seek_head seeks ∷ void_element (AREA - length (octets_of (seek_head seeks))) ∷ []
 
--- before the positions are known the area is one Void
+-- the area before the positions are known: one Void
 abbrev pub open_area : List Element
 open_area = void_element AREA ∷ []
 
--- where Elements stand, one behind the other, the first of them so many octets inside the Segment
+-- the offsets of Elements in sequence, the first at the offset `position` in the Segment
 abbrev pub seeks_from : ℕ → List Element → List Seek
 seeks_from position [] = []
 seeks_from position (e ∷ es) = record { id = e.id; position = position } ∷ seeks_from (position + length (octets_of e)) es

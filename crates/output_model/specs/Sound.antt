@@ -1,4 +1,4 @@
--- Which outputs can be written and read back: RFC 9559, sections 5.1 (Segment Element) and 10 (Cluster Blocks).
+-- Outputs that can be written and read back: RFC 9559, sections 5.1 (Segment Element) and 10 (Cluster Blocks).
 use Rattle.std.specs.Prelude.{◌≡◌, ◌≤◌, ◌<◌, ◌^◌, ⊤, ℕ, ◌+◌, ◌==◌, true, false, Bool, List, [], ◌∷◌, length, map, All, None, IfSome, Ok}
 use Rattle.ebml_numbers.specs.Number.{magnitude}
 use Rattle.mkv_schema.specs.declared.ids.TheConstants.{BLOCK_GROUP, INFO, TRACKS, ATTACHED_FILE, FILE_DATA, CHAPTERS, TAGS}
@@ -21,23 +21,23 @@ use Rattle.output_model.specs.Document.{Document, cues_for, layout}
 
 -- ---- a block
 
--- An Element that is kept of a group says what the block doesn't say by itself, and is a value of its kind.
+-- The Element may be copied in a group: it isn't a part of the block itself, and is a value of its kind.
 pub record IsKeptElement (e : Element) : Type 0 where
   pub element : IsElement e
   pub left : is_kept e.id ≡ true
   pub value : is_known_value BLOCK_GROUP e.id e.body ≡ true
 
--- the octets of Elements that are kept, one behind the other
+-- The bytes are Elements that may be copied, in sequence.
 abbrev pub AreKept : List ℕ → Type 0
 AreKept octets = (es : List Element) × (octets ≡ joined es) × All IsKeptElement es
 
--- A SimpleBlock says nothing besides its frames and its flags.
+-- A SimpleBlock has only its frames and its flags.
 pub record IsSimple (b : OutputBlock) : Type 0 where
   pub duration : b.duration ≡ None
   pub references : b.references ≡ []
   pub kept : b.kept ≡ []
 
--- A group is key where it refers to nothing; nothing says that it may be left out.
+-- A group is a keyframe if it has no references; it has no flag for discardable blocks.
 pub record IsGroup (b : OutputBlock) : Type 0 where
   pub key : b.key ≡ (length b.references == 0)
   pub discardable : b.discardable ≡ false
@@ -45,7 +45,7 @@ pub record IsGroup (b : OutputBlock) : Type 0 where
   pub references : All (λ ticks. magnitude ticks < 2 ^ 63) b.references
   pub kept : AreKept b.kept
 
--- A block whose frames its lace can hold, one frame without lace.
+-- The block has frames that its lacing can express, and a single frame has no lacing.
 pub record IsSoundBlock (b : OutputBlock) : Type 0 where
   pub tick : b.tick < 2 ^ 63
   pub frames : CanLace b.lace (map length b.frames)
@@ -53,7 +53,7 @@ pub record IsSoundBlock (b : OutputBlock) : Type 0 where
   pub simple : b.group ≡ false → IsSimple b
   pub group : b.group ≡ true → IsGroup b
 
--- It stands in a Cluster of this Timestamp, in one of so many lanes.
+-- The block is valid in a Cluster with the Timestamp `timestamp`, on one of `lanes` output tracks.
 pub record IsSoundIn (lanes timestamp : ℕ) (b : OutputBlock) : Type 0 where
   pub sound : IsSoundBlock b
   pub near : is_near timestamp b.tick ≡ true
@@ -62,7 +62,7 @@ pub record IsSoundIn (lanes timestamp : ℕ) (b : OutputBlock) : Type 0 where
 
 -- ---- a Cluster
 
--- the Timestamp is the tick of the first block, so there is one
+-- The Timestamp is the tick of the first block, so there is one.
 abbrev pub BeginsAt : ℕ → List OutputBlock → Type 0
 BeginsAt timestamp [] = ⊥
 BeginsAt timestamp (b ∷ bs) = timestamp ≡ b.tick
@@ -73,24 +73,24 @@ pub record IsSoundCluster (lanes : ℕ) (c : OutputCluster) : Type 0 where
 
 -- ---- a document
 
--- A record that is read again: a sound master of its ID, not too long and not too deep.
+-- The tree is a valid master with the ID `own`, not too long and not nested too deep, so it is read back.
 pub record IsRecord (own : ℕ) (n : Node) : Type 0 where
   pub id : id_of n ≡ own
   pub master : IsMaster n
   pub sound : IsSoundTree n
   pub limits : KeepsLimits n
 
--- an AttachedFile has one FileData
+-- The tree is an AttachedFile with one FileData.
 pub record IsAttachment (n : Node) : Type 0 where
   pub is : IsRecord ATTACHED_FILE n
   pub one : length (part FILE_DATA (children n)) ≡ 1
 
--- the numbers are this one and those behind it, in order
+-- The numbers are `n`, `n + 1` and so on, in order.
 abbrev pub CountFrom : ℕ → List ℕ → Type 0
 CountFrom n [] = ⊤
 CountFrom n (number ∷ numbers) = (number ≡ n) × CountFrom (n + 1) numbers
 
--- The TrackEntries are read without refusal, and their numbers count from 1: each is a lane.
+-- The TrackEntries are read without refusal, and their numbers count from 1: each is an output track.
 pub record AreTracks (tracks : Node) : Type 0 where
   pub is : IsRecord TRACKS tracks
   pub read : entries_in tracks ≡ Ok (entries_of tracks)
@@ -100,8 +100,8 @@ pub record AreTracks (tracks : Node) : Type 0 where
 abbrev pub lanes_of : Document → ℕ
 lanes_of d = length (entries_of d.front.tracks)
 
--- A document whose records are read again, whose Clusters are sound and whose cue points are those of some of its
--- blocks, of 2^48 octets at most.
+-- The document can be read back: its trees are, its Clusters are valid, and its cue points belong to some of its blocks. It has at most 2^48
+-- bytes.
 pub record IsSoundDocument (d : Document) : Type 0 where
   pub info : IsRecord INFO d.front.info
   pub scale : 1 ≤ scale_of d.front.info

@@ -1,13 +1,13 @@
-//! What stands in front of the Clusters.
+//! The part of an output before its Clusters.
 
 use crate::attachment::Attachment;
 use ebml_tree::Tree;
 use mkv_io::List;
 
-/// What stands in front of the Clusters of an output.
+/// Part of an output before its Clusters.
 #[derive(Drop)]
 pub struct Front {
-    /// The DocType is `webm`, and else `matroska`.
+    /// True if the DocType is `webm`, and false if it is `matroska`.
     pub webm: bool,
     pub info: Tree,
     pub tracks: Tree,

@@ -1,36 +1,35 @@
-//! What a block says of itself, and where a Cluster ends.
+//! Header fields of a block, and the end of a Cluster.
 
 use lacing::Lace;
 
-/// What an output block says of itself besides its frames: RFC 9559, section 10 (Cluster Blocks). Times are in
-/// ticks of the output.
+/// Header fields of an output block: RFC 9559, section 10 (Cluster Blocks). Times are in ticks of the output.
 #[derive(Clone, Copy, Debug, PartialEq, Eq)]
 pub struct OutHead {
-    /// Its tick, as its lane has it.
+    /// Tick of the block on its output track.
     pub tick: u64,
-    /// The greatest tick of its lane up to it, by which blocks are merged.
+    /// Greatest tick of the output track up to this block; blocks are merged by it.
     pub order: u64,
-    /// Its BlockDuration, where it has one.
+    /// BlockDuration, if the block has one.
     pub duration: Option<u64>,
-    /// It can be decoded without another block.
+    /// True if the block is a keyframe.
     pub key: bool,
-    /// It is decoded, and not shown.
+    /// True if the block is decoded, but not shown.
     pub invisible: bool,
-    /// It may be left out where there is no time for it.
+    /// True if the block may be left out if there is no time for it.
     pub discardable: bool,
-    /// It is a BlockGroup, and else a SimpleBlock.
+    /// True for a BlockGroup, false for a SimpleBlock.
     pub group: bool,
-    /// How its frames are laced; without lacing it has one.
+    /// Lacing of the frames; without lacing there is one.
     pub lace: Lace,
 }
 
-/// Where a Cluster ends.
+/// Limits that end a Cluster.
 #[derive(Clone, Copy, Debug, PartialEq, Eq)]
 pub struct ClusterLimits {
-    /// The most blocks.
+    /// Maximum number of blocks.
     pub blocks: u32,
-    /// The most nanoseconds from its Timestamp to a block.
+    /// Maximum time from the Timestamp to a block, in nanoseconds.
     pub span: u64,
-    /// The nanoseconds of a tick.
+    /// Nanoseconds per tick.
     pub scale: u64,
 }

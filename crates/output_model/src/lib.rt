@@ -1,8 +1,9 @@
 #![tactic(auto)]
 
-//! An output: its blocks, the Clusters that they are cut into, its cue points, its attached files, and the octets of the
-//! whole file, as RFC 8794, section 6 (Element Data Size), and RFC 9559, sections 4.5 (Data Layout), 5.1 (Segment Element) and
-//! 10 (Cluster Blocks), have them. The definitions, which the crates above cite, stand in `specs/`.
+//! An output: its blocks, its Clusters, its cue points, its attached files, and the bytes of the whole file.
+//!
+//! The standards are RFC 8794, section 6 (Element Data Size), and RFC 9559, sections 4.5 (Data Layout), 5.1 (Segment
+//! Element) and 10 (Cluster Blocks). The definitions, which higher crates use, are in `specs/`.
 
 mod attachment;
 mod element_laws;
@@ -19,17 +20,17 @@ pub use lacing::Lace;
 pub use places::{CuePoint, Seek};
 pub use rule::CueRule;
 
-/// The most octets of a Cluster's body, where it has more than one block.
+/// Maximum length in bytes of the body of a Cluster with more than one block.
 pub const MAX_CLUSTER_LEN: u64 = 1 << 20;
 
-/// The octets of the area in front, a SeekHead and the Void behind it.
+/// Length in bytes of the reserved area: a SeekHead and the Void after it.
 pub const AREA: u64 = 256;
 
-/// The most cue points of an output.
+/// Maximum number of cue points of an output.
 pub const MAX_CUES: usize = 1 << 20;
 
-/// The most octets that a lane puts back in front of each frame.
+/// Maximum number of bytes that are put back before each frame of an output track.
 pub const MAX_PREFIX_LEN: usize = 4096;
 
-/// The most lanes of an output.
+/// Maximum number of tracks of an output.
 pub const MAX_LANES: usize = 64;

@@ -1,22 +1,22 @@
-//! Where blocks and Elements stand in an output.
+//! Places of blocks and Elements in an output.
 
-/// Where a block stands: RFC 9559, section 5.1.5 (Cues Element).
+/// Place of a block: RFC 9559, section 5.1.5 (Cues Element).
 #[derive(Clone, Copy, Debug, PartialEq, Eq)]
 pub struct CuePoint {
-    /// Its tick.
+    /// Tick of the block.
     pub tick: u64,
-    /// The number of its lane, from 1 on.
+    /// Number of the output track, from 1 on.
     pub lane: u8,
-    /// Octets from the Segment's first body octet to its Cluster.
+    /// Offset in bytes of the Cluster from the start of the Segment's body.
     pub cluster: u64,
-    /// Octets from the Cluster's first body octet to its SimpleBlock or BlockGroup.
+    /// Offset in bytes of the SimpleBlock or BlockGroup from the start of the Cluster's body.
     pub relative: u64,
 }
 
-/// Where an Element of the Segment stands: RFC 9559, section 5.1.1 (SeekHead Element).
+/// Place of an Element of the Segment: RFC 9559, section 5.1.1 (SeekHead Element).
 #[derive(Clone, Copy, Debug, PartialEq, Eq)]
 pub struct Seek {
     pub id: u32,
-    /// Octets from the Segment's first body octet to it.
+    /// Offset in bytes of the Element from the start of the Segment's body.
     pub position: u64,
 }

@@ -1,21 +1,21 @@
-//! Which blocks get a cue point.
+//! Rules for the blocks with a cue point.
 
 ghost use Rattle.std.specs.Prelude.{◌≡◌};
 ghost use Rattle.output_model.specs.Cued.{is_cue_by};
 
-/// Which blocks of a lane get a cue point.
+/// Rule for the blocks of an output track that get a cue point.
 #[derive(Clone, Copy, Debug, PartialEq, Eq)]
 pub enum CueRule {
-    /// None of them.
+    /// No block.
     Never,
-    /// Those that can be decoded without another block.
+    /// Only keyframes.
     Key,
-    /// All of them.
+    /// All blocks.
     All,
 }
 
 impl CueRule {
-    /// Whether a block gets a point that is key, or isn't.
+    /// Checks whether a block gets a cue point; `key` is true for a keyframe.
     pub fn takes(&self, key: bool) -> bool
         ensures { result ≡ is_cue_by self.now key }
     {
