@@ -127,7 +127,7 @@ pub opened-audio : opened audio ≡ (0x1A ∷ 0x45 ∷ 0xDF ∷ 0xA3 ∷ 0xA3 �
 unfolding uint_width least_size_width
 opened-audio = refl
 
--- video with two blocks, the first of which is a keyframe with a cue point: 414 bytes
+-- video with two blocks: first a keyframe with a cue point, then another block; 414 bytes
 abbrev video : Document
 video = output (track 7 1 (codes "V_VP8")) true (simple 0 true (0xAA ∷ []) ∷ simple 20 false (0xBB ∷ []) ∷ [])
 

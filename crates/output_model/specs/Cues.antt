@@ -9,7 +9,7 @@ use Rattle.output_model.specs.Cluster.{OutputCluster, timestamp_element, cluster
 
 -- ---- the points of blocks
 
--- the cue point of a block; its Cluster is at the offset `cluster` in the Segment, and its Element at the offset `relative` in the Cluster
+-- the cue point of a block. Its Cluster is at the offset `cluster` in the Segment, and its Element at the offset `relative` in the Cluster.
 abbrev pub point_of : ℕ → ℕ → OutputBlock → CuePoint
 point_of cluster relative b = record { tick = b.tick; lane = b.lane; cluster = cluster; relative = relative }
 

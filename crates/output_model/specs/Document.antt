@@ -110,7 +110,7 @@ layout d =
     let rest = joined (elements_behind_area d) in
     file_with d.front.webm (segment_size (length rest)) (area_elements (seeks_of d)) rest
 
--- an output that is being written, with the bytes `rest` after the part before the Clusters; its size is unknown, and its area is one Void
+-- an output that is being written, with the bytes `rest` after the part before the Clusters. Its size is unknown, and its area is one Void.
 abbrev pub opened_with : Front → List ℕ → List ℕ
 opened_with f rest = file_with f.webm unknown_size open_area (joined (front_elements f) ++ rest)
 

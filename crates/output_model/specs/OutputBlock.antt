@@ -8,8 +8,8 @@ use Rattle.output_model.specs.declared.TheConstants.{MAX_PREFIX_LEN}
 use Rattle.output_model.specs.declared.heads.OutHead.{OutHead}
 
 -- a block of an output. It has the number of its output track, from 1 on, or 0 if it isn't in an output yet, and its tick. Four flags follow: it
--- is a keyframe, it isn't shown, it may be discarded, it is a group. Then: the kind of its lacing, its frames, its duration in ticks, if it has
--- one, and the ticks from it to the blocks that it references. `kept` has the copied bytes of other Elements of the group.
+-- is a keyframe, it isn't shown, it may be discarded, it is a group. Then the kind of its lacing, its frames, its duration in ticks, if it has
+-- one, and the ticks from it to referenced blocks. `kept` has the copied bytes of other Elements of the group.
 pub record OutputBlock : Type 0 where
   pub lane : ℕ
   pub tick : ℕ
@@ -25,8 +25,8 @@ pub record OutputBlock : Type 0 where
 
 -- ---- a borrowed block of an output track
 
--- the parts of a block that an output track returns by reference: its header fields, the bytes before each frame, the bytes and the sizes of the
--- frames, the referenced ticks, and the copied bytes of the group
+-- the parts of a block that an output track returns by reference. These are its header fields, the bytes before each frame, the bytes and the
+-- sizes of the frames, the referenced ticks, and the copied bytes of the group.
 pub record Lent : Type 0 where
   pub head : OutHead
   pub prefix : List ℕ
