@@ -1,4 +1,4 @@
--- Small lanes and merges, computed, so that a wrong definition does not check.
+-- Computed small output tracks and merges. A wrong definition fails here.
 use Rattle.std.proofs.Common.{◌≡◌, ℕ, ◌+◌, ◌*◌, true, false, List, [], ◌∷◌, map, Some, None, refl}
 use Rattle.std.specs.Prelude.{ℤ, pos, negsuc}
 use Rattle.lacing.specs.declared.kind.Lace.TheVariants as lace
@@ -23,19 +23,19 @@ pub record AreTicks : Type 0 where
   pub odd_scale_up : tick_of 3 2 ≡ 1
   pub before_start : tick_near 1000000 (negsuc 499999) ≡ pos 0
   pub further_before : tick_near 1000000 (negsuc 500000) ≡ negsuc 0
-  -- a duration is the difference of two ticks, and isn't rounded by itself
+  -- A duration is the difference of two ticks, and isn't rounded by itself.
   pub duration : ticks_for 1000000 400000 200000 ≡ 1
   pub same_duration_later : ticks_for 1000000 600000 200000 ≡ 0
   pub reference : ticks_to 1000000 40000000 (negsuc 39999999) ≡ negsuc 39
-  -- a reference may stand before the start, and isn't rounded to 0
+  -- A reference may be before the start, and isn't rounded to 0.
   pub reference_before_start : ticks_to 1000000 0 (negsuc 999999) ≡ negsuc 0
 
 ticks_hold : AreTicks
 ticks_hold = record { exact = refl; half = refl; below_half = refl; odd_scale = refl; odd_scale_up = refl; before_start = refl; further_before = refl; duration = refl; same_duration_later = refl; reference = refl; reference_before_start = refl }
 
--- ---- lanes
+-- ---- output tracks
 
--- a SimpleBlock of a track at so many milliseconds
+-- a SimpleBlock of a track at `ms` milliseconds
 abbrev at_ms : ℕ → ℕ → Event
 at_ms track ms = block (record {
   track = track;
@@ -65,11 +65,11 @@ plain delay shift = record { delay = delay; shift = shift; default_duration = No
 abbrev lasts : Placing
 lasts = record { delay = pos 0; shift = 0; default_duration = Some 20000000; prefix = [] }
 
--- a track at its own times
+-- a track with its own timestamps
 abbrev track : ℕ → List Event → Given
 track number events = track_given (plain (pos 0) 0) number events
 
--- with this delay, and behind this shift
+-- the same with a delay and an append offset
 abbrev moved : ℤ → ℕ → List Event → Given
 moved delay shift events = track_given (plain delay shift) 1 events
 
@@ -79,11 +79,11 @@ ticks blocks = map (λ (b : OutputBlock). b.tick) blocks
 abbrev s1 : List Event
 s1 = at_ms 1 0 ∷ at_ms 2 5 ∷ at_ms 1 20 ∷ []
 
--- one that ends at its second block
+-- a file that ends at its second block
 abbrev cut : List Event
 cut = at_ms 1 0 ∷ stopped truncated ∷ []
 
--- one of two Clusters, whose first is closed and ends with a bad block
+-- a file with two Clusters; the first is closed and ends with a bad block
 abbrev holed : List Event
 holed = at_ms 1 0 ∷ damaged short_block ∷ at_ms 1 40 ∷ at_ms 1 60 ∷ []
 
@@ -91,17 +91,17 @@ abbrev hello : Entry
 hello = record { start = 1000000000; duration = 500000000; text = 0x48 ∷ 0x69 ∷ [] }
 
 pub record AreLanes : Type 0 where
-  -- other tracks' blocks aren't the lane's
+  -- Blocks of other tracks don't belong to the output track.
   pub own_track : ticks (lane_blocks 1000000 (track 1 s1 ∷ [])) ≡ 0 ∷ 20 ∷ []
-  -- what a delay takes before the start is dropped
+  -- Blocks that a delay moves before the start are dropped.
   pub dropped : ticks (lane_blocks 1000000 (moved (negsuc 1499999999) 0 (map (at_ms 1) (0 ∷ 1000 ∷ 1500 ∷ 2000 ∷ [])) ∷ [])) ≡ 0 ∷ 500 ∷ []
-  -- it is dropped before it is shifted
+  -- They are dropped before the append offset is added.
   pub dropped_first : ticks (lane_blocks 1000000 (moved (negsuc 9999999) 100000000 s1 ∷ [])) ≡ 110 ∷ []
-  -- an appended file begins where the one before it ends
+  -- An appended file begins at the end of the previous one.
   pub appended : ticks (lane_blocks 1000000 (track 1 s1 ∷ moved (pos 0) (file_end (track 1 s1 ∷ [])) s1 ∷ [])) ≡ 0 ∷ 20 ∷ 20 ∷ 40 ∷ []
-  -- a damage in a closed Cluster leaves out no block behind it, and no file
+  -- A damage in a closed Cluster leaves out no later block, and no file.
   pub went_on : ticks (lane_blocks 1000000 (track 1 holed ∷ moved (pos 0) (file_end (track 1 holed ∷ [])) s1 ∷ [])) ≡ 0 ∷ 40 ∷ 60 ∷ 60 ∷ 80 ∷ []
-  -- behind a file that isn't read to its end no file counts
+  -- Files after one that isn't read to its end don't count.
   pub ended : ticks (lane_blocks 1000000 (track 1 cut ∷ track 1 s1 ∷ [])) ≡ 0 ∷ []
   pub damages : lane_damages (track 1 holed ∷ track 1 cut ∷ track 1 holed ∷ []) ≡ (short_block ∷ []) ∷ (truncated ∷ []) ∷ [] ∷ []
   pub frames : map (λ (b : OutputBlock). b.frames) (lane_blocks 1000000 (track 2 s1 ∷ [])) ≡ ((0x0B ∷ 0xAA ∷ []) ∷ []) ∷ []
@@ -114,7 +114,7 @@ lanes_hold = record { own_track = refl; dropped = refl; dropped_first = refl; ap
 -- ---- texts and ends
 
 pub record AreEnds : Type 0 where
-  -- an entry is one group
+  -- An entry is one group.
   pub entry : lane_blocks 1000000 (text_given (pos 0) 0 (hello ∷ []) ∷ []) ≡ record {
     lane = 0;
     tick = 1000;
@@ -128,12 +128,12 @@ pub record AreEnds : Type 0 where
     references = [];
     kept = [];
   } ∷ []
-  -- a file without blocks of its lanes ends at the start
+  -- A file without blocks on its output tracks ends at the start.
   pub none : file_end (track 3 s1 ∷ []) ≡ 0
-  -- of the ends of its lanes the greatest, a frame's default duration among them
+  -- The end is the greatest of the ends on its output tracks, including a frame's default duration.
   pub greatest : file_end (track 1 s1 ∷ track_given lasts 2 s1 ∷ text_given (pos 0) 0 (hello ∷ []) ∷ []) ≡ 1500000000
   pub default_duration : file_end (track_given lasts 1 s1 ∷ []) ≡ 40000000
-  -- a dropped block doesn't count
+  -- A dropped block doesn't count.
   pub dropped : file_end (moved (negsuc 999999999) 0 s1 ∷ []) ≡ 0
 
 ends_hold : AreEnds
@@ -141,15 +141,15 @@ ends_hold = record { entry = refl; none = refl; greatest = refl; default_duratio
 
 -- ---- the merged list
 
--- the lane and the tick of each block
+-- the output track and the tick of each block
 abbrev shown : List OutputBlock → List ℕ
 shown blocks = map (λ (b : OutputBlock). b.lane * 1000 + b.tick) blocks
 
 pub record AreMerged : Type 0 where
-  -- video in the order of its decoding: 0, 80, 40; audio 0, 40, 80
+  -- Video in decoding order: 0, 80, 40; audio 0, 40, 80.
   pub reordered : shown (merged (lane_blocks 1000000 (track 1 (map (at_ms 1) (0 ∷ 80 ∷ 40 ∷ [])) ∷ []) ∷ lane_blocks 1000000 (track 2 (map (at_ms 2) (0 ∷ 40 ∷ 80 ∷ [])) ∷ []) ∷ []))
       ≡ 1000 ∷ 2000 ∷ 2040 ∷ 1080 ∷ 1040 ∷ 2080 ∷ []
-  -- both of two blocks with one time and track
+  -- Two blocks with the same timestamp and track are both there.
   pub twice : shown (merged (lane_blocks 1000000 (track 1 (at_ms 1 20 ∷ at_ms 1 20 ∷ []) ∷ []) ∷ [])) ≡ 1020 ∷ 1020 ∷ []
   pub none : merged ([] ∷ [] ∷ []) ≡ []
 

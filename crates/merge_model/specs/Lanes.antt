@@ -1,16 +1,16 @@
--- A lane: one output track, which takes its blocks from one input, or from one input after the other. That is this project's; blocks are
--- those of RFC 9559, section 10 (Cluster Blocks).
+-- An output track, which takes its blocks from one input or from several in sequence. This is this project's choice; blocks are defined by RFC
+-- 9559, section 10 (Cluster Blocks).
 use Rattle.std.specs.Prelude.{ℕ, if◌then◌else◌, List, [], ◌∷◌, ◌++◌, map}
 use Rattle.mkv_io.specs.declared.damage.Damage.{Damage}
 use Rattle.output_model.specs.OutputBlock.{OutputBlock}
 use Rattle.merge_model.specs.Links.{Given, given_blocks}
 
--- The blocks of a lane, input after input. Behind one that isn't read to its end no input counts.
+-- the blocks of an output track, one input after another; inputs after one that isn't read to its end don't count
 abbrev pub lane_blocks : ℕ → List Given → List OutputBlock
 lane_blocks scale [] = []
 lane_blocks scale (g ∷ gs) = given_blocks scale g ++ (if g.stops then [] else lane_blocks scale gs)
 
--- The damages of each input that counts, in the order of the inputs; the others have none.
+-- the damage of each input that counts, in the order of the inputs; the others have none
 abbrev pub lane_damages : List Given → List (List Damage)
 lane_damages [] = []
 lane_damages (g ∷ gs) = g.damages ∷ (if g.stops then map (λ _. []) gs else lane_damages gs)

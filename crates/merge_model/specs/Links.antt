@@ -1,5 +1,5 @@
--- What one input gives to a lane, and how its blocks are placed in the output: RFC 9559, sections 10 (Cluster Blocks), 10.3 (Block
--- Lacing) and 11 (Timestamps).
+-- Sources of output tracks, and the place of their blocks in the output: RFC 9559, sections 10 (Cluster Blocks), 10.3 (Block Lacing) and 11
+-- (Timestamps).
 use Rattle.std.specs.Prelude.{ℕ, ◌+◌, ◌==◌, ℤ, pos, ◌+ℤ◌, Bool, true, false, List, [], ◌∷◌, ◌++◌, map, filter, flat_map, Option, Some, None, is_some}
 use Rattle.std.specs.Option.{option_map}
 use Rattle.lacing.specs.declared.kind.Lace.{Lace}
@@ -13,23 +13,23 @@ use Rattle.merge_model.specs.Ticks.{since_start, tick_of, ticks_for, ticks_to}
 
 -- ---- a link
 
--- How the blocks of an input are placed in the output: the delay of their times, the time at which the input begins,
--- how long a frame lasts that has no duration, and what stands in front of each frame. Times in nanoseconds.
+-- the place of an input's blocks in the output. It has the delay of their timestamps, the append offset, the duration of a frame without one, and
+-- the bytes before each frame. Times are in nanoseconds.
 pub record Placing : Type 0 where
   pub delay : ℤ
   pub shift : ℕ
   pub default_duration : Option ℕ
   pub prefix : List ℕ
 
--- What one input gives to a lane: the blocks of a track in the order of the file; the damages of the file, and
--- whether one of them ends what is read of it; and how the blocks are placed.
+-- a source. It has the blocks of a track in the order of the file, the damage of the file, whether the damage ends the reading, and the place of
+-- the blocks.
 pub record Given : Type 0 where
   pub blocks : List Block
   pub damages : List Damage
   pub stops : Bool
   pub placing : Placing
 
--- a track of this number, of a file with these blocks and damages
+-- the source with the track number `number` of a file with these events
 abbrev pub track_given : Placing → ℕ → List Event → Given
 track_given p number events = record {
   blocks = filter (λ (b : Block). b.track == number) (blocks_of events);
@@ -38,7 +38,7 @@ track_given p number events = record {
   placing = p;
 }
 
--- An entry of a text as a block: a group of one frame, which lasts as long as the entry is shown.
+-- the entry of a text as a block: a group of one frame, which lasts as long as the entry is shown
 abbrev pub entry_block : Entry → Block
 entry_block e = record {
   track = 0;
@@ -55,7 +55,7 @@ entry_block e = record {
   offset = 0;
 }
 
--- the entries of a text, with this delay and this shift
+-- the source of the entries of a text with this delay and append offset
 abbrev pub text_given : ℤ → ℕ → List Entry → Given
 text_given delay shift entries = record {
   blocks = map entry_block entries;
@@ -66,13 +66,13 @@ text_given delay shift entries = record {
 
 -- ---- a block in the output
 
--- the lacing of a block as it is written: none for a single frame, else the kind that it had
+-- the lacing of a written block: none for a single frame, and otherwise the kind that it had
 abbrev pub lace_for : List (List ℕ) → Lace → Lace
 lace_for [] kind = kind
 lace_for (frame ∷ []) kind = lace.None
 lace_for (frame ∷ other ∷ frames) kind = kind
 
--- A block at so many nanoseconds of the output, each frame of which has this in front; its lane isn't known yet.
+-- the block at `t` nanoseconds of the output, with `prefix` before each frame; its output track isn't known yet
 abbrev pub output_block : ℕ → List ℕ → ℕ → Block → OutputBlock
 output_block scale prefix t b = record {
   lane = 0;
@@ -88,19 +88,19 @@ output_block scale prefix t b = record {
   kept = b.kept;
 }
 
--- the time of a block with the delay, none where that is before the start
+-- the timestamp of a block with the delay, or None if that is before the start
 abbrev pub delayed : Placing → Block → Option ℕ
 delayed p b = since_start (b.time +ℤ p.delay)
 
--- a block that has this time with the delay; one without a time is dropped
+-- the block with this timestamp after the delay; a block without one is dropped
 abbrev pub placed_at : ℕ → Placing → Block → Option ℕ → List OutputBlock
 placed_at scale p b None = []
 placed_at scale p b (Some t) = output_block scale p.prefix (t + p.shift) b ∷ []
 
--- what a block becomes: nothing, or one block of the output
+-- the block of the output that a block becomes, or nothing
 abbrev pub placed : ℕ → Placing → Block → List OutputBlock
 placed scale p b = placed_at scale p b (delayed p b)
 
--- the blocks that an input gives, in an output of so many nanoseconds a tick
+-- the blocks of a source, in an output of `scale` nanoseconds per tick
 abbrev pub given_blocks : ℕ → Given → List OutputBlock
 given_blocks scale g = flat_map (placed scale g.placing) g.blocks

@@ -1,8 +1,8 @@
 #![tactic(auto)]
 
-//! What a merge makes of its inputs: the blocks of a lane, which is one output track, their times in ticks,
-//! the end of a file, and the order in which the blocks of all lanes are written. The definitions, which the crates
-//! above cite, stand in `specs/`.
+//! The result of a merge for its inputs: the blocks of each output track, their timestamps in ticks, and the order of
+//! all blocks. The end of a file is defined too, for appended files. The definitions, which higher crates use, are in
+//! `specs/`.
 
 mod limits;
 mod link;

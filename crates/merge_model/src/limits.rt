@@ -1,11 +1,11 @@
 //! The limits of a merge, which are this project's.
 
-/// The most links of a lane.
+/// Maximum number of links of an output track.
 pub const MAX_LINKS: usize = 64;
 
-/// The least number of nanoseconds that is too large for a delay, forwards or backwards.
+/// Smallest absolute value of a delay, in nanoseconds, that is too large.
 pub const TOO_LARGE_DELAY: u64 = 1 << 55;
 
-/// The most nanoseconds of a shift: 63 ends of files, each of a block that stands below 2^56 + 2^55 and lasts less than
-/// 2^56.
+/// Maximum append offset in nanoseconds: the ends of 63 files. The last block of each begins below 2^56 + 2^55 and
+/// lasts less than 2^56.
 pub const MAX_SHIFT: u64 = 63 * ((1 << 57) + (1 << 55));

@@ -1,55 +1,55 @@
-//! What a lane is made of.
+//! Sources of an output track.
 
 use element_reader::Outline;
 use ext_times::Times;
 use mkv_io::{Bytes, Entry, FileId, List};
 use std::rc::Rc;
 
-/// What a lane is made of: its links, in their order.
+/// Sources of an output track: its links, in their order.
 #[derive(Drop)]
 pub struct LaneSpec {
     pub links: List<Link>,
 }
 
-/// What one input gives to a lane.
+/// Source of an output track in one input.
 #[derive(Drop)]
 pub enum Link {
     /// A track of a Matroska file.
     Track(TrackLink),
-    /// A text.
+    /// Entries of a SubRip file.
     Entries(TextLink),
 }
 
-/// A track of a Matroska file.
+/// Source track of a Matroska file.
 #[derive(Drop)]
 pub struct TrackLink {
-    /// The file.
+    /// Live file of the track.
     pub file: FileId,
-    /// Its outline.
+    /// Outline of the file.
     pub outline: Rc<Outline>,
     /// The TrackNumber.
     pub number: u64,
-    /// Nanoseconds for a tick of the file.
+    /// Nanoseconds per tick of the file.
     pub scale: u64,
-    /// How many nanoseconds a frame of the track lasts.
+    /// Duration of a frame of the track, in nanoseconds, if the track has a default.
     pub default_duration: Option<u64>,
-    /// Nanoseconds that are added to each time; a block that is then before the start is dropped.
+    /// Nanoseconds that are added to each timestamp. A block that is then before the start is dropped.
     pub delay: i64,
-    /// Nanoseconds that are added then.
+    /// Append offset: nanoseconds that are added after that.
     pub shift: u64,
-    /// What stands in front of each frame.
+    /// Bytes that are put before each frame.
     pub prefix: Bytes,
-    /// The times of the track's frames, which count from 0, where they are those of a file. Each block has then the time of its
-    /// first frame in place of its own.
+    /// Timestamps of the track's frames from a timestamp file, if there is one; frames count from 0. Each block gets
+    /// the timestamp of its first frame instead of its own.
     pub times: Option<Rc<Times>>,
 }
 
-/// The entries of a text.
+/// Source text: entries of a SubRip file.
 #[derive(Drop)]
 pub struct TextLink {
     pub entries: List<Entry>,
-    /// Nanoseconds that are added to each time; an entry that is then before the start is dropped.
+    /// Nanoseconds that are added to each timestamp. An entry that is then before the start is dropped.
     pub delay: i64,
-    /// Nanoseconds that are added then.
+    /// Append offset: nanoseconds that are added after that.
     pub shift: u64,
 }
