@@ -96,7 +96,7 @@ duration_of scale bytes children = option_map (λ (c : Header). uint_of (body_of
 abbrev pub references_of : ℕ → List ℕ → List Header → List ℤ
 references_of scale bytes children = map (λ (c : Header). nanoseconds scale (int_of (body_of bytes c))) (references_among children)
 
--- the IDs of Elements that aren't copied: the parts of a block, and Elements without content
+-- the IDs of Elements that aren't copied: the parts of the block itself, and Elements that don't describe it
 abbrev pub left_out : List ℕ
 left_out = BLOCK ∷ BLOCK_DURATION ∷ REFERENCE_BLOCK ∷ VOID ∷ CRC_32 ∷ SLICES ∷ []
 

@@ -10,7 +10,7 @@ use Rattle.tree_format.specs.Values.{first_child}
 use Rattle.tree_format.proofs.ChildLemmas.{first_child-value}
 use Rattle.ebml_tree.specs.Texts.{HasText}
 
--- A valid Element has the texts of its ID.
+-- If the table has `id` as a text under `parent`, it does so under an Element with this ID.
 pub HasText-of : (parent id : ℕ) (n : Node) → IsSoundOf parent n → HasText parent id → HasText (id_of n) id
 HasText-of parent id n is text = let P : ℕ → Type 0 = λ p. HasText p id in subst P (sym is.id) text
 

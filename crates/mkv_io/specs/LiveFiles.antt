@@ -9,7 +9,7 @@ pub record LiveFiles : Type 0 where
   pub size : ℕ → ℕ
   pub content : ℕ → Option (List ℕ)
 
--- The file with the number `file` is live in `new` if it was in `old`, and a live file has the same length and content.
+-- The file with the number `file` is live in `new` if and only if it was in `old`, and a live file has the same length and content.
 pub record IsSameFile (old new : LiveFiles) (file : ℕ) : Type 0 where
   pub alive : new.live file ≡ old.live file
   pub size : old.live file ≡ true → new.size file ≡ old.size file

@@ -45,7 +45,7 @@ pub enum Kind {
     BadLacing,
     /// A block is larger than its limit.
     BlockTooLarge,
-    /// A block's timestamp, duration or reference is out of its range.
+    /// A block's timestamp, duration or reference is over its limit.
     TimeTooLarge,
     /// A block precedes its Cluster's Timestamp.
     NoTimestamp,

@@ -1,4 +1,4 @@
-//! Timed text: an entry of a SubRip file, or a block of a text track.
+//! Timed text: an entry of a SubRip file, which an output track turns into a block.
 
 use crate::octets::Text;
 

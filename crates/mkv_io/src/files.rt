@@ -33,7 +33,7 @@ pub trait Files: Reads {
     /// Names under which files were opened or made, in order. The name of a `create` that failed may be among them.
     ghost asked: { Self → List Asked };
 
-    /// Opens the file `name` for reading and writing, and returns its number.
+    /// Opens the file `name`, and returns its number.
     fn open_file(&mut self, name: &str) -> Result<FileId, OpenFault>
         ensures missing { IfVisible (names self.old) (λ world. IsErrOf result OpenFault.Missing ↔ (world name.now ≡ None)) }
         ensures opened { IfOk result (IsOpenedFile Self.Reads names holder given self.old self.new name.now) }

@@ -36,7 +36,7 @@ reads_in d n = (file_of n (pair_in d)).reads
 abbrev pub room_for : ℕ → ℕ → CallBudget
 room_for calls octets = record { calls = calls; octets = octets }
 
--- two files without pending writes, with room for `room` calls and bytes; no pair is open, and no call must fail
+-- two files without pending writes, with room for `room` calls and bytes; no pair is open, and no call is set to fail
 abbrev pub fresh : List ℕ → List ℕ → CallBudget → SeenDisk
 fresh media sidecar room = record {
   logged = unchanged media sidecar room;

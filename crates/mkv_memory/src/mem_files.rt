@@ -37,7 +37,7 @@ impl MemFiles {
     ghost use Rattle.mkv_memory.specs.SeenFiles.{with_file, with_stored, no_files, with_failure};
     ghost use Rattle.mkv_memory.specs.FilesIn.{seen};
 
-    /// Returns a store without files; no call must fail.
+    /// Returns an empty set of files in memory; no call is set to fail.
     pub fn new(alloc: Global) -> Result<MemFiles, AllocError>
         ensures { IsOkAnd result (λ files. seen files ≡ no_files) }
     {

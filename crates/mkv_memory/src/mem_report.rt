@@ -32,7 +32,7 @@ impl MemReport {
     ghost use Rattle.mkv_memory.specs.SeenReport.{no_lines, with_failure, with_line};
     ghost use Rattle.mkv_memory.specs.ReportIn.{seen};
 
-    /// Returns a report without lines, with room for `lines` lines and `octets` bytes in all. No call must fail.
+    /// Returns a report without lines, with room for `lines` lines and `octets` bytes in all. No call is set to fail.
     pub fn new(alloc: Global, lines: u32, octets: u64) -> Result<MemReport, AllocError>
         ensures { IfOk result (λ report. seen report ≡ no_lines lines octets) }
     {

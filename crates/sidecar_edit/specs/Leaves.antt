@@ -10,7 +10,7 @@ use Rattle.sidecar_edit.specs.Recovery.{IsClosed, IsQuiet, recovered, recovery}
 abbrev pub IsGated : List ℕ → List ℕ → Type 0
 IsGated S s = (s ≡ OPEN ∷ drop 1 S) ⊎ IsClosed s
 
--- The journal is valid, and belongs to the file.
+-- The two files can be recovered: the journal has no pending edit, or one that belongs to the file.
 abbrev pub IsRecoverable : List ℕ → List ℕ → Type 0
 IsRecoverable m s = (recovery m s ≡ Ok Nothing) ⊎ (recovery m s ≡ Ok Applied)
 

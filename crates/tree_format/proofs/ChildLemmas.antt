@@ -79,7 +79,7 @@ first_child-value tree n id kind sound may is found =
     let there = first_child-stands tree n id sound found in
     stands-value (id_of tree) kind n there.0 (ap (λ k. may_stand k (id_of tree)) there.1 ∙ may) (ap kind_of there.1 ∙ is)
 
--- A valid Element has the kind of children of its ID.
+-- If the table has `id` as an unsigned integer under `parent`, it does so under an Element with this ID.
 pub HasUint-of : (parent id : ℕ) (n : Node) → IsSoundOf parent n → HasUint parent id → HasUint (id_of n) id
 HasUint-of parent id n is uint = let P : ℕ → Type 0 = λ p. HasUint p id in subst P (sym is.id) uint
 

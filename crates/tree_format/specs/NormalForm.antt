@@ -4,7 +4,7 @@ use Rattle.ebml_numbers.specs.Number.{id_octets, size_octets, least_size_width}
 use Rattle.mkv_schema.specs.declared.ids.TheConstants.{VOID, CRC_32}
 use Rattle.tree_format.specs.Node.{Node, Nodes, leaf, master, none, node}
 
--- The ID is Void or CRC-32. These have no content of their own, and aren't written (section 11.3, Global Elements).
+-- The ID is Void or CRC-32. These don't describe the content of a master, and aren't written (section 11.3, Global Elements).
 abbrev pub is_filler : ℕ → Bool
 is_filler id = id == VOID || id == CRC_32
 
