@@ -23,6 +23,6 @@ tick_near scale t = floor_div (t +ℤ pos (scale / 2)) scale
 abbrev pub ticks_for : ℕ → ℕ → ℕ → ℕ
 ticks_for scale t duration = tick_of scale (t + duration) - tick_of scale t
 
--- the difference in ticks of a time `away` nanoseconds before or after the time `t`
+-- the ticks from the time `t` to the time `away` nanoseconds after it, or before it if `away` is negative
 abbrev pub ticks_to : ℕ → ℕ → ℤ → ℤ
 ticks_to scale t away = tick_near scale (pos t +ℤ away) -ℤ pos (tick_of scale t)

@@ -101,10 +101,10 @@ pub trait Disk: Reads {
     /// A content that is visible to the proof is the content that reads return.
     ghost contents: { (x : Self) → IsTrue told → ((Self.Reads.files (Self.Reads.standing x)).content 0 ≡ Some (pair x).media.reads) × ((Self.Reads.files (Self.Reads.standing x)).content 1 ≡ Some (pair x).sidecar.reads) };
 
-    /// The current moment is one of the moments since an earlier one.
+    /// The possible contents of the current moment are possible since any earlier one.
     ghost counts_now: { (x : Self) (t : ℕ) (m s : List ℕ) → IsTrue told → t ≤ moment x → IsPairImage (pair x) m s → left_since x t m s };
 
-    /// No other moment is since the current one.
+    /// Since the current moment no other contents are possible.
     ghost only_now: { (x : Self) (m s : List ℕ) → IsTrue told → left_since x (moment x) m s → IsPairImage (pair x) m s };
 
     // The pair, the moment, the possible contents after a crash, the name and the writing faults depend only on
