@@ -18,7 +18,7 @@ pub fn row(id: u32) -> Option<Row>
     ensures name { option_map (λ row. row.name.now) result ≡ name_of id }
     ensures kind { option_map (λ row. row.kind) result ≡ kind_of id }
 
-    // No two rows share an ID, and each ID but ChapterDisplay's is a valid one.
+    // No two rows share an ID, and each ID except ChapterDisplay's is a valid one.
     ensures distinct { IsDistinct nat_eq table_ids }
     ensures below { All (λ n. n < 2 ^ 32) table_ids }
     ensures valid { IsSome result → id ≢ CHAPTER_DISPLAY → IsTrue (is_id id) }
