@@ -1,4 +1,4 @@
--- A block as its buffer has it.
+-- Blocks in their buffers.
 use Rattle.std.proofs.Common.{◌≡◌, ℕ, ◌+◌, ◌-◌, ◌≤◌, nat_lt, Bool, false, ℤ, List, length, take, drop, Option, Some, None, Result, Ok, Err, sym, ◌∙◌, ap, ap₂, subst, arith}
 use Rattle.std.proofs.lemmas.Bool.Decides.{nat_tests}
 use Rattle.std.proofs.lemmas.List.{drop-drop, drop-take}
@@ -23,16 +23,16 @@ use Rattle.block_reader.specs.declared.gathered.Gathered.{Gathered}
 use Rattle.block_reader.specs.Group.{GathersRun}
 use Rattle.block_reader.specs.Made.{block_with}
 
--- ---- a SimpleBlock that isn't too long
+-- ---- a SimpleBlock within the size limit
 
 not_long : (n : ℕ) → n ≤ MAX_BLOCK_LEN → nat_lt MAX_BLOCK_LEN n ≡ false
 not_long n few = grind (arith, nat_tests)
 
--- what is made of a block's Timestamp, of a block that is too long or not
+-- the block of a SimpleBlock, with a test for its size
 timed : ℕ → Header → (ℕ → Result Block Damage) → Bool → Result Block Damage
 timed timestamp h more long = and_then (and_then (unless (where_it long (damage BlockTooLarge h.id h.offset)) (Some timestamp)) (timestamp_or h)) more
 
--- what its octets spell, or what is wrong with them
+-- A SimpleBlock is computed from its parsed bytes, or refused with their error.
 pub simple_block-spelled : (scale timestamp : ℕ) (bytes octets : List ℕ) (h : Header) (found : Result Content Kind) → known h.size ≤ MAX_BLOCK_LEN → octets ≡ body_of bytes h → content_in octets ≡ found → simple_block (with_limits scale) bytes (Some timestamp) h ≡ and_then (at_place h.id h.offset found) (λ content. in_time (with_limits scale) h.id (simple_block_with scale timestamp h.offset content))
 unfolding simple_block timed
 simple_block-spelled scale timestamp bytes octets h found few body is =
@@ -41,9 +41,9 @@ simple_block-spelled scale timestamp bytes octets h found few body is =
     ap (timed timestamp h (λ time. more time (content_in (body_of bytes h)))) (not_long (known h.size) few)
     ∙ ap (λ o. more timestamp (content_in o)) (sym body) ∙ ap (more timestamp) is
 
--- ---- a BlockGroup that isn't too long
+-- ---- a BlockGroup within the size limit
 
--- what is made of its children, which something refuses or not
+-- the block of a group, from its children or their refusal
 of_group : ℕ → ℕ → List ℕ → Header → List Header → Option Damage → Result Block Damage
 of_group scale timestamp bytes h list refusal =
     and_then (unless refusal list) (λ children. and_then (block_or h (first_of BLOCK children)) (group_among (with_limits scale) bytes timestamp h.offset children))
@@ -54,19 +54,19 @@ block_group-refusal scale timestamp bytes h refusal few is =
     ap (timed timestamp h (λ time. of_group scale time bytes h (group_run bytes h).list (group_refusal bytes (group_run bytes h)))) (not_long (known h.size) few)
     ∙ ap (of_group scale timestamp bytes h (group_run bytes h).list) is
 
--- a child refuses it
+-- A refused child refuses the group.
 pub block_group-refused : (scale timestamp : ℕ) (bytes : List ℕ) (h : Header) (d : Damage) → known h.size ≤ MAX_BLOCK_LEN → group_refusal bytes (group_run bytes h) ≡ Some d → block_group (with_limits scale) bytes (Some timestamp) h ≡ Err d
 unfolding of_group
 block_group-refused scale timestamp bytes h d few is = block_group-refusal scale timestamp bytes h (Some d) few is
 
--- it has no Block
+-- A group without a Block is damaged.
 pub block_group-without : (scale timestamp : ℕ) (bytes : List ℕ) (h : Header) → known h.size ≤ MAX_BLOCK_LEN → group_refusal bytes (group_run bytes h) ≡ None → first_of BLOCK (group_run bytes h).list ≡ None → block_group (with_limits scale) bytes (Some timestamp) h ≡ Err (damage MissingChild BLOCK h.offset)
 unfolding of_group
 block_group-without scale timestamp bytes h few is none =
     block_group-refusal scale timestamp bytes h None few is
     ∙ ap (λ o. and_then (block_or h o) (group_among (with_limits scale) bytes timestamp h.offset (group_run bytes h).list)) none
 
--- what the octets of its Block spell, or what is wrong with them
+-- A group's block is computed from the parsed bytes of its Block, or refused with their error.
 pub block_group-spelled : (scale timestamp : ℕ) (bytes octets : List ℕ) (h block : Header) (found : Result Content Kind) → known h.size ≤ MAX_BLOCK_LEN → group_refusal bytes (group_run bytes h) ≡ None → first_of BLOCK (group_run bytes h).list ≡ Some block → octets ≡ body_of bytes block → content_in octets ≡ found → block_group (with_limits scale) bytes (Some timestamp) h ≡ and_then (at_place BLOCK h.offset found) (λ content. and_then (unless (too_many_references (with_limits scale) (group_run bytes h).list) content) (λ content. in_time (with_limits scale) BLOCK (group_with scale bytes timestamp h.offset (group_run bytes h).list content)))
 unfolding of_group
 block_group-spelled scale timestamp bytes octets h block found few is some body spells =
@@ -77,9 +77,9 @@ block_group-spelled scale timestamp bytes octets h block found few is some body 
     ∙ ap (λ o. and_then (block_or h o) (group_among (with_limits scale) bytes timestamp h.offset list)) some
     ∙ ap (λ o. more (content_in o)) (sym body) ∙ ap more spells
 
--- ---- the octets of the frames
+-- ---- bytes of the frames
 
--- frames that begin behind a block's header and end with its body
+-- Frames after a block's header end with its body.
 pub frames-place : (octets : List ℕ) (base start end : ℕ) → base + start ≤ end → take (end - (base + start)) (drop (base + start) octets) ≡ drop start (take (end - base) (drop base octets))
 frames-place octets base start end order =
     let split : base + (end - base) ≡ end = omega arith in
@@ -89,27 +89,27 @@ frames-place octets base start end order =
     ∙ sym (drop-drop start base (take end octets))
     ∙ ap (drop start) (ap (λ n. drop base (take n octets)) (sym split) ∙ drop-take base (end - base) octets)
 
--- equal parts make one block
+-- Equal parts make equal blocks.
 pub same-block : (head : BlockHead) (sizes body octets : List ℕ) (references refs : List ℤ) (kept keeps : List ℕ) → body ≡ octets → references ≡ refs → kept ≡ keeps → ◌≡◌ {A = Result Block Damage} (Ok (block_with head (frames_cut sizes body) references kept)) (Ok (block_with head (frames_cut sizes octets) refs keeps))
 same-block head sizes body octets references refs kept keeps same_body same_references same_kept =
     ap (λ o. Ok (block_with head (frames_cut sizes o) references kept)) same_body
     ∙ ap₂ (λ r k. Ok (block_with head (frames_cut sizes octets) r k)) same_references same_kept
 
--- ---- the body of a group
+-- ---- body of a group
 
--- octets that are a group's body
+-- The bytes that were read are the group's body.
 pub IsBody-held : (bytes : List ℕ) (total : ℕ) (h : Header) (body : List ℕ) → length bytes ≡ total → body ≡ body_of bytes h → length body ≡ known h.size → stated_end h ≤ total → IsBody bytes h.body total body
 IsBody-held bytes total h body whole is count within =
     let end : stated_end h ≡ h.body + length body = omega arith in
     record { whole = whole; within = omega arith; octets = is ∙ ap (octets_between bytes h.body) end }
 
--- what is gathered of it is what is gathered of the group's children
+-- Facts gathered from the body are gathered from the group's children.
 pub GathersRun-held : (bytes : List ℕ) (h : Header) (body : List ℕ) (g : Gathered) (found : Result (Unit {0}) Damage) → length body ≡ known h.size → GathersRun bytes (children_in in_master bytes h.body (h.body + length body)) g found → GathersRun bytes (group_run bytes h) g found
 GathersRun-held bytes h body g found count gathers =
     let end : h.body + length body ≡ stated_end h = omega arith in
     subst (λ (e : ℕ). GathersRun bytes (children_in in_master bytes h.body e) g found) end gathers
 
--- the octets of a Block's body
+-- A range of the group's body is the body of its Block.
 pub Block-held : (bytes : List ℕ) (base total : ℕ) (body : List ℕ) (block : Header) (start end : ℕ) → IsBody bytes base total body → base ≤ block.body → stated_end block ≤ base + length body → start ≡ block.body - base → end ≡ start + known block.size → take (end - start) (drop start body) ≡ body_of bytes block
 Block-held bytes base total body block start end is from within start_is end_is =
     let count : end - start ≡ known block.size = omega arith in

@@ -1,4 +1,4 @@
--- What a block's octets spell.
+-- Content of a block's bytes.
 use Rattle.std.proofs.Common.{◌≡◌, ℕ, ℤ, ◌+◌, ◌-◌, ◌<◌, ◌≤◌, Bool, true, false, if◌then◌else◌, ◌%◌, List, [], ◌∷◌, length, take, drop, slice_index, Some, None, Ok, Err, refl, sym, ◌∙◌, ap, subst, arith}
 use Rattle.std.proofs.lemmas.Bool.{cond-true, cond-false}
 use Rattle.std.proofs.lemmas.List.{length-drop, length-take, drop-drop, drop-take, take-take, get_or-take}
@@ -25,14 +25,14 @@ use Rattle.block_reader.specs.Spelled.{header_of, header_in, AreFrames, Cuts, Is
 no_header : (o : List ℕ) → has_no_header o ≡ true → header_in o ≡ None
 no_header o none = cond-true (has_no_header o) None _ none
 
--- octets that begin with zero, or end inside the header
+-- Bytes that begin with zero have no header.
 starts_with_zero : (o : List ℕ) → slice_index o 0 ≡ 0 → has_no_header o ≡ true
 starts_with_zero o first = grind (arith, nat_tests)
 
 ends_inside : (o : List ℕ) → length o < header_len o → has_no_header o ≡ true
 ends_inside o short = grind (arith, nat_tests)
 
--- no header begins with a number that isn't whole
+-- A header needs a complete number.
 pub header_in-cut : (o : List ℕ) (f : NumFault) → size_at o ≡ Err f → header_in o ≡ None
 header_in-cut o (fault.More n) is =
     let cut = size_at-more n o is in
@@ -41,19 +41,19 @@ header_in-cut o (fault.More n) is =
     no_header o (ends_inside o (omega arith))
 header_in-cut o fault.Bad is = no_header o (starts_with_zero o (size_at-zero o is).1)
 
--- nor with one behind which fewer than three octets stand
+-- A header needs three bytes after its number.
 pub header_in-short : (o : List ℕ) (r : SizeRead) → size_at o ≡ Ok r → length o < r.len + 3 → header_in o ≡ None
 header_in-short o r is short =
     let reads = size_at-reads o r is in
     let announces = reads.announced in
     no_header o (ends_inside o (omega arith))
 
--- the first octet of a number isn't zero
+-- The first byte of a number isn't zero.
 first_octet : (o : List ℕ) (r : SizeRead) → size_at o ≡ Ok r → slice_index o 0 ≡ 0 → ⊥
 first_octet [] r is first = let cut = (size_at-reads [] r is).inside in let announces = (size_at-reads [] r is).announced in absurd (omega arith)
 first_octet (octet ∷ rest) r is first = let bad = size_at-is_zero (octet ∷ rest) (omega arith, first) in absurd (cc)
 
--- else it is whole
+-- Otherwise the header is complete.
 header_in-whole : (o : List ℕ) (r : SizeRead) → size_at o ≡ Ok r → r.len + 3 ≤ length o → header_in o ≡ Some (record { track = data_of r.size r.len; relative = int_of (take 2 (drop r.len o)); flags = slice_index o (r.len + 2); len = r.len + 3 })
 header_in-whole o r is whole =
     let reads = size_at-reads o r is in
@@ -68,7 +68,7 @@ header_in-whole o r is whole =
     has_header : (o : List ℕ) → header_len o ≤ length o → (slice_index o 0 ≡ 0 → ⊥) → has_no_header o ≡ false
     has_header o whole never = grind (arith, nat_tests)
 
--- the same as a reader has its parts
+-- The header in a reader's terms.
 pub header_in-found : (o : List ℕ) (r : SizeRead) (w t : ℕ) (z : ℤ) → size_at o ≡ Ok r → w ≡ r.len → w + 3 ≤ length o → t ≡ data_of r.size r.len → z ≡ int_of (take (w + 2 - w) (drop w o)) → header_in o ≡ Some (record { track = t; relative = z; flags = slice_index o (w + 2); len = w + 3 })
 header_in-found o r w t z is width whole track relative =
     let two : w + 2 - w ≡ 2 = omega arith in
@@ -78,9 +78,9 @@ header_in-found o r w t z is width whole track relative =
     ∙ ap (λ (n : ℕ). Some (record { track = t; relative = int_of (take 2 (drop n o)); flags = slice_index o (n + 2); len = n + 3 })) (sym width)
     ∙ ap (λ (x : ℤ). Some (record { track = t; relative = x; flags = slice_index o (w + 2); len = w + 3 })) (sym time)
 
--- ---- the whole
+-- ---- header and frames
 
--- a header that was read
+-- `h` is the header at the start of `o`.
 record HasHeader (o : List ℕ) (h : BlockHeader) : Type 0 where
   found : has_no_header o ≡ false
   is : header_of o ≡ h
@@ -100,7 +100,7 @@ HasHeader-from o h found = split (has_no_header o) refl found
         let whole = has_header o test in
         record { found = test; is = same; inside = omega arith }
 
--- octets without a header are no block
+-- Bytes without a header are no block.
 pub content_in-none : (o : List ℕ) → None ≡ header_in o → content_in o ≡ Err ShortBlock
 unfolding content_in
 content_in-none o none = split (has_no_header o) refl none
@@ -109,20 +109,20 @@ content_in-none o none = split (has_no_header o) refl none
     split true test is = cond-true (has_no_header o) (Err ShortBlock) _ test
     split false test is = absurd (cc)
 
--- with one they are what their frames are
+-- After a header, the frames decide.
 content_in-frames : (o : List ℕ) (h : BlockHeader) → HasHeader o h → content_in o ≡ content_with o (frames_in (lace_of h.flags) (drop h.len o))
 unfolding content_in
 content_in-frames o h has =
     cond-false (has_no_header o) (Err ShortBlock) _ has.found
     ∙ ap (λ (x : BlockHeader). content_with o (frames_in (lace_of x.flags) (drop x.len o))) has.is
 
--- what is wrong with the frames is wrong with the block
+-- An error in the frames is an error in the block.
 pub SpellsContent-err : (o : List ℕ) (h : BlockHeader) (kind : Lace) (rest : List ℕ) (wrong : Kind) → Some h ≡ header_in o → kind ≡ lace_of h.flags → rest ≡ drop h.len o → frames_in kind rest ≡ Err wrong → content_in o ≡ Err wrong
 SpellsContent-err o h kind rest wrong found lace behind is =
     content_in-frames o h (HasHeader-from o h found)
     ∙ ap (content_with o) (sym (ap (λ (l : Lace). frames_in l rest) lace ∙ ap (frames_in (lace_of h.flags)) behind) ∙ is)
 
--- the frames behind a header begin behind both
+-- The frames begin `n` bytes later if `n` bytes are put before.
 AreFrames-behind : (kind : Lace) (o sizes : List ℕ) (n start : ℕ) → n ≤ length o → AreFrames kind (drop n o) sizes start → AreFrames kind o sizes (n + start)
 AreFrames-behind kind o sizes n start within frames =
     let rest = length-drop n o in
@@ -130,7 +130,7 @@ AreFrames-behind kind o sizes n start within frames =
     let whole = frames.whole in
     record { inside = omega arith; whole = omega arith; some = frames.some; most = frames.most; fits = frames.fits }
 
--- a header and its frames are a block
+-- A header and its frames are a block.
 pub SpellsContent-ok : (o sizes : List ℕ) (h : BlockHeader) (kind : Lace) (rest : List ℕ) (start : ℕ) (z : ℤ) → Some h ≡ header_in o → kind ≡ lace_of h.flags → rest ≡ drop h.len o → z ≡ h.relative → Cuts kind rest sizes (frames_in kind rest) (Ok start) → SpellsContent o sizes (Ok (record { track = h.track; relative = z; flags = h.flags; start = h.len + start }))
 SpellsContent-ok o sizes h kind rest start z found lace behind relative cuts =
     let has = HasHeader-from o h found in
@@ -144,9 +144,9 @@ SpellsContent-ok o sizes h kind rest start z found lace behind relative cuts =
       AreFrames-behind (lace_of h.flags) o sizes h.len start has.inside (subst (λ (l : Lace). AreFrames l (drop h.len o) sizes start) lace (subst (λ (l : List ℕ). AreFrames kind l sizes start) behind cuts.1)),
     )
 
--- ---- a front
+-- ---- the first bytes
 
--- The header at the front of octets is read off so many of them as it has.
+-- The header depends only on its own bytes.
 header_of-front : (front octets : List ℕ) → IsFront front octets → has_no_header front ≡ false → (header_of front ≡ header_of octets) × (has_no_header octets ≡ false)
 header_of-front front octets is found = (same, whole)
   where
@@ -198,7 +198,7 @@ header_of-front front octets is found = (same, whole)
         let inside : header_len octets ≤ length octets = omega (arith, long, within, announces) in
         grind (arith, nat_tests, first, inside, some)
 
--- A header at a front is that of a block with the frames behind it.
+-- The header in `front`, with the frames after it, is the block's content.
 pub content_in-front : (front octets : List ℕ) (h : BlockHeader) (frames : List (List ℕ)) → IsFront front octets → Some h ≡ header_in front → frames_in (lace_of h.flags) (drop h.len octets) ≡ Ok frames
     → content_in octets ≡ Ok (record { track = h.track; relative = h.relative; flags = h.flags; frames = frames })
 content_in-front front octets h frames is found frames_are =
@@ -213,6 +213,6 @@ content_in-front front octets h frames is found frames_are =
     ∙ ap (content_with octets) frames_are
     ∙ ap (λ (x : BlockHeader). Ok (record { track = x.track; relative = x.relative; flags = x.flags; frames = frames })) has.is
 
--- the header at a front, and where it ends
+-- The header in `front` ends within `front`.
 pub header_in-front : (front : List ℕ) (h : BlockHeader) → Some h ≡ header_in front → (has_no_header front ≡ false) × (header_of front ≡ h) × (h.len ≤ length front)
 header_in-front front h found = let has = HasHeader-from front h found in (has.found, has.is, has.inside)

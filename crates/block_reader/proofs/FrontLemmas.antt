@@ -1,4 +1,4 @@
--- A SimpleBlock as its front settles it.
+-- A SimpleBlock, as far as its first bytes settle it.
 use Rattle.std.proofs.Common.{◌≡◌, ◌≤◌, ◌+◌, ◌-◌, ℕ, suc, ℤ, Bool, true, false, if◌then◌else◌, List, [], ◌∷◌, length, take, drop, Option, Some, None, Result, Ok, Err, refl, sym, ◌∙◌, ap, subst, arith}
 use Rattle.std.specs.Option.{option_map, option_map_or}
 use Rattle.std.proofs.lemmas.Bool.{cond-true, cond-false}
@@ -30,17 +30,17 @@ use Rattle.block_reader.specs.Spelled.{IsFront, header_in, header_of}
 use Rattle.block_reader.proofs.BufferLemmas.{simple_block-spelled}
 use Rattle.block_reader.proofs.ContentLemmas.{content_in-front, header_in-front}
 
--- ---- the frames
+-- ---- frames
 
 pub length-frames_cut : (sizes octets : List ℕ) → length (frames_cut sizes octets) ≡ length sizes
 length-frames_cut [] octets = refl
 length-frames_cut (size ∷ sizes) octets = ap (λ (n : ℕ). suc n) (length-frames_cut sizes (drop size octets))
 
--- as many frames, whatever stands behind the front
+-- `found` has `n` frames.
 abbrev pub HasFrames : Result (List (List ℕ)) Kind → ℕ → Type 0
 HasFrames found n = (frames : List (List ℕ)) × (found ≡ Ok frames) × (length frames ≡ n)
 
--- a front of octets that begin with another
+-- The tail of a front is a front of the tail.
 IsFront-tail : (x y : ℕ) (front octets : List ℕ) → IsFront (x ∷ front) (y ∷ octets) → (x ≡ y) × IsFront front octets
 IsFront-tail x y front octets is =
     let first : x ≡ y = cc in
@@ -65,30 +65,30 @@ laced-settled kind (x ∷ front) (y ∷ octets) n are is settled = go (is_settle
         let P : ℕ → Type 0 = λ z. HasFrames (laced_frames kind (z ∷ octets)) n in
         subst P split.0 (frames, ap (frames_behind octets) lace.read, length-frames_cut lace.sizes (drop lace.head octets) ∙ lace.finds.count ∙ count)
 
--- Frames that are settled by a front stand in all octets that have it.
+-- A frame count that `front` settles holds for all bytes that begin with `front`.
 pub frames-settled : (kind : Lace) (front octets : List ℕ) (n : ℕ) → AreOctets front → IsFront front octets → frame_count kind front (length octets) ≡ Some n → HasFrames (frames_in kind octets) n
 frames-settled lace.None front octets n are is settled = let count : 1 ≡ n = cc in (octets ∷ [], refl, count)
 frames-settled lace.Xiph front octets n are is settled = laced-settled lace.Xiph front octets n are is settled
 frames-settled lace.Fixed front octets n are is settled = laced-settled lace.Fixed front octets n are is settled
 frames-settled lace.Ebml front octets n are is settled = laced-settled lace.Ebml front octets n are is settled
 
--- the same as a reader has its parts
+-- The frame count in a reader's terms.
 pub frame_count-read : (kind other : Lace) (front rest : List ℕ) (size len : ℕ) (found count : Option ℕ) → kind ≡ other → rest ≡ front → len ≡ size → found ≡ frame_count kind rest len → found ≡ count → frame_count other front size ≡ count
 frame_count-read kind other front rest size len found count same behind long read is =
     sym (ap (λ (k : Lace). frame_count k rest len) same ∙ ap (λ (o : List ℕ). frame_count other o len) behind ∙ ap (frame_count other front) long) ∙ sym read ∙ is
 
--- ---- what it says of itself
+-- ---- head of a block
 
--- what a header spells, with frames
+-- the content with the header `b` and these frames
 abbrev spelled : BlockHeader → ℤ → List (List ℕ) → Content
 spelled b z frames = record { track = b.track; relative = z; flags = b.flags; frames = frames }
 
--- of whatever frames a block has it says the same
+-- `found` is the head of the block for all frames.
 abbrev pub Heads : ℕ → ℕ → Header → BlockHeader → ℤ → Result BlockHead Damage → Type 0
 Heads scale timestamp h b z found =
     (frames : List (List ℕ)) → MakesHead frames [] [] (in_time (with_limits scale) h.id (simple_block_with scale timestamp h.offset (spelled b z frames))) found
 
--- one does, and behind it so many frames
+-- A complete header, with `count` frames after it, gives the head.
 pub front_head-found : (scale timestamp : ℕ) (h : Header) (front : List ℕ) (b : BlockHeader) (z : ℤ) (count : Option ℕ) → Some b ≡ header_in front → z ≡ b.relative → frame_count (lace_of b.flags) (drop b.len front) (known h.size - b.len) ≡ count
     → front_head scale timestamp h front ≡ head_with (simple_block_with scale timestamp h.offset (spelled b z [])) count
 front_head-found scale timestamp h front b z count found same counted =
@@ -98,7 +98,7 @@ front_head-found scale timestamp h front b z count found same counted =
     ∙ ap (head_with (simple_block_with scale timestamp h.offset (spelled b b.relative []))) counted
     ∙ ap (λ (x : ℤ). head_with (simple_block_with scale timestamp h.offset (spelled b x [])) count) (sym same)
 
--- its time is too large
+-- The time is too large.
 in_time-large : (scale id : ℕ) (b : Block) (d : Damage) → in_time (with_limits scale) id b ≡ Err d → has_too_large_time b ≡ true
 in_time-large scale id b d is = split (has_too_large_time b) refl is
   where
@@ -106,7 +106,7 @@ in_time-large scale id b d is = split (has_too_large_time b) refl is
     split true test e = test
     split false test e = absurd (cc)
 
--- or it isn't, and the block is as it was
+-- A block in the limits is unchanged.
 in_time-same : (scale id : ℕ) (b found : Block) → in_time (with_limits scale) id b ≡ Ok found → (has_too_large_time b ≡ false) × (b ≡ found)
 in_time-same scale id b found is = split (has_too_large_time b) refl is
   where
@@ -126,9 +126,9 @@ head_with-some scale timestamp n h b z head makes =
     cond-false (has_too_large_time made) None _ same.0
     ∙ ap (λ (x : BlockHead). Some (record { head = x; frames = n })) (ap head_of same.1)
 
--- ---- the track
+-- ---- track
 
--- a head is of its block's track
+-- A head has its block's track.
 head_with-track : (b : Block) (frames : Option ℕ) (found : BlockPreview) → head_with b frames ≡ Some found → b.track ≡ found.head.track
 head_with-track b None found is = absurd (cc)
 head_with-track b (Some n) found is = timed (has_too_large_time b) is
@@ -137,7 +137,7 @@ head_with-track b (Some n) found is = timed (has_too_large_time b) is
     timed true e = absurd (cc)
     timed false e = ap (λ (o : Option BlockPreview). option_map_or (λ (f : BlockPreview). f.head.track) o 0) e
 
--- where it settles no track, it settles nothing
+-- Without a settled track nothing is settled.
 pub front_track-cut : (scale timestamp : ℕ) (h : Header) (front : List ℕ) → front_track front ≡ None → front_head scale timestamp h front ≡ None
 front_track-cut scale timestamp h front none = cut (has_no_header front) refl none
   where
@@ -146,7 +146,7 @@ front_track-cut scale timestamp h front none = cut (has_no_header front) refl no
     cut true test e = cond-true (has_no_header front) None _ test
     cut false test e = absurd (cc)
 
--- where a front settles the whole, its head is of the track that it settles
+-- The settled head has the settled track.
 pub front_track-head : (scale timestamp : ℕ) (h : Header) (front : List ℕ) (found : BlockPreview) → front_head scale timestamp h front ≡ Some found → front_track front ≡ Some found.head.track
 front_track-head scale timestamp h front found is = cut (has_no_header front) is
   where
@@ -158,16 +158,16 @@ front_track-head scale timestamp h front found is = cut (has_no_header front) is
     cut true e = absurd (cc)
     cut false e = ap (λ (n : ℕ). Some n) (head_with-track (block_in_front scale timestamp h.offset front) count found e)
 
--- ---- the whole
+-- ---- the whole block
 
--- The octets behind a header are those of the body, as far as the front goes.
+-- After the header too, the front is a front of the body.
 IsFront-drop : (front octets : List ℕ) (n : ℕ) → IsFront front octets → n ≤ length front → IsFront (drop n front) (drop n octets)
 IsFront-drop front octets n is inside =
     let left = length-drop n front in
     let whole : n + (length front - n) ≡ length front = omega arith in
     ap (drop n) is ∙ ap (λ (k : ℕ). drop n (take k octets)) (sym whole) ∙ drop-take n (length front - n) octets ∙ ap (λ (k : ℕ). take k (drop n octets)) (sym left)
 
--- What a front settles is found.
+-- A reader finds each block with the head that `front` settles.
 pub HasHead-settled : (scale timestamp n : ℕ) (bytes front : List ℕ) (h : Header) (b : BlockHeader) (z : ℤ) (head : BlockHead) → AreOctets front → known h.size ≤ MAX_BLOCK_LEN → length (body_of bytes h) ≡ known h.size → IsFront front (body_of bytes h)
     → Some b ≡ header_in front → z ≡ b.relative → frame_count (lace_of b.flags) (drop b.len front) (known h.size - b.len) ≡ Some n → Heads scale timestamp h b z (Ok head)
     → HasHead (record { head = head; frames = n }) (simple_block (with_limits scale) bytes (Some timestamp) h)

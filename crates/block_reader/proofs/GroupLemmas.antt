@@ -1,4 +1,4 @@
--- The children of a BlockGroup, one after the other.
+-- Children of a BlockGroup in sequence.
 use Rattle.std.proofs.Common.{◌≡◌, ◌≢◌, ◌⊎◌, inl, inr, ℕ, ℤ, zero, suc, ◌<◌, ◌≤◌, ◌==◌, nat_le, min, Bool, true, false, List, [], ◌∷◌, ◌++◌, append-nil, length, map, take, Option, Some, None, refl, sym, ◌∙◌, ap, ap₂, arith, eq-eqb}
 use Rattle.std.specs.List.{filter, flat_map, slice_get}
 use Rattle.std.specs.Option.{option_map, option_or}
@@ -21,14 +21,14 @@ use Rattle.block_reader.specs.declared.gathered.Gathered.{Gathered}
 use Rattle.block_reader.specs.Group.{Gathers}
 use Rattle.lemmas.proofs.PlainLemmas.{differ-false as test}
 
--- ---- the values of children, by the table
+-- ---- values of children, by the table
 
--- any octets are a Block's
+-- A Block may have any bytes.
 pub block-value : (body : List ℕ) → is_known_value BLOCK_GROUP BLOCK body ≡ true
 unfolding entry_of table
 block-value body = refl
 
--- at most eight are a number's
+-- A BlockDuration has at most eight bytes.
 pub duration-value : (body : List ℕ) → is_known_value BLOCK_GROUP BLOCK_DURATION body ≡ nat_le (length body) 8
 unfolding entry_of table
 duration-value body = refl
@@ -37,7 +37,7 @@ pub reference-value : (body : List ℕ) → is_known_value BLOCK_GROUP REFERENCE
 unfolding entry_of table
 reference-value body = refl
 
--- the same of both
+-- A BlockDuration or ReferenceBlock has at most eight bytes.
 pub integer-value : (id : ℕ) (body : List ℕ) → (id ≡ BLOCK_DURATION) ⊎ (id ≡ REFERENCE_BLOCK) → is_known_value BLOCK_GROUP id body ≡ nat_le (length body) 8
 integer-value id body (inl is) = ap (λ i. is_known_value BLOCK_GROUP i body) is ∙ duration-value body
 integer-value id body (inr is) = ap (λ i. is_known_value BLOCK_GROUP i body) is ∙ reference-value body
@@ -53,7 +53,7 @@ reference-short body known = short (length body) (sym (reference-value body) ∙
 
 -- ---- one more child
 
--- the first of an ID is the one before, or else the new one
+-- The first child with an ID is an earlier one, if any, or else the new one.
 first_of-own : (id : ℕ) (given : List Header) (c : Header) → c.id ≡ id → first_of id (given ++ c ∷ []) ≡ option_or (first_of id given) (Some c)
 first_of-own id given c own =
     find-append (λ (h : Header). h.id == id) given (c ∷ [])
@@ -63,7 +63,7 @@ or_none : (o : Option Header) → option_or o None ≡ o
 or_none None = refl
 or_none (Some h) = refl
 
--- another leaves it
+-- A child with another ID doesn't change the first one.
 first_of-other : (id : ℕ) (given : List Header) (c : Header) → c.id ≢ id → first_of id (given ++ c ∷ []) ≡ first_of id given
 first_of-other id given c other =
     find-append (λ (h : Header). h.id == id) given (c ∷ [])
@@ -72,7 +72,7 @@ first_of-other id given c other =
     isn't : (a b : ℕ) → a ≢ b → (a == b) ≡ false
     isn't a b other = grind (arith, nat_tests)
 
--- the same of those that pass a test
+-- A filter keeps a child that passes its test.
 filter-own : (test : Header → Bool) (given : List Header) (c : Header) → test c ≡ true → filter test (given ++ c ∷ []) ≡ filter test given ++ c ∷ []
 filter-own test given c passes = filter-append test given (c ∷ []) ∙ ap (λ l. filter test given ++ l) (cond-true (test c) (c ∷ []) [] passes)
 
@@ -89,9 +89,9 @@ kept-own bytes given c passes =
 kept-other : (bytes : List ℕ) (given : List Header) (c : Header) → is_kept c.id ≡ false → kept_of bytes (given ++ c ∷ []) ≡ kept_of bytes given
 kept-other bytes given c fails = ap (flat_map (element_octets bytes)) (filter-other (λ (h : Header). is_kept h.id) given c fails)
 
--- ---- the ReferenceBlocks
+-- ---- ReferenceBlocks
 
--- the element at an index of a list that is as long, or longer, with one more
+-- Appending `x` changes the element at index `n` only if it was absent.
 slice_get-push : (xs : List Header) (x : Header) (n : ℕ) → n ≤ length xs → slice_get (xs ++ x ∷ []) n ≡ option_or (slice_get xs n) (Some x)
 slice_get-push [] x zero within = refl
 slice_get-push [] x (suc n) within = absurd (omega arith)
@@ -101,7 +101,7 @@ slice_get-push (y ∷ ys) x (suc n) within = slice_get-push ys x n (omega arith)
 length-front : (f : Header → ℤ) (n : ℕ) (xs : List Header) → length (map f (take n xs)) ≡ min n (length xs)
 length-front f n xs = simp (length-map, length-take)
 
--- one more, where there is room for it
+-- One more reference is gathered if there is room.
 references-room : (f : Header → ℤ) (n : ℕ) (xs : List Header) (x : Header) (old : List ℤ) → old ≡ map f (take n xs) → length old < n → old ++ f x ∷ [] ≡ map f (take n (xs ++ x ∷ []))
 references-room f n xs x old is room =
     let few = ap length is ∙ length-front f n xs in
@@ -114,9 +114,9 @@ few-passed n xs x few =
     let fits : length (xs ++ x ∷ []) ≤ n = simp length-append (omega arith) in
     slice_get_past (xs ++ x ∷ []) n fits ∙ sym (slice_get_past xs n (omega arith))
 
--- ---- what is gathered with one more child
+-- ---- gathered facts after one more child
 
--- no other child is a ReferenceBlock
+-- Other children don't change the references.
 Gathers-other : (bytes : List ℕ) (given : List Header) (g h : Gathered) (c : Header) → c.id ≢ REFERENCE_BLOCK → Gathers bytes given g → h.references ≡ g.references → h.too_many ≡ g.too_many → h.block ≡ first_of BLOCK (given ++ c ∷ []) → h.duration ≡ option_map (λ (k : Header). uint_of (body_of bytes k)) (first_of BLOCK_DURATION (given ++ c ∷ [])) → h.kept.items ≡ kept_of bytes (given ++ c ∷ []) → Gathers bytes (given ++ c ∷ []) h
 Gathers-other bytes given g h c other before references too_many block duration kept =
     let same = filter-other (λ (k : Header). k.id == REFERENCE_BLOCK) given c (test c.id REFERENCE_BLOCK other) in
@@ -128,11 +128,11 @@ Gathers-other bytes given g h c other before references too_many block duration 
       kept = kept;
     }
 
--- nor a Block
+-- Other children don't change the Block.
 same_block : (bytes : List ℕ) (given : List Header) (g : Gathered) (c : Header) → c.id ≢ BLOCK → Gathers bytes given g → g.block ≡ first_of BLOCK (given ++ c ∷ [])
 same_block bytes given g c other before = before.block ∙ sym (first_of-other BLOCK given c other)
 
--- nor a BlockDuration
+-- Other children don't change the duration.
 same_duration : (bytes : List ℕ) (given : List Header) (g : Gathered) (c : Header) → c.id ≢ BLOCK_DURATION → Gathers bytes given g → g.duration ≡ option_map (λ (k : Header). uint_of (body_of bytes k)) (first_of BLOCK_DURATION (given ++ c ∷ []))
 same_duration bytes given g c other before =
     before.duration ∙ ap (option_map (λ (k : Header). uint_of (body_of bytes k))) (sym (first_of-other BLOCK_DURATION given c other))
@@ -157,7 +157,7 @@ Gathers-duration bytes given g c duration ticks own value is before =
     ∙ ap (option_map f) (sym (first_of-own BLOCK_DURATION given c own)))
     (before.kept ∙ sym (kept-other bytes given c (ap is_kept own)))
 
--- what is kept is none of the three
+-- A kept child isn't one that is interpreted.
 kept_isn't : (id other : ℕ) → is_kept id ≡ true → is_kept other ≡ false → id ≢ other
 kept_isn't id other kept left same = false≢true (sym left ∙ ap is_kept (sym same) ∙ kept)
 
@@ -180,7 +180,7 @@ Gathers-left_out bytes given g c (inl void) before = left_out bytes given g c VO
 Gathers-left_out bytes given g c (inr (inl crc_32)) before = left_out bytes given g c CRC_32 crc_32 refl (λ e. omega arith) (λ e. omega arith) (λ e. omega arith) before
 Gathers-left_out bytes given g c (inr (inr slices)) before = left_out bytes given g c SLICES slices refl (λ e. omega arith) (λ e. omega arith) (λ e. omega arith) before
 
--- a ReferenceBlock leaves the others
+-- A ReferenceBlock changes only the references.
 Gathers-reference : (bytes : List ℕ) (given : List Header) (g h : Gathered) (c : Header) → c.id ≡ REFERENCE_BLOCK → Gathers bytes given g → h.block ≡ g.block → h.duration ≡ g.duration → h.kept ≡ g.kept → h.references.items ≡ map (λ (k : Header). int_of (body_of bytes k)) (take MAX_REFERENCES (references_among given ++ c ∷ [])) → h.too_many ≡ slice_get (references_among given ++ c ∷ []) MAX_REFERENCES → Gathers bytes (given ++ c ∷ []) h
 Gathers-reference bytes given g h c own before block duration kept references too_many =
     let more = filter-own (λ (k : Header). k.id == REFERENCE_BLOCK) given c (eq-eqb c.id REFERENCE_BLOCK own) in

@@ -1,4 +1,4 @@
--- What is lent of a block is small, and can be written.
+-- Available parts of a block are small and can be written.
 use Rattle.std.proofs.Common.{◌≡◌, ◌≤◌, ◌<◌, ◌+◌, ◌-◌, ◌*◌, ℕ, ℤ, pos, Bool, true, false, ◌||◌, List, [], ◌∷◌, length, map, take, drop, Option, Some, None, refl, sym, ◌∙◌, subst, arith}
 use Rattle.std.specs.List.{All, list_any}
 use Rattle.std.specs.Option.{IfSome, option_map, option_map_or}
@@ -32,18 +32,18 @@ or-second : (a b : Bool) → (a || b) ≡ false → b ≡ false
 or-second true b is = absurd (cc)
 or-second false b is = is
 
--- none of some references is too large
+-- References that aren't too large are small.
 pub all-small : (scale : ℕ) (l : List ℤ) → list_any (is_too_large_at scale) l ≡ false → All IsSmallTime (map (nanoseconds scale) l)
 all-small scale [] is = All-nil IsSmallTime
 all-small scale (z ∷ zs) is =
     All-cons IsSmallTime (nanoseconds scale z) (map (nanoseconds scale) zs) (small-from (nanoseconds scale z) (or-first (is_too_large_at scale z) _ is)) (all-small scale zs (or-second (is_too_large_at scale z) _ is))
 
--- nor is a duration
+-- A duration that isn't too large is small.
 pub duration-small : (scale : ℕ) (o : Option ℕ) → option_map_or (λ n. is_too_large (pos (n * scale))) o false ≡ false → IfSome (option_map (λ (n : ℕ). n * scale) o) (λ d. d < TOO_LARGE_TIME)
 duration-small scale None small = tt
 duration-small scale (Some n) small = small-from (pos (n * scale)) small
 
--- a group's times are small, where none was too large
+-- A group's times are small if none was too large.
 pub times-small : (scale : ℕ) (ticks : ℤ) (old now : Gathered) (t : Times) → HasTimes scale ticks old now t → IsSmallTime t.time × (IfSome t.duration (λ d. d < TOO_LARGE_TIME) × All IsSmallTime now.references.items)
 times-small scale ticks old now t has =
     let long : Bool = option_map_or (λ n. is_too_large (pos (n * scale))) old.duration false in
@@ -60,13 +60,13 @@ times-small scale ticks old now t has =
 
 -- ---- parts
 
--- frames that end with the octets
+-- Frames that end with the bytes are their rest.
 pub frames-rest : (o : List ℕ) (start end : ℕ) → end ≡ length o → take (end - start) (drop start o) ≡ drop start o
 frames-rest o start end is =
     let rest = length-drop start o in
     take_all (end - start) (drop start o) (omega arith)
 
--- the frames of what was spelled, behind `base` octets, are a block's
+-- Parsed frames at byte `base` of `o` are a block that can be written.
 pub IsBlock-made : (o part : List ℕ) (base start flags : ℕ) (p : Parts) → length o ≤ MAX_BLOCK_LEN → p.start ≡ base + start → p.end ≡ base + length part → p.end ≤ length o → p.frames ≡ length p.sizes.items → AreFrames (lace_of flags) part p.sizes.items start → CanLead flags p.gathered.references.items p.head → length p.gathered.kept.items ≤ MAX_BLOCK_LEN → IsBlock o p
 IsBlock-made o part base start flags p short start_is end_is inside count_is frames leads kept =
     let within = frames.inside in

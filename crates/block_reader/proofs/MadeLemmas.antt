@@ -1,4 +1,4 @@
--- What is made of the children of a BlockGroup.
+-- Blocks that are computed from the children of a BlockGroup.
 use Rattle.std.proofs.Common.{◌≡◌, ℕ, zero, suc, ◌<◌, inl, inr, ℤ, pos, ◌+ℤ◌, ◌*◌, ◌==◌, ◌||◌, Bool, true, false, List, [], ◌∷◌, length, map, take, Option, Some, None, Result, Ok, Err, refl, sym, ◌∙◌, ap, ap₂, arith}
 use Rattle.std.specs.List.{list_any, slice_get}
 use Rattle.std.specs.Option.{option_map, option_map_or}
@@ -26,7 +26,7 @@ use Rattle.block_reader.specs.Made.{block_with, has_too_large_ticks, HasTimes}
 use Rattle.block_reader.specs.Spelled.{content_of}
 use Rattle.block_reader.specs.Time.{is_too_large_at}
 
--- ---- what is gathered is scaled
+-- ---- scaled facts
 
 option_map-twice : (f : Header → ℕ) (h : ℕ → ℕ) (o : Option Header) → option_map (λ (c : Header). h (f c)) o ≡ option_map h (option_map f o)
 option_map-twice f h None = refl
@@ -36,7 +36,7 @@ map-twice : (f : Header → ℤ) (h : ℤ → ℤ) (l : List Header) → map (λ
 map-twice f h [] = refl
 map-twice f h (c ∷ cs) = ap (λ l. h (f c) ∷ l) (map-twice f h cs)
 
--- where none is one too many, all are gathered
+-- If no reference is surplus, all are gathered.
 all_gathered : (l : List Header) (n : ℕ) → slice_get l n ≡ None → take n l ≡ l
 all_gathered l n none = take_all n l (elim (cases_lt n (length l)) [ inl more ↦ absurd (slice_get-found l n more none) | inr few ↦ few ])
   where
@@ -45,7 +45,7 @@ all_gathered l n none = take_all n l (elim (cases_lt n (length l)) [ inl more �
     slice_get-found (x ∷ xs) zero more none = cc
     slice_get-found (x ∷ xs) (suc n) more none = slice_get-found xs n (omega arith) none
 
--- a block of these parts
+-- the block of a group with these parts
 abbrev group_of : ℕ → ℕ → ℕ → Spelled → List (List ℕ) → Bool → Option ℕ → List ℤ → List ℕ → Block
 group_of scale timestamp offset s frames key duration references kept = record {
   track = s.track;
@@ -62,7 +62,7 @@ group_of scale timestamp offset s frames key duration references kept = record {
   offset = offset;
 }
 
--- the block of a group, of what was gathered
+-- the block of a group, from its gathered facts
 abbrev gathered_group : ℕ → ℕ → ℕ → Spelled → List (List ℕ) → Gathered → Block
 gathered_group scale timestamp offset s frames g =
     group_of scale timestamp offset s frames (length g.references.items == 0) (option_map (λ (n : ℕ). n * scale) g.duration) (map (nanoseconds scale) g.references.items) g.kept.items
@@ -81,7 +81,7 @@ group_with-gathered scale timestamp offset bytes children s frames g gathers non
     ∙ ap (λ l. group_of scale timestamp offset s frames (length g.references.items == 0) (option_map (λ (n : ℕ). n * scale) g.duration) l (kept_of bytes children)) references
     ∙ ap (λ l. group_of scale timestamp offset s frames (length g.references.items == 0) (option_map (λ (n : ℕ). n * scale) g.duration) (map (nanoseconds scale) g.references.items) l) (sym gathers.kept)
 
--- ---- its times
+-- ---- times of a group
 
 list_any-scaled : (scale : ℕ) (l : List ℤ) → list_any is_too_large (map (nanoseconds scale) l) ≡ list_any (is_too_large_at scale) l
 list_any-scaled scale [] = refl
@@ -95,13 +95,13 @@ times-scaled : (scale timestamp offset : ℕ) (s : Spelled) (frames : List (List
 times-scaled scale timestamp offset s frames g =
     ap₂ (λ a b. is_too_large_at scale (pos timestamp +ℤ s.relative) || a || b) (duration-scaled scale g.duration) (list_any-scaled scale g.references.items)
 
--- ---- the block of a group, or what is wrong
+-- ---- block of a group, or its damage
 
 abbrev group_found : ℕ → List ℕ → ℕ → ℕ → List Header → Spelled → List (List ℕ) → Result Block Damage
 group_found scale bytes timestamp offset children s frames =
     and_then (unless (too_many_references (with_limits scale) children) (content_of s frames)) (λ content. in_time (with_limits scale) BLOCK (group_with scale bytes timestamp offset children content))
 
--- where no reference is one too many, the times are left to be tested
+-- If no reference is surplus, only the times can be damaged.
 group_found-gathered : (scale timestamp offset : ℕ) (bytes : List ℕ) (children : List Header) (s : Spelled) (frames : List (List ℕ)) (g : Gathered) (large : Bool) → Gathers bytes children g → g.too_many ≡ None → has_too_large_ticks scale (pos timestamp +ℤ s.relative) g.duration g.references.items ≡ large → group_found scale bytes timestamp offset children s frames ≡ unless (where_it large (damage TimeTooLarge BLOCK offset)) (gathered_group scale timestamp offset s frames g)
 group_found-gathered scale timestamp offset bytes children s frames g large gathers none times =
     ap (λ o. and_then (unless (option_map (λ (c : Header). damage TooMany c.id c.offset) o) (content_of s frames)) (λ content. in_time (with_limits scale) BLOCK (group_with scale bytes timestamp offset children content))) (sym gathers.too_many ∙ none)
@@ -111,7 +111,7 @@ group_found-gathered scale timestamp offset bytes children s frames g large gath
 pub group_found-large : (scale timestamp offset : ℕ) (bytes : List ℕ) (children : List Header) (s : Spelled) (frames : List (List ℕ)) (g : Gathered) → Gathers bytes children g → g.too_many ≡ None → has_too_large_ticks scale (pos timestamp +ℤ s.relative) g.duration g.references.items ≡ true → group_found scale bytes timestamp offset children s frames ≡ Err (damage TimeTooLarge BLOCK offset)
 group_found-large scale timestamp offset bytes children s frames g gathers none times = group_found-gathered scale timestamp offset bytes children s frames g true gathers none times
 
--- the same as a reader has its parts
+-- The block of a group in a reader's terms.
 pub group_found-ok : (scale timestamp offset : ℕ) (bytes : List ℕ) (children : List Header) (s : Spelled) (frames : List (List ℕ)) (g now : Gathered) (t : Times) (ticks time : ℤ) (key invisible : Bool) (kind : Lace) → Gathers bytes children g → g.too_many ≡ None → HasTimes scale ticks g now t → ticks ≡ pos timestamp +ℤ s.relative → now.kept ≡ g.kept → time ≡ t.time → key ≡ (length g.references.items == 0) → invisible ≡ is_invisible s.flags → kind ≡ lace_of s.flags → group_found scale bytes timestamp offset children s frames ≡ Ok (block_with (record { track = s.track; time = time; key = key; invisible = invisible; discardable = false; group = true; lace = kind; duration = t.duration; offset = offset }) frames now.references.items now.kept.items)
 group_found-ok scale timestamp offset bytes children s frames g now t ticks time key invisible kind gathers none times ticks_are kept time_is key_is invisible_is kind_is =
     let made : ℤ → Bool → Bool → Lace → Option ℕ → List ℤ → List ℕ → Result Block Damage = λ z k i l duration references octets.
@@ -128,7 +128,7 @@ group_found-ok scale timestamp offset bytes children s frames g now t ticks time
     ∙ ap₂ (λ d l. made time key invisible kind d l g.kept.items) (sym times.duration) (sym times.references)
     ∙ ap (λ v. made time key invisible kind t.duration now.references.items v.items) (sym kept)
 
--- what isn't something is nothing
+-- An option without a value is absent.
 pub none_where : (o : Option Header) → ((h : Header) → o ≡ Some h → ⊥) → o ≡ None
 none_where None never = refl
 none_where (Some h) never = absurd (never h refl)

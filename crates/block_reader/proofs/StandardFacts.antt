@@ -1,4 +1,5 @@
--- Fronts of SimpleBlocks, settled by RFC 9559, sections 10.2 (SimpleBlock Structure) and 10.3 (Block Lacing), computed, so that a wrong definition does not check.
+-- Examples of first bytes of SimpleBlocks, by RFC 9559, sections 10.2 (SimpleBlock Structure) and 10.3 (Block Lacing). They are computed: a wrong
+-- definition doesn't check.
 use Rattle.std.proofs.Common.{◌≡◌, ◌^◌, ℕ, pos, true, false, List, [], ◌∷◌, Some, None, refl}
 use Rattle.std.specs.Int.Count.{count_leading_zeros}
 use Rattle.ebml_numbers.specs.declared.number.Size.TheVariants.{Known}
@@ -10,11 +11,11 @@ use Rattle.mkv_schema.specs.declared.ids.TheConstants.{SIMPLE_BLOCK}
 use Rattle.block_reader.specs.declared.head.BlockHead.{BlockHead}
 use Rattle.block_reader.specs.Front.{front_head}
 
--- a SimpleBlock with a body of 13 octets
+-- a SimpleBlock with a body of 13 bytes
 abbrev block : Header
 block = record { id = SIMPLE_BLOCK; offset = 50; body = 52; size = Known 13 }
 
--- track 1, five ticks of a millisecond behind 100, a key block with EBML lacing
+-- track 1, five ticks after the Cluster's Timestamp, a keyframe with EBML lacing
 abbrev laced : List ℕ
 laced = 0x81 ∷ 0x00 ∷ 0x05 ∷ 0x86 ∷ []
 

@@ -1,4 +1,4 @@
--- Times that are scaled in place.
+-- Scaling of times in place.
 use Rattle.std.proofs.Common.{◌≡◌, ℕ, ℤ, ◌<◌, ◌+◌, Bool, true, false, cond, List, ◌++◌, length, map, take, drop, get_or, Some, None, refl, sym, ◌∙◌, ap, arith}
 use Rattle.std.specs.List.{list_any}
 use Rattle.std.proofs.Math.ListN.{set}
@@ -8,7 +8,7 @@ use Rattle.std.proofs.lemmas.List.Folds.{list_any_more}
 use Rattle.block_format.specs.Block.{nanoseconds}
 use Rattle.block_reader.specs.Time.{scaled, is_too_large_at}
 
--- a time that isn't too large is scaled
+-- A time that isn't too large is scaled.
 pub scaled-some : (scale : ℕ) (z n : ℤ) → Some n ≡ scaled scale z → (n ≡ nanoseconds scale z) × (is_too_large_at scale z ≡ false)
 scaled-some scale z n is = split (is_too_large_at scale z) refl is
   where
@@ -16,11 +16,11 @@ scaled-some scale z n is = split (is_too_large_at scale z) refl is
     split true large found = absurd (cc)
     split false small found = (cc, small)
 
--- what stands behind the times that were scaled is as before
+-- Times that weren't reached are unchanged.
 pub unscaled_at : (f : ℤ → ℤ) (xs ys : List ℤ) (i : ℕ) (d : ℤ) → i < length xs → ys ≡ map f (take i xs) ++ drop i xs → get_or ys i d ≡ get_or xs i d
 unscaled_at f xs ys i d inside is = grind (arith, common_steps)
 
--- one more is scaled
+-- One more time is scaled.
 pub scale-more : (scale : ℕ) (xs ys : List ℤ) (i : ℕ) (n d : ℤ) → i < length xs → ys ≡ map (nanoseconds scale) (take i xs) ++ drop i xs → n ≡ nanoseconds scale (get_or ys i d) → set ys i n ≡ map (nanoseconds scale) (take (i + 1) xs) ++ drop (i + 1) xs
 scale-more scale xs ys i n d inside is new =
     let here : get_or ys i d ≡ get_or ys i (get_or ys i d) = same_default ys i d in

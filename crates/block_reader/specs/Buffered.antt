@@ -1,12 +1,12 @@
--- What a buffer holds of a block.
+-- Contents of a block buffer.
 use Rattle.std.specs.Prelude.{◌≡◌, ℕ, ℤ, List, Result, Ok, Err}
 use Rattle.mkv_io.specs.declared.damage.Damage.{Damage}
 use Rattle.block_format.specs.Content.{frames_cut}
 use Rattle.block_format.specs.Block.{Block}
 use Rattle.block_reader.specs.declared.head.BlockHead.{BlockHead}
 
--- The octets of the Element's body as they were read; what the block says of itself, and how many frames it has; the octets
--- of its frames and their sizes, which aren't there of a block that was passed; its references; and what is kept of its group.
+-- the bytes of an element's body, the block's head, frame count, frame bytes and sizes, references, and kept children of its group. A skipped
+-- block has no frame bytes or sizes.
 pub record Buffered : Type 0 where
   pub octets : List ℕ
   pub head : BlockHead
@@ -16,7 +16,7 @@ pub record Buffered : Type 0 where
   pub references : List ℤ
   pub kept : List ℕ
 
--- the block that is held
+-- the block in the buffer `b`
 abbrev pub block_of : Buffered → Block
 block_of b = record {
   track = b.head.track;
@@ -33,7 +33,7 @@ block_of b = record {
   offset = b.head.offset;
 }
 
--- the block that is held was found, or the damage that is answered
+-- A reader's result agrees with `found`: the buffer `b` holds the block that `found` names, or both are the same damage.
 abbrev pub HoldsFound : {T : Type 0} → Result T Damage → Buffered → Result Block Damage → Type 0
 HoldsFound (Ok done) b found = found ≡ Ok (block_of b)
 HoldsFound (Err d) b found = found ≡ Err d

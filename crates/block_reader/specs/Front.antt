@@ -1,4 +1,4 @@
--- What octets in the front of a SimpleBlock's body settle: RFC 9559, sections 10.2 (SimpleBlock Structure) and 10.3 (Block Lacing).
+-- Facts that the first bytes of a SimpleBlock's body settle: RFC 9559, sections 10.2 (SimpleBlock Structure) and 10.3 (Block Lacing).
 use Rattle.std.specs.Prelude.{◌≡◌, ℕ, ◌+◌, ◌-◌, if◌then◌else◌, List, [], ◌∷◌, length, Option, Some, None, Result, Ok}
 use Rattle.std.specs.Option.{option_map}
 use Rattle.lacing.specs.declared.kind.Lace.{Lace}
@@ -15,30 +15,29 @@ use Rattle.block_reader.specs.declared.head.BlockHead.{BlockHead}
 use Rattle.block_reader.specs.Made.{block_with}
 use Rattle.block_reader.specs.Spelled.{header_in}
 
--- ---- the number of the frames
+-- ---- number of frames
 
--- The first octet is the number of the frames less one. Those behind it settle that a lace of so many frames fills what is
--- left of `len` octets.
+-- the number of frames in a lace of `len` bytes, if its first bytes settle that the lace is valid; its first byte is the number minus one
 abbrev pub laced_count : Lace → List ℕ → ℕ → Option ℕ
 laced_count kind [] len = None
 laced_count kind (less_one ∷ front) len = if is_settled kind (less_one + 1) front (len - 1) then Some (less_one + 1) else None
 
--- how many frames the `len` octets behind a header are, where those in their front settle it: without lacing one
+-- the number of frames in the `len` bytes after a header, if the bytes `front` at their start settle it; 1 without lacing
 abbrev pub frame_count : Lace → List ℕ → ℕ → Option ℕ
 frame_count lace.None front len = Some 1
 frame_count lace.Xiph front len = laced_count lace.Xiph front len
 frame_count lace.Fixed front len = laced_count lace.Fixed front len
 frame_count lace.Ebml front len = laced_count lace.Ebml front len
 
--- ---- the track
+-- ---- track
 
--- the TrackNumber, where the header stands in the front
+-- the TrackNumber, if the header is complete in `front`
 abbrev pub front_track : List ℕ → Option ℕ
 front_track front = option_map (λ (h : BlockHeader). h.track) (header_in front)
 
--- ---- the whole
+-- ---- head and number of frames
 
--- what a block says of itself
+-- the head of the block `b`
 abbrev pub head_of : Block → BlockHead
 head_of b = record {
   track = b.track;
@@ -52,24 +51,24 @@ head_of b = record {
   offset = b.offset;
 }
 
--- the SimpleBlock whose header stands in the front, but for its frames
+-- the SimpleBlock with the header in `front`, without its frames
 abbrev pub block_in_front : ℕ → ℕ → ℕ → List ℕ → Block
 block_in_front scale timestamp offset front =
     simple_block_with scale timestamp offset (record { track = track_in front; relative = relative_in front; flags = flags_in front; frames = [] })
 
--- what a block of so many frames says of itself, where these are settled and its time isn't too large
+-- the head of `b` with `frames` frames, if the number is settled and the time isn't too large
 abbrev pub head_with : Block → Option ℕ → Option BlockPreview
 head_with b None = None
 head_with b (Some frames) = if has_too_large_time b then None else Some (record { head = head_of b; frames = frames })
 
--- What a SimpleBlock says of itself and how many frames it has, by octets in the front of its body; nothing where these
--- don't settle that it is one.
+-- the head and frame count of a SimpleBlock with the header `h` whose body begins with `front`; nothing if `front` doesn't settle that the block
+-- is valid
 abbrev pub front_head : ℕ → ℕ → Header → List ℕ → Option BlockPreview
 front_head scale timestamp h front =
     if has_no_header front then None else
     head_with (block_in_front scale timestamp h.offset front) (frame_count (lace_of (flags_in front)) (data_in front) (known h.size - header_len front))
 
--- A block was found that says this of itself and has so many frames, and has no references and nothing that is kept.
+-- `found` is a block with the head and the frame count in `f`, without references or kept children.
 pub record HasHead (f : BlockPreview) (found : Result Block Damage) : Type 0 where
   pub given : Block
   pub is : found ≡ Ok given

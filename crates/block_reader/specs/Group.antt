@@ -1,4 +1,4 @@
--- What is gathered of the children of a BlockGroup.
+-- Facts that a reader gathers from the children of a BlockGroup.
 use Rattle.std.specs.Prelude.{◌≡◌, ◌≤◌, ◌⊎◌, ℕ, true, List, map, take, slice_get, Some, None, Result, Ok, Err}
 use Rattle.std.specs.Option.{option_map}
 use Rattle.ebml_numbers.specs.Number.{uint_of, int_of}
@@ -15,8 +15,8 @@ use Rattle.block_reader.specs.declared.gathered.Part.{Part}
 use Rattle.block_reader.specs.declared.gathered.Part.TheVariants as part
 use Rattle.elements.specs.Body.{IfBody, IsBody, end_behind}
 
--- the first Block, the ticks of the first BlockDuration and of the ReferenceBlocks that a reader takes, the
--- first that is one too many, and the octets of what is kept
+-- `g` holds the first Block, the first BlockDuration and ReferenceBlocks in ticks, the first surplus ReferenceBlock, and the bytes of the kept
+-- children.
 pub record Gathers (bytes : List ℕ) (children : List Header) (g : Gathered) : Type 0 where
   pub block : g.block ≡ first_of BLOCK children
   pub duration : g.duration ≡ option_map (λ (c : Header). uint_of (body_of bytes c)) (first_of BLOCK_DURATION children)
@@ -24,16 +24,16 @@ pub record Gathers (bytes : List ℕ) (children : List Header) (g : Gathered) : 
   pub too_many : g.too_many ≡ slice_get (references_among children) MAX_REFERENCES
   pub kept : g.kept.items ≡ kept_of bytes children
 
--- the children of a group, or the first thing that is wrong with them
+-- A reader's result is right for the children in `run`: `g` holds them and none is invalid, or the damage is the first one.
 abbrev pub GathersRun : {T : Type 0} → List ℕ → Run → Gathered → Result T Damage → Type 0
 GathersRun bytes run g (Ok done) = (group_refusal bytes run ≡ None) × Gathers bytes run.list g
 GathersRun bytes run g (Err d) = group_refusal bytes run ≡ Some d
 
--- the same of the body of a BlockGroup that begins there
+-- A reader's result is right for a group with the body `body` at byte `base` of each file of `total` bytes.
 abbrev pub GathersBody : {T : Type 0} → ℕ → ℕ → List ℕ → Gathered → Result T Damage → Type 0
 GathersBody base total body g found = IfBody base total body (λ bytes. GathersRun bytes (children_in in_master bytes base (end_behind base body)) g found)
 
--- what a child of this ID is to its block
+-- A child with the ID `id` has this role in its group.
 abbrev pub IsPart : ℕ → Part → Type 0
 IsPart id part.Block = id ≡ BLOCK
 IsPart id part.Duration = id ≡ BLOCK_DURATION
@@ -41,11 +41,11 @@ IsPart id part.Reference = id ≡ REFERENCE_BLOCK
 IsPart id part.Kept = is_kept id ≡ true
 IsPart id part.LeftOut = (id ≡ VOID) ⊎ ((id ≡ CRC_32) ⊎ (id ≡ SLICES))
 
--- an Element's body lies between two places
+-- The body of the element `h` is between `base` and `end`.
 pub record IsInside (base end : ℕ) (h : Header) : Type 0 where
   pub from : base ≤ h.body
   pub within : stated_end h ≤ end
 
--- These are the octets of a child, its header's and its body's, in each file in which the body of its group stands so.
+-- `octets` are the bytes of `child`, header and body, in each file with the group's body `body` at `base`.
 abbrev pub AreOctetsOf : ℕ → List ℕ → Header → List ℕ → Type 0
 AreOctetsOf base body child octets = (bytes : List ℕ) (total : ℕ) → IsBody bytes base total body → octets ≡ element_octets bytes child

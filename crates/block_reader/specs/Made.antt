@@ -1,4 +1,4 @@
--- What is made of what was read.
+-- Heads and times that are computed from parsed blocks.
 use Rattle.std.specs.Prelude.{◌≡◌, ℕ, ◌*◌, ℤ, pos, Bool, false, ◌||◌, List, length, map, ◌≤◌, Option, Result, Ok, Err}
 use Rattle.std.specs.List.{list_any}
 use Rattle.std.specs.Option.{option_map, option_map_or}
@@ -10,7 +10,7 @@ use Rattle.block_reader.specs.declared.block.Times.{Times}
 use Rattle.block_reader.specs.declared.head.BlockHead.{BlockHead}
 use Rattle.block_reader.specs.Time.{is_too_large_at}
 
--- what a block says of itself, with its frames, its references and what is kept
+-- the block with the head `h` and these frames, references and kept children
 abbrev pub block_with : BlockHead → List (List ℕ) → List ℤ → List ℕ → Block
 block_with h frames references kept = record {
   track = h.track;
@@ -27,19 +27,19 @@ block_with h frames references kept = record {
   offset = h.offset;
 }
 
--- the block that was found, or the damage
+-- A reader's head, with these parts, is the block that `found` names, or both are the same damage.
 abbrev pub MakesHead : List (List ℕ) → List ℤ → List ℕ → Result Block Damage → Result BlockHead Damage → Type 0
 MakesHead frames references kept found (Ok head) = found ≡ Ok (block_with head frames references kept)
 MakesHead frames references kept found (Err d) = found ≡ Err d
 
--- of the ticks of a group's times one is too large
+-- A group's time, its duration or a reference is too large at `scale` nanoseconds a tick.
 abbrev pub has_too_large_ticks : ℕ → ℤ → Option ℕ → List ℤ → Bool
 has_too_large_ticks scale ticks duration references =
     is_too_large_at scale ticks
     || option_map_or (λ n. is_too_large (pos (n * scale))) duration false
     || list_any (is_too_large_at scale) references
 
--- the times of a group, of which none is too large
+-- `t` and the references in `now` are the times of the group in nanoseconds, and none is too large.
 pub record HasTimes (scale : ℕ) (ticks : ℤ) (old now : Gathered) (t : Times) : Type 0 where
   pub fits : has_too_large_ticks scale ticks old.duration old.references.items ≡ false
   pub time : t.time ≡ nanoseconds scale ticks

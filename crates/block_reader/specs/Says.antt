@@ -1,4 +1,4 @@
--- What a block says, whatever file it stands in: RFC 9559, sections 10 (Cluster Blocks) and 11 (Timestamps).
+-- Meaning of a block independently of its file: RFC 9559, sections 10 (Cluster Blocks) and 11 (Timestamps).
 use Rattle.std.specs.Prelude.{◌≡◌, ⊤, ◌++◌, ◌∷◌, true, ℕ, ℤ, List, [], length, Option, Some, None, Result, Ok, Err, MatchResult}
 use Rattle.ebml_numbers.specs.Number.{int_of}
 use Rattle.mkv_io.specs.declared.damage.Damage.{Damage}
@@ -22,14 +22,14 @@ use Rattle.block_reader.specs.Lendable.{IsLendable, LendsNothing}
 use Rattle.block_reader.specs.Made.{HasTimes, MakesHead, has_too_large_ticks}
 use Rattle.block_reader.specs.Spelled.{IsFront, content_of}
 
--- ---- what it says of itself
+-- ---- head of a block
 
--- A SimpleBlock with this header and this content says so of itself, whatever its frames; or its time is too large.
+-- `result` is the head of the SimpleBlock with the header `h` and the content `s`, for all frames, or the damage that its time is too large.
 abbrev pub MakesSimpleHead : ℕ → ℕ → Header → Spelled → Result BlockHead Damage → Type 0
 MakesSimpleHead scale timestamp h s result = (frames : List (List ℕ))
     → MakesHead frames [] [] (in_time (with_limits scale) h.id (simple_block_with scale timestamp h.offset (content_of s frames))) result
 
--- the times of a group, or that one of them is too large
+-- The option is the times of a group, or absent because one of them is too large.
 abbrev pub TellsTimes : ℕ → ℤ → Gathered → Gathered → Option Times → Type 0
 TellsTimes scale ticks old new (Some times) = HasTimes scale ticks old new times
 TellsTimes scale ticks old new None = has_too_large_ticks scale ticks old.duration old.references.items ≡ true
@@ -39,32 +39,32 @@ abbrev pub block_in_group : ℕ → ℕ → ℕ → List ℕ → List Header →
 block_in_group scale timestamp offset bytes children content =
     and_then (unless (too_many_references (with_limits scale) children) content) (λ each. in_time (with_limits scale) BLOCK (group_with scale bytes timestamp offset children each))
 
--- A group whose children were gathered says so of itself, whatever its octets and its frames; or the first of what is wrong.
+-- `result` is the head of a group with the gathered children `old` and the content `s`, for all bytes and frames, or its first damage.
 abbrev pub MakesGroupHead : ℕ → ℕ → ℕ → Spelled → Gathered → Gathered → Result BlockHead Damage → Type 0
 MakesGroupHead scale timestamp offset s old new result = (bytes : List ℕ) (children : List Header) (frames : List (List ℕ)) → Gathers bytes children old
     → MakesHead frames new.references.items new.kept.items (block_in_group scale timestamp offset bytes children (content_of s frames)) result
 
--- Octets in the front of a SimpleBlock's body settle what it says of itself, and how many frames it has.
+-- `found` is the head and frame count of each SimpleBlock with the header `h` whose body begins with `front`.
 abbrev pub Settles : ℕ → ℕ → Header → List ℕ → BlockPreview → Type 0
 Settles scale timestamp h front found = (bytes : List ℕ) → IsFront front (body_of bytes h) → length (body_of bytes h) ≡ known h.size
     → HasHead found (simple_block (with_limits scale) bytes (Some timestamp) h)
 
--- ---- what its octets spell
+-- ---- bytes of a block
 
--- These octets, where they are the body of a SimpleBlock with this header, are the block that is lent; or this is wrong with it.
+-- A reader's result for the body `octets` of a SimpleBlock with the header `h` is right: the block in `b`, or its damage.
 abbrev pub SpellsSimple : {T : Type 0} → ℕ → ℕ → Header → List ℕ → Buffered → Result T Damage → Type 0
 SpellsSimple scale timestamp h octets b found = (bytes : List ℕ) → octets ≡ body_of bytes h → HoldsFound found b (simple_block (with_limits scale) bytes (Some timestamp) h)
 
--- the same of a BlockGroup in a file of so many octets
+-- A reader's result for the body `octets` of a BlockGroup in a file of `total` bytes is right: the block in `b`, or its damage.
 abbrev pub SpellsGroup : {T : Type 0} → ℕ → ℕ → ℕ → Header → List ℕ → Buffered → Result T Damage → Type 0
 SpellsGroup total scale timestamp h octets b found = (bytes : List ℕ) → length bytes ≡ total → octets ≡ body_of bytes h
     → HoldsFound found b (block_group (with_limits scale) bytes (Some timestamp) h)
 
--- A block is lent where one was found, and else nothing.
+-- The buffer `b` has a block that can be written if `result` is a success; otherwise it has none.
 abbrev pub LendsFound : {T E : Type 0} → Buffered → Result (Result T Damage) E → Type 0
 LendsFound b result = MatchResult result (λ found. MatchResult found (λ _. IsLendable b) (λ _. LendsNothing b)) (λ _. LendsNothing b)
 
--- It stays where no block was found.
+-- `new` equals `old` unless a block was found.
 abbrev pub StaysElse : {A T E : Type 0} → A → A → Result (Result T Damage) E → Type 0
 StaysElse old new (Ok (Ok _)) = ⊤
 StaysElse old new (Ok (Err d)) = new ≡ old
@@ -72,12 +72,12 @@ StaysElse old new (Err e) = new ≡ old
 
 -- ---- the children of a group
 
--- A child is gathered behind others, whose value and whose octets these are.
+-- `new` is `old` with one more child, which has this body and these bytes.
 abbrev pub GathersChild : Header → List ℕ → List ℕ → Gathered → Gathered → Type 0
 GathersChild child value octets old new = (bytes : List ℕ) (before : List Header) → value ≡ body_of bytes child → octets ≡ element_octets bytes child
     → Gathers bytes before old → Gathers bytes (before ++ child ∷ []) new
 
--- the same of a ReferenceBlock of so many ticks
+-- `new` is `old` with one more ReferenceBlock of `ticks` ticks.
 abbrev pub GathersReference : Header → ℤ → Gathered → Gathered → Type 0
 GathersReference child ticks old new = (bytes : List ℕ) (before : List Header) → ticks ≡ int_of (body_of bytes child)
     → Gathers bytes before old → Gathers bytes (before ++ child ∷ []) new

@@ -1,4 +1,4 @@
--- What is read of the octets of a Block or a SimpleBlock.
+-- Content that is read from the bytes of a Block or a SimpleBlock.
 use Rattle.std.specs.Prelude.{◌≡◌, ◌≤◌, ℕ, ◌+◌, if◌then◌else◌, List, length, take, drop, sum, Option, Some, None, Result, Ok, Err}
 use Rattle.lacing.specs.declared.kind.Lace.{Lace}
 use Rattle.lacing.specs.declared.kind.Lace.TheVariants as laces
@@ -8,15 +8,15 @@ use Rattle.block_format.specs.Content.{Content, has_no_header, track_in, relativ
 use Rattle.block_reader.specs.declared.content.BlockHeader.{BlockHeader}
 use Rattle.block_reader.specs.declared.content.Spelled.{Spelled}
 
--- what the header at the front of octets says
+-- the header at the start of `octets`
 abbrev pub header_of : List ℕ → BlockHeader
 header_of octets = record { track = track_in octets; relative = relative_in octets; flags = flags_in octets; len = header_len octets }
 
--- the same, where the header is whole
+-- the header at the start of `octets`, if it is complete
 abbrev pub header_in : List ℕ → Option BlockHeader
 header_in octets = if has_no_header octets then None else Some (header_of octets)
 
--- Frames of these sizes, which this kind can lace, begin behind so many octets, and there are as many octets as they have.
+-- Frames of the sizes `sizes`, valid for lacing of this kind, begin at byte `start` of `octets` and fill the rest.
 pub record AreFrames (kind : Lace) (octets sizes : List ℕ) (start : ℕ) : Type 0 where
   pub inside : start ≤ length octets
   pub whole : start + sum sizes ≡ length octets
@@ -24,24 +24,24 @@ pub record AreFrames (kind : Lace) (octets sizes : List ℕ) (start : ℕ) : Typ
   pub most : length sizes ≤ 256
   pub fits : FitsKind kind sizes
 
--- the frames that octets are cut into, or why they aren't
+-- A reader's frame sizes agree with `found`: they cut `octets` into its frames, or both are the same error.
 abbrev pub Cuts : Lace → List ℕ → List ℕ → Result (List (List ℕ)) Kind → Result ℕ Kind → Type 0
 Cuts lace octets sizes found (Ok start) = (found ≡ Ok (frames_cut sizes (drop start octets))) × AreFrames lace octets sizes start
 Cuts lace octets sizes found (Err kind) = found ≡ Err kind
 
--- All the octets are one frame, which begins there.
+-- All bytes of `octets` are one frame, which begins at `start`.
 abbrev pub CutsWhole : List ℕ → List ℕ → ℕ → Type 0
 CutsWhole octets sizes start = Cuts laces.None octets sizes (frames_in laces.None octets) (Ok start)
 
--- what was read, and frames, as a content
+-- the content with the header `s` and these frames
 abbrev pub content_of : Spelled → List (List ℕ) → Content
 content_of s frames = record { track = s.track; relative = s.relative; flags = s.flags; frames = frames }
 
--- what octets spell, or why they are no block
+-- A reader's result for a block's bytes is right: its content with these frame sizes, or its error.
 abbrev pub SpellsContent : List ℕ → List ℕ → Result Spelled Kind → Type 0
 SpellsContent octets sizes (Ok s) = (content_in octets ≡ Ok (content_of s (frames_cut sizes (drop s.start octets)))) × AreFrames (lace_of s.flags) octets sizes s.start
 SpellsContent octets sizes (Err kind) = content_in octets ≡ Err kind
 
--- octets stand at the front of others
+-- `octets` begins with `front`.
 abbrev pub IsFront : List ℕ → List ℕ → Type 0
 IsFront front octets = front ≡ take (length front) octets

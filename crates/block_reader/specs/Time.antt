@@ -1,20 +1,20 @@
--- Times of blocks in nanoseconds: RFC 9559, section 11 (Timestamps). Which of them are too large is this project's.
+-- Times of blocks in nanoseconds: RFC 9559, section 11 (Timestamps). The limit on a time is this project's.
 use Rattle.std.specs.Prelude.{ℕ, ◌*◌, ◌<◌, nat_abs, Bool, if◌then◌else◌, ℤ, pos, Option, Some, None}
 use Rattle.block_format.specs.declared.limits.TheConstants.{TOO_LARGE_TIME}
 use Rattle.block_format.specs.Block.{nanoseconds, is_too_large}
 
--- a time before the start or behind it that isn't too large
+-- `time`, positive or negative, isn't too large.
 abbrev pub IsSmallTime : ℤ → Type 0
 IsSmallTime time = nat_abs time < TOO_LARGE_TIME
 
--- so many ticks of `scale` nanoseconds are too large
+-- `ticks` ticks of `scale` nanoseconds are too large.
 abbrev pub is_too_large_at : ℕ → ℤ → Bool
 is_too_large_at scale ticks = is_too_large (nanoseconds scale ticks)
 
--- so many ticks of `scale` nanoseconds, unless that is too large
+-- `ticks` ticks of `scale` nanoseconds, unless that is too large
 abbrev pub scaled : ℕ → ℤ → Option ℤ
 scaled scale ticks = if is_too_large_at scale ticks then None else Some (nanoseconds scale ticks)
 
--- the same of a duration, which has no sign
+-- a duration of `ticks` ticks of `scale` nanoseconds, unless that is too large
 abbrev pub scaled_duration : ℕ → ℕ → Option ℕ
 scaled_duration scale ticks = if is_too_large (pos (ticks * scale)) then None else Some (ticks * scale)

@@ -1,5 +1,4 @@
-//! A SimpleBlock or a BlockGroup of what was read of it: RFC 9559, sections 10 (Cluster Blocks) and 11
-//! (Timestamps).
+//! Heads of SimpleBlocks and BlockGroups: RFC 9559, sections 10 (Cluster Blocks) and 11 (Timestamps).
 
 ghost use Rattle.std.specs.Prelude.{◌≡◌, pos, ◌+ℤ◌, ℤ, [], IfOk};
 ghost use Rattle.block_reader.specs.Lendable.{CanLead};
@@ -20,14 +19,15 @@ const INVISIBLE: u8 = 0x08;
 
 const DISCARDABLE: u8 = 0x01;
 
-/// The times of a group in nanoseconds, but for its references.
+/// Time and duration of a BlockGroup in nanoseconds
 #[derive(Clone, Copy)]
 pub struct Times {
     pub time: i64,
     pub duration: Option<u64>,
 }
 
-/// What a SimpleBlock says of itself, or that its time is too large.
+/// Returns the head of the SimpleBlock with the header `header` and the content `spelled`, or damage if its time is
+/// too large. `timestamp` is its Cluster's, in ticks of `scale` nanoseconds.
 pub fn simple_head(
     scale: u64,
     timestamp: u64,
@@ -53,7 +53,8 @@ pub fn simple_head(
     })
 }
 
-// The times of a group, unless one is too large. The references stand in nanoseconds then.
+// Returns the time and duration of a group, or nothing if one of its times is too large. The references are in
+// nanoseconds afterwards.
 fn times_of(scale: u64, timestamp: u64, relative: i64, gathered: &mut Gathered) -> Option<Times>
     ensures exact { TellsTimes scale (pos timestamp +ℤ relative) gathered.old gathered.new result }
     ensures block { gathered.new.block ≡ gathered.old.block }
@@ -70,8 +71,8 @@ fn times_of(scale: u64, timestamp: u64, relative: i64, gathered: &mut Gathered) 
     Some(Times { time, duration })
 }
 
-/// What a group at `offset` octets behind the file's start says of itself, or the first of what is wrong
-/// with it: it has too many ReferenceBlocks, or a time is too large. The references stand in nanoseconds then.
+/// Returns the head of the BlockGroup at byte `offset` of the file. Fails with the first damage: too many
+/// ReferenceBlocks, or a time that is too large. Afterwards the references are in nanoseconds.
 pub fn group_head(
     scale: u64,
     timestamp: u64,

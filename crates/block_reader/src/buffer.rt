@@ -1,4 +1,4 @@
-//! The buffer of a block.
+//! Buffer for one block
 
 ghost use Rattle.std.specs.Prelude.{◌≡◌, ◌≤◌, ◌⊎◌, [], length, sum, false, OnOk, IfOk, MatchResult};
 ghost use Rattle.std.specs.List.{All};
@@ -25,12 +25,12 @@ use mkv_schema::Header;
 use std::alloc::Global;
 use std::marker::Model;
 
-/// One block: the octets of its Element's body, and what they spell. The buffer is used again for the next
-/// one, and grows where that is longer than each before.
+/// One block: the bytes of its element's body, and its parsed parts. The buffer is reused for each block, and grows
+/// if one is larger than all before it.
 #[derive(Drop)]
 pub struct BlockBuffer {
     octets: Vec<u8>,
-    // how many octets the body has that was read last
+    // length in bytes of the body that was read last
     len: usize,
     parts: Parts,
 }
@@ -48,7 +48,7 @@ impl Model for BlockBuffer {
 }
 
 impl BlockBuffer {
-    /// A buffer with no block. It takes no memory.
+    /// Returns a buffer without a block, which takes no memory.
     pub fn new(alloc: Global) -> BlockBuffer
         ensures octets { result.octets ≡ [] }
         ensures nothing { LendsNothing result }
@@ -60,7 +60,7 @@ impl BlockBuffer {
         }
     }
 
-    /// Reads the body of a SimpleBlock or a BlockGroup through a window. What the block before spelled isn't lent any more.
+    /// Reads the body of a SimpleBlock or BlockGroup through `window`. The previous block is no longer available.
     pub fn read<R: Reads>(
         &mut self,
         window: &mut Window,
@@ -92,7 +92,7 @@ impl BlockBuffer {
         Ok(())
     }
 
-    /// Passes a SimpleBlock without its frames: what its front settles is known of it, and nothing else is lent.
+    /// Skips the frames of a SimpleBlock: the buffer keeps the head and frame count of `front`, and nothing else.
     pub fn pass(&mut self, front: BlockPreview)
         requires small { HasSmallTimes front.head }
         requires few { front.frames ≤ 256 }
@@ -105,8 +105,8 @@ impl BlockBuffer {
         self.parts.pass(front);
     }
 
-    /// What the octets spell of a SimpleBlock with this header, in a Cluster whose Timestamp is so many
-    /// ticks, of `scale` nanoseconds each; or the first thing that is wrong.
+    /// Parses the bytes as a SimpleBlock with the header `header`, or returns the first damage. The Cluster's
+    /// Timestamp is `timestamp` ticks of `scale` nanoseconds.
     pub fn spell_simple(&mut self, scale: u64, timestamp: u64, header: &Header) -> Found
         requires few { known header.now.size ≤ MAX_BLOCK_LEN }
         requires length { length self.old.octets ≡ known header.now.size }
@@ -120,8 +120,8 @@ impl BlockBuffer {
         self.parts.settle(found)
     }
 
-    /// What the octets spell of a BlockGroup with this header, in a file of `total` octets and a Cluster
-    /// whose Timestamp is so many ticks, of `scale` nanoseconds each; or the first thing that is wrong.
+    /// Parses the bytes as a BlockGroup with the header `header` in a file of `total` bytes, or returns the first
+    /// damage. The Cluster's Timestamp is `timestamp` ticks of `scale` nanoseconds.
     pub fn spell_group(&mut self, scale: u64, timestamp: u64, header: &Header, total: u64) -> Found
         requires few { known header.now.size ≤ MAX_BLOCK_LEN }
         requires length { length self.old.octets ≡ known header.now.size }
@@ -137,7 +137,7 @@ impl BlockBuffer {
         self.parts.settle(found)
     }
 
-    /// What the block says of itself.
+    /// Returns the head of the block.
     pub fn head(&self) -> &BlockHead
         ensures exact { result.now ≡ self.now.head }
         ensures small { HasSmallTimes result.now }
@@ -145,7 +145,7 @@ impl BlockBuffer {
         &self.parts.head
     }
 
-    /// How many frames the block has, of which none is lent where it was passed.
+    /// Returns the number of frames of the block. After `pass` the frames themselves aren't available.
     pub fn frames(&self) -> u16
         ensures exact { result ≡ self.now.frames }
         ensures most { result ≤ 256 }
@@ -153,7 +153,7 @@ impl BlockBuffer {
         self.parts.frames
     }
 
-    /// The octets of its frames, one behind the other.
+    /// Returns the bytes of the frames in sequence.
     pub fn body(&self) -> &[u8]
         ensures exact { result.now ≡ self.now.body }
         ensures cut { sum self.now.sizes ≡ length result.now }
@@ -163,7 +163,7 @@ impl BlockBuffer {
         &octets[self.parts.start..self.parts.end]
     }
 
-    /// How many octets each frame has: none where there is no block.
+    /// Returns the size of each frame in bytes; the slice is empty if there is no block.
     pub fn sizes(&self) -> &[u32]
         ensures exact { result.now ≡ self.now.sizes }
         ensures sum { sum result.now ≡ length self.now.body }
@@ -173,7 +173,7 @@ impl BlockBuffer {
         self.parts.sizes.as_slice()
     }
 
-    /// The times of the blocks that it refers to less its own, in nanoseconds.
+    /// Returns the times of the referenced blocks relative to this block, in nanoseconds.
     pub fn references(&self) -> &[i64]
         ensures exact { result.now ≡ self.now.references }
         ensures small { All IsSmallTime result.now }
@@ -182,7 +182,7 @@ impl BlockBuffer {
         self.parts.gathered.references.as_slice()
     }
 
-    /// The octets of what is kept of its group, one Element behind the other, as they were found.
+    /// Returns the bytes of the kept children of the group, in file order.
     pub fn kept(&self) -> &[u8]
         ensures exact { result.now ≡ self.now.kept }
         ensures most { length result.now ≤ MAX_BLOCK_LEN }

@@ -1,5 +1,5 @@
-//! What the octets of a Block or a SimpleBlock spell: RFC 9559, sections 10.1 (Block Structure), 10.2
-//! (SimpleBlock Structure) and 10.3 (Block Lacing).
+//! Content of a Block or a SimpleBlock: RFC 9559, sections 10.1 (Block Structure), 10.2 (SimpleBlock Structure) and
+//! 10.3 (Block Lacing).
 
 ghost use Rattle.std.specs.Prelude.{◌≡◌, ◌≤◌, [], length, IfOk, MatchResult, OnErr};
 ghost use Rattle.block_format.specs.Content.{frames_in, has_flag, lace_of, laced_frames};
@@ -13,38 +13,38 @@ use mkv_io::Kind;
 use smallvec::SmallVec;
 use std::alloc::{AllocError, Global};
 
-/// The header of a Block or a SimpleBlock.
+/// Header of a Block or a SimpleBlock
 #[derive(Clone, Copy)]
 pub struct BlockHeader {
-    /// The TrackNumber of its track.
+    /// TrackNumber of its track
     pub track: u64,
-    /// Ticks from the Cluster's Timestamp.
+    /// Ticks from the Cluster's Timestamp
     pub relative: i64,
     pub flags: u8,
-    /// How many octets the header has.
+    /// Length of the header in bytes
     pub len: usize,
 }
 
-/// What the octets of a Block or a SimpleBlock spell, but for the sizes of the frames.
+/// Parsed Block or SimpleBlock, without the sizes of its frames
 #[derive(Clone, Copy, Debug, PartialEq, Eq)]
 pub struct Spelled {
-    /// The TrackNumber of its track.
+    /// TrackNumber of its track
     pub track: u64,
-    /// Ticks from the Cluster's Timestamp.
+    /// Ticks from the Cluster's Timestamp
     pub relative: i64,
     pub flags: u8,
-    /// How many octets stand before the frames.
+    /// Number of bytes before the frames
     pub start: usize,
 }
 
-/// Whether a bit of the flags is set.
+/// Checks whether the bit `flag` of `flags` is set.
 pub fn has_flag(flag: u8, flags: u8) -> bool
     ensures { result ≡ has_flag flag flags }
 {
     flags & flag != 0
 }
 
-/// The kind of lacing that the flags name.
+/// Returns the kind of lacing that the flags name.
 pub fn lace_of(flags: u8) -> Lace
     ensures { result ≡ lace_of flags }
 {
@@ -56,7 +56,7 @@ pub fn lace_of(flags: u8) -> Lace
     }
 }
 
-// The number that a size of so many octets is read from: where all bits are 1, the size is unknown.
+// Returns the number in a size of `len` bytes. An unknown size has all bits 1.
 fn data_of(size: Size, len: u8) -> u64
     requires { len ≤ 8 }
     ensures { result ≡ data_of size len }
@@ -67,7 +67,7 @@ fn data_of(size: Size, len: u8) -> u64
     }
 }
 
-/// The header at the front of octets, where it is whole.
+/// Returns the header at the start of `octets`, or nothing if it is incomplete.
 pub fn header_in(octets: &[u8]) -> Option<BlockHeader>
     ensures { result ≡ header_in octets.now }
 {
@@ -86,7 +86,7 @@ pub fn header_in(octets: &[u8]) -> Option<BlockHeader>
     })
 }
 
-// All the octets as one frame.
+// Takes all bytes as one frame.
 fn one_frame(octets: &[u8], sizes: &mut SmallVec<u32, 8, Global>) -> Result<usize, AllocError>
     requires short { length octets.now ≤ MAX_BLOCK_LEN }
     requires empty { sizes.old.items ≡ [] }
@@ -97,7 +97,7 @@ fn one_frame(octets: &[u8], sizes: &mut SmallVec<u32, 8, Global>) -> Result<usiz
     Ok(0)
 }
 
-// The frames behind their number less one and the head of their lace.
+// Cuts a lace into frames. `octets` begins with the number of frames minus one and the head of the lace.
 fn laced_frames(
     kind: Lace,
     octets: &[u8],
@@ -118,8 +118,8 @@ fn laced_frames(
     }
 }
 
-// Cuts the octets behind a header into frames, whose sizes stand in `sizes` then, and answers how many octets
-// stand before the first.
+// Cuts the bytes after a block's header into frames, with their sizes in `sizes`. Returns the number of bytes before
+// the first frame.
 fn cut(
     kind: Lace,
     octets: &[u8],
@@ -136,8 +136,8 @@ fn cut(
     }
 }
 
-/// What the octets of a Block or a SimpleBlock spell, or why they are none: they end inside the header, or
-/// aren't laced as it says. The sizes of the frames stand in `sizes` then, in octets.
+/// Parses `octets` as a Block or SimpleBlock, with the frame sizes in `sizes`. Fails if the bytes end inside the
+/// header, or don't match the lacing that it names.
 pub fn spell(
     octets: &[u8],
     sizes: &mut SmallVec<u32, 8, Global>,

@@ -1,5 +1,5 @@
-//! What octets in the front of a SimpleBlock's body settle: RFC 9559, sections 10.2 (SimpleBlock Structure) and 10.3
-//! (Block Lacing).
+//! Facts that the first bytes of a SimpleBlock's body settle: RFC 9559, sections 10.2 (SimpleBlock Structure) and
+//! 10.3 (Block Lacing).
 
 ghost use Rattle.std.specs.Prelude.{◌≡◌, ◌≤◌, length, IfSome};
 ghost use Rattle.mkv_schema.specs.Element.{known};
@@ -16,16 +16,17 @@ use elements::known;
 use lacing::{Lace, is_settled};
 use mkv_schema::Header;
 
-/// What the front of a SimpleBlock settles.
+/// Head and frame count of a SimpleBlock, read from its first bytes
 #[derive(Clone, Copy, Debug, PartialEq, Eq)]
 pub struct BlockPreview {
-    /// What the block says of itself.
+    /// Head of the block
     pub head: BlockHead,
-    /// How many frames it has.
+    /// Number of frames
     pub frames: u16,
 }
 
-// How many frames are laced in so many octets, where these in their front settle it.
+// Returns the number of frames in a lace of `len` bytes that begins with `front`, or nothing if `front` doesn't
+// settle it.
 fn laced_count(kind: Lace, front: &[u8], len: usize) -> Option<u16>
     requires inside { length front.now ≤ len }
     requires short { len ≤ MAX_BLOCK_LEN }
@@ -41,7 +42,8 @@ fn laced_count(kind: Lace, front: &[u8], len: usize) -> Option<u16>
     }
 }
 
-// How many frames stand in so many octets behind a header, where these in their front settle it.
+// Returns the number of frames in the `len` bytes after a header, which begin with `front`, or nothing if `front`
+// doesn't settle it.
 fn frame_count(kind: Lace, front: &[u8], len: usize) -> Option<u16>
     requires inside { length front.now ≤ len }
     requires short { len ≤ MAX_BLOCK_LEN }
@@ -54,7 +56,7 @@ fn frame_count(kind: Lace, front: &[u8], len: usize) -> Option<u16>
     }
 }
 
-/// The TrackNumber that octets in the front of a SimpleBlock's body settle.
+/// Returns the TrackNumber of a SimpleBlock whose body begins with `front`, or nothing if its header is incomplete.
 pub fn front_track(front: &[u8]) -> Option<u64>
     ensures { result ≡ front_track front.now }
 {
@@ -62,8 +64,8 @@ pub fn front_track(front: &[u8]) -> Option<u64>
     Some(header.track)
 }
 
-/// What a SimpleBlock with this header says of itself, and how many frames it has, by octets in the front of its body, in a
-/// Cluster whose Timestamp is so many ticks, of `scale` nanoseconds each; nothing where these don't settle that it is one.
+/// Returns the head and frame count of a SimpleBlock whose body begins with `front`. Returns nothing if `front`
+/// doesn't settle that the block is valid. The Cluster's Timestamp is `timestamp` ticks of `scale` nanoseconds.
 pub fn front_head(scale: u64, timestamp: u64, header: &Header, front: &[u8]) -> Option<BlockPreview>
     requires few { known header.now.size ≤ MAX_BLOCK_LEN }
     requires front { length front.now ≤ known header.now.size }

@@ -1,4 +1,4 @@
-//! The children of a BlockGroup: RFC 9559, section 5.1.3 (Cluster Element).
+//! Children of a BlockGroup: RFC 9559, section 5.1.3 (Cluster).
 
 ghost use Rattle.std.specs.Prelude.{◌≡◌, ◌+◌, ◌-◌, ◌≤◌, ◌⊎◌, ℕ, List, [], length, true, None, Some, IfOk, IfSome, OnOk, OnErr};
 ghost use Rattle.mkv_schema.specs.declared.ids.TheConstants.{BLOCK_GROUP as GROUP_ID};
@@ -18,22 +18,23 @@ use mkv_schema::Header;
 use mkv_schema::ids::{BLOCK, BLOCK_DURATION, BLOCK_GROUP, CRC_32, REFERENCE_BLOCK, VOID};
 use std::alloc::{AllocError, Global};
 
-/// What is gathered of the children of a BlockGroup.
+/// Facts that were gathered from the children of a BlockGroup
 #[derive(Drop)]
 pub struct Gathered {
-    /// The first Block.
+    /// First Block
     pub block: Option<Header>,
-    /// The ticks of the first BlockDuration.
+    /// First BlockDuration, in ticks
     pub duration: Option<u64>,
-    /// The ticks of the first 64 ReferenceBlocks.
+    /// First 64 ReferenceBlocks, in ticks
     pub references: ArrayVec<i64, 64>,
-    /// The ReferenceBlock behind these.
+    /// ReferenceBlock after the first 64, if any
     pub too_many: Option<Header>,
-    /// The octets of what is kept, one Element behind the other.
+    /// Bytes of the kept children in sequence
     pub kept: Vec<u8>,
 }
 
-// The octets of a child, its header's and its body's, of a master whose body begins at `base` and is these octets.
+// Returns the bytes of `child`, header and body. `body` is the body of its master, which begins at byte `base` of the
+// file.
 fn element_of<'a>(body: &'a [u8], base: u64, child: &Header) -> &'a [u8]
     requires short { base + length body.now ≤ LONGEST_FILE }
     requires from { base ≤ child.now.offset }
@@ -46,8 +47,8 @@ fn element_of<'a>(body: &'a [u8], base: u64, child: &Header) -> &'a [u8]
     &body[(child.offset - base) as usize..(end - base) as usize]
 }
 
-// Whether octets are a value of a child of a BlockGroup of this ID: a Block may be any, a BlockDuration and a ReferenceBlock have
-// at most eight.
+// Checks whether `value` is valid for a child of a BlockGroup with this ID. A Block may have any bytes; a
+// BlockDuration or ReferenceBlock has at most eight.
 fn is_child_value(id: u32, value: &[u8]) -> bool
     ensures { result ≡ is_known_value GROUP_ID id value.now }
 {
@@ -58,15 +59,15 @@ fn is_child_value(id: u32, value: &[u8]) -> bool
     }
 }
 
-// What a child of a group is to its block.
+// Role of a child of a BlockGroup
 #[derive(Clone, Copy)]
 enum Part {
     Block,
     Duration,
     Reference,
-    // kept as it is
+    // kept unchanged
     Kept,
-    // it says nothing of the block
+    // irrelevant to the block
     LeftOut,
 }
 
@@ -83,7 +84,7 @@ fn part_of(id: u32) -> Part
 }
 
 impl Gathered {
-    /// Nothing. It takes no memory.
+    /// Returns an empty record, which takes no memory.
     pub fn new(alloc: Global) -> Gathered
         ensures exact { (bytes : List ℕ) → Gathers bytes [] result }
         ensures references { result.references.items ≡ [] }
@@ -98,7 +99,7 @@ impl Gathered {
         }
     }
 
-    /// Forgets all. The memory stays.
+    /// Removes everything, without freeing memory.
     pub fn clear(&mut self)
         ensures exact { (bytes : List ℕ) → Gathers bytes [] self.new }
         ensures block { self.new.block ≡ None }
@@ -112,9 +113,9 @@ impl Gathered {
         self.kept.clear();
     }
 
-    /// Gathers the children of a group whose body begins at `base` in a file of `total` octets and is these
-    /// octets; or answers the first thing that is wrong with them: a child that isn't a value of its kind, or
-    /// a place where no Element stands. After want of memory some of them are gathered.
+    /// Gathers the children of a group with the body `body`, which begins at byte `base` of a file of `total` bytes.
+    /// Fails with the first damage: an invalid value, or a place without a valid element. If memory runs out, only
+    /// some children are gathered.
     pub fn gather(
         &mut self,
         body: &[u8],
@@ -144,7 +145,7 @@ impl Gathered {
         Ok(Ok(()))
     }
 
-    // Adds the octets of a child, of whose body these are a value.
+    // Adds `child`, with the body `value` and the whole element `octets`.
     fn add(&mut self, child: &Header, value: &[u8], octets: &[u8]) -> Result<(), AllocError>
         requires { is_known_value GROUP_ID child.now.id value.now ≡ true }
         ensures exact { OnOk result (GathersChild child.now value.now octets.now self.old self.new) }
@@ -162,7 +163,7 @@ impl Gathered {
         Ok(())
     }
 
-    // Adds a ReferenceBlock of so many ticks.
+    // Adds the ReferenceBlock `child` of `ticks` ticks.
     fn add_reference(&mut self, child: &Header, ticks: i64)
         requires { child.now.id ≡ REFERENCE_BLOCK }
         ensures exact { GathersReference child.now ticks self.old self.new }

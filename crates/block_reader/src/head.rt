@@ -1,26 +1,26 @@
-//! What a block says of itself.
+//! Head of a block
 
 use lacing::Lace;
 
-/// What a block says of itself: RFC 9559, section 10 (Cluster Blocks).
+/// Head of a block: RFC 9559, section 10 (Cluster Blocks)
 #[derive(Clone, Copy, Debug, PartialEq, Eq)]
 pub struct BlockHead {
-    /// The TrackNumber of its track.
+    /// TrackNumber of its track
     pub track: u64,
-    /// Its time in nanoseconds; it may stand before the start.
+    /// Time in nanoseconds, which may be negative
     pub time: i64,
-    /// It can be decoded without another block: a SimpleBlock says so, a group refers to no block.
+    /// Keyframe: a SimpleBlock with that flag, or a group without references
     pub key: bool,
-    /// It is decoded, and not shown.
+    /// Decoded but not shown
     pub invisible: bool,
-    /// It may be left out where there is no time for it; a group never may.
+    /// May be dropped if playback is late; never set for a group
     pub discardable: bool,
-    /// It is a BlockGroup.
+    /// BlockGroup, not SimpleBlock
     pub group: bool,
-    /// How its frames are laced.
+    /// Kind of lacing
     pub lace: Lace,
-    /// Its BlockDuration in nanoseconds, where it has one.
+    /// BlockDuration in nanoseconds, if present
     pub duration: Option<u64>,
-    /// Octets from the start of the file to its SimpleBlock or BlockGroup.
+    /// Byte offset of its SimpleBlock or BlockGroup in the file
     pub offset: u64,
 }

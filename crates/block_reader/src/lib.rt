@@ -1,7 +1,7 @@
 #![tactic(auto)]
 
-//! One block of a Cluster: the octets of a SimpleBlock or a BlockGroup, read once into a buffer that is used
-//! again, and what they spell (RFC 9559, section 10, Cluster Blocks).
+//! One block of a Cluster: a SimpleBlock or BlockGroup, read once into a reused buffer, and parsed (RFC 9559, section
+//! 10, Cluster Blocks).
 
 mod block;
 mod buffer;

@@ -1,5 +1,5 @@
-//! The parts of a block, which the octets of a SimpleBlock or a BlockGroup spell: RFC 9559, sections 10.1
-//! (Block Structure) and 10.2 (SimpleBlock Structure).
+//! Parts of a parsed SimpleBlock or BlockGroup: RFC 9559, sections 10.1 (Block Structure) and 10.2 (SimpleBlock
+//! Structure).
 
 ghost use Rattle.std.specs.Prelude.{◌≡◌, ◌≤◌, length, IfOk, OnOk, OnErr, MatchResult};
 ghost use Rattle.mkv_schema.specs.Element.{known, stated_end};
@@ -21,27 +21,27 @@ use mkv_schema::ids::BLOCK;
 use smallvec::SmallVec;
 use std::alloc::{AllocError, Global};
 
-/// What is found of a block: that it is one, or the first thing that is wrong.
+/// Result of parsing a block: success, or the first damage
 pub type Found = Result<Result<(), Damage>, AllocError>;
 
-/// The parts of a block. Its frames stand among the octets of its Element's body.
+/// Parts of a block, whose frames are a range of its element's body
 #[derive(Drop)]
 pub struct Parts {
     pub head: BlockHead,
-    /// How many frames it has.
+    /// Number of frames
     pub frames: u16,
-    /// Where the frames begin.
+    /// Start of the frames in the body
     pub start: usize,
-    /// Where they end.
+    /// End of the frames in the body
     pub end: usize,
-    /// How many octets each frame has.
+    /// Size of each frame in bytes
     pub sizes: SmallVec<u32, 8, Global>,
-    /// What a group's children say besides; of a SimpleBlock nothing.
+    /// Facts from a group's children; empty for a SimpleBlock
     pub gathered: Gathered,
 }
 
 impl Parts {
-    /// No block. It takes no memory.
+    /// Returns the parts of no block, which take no memory.
     pub fn new(alloc: Global) -> Parts
         ensures empty { IsEmpty result }
         ensures times { HasSmallTimes result.head }
@@ -67,7 +67,7 @@ impl Parts {
         }
     }
 
-    /// Forgets the block. The memory stays.
+    /// Removes the block, without freeing memory.
     pub fn forget(&mut self)
         ensures empty { IsEmpty self.new }
         ensures head { self.new.head ≡ self.old.head }
@@ -79,7 +79,7 @@ impl Parts {
         self.gathered.clear();
     }
 
-    /// Forgets the block, and keeps of another one what its front settles.
+    /// Removes the block, and takes the head and frame count of `front`.
     pub fn pass(&mut self, front: BlockPreview)
         ensures empty { IsEmpty self.new }
         ensures head { self.new.head ≡ front.head }
@@ -90,8 +90,8 @@ impl Parts {
         self.frames = front.frames;
     }
 
-    /// What the octets spell of a SimpleBlock with this header, in a Cluster whose Timestamp is so many
-    /// ticks, of `scale` nanoseconds each; or the first thing that is wrong.
+    /// Parses `octets` as a SimpleBlock with the header `header`, or returns the first damage. The Cluster's
+    /// Timestamp is `timestamp` ticks of `scale` nanoseconds.
     pub fn simple(&mut self, octets: &[u8], scale: u64, timestamp: u64, header: &Header) -> Found
         requires few { known header.now.size ≤ MAX_BLOCK_LEN }
         requires length { length octets.now ≡ known header.now.size }
@@ -117,8 +117,8 @@ impl Parts {
         }
     }
 
-    /// What the octets spell of a BlockGroup with this header, in a file of `total` octets and a Cluster
-    /// whose Timestamp is so many ticks, of `scale` nanoseconds each; or the first thing that is wrong.
+    /// Parses `octets` as a BlockGroup with the header `header` in a file of `total` bytes, or returns the first
+    /// damage. The Cluster's Timestamp is `timestamp` ticks of `scale` nanoseconds.
     pub fn group(
         &mut self,
         octets: &[u8],
@@ -167,7 +167,7 @@ impl Parts {
         }
     }
 
-    /// Forgets what was met of a block that isn't found.
+    /// Removes partial results unless a block was found, and returns `found`.
     pub fn settle(&mut self, found: Found) -> Found
         ensures same { result ≡ found }
         ensures found { IfOk found (λ found. OnOk found (self.new ≡ self.old)) }

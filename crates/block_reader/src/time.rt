@@ -7,7 +7,7 @@ ghost use Rattle.block_reader.specs.Time.{scaled, scaled_duration, is_too_large_
 
 use block_format::TOO_LARGE_TIME;
 
-// So many ticks of `scale` nanoseconds each, in nanoseconds; nothing where that is too large.
+// Returns `ticks` ticks of `scale` nanoseconds in nanoseconds, or nothing if the time is too large.
 fn scaled(ticks: i128, scale: u64) -> Option<i64>
     ensures { result ≡ scaled scale ticks }
 {
@@ -19,15 +19,15 @@ fn scaled(ticks: i128, scale: u64) -> Option<i64>
     Some(if ticks < 0 { -nanoseconds } else { nanoseconds })
 }
 
-/// The time of a block, in nanoseconds, of so many ticks from its Cluster's Timestamp.
+/// Returns a block's time in nanoseconds, or nothing if it is too large. `relative` is in ticks from the Cluster's
+/// Timestamp.
 pub fn block_time(scale: u64, timestamp: u64, relative: i64) -> Option<i64>
     ensures { result ≡ scaled scale (pos timestamp +ℤ relative) }
 {
     scaled(i128::from(timestamp) + i128::from(relative), scale)
 }
 
-/// Scales the times of references in place, and answers whether none is too large. Where one is, some of
-/// them are scaled.
+/// Scales the reference times in place. Returns false if one is too large; some are scaled then.
 pub fn scale_all(times: &mut [i64], scale: u64) -> bool
     ensures fits { list_any (is_too_large_at scale) times.old ≡ not result }
     ensures scaled { IsTrue result → times.new ≡ map (nanoseconds scale) times.old }
@@ -41,7 +41,8 @@ pub fn scale_all(times: &mut [i64], scale: u64) -> bool
     true
 }
 
-/// A duration of so many ticks of `scale` nanoseconds each, in nanoseconds; nothing where that is too large.
+/// Returns a duration of `ticks` ticks in nanoseconds, or nothing if it is too large. One tick is `scale`
+/// nanoseconds.
 pub fn scaled_duration(ticks: u64, scale: u64) -> Option<u64>
     ensures { result ≡ scaled_duration scale ticks }
 {

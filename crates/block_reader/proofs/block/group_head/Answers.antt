@@ -6,7 +6,7 @@ use Rattle.block_reader.proofs.LendableLemmas.{times-small}
 use Rattle.block_reader.proofs.MadeLemmas.{group_found-large, group_found-ok, none_where}
 use Rattle.block_reader.proofs.block.group_head.Goals as goal
 
--- a time is too large
+-- A time is too large.
 pub returns-in_default-times_of-clause-exact : goal.returns-in_default-times_of-clause-exact
 returns-in_default-times_of-clause-exact c = λ bytes children frames gathers.
     let g = c.args.gathered.now in
@@ -17,7 +17,7 @@ returns-in_default-times_of-clause-exact c = λ bytes children frames gathers.
     (ap (λ (z : ℤ). has_too_large_ticks c.args.scale (pos c.args.timestamp +ℤ z) g.duration g.references.items) (sym (to_z-of_z w64 s.relative fits)) ∙ c.in_default-times_of.ensures.exact)
     ∙ ap Err (sym c.damage-in_default-times_of.ensures)
 
--- no time is
+-- No time is too large.
 pub returns-clause-exact : goal.returns-clause-exact
 returns-clause-exact c = λ bytes children frames gathers.
     let g = c.args.gathered.now in
@@ -29,7 +29,7 @@ returns-clause-exact c = λ bytes children frames gathers.
     (ap (λ (z : ℤ). pos c.args.timestamp +ℤ z) (to_z-of_z w64 s.relative relative)) c.in-Some-times_of.ensures.kept (to_z-of_z w64 c.in-Some-times_of.times.time time)
     c.is_empty-key.ensures c.has_flag.ensures c.lace_of.ensures
 
--- its times are small
+-- The times are small.
 pub returns-clause-small : goal.returns-clause-small
 returns-clause-small c =
     let small = times-small c.args.scale _ _ _ c.in-Some-times_of.times c.in-Some-times_of.ensures.exact in

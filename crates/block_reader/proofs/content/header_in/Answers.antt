@@ -12,7 +12,7 @@ returns-then-octets-width c =
     let short = c.if-octets-width.true in
     sym (header_in-short c.args.octets.now c.in-Ok.number (sym c.in-Ok.ensures.exact) (omega arith))
 
--- the time is the number that was read
+-- The time is the number that was read.
 pub returns : goal.returns
 returns c =
     let o = c.args.octets.now in

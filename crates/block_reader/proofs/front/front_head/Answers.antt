@@ -9,20 +9,20 @@ use Rattle.block_reader.proofs.FrontLemmas.{HasHead-settled, frame_count-read, f
 use Rattle.block_reader.proofs.front.front_head.Goals as goal
 use Rattle.block_reader.proofs.front.front_head.Goals.{After-simple_head}
 
--- the number of the frames is settled
+-- The frame count is settled.
 counted : (c : After-simple_head) → frame_count (lace_of c.in_ok-found.found.flags) (drop c.in_ok-found.found.len c.args.front.now) (known c.args.header.now.size - c.in_ok-found.found.len) ≡ Some c.in_ok-frames.frames
 counted c =
     let len = c.in_ok-found.found.len in
     frame_count-read c.lace_of.result _ _ _ _ _ c.frame_count.result _ c.lace_of.ensures (take_rest c.args.front.now len) (ap (λ n. n - len) c.known.ensures) c.frame_count.ensures.exact c.in_ok-frames.was
 
--- its time is too large
+-- The time is too large.
 pub returns-in-Err-clause-exact : goal.returns-in-Err-clause-exact
 returns-in-Err-clause-exact c =
     let fits : SFits w64 c.in_ok-found.found.relative = search rules in
     sym (front_head-found c.args.scale c.args.timestamp c.args.header.now c.args.front.now c.in_ok-found.found _ _ c.in_ok-found.ensures (to_z-of_z w64 c.in_ok-found.found.relative fits) (counted (goal.at.returns-in-Err-clause-exact c).After-simple_head)
     ∙ head_with-large c.args.scale c.args.timestamp c.in_ok-frames.frames c.args.header.now c.in_ok-found.found _ _ c.in-Err.ensures.exact)
 
--- it is a block
+-- The block is valid.
 pub returns-in-Ok-clause-exact : goal.returns-in-Ok-clause-exact
 returns-in-Ok-clause-exact c =
     let fits : SFits w64 c.in_ok-found.found.relative = search rules in

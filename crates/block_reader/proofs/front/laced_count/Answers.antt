@@ -1,7 +1,7 @@
 use Rattle.std.proofs.Common.{◌≡◌, slice_index, ap, arith}
 use Rattle.block_reader.proofs.front.laced_count.Goals as goal
 
--- the first octet is one
+-- The count begins the bytes.
 pub overflow_add-count : goal.overflow_add-count
 overflow_add-count c =
     let first : slice_index c.args.front.now 0 ≡ c.in_ok-less_one.field-0-0.now = ap (λ o. slice_index o 0) c.in_ok-less_one.ensures.cases.0 in

@@ -6,7 +6,7 @@ use Rattle.block_reader.specs.Time.{scaled}
 use Rattle.block_reader.proofs.TimeLemmas.{scaled-some, scale-more, fits-more}
 use Rattle.block_reader.proofs.time.scale_all.Goals as goal
 
--- one more time is scaled
+-- One more time is scaled.
 pub loop-time-preserved : goal.loop-time-preserved
 loop-time-preserved c =
     let xs = c.args.times.now in

@@ -4,7 +4,7 @@ use Rattle.mkv_io.specs.Contents.{octets_from}
 use Rattle.mkv_schema.specs.Element.{known}
 use Rattle.block_reader.proofs.buffer.BlockBuffer.read.Goals as goal
 
--- what was read stands in the front
+-- The bytes that were read are at the start of the buffer.
 pub returns-clause-ok : goal.returns-clause-ok
 returns-clause-ok g c = λ bytes told.
     let h = c.args.header.now in

@@ -7,7 +7,7 @@ pub returns-in-Block-clause-exact : goal.returns-in-Block-clause-exact
 returns-in-Block-clause-exact c = λ bytes before value octets gathers.
     Gathers-block bytes before c.args.self.now c.args.child.now _ c.in-Block.ensures c.or-self.ensures gathers
 
--- an integer has at most eight octets
+-- An integer has at most eight bytes.
 pub read_uint-requires : goal.read_uint-requires
 read_uint-requires c = duration-short c.args.value.now (rw c.in-Duration.ensures at c.requires)
 

@@ -9,7 +9,7 @@ use Rattle.block_reader.specs.Group.{IsInside}
 use Rattle.block_reader.proofs.RunLemmas.{IsOnWay-begins, IsOnWay-bad, IsOnWay-breaks, IsOnWay-ends, IsOnWay-more, block-inside}
 use Rattle.block_reader.proofs.gathered.Gathered.gather.Goals as goal
 
--- nothing is gathered at first
+-- Nothing is gathered at first.
 pub loop-at-init : goal.loop-at-init
 loop-at-init c = record {
   begin = omega arith;
@@ -19,13 +19,13 @@ loop-at-init c = record {
   way = λ bytes is. IsOnWay-begins bytes (children_in in_master bytes c.args.base (c.args.base + length c.args.body.now)) c.clear.new.self (c.clear.ensures.exact bytes);
 }
 
--- a damage stands among the children
+-- A damaged place is among the children.
 pub returns-in-Err-clause-exact : goal.returns-in-Err-clause-exact
 returns-in-Err-clause-exact c = λ bytes is.
     let e = c.args.base + length c.args.body.now in
     IsOnWay-breaks bytes (children_in in_master bytes c.args.base e) c.loop-at.self c.loop-at.at e c.in-Err.damage (c.loop-at.invariant.way bytes is) c.loop-at-test.true (c.in-Err.ensures.exact bytes is)
 
--- a child isn't a value of its kind
+-- A child is invalid.
 pub returns-then-not-is_child_value-clause-exact :
     goal.returns-then-not-is_child_value-clause-exact
 returns-then-not-is_child_value-clause-exact c = λ bytes is.
@@ -34,7 +34,7 @@ returns-then-not-is_child_value-clause-exact c = λ bytes is.
     let bad = sym (c.is_child_value.ensures ∙ ap (is_known_value BLOCK_GROUP h.id) (c.body_in-value.ensures bytes c.args.total is)) ∙ c.if-not-is_child_value.true in
     IsOnWay-bad bytes (children_in in_master bytes c.args.base e) c.loop-at.self c.loop-at.at e h (c.loop-at.invariant.way bytes is) c.loop-at-test.true (c.in-Ok.ensures.exact bytes is) bad ∙ ap Some (sym c.damage.ensures)
 
--- another child is passed
+-- Another child is added.
 pub loop-at-preserved : goal.loop-at-preserved
 loop-at-preserved c =
     let e = c.args.base + length c.args.body.now in
@@ -56,7 +56,7 @@ loop-at-preserved c =
           (λ given gathers. c.in_ok-add.ensures.exact bytes given (c.body_in-value.ensures bytes c.args.total is) (c.element_of.ensures.exact bytes c.args.total is) gathers);
     }
 
--- all are passed
+-- All children are gathered.
 pub returns-clause-exact : goal.returns-clause-exact
 returns-clause-exact c = λ bytes is.
     let e = c.args.base + length c.args.body.now in

@@ -4,13 +4,13 @@ use Rattle.block_reader.proofs.BufferLemmas.{simple_block-spelled, same-block}
 use Rattle.block_reader.proofs.LendableLemmas.{frames-rest, IsBlock-made}
 use Rattle.block_reader.proofs.parts.Parts.simple.Goals as goal
 
--- it is no block
+-- The block is invalid.
 pub returns-in-Err-clause-exact : goal.returns-in-Err-clause-exact
 returns-in-Err-clause-exact c = λ bytes body.
     simple_block-spelled c.args.scale c.args.timestamp bytes c.args.octets.now c.args.header.now (Err c.in-Err.kind) c.requires.few body (rw c.in-Err.is at c.in_ok-spelled.ensures.exact)
     ∙ ap Err (sym c.damage.ensures)
 
--- its time is too large
+-- The time is too large.
 pub returns-in-Err-simple_head-clause-exact : goal.returns-in-Err-simple_head-clause-exact
 returns-in-Err-simple_head-clause-exact c = λ bytes body.
     let o = c.args.octets.now in
@@ -18,7 +18,7 @@ returns-in-Err-simple_head-clause-exact c = λ bytes body.
     simple_block-spelled c.args.scale c.args.timestamp bytes o c.args.header.now _ c.requires.few body spells.0
     ∙ c.in-Err-simple_head.ensures.exact (frames_cut c.spell.new.sizes.items (drop c.in-Ok.spelled.start o))
 
--- it is a block
+-- The block is valid.
 pub returns-in-Ok-simple_head-clause-exact : goal.returns-in-Ok-simple_head-clause-exact
 returns-in-Ok-simple_head-clause-exact c = λ bytes body.
     let o = c.args.octets.now in
@@ -30,7 +30,7 @@ returns-in-Ok-simple_head-clause-exact c = λ bytes body.
     ∙ c.in-Ok-simple_head.ensures.exact (frames_cut sizes (drop start o))
     ∙ same-block c.in-Ok-simple_head.head sizes (drop start o) _ _ _ _ _ (sym frames) (sym c.forget.ensures.empty.references) (sym c.forget.ensures.empty.kept)
 
--- and can be written
+-- The block can be written.
 pub returns-in-Ok-simple_head-clause-lent : goal.returns-in-Ok-simple_head-clause-lent
 returns-in-Ok-simple_head-clause-lent c =
     let spells = rw c.in-Ok.is at c.in_ok-spelled.ensures.exact in
