@@ -1,4 +1,4 @@
--- What a child of a Cluster gives, by its ID and what stands before it.
+-- Children of a Cluster, by their ID and the Timestamp before them.
 use Rattle.std.proofs.Common.{◌≡◌, ℕ, ◌==◌, ◌≤◌, length, take, nat_lt, Bool, true, false, if◌then◌else◌, List, [], ◌∷◌, Option, Some, None, Result, Ok, Err, refl, sym, ◌∙◌, arith}
 use Rattle.std.proofs.lemmas.Bool.{cond-true, cond-false}
 use Rattle.std.proofs.lemmas.Bool.Decides.{nat_tests}
@@ -19,7 +19,7 @@ use Rattle.cluster_reader.specs.Walks.{block_found}
 
 -- ---- blocks
 
--- what refuses the Timestamp of a block refuses the block
+-- Without a valid Timestamp a SimpleBlock is damaged.
 simple_block-refused : (r : Rules) (bytes : List ℕ) (timestamp : Option ℕ) (h : Header) (d : Damage) → timestamp_for r timestamp h ≡ Err d → simple_block r bytes timestamp h ≡ Err d
 unfolding simple_block
 simple_block-refused r bytes timestamp h d refused = rw refused refl
@@ -36,7 +36,7 @@ pub block_found-refused : (r : Rules) (bytes : List ℕ) (timestamp : Option ℕ
 block_found-refused r bytes timestamp h d refused =
     either (h.id == SIMPLE_BLOCK) _ _ _ (simple_block-refused r bytes timestamp h d refused) (block_group-refused r bytes timestamp h d refused)
 
--- the Timestamp of a block is the one that stands before it
+-- The Timestamp of a block is the one before it.
 pub timestamp_for-is : (r : Rules) (timestamp : Option ℕ) (h : Header) (ticks : ℕ) → timestamp_for r timestamp h ≡ Ok ticks → timestamp ≡ Some ticks
 timestamp_for-is r timestamp h ticks is = split (too_long r h) timestamp is
   where
@@ -53,7 +53,7 @@ block_found-group r bytes timestamp h other = cond-false (h.id == SIMPLE_BLOCK) 
 
 -- ---- children by their IDs
 
--- what gives a block is no Timestamp
+-- A child with a block isn't a Timestamp.
 pub block-no_timestamp : (r : Rules) (bytes : List ℕ) (timestamp : Option ℕ) (h : Header) (b : Block) → found_at r bytes timestamp h ≡ Ok b ∷ [] → h.id ≡ TIMESTAMP → ⊥
 block-no_timestamp r bytes timestamp h b gives is =
     split (nat_lt MAX_TIMESTAMP_LEN (known h.size)) (sym (cond-true (h.id == TIMESTAMP) _ _ (grind (arith, nat_tests))) ∙ gives)
@@ -64,13 +64,13 @@ block-no_timestamp r bytes timestamp h b gives is =
 
 -- ---- bodies
 
--- one that ends inside a file has all its octets
+-- A body that ends within the file is complete.
 pub body_of-whole : (bytes : List ℕ) (h : Header) → stated_end h ≤ length bytes → length (body_of bytes h) ≡ known h.size
 body_of-whole bytes h inside =
     let cut = length-drop h.body (take (stated_end h) bytes) in
     let taken = length-take (stated_end h) bytes in
     omega arith
 
--- the octets of a body, as they are read
+-- The bytes that are read are the body.
 pub body_of-read : (bytes : List ℕ) (h : Header) → octets_from bytes h.body (known h.size) ≡ body_of bytes h
 body_of-read bytes h = sym (drop-take h.body (known h.size) bytes)

@@ -1,4 +1,4 @@
--- A SimpleBlock that is passed by its front.
+-- A SimpleBlock that is skipped by its first bytes.
 use Rattle.std.proofs.Common.{◌≡◌, ℕ, ◌==◌, ◌≤◌, length, Bool, true, false, if◌then◌else◌, List, Option, Some, None, refl, sym, ◌∙◌, ap, subst, arith}
 use Rattle.std.specs.Option.{IfSome, option_map, unwrap_or}
 use Rattle.std.proofs.lemmas.Bool.{cond-true, cond-false}
@@ -21,18 +21,18 @@ use Rattle.cluster_reader.specs.declared.step.Step.TheVariants.{Block}
 use Rattle.cluster_reader.specs.declared.filter.BlockFilter.{BlockFilter}
 use Rattle.cluster_reader.proofs.TakesLemmas.{front-of-body, lends-passed}
 
--- ---- what a front settles
+-- ---- facts that the first bytes settle
 
--- no track stands in it
+-- They settle no track.
 pub settled_by-cut : (takes : BlockFilter) (scale ticks : ℕ) (h : Header) (front : List ℕ) → front_track front ≡ None → settled_by takes scale ticks h front ≡ None
 settled_by-cut takes scale ticks h front none = ap (unless_wanted takes) (front_track-cut scale ticks h front none)
 
--- the track that is settled is the head's
+-- The settled track is the head's.
 track-settled : (scale ticks track : ℕ) (h : Header) (front : List ℕ) (found : BlockPreview) → front_track front ≡ Some track → front_head scale ticks h front ≡ Some found → found.head.track ≡ track
 track-settled scale ticks track h front found is settled =
     ap (λ (o : Option ℕ). unwrap_or o 0) (sym (front_track-head scale ticks h front found settled) ∙ is)
 
--- the block is wanted
+-- The block is wanted.
 pub settled_by-wanted : (takes : BlockFilter) (scale ticks track : ℕ) (h : Header) (front : List ℕ) → front_track front ≡ Some track → wants takes track ≡ true → settled_by takes scale ticks h front ≡ None
 settled_by-wanted takes scale ticks track h front is wanted = split (front_head scale ticks h front) refl
   where
@@ -40,7 +40,7 @@ settled_by-wanted takes scale ticks track h front is wanted = split (front_head 
     split None settled = refl
     split (Some found) settled = cond-true (wants takes found.head.track) None _ (ap (wants takes) (track-settled scale ticks track h front found is settled) ∙ wanted)
 
--- or it isn't
+-- The block isn't wanted.
 pub settled_by-other : (takes : BlockFilter) (scale ticks track : ℕ) (h : Header) (front : List ℕ) → front_track front ≡ Some track → wants takes track ≡ false → settled_by takes scale ticks h front ≡ front_head scale ticks h front
 settled_by-other takes scale ticks track h front is other = split (front_head scale ticks h front) refl
   where
@@ -48,7 +48,7 @@ settled_by-other takes scale ticks track h front is other = split (front_head sc
     split None settled = refl
     split (Some found) settled = cond-false (wants takes found.head.track) None _ (ap (wants takes) (track-settled scale ticks track h front found is settled) ∙ other)
 
--- what is settled is of a block that isn't wanted
+-- A settled block isn't wanted.
 pub settled-other : (takes : BlockFilter) (scale ticks : ℕ) (h : Header) (front : List ℕ) (found : BlockPreview) → Some found ≡ settled_by takes scale ticks h front → wants takes found.head.track ≡ false
 settled-other takes scale ticks h front found is = split (front_head scale ticks h front) (sym is)
   where
@@ -60,25 +60,25 @@ settled-other takes scale ticks h front found is = split (front_head scale ticks
     split None e = absurd (cc)
     split (Some some) e = test (wants takes some.head.track) some refl e
 
--- what is held of a body from its first octet on settles what each front does
+-- The held bytes are the first bytes of the body, so they settle the block.
 pub settled-held : (found : Option BlockPreview) (scale ticks : ℕ) (front : List ℕ) (h : Header) (w : ReadAhead) → length front ≤ known h.size → ((bytes : List ℕ) → Holds bytes w → front ≡ octets_from bytes h.body (length front))
     → IfSome found (λ f. (bytes : List ℕ) → IsFront front (body_of bytes h) → length (body_of bytes h) ≡ known h.size → HasHead f (simple_block (with_limits scale) bytes (Some ticks) h))
     → IfSome found (λ f. (bytes : List ℕ) → length (body_of bytes h) ≡ known h.size → Holds bytes w → HasHead f (simple_block (with_limits scale) bytes (Some ticks) h))
 settled-held None scale ticks front h w few held settles = tt
 settled-held (Some f) scale ticks front h w few held settles = λ bytes whole holds. settles bytes (front-of-body bytes front h (held bytes holds) few) whole
 
--- ---- where a child is passed
+-- ---- a child that is skipped
 
 pub settled_in-simple : (takes : BlockFilter) (scale ticks : ℕ) (h : Header) (w : ReadAhead) → h.id ≡ SIMPLE_BLOCK → settled_in takes scale ticks h w ≡ settled_by takes scale ticks h (held_front w h)
 settled_in-simple takes scale ticks h w is = cond-true (h.id == SIMPLE_BLOCK) _ None (grind (arith, nat_tests))
 
--- what its front settles is what is settled of it
+-- The result of the check decides.
 pub passes-settled : (takes : BlockFilter) (scale ticks : ℕ) (h : Header) (w : ReadAhead) (lent : Buffered) (answer : Bool) (found : Option BlockPreview) → h.id ≡ SIMPLE_BLOCK → found ≡ settled_by takes scale ticks h (held_front w h) → IsPassedWhere found lent answer
     → IsPassedWhere (settled_in takes scale ticks h w) lent answer
 passes-settled takes scale ticks h w lent answer found simple is passes =
     subst (λ (o : Option BlockPreview). IsPassedWhere o lent answer) (is ∙ sym (settled_in-simple takes scale ticks h w simple)) passes
 
--- one that is passed is a SimpleBlock that isn't wanted
+-- Only a SimpleBlock is skipped.
 pub passed-simple : (takes : BlockFilter) (scale ticks : ℕ) (h : Header) (w : ReadAhead) (lent : Buffered) (passed : Bool) → IsPassedWhere (settled_in takes scale ticks h w) lent passed → passed ≡ true → h.id ≡ SIMPLE_BLOCK
 passed-simple takes scale ticks h w lent passed passes is = split (h.id == SIMPLE_BLOCK) refl passes
   where

@@ -1,4 +1,4 @@
--- A reading among the files, and at the end.
+-- Readings among other files, and at the end.
 use Rattle.std.proofs.Common.{◌≡◌, ◌≤◌, ℕ, List, [], Option, sym, ◌∙◌, subst}
 use Rattle.mkv_io.specs.LiveFiles.{LiveFiles, IsSameFile}
 use Rattle.mkv_io.specs.Told.{IfVisible}
@@ -7,11 +7,11 @@ use Rattle.block_format.specs.Elements.{with_limits}
 use Rattle.cluster_reader.specs.Reading.{Reading, CanRead, IsAtEnd, left_of}
 use Rattle.cluster_reader.proofs.LeftLemmas.{left-end}
 
--- at the end nothing is left
+-- At the end nothing is left.
 pub left_of-end : (bytes : List ℕ) (c : Reading) → IsAtEnd c.place → left_of bytes c ≡ []
 left_of-end bytes c end = left-end (with_limits c.scale) bytes c.place end.outside end.past
 
--- where its file is the same, it can be read on
+-- A reading depends only on its own file.
 pub CanRead-kept : (old new : LiveFiles) (c : Reading) → IsSameFile old new c.file.n → CanRead old c → CanRead new c
 CanRead-kept old new c same can =
     let size = sym (same.size can.live) in

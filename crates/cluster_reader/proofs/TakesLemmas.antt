@@ -1,4 +1,4 @@
--- What is known of a block that is read, or that is passed by its front.
+-- The known part of a block that is read or skipped.
 use Rattle.std.proofs.Common.{◌≡◌, ◌≤◌, ◌==◌, ℕ, List, length, take, drop, false, Result, Ok, Err, MatchResult, refl, sym, ◌∙◌, ap, arith}
 use Rattle.std.proofs.lemmas.Bool.Decides.{nat_tests}
 use Rattle.std.proofs.lemmas.List.{take-take}
@@ -23,7 +23,7 @@ use Rattle.cluster_reader.proofs.ChildLemmas.{body_of-read}
 
 -- ---- a block that is read
 
--- of it all is known
+-- All of a block that was read is known.
 known-whole : (takes : BlockFilter) (lent : Buffered) → IsLendable lent → IsKnown takes (block_of lent) lent
 known-whole All lent lends = refl
 known-whole (Track track) lent lends = record { track = refl; whole = λ same. refl }
@@ -35,7 +35,7 @@ makes-wanted takes (Err d) lent found lends is = is
 
 -- ---- a block that is passed
 
--- what is held of a body from its first octet on is its front
+-- The held bytes are the first bytes of the body.
 pub front-of-body : (bytes front : List ℕ) (h : Header) → front ≡ octets_from bytes h.body (length front) → length front ≤ known h.size → IsFront front (body_of bytes h)
 front-of-body bytes front h is few =
     is ∙ sym (take-take (length front) (known h.size) (drop h.body bytes) few) ∙ ap (take (length front)) (body_of-read bytes h)
@@ -43,7 +43,7 @@ front-of-body bytes front h is few =
 other-track : (track wanted : ℕ) → (track == wanted) ≡ false → track ≡ wanted → ⊥
 other-track track wanted other same = absurd (grind (arith, nat_tests))
 
--- of it is known what its front settles, and it isn't one that is wanted
+-- Of a skipped block, which isn't wanted, its head and frame count are known.
 known-passed : (takes : BlockFilter) (front : BlockPreview) (given : AnyBlock) (lent : Buffered) → head_of given ≡ front.head → length given.frames ≡ front.frames → lent.head ≡ front.head → lent.frames ≡ front.frames → wants takes front.head.track ≡ false → IsKnown takes given lent
 known-passed All front given lent says count head frames other = absurd (cc)
 known-passed (Track wanted) front given lent says count head frames other =

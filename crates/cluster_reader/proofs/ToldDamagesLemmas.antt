@@ -1,4 +1,4 @@
--- The damages that are told, with one more.
+-- The report of damaged places, with one more.
 use Rattle.std.proofs.Common.{◌≡◌, ℕ, ◌+◌, ◌-◌, ◌<◌, ◌≤◌, nat_lt, min, inl, inr, List, [], ◌∷◌, ◌++◌, length, take, sym, ◌∙◌, ap, ap₂, arith, length-append}
 use Rattle.std.proofs.lemmas.Bool.{cases_lt, cond-true, cond-false, lt-ltb, le-ltb}
 use Rattle.std.proofs.lemmas.List.{length-take, take-append-le, take_all}
@@ -6,11 +6,11 @@ use Rattle.mkv_io.specs.declared.damage.Damage.{Damage}
 use Rattle.mkv_io.specs.Faults.{counted, last_count}
 use Rattle.cluster_reader.specs.ToldDamages.{ToldDamages, told_damages, with_damage}
 
--- what is told, by its parts
+-- a report by its parts
 told : List Damage → ℕ → ToldDamages
 told first more = record { first = first; more = more }
 
--- one of the first hundred is told
+-- One of the first hundred is added.
 tells_one : (list : List Damage) (d : Damage) → length list < 100 → with_damage (told_damages list) d ≡ told_damages (list ++ d ∷ [])
 unfolding told
 tells_one list d few =
@@ -21,7 +21,7 @@ tells_one list d few =
     cond-true (nat_lt (length (take 100 list)) 100) _ _ (lt-ltb _ _ (omega arith))
     ∙ ap₂ told (ap (λ l. l ++ d ∷ []) all ∙ sym (take_all 100 (list ++ d ∷ []) (omega arith))) none
 
--- another one is counted
+-- A later one is counted.
 counts_one : (list : List Damage) (d : Damage) → 100 ≤ length list → with_damage (told_damages list) d ≡ told_damages (list ++ d ∷ [])
 unfolding told
 counts_one list d many =

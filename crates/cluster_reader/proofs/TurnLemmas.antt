@@ -1,4 +1,4 @@
--- What one turn of a walk leaves of a file's blocks and damages.
+-- Events that are left after one turn of a walk.
 use Rattle.std.proofs.Common.{◌≡◌, ℕ, ◌<◌, Bool, true, false, not, List, [], ◌∷◌, length, Some, None, Result, Ok, Err, refl, sym, ◌∙◌, ap, arith}
 use Rattle.std.proofs.lemmas.Bool.{cond-true, cond-false}
 use Rattle.mkv_io.specs.declared.damage.Damage.{Damage}
@@ -14,12 +14,12 @@ use Rattle.cluster_reader.specs.declared.place.Place.{Place}
 use Rattle.cluster_reader.specs.declared.place.OpenCluster.{OpenCluster}
 use Rattle.cluster_reader.proofs.LeftLemmas.{left-end, left-gives_way, left-child_breaks, left-child_stops, left-bad, left-bad_stops}
 
--- at the first place of a Segment all blocks and damages are left
+-- At the first place all events are left.
 pub left-first : (r : Rules) (bytes : List ℕ) (segment : Header) (total : ℕ) → total ≡ length bytes → left r bytes (first_place segment total) ≡ events_of r bytes segment
 unfolding left events_of
 left-first r bytes segment total whole = ap (λ n. left_in r bytes (first_place segment n) None) whole
 
--- the children end before an ID that ends them, where the size is unknown
+-- Only in a Cluster of unknown size does an ID end the children.
 ended : (unknown : Bool) (id : ℕ) → ends_children unknown id ≡ true → (unknown ≡ true) × (ends_cluster id ≡ true)
 ended true id ends = (refl, ends)
 ended false id ends = absurd (cc)
@@ -29,7 +29,7 @@ left-child_ends r bytes p q c found inside before is ends moves =
     let both = ended c.unknown (id_of found) ends in
     left-gives_way r bytes p q c found inside before is both.0 both.1 moves
 
--- Behind a damage the next Cluster follows, where this one is closed, else nothing.
+-- After damage the events after the Cluster are left if it is closed, otherwise none.
 broken : (r : Rules) (bytes : List ℕ) (p : Place) (c : OpenCluster) (d : Damage) → ((q : Place) → c.closed ≡ true → q ≡ record p { at = c.end; cluster = None } → left r bytes p ≡ damaged d ∷ left r bytes q) → (c.closed ≡ false → left r bytes p ≡ stopped d ∷ []) → left r bytes p ≡ damage_event (not c.closed) d ∷ left r bytes (behind_damage p c)
 broken r bytes p c d goes_on ends = split c.closed refl
   where
@@ -47,14 +47,14 @@ broken r bytes p c d goes_on ends = split c.closed refl
         ∙ ap (λ l. stopped d ∷ l) (sym none)
         ∙ ap (λ b. damage_event (not b) d ∷ left r bytes q) (sym is)
 
--- a damage among the children
+-- Damage between children is taken.
 pub left-child_damaged : (r : Rules) (bytes : List ℕ) (p : Place) (c : OpenCluster) (d : Damage) → p.cluster ≡ Some c → IsInCluster p.at p.end c → p.at < c.end → Err d ≡ element_at in_master bytes p.at c.end → ends_children c.unknown (id_of (Err d)) ≡ false → left r bytes p ≡ damage_event (not c.closed) d ∷ left r bytes (behind_damage p c)
 left-child_damaged r bytes p c d inside place before is goes =
     broken r bytes p c d
     (λ q closed moves. left-child_breaks r bytes p q c d inside before is goes closed (place.closed closed) moves)
     (λ cut. left-child_stops r bytes p c d inside before is goes cut)
 
--- something is wrong with a child
+-- A damaged child is taken.
 pub left-bad_child : (r : Rules) (bytes : List ℕ) (p : Place) (c : OpenCluster) (h : Header) (d : Damage) → p.cluster ≡ Some c → IsInCluster p.at p.end c → p.at < c.end → Ok h ≡ element_at in_master bytes p.at c.end → ends_children c.unknown (id_of (Ok h)) ≡ false → found_at r bytes c.timestamp h ≡ Err d ∷ [] → left r bytes p ≡ damage_event (not c.closed) d ∷ left r bytes (behind_damage p c)
 left-bad_child r bytes p c h d inside place before is goes gives =
     broken r bytes p c d

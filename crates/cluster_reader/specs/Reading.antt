@@ -1,4 +1,4 @@
--- A file's blocks as they are read, one after the other.
+-- The reading of a file's blocks in sequence.
 use Rattle.std.specs.Prelude.{◌≡◌, ◌<◌, ◌≤◌, ⊤, ℕ, ◌+◌, true, false, Bool, List, [], ◌∷◌, length, None, Result, Ok, Err, IfOk}
 use Rattle.mkv_io.specs.declared.outside.FileId.{FileId}
 use Rattle.mkv_io.specs.declared.outside.ReadEnd.{ReadEnd}
@@ -24,9 +24,8 @@ use Rattle.cluster_reader.specs.declared.filter.BlockFilter.{BlockFilter}
 use Rattle.cluster_reader.specs.declared.filter.BlockFilter.TheVariants.{All, Track, Heads}
 use Rattle.cluster_reader.specs.declared.step.Step.TheVariants.{Block, Damaged, End}
 
--- The file and its scale; the place of what is looked at next; what is held of the file; the block that was
--- given last, or nothing; how many blocks and damages were given; and whether the damage that was given last ends
--- what is read.
+-- the file and its scale, the place of the next element, the bytes read ahead, and the last block, if any; counts of blocks and damaged places,
+-- and whether the last damage ends the reading
 pub record Reading : Type 0 where
   pub file : FileId
   pub scale : ℕ
@@ -37,120 +36,119 @@ pub record Reading : Type 0 where
   pub damages : ℕ
   pub stopped : Bool
 
--- what is left of the file
+-- the blocks and damaged places of the file that are left
 abbrev pub left_of : List ℕ → Reading → List Event
 left_of bytes c = left (with_limits c.scale) bytes c.place
 
--- ---- what a call gives
+-- ---- results of a call
 
--- a damage, told as the one that ends what is read or as another
+-- the event for the damage `d`, which ends the reading or not
 abbrev pub damage_event : Bool → Damage → Event
 damage_event true d = stopped d
 damage_event false d = damaged d
 
--- The first of what was left is given: a block, a damage, or none. After a read that failed or want of
--- memory the same is left.
+-- A call takes the first event that was left: a block, a damaged place, or none. After an error the same events are left.
 abbrev pub Gives : List ℕ → Reading → Reading → Result Step ReadEnd → Type 0
 Gives bytes old new (Ok Block) = left_of bytes old ≡ block (block_of new.block) ∷ left_of bytes new
 Gives bytes old new (Ok (Damaged d)) = left_of bytes old ≡ damage_event new.stopped d ∷ left_of bytes new
 Gives bytes old new (Ok End) = (left_of bytes old ≡ []) × (left_of bytes new ≡ [])
 Gives bytes old new (Err end) = left_of bytes new ≡ left_of bytes old
 
--- The first of what was left is a block, of which is known what is wanted.
+-- The first event that was left is a block, and the buffer has the part of it that `takes` wants.
 pub record GivesBlock (takes : BlockFilter) (bytes : List ℕ) (old new : Reading) : Type 0 where
   pub given : AnyBlock
   pub left : left_of bytes old ≡ block given ∷ left_of bytes new
   pub known : IsKnown takes given new.block
 
--- The same is given whichever blocks are wanted; what others hold isn't known.
+-- A call takes the first event that was left, as `Gives`, but of a block the buffer has only the part that `takes` wants.
 abbrev pub GivesWanted : BlockFilter → List ℕ → Reading → Reading → Result Step ReadEnd → Type 0
 GivesWanted takes bytes old new (Ok Block) = GivesBlock takes bytes old new
 GivesWanted takes bytes old new (Ok (Damaged d)) = Gives bytes old new (Ok (Damaged d))
 GivesWanted takes bytes old new (Ok End) = Gives bytes old new (Ok End)
 GivesWanted takes bytes old new (Err end) = Gives bytes old new (Err end)
 
--- The place goes on past what is given.
+-- A step moves the offset forwards; only the last one may leave it.
 abbrev pub GoesOn : Step → ℕ → ℕ → Type 0
 GoesOn Block old new = old < new
 GoesOn (Damaged d) old new = old < new
 GoesOn End old new = old ≤ new
 
--- Nothing stands behind the place: it is the Segment's end, and in no Cluster.
+-- The place `p` is at the Segment's end, outside any Cluster.
 pub record IsAtEnd (p : Place) : Type 0 where
   pub past : p.end ≤ p.at
   pub outside : p.cluster ≡ None
 
--- Whether a damage ends what is read is noted with that damage alone, and behind one that does nothing stands.
+-- Only damage can set `stopped`, and the place is at the end then.
 abbrev pub Notes : Reading → Reading → Result Step ReadEnd → Type 0
 Notes old new (Ok Block) = new.stopped ≡ old.stopped
 Notes old new (Ok (Damaged d)) = new.stopped ≡ true → IsAtEnd new.place
 Notes old new (Ok End) = new.stopped ≡ old.stopped
 Notes old new (Err end) = new.stopped ≡ old.stopped
 
--- A block that is given can be written.
+-- A block from a step can be written.
 abbrev pub LendsFor : Step → Buffered → Type 0
 LendsFor Block b = IsLendable b
 LendsFor (Damaged d) b = ⊤
 LendsFor End b = ⊤
 
--- One that is wanted can be.
+-- A block from a step can be written if `takes` wants it.
 abbrev pub LendsWanted : BlockFilter → Step → Buffered → Type 0
 LendsWanted All step b = LendsFor step b
 LendsWanted (Track track) step b = b.head.track ≡ track → LendsFor step b
 LendsWanted Heads step b = ⊤
 
--- how many blocks an answer gives
+-- the number of blocks in a result, 0 or 1
 abbrev pub blocks_given : Result Step ReadEnd → ℕ
 blocks_given (Ok Block) = 1
 blocks_given (Ok (Damaged d)) = 0
 blocks_given (Ok End) = 0
 blocks_given (Err end) = 0
 
--- how many damages it gives
+-- the number of damaged places in a result, 0 or 1
 abbrev pub damages_given : Result Step ReadEnd → ℕ
 damages_given (Ok Block) = 0
 damages_given (Ok (Damaged d)) = 1
 damages_given (Ok End) = 0
 damages_given (Err end) = 0
 
--- what a step gives is counted
+-- the reading `c` with the block or damaged place of `step` counted
 abbrev pub with_given : Step → Reading → Reading
 with_given step c = record c { blocks = counted c.blocks (blocks_given (Ok step)); damages = counted c.damages (damages_given (Ok step)) }
 
--- What is given is counted, and a damage that ends what is read is noted.
+-- A call counts its block or damaged place, and notes damage that ends the reading.
 pub record Counts (old new : Reading) (result : Result Step ReadEnd) : Type 0 where
   pub blocks : new.blocks ≡ counted old.blocks (blocks_given result)
   pub damages : new.damages ≡ counted old.damages (damages_given result)
   pub stopped : Notes old new result
 
--- ---- where it stands
+-- ---- place of a reading
 
--- It reads the same Segment of the same file, and doesn't go back.
+-- `new` reads the same Segment of the same file as `old`, from the same or a later offset.
 pub record IsSameSegment (old new : Reading) : Type 0 where
   pub file : new.file ≡ old.file
   pub scale : new.scale ≡ old.scale
   pub end : new.place.end ≡ old.place.end
   pub forwards : old.place.at ≤ new.place.at
 
--- A call goes on in the same Segment, and not past its end. A wanted block that it gives can be written.
+-- A call moves forwards within its Segment, and a wanted block that it returns can be written.
 pub record MovesWanted (takes : BlockFilter) (old new : Reading) (result : Result Step ReadEnd) : Type 0 where
   pub same : IsSameSegment old new
   pub on : IfOk result (λ step. GoesOn step old.place.at new.place.at)
   pub inside : new.place.at ≤ new.place.end
   pub lends : IfOk result (λ step. LendsWanted takes step new.block)
 
--- where all are wanted, each can be
+-- A call moves forwards within its Segment, and each block that it returns can be written.
 abbrev pub Moves : Reading → Reading → Result Step ReadEnd → Type 0
 Moves old new result = MovesWanted All old new result
 
--- The place is in a live file; what is held is this file's, and not behind the place.
+-- The file of `c` is live and contains its Segment. The bytes read ahead are the file's, and begin at most at its place.
 pub record CanRead (files : LiveFiles) (c : Reading) : Type 0 where
   pub live : files.live c.file.n ≡ true
   pub inside : c.place.end ≤ files.size c.file.n
   pub holds : IfVisible (files.content c.file.n) (λ bytes. Holds bytes c.ahead)
   pub before : HasNotPassed c.ahead c.place.at (files.size c.file.n)
 
--- Nothing was given yet, nothing is held, and nothing is lent.
+-- The reading `c` is at the start of the Segment: no event was taken, no byte read, and no block is available.
 pub record Begins (opened : FileId) (tick : ℕ) (segment : Header) (total : ℕ) (c : Reading) : Type 0 where
   pub file : c.file ≡ opened
   pub scale : c.scale ≡ tick
@@ -161,31 +159,30 @@ pub record Begins (opened : FileId) (tick : ℕ) (segment : Header) (total : ℕ
   pub damages : c.damages ≡ 0
   pub stopped : c.stopped ≡ false
 
--- ---- how much is read
+-- ---- number of bytes read
 
--- up to where the file was read
+-- the offset up to which the file was read
 abbrev pub read_to : Reading → ℕ
 read_to c = end_ahead c.ahead
 
--- What a call reads lies behind what was read before: no octet is read twice. One that a failed read or want of memory ends may
--- read up to the end of a file of `size` octets, and what it read is read again.
+-- The bytes that a call reads are after all bytes that were read before. A failed call may read up to `size` bytes again, the length of the file.
 abbrev pub Pays : {T : Type 0} → ℕ → Reading → Reading → ℕ → ℕ → Result T ReadEnd → Type 0
 Pays size old new before now (Ok answer) = now + read_to old ≤ before + read_to new
 Pays size old new before now (Err end) = now + read_to old ≤ before + read_to new + size
 
--- What is read is paid by the way, and no way is longer than the file.
+-- A call reads no byte twice, as `Pays`, and at most up to the file's end.
 pub record PaysWithinFile {T : Type 0} (size : ℕ) (old new : Reading) (before now : ℕ) (result : Result T ReadEnd) : Type 0 where
   pub pays : Pays size old new before now result
   pub most : read_to new ≤ size
 
--- the same of the file of a cursor
+-- A call reads no byte of the reading's file twice, and at most up to its end.
 abbrev pub SpendsIn : {S T : Type 0} → Ghosts S → S → S → Reading → Reading → Result T ReadEnd → Type 0
 SpendsIn r src src' old new result = PaysWithinFile (file_size r src old.file) old new (r.octets_read src) (r.octets_read src') result
 
--- All blocks and damages of a file of `total` octets are left, where its Segment is this.
+-- All blocks and damaged places of a file of `total` bytes with this Segment are left.
 abbrev pub HasAllLeft : {E : Type 0} → ℕ → Header → ℕ → Result Reading E → Type 0
 HasAllLeft scale segment total result = (bytes : List ℕ) → total ≡ length bytes → IfOk result (λ c. left_of bytes c ≡ events_of (with_limits scale) bytes segment)
 
--- They can be read wherever the file is live and has that length.
+-- The reading can continue if its file is live and has `total` bytes.
 abbrev pub CanReadWhereLive : {E : Type 0} → FileId → ℕ → Result Reading E → Type 0
 CanReadWhereLive file total result = (files : LiveFiles) → files.live file.n ≡ true → files.size file.n ≡ total → IfOk result (CanRead files)

@@ -1,4 +1,4 @@
--- What is known of a block that a cursor gives, by which blocks are wanted.
+-- The known part of a block that a cursor returns, as its filter chooses.
 use Rattle.std.specs.Prelude.{◌≡◌, ℕ, ◌==◌, min, Bool, true, false, if◌then◌else◌, List, [], ◌∷◌, length, take, Option, Some, None, Result, Ok, Err}
 use Rattle.mkv_io.specs.declared.damage.Damage.{Damage}
 use Rattle.mkv_schema.specs.declared.ids.TheConstants.{SIMPLE_BLOCK}
@@ -14,71 +14,71 @@ use Rattle.cluster_reader.specs.declared.child.TheConstants.{MAX_PREVIEW_LEN}
 use Rattle.cluster_reader.specs.declared.filter.BlockFilter.{BlockFilter}
 use Rattle.cluster_reader.specs.declared.filter.BlockFilter.TheVariants.{All, Track, Heads}
 
--- the frames of a block of this track are wanted
+-- The filter wants the frames of a block of this track.
 abbrev pub wants : BlockFilter → ℕ → Bool
 wants All track = true
 wants (Track wanted) track = track == wanted
 wants Heads track = false
 
--- It is known of which track it is; where that is this one, all is known of it.
+-- The buffer has the track of `b`, and all of `b` if it is a block of the track `wanted`.
 pub record IsKnownFor (wanted : ℕ) (b : Block) (lent : Buffered) : Type 0 where
   pub track : b.track ≡ lent.head.track
   pub whole : lent.head.track ≡ wanted → b ≡ block_of lent
 
--- It is known what it says of itself, and how many frames it has.
+-- The buffer has the head and frame count of `b`.
 pub record IsKnownByHead (b : Block) (lent : Buffered) : Type 0 where
   pub head : head_of b ≡ lent.head
   pub frames : length b.frames ≡ lent.frames
 
--- where all are wanted, all is known
+-- The buffer has the part of the block `b` that the filter wants.
 abbrev pub IsKnown : BlockFilter → Block → Buffered → Type 0
 IsKnown All b lent = b ≡ block_of lent
 IsKnown (Track track) b lent = IsKnownFor track b lent
 IsKnown Heads b lent = IsKnownByHead b lent
 
--- A block was found that is known so.
+-- `found` is a block, and the buffer has the part of it that `takes` wants.
 pub record MakesBlock (takes : BlockFilter) (lent : Buffered) (found : Result Block Damage) : Type 0 where
   pub given : Block
   pub is : found ≡ Ok given
   pub known : IsKnown takes given lent
 
--- A block was found, or the damage that is answered.
+-- A reader's result is right for `found`: a block as in `MakesBlock`, or the same damage.
 abbrev pub MakesWanted : {T : Type 0} → BlockFilter → Result T Damage → Buffered → Result Block Damage → Type 0
 MakesWanted takes (Ok done) lent found = MakesBlock takes lent found
 MakesWanted takes (Err d) lent found = found ≡ Err d
 
--- It alone was found.
+-- `found` is only one block, and the buffer has the part of it that `takes` wants.
 pub record FindsBlock (takes : BlockFilter) (lent : Buffered) (found : List Found) : Type 0 where
   pub given : Block
   pub is : found ≡ Ok given ∷ []
   pub known : IsKnown takes given lent
 
--- ---- a SimpleBlock that is passed
+-- ---- a SimpleBlock that is skipped
 
--- what is settled, unless the block is wanted
+-- the head and frame count, unless `takes` wants the block
 abbrev pub unless_wanted : BlockFilter → Option BlockPreview → Option BlockPreview
 unless_wanted takes None = None
 unless_wanted takes (Some front) = if wants takes front.head.track then None else Some front
 
--- what octets in the front of a SimpleBlock's body settle of one that isn't wanted
+-- the head and frame count of a SimpleBlock that isn't wanted, if the first bytes of its body settle them
 abbrev pub settled_by : BlockFilter → ℕ → ℕ → Header → List ℕ → Option BlockPreview
 settled_by takes scale ticks h front = unless_wanted takes (front_head scale ticks h front)
 
--- what is looked at of a body: what a window holds of its first octets, MAX_PREVIEW_LEN at most
+-- the bytes of a body that are checked: those held from its first byte on, at most MAX_PREVIEW_LEN
 abbrev pub held_front : ReadAhead → Header → List ℕ
 held_front w h = take (min (known h.size) MAX_PREVIEW_LEN) (front_from w h.body)
 
--- what a window's octets settle of a child of a Cluster that is a SimpleBlock and isn't wanted
+-- the head and frame count of a child that is a SimpleBlock and isn't wanted, if the bytes in the window `w` settle them
 abbrev pub settled_in : BlockFilter → ℕ → ℕ → Header → ReadAhead → Option BlockPreview
 settled_in takes scale ticks h w = if h.id == SIMPLE_BLOCK then settled_by takes scale ticks h (held_front w h) else None
 
--- A block was passed, and this is what is lent of it.
+-- A block was skipped, and the buffer has the head and frame count of `front`.
 pub record IsPassed (front : BlockPreview) (lent : Buffered) (answer : Bool) : Type 0 where
   pub passed : answer ≡ true
   pub head : lent.head ≡ front.head
   pub frames : lent.frames ≡ front.frames
 
--- A block was passed exactly where this is settled of it, and this is lent of it then.
+-- A block was skipped exactly if its head and frame count are settled, and the buffer has them then.
 abbrev pub IsPassedWhere : Option BlockPreview → Buffered → Bool → Type 0
 IsPassedWhere None lent passed = passed ≡ false
 IsPassedWhere (Some front) lent passed = IsPassed front lent passed

@@ -1,22 +1,22 @@
--- The damages of a file that are told one by one, and the number of the others.
+-- The report of a file's damaged places: the first hundred, and the number of others.
 use Rattle.std.specs.Prelude.{◌≡◌, ℕ, ◌-◌, nat_lt, min, if◌then◌else◌, List, [], ◌∷◌, ◌++◌, length, take}
 use Rattle.mkv_io.specs.Faults.{counted, last_count}
 use Rattle.mkv_io.specs.declared.damage.Damage.{Damage}
 use Rattle.cluster_reader.specs.declared.damages.TheConstants.{MAX_REPORTED}
 
--- the damages that are told one by one, and how many others there are
+-- the damaged places that are reported one by one, and the number of others
 pub record ToldDamages : Type 0 where
   pub first : List Damage
   pub more : ℕ
 
--- of a list the first hundred, and how many others it has; that number stands still at 2^64 - 1
+-- the report of the damaged places `list`; its number of others stays at 2^64 - 1 if there are more
 abbrev pub told_damages : List Damage → ToldDamages
 told_damages list = record { first = take MAX_REPORTED list; more = min (length list - MAX_REPORTED) last_count }
 
--- With one more: it is told where fewer than a hundred are, else counted.
+-- the report `t` with `d` added, or only counted after the first hundred
 abbrev pub with_damage : ToldDamages → Damage → ToldDamages
 with_damage t d = if nat_lt (length t.first) MAX_REPORTED then record { first = t.first ++ d ∷ []; more = t.more } else record { first = t.first; more = counted t.more 1 }
 
--- what is told of a list with one more is what was told of the list, with one more
+-- Adding a damaged place to the report of a list gives the report of the longer list.
 abbrev pub TellsInTurn : Type 0
 TellsInTurn = (list : List Damage) (d : Damage) → with_damage (told_damages list) d ≡ told_damages (list ++ d ∷ [])

@@ -1,4 +1,4 @@
--- A walk over the Elements of a file, one turn after the other.
+-- A walk over the elements of a file, one turn at a time.
 use Rattle.std.specs.Prelude.{◌≡◌, ◌≤◌, ◌<◌, ⊤, ℕ, true, not, ◌==◌, ◌||◌, Bool, false, if◌then◌else◌, List, [], ◌∷◌, length, Option, Some, None, Result, Ok, Err, IfOk, IsTrue}
 use Rattle.mkv_io.specs.declared.damage.Damage.{Damage}
 use Rattle.mkv_io.specs.declared.outside.ReadEnd.{ReadEnd}
@@ -28,7 +28,7 @@ use Rattle.cluster_reader.specs.declared.turn.Child.TheVariants as child
 use Rattle.cluster_reader.specs.declared.walk.Walk.{Walk}
 use Rattle.cluster_reader.specs.declared.place.OpenCluster.{OpenCluster}
 
--- what a cursor shows of a walk, which has given nothing yet
+-- the reading at the walk `w`, with no event counted
 abbrev pub shown : Walk → Reading
 shown w = record {
   file = w.file;
@@ -41,68 +41,68 @@ shown w = record {
   stopped = w.stopped;
 }
 
--- ---- what a child gives
+-- ---- a child
 
--- what a SimpleBlock or a BlockGroup gives
+-- the block of a SimpleBlock or BlockGroup, or its damage
 abbrev pub block_found : Rules → List ℕ → Option ℕ → Header → Found
 block_found r bytes timestamp h =
     if h.id == SIMPLE_BLOCK then simple_block r bytes timestamp h else block_group r bytes timestamp h
 
--- It gives what is answered: nothing, and the Timestamp that stands behind it; a block, of which is known what is wanted; or
--- a damage.
+-- The result of reading a child is right: no event and the Timestamp so far, a block with its wanted part, or its damage.
 abbrev pub Finds : BlockFilter → List ℕ → ℕ → Option ℕ → Header → Buffered → Child → Type 0
 Finds takes bytes scale timestamp h b (child.Passed behind) =
     (found_at (with_limits scale) bytes timestamp h ≡ []) × (behind ≡ timestamp_behind bytes timestamp h)
 Finds takes bytes scale timestamp h b child.Block = FindsBlock takes b (found_at (with_limits scale) bytes timestamp h)
 Finds takes bytes scale timestamp h b (child.Damaged d) = found_at (with_limits scale) bytes timestamp h ≡ Err d ∷ []
 
--- the same of the file of a walk, where it is told
+-- The result of reading a child is right, if the walk's file is visible to the proof.
 abbrev pub FindsIn : {S : Type 0} → Ghosts S → S → Walk → Walk → Option ℕ → Header → BlockFilter → Child → Type 0
 FindsIn r src old new timestamp h takes found = IfTold r src old.file (λ bytes. Finds takes bytes old.scale timestamp h new.block found)
 
--- A SimpleBlock or a BlockGroup of the file of a walk is what is answered: a block, of which is known what is wanted, or a damage.
+-- The result of reading a SimpleBlock or BlockGroup is right, if the walk's file is visible to the proof: a block with its wanted part, or its
+-- damage.
 abbrev pub MakesIn : {S T : Type 0} → Ghosts S → S → Walk → Walk → Option ℕ → Header → BlockFilter → Result T Damage → Type 0
 MakesIn r src old new timestamp h takes found =
     IfTold r src old.file (λ bytes. MakesWanted takes found new.block (block_found (with_limits old.scale) bytes timestamp h))
 
--- Where a SimpleBlock of the file of a walk was passed, it is a block of which is known what is wanted.
+-- A skipped SimpleBlock is a block, and the buffer has its wanted part, if the walk's file is visible to the proof.
 abbrev pub PassesIn : {S : Type 0} → Ghosts S → S → Walk → Walk → ℕ → Header → BlockFilter → Bool → Type 0
 PassesIn r src old new ticks h takes passed =
     IsTrue passed → IfTold r src old.file (λ bytes. MakesBlock takes new.block (simple_block (with_limits old.scale) bytes (Some ticks) h))
 
--- Octets that a window holds settle what a SimpleBlock says of itself, and how many frames it has.
+-- The bytes in the window settle that `front` is the head and frame count of the SimpleBlock with the header `h`.
 abbrev pub SettlesHeld : ℕ → ℕ → Header → ReadAhead → BlockPreview → Type 0
 SettlesHeld scale ticks h window front = (bytes : List ℕ) → length (body_of bytes h) ≡ known h.size → Holds bytes window
     → HasHead front (simple_block (with_limits scale) bytes (Some ticks) h)
 
--- A wanted block that is given can be written.
+-- A wanted block from a child can be written.
 abbrev pub LendsForChild : BlockFilter → Child → Buffered → Type 0
 LendsForChild takes (child.Passed behind) b = ⊤
 LendsForChild takes child.Block b = LendsWanted takes Block b
 LendsForChild takes (child.Damaged d) b = ⊤
 
--- the children that are looked at: a Timestamp, a SimpleBlock and a BlockGroup
+-- A child with this ID is read: a Timestamp, SimpleBlock or BlockGroup.
 abbrev pub is_looked_at : ℕ → Bool
 is_looked_at id = id == TIMESTAMP || (id == SIMPLE_BLOCK || id == BLOCK_GROUP)
 
--- A child of this ID leaves the walk where it is; one that isn't looked at leaves the block and the window as they were, too.
+-- A child with this ID changes only the block and the window of the walk, and nothing if its body isn't read.
 pub record KeepsWalk (id : ℕ) (old new : Walk) : Type 0 where
   pub only : new ≡ record old { block = new.block; window = new.window }
   pub other : is_looked_at id ≡ false → new ≡ old
 
--- ---- what a turn gives
+-- ---- a turn
 
--- It gives what is answered, as a cursor does; where an Element is passed the same is left.
+-- A turn takes the first event that was left, like a cursor, or leaves the events unchanged.
 abbrev pub Turns : BlockFilter → List ℕ → Walk → Walk → Result (Option Step) ReadEnd → Type 0
 Turns takes bytes old new (Ok None) = left_of bytes (shown new) ≡ left_of bytes (shown old)
 Turns takes bytes old new (Ok (Some step)) = GivesWanted takes bytes (shown old) (shown new) (Ok step)
 Turns takes bytes old new (Err end) = left_of bytes (shown new) ≡ left_of bytes (shown old)
 
--- The same whatever blocks are wanted.
+-- A turn is right for each filter.
 abbrev pub TurnsForAll : List ℕ → Walk → Walk → Result (Option Step) ReadEnd → Type 0
 TurnsForAll bytes old new result = (takes : BlockFilter) → Turns takes bytes old new result
 
--- The place goes on; where an Element is passed, fewer turns are left.
+-- A turn moves the place forwards; one that returns no event leaves fewer turns.
 abbrev pub TurnsOn : Place → Place → Option Step → Type 0
 TurnsOn old new None = (turns_left new < turns_left old) × (old.at ≤ new.at)
 TurnsOn old new (Some step) = GoesOn step old.at new.at
@@ -111,73 +111,73 @@ abbrev pub LendsForTurn : BlockFilter → Option Step → Buffered → Type 0
 LendsForTurn takes None b = ⊤
 LendsForTurn takes (Some step) b = LendsWanted takes step b
 
--- A turn notes what a call does; one that gives nothing notes nothing.
+-- A turn sets `stopped` as a call does, and a turn without an event leaves it.
 abbrev pub TurnNotes : Walk → Walk → Result (Option Step) ReadEnd → Type 0
 TurnNotes old new (Ok None) = new.stopped ≡ old.stopped
 TurnNotes old new (Ok (Some step)) = Notes (shown old) (shown new) (Ok step)
 TurnNotes old new (Err end) = new.stopped ≡ old.stopped
 
--- ---- where a walk stands
+-- ---- place of a walk
 
--- A cursor may stand there, and the place is one of a Segment.
+-- The walk `w` can be advanced among `files`, and its place is valid.
 pub record IsReady (files : LiveFiles) (w : Walk) : Type 0 where
   pub stands : CanRead files (shown w)
   pub scale : 1 ≤ w.scale
   pub place : IsPlace w.place
 
--- It is in the same Segment of the same file.
+-- `new` walks over the same Segment of the same file as `old`, from the same or a later offset.
 abbrev pub IsSameWalk : Walk → Walk → Type 0
 IsSameWalk old new = IsSameSegment (shown old) (shown new)
 
--- A turn goes on in the same Segment, and notes a damage that ends what is read.
+-- A turn moves forwards in its Segment, notes damage that ends the reading, and returns a wanted block only if it can be written.
 pub record TakesTurn (takes : BlockFilter) (old new : Walk) (result : Result (Option Step) ReadEnd) : Type 0 where
   pub same : IsSameWalk old new
   pub on : IfOk result (TurnsOn old.place new.place)
   pub notes : TurnNotes old new result
   pub lends : IfOk result (λ turn. LendsForTurn takes turn new.block)
 
--- So does a step.
+-- A step moves forwards in its Segment, notes damage that ends the reading, and returns a wanted block only if it can be written.
 pub record TakesStep (takes : BlockFilter) (old new : Walk) (result : Result Step ReadEnd) : Type 0 where
   pub same : IsSameWalk old new
   pub on : IfOk result (λ step. GoesOn step old.place.at new.place.at)
   pub notes : Notes (shown old) (shown new) result
   pub lends : IfOk result (λ step. LendsWanted takes step new.block)
 
--- What is read is paid by the way, as a cursor's.
+-- A walk reads no byte of its file twice.
 abbrev pub PaysFor : {S T : Type 0} → Ghosts S → S → S → Walk → Walk → Result T ReadEnd → Type 0
 PaysFor r src src' old new result = Pays (file_size r src old.file) (shown old) (shown new) (r.octets_read src) (r.octets_read src') result
 
--- The way through the body of an Element with this header pays for what the window of a walk read of it.
+-- The bytes that the walk's window reads are accounted for by the move through the body of `h`.
 abbrev pub ReadsBody : {S T E : Type 0} → Ghosts S → S → S → Walk → Walk → Header → Result T E → Type 0
 ReadsBody r src src' old new h result = Goes r old.file h.body (λ _. stated_end h) old.window new.window src src' result
 
--- The way stays at the body of an Element, and pays for what the window of a walk read of it.
+-- The bytes that the walk's window reads are accounted for, and the walk stays at the body of `h`.
 abbrev pub StaysAtBody : {S T E : Type 0} → Ghosts S → S → S → Walk → Walk → Header → Result T E → Type 0
 StaysAtBody r src src' old new h result = GoesTo r old.file h.body h.body old.window new.window src src' result
 
--- In the file of a walk this Element stands at its place, in a Cluster that ends there.
+-- The element at the walk's place, in a Cluster that ends at `end`, has the header `h`, if the file is visible to the proof.
 abbrev pub StandsInCluster : {S : Type 0} → Ghosts S → S → Walk → ℕ → Header → Type 0
 StandsInCluster r src w end h = IfTold r src w.file (λ bytes. Ok h ≡ element_at in_master bytes w.place.at end)
 
--- The Element at the place of a walk is what is answered, or what is wrong there.
+-- `result` is the header of the element at the walk's place, or its damage.
 abbrev pub FindsHere : {S E : Type 0} → Ghosts S → S → Walk → Setting → ℕ → Result (Result Header Damage) E → Type 0
 FindsHere r src w s end result = FindsAt r src w.file s w.place.at end result
 
--- What a child gives is found, whatever is wanted.
+-- The result of reading a child is right for each filter.
 abbrev pub FindsForAll : {S : Type 0} → Ghosts S → S → Walk → Walk → Option ℕ → Header → Child → Type 0
 FindsForAll r src old new timestamp h found = (takes : BlockFilter) → FindsIn r src old new timestamp h takes found
 
--- What a walk gives is that of its file, where this is wanted.
+-- A step is right for the filter `takes`, if the walk's file is visible to the proof.
 abbrev pub GivesIn : {S : Type 0} → Ghosts S → S → BlockFilter → Walk → Walk → Result Step ReadEnd → Type 0
 GivesIn r src takes old new result = IfTold r src old.file (λ bytes. GivesWanted takes bytes (shown old) (shown new) result)
 
--- a walk that went on to where a damage leaves it, and one that ended
+-- the walk after damage in the Cluster `c`, and the walk at its end
 abbrev pub broken_off : OpenCluster → Walk → Walk
 broken_off c w = record w { place = behind_damage w.place c; stopped = not c.closed }
 
 abbrev pub ended : Walk → Walk
 ended w = record w { place = at_end w.place; stopped = true }
 
--- A block is passed exactly where its front, as far as the window of a walk holds it, settles what is wanted of it.
+-- A block is skipped exactly if it isn't wanted, and the bytes in the walk's window settle its head and frame count.
 abbrev pub PassesWhereSettled : BlockFilter → ℕ → Header → Walk → Walk → Bool → Type 0
 PassesWhereSettled takes ticks h old new passed = IsPassedWhere (settled_in takes old.scale ticks h new.window) new.block passed

@@ -1,4 +1,4 @@
-//! The Elements of level 1: RFC 9559, section 5.1 (Segment Element).
+//! Elements of level 1: RFC 9559, section 5.1 (Segment).
 
 ghost use Rattle.std.specs.Prelude.{◌≡◌, None};
 ghost use Rattle.mkv_io.specs.Faults.{HasCause, is_read_fault};
@@ -12,7 +12,8 @@ use elements::{Parent, ends_segment, id_of};
 use mkv_io::{ReadEnd, Reads};
 use mkv_schema::ids::CLUSTER;
 
-/// What the Element of level 1 at the place makes of a walk.
+/// Advances `walk` by the element of level 1 at its place: enters a Cluster, skips another element, or finds damage
+/// or the end.
 pub fn turn_at_level_1<R: Reads>(walk: &mut Walk, src: &mut R) -> Result<Option<Step>, ReadEnd>
     requires ready { IsReady (live_files R.Reads src.old) walk.old }
     requires outside { walk.old.place.cluster ≡ None }

@@ -1,4 +1,4 @@
-//! What the children of a Cluster give: RFC 9559, section 5.1.3 (Cluster Element).
+//! Children of a Cluster: RFC 9559, section 5.1.3 (Cluster).
 
 ghost use Rattle.std.specs.Prelude.{◌≡◌, ◌≤◌, ℕ, false, IfOk, IfSome, OnOk};
 ghost use Rattle.mkv_io.specs.Faults.{HasCause, is_read_fault};
@@ -25,14 +25,15 @@ use mkv_io::{Damage, Kind, ReadEnd, Reads};
 use mkv_schema::Header;
 use mkv_schema::ids::{BLOCK_GROUP, SIMPLE_BLOCK, TIMESTAMP};
 
-/// How many octets of the body of a SimpleBlock are looked at before it is read: as many as its header has, and the octet with
-/// the number of its frames.
+/// Number of bytes of a SimpleBlock's body that are held before it is checked: the longest header and the byte with
+/// the frame count
 const LEAST_OF_FRONT: u64 = 12;
 
-/// The most of them, where more are held: those of the head of a lace.
+/// Maximum number of bytes that are checked if more are held; it covers the head of a lace
 const MAX_PREVIEW_LEN: u64 = 1024;
 
-/// What a child of a Cluster gives, before which this Timestamp stands, by which blocks are wanted. The walk stays where it is.
+/// Reads a child of a Cluster: a block, a Timestamp, or one to skip. `timestamp` is the Timestamp that preceded it,
+/// if any. The place of the walk is unchanged.
 pub fn read_child<R: Reads>(
     walk: &mut Walk,
     src: &mut R,
@@ -63,7 +64,7 @@ pub fn read_child<R: Reads>(
     }
 }
 
-// What a Timestamp gives. The first of a Cluster alone is read.
+// Reads a Timestamp, unless the Cluster already had one.
 fn timestamp_child<R: Reads>(
     walk: &mut Walk,
     src: &mut R,
@@ -94,7 +95,7 @@ fn timestamp_child<R: Reads>(
     }
 }
 
-// The Timestamp for a block that isn't too long.
+// Returns the Timestamp for a block, or damage if the block is too long or no Timestamp precedes it.
 fn timestamp_for(timestamp: Option<u64>, header: &Header) -> Result<u64, Damage>
     ensures exact { (scale : ℕ) → result ≡ timestamp_for (with_limits scale) timestamp header.now }
     ensures few { IfOk result (λ _. known header.now.size ≤ MAX_BLOCK_LEN) }
@@ -108,7 +109,7 @@ fn timestamp_for(timestamp: Option<u64>, header: &Header) -> Result<u64, Damage>
     }
 }
 
-// Whether the frames of a block of this track are wanted.
+// Checks whether `takes` wants the frames of a block of this track.
 fn wants(takes: BlockFilter, track: u64) -> bool
     ensures { result ≡ wants takes track }
 {
@@ -119,8 +120,7 @@ fn wants(takes: BlockFilter, track: u64) -> bool
     }
 }
 
-// What the front of a SimpleBlock settles that isn't wanted, as far as it is held: what it says of itself, and how many frames it
-// has.
+// Returns the head and frame count of a SimpleBlock that isn't wanted, if the held bytes of its body settle them.
 fn settled(
     window: &Window,
     scale: u64,
@@ -144,7 +144,8 @@ fn settled(
     }
 }
 
-// Passes a SimpleBlock that isn't wanted, where its front settles that it is one. Answers whether it does.
+// Skips the frames of a SimpleBlock that isn't wanted, if its first bytes settle that it is valid. Returns true if it
+// did.
 fn passes<R: Reads>(
     walk: &mut Walk,
     src: &mut R,
@@ -178,8 +179,8 @@ fn passes<R: Reads>(
     }
 }
 
-// Reads a SimpleBlock or a BlockGroup into the walk's buffer, or answers the first thing that is wrong. One that isn't wanted may
-// be passed.
+// Reads a SimpleBlock or BlockGroup into the walk's buffer, or returns the first damage. A block that isn't wanted
+// may be skipped.
 fn read_block<R: Reads>(
     walk: &mut Walk,
     src: &mut R,

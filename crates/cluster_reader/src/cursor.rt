@@ -1,4 +1,4 @@
-//! The cursor.
+//! Reader of a file's blocks
 
 ghost use Rattle.std.specs.Prelude.{◌≡◌, ◌≤◌, ◌⊎◌, true, ℕ, List, [], length, sum, IfOk};
 ghost use Rattle.mkv_io.specs.Faults.{HasCause, is_read_fault};
@@ -24,7 +24,7 @@ use mkv_io::{FileId, ReadEnd, Reads};
 use std::alloc::{AllocError, Global};
 use std::marker::Model;
 
-/// Gives the blocks of a file and its damages, in the order of the file. It keeps one block.
+/// Iterator over the blocks and damaged places of a file in file order, which keeps one block
 #[derive(Drop)]
 pub struct Cursor {
     walk: Walk,
@@ -54,7 +54,7 @@ impl Model for Cursor {
 }
 
 impl Cursor {
-    /// The blocks of a file whose outline this is, and whose TimestampScale is so many nanoseconds a tick.
+    /// Starts at the first Cluster of the file with this outline. One tick is `scale` nanoseconds.
     pub fn start<O: HasSegment>(
         alloc: Global,
         outline: &O,
@@ -65,7 +65,7 @@ impl Cursor {
         ensures begins { IfOk result (Begins file scale (O.segment outline.now) (O.total outline.now)) }
         ensures left { HasAllLeft scale (O.segment outline.now) (O.total outline.now) result }
 
-        // It may be advanced in a live file of that length.
+        // `advance` may be called if the file is live and has the outline's length.
         ensures stands { CanReadWhereLive file (O.total outline.now) result }
     {
         let walk = Walk {
@@ -83,20 +83,20 @@ impl Cursor {
         })
     }
 
-    /// Gives the next block or damage. `End` is answered where none is left, and again from then on. After
-    /// a refusal the same block is looked for again.
+    /// Reads the next block or damaged place. Returns `End` after the last one, at each call. After an error the same
+    /// block is due.
     pub fn advance<R: Reads>(&mut self, src: &mut R) -> Result<Step, ReadEnd>
         requires { CanRead (live_files R.Reads src.old) self.old }
         ensures gives { IfTold R.Reads src.old self.old.file (λ bytes. Gives bytes self.old self.new result) }
         ensures counts { Counts self.old self.new result }
 
-        // It goes on in the same file, and stays ready for the next call.
+        // The cursor stays in the same file and ready for the next call.
         ensures moves { Moves self.old self.new result }
         ensures stands { CanRead (live_files R.Reads src.new) self.new }
         ensures standing { R.standing src.new ≡ R.standing src.old }
         ensures cause { HasCause is_read_fault (R.reading_faults src.old) (R.reading_faults src.new) result }
 
-        // No octet is read twice, but what a call that fails has read.
+        // No byte is read twice, except bytes that a failed call has read.
         ensures spends { SpendsIn R.Reads src.old src.new self.old self.new result }
     {
         let step = next_step(&mut self.walk, src, BlockFilter::All)?;
@@ -104,7 +104,8 @@ impl Cursor {
         Ok(step)
     }
 
-    /// The same where not all blocks are wanted. The frames of those that aren't needn't be read.
+    /// Reads the next block or damaged place, like `advance`. The frames of blocks that `takes` doesn't want may stay
+    /// unread.
     pub fn advance_for<R: Reads>(
         &mut self,
         src: &mut R,
@@ -124,7 +125,7 @@ impl Cursor {
         Ok(step)
     }
 
-    // Counts what was given.
+    // Counts the block or damaged place in `step`.
     fn count(&mut self, step: Step)
         ensures { self.new ≡ with_given step self.old }
     {
@@ -135,7 +136,7 @@ impl Cursor {
         }
     }
 
-    /// What the block says of itself.
+    /// Returns the head of the block.
     pub fn head(&self) -> &BlockHead
         ensures exact { result.now ≡ self.now.block.head }
         ensures small { HasSmallTimes result.now }
@@ -143,7 +144,7 @@ impl Cursor {
         self.walk.block.head()
     }
 
-    /// How many frames it has, also where none is lent.
+    /// Returns the number of frames of the block, even if the frames weren't read.
     pub fn frames(&self) -> u16
         ensures exact { result ≡ self.now.block.frames }
         ensures most { result ≤ 256 }
@@ -151,7 +152,7 @@ impl Cursor {
         self.walk.block.frames()
     }
 
-    /// The octets of its frames, one behind the other.
+    /// Returns the bytes of the frames in sequence.
     pub fn body(&self) -> &[u8]
         ensures exact { result.now ≡ self.now.block.body }
         ensures cut { sum self.now.block.sizes ≡ length result.now }
@@ -160,7 +161,7 @@ impl Cursor {
         self.walk.block.body()
     }
 
-    /// How many octets each frame has: none where no block is lent.
+    /// Returns the size of each frame in bytes; the slice is empty if no block is available.
     pub fn sizes(&self) -> &[u32]
         ensures exact { result.now ≡ self.now.block.sizes }
         ensures sum { sum result.now ≡ length self.now.block.body }
@@ -170,7 +171,7 @@ impl Cursor {
         self.walk.block.sizes()
     }
 
-    /// The octets of what else its group has, one Element behind the other, as they were found.
+    /// Returns the bytes of the kept children of the group, in file order.
     pub fn extra(&self) -> &[u8]
         ensures exact { result.now ≡ self.now.block.kept }
         ensures most { length result.now ≤ MAX_BLOCK_LEN }
@@ -178,7 +179,7 @@ impl Cursor {
         self.walk.block.kept()
     }
 
-    /// The times of the blocks that it refers to less its own, in nanoseconds.
+    /// Returns the times of the referenced blocks relative to this block, in nanoseconds.
     pub fn refs(&self) -> &[i64]
         ensures exact { result.now ≡ self.now.block.references }
         ensures small { All IsSmallTime result.now }
@@ -187,14 +188,14 @@ impl Cursor {
         self.walk.block.references()
     }
 
-    /// How many damages were given.
+    /// Returns the number of damaged places so far.
     pub fn damages(&self) -> u64
         ensures { result ≡ self.now.damages }
     {
         self.damages
     }
 
-    /// Whether the damage that was given last ends what is read of the file.
+    /// Checks whether the last damaged place ends the reading of the file.
     pub fn stopped(&self) -> bool
         ensures { result ≡ self.now.stopped }
     {

@@ -1,4 +1,4 @@
-//! The damages of a file that are told.
+//! Report of a file's damaged places
 
 ghost use Rattle.std.specs.Prelude.{[], ◌≡◌, IfOk};
 ghost use Rattle.cluster_reader.specs.ToldDamages.{told_damages, with_damage};
@@ -7,11 +7,10 @@ use mkv_io::Damage;
 use std::alloc::{AllocError, Global};
 use std::marker::Model;
 
-/// How many damages of a file are told one by one.
+/// Maximum number of damaged places that are reported one by one
 const MAX_REPORTED: usize = 100;
 
-/// The damages of a file: the first hundred, and how many others there are. Their memory is taken at the
-/// making.
+/// Damaged places of a file: the first hundred, and the number of others. Its memory is allocated by `new`.
 #[derive(Debug, Drop)]
 pub struct Damages {
     first: Vec<Damage>,
@@ -32,7 +31,7 @@ impl Model for Damages {
 }
 
 impl Damages {
-    /// No damages, and room for a hundred.
+    /// Returns an empty report with room for a hundred places.
     pub fn new(alloc: Global) -> Result<Damages, AllocError>
         ensures { IfOk result (λ damages. damages ≡ told_damages []) }
     {
@@ -42,7 +41,7 @@ impl Damages {
         })
     }
 
-    /// Tells a damage, or counts it where a hundred are told.
+    /// Adds `damage`, or only counts it after the first hundred.
     pub fn add(&mut self, damage: Damage)
         ensures { self.new ≡ with_damage self.old damage }
     {
@@ -53,14 +52,14 @@ impl Damages {
         }
     }
 
-    /// The first hundred, in the order of the file.
+    /// Returns the first hundred damaged places, in file order.
     pub fn first(&self) -> &[Damage]
         ensures { result.now ≡ self.now.first }
     {
         self.first.as_slice()
     }
 
-    /// How many others there are.
+    /// Returns the number of damaged places after the first hundred.
     pub fn more(&self) -> u64
         ensures { result ≡ self.now.more }
     {

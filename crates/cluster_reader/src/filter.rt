@@ -1,12 +1,12 @@
-//! Which blocks are wanted.
+//! Choice of the blocks that are read whole
 
-/// Which blocks of a file are wanted whole. The frames of the others needn't be read.
+/// Choice of the blocks of a file that are read whole; the frames of others may stay unread
 #[derive(Clone, Copy, Debug, PartialEq, Eq)]
 pub enum BlockFilter {
-    /// All.
+    /// Each block
     All,
-    /// Those of the track with this TrackNumber. Of others it is known of which track they are.
+    /// Blocks of the track with this TrackNumber; of other blocks only the track is known
     Track(u64),
-    /// None. Of each it is known what it says of itself, and how many frames it has.
+    /// No block; only each head and frame count is known
     Heads,
 }

@@ -1,4 +1,4 @@
-//! The children of a Cluster, one turn after the other: RFC 9559, section 5.1.3 (Cluster Element).
+//! Children of a Cluster, one turn at a time: RFC 9559, section 5.1.3 (Cluster).
 
 ghost use Rattle.std.specs.Prelude.{◌≡◌, ◌≤◌, ◌<◌, Some, Ok, false};
 ghost use Rattle.mkv_io.specs.Faults.{HasCause, is_read_fault};
@@ -17,14 +17,14 @@ use elements::{Parent, ends_cluster, id_of};
 use mkv_io::{ReadEnd, Reads};
 use mkv_schema::Header;
 
-// Whether the children of a Cluster end before an Element of this ID.
+// Checks whether an element with this ID ends the children of a Cluster; only one of unknown size ends this way.
 fn ends_children(unknown: bool, id: u32) -> bool
     ensures { result ≡ ends_children unknown id }
 {
     unknown && ends_cluster(id)
 }
 
-/// What the child of a Cluster at the place makes of a walk, by which blocks are wanted.
+/// Advances `walk` by the element at its place in `cluster`: reads a child, leaves the Cluster, or finds damage.
 pub fn turn_in_cluster<R: Reads>(
     walk: &mut Walk,
     src: &mut R,
@@ -59,7 +59,7 @@ pub fn turn_in_cluster<R: Reads>(
     }
 }
 
-// What a child makes of a walk whose place it stands at.
+// Advances `walk` by the child of `cluster` with the header `header`.
 fn turn_child<R: Reads>(
     walk: &mut Walk,
     src: &mut R,

@@ -1,18 +1,18 @@
-//! What holds of every reading of a file.
+//! Laws about each reading of a file
 ghost use Rattle.cluster_reader.specs.Laws.{CanReadOn, LeavesNothingBehind};
 ghost use Rattle.cluster_reader.specs.ToldDamages.{TellsInTurn};
 
-/// At the end of what is read no block and no damage is left.
+/// At the end of the reading no block and no damaged place is left.
 pub fn nothing_is_left_at_the_end()
     ensures { LeavesNothingBehind }
 {}
 
-/// A cursor may be advanced among other files too, where its own is the same.
+/// A cursor can still be advanced after changes to other files.
 pub fn reading_goes_on()
     ensures { CanReadOn }
 {}
 
-/// What is told of damages, one after the other, is the first hundred of them and how many others there are.
+/// Damaged places that are added one by one give the first hundred and the number of others.
 pub fn damages_are_told_in_turn()
     ensures { TellsInTurn }
 {}

@@ -1,8 +1,8 @@
 #![tactic(auto)]
 
-//! The blocks of a file and its damages, one after the other: RFC 9559, section 5.1.3 (Cluster Element).
-//! A cursor goes forwards through the file, reads headers through a window and the blocks that are wanted once into one
-//! buffer, skips what is no block without reading it, and lends what it has read.
+//! Blocks and damaged places of a file in sequence: RFC 9559, section 5.1.3 (Cluster). A cursor moves forwards
+//! through the file, and reads headers through a window. It reads each wanted block once, into one buffer, and skips
+//! other elements unread.
 
 mod at_level_1;
 mod child;

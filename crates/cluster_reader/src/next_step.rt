@@ -1,4 +1,4 @@
-//! The steps of a walk, from one block or damage to the next.
+//! Steps of a walk, from one block or damaged place to the next
 
 ghost use Rattle.std.specs.Prelude.{◌≡◌};
 ghost use Rattle.mkv_io.specs.Faults.{HasCause, is_read_fault};
@@ -13,7 +13,7 @@ use crate::step::Step;
 use crate::walk::Walk;
 use mkv_io::{ReadEnd, Reads};
 
-/// The next block or damage, up to which a walk goes on, by which blocks are wanted.
+/// Advances `walk` to the next block or damaged place, or to the end. `takes` chooses the blocks that are read whole.
 pub fn next_step<R: Reads>(
     walk: &mut Walk,
     src: &mut R,
@@ -34,7 +34,7 @@ pub fn next_step<R: Reads>(
     }
 }
 
-// What the Element at the place makes of a walk.
+// Advances `walk` by the element at its place.
 fn turn<R: Reads>(walk: &mut Walk, src: &mut R, takes: BlockFilter) -> Result<Option<Step>, ReadEnd>
     requires { IsReady (live_files R.Reads src.old) walk.old }
     ensures gives { IfTold R.Reads src.old walk.old.file (λ bytes. Turns takes bytes walk.old walk.new result) }

@@ -1,4 +1,4 @@
-//! A place among the Elements of a file.
+//! Place among the elements of a file
 
 ghost use Rattle.std.specs.Prelude.{◌≡◌, ◌≤◌, Some, None};
 ghost use Rattle.mkv_schema.specs.Element.{end_in};
@@ -10,34 +10,34 @@ use ebml_numbers::Size;
 use elements::end_in;
 use mkv_schema::Header;
 
-/// A place among the Elements of a Segment, in octets from the start of the file.
+/// Place among the elements of a Segment, with byte offsets in the file
 #[derive(Clone, Copy)]
 pub struct Place {
-    /// The size that the Segment states.
+    /// Size in the header of the Segment
     pub size: Size,
-    /// Where the next Element stands.
+    /// Offset of the next element
     pub at: u64,
-    /// Up to where the Segment may reach.
+    /// Maximum end of the Segment
     pub end: u64,
-    /// The Cluster in which the next Element stands, if it stands in one.
+    /// Cluster that contains the next element, if any
     pub cluster: Option<OpenCluster>,
 }
 
-/// A Cluster whose children are read.
+/// Cluster whose children are read
 #[derive(Clone, Copy)]
 pub struct OpenCluster {
-    /// Where it ends, or up to where it may reach.
+    /// End of the Cluster, or its maximum end
     pub end: u64,
-    /// Its size is known, and it ends within the file.
+    /// Its size is known, and it ends within the file
     pub closed: bool,
-    /// Its size is unknown.
+    /// Its size is unknown
     pub unknown: bool,
-    /// Its Timestamp in ticks, as far as it was met.
+    /// Its Timestamp in ticks, if it was read
     pub timestamp: Option<u64>,
 }
 
 impl Place {
-    /// The first place of a Segment in a file of `total` octets.
+    /// Returns the first place in `segment`, in a file of `total` bytes.
     pub fn first(segment: &Header, total: u64) -> Place
         ensures { result ≡ first_place segment.now total }
     {
@@ -49,7 +49,7 @@ impl Place {
         }
     }
 
-    /// The place behind an Element that isn't entered.
+    /// Returns the place after an element that isn't entered.
     pub fn behind(self, header: &Header) -> Place
         ensures { result ≡ record self { at = end_in self.end header.now } }
     {
@@ -59,7 +59,7 @@ impl Place {
         }
     }
 
-    /// The place of the first child of a Cluster in a file of `total` octets.
+    /// Returns the place of the first child of the Cluster `header`, in a file of `total` bytes.
     pub fn entered(self, header: &Header, total: u64) -> Place
         requires { total ≤ LONGEST_FILE }
         ensures { result ≡ record self { at = header.now.body; cluster = Some (cluster_in total self.end header.now) } }
@@ -77,7 +77,7 @@ impl Place {
         }
     }
 
-    /// The place behind a child of a Cluster, where this Timestamp then stands before the next one.
+    /// Returns the place after a child of `cluster`. `timestamp` is the Cluster's Timestamp so far.
     pub fn passed(self, cluster: OpenCluster, child: &Header, timestamp: Option<u64>) -> Place
         ensures { result ≡ behind_child self cluster child.now timestamp }
     {
@@ -91,7 +91,7 @@ impl Place {
         }
     }
 
-    /// This or a later place, outside of the Cluster.
+    /// Returns the place at offset `at`, outside any Cluster.
     pub fn outside(self, at: u64) -> Place
         ensures { result ≡ record self { at = at; cluster = None } }
     {
@@ -103,7 +103,7 @@ impl Place {
     }
 }
 
-// Up to where an Element may reach whose parent ends at `end`.
+// Returns the maximum end of an element in a parent that ends at `end`.
 fn bound_in(header: &Header, end: u64) -> u64
     ensures { result ≡ bound_in end header.now }
 {
@@ -113,7 +113,7 @@ fn bound_in(header: &Header, end: u64) -> u64
     }
 }
 
-// Whether a Cluster's size is known, and it ends within a file of `total` octets.
+// Checks whether a Cluster's size is known, and it ends within a file of `total` bytes.
 fn is_closed(header: &Header, total: u64) -> bool
     requires { total ≤ LONGEST_FILE }
     ensures { result ≡ is_closed total header.now }

@@ -1,15 +1,15 @@
-//! What a cursor gives.
+//! Results of a cursor
 
 use mkv_io::Damage;
 
-/// What a cursor gives.
+/// Result of advancing a cursor
 #[derive(Clone, Copy, Debug, PartialEq, Eq)]
 pub enum Step {
-    /// A block, which the cursor lends until it is advanced again.
+    /// Block, available until the cursor is advanced again
     Block,
-    /// All blocks and damages were given.
+    /// End: all blocks and damaged places were reported
     End,
-    /// Something is wrong here; what was given before it is right. The next call goes on behind it, or
-    /// answers `End` where this damage ends what is read (`Cursor::stopped`).
+    /// Damaged place, after which the next call continues. It returns `End` if this damage ends the reading
+    /// (`Cursor::stopped`).
     Damaged(Damage),
 }

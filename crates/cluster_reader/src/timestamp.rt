@@ -1,4 +1,4 @@
-//! The Timestamp of a Cluster: RFC 9559, section 5.1.3 (Cluster Element).
+//! Timestamp of a Cluster: RFC 9559, section 5.1.3 (Cluster).
 
 ghost use Rattle.std.specs.Prelude.{◌≡◌, ◌≤◌, IfOk};
 ghost use Rattle.mkv_io.specs.Faults.{HasCause, is_failure};
@@ -15,7 +15,7 @@ use elements::{Window, known};
 use mkv_io::{Failed, FileId, Reads};
 use mkv_schema::Header;
 
-/// The ticks of a Timestamp, through a window.
+/// Reads the ticks of a Timestamp through `window`.
 pub fn read_timestamp<R: Reads>(
     window: &mut Window,
     src: &mut R,

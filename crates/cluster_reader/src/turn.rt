@@ -1,14 +1,14 @@
-//! What a child of a Cluster gives.
+//! Results of reading a child of a Cluster
 
 use mkv_io::Damage;
 
-/// What a child of a Cluster gives.
+/// Result of reading a child of a Cluster
 #[derive(Clone, Copy)]
 pub enum Child {
-    /// Nothing; this Timestamp then stands before the next child.
+    /// Not a block; the Cluster's Timestamp so far
     Passed(Option<u64>),
-    /// A block, which was read.
+    /// Block, read into the buffer
     Block,
-    /// Something is wrong with it.
+    /// Damaged child
     Damaged(Damage),
 }

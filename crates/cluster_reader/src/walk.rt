@@ -1,4 +1,4 @@
-//! A walk over the Elements of a file.
+//! Walk over the elements of a file
 
 ghost use Rattle.std.specs.Prelude.{◌≡◌, ◌≤◌, ◌<◌, true, not, None, IfOk};
 ghost use Rattle.mkv_io.specs.Faults.{HasCause, is_read_fault};
@@ -15,25 +15,25 @@ use elements::{Lookahead, Parent, Window};
 use mkv_io::{Damage, Failed, FileId, ReadEnd, Reads};
 use mkv_schema::Header;
 
-/// A walk over the Elements of a Segment, into its Clusters.
+/// Walk over the elements of a Segment and the children of its Clusters
 #[derive(Drop)]
 pub struct Walk {
-    /// What was read ahead of the file.
+    /// Bytes of the file that were read ahead
     pub window: Window,
-    /// The file.
+    /// File that is read
     pub file: FileId,
-    /// Nanoseconds for a tick.
+    /// Nanoseconds per tick
     pub scale: u64,
-    /// What is looked at next.
+    /// Place of the next element
     pub place: Place,
-    /// The block that was read last.
+    /// Block that was read last
     pub block: BlockBuffer,
-    /// Whether the damage that was met last ends what is read.
+    /// The last damaged place ends the reading
     pub stopped: bool,
 }
 
 impl Walk {
-    /// The Element at the place, under a parent that ends at `end`, or what is wrong there.
+    /// Reads the header of the element at the place, or its damage. Its parent ends at `end`.
     pub fn element<R: Reads>(
         &mut self,
         src: &mut R,
@@ -60,7 +60,7 @@ impl Walk {
         }
     }
 
-    /// Goes on behind a Cluster in which something is wrong, where it is closed, else to the end.
+    /// Moves after the Cluster if it is closed; otherwise moves to the end and stops. Used after damage in a Cluster.
     pub fn break_off(&mut self, cluster: &OpenCluster)
         ensures { self.new ≡ broken_off cluster.now self.old }
     {
@@ -73,7 +73,7 @@ impl Walk {
         self.stopped = !cluster.closed;
     }
 
-    /// Nothing is left behind this damage.
+    /// Moves to the end: the last damage ends the reading.
     pub fn stop(&mut self)
         ensures { self.new ≡ ended self.old }
     {

@@ -12,13 +12,13 @@ use Rattle.cluster_reader.specs.declared.walk.Walk.{Walk}
 use Rattle.cluster_reader.proofs.LeftLemmas.{left-end, left-stops, left-breaks, left-skips, left-enters}
 use Rattle.cluster_reader.proofs.at_level_1.turn_at_level_1.Goals as goal
 
--- the Segment's bound is reached
+-- The Segment's end is reached.
 pub returns-then-walk-clause-gives : goal.returns-then-walk-clause-gives
 returns-then-walk-clause-gives g c = λ bytes told takes.
     let none = left-end (with_limits c.args.walk.now.scale) bytes c.args.walk.now.place c.requires.outside c.if-walk.true in
     (none, none)
 
--- an ID of level 0 ends the Segment
+-- An ID of level 0 ends the Segment.
 pub returns-then-ends_segment-clause-gives : goal.returns-then-ends_segment-clause-gives
 returns-then-ends_segment-clause-gives g c = λ bytes told takes.
     let p = c.args.walk.now.place in
@@ -30,7 +30,7 @@ returns-then-ends_segment-clause-gives g c = λ bytes told takes.
       left-end (with_limits c.element.new.self.scale) bytes c.outside-walk.result (ap (λ (q : Place). q.cluster) moved) past,
     )
 
--- a Cluster is entered
+-- A Cluster is entered.
 pub returns-then-header-eq-CLUSTER-clause-gives : goal.returns-then-header-eq-CLUSTER-clause-gives
 returns-then-header-eq-CLUSTER-clause-gives g c = λ bytes told takes.
     let p = c.args.walk.now.place in
@@ -46,7 +46,7 @@ returns-then-header-eq-CLUSTER-clause-gives g c = λ bytes told takes.
     ap (λ (w : Walk). left (with_limits w.scale) bytes c.entered-walk.result) c.element.ensures.only
     ∙ sym (left-enters (with_limits c.args.walk.now.scale) bytes p c.entered-walk.result h c.size-total.result total c.requires.outside c.if-walk.false found goes c.if-header-eq-CLUSTER.true moved)
 
--- another Element is skipped
+-- Another element is skipped.
 pub returns-else-header-eq-CLUSTER-clause-gives : goal.returns-else-header-eq-CLUSTER-clause-gives
 returns-else-header-eq-CLUSTER-clause-gives g c = λ bytes told takes.
     let p = c.args.walk.now.place in
@@ -60,7 +60,7 @@ returns-else-header-eq-CLUSTER-clause-gives g c = λ bytes told takes.
     ap (λ (w : Walk). left (with_limits w.scale) bytes c.behind-walk.result) c.element.ensures.only
     ∙ sym (left-skips (with_limits c.args.walk.now.scale) bytes p c.behind-walk.result h c.requires.outside c.if-walk.false found goes other (there.whole.known (grind (arith, nat_tests, other))) moved)
 
--- a damage ends what is read
+-- Damage ends the reading.
 pub returns-in-Err-clause-gives : goal.returns-in-Err-clause-gives
 returns-in-Err-clause-gives g c = λ bytes told takes.
     let p = c.args.walk.now.place in

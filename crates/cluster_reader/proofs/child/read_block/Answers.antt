@@ -7,12 +7,12 @@ use Rattle.cluster_reader.proofs.PassedLemmas.{passed-lends, passed-simple}
 use Rattle.cluster_reader.proofs.TakesLemmas.{makes-wanted}
 use Rattle.cluster_reader.proofs.child.read_block.Goals as goal
 
--- it is too long, or no Timestamp stands before it
+-- The block is too long, or no Timestamp precedes it.
 pub returns-in-Err-clause-ok : goal.returns-in-Err-clause-ok
 returns-in-Err-clause-ok g c = λ bytes told.
     block_found-refused (with_limits c.args.walk.now.scale) bytes c.args.timestamp c.args.header.now c.in-Err.damage (sym (c.in-Err.ensures.exact c.args.walk.now.scale))
 
--- one that is passed
+-- The block is skipped.
 pub returns-then-branch-clause-ok : goal.returns-then-branch-clause-ok
 returns-then-branch-clause-ok g c = λ bytes told.
     let r = with_limits c.args.walk.now.scale in
@@ -28,7 +28,7 @@ returns-then-branch-clause-lends g c =
     let w = c.passes.new.walk in
     passed-lends c.args.takes c.args.walk.now.scale c.in-Ok.ticks c.args.header.now w.window w.block c.in_ok-passes.field-0 c.in_ok-passes.ensures.exact c.if-branch.true
 
--- a SimpleBlock
+-- A SimpleBlock is read.
 pub returns-in_ok-found-clause-ok : goal.returns-in_ok-found-clause-ok
 returns-in_ok-found-clause-ok g c = λ bytes told.
     let r = with_limits c.args.walk.now.scale in
@@ -43,7 +43,7 @@ returns-in_ok-found-clause-ok g c = λ bytes told.
     subst (MakesWanted c.args.takes c.in_ok-found.found c.spell_simple.new.self) (sym is)
     (makes-wanted c.args.takes c.in_ok-found.found c.spell_simple.new.self _ c.in_ok-found.ensures.lent (c.in_ok-found.ensures.exact bytes (c.in_ok-read.ensures.ok bytes here)))
 
--- a BlockGroup
+-- A BlockGroup is read.
 pub returns-in_ok-found-2-clause-ok : goal.returns-in_ok-found-2-clause-ok
 returns-in_ok-found-2-clause-ok g c = λ bytes told.
     let r = with_limits c.args.walk.now.scale in

@@ -12,7 +12,7 @@ use Rattle.cluster_reader.proofs.LeftLemmas.{left-passes, left-block}
 use Rattle.cluster_reader.proofs.TurnLemmas.{left-bad_child}
 use Rattle.cluster_reader.proofs.in_cluster.turn_child.Goals as goal
 
--- the child gives nothing
+-- The child has no event.
 pub returns-in-Passed-clause-gives : goal.returns-in-Passed-clause-gives
 returns-in-Passed-clause-gives g c = λ bytes content.
     let r = with_limits c.args.walk.now.scale in
@@ -27,7 +27,7 @@ returns-in-Passed-clause-gives g c = λ bytes content.
     ap (λ (w : Walk). left (with_limits w.scale) bytes c.passed-walk.result) c.read_child.ensures.only.only
     ∙ sym (left-passes r bytes p c.passed-walk.result cluster h c.requires.inside before (c.requires.found bytes content) c.requires.goes finds.0 moved)
 
--- a block is given
+-- A block is taken.
 pub returns-in-Block-clause-gives : goal.returns-in-Block-clause-gives
 returns-in-Block-clause-gives g c = λ bytes content.
     let r = with_limits c.args.walk.now.scale in
@@ -49,7 +49,7 @@ returns-in-Block-clause-gives g c = λ bytes content.
       known = finds.known;
     }
 
--- something is wrong with it
+-- The child is damaged.
 pub returns-in-Damaged-clause-gives : goal.returns-in-Damaged-clause-gives
 returns-in-Damaged-clause-gives g c = λ bytes content.
     let r = with_limits c.args.walk.now.scale in

@@ -11,7 +11,7 @@ use Rattle.cluster_reader.proofs.LeftLemmas.{left-leaves}
 use Rattle.cluster_reader.proofs.TurnLemmas.{left-child_ends, left-child_damaged}
 use Rattle.cluster_reader.proofs.in_cluster.turn_in_cluster.Goals as goal
 
--- the Cluster's end is reached
+-- The Cluster's end is reached.
 pub returns-then-at-cluster-clause-gives : goal.returns-then-at-cluster-clause-gives
 returns-then-at-cluster-clause-gives g c = λ bytes content.
     let p = c.args.walk.now.place in
@@ -19,7 +19,7 @@ returns-then-at-cluster-clause-gives g c = λ bytes content.
     let here : p.at ≡ c.args.cluster.end = omega (arith, place.here, c.if-at-cluster.true) in
     sym (left-leaves (with_limits c.args.walk.now.scale) bytes p c.outside-walk.result c.args.cluster c.requires.inside here c.outside-walk.ensures)
 
--- an ID of level 1 or 0 ends the children
+-- An ID of level 1 or 0 ends the children.
 pub returns-then-ends_children-clause-gives : goal.returns-then-ends_children-clause-gives
 returns-then-ends_children-clause-gives g c = λ bytes content.
     let p = c.args.walk.now.place in
@@ -29,7 +29,7 @@ returns-then-ends_children-clause-gives g c = λ bytes content.
     ap (λ (w : Walk). left (with_limits w.scale) bytes c.outside-walk-then-ends_children.result) c.element.ensures.only
     ∙ sym (left-child_ends (with_limits c.args.walk.now.scale) bytes p c.outside-walk-then-ends_children.result c.args.cluster c.in_ok-found.found c.requires.inside c.if-at-cluster.false (c.in_ok-found.ensures.ok bytes content) ends moved)
 
--- a damage stands among the children
+-- There is damage between the children.
 pub returns-in-Err-clause-gives : goal.returns-in-Err-clause-gives
 returns-in-Err-clause-gives g c = λ bytes content.
     let p = c.args.walk.now.place in

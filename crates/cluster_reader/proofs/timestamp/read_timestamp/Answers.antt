@@ -7,7 +7,7 @@ use Rattle.elements.proofs.WindowLemmas.{octets_from-held}
 use Rattle.cluster_reader.proofs.ChildLemmas.{body_of-read}
 use Rattle.cluster_reader.proofs.timestamp.read_timestamp.Goals as goal
 
--- the octets that were read are the body's
+-- The bytes that were read are the body.
 pub returns-clause-ok : goal.returns-clause-ok
 returns-clause-ok g c = λ bytes told.
     let h = c.args.header.now in

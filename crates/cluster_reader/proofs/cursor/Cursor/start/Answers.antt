@@ -5,7 +5,7 @@ use Rattle.cluster_reader.specs.Places.{first_place}
 use Rattle.cluster_reader.proofs.TurnLemmas.{left-first}
 use Rattle.cluster_reader.proofs.cursor.Cursor.start.Goals as goal
 
--- all blocks and damages are left
+-- All events are left.
 pub returns-clause-left : goal.returns-clause-left
 returns-clause-left g c = λ bytes whole.
     let segment = g.O.HasSegment.segment c.args.outline.now in
