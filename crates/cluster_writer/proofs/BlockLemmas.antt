@@ -1,4 +1,4 @@
--- The octets of a block, part by part.
+-- The bytes of a block, part by part.
 use Rattle.std.proofs.Common.{◌≡◌, ◌≤◌, ◌<◌, ℕ, ℤ, pos, ◌+◌, Bool, true, false, if◌then◌else◌, List, [], ◌++◌, length, map, drop, get_or, sym, ap, append_assoc, ◌∙◌, arith}
 use Rattle.std.specs.List.{concat}
 use Rattle.std.proofs.lemmas.List.{length-append, at_drop_more}
@@ -13,7 +13,7 @@ use Rattle.cluster_writer.specs.Lent.{AreLengths, lent_of, block_of, sizes_put}
 use Rattle.cluster_writer.specs.Lengths.{block_len, group_len, references_len, whole_len}
 use Rattle.cluster_writer.proofs.LengthLemmas.{length-header, length-lent, sizes-lent, length-frames}
 
--- ---- Elements, one behind the other
+-- ---- elements in sequence
 
 joined-more : {X : Type 0} (f : X → Element) (xs : List X) (i : ℕ) (d : X) → i < length xs
     → joined (map f (drop i xs)) ≡ octets_of (f (get_or xs i d)) ++ joined (map f (drop (i + 1) xs))
@@ -21,7 +21,7 @@ joined-more f xs i d within = at_drop_more (λ ys. joined (map f ys)) xs i d wit
 
 -- ---- a block
 
--- the header, what stands in front of the frames, and the frames
+-- A Block is its header, the bytes before the frames, and the frames.
 pub block-parts : (timestamp : ℕ) (b : BlockRef) → IsLent (lent_of b)
     → block_octets timestamp (block_of b)
     ≡ block_header timestamp (block_of b) ++ (lace_octets b.head.now.lace (sizes_put b) ++ concat (prefixed b.prefix.now (frames_cut b.sizes.now b.body.now)))
@@ -43,7 +43,7 @@ length-put timestamp b is =
 
 -- ---- its lengths
 
--- a group is its header and what stands behind it
+-- A group is its header and its body.
 pub whole-grouped : (b : BlockRef) (l : BlockLengths) → IsLent (lent_of b) → AreLengths b l → b.head.now.group ≡ true → l.whole ≡ whole_len BLOCK_GROUP l.body
 whole-grouped b l is lengths group =
     let block : ℕ = block_len b.head.now.lace (sizes_put b) in
@@ -52,7 +52,7 @@ whole-grouped b l is lengths group =
     let body : l.body ≡ within block = lengths.body ∙ ap (λ g. if g then within l.block else l.block) group ∙ ap within lengths.block in
     lengths.whole ∙ length-lent b.tick b.lane b.tick (lent_of b) is ∙ ap counted group ∙ ap (whole_len BLOCK_GROUP) (sym body)
 
--- and a SimpleBlock its header and the Block
+-- A SimpleBlock is its header and the Block.
 pub whole-alone : (b : BlockRef) (l : BlockLengths) → IsLent (lent_of b) → AreLengths b l → b.head.now.group ≡ false → l.whole ≡ whole_len SIMPLE_BLOCK l.block
 whole-alone b l is lengths alone =
     let block : ℕ = block_len b.head.now.lace (sizes_put b) in
@@ -62,7 +62,7 @@ whole-alone b l is lengths alone =
 
 -- ---- the references of a group
 
--- a reference that is read is the one that is meant, and it is among what is left
+-- The reference that was read is the next one.
 references-more : (rs : List ℤ) (i : ℕ) (z : ℤ) → i < length rs → z ≡ get_or rs i (pos 0)
     → joined (map reference_element (drop i rs)) ≡ octets_of (reference_element z) ++ joined (map reference_element (drop (i + 1) rs))
 references-more rs i z within is =

@@ -1,4 +1,4 @@
--- The octets of a Cluster's buffer, and the blocks that it holds.
+-- The bytes of a Cluster's buffer, and its blocks.
 use Rattle.std.proofs.Common.{◌≡◌, ◌≤◌, ℕ, ◌+◌, ◌^◌, List, [], ◌∷◌, ◌++◌, length, take, drop, refl, sym, ap, append-nil, ◌∙◌, arith, true, Option, Some, None, unwrap_or, inl, inr}
 use Rattle.std.proofs.lemmas.List.{length-append, length-take-le, drop-append-le, drop_all, map-append, length_push}
 use Rattle.std.proofs.lemmas.List.Concat.{flat_map-append}
@@ -44,7 +44,7 @@ joined-push es e = flat_map-append octets_of es (e ∷ []) ∙ ap (λ w. joined 
 elements-push : (timestamp : ℕ) (blocks : List OutputBlock) (b : OutputBlock) → joined (block_elements timestamp (blocks ++ b ∷ [])) ≡ joined (block_elements timestamp blocks) ++ octets_of (block_element timestamp b)
 elements-push timestamp blocks b = ap joined (map-append (block_element timestamp) blocks (b ∷ [])) ∙ joined-push (block_elements timestamp blocks) (block_element timestamp b)
 
--- a buffer with these is one that holds this Cluster
+-- A buffer with these fields contains the Cluster.
 held : (now : Gathered) (c : OutputCluster) → now.timestamp ≡ Some c.timestamp → now.count ≡ length c.blocks → now.elements ≡ joined (block_elements c.timestamp c.blocks) → Holds (Some c) now
 held now c timestamp count elements = λ i. record { limits = now.limits; timestamp = timestamp i; count = count i; elements = elements i; spare = now.spare }
 
@@ -75,9 +75,9 @@ Holds-same c old now same holds = same ∙ ap (λ (g : Gathered). record { limit
     by_cluster None = ap (λ l. gathered_with l now.spare None) limits
     by_cluster (Some c) = ap (λ l. gathered_with l now.spare (Some c)) limits
 
--- ---- whether it joins
+-- ---- joining
 
--- the body of a Cluster with a block has the block's octets more
+-- One more block adds the length of its element to the body.
 length-with_block : (c : OutputCluster) (b : OutputBlock) → length (cluster_body (with_block c b)) ≡ size_with c.timestamp (joined (block_elements c.timestamp c.blocks)) + octets_taken b
 length-with_block c b =
     omega (
@@ -100,14 +100,14 @@ joins-held g c b tick len holds is_tick is_len =
         ap (λ n. may_have g.limits c.timestamp n b.tick (size_with c.timestamp (joined (block_elements c.timestamp c.blocks)) + octets_taken b)) count
         ∙ ap (λ n. may_have g.limits c.timestamp (length (c.blocks ++ b ∷ [])) b.tick n) (sym (length-with_block c b))
 
--- ---- how long the buffer is
+-- ---- length of the buffer
 
 pub joins-most : (limits : ClusterLimits) (timestamp : Option ℕ) (elements : List ℕ) (count tick len : ℕ) → IsEmptyAt timestamp count elements
     → joins_at limits timestamp count elements tick len ≡ true → len ≤ 2 ^ 27 → length elements + len ≤ 2 ^ 27
 joins-most limits None elements count tick len empty fits few = omega (arith, ap length empty.1, few)
 joins-most limits (Some t) elements count tick len empty fits few = grind (arith, nat_tests, fits)
 
--- with a block that joins, a Cluster is small
+-- With a block that can join, the Cluster stays small.
 pub joins-small : (limits : ClusterLimits) (timestamp : Option ℕ) (elements now : List ℕ) (count tick len first : ℕ) → IsEmptyAt timestamp count elements
     → joins_at limits timestamp count elements tick len ≡ true → len ≤ 2 ^ 27 → length now ≡ length elements + len → first ≡ unwrap_or timestamp tick
     → IsSmall (Some first) (count + 1) now
@@ -116,7 +116,7 @@ joins-small limits (Some t) elements now count tick len first empty fits few add
     let within : size_with t elements + len ≤ MAX_CLUSTER_LEN = grind (arith, nat_tests, fits) in
     inr (omega (arith, within, added, ap (λ n. length (octets_of (timestamp_element n))) is))
 
--- and so are its octets
+-- The bytes of a small Cluster are few.
 pub small-few : (timestamp : Option ℕ) (elements : List ℕ) (count len : ℕ) → IsTimestampLen timestamp len → IsSmall timestamp count elements → AreFew count (cluster_with timestamp elements)
 small-few None elements count len counted small = inr (omega arith)
 small-few (Some t) elements count len counted small = few small

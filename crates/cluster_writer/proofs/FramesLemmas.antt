@@ -1,4 +1,4 @@
--- Frames, one after the other.
+-- Frames in sequence.
 use Rattle.std.proofs.Common.{◌≡◌, ◌≤◌, ◌<◌, ℕ, ◌+◌, List, [], ◌∷◌, ◌++◌, length, map, take, drop, sum, slice_index, refl, sym, ap, ap₂, ◌*◌, ◌∙◌, nat_eq, true, arith}
 use Rattle.std.specs.List.{concat}
 use Rattle.std.proofs.lemmas.List.{length-append, length-take-le, length-drop, length-map, nil_from_length, take-append-drop, at_drop_more}
@@ -15,11 +15,11 @@ use Rattle.output_model.specs.OutputBlock.{CanBeLent, prefixed}
 use Rattle.cluster_writer.specs.Lengths.{prefixed_sizes}
 pub use Rattle.lemmas.proofs.PlainLemmas.{length-concat}
 
--- frames of these sizes, each with a prefix in front
+-- frames of the sizes `sizes`, each after the prefix
 abbrev pub prefixed_frames : List ℕ → List ℕ → List ℕ → List (List ℕ)
 prefixed_frames prefix sizes body = prefixed prefix (frames_cut sizes body)
 
--- the frame of the size at a place, and those behind it
+-- The next frame, then the rest.
 pub frames-more : (prefix : List ℕ) (sizes rest : List ℕ) (i size : ℕ) → i < length sizes → size ≡ slice_index sizes i
     → concat (prefixed_frames prefix (drop i sizes) rest) ≡ (prefix ++ take size rest) ++ concat (prefixed_frames prefix (drop (i + 1) sizes) (drop size rest))
 frames-more prefix sizes rest i size within is =
@@ -32,12 +32,12 @@ sum-more sizes i size within is = sum_by-drop_more (λ x. x) sizes i 0 within �
 pub within-sum : (sizes : List ℕ) (i size : ℕ) → i < length sizes → size ≡ slice_index sizes i → size ≤ sum sizes
 within-sum sizes i size within is = omega (arith, get_or-le-sum_by (λ x. x) sizes i 0 within, is)
 
--- what is written, and what is left
+-- The bytes written and the frames that are left make the whole.
 pub record Goes (prefix body sizes rest written before : List ℕ) (i : ℕ) : Type 0 where
   pub same : written ++ concat (prefixed_frames prefix (drop i sizes) rest) ≡ before ++ concat (prefixed_frames prefix sizes body)
   pub whole : length rest ≡ sum (drop i sizes)
 
--- a frame and its prefix are among what is left
+-- The next frame and its prefix fit in the rest.
 pub Goes-room : (prefix body sizes rest written before : List ℕ) (i size : ℕ) → Goes prefix body sizes rest written before i
     → i < length sizes → size ≡ slice_index sizes i → length written + (length prefix + size) ≤ length before + length (concat (prefixed_frames prefix sizes body))
 Goes-room prefix body sizes rest written before i size goes within is =
@@ -54,7 +54,7 @@ Goes-room prefix body sizes rest written before i size goes within is =
       length-take-le size rest fits,
     )
 
--- without a prefix frames are the octets that they are cut from
+-- Without a prefix, the frames are the body.
 frames-whole : (sizes body : List ℕ) → length body ≡ sum sizes → concat (prefixed_frames [] sizes body) ≡ body
 frames-whole [] body whole = sym (nil_from_length body whole)
 frames-whole (s ∷ ss) body whole =
@@ -67,7 +67,7 @@ frames-alone (x ∷ prefix) sizes body none whole = absurd (grind (arith, nat_te
 
 -- ---- the sizes of frames with a prefix
 
--- frames that are cut from octets that are enough have the sizes that they are cut to
+-- Frames that are cut from enough bytes have the sizes `sizes`.
 pub sizes-prefixed : (prefix sizes body : List ℕ) → sum sizes ≤ length body → map length (prefixed_frames prefix sizes body) ≡ prefixed_sizes (length prefix) sizes
 sizes-prefixed prefix [] body enough = refl
 sizes-prefixed prefix (s ∷ ss) body enough =
@@ -81,7 +81,7 @@ pub sum-prefixed : (p : ℕ) (sizes : List ℕ) → sum (prefixed_sizes p sizes)
 sum-prefixed p [] = omega arith
 sum-prefixed p (s ∷ ss) = omega (arith, sum-prefixed p ss, sum_by-cons (λ x. x) s ss, sum_by-cons (λ x. x) (p + s) (prefixed_sizes p ss))
 
--- a size with its prefix is at most all of them
+-- A size with its prefix is at most the sum.
 pub prefixed-within : (p : ℕ) (sizes : List ℕ) (i size : ℕ) → i < length sizes → size ≡ slice_index sizes i → p + size ≤ sum (prefixed_sizes p sizes)
 prefixed-within p sizes i size within is =
     let some : 1 ≤ length sizes = omega arith in
@@ -98,7 +98,7 @@ fits-prefixed lace.Xiph p sizes fits = fits
 fits-prefixed lace.Fixed p sizes fits = equal-prefixed p sizes fits
 fits-prefixed lace.Ebml p sizes fits = fits
 
--- without a prefix frames keep their sizes
+-- Without a prefix, the sizes are unchanged.
 prefixed-none : (sizes : List ℕ) → prefixed_sizes 0 sizes ≡ sizes
 prefixed-none [] = refl
 prefixed-none (size ∷ sizes) = ap₂ (λ x (xs : List ℕ). x ∷ xs) (omega arith) (prefixed-none sizes)
@@ -106,7 +106,7 @@ prefixed-none (size ∷ sizes) = ap₂ (λ x (xs : List ℕ). x ∷ xs) (omega a
 pub prefixed-empty : (p : ℕ) (sizes : List ℕ) → p ≡ 0 → prefixed_sizes p sizes ≡ sizes
 prefixed-empty p sizes none = ap (λ n. prefixed_sizes n sizes) none ∙ prefixed-none sizes
 
--- what a lane lends can be laced with its prefix
+-- Frames within a block's limits can be laced with their prefix.
 pub can-prefixed : (kind : Lace) (p : ℕ) (sizes : List ℕ) (references kept : ℕ) → CanBeLent kind p sizes references kept → CanLace kind (prefixed_sizes p sizes)
 can-prefixed kind p sizes references kept lent =
     let count = length-map sizes (λ size. p + size) in

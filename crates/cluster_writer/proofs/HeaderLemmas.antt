@@ -1,4 +1,4 @@
--- Headers of two octets.
+-- Headers of two bytes.
 use Rattle.std.proofs.Common.{◌≡◌, ◌<◌, ℕ, ◌+◌, ◌^◌, ◌%◌, nat_lt, Bool, ◌&&◌, true, cond, List, [], ◌∷◌, ◌++◌, find, unwrap_or, Some, ap, ap₂, ◌∙◌, arith}
 use Rattle.std.proofs.lemmas.Bool.Decides.{nat_tests}
 use Rattle.byteorder.specs.Endian.{big_bytes}
@@ -6,7 +6,7 @@ use Rattle.ebml_numbers.specs.Number.{all_ones, id_octets, least_size_width, lea
 use Rattle.tree_format.specs.NormalForm.{header_octets}
 use Rattle.output_model.specs.Element.{element, octets_of, uint_element}
 
--- one octet is the least width where it is enough
+-- One byte is the least width if it is enough.
 width-one : (p : ℕ → Bool) → p 1 ≡ true → least_width p ≡ 1
 width-one p enough = ap (λ t. unwrap_or (cond t (Some 1) (find p (2 ∷ 3 ∷ 4 ∷ 5 ∷ 6 ∷ 7 ∷ 8 ∷ []))) 8) enough
 
@@ -27,7 +27,7 @@ one-octet v small =
     let same : v % 256 ≡ v = omega arith in
     ap (λ b. b ∷ []) same
 
--- an Element of fewer than 127 octets, whose ID has one octet
+-- The header of an element has two bytes.
 abbrev pub is_short : ℕ → ℕ → Bool
 is_short id len = nat_lt id 256 && nat_lt len 127
 
@@ -40,7 +40,7 @@ short-header id len short =
     ap (λ w. size_octets len w) (size_width-one len few) ∙ one-octet (128 + len) (omega arith) in
     ap₂ (λ (a : List ℕ) (b : List ℕ). a ++ b) first size
 
--- an unsigned integer of one octet, in an Element whose ID has one octet
+-- The element of an unsigned integer has three bytes.
 abbrev pub is_small : ℕ → ℕ → Bool
 is_small id value = nat_lt id 256 && nat_lt value 256
 

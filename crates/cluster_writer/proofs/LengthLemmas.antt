@@ -1,4 +1,4 @@
--- How long a block's Element is.
+-- Lengths of block elements.
 use Rattle.std.proofs.Common.{◌≡◌, ℕ, ◌+◌, ◌*◌, ◌^◌, ◌≤◌, nat_lt, Bool, true, false, cond, if◌then◌else◌, ℤ, pos, negsuc, List, [], ◌∷◌, ◌++◌, length, map, sum, find, unwrap_or, All, Some, refl, sym, ap, ◌∙◌, arith}
 use Rattle.std.specs.List.{concat}
 use Rattle.std.proofs.lemmas.List.{length-append}
@@ -16,14 +16,14 @@ use Rattle.output_model.specs.Block.{lace_octets, frame_octets, relative_to, fla
 use Rattle.cluster_writer.specs.Lengths.{prefixed_sizes, duration_len, references_len, whole_len, taken_len}
 use Rattle.cluster_writer.proofs.FramesLemmas.{sizes-prefixed, length-concat}
 
--- ---- of an Element
+-- ---- an element
 
 pub length-element : (id : ℕ) (body : List ℕ) (n : ℕ) → length body ≡ n → length (octets_of (element id body)) ≡ whole_len id n
 length-element id body n is = length-append (header_octets id (length body)) body ∙ ap (λ k. whole_len id k) is
 
--- ---- of a Block
+-- ---- a Block
 
--- sixteen bits take two octets
+-- Sixteen bits take two bytes.
 length-ticks : (z : ℤ) → length (int_octets_in 2 z) ≡ 2
 length-ticks (pos n) = refl
 length-ticks (negsuc n) = refl
@@ -39,7 +39,7 @@ length-block timestamp b =
 
 -- ---- the same in every Cluster
 
--- behind the header of a group whose Block has these octets
+-- The body of a group is as long as its parts.
 pub length-group : (b : OutputBlock) (octets : List ℕ) (n : ℕ) → length octets ≡ n
     → length (joined (element BLOCK octets ∷ (duration_elements b.duration ++ map reference_element b.references)) ++ b.kept)
     ≡ whole_len BLOCK n + (duration_len b.duration + references_len b.references + length b.kept)
@@ -56,7 +56,7 @@ length-group b octets n is =
       length-append (octets_of (element BLOCK octets)) (joined others),
     )
 
--- of a block whose lace and frames make so many octets
+-- the length of a block's element, with `frames` bytes of lace and frames
 abbrev pub element_len : OutputBlock → ℕ → ℕ
 element_len b frames =
     if b.group then whole_len BLOCK_GROUP (whole_len BLOCK (4 + frames) + (duration_len b.duration + references_len b.references + length b.kept))
@@ -73,12 +73,12 @@ length-block_element timestamp b frames is = split b.group
     split true = length-element BLOCK_GROUP (group_octets timestamp b) _ (length-group b (block_octets timestamp b) (4 + frames) block)
     split false = length-element SIMPLE_BLOCK (block_octets timestamp b) (4 + frames) block
 
--- How many octets a block takes doesn't hang on its Cluster's Timestamp.
+-- The length doesn't depend on the Cluster's Timestamp.
 pub length-same : (t u : ℕ) (b : OutputBlock) → length (octets_of (block_element t b)) ≡ length (octets_of (block_element u b))
 length-same t u b =
     length-block_element t b (length (frame_octets b.lace b.frames)) refl ∙ sym (length-block_element u b (length (frame_octets b.lace b.frames)) refl)
 
--- ---- of a block that a lane hands out
+-- ---- a block that an output track hands out
 
 pub sizes-lent : (l : Lent) → IsLent l → map length (prefixed l.prefix (frames_cut l.sizes l.body)) ≡ prefixed_sizes (length l.prefix) l.sizes
 sizes-lent l is = sizes-prefixed l.prefix l.sizes l.body (omega (arith, is.whole))
@@ -93,7 +93,7 @@ length-laced l is =
     let front : List ℕ = lace_octets l.head.lace (map length frames) in
     omega (arith, length-append front (concat frames), length-frames l is, ap (λ ss. length (lace_octets l.head.lace ss)) (sizes-lent l is))
 
--- its Element has as many octets as are counted, in every lane and at every tick
+-- The length is the computed one, in each output track and at each tick.
 pub length-lent : (timestamp lane tick : ℕ) (l : Lent) → IsLent l
     → length (octets_of (block_element timestamp (record (lent_block l) { lane = lane; tick = tick })))
     ≡ taken_len l.head (length l.prefix) l.sizes l.references (length l.kept)
@@ -113,7 +113,7 @@ length-lent timestamp lane tick l is =
         ≡ (if g then whole_len BLOCK_GROUP (whole_len BLOCK (4 + front + frames) + (duration_len l.head.duration + references_len l.references + length l.kept)) else whole_len SIMPLE_BLOCK (4 + front + frames))
     counted g = ap (λ n. if g then whole_len BLOCK_GROUP (whole_len BLOCK n + (duration_len l.head.duration + references_len l.references + length l.kept)) else whole_len SIMPLE_BLOCK n) four
 
--- ---- how long it can be
+-- ---- upper bounds
 
 find-most : (p : ℕ → Bool) (ws : List ℕ) → All (λ w. w ≤ 8) ws → unwrap_or (find p ws) 8 ≤ 8
 find-most p [] all = omega arith

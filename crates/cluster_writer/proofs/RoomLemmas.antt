@@ -1,4 +1,4 @@
--- Octets that are added one after the other.
+-- Bytes that are appended in sequence.
 use Rattle.std.proofs.Common.{ℕ, List, ◌++◌, append_assoc, ap, ◌∙◌, arith}
 use Rattle.std.proofs.lemmas.List.{length-append}
 use Rattle.std.specs.declared.alloc.Global.{Global}

@@ -1,4 +1,4 @@
--- What a Cluster's buffer holds.
+-- Contents of a Cluster's buffer.
 use Rattle.std.specs.Prelude.{◌≡◌, ◌≤◌, ◌<◌, ◌⊎◌, ⊤, ℕ, ◌+◌, ◌^◌, Bool, true, List, [], ◌++◌, length, Option, Some, None, is_none, unwrap_or, ℤ}
 use Rattle.mkv_schema.specs.declared.ids.TheConstants.{CLUSTER}
 use Rattle.output_model.specs.Element.{element, octets_of, joined}
@@ -11,8 +11,8 @@ use Rattle.cluster_writer.specs.Lent.{block_put, lent}
 use Rattle.output_model.specs.declared.heads.OutHead.{OutHead}
 use Rattle.cluster_writer.specs.Lengths.{octets_taken}
 
--- Where Clusters end; the Timestamp, where there is a block; how many blocks there are, and the octets of
--- their Elements; and how many octets more take no memory.
+-- the limits of a Cluster, the Timestamp if there is a block, the number of blocks and the bytes of their elements, and the free capacity in
+-- bytes
 pub record Gathered : Type 0 where
   pub limits : ClusterLimits
   pub timestamp : Option ℕ
@@ -20,9 +20,9 @@ pub record Gathered : Type 0 where
   pub elements : List ℕ
   pub spare : ℕ
 
--- ---- the Cluster that is held
+-- ---- the Cluster in the buffer
 
--- none before the first block
+-- the contents before the first block
 abbrev pub empty_with : ClusterLimits → ℕ → Gathered
 empty_with limits spare = record { limits = limits; timestamp = None; count = 0; elements = []; spare = spare }
 
@@ -31,38 +31,38 @@ gathered_with limits spare None = empty_with limits spare
 gathered_with limits spare (Some c) =
     record { limits = limits; timestamp = Some c.timestamp; count = length c.blocks; elements = joined (block_elements c.timestamp c.blocks); spare = spare }
 
--- The buffer holds this Cluster, or none.
+-- The buffer `g` contains the Cluster `c`, or none.
 abbrev pub Holds : Option OutputCluster → Gathered → Type 0
 Holds c g = g ≡ gathered_with g.limits g.spare c
 
--- with a further block, which begins a Cluster where there is none
+-- the Cluster with the block `b` added, or a new Cluster with it if there is none
 abbrev pub with_next : Option OutputCluster → OutputBlock → OutputCluster
 with_next None b = begun b
 with_next (Some c) b = with_block c b
 
--- a first block always joins
+-- The block `b` can join the Cluster; a first block always can.
 abbrev pub joins_next : ClusterLimits → Option OutputCluster → OutputBlock → Bool
 joins_next limits None b = true
 joins_next limits (Some c) b = joins limits c b
 
--- ---- the same by what the buffer knows
+-- ---- the Cluster by the buffer's fields
 
--- the octets of a Cluster; without a block there is none
+-- the bytes of a Cluster with these elements; none without a Timestamp
 abbrev pub cluster_with : Option ℕ → List ℕ → List ℕ
 cluster_with None elements = []
 cluster_with (Some timestamp) elements = octets_of (element CLUSTER (octets_of (timestamp_element timestamp) ++ elements))
 
--- there is no block
+-- The buffer `g` has no block.
 abbrev pub is_empty : Gathered → Bool
 is_empty g = is_none g.timestamp
 
--- how many octets the body of a Cluster of this Timestamp has
+-- the length of the body of a Cluster with this Timestamp and these elements
 abbrev pub size_with : ℕ → List ℕ → ℕ
 size_with timestamp elements = length (octets_of (timestamp_element timestamp)) + length elements
 
--- ---- how many octets are held
+-- ---- limits of the length
 
--- A Cluster of so many blocks has one, whose Element has 128 MiB at most, or a body of 1 MiB at most.
+-- A Cluster with `count` blocks is small: it has one block of at most 128 MiB, or a body of at most 1 MiB.
 abbrev pub IsSmall : Option ℕ → ℕ → List ℕ → Type 0
 IsSmall None count elements = ⊤
 IsSmall (Some timestamp) count elements = ((count ≡ 1) × (length elements ≤ 2 ^ 27)) ⊎ (size_with timestamp elements ≤ MAX_CLUSTER_LEN)
@@ -70,13 +70,13 @@ IsSmall (Some timestamp) count elements = ((count ≡ 1) × (length elements ≤
 abbrev pub HoldsSmall : Gathered → Type 0
 HoldsSmall g = IsSmall g.timestamp g.count g.elements
 
--- the same of the octets of a Cluster of so many blocks, with what stands in front of them
+-- The bytes of a Cluster with `count` blocks, header included, are few: one block of at most 128 MiB, or about 1 MiB.
 abbrev pub AreFew : ℕ → List ℕ → Type 0
 AreFew count octets = ((count ≡ 1) × (length octets ≤ 2 ^ 27 + 40)) ⊎ (length octets ≤ MAX_CLUSTER_LEN + 16)
 
--- ---- whether a block joins
+-- ---- test for joining a Cluster
 
--- a block at this tick, whose Element has so many octets, joins
+-- A block at `tick`, with an element of `len` bytes, can join the Cluster.
 abbrev pub joins_at : ClusterLimits → Option ℕ → ℕ → List ℕ → ℕ → ℕ → Bool
 joins_at limits None count elements tick len = true
 joins_at limits (Some timestamp) count elements tick len = may_have limits timestamp (count + 1) tick (size_with timestamp elements + len)
@@ -84,23 +84,23 @@ joins_at limits (Some timestamp) count elements tick len = may_have limits times
 abbrev pub has_place : Gathered → ℕ → ℕ → Bool
 has_place g tick len = joins_at g.limits g.timestamp g.count g.elements tick len
 
--- the Timestamp that a block at this tick counts from
+-- the Cluster's Timestamp after a block at `tick` was added
 abbrev pub timestamp_for : Gathered → ℕ → ℕ
 timestamp_for g tick = unwrap_or g.timestamp tick
 
--- the octets that stand before the next block in the Cluster's body
+-- the offset of the next block in the Cluster's body
 abbrev pub place_in : Gathered → ℕ → ℕ
 place_in g tick = size_with (timestamp_for g tick) g.elements
 
--- A block can be put into the buffer: it is within what a lane hands out; one octet tells the number of its lane; it
--- joins the Cluster that is held; and there is room for its Element.
+-- A block can be put into the buffer `g`: it is within a block's limits, its output track number fits in one byte, it can join, and its element
+-- fits in the capacity.
 pub record CanPut (g : Gathered) (lane tick : ℕ) (l : Lent) : Type 0 where
   pub lent : IsLent l
   pub number : lane < 128
   pub fits : has_place g tick (octets_taken (block_put lane tick l)) ≡ true
   pub room : octets_taken (block_put lane tick l) ≤ g.spare
 
--- What is held, and a block behind it, which takes the room of its Element.
+-- `new` is `old` with the element of the block `b` added, and at most its length less capacity.
 pub record AddsBlock (b : OutputBlock) (old new : Gathered) : Type 0 where
   pub limits : new.limits ≡ old.limits
   pub timestamp : new.timestamp ≡ Some (timestamp_for old b.tick)
@@ -108,27 +108,27 @@ pub record AddsBlock (b : OutputBlock) (old new : Gathered) : Type 0 where
   pub elements : new.elements ≡ old.elements ++ octets_of (block_element (timestamp_for old b.tick) b)
   pub spare : old.spare ≤ new.spare + octets_taken b
 
--- The same of the block that is put of these parts of what a lane hands out.
+-- `new` is `old` with the element of the block with these parts added.
 abbrev pub AddsLent : ℕ → ℕ → OutHead → List ℕ → List ℕ → List ℕ → List ℤ → List ℕ → Gathered → Gathered → Type 0
 AddsLent lane tick head prefix body sizes references kept old new =
     AddsBlock (block_put lane tick (lent head prefix body sizes references kept)) old new
 
--- ---- what a caller follows: the Cluster that is held
+-- ---- the Cluster in the buffer, for callers
 
--- It is told whether a block at this tick, whose Element has so many octets, joins the Cluster.
+-- `answer` is the test whether a block at `tick`, with an element of `len` bytes, can join the Cluster in `g`.
 abbrev pub TellsJoining : Gathered → ℕ → ℕ → Bool → Type 0
 TellsJoining g tick len answer =
     (c : Option OutputCluster) (b : OutputBlock) → Holds c g → b.tick ≡ tick → octets_taken b ≡ len → answer ≡ joins_next g.limits c b
 
--- the Cluster stays
+-- `new` contains the same Cluster as `old`.
 abbrev pub HoldsSame : Gathered → Gathered → Type 0
 HoldsSame old new = (c : Option OutputCluster) → Holds c old → Holds c new
 
--- the Cluster has one block more
+-- `new` contains the Cluster of `old` with the block `b` added.
 abbrev pub HoldsNext : OutputBlock → Gathered → Gathered → Type 0
 HoldsNext b old new = (c : Option OutputCluster) → Holds c old → Holds (Some (with_next c b)) new
 
--- The same of the block that is put of these parts of what a lane hands out.
+-- `new` contains the Cluster of `old` with the block with these parts added.
 abbrev pub HoldsLent : ℕ → ℕ → OutHead → List ℕ → List ℕ → List ℕ → List ℤ → List ℕ → Gathered → Gathered → Type 0
 HoldsLent lane tick head prefix body sizes references kept old new =
     HoldsNext (block_put lane tick (lent head prefix body sizes references kept)) old new

@@ -1,4 +1,4 @@
--- How long a block is as it is written: what the code counts.
+-- Lengths of written blocks, as the code computes them.
 use Rattle.std.specs.Prelude.{ℕ, ℤ, ◌+◌, if◌then◌else◌, List, ◌++◌, length, map, sum, Option}
 use Rattle.lacing.specs.declared.kind.Lace.{Lace}
 use Rattle.mkv_schema.specs.declared.ids.TheConstants.{SIMPLE_BLOCK, BLOCK_GROUP, BLOCK}
@@ -8,17 +8,17 @@ use Rattle.output_model.specs.declared.heads.OutHead.{OutHead}
 use Rattle.output_model.specs.OutputBlock.{OutputBlock}
 use Rattle.output_model.specs.Block.{lace_octets, duration_elements, reference_element, block_element}
 
--- how many octets a block's Element has, the same in every Cluster
+-- the length of the element of the block `b`, the same in each Cluster
 abbrev pub octets_taken : OutputBlock → ℕ
 octets_taken b = length (octets_of (block_element b.tick b))
 
--- ---- part by part
+-- ---- lengths of the parts
 
--- the sizes of frames with a prefix in front of each
+-- the sizes of frames with a prefix of `prefix` bytes before each
 abbrev pub prefixed_sizes : ℕ → List ℕ → List ℕ
 prefixed_sizes prefix sizes = map (λ size. prefix + size) sizes
 
--- a Block with frames of these sizes
+-- the length of a Block with frames of these sizes
 abbrev pub block_len : Lace → List ℕ → ℕ
 block_len kind sizes = 4 + length (lace_octets kind sizes) + sum sizes
 
@@ -28,31 +28,31 @@ duration_len duration = length (joined (duration_elements duration))
 abbrev pub references_len : List ℤ → ℕ
 references_len references = length (joined (map reference_element references))
 
--- an Element with so many octets behind its header
+-- the length of an element with `len` bytes after its header
 abbrev pub whole_len : ℕ → ℕ → ℕ
 whole_len id len = length (header_octets id len) + len
 
--- behind the header of a group whose Block has so many octets, and behind its Block alone
+-- the length of a group's children after its Block
 abbrev pub behind_len : Option ℕ → List ℤ → ℕ → ℕ
 behind_len duration references kept = duration_len duration + references_len references + kept
 
 abbrev pub group_len : OutHead → ℕ → List ℤ → ℕ → ℕ
 group_len head block references kept = whole_len BLOCK block + behind_len head.duration references kept
 
--- behind the header of the Element of a block whose Block has so many octets
+-- the length of the body of a block's element, whose Block has `block` bytes
 abbrev pub body_len : OutHead → ℕ → List ℤ → ℕ → ℕ
 body_len head block references kept = if head.group then group_len head block references kept else block
 
--- what stands behind the Block of a group
+-- the bytes of a group's children after its Block
 abbrev pub behind_octets : OutputBlock → List ℕ
 behind_octets b = joined (duration_elements b.duration ++ map reference_element b.references) ++ b.kept
 
--- the Element of a block whose frames have these sizes with their prefix
+-- the length of a block's element, for sizes that include the prefix
 abbrev pub sized_len : OutHead → List ℕ → List ℤ → ℕ → ℕ
 sized_len head sizes references kept =
     let block = block_len head.lace sizes in
     if head.group then whole_len BLOCK_GROUP (group_len head block references kept) else whole_len SIMPLE_BLOCK block
 
--- the Element of a block
+-- the length of a block's element, for sizes without the prefix
 abbrev pub taken_len : OutHead → ℕ → List ℕ → List ℤ → ℕ → ℕ
 taken_len head prefix sizes references kept = sized_len head (prefixed_sizes prefix sizes) references kept

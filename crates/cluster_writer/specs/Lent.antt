@@ -1,4 +1,4 @@
--- A block that is put into a Cluster, and what it is in the output.
+-- A block that is put into a Cluster, and its meaning in the output.
 use Rattle.std.specs.Prelude.{◌≡◌, ◌<◌, ◌≤◌, ◌^◌, ℕ, ℤ, true, List, length}
 use Rattle.output_model.specs.declared.heads.OutHead.{OutHead}
 use Rattle.output_model.specs.OutputBlock.{OutputBlock, Lent, IsLent, lent_block, in_output}
@@ -7,7 +7,7 @@ use Rattle.cluster_writer.specs.Lengths.{prefixed_sizes, block_len, body_len, oc
 use Rattle.cluster_writer.specs.declared.lent.BlockRef.{BlockRef}
 use Rattle.cluster_writer.specs.declared.lent.BlockLengths.{BlockLengths}
 
--- what a lane hands out, of these parts
+-- a block that an output track hands out, from its parts
 abbrev pub lent : OutHead → List ℕ → List ℕ → List ℕ → List ℤ → List ℕ → Lent
 lent head prefix body sizes references kept =
     record { head = head; prefix = prefix; body = body; sizes = sizes; references = references; kept = kept }
@@ -15,20 +15,19 @@ lent head prefix body sizes references kept =
 abbrev pub lent_of : BlockRef → Lent
 lent_of b = lent b.head.now b.prefix.now b.body.now b.sizes.now b.references.now b.kept.now
 
--- the block as it stands in the output: in a lane of this number, at this tick of its part
+-- the block `l` in the output, in the track `lane` at the tick `tick` of its part
 abbrev pub block_put : ℕ → ℕ → Lent → OutputBlock
 block_put lane tick l = in_output lane tick (lent_block l)
 
 abbrev pub block_of : BlockRef → OutputBlock
 block_of b = block_put b.lane b.tick (lent_of b)
 
--- It is within what a lane hands out, and one octet tells the number of its lane.
+-- The block `b` is within a block's limits, and its output track number fits in one byte.
 pub record CanBePut (b : BlockRef) : Type 0 where
   pub lent : IsLent (lent_of b)
   pub lane : b.lane < 128
 
--- What a lane hands out says this of itself, has a prefix of so many octets, these sizes and references, and so
--- many octets of what else is kept.
+-- The block `l` has the head `own`, a prefix of `front` bytes, the sizes `parts`, the references `others`, and `extra` bytes of kept children.
 pub record Measures (own : OutHead) (front : ℕ) (parts : List ℕ) (others : List ℤ) (extra : ℕ) (l : Lent) : Type 0 where
   pub head : l.head ≡ own
   pub prefix : length l.prefix ≡ front
@@ -36,30 +35,29 @@ pub record Measures (own : OutHead) (front : ℕ) (parts : List ℕ) (others : L
   pub references : l.references ≡ others
   pub kept : length l.kept ≡ extra
 
--- So many octets the Element takes of each block that measures this.
+-- `len` is the length of the element of each block with these measures.
 abbrev pub IsLenOf : OutHead → ℕ → List ℕ → List ℤ → ℕ → ℕ → Type 0
 IsLenOf head prefix sizes references kept len =
     (l : Lent) → IsLent l → Measures head prefix sizes references kept l → len ≡ octets_taken (lent_block l)
 
--- the sizes of its frames with their prefix
+-- the sizes of the frames of `b`, prefix included
 abbrev pub sizes_put : BlockRef → List ℕ
 sizes_put b = prefixed_sizes (length b.prefix.now) b.sizes.now
 
--- how many octets stand behind its Block in its group
+-- the length of the children after the Block in the group of `b`
 abbrev pub behind_put : BlockRef → ℕ
 behind_put b = behind_len b.head.now.duration b.references.now (length b.kept.now)
 
--- These are the lengths of a block as it is written: of its Block, of what stands behind the header of its Element, and of
--- the Element, which has 128 MiB at most.
+-- `lengths` are the lengths of `b` as it is written: its Block, its element's body, and its element, of at most 128 MiB.
 pub record AreLengths (b : BlockRef) (lengths : BlockLengths) : Type 0 where
   pub block : lengths.block ≡ block_len b.head.now.lace (sizes_put b)
   pub body : lengths.body ≡ body_len b.head.now lengths.block b.references.now (length b.kept.now)
   pub whole : lengths.whole ≡ octets_taken (block_of b)
   pub most : lengths.whole ≤ 2 ^ 27
 
--- ---- while it is written
+-- ---- while the block is written
 
--- It can be put, and a Cluster of this Timestamp can tell its time.
+-- The block `b` can be written in a Cluster with this Timestamp: it can be put, and its time is near enough.
 pub record CanStand (timestamp : ℕ) (b : BlockRef) : Type 0 where
   pub put : CanBePut b
   pub near : is_near timestamp b.tick ≡ true

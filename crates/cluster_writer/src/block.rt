@@ -1,4 +1,4 @@
-//! The Element of one block: RFC 9559, sections 10.1 (Block Structure) and 10.2 (SimpleBlock Structure).
+//! Element of one block: RFC 9559, sections 10.1 (Block Structure) and 10.2 (SimpleBlock Structure).
 
 ghost use Rattle.std.specs.Prelude.{◌≡◌, ◌+◌, ◌-ℤ◌, ◌^◌, ◌≤◌, ◌<◌, ◌++◌, pos, true, length, sum, IsTrue};
 ghost use Rattle.byteorder.specs.Endian.{big_bytes};
@@ -20,7 +20,7 @@ use lacing::Lace;
 use mkv_schema::ids::{BLOCK, BLOCK_GROUP, SIMPLE_BLOCK};
 use output_model::OutHead;
 
-/// How many octets a Block has with frames of these sizes, and a prefix of so many octets in front of each.
+/// Returns the length in bytes of a Block with frames of the sizes `sizes`, each after a prefix of `prefix` bytes.
 pub(crate) fn block_len(kind: Lace, prefix: u32, sizes: &[u32]) -> u64
     requires { CanLace kind (prefixed_sizes prefix sizes.now) }
     ensures exact { result ≡ block_len kind (prefixed_sizes prefix sizes.now) }
@@ -29,7 +29,7 @@ pub(crate) fn block_len(kind: Lace, prefix: u32, sizes: &[u32]) -> u64
     4 + lace_octets_len(kind, prefix, sizes) + prefixed_total(prefix, sizes)
 }
 
-// How many octets frames of these sizes have together, with a prefix of so many in front of each.
+// Returns the total length of frames of the sizes `sizes`, each after a prefix of `prefix` bytes.
 fn prefixed_total(prefix: u32, sizes: &[u32]) -> u64
     requires { sum (prefixed_sizes prefix sizes.now) ≤ 2 ^ 26 }
     ensures { result ≡ sum (prefixed_sizes prefix sizes.now) }
@@ -68,7 +68,7 @@ fn lace_bits(kind: Lace) -> u8
     }
 }
 
-// Of a Block that stands in a group only two flags count.
+// In a group only two flags of a Block count.
 fn flags_of(block: &BlockRef<'_>) -> u8
     ensures { result ≡ flags_of (block_of block.now) }
 {
@@ -81,7 +81,7 @@ fn flags_of(block: &BlockRef<'_>) -> u8
     }
 }
 
-// The ticks from the Cluster's Timestamp, in the last sixteen bits.
+// Returns the signed ticks from the Cluster's Timestamp to `tick`, as 16 bits.
 fn relative(timestamp: u64, tick: u64) -> u16
     requires { is_near timestamp tick ≡ true }
     ensures { big_bytes 2 result ≡ int_octets_in 2 (pos tick -ℤ pos timestamp) }
@@ -95,7 +95,7 @@ fn relative(timestamp: u64, tick: u64) -> u16
 
 // ---- the Element
 
-// Adds the header of an Element of a Block of so many octets, and the header of the Block.
+// Appends the header of the element `id` of a Block of `len` bytes, and the header of the Block.
 fn add_headers(out: &mut Vec<u8>, id: u32, timestamp: u64, block: &BlockRef<'_>, len: u64)
     requires id { IsTrue (is_id id) }
     requires near { is_near timestamp block.now.tick ≡ true }
@@ -115,7 +115,7 @@ fn add_headers(out: &mut Vec<u8>, id: u32, timestamp: u64, block: &BlockRef<'_>,
     }
 }
 
-// Adds a Block of so many octets as an Element of its own: a SimpleBlock, or the Block of a group.
+// Appends a Block of `len` bytes as the element `id`: a SimpleBlock, or the Block of a group.
 fn add_block_element(out: &mut Vec<u8>, id: u32, timestamp: u64, block: &BlockRef<'_>, len: u64)
     requires id { IsTrue (is_id id) }
     requires block { CanStand timestamp block.now }
@@ -129,7 +129,7 @@ fn add_block_element(out: &mut Vec<u8>, id: u32, timestamp: u64, block: &BlockRe
     add_frames(out, block.prefix, block.body, block.sizes);
 }
 
-// Adds a group whose Block, and what stands behind its header, have so many octets.
+// Appends a BlockGroup of `body` bytes after its header, with a Block of `len` bytes.
 #[tactic(auto, unfolding(ebml_numbers::specs::Number::is_id))]
 fn add_group(out: &mut Vec<u8>, timestamp: u64, block: &BlockRef<'_>, len: u64, body: u64)
     requires block { CanStand timestamp block.now }
@@ -144,7 +144,7 @@ fn add_group(out: &mut Vec<u8>, timestamp: u64, block: &BlockRef<'_>, len: u64, 
     add_behind(out, block);
 }
 
-/// Adds the Element of a block that has these lengths. It takes no memory.
+/// Appends the element of `block`, which has the lengths `lengths`, without allocating.
 #[tactic(auto, unfolding(ebml_numbers::specs::Number::is_id))]
 pub(crate) fn add_element(
     out: &mut Vec<u8>,

@@ -1,4 +1,4 @@
-//! The buffer of a Cluster.
+//! Buffer for a Cluster
 
 ghost use Rattle.std.specs.Prelude.{◌≡◌, ◌^◌, ◌≤◌, Some, None, OnOk, IfOk, length};
 ghost use Rattle.std.specs.Borrow.{sem};
@@ -16,15 +16,15 @@ use output_model::{ClusterLimits, OutHead};
 use std::alloc::{AllocError, Global};
 use std::marker::Model;
 
-/// A Cluster, block by block. Its memory is used again for the next one.
+/// One Cluster, written block by block; its memory is reused for the next one
 #[derive(Drop)]
 pub struct ClusterBuf {
     limits: ClusterLimits,
     timestamp: Option<u64>,
-    // how many octets the Timestamp has, where there is one
+    // length in bytes of the Timestamp, if there is one
     timestamp_len: u64,
     count: u32,
-    // the room for what stands in front of the blocks, and then the blocks
+    // first the room for the Cluster's header and Timestamp, then the blocks
     octets: Vec<u8>,
 }
 
@@ -50,7 +50,7 @@ impl Model for ClusterBuf {
 }
 
 impl ClusterBuf {
-    /// A buffer without a block.
+    /// Returns a buffer without a block.
     pub fn new(alloc: Global, limits: ClusterLimits) -> Result<ClusterBuf, AllocError>
         ensures empty { IfOk result (Holds None) }
         ensures limits { IfOk result (λ b. b.limits ≡ limits) }
@@ -66,8 +66,8 @@ impl ClusterBuf {
         })
     }
 
-    /// Whether a block at this tick, whose Element has so many octets, joins the Cluster that is held. A first
-    /// one always does.
+    /// Checks whether a block at `tick`, with an element of `len` bytes, can join the Cluster in the buffer. A first
+    /// block always can.
     pub fn fits(&self, tick: u64, len: u64) -> bool
         ensures exact { result ≡ has_place self.now tick len }
         ensures joins { TellsJoining self.now tick len result }
@@ -85,7 +85,7 @@ impl ClusterBuf {
         }
     }
 
-    /// Makes room for so many octets more.
+    /// Reserves room for `len` more bytes.
     pub fn reserve(&mut self, len: u64) -> Result<(), AllocError>
         ensures ok { OnOk result (len ≤ self.new.spare) }
         ensures same { self.new ≡ record self.old { spare = self.new.spare } }
@@ -94,8 +94,8 @@ impl ClusterBuf {
         self.octets.reserve(len as usize)
     }
 
-    /// Adds a block that fits, of a lane from 1 to 64 and at this tick of the output, and answers how many octets
-    /// stand before its Element in the Cluster's body. It takes no memory.
+    /// Appends a block that fits, of the output track `lane`, at the tick `tick` of the output. Returns the offset of
+    /// its element in the Cluster's body. It doesn't allocate.
     pub fn put(
         &mut self,
         lane: u8,
@@ -125,7 +125,7 @@ impl ClusterBuf {
         })
     }
 
-    /// The same of a block whose parts stand together.
+    /// Appends `block`, like `put`.
     pub fn put_block(&mut self, block: &BlockRef<'_>) -> u64
         requires { CanPut self.old block.now.lane block.now.tick (lent_of block.now) }
         ensures added { AddsBlock (block_of block.now) self.old self.new }
@@ -136,7 +136,7 @@ impl ClusterBuf {
         self.put_measured(block, block.lengths())
     }
 
-    /// The same of a block whose lengths are known.
+    /// Appends `block`, like `put`, with its lengths computed before.
     pub fn put_measured(&mut self, block: &BlockRef<'_>, lengths: BlockLengths) -> u64
         requires can { CanPut self.old block.now.lane block.now.tick (lent_of block.now) }
         requires lengths { AreLengths block.now lengths }
@@ -154,7 +154,7 @@ impl ClusterBuf {
         place
     }
 
-    /// Forgets the blocks. The memory stays.
+    /// Removes the blocks, without freeing memory.
     pub fn clear(&mut self)
         ensures empty { Holds None self.new }
         ensures limits { self.new.limits ≡ self.old.limits }
@@ -165,14 +165,15 @@ impl ClusterBuf {
         self.count = 0;
     }
 
-    /// Whether there is no block.
+    /// Checks whether there is no block.
     pub fn is_empty(&self) -> bool
         ensures { result ≡ is_empty self.now }
     {
         self.timestamp.is_none()
     }
 
-    /// The octets of the Cluster; without a block there are none. What stands in front of the blocks is written now.
+    /// Returns the bytes of the Cluster, which are none without a block. It writes the Cluster's header and Timestamp
+    /// now.
     pub fn octets(&mut self) -> &[u8]
         ensures* stays { sem 𝓛 (StaysAsItIs self.entry) }
         ensures exact { result.now ≡ cluster_with self.old.timestamp self.old.elements }
@@ -183,7 +184,7 @@ impl ClusterBuf {
         &self.octets[start..]
     }
 
-    // How many octets the Timestamp has of the Cluster that a block at this tick is put into.
+    // Returns the length of the Timestamp after a block at `tick` was added.
     fn timestamp_len_at(&self, tick: u64) -> u64
         ensures exact { result ≡ length (octets_of (timestamp_element (timestamp_for self.now tick))) }
         ensures most { result ≤ 24 }
@@ -194,7 +195,7 @@ impl ClusterBuf {
         }
     }
 
-    // How many octets the body has that a block at this tick is put into.
+    // Returns the length of the body before a block at `tick`.
     fn place(&self, tick: u64) -> u64
         ensures exact { result ≡ place_in self.now tick }
         ensures most { result ≤ 2 ^ 40 }

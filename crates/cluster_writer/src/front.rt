@@ -1,4 +1,4 @@
-//! What stands in front of a Cluster's blocks: its header, which is known last, and the Timestamp.
+//! Start of a Cluster: its header, which is known last, and its Timestamp
 
 ghost use Rattle.std.specs.Prelude.{◌≡◌, ◌+◌, ◌^◌, ◌≤◌, ◌++◌, ℕ, [], length, drop, None, Some};
 ghost use Rattle.output_model.specs.Element.{octets_of};
@@ -9,10 +9,10 @@ use crate::element::uint_len;
 use ebml_numbers::{put_id, put_size, put_uint, size_width};
 use mkv_schema::ids::{CLUSTER, TIMESTAMP};
 
-/// So many octets are enough for what stands in front of the blocks.
+/// Number of bytes that are enough for the header and Timestamp of a Cluster
 pub(crate) const FRONT: usize = 40;
 
-// Writes octets up to a place, and answers where they begin.
+// Writes `part` so that it ends at `at`, and returns its start.
 fn put_before(octets: &mut [u8], at: usize, part: &[u8]) -> usize
     requires inside { at ≤ length octets.old }
     requires room { length part.now ≤ at }
@@ -25,7 +25,7 @@ fn put_before(octets: &mut [u8], at: usize, part: &[u8]) -> usize
     start
 }
 
-/// How many octets a Timestamp has.
+/// Returns the length of a Timestamp element.
 #[tactic(auto, unfolding(ebml_numbers::specs::Number::is_id))]
 pub(crate) fn timestamp_len(timestamp: u64) -> u64
     ensures exact { result ≡ length (octets_of (timestamp_element timestamp)) }
@@ -34,7 +34,7 @@ pub(crate) fn timestamp_len(timestamp: u64) -> u64
     uint_len(TIMESTAMP, timestamp)
 }
 
-// Writes a Timestamp in front of the blocks, and answers where it begins.
+// Writes a Timestamp element directly before the blocks, and returns its start.
 #[tactic(auto, unfolding(ebml_numbers::specs::Number::is_id))]
 fn put_timestamp(octets: &mut [u8], timestamp: u64) -> usize
     requires { FRONT ≤ length octets.old }
@@ -50,7 +50,7 @@ fn put_timestamp(octets: &mut [u8], timestamp: u64) -> usize
     put_before(octets, at, put_id(TIMESTAMP).as_slice())
 }
 
-// Writes the header of a Cluster and its Timestamp in front of its blocks, and answers where it begins.
+// Writes the header of a Cluster and its Timestamp directly before its blocks, and returns the start.
 #[tactic(auto, unfolding(ebml_numbers::specs::Number::is_id))]
 fn put_header(octets: &mut [u8], timestamp: u64) -> usize
     requires front { FRONT ≤ length octets.old }
@@ -65,8 +65,8 @@ fn put_header(octets: &mut [u8], timestamp: u64) -> usize
     put_before(octets, at, put_id(CLUSTER).as_slice())
 }
 
-/// Writes what stands in front of the blocks of a Cluster of this Timestamp, and answers where it begins. Without a
-/// Timestamp there are no blocks, and nothing is in front of them.
+/// Writes the header and Timestamp of a Cluster directly before its blocks, and returns the start. Without a
+/// Timestamp there are no blocks, and nothing is written.
 pub(crate) fn put_front(octets: &mut [u8], timestamp: Option<u64>) -> usize
     requires front { FRONT ≤ length octets.old }
     requires most { length octets.old ≤ 2 ^ 29 }

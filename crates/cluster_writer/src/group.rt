@@ -1,4 +1,4 @@
-//! What a BlockGroup holds besides its Block: RFC 9559, section 5.1.3 (Cluster Element).
+//! Children of a BlockGroup other than its Block: RFC 9559, section 5.1.3 (Cluster).
 
 ghost use Rattle.std.specs.Prelude.{◌≡◌, ◌+◌, ◌*◌, ◌^◌, ◌<◌, ◌≤◌, ◌++◌, length, map};
 ghost use Rattle.output_model.specs.Element.{joined, octets_of};
@@ -13,7 +13,7 @@ use ebml_numbers::put_int;
 use mkv_schema::ids::{BLOCK, BLOCK_DURATION, REFERENCE_BLOCK};
 use output_model::OutHead;
 
-/// How many octets stand behind the header of a group whose Block has so many.
+/// Returns the length of a group's body, with a Block of `block` bytes and `kept` bytes of kept children.
 #[tactic(auto, unfolding(ebml_numbers::specs::Number::is_id))]
 pub(crate) fn group_len(head: &OutHead, block: u64, references: &[i64], kept: u64) -> u64
     requires block { block ≤ 2 ^ 26 + 2 ^ 21 }
@@ -36,7 +36,7 @@ fn duration_len(duration: Option<u64>) -> u64
     }
 }
 
-/// Adds what stands behind the Block of a group.
+/// Appends the children of a BlockGroup after its Block.
 pub(crate) fn add_behind(out: &mut Vec<u8>, block: &BlockRef<'_>)
     requires { HasRoom out.old (behind_put block.now) }
     ensures { Adds out.old out.new (behind_octets (block_of block.now)) }
@@ -46,7 +46,7 @@ pub(crate) fn add_behind(out: &mut Vec<u8>, block: &BlockRef<'_>)
     add(out, block.kept);
 }
 
-// Adds the BlockDuration, where there is one.
+// Appends the BlockDuration, if there is one.
 #[tactic(auto, unfolding(ebml_numbers::specs::Number::is_id))]
 fn add_duration(out: &mut Vec<u8>, duration: Option<u64>)
     requires { HasRoom out.old (duration_len duration) }
@@ -87,7 +87,7 @@ fn references_len(references: &[i64]) -> u64
     total
 }
 
-// Adds a ReferenceBlock for each reference.
+// Appends a ReferenceBlock for each reference.
 fn add_references(out: &mut Vec<u8>, references: &[i64])
     requires { HasRoom out.old (references_len references.now) }
     ensures { Adds out.old out.new (joined (map reference_element references.now)) }

@@ -1,11 +1,11 @@
-//! Where a Cluster ends.
+//! End of a Cluster
 
 ghost use Rattle.std.specs.Prelude.{◌≡◌, ◌≤◌, ◌+◌, ◌^◌};
 ghost use Rattle.output_model.specs.Cluster.{is_near, may_have};
 
 use output_model::{ClusterLimits, MAX_CLUSTER_LEN};
 
-// Sixteen bits with a sign tell a block's time from the Timestamp.
+// Checks whether the distance from the Timestamp to `tick` fits in 16 signed bits.
 fn is_near(timestamp: u64, tick: u64) -> bool
     ensures { result ≡ is_near timestamp tick }
 {
@@ -16,8 +16,8 @@ fn is_near(timestamp: u64, tick: u64) -> bool
     }
 }
 
-/// Whether a Cluster of this Timestamp, of so many blocks and so many octets in its body, may have one more, at
-/// this tick and of so many octets.
+/// Checks whether a Cluster with this Timestamp, `count` blocks and a body of `size` bytes may have a block at
+/// `tick`, of `len` bytes.
 pub(crate) fn may_have(
     limits: ClusterLimits,
     timestamp: u64,

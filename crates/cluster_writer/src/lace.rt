@@ -1,4 +1,4 @@
-//! The frames of a block: RFC 9559, section 10.3 (Block Lacing).
+//! Frames of a block: RFC 9559, section 10.3 (Block Lacing).
 
 ghost use Rattle.std.specs.Prelude.{◌≡◌, ◌+◌, ◌^◌, ◌≤◌, ◌++◌, length, take, sum};
 ghost use Rattle.std.specs.List.{concat};
@@ -13,7 +13,7 @@ use crate::element::add;
 use arrayvec::ArrayVec;
 use lacing::{Lace, lace_len, put_lace};
 
-// The sizes of frames with a prefix of so many octets in front of each.
+// Returns the sizes of frames with a prefix of `prefix` bytes before each.
 fn prefixed_sizes(prefix: u32, sizes: &[u32]) -> ArrayVec<u32, 256>
     requires few { length sizes.now ≤ 256 }
     requires total { sum (prefixed_sizes prefix sizes.now) ≤ 2 ^ 26 }
@@ -26,7 +26,8 @@ fn prefixed_sizes(prefix: u32, sizes: &[u32]) -> ArrayVec<u32, 256>
     all
 }
 
-/// How many octets stand in front of frames of these sizes, with a prefix of so many octets in front of each.
+/// Returns the number of bytes before the frames of a Block with frames of these sizes and prefixes: their number and
+/// the head of the lace.
 pub(crate) fn lace_octets_len(kind: Lace, prefix: u32, sizes: &[u32]) -> u64
     requires { CanLace kind (prefixed_sizes prefix sizes.now) }
     ensures exact { result ≡ length (lace_octets kind (prefixed_sizes prefix sizes.now)) }
@@ -49,7 +50,7 @@ fn head_len(kind: Lace, prefix: u32, sizes: &[u32]) -> u32
     prefixed_head_len(kind, prefix, sizes)
 }
 
-// The room for 256 sizes is taken where there is a prefix alone.
+// Room for 256 sizes is used only if there is a prefix.
 fn prefixed_head_len(kind: Lace, prefix: u32, sizes: &[u32]) -> u32
     requires { CanLace kind (prefixed_sizes prefix sizes.now) }
     ensures exact { result ≡ length (lace_head kind (prefixed_sizes prefix sizes.now)) }
@@ -58,7 +59,8 @@ fn prefixed_head_len(kind: Lace, prefix: u32, sizes: &[u32]) -> u32
     lace_len(kind, &prefixed_sizes(prefix, sizes))
 }
 
-/// Adds what stands in front of frames of these sizes, with a prefix of so many octets in front of each.
+/// Appends the bytes before the frames of a Block: their number and the head of the lace. `sizes` excludes the
+/// prefixes.
 pub(crate) fn add_lace(out: &mut Vec<u8>, kind: Lace, prefix: u32, sizes: &[u32])
     requires can { CanLace kind (prefixed_sizes prefix sizes.now) }
     requires room { HasRoom out.old (length (lace_octets kind (prefixed_sizes prefix sizes.now))) }
@@ -89,7 +91,7 @@ fn add_prefixed(out: &mut Vec<u8>, kind: Lace, prefix: u32, sizes: &[u32])
     add_count_and_head(out, kind, &prefixed_sizes(prefix, sizes));
 }
 
-// Adds the number of frames, less one, and the head of their lace.
+// Appends the number of frames minus one, and the head of their lace.
 fn add_count_and_head(out: &mut Vec<u8>, kind: Lace, sizes: &[u32])
     requires can { CanLace kind sizes.now }
     requires room { HasRoom out.old (length (count_and_head kind sizes.now)) }
@@ -117,7 +119,7 @@ fn fill_head(out: &mut [u8], at: usize, kind: Lace, sizes: &[u32])
     put_lace(kind, sizes, &mut out[at..]);
 }
 
-/// Adds frames of these sizes, each with the prefix in front.
+/// Appends the frames of the sizes `sizes` in `body`, each after the prefix.
 pub(crate) fn add_frames(out: &mut Vec<u8>, prefix: &[u8], body: &[u8], sizes: &[u32])
     requires whole { length body.now ≡ sum sizes.now }
     requires room { HasRoom out.old (length (concat (prefixed prefix.now (frames_cut sizes.now body.now)))) }
@@ -130,7 +132,7 @@ pub(crate) fn add_frames(out: &mut Vec<u8>, prefix: &[u8], body: &[u8], sizes: &
     }
 }
 
-// The same, frame by frame.
+// Appends the frames one by one, each after the prefix.
 fn add_each(out: &mut Vec<u8>, prefix: &[u8], body: &[u8], sizes: &[u32])
     requires whole { length body.now ≡ sum sizes.now }
     requires room { HasRoom out.old (length (concat (prefixed prefix.now (frames_cut sizes.now body.now)))) }

@@ -1,4 +1,4 @@
-//! A block that is put into a Cluster, and how long its Element is.
+//! Block that is put into a Cluster, and the length of its element
 
 ghost use Rattle.std.specs.Prelude.{◌≡◌, ◌≤◌, ◌^◌, ℕ, length};
 ghost use Rattle.output_model.specs.OutputBlock.{CanBeLent, IsLent};
@@ -11,9 +11,9 @@ use crate::group::group_len;
 use mkv_schema::ids::{BLOCK_GROUP, SIMPLE_BLOCK};
 use output_model::OutHead;
 
-/// A block as it is put into a Cluster: in a lane of this number, at this tick of the output. Its octets are cut
-/// into frames of these sizes, each of which has the prefix in front; a group has the ticks that it refers to,
-/// and the octets of what else is kept of it.
+/// Block that is put into a Cluster, of the output track `lane` at the tick `tick` of the output. `body` is cut into
+/// frames of the sizes `sizes`, each after `prefix`. A group also has its references in ticks and the bytes of its
+/// kept children.
 #[derive(Clone, Copy)]
 pub struct BlockRef<'a> {
     pub lane: u8,
@@ -26,8 +26,7 @@ pub struct BlockRef<'a> {
     pub kept: &'a [u8],
 }
 
-/// How many octets a block has as it is written: its Block; what stands behind the header of its Element, which is a
-/// SimpleBlock or a group; and the Element.
+/// Lengths of a written block in bytes: its Block, the body of its SimpleBlock or BlockGroup, and this element
 #[derive(Clone, Copy)]
 pub struct BlockLengths {
     pub block: u64,
@@ -36,7 +35,7 @@ pub struct BlockLengths {
 }
 
 impl BlockRef<'_> {
-    /// How many octets its Element and the parts of it have, the same in every Cluster.
+    /// Returns the lengths of the block's element and its parts, which are the same in each Cluster.
     pub fn lengths(&self) -> BlockLengths
         requires { IsLent (lent_of self.now) }
         ensures { AreLengths self.now result }
@@ -50,7 +49,7 @@ impl BlockRef<'_> {
         )
     }
 
-    /// How many octets its Element has, the same in every Cluster.
+    /// Returns the length of the block's element, which is the same in each Cluster.
     pub fn element_len(&self) -> u64
         requires { IsLent (lent_of self.now) }
         ensures exact { result ≡ octets_taken (block_of self.now) }
@@ -60,8 +59,8 @@ impl BlockRef<'_> {
     }
 }
 
-/// How many octets the Element of a block has whose prefix and whose kept children have so many, the same in every
-/// lane and Cluster.
+/// Returns the length of the element of a block with `prefix` prefix bytes and `extra` bytes of kept children. It is
+/// the same in each output track and Cluster.
 pub fn element_len(head: &OutHead, prefix: usize, sizes: &[u32], refs: &[i64], extra: usize) -> u64
     requires { CanBeLent head.now.lace prefix sizes.now (length refs.now) extra }
     ensures exact { IsLenOf head.now prefix sizes.now refs.now extra result }

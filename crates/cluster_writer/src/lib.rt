@@ -1,6 +1,6 @@
 #![tactic(auto)]
 
-//! Clusters, written block by block into a buffer that is used again: RFC 9559, section 5.1.3 (Cluster Element).
+//! Clusters, written block by block into a reused buffer: RFC 9559, section 5.1.3 (Cluster).
 
 mod block;
 mod buffer;

@@ -26,7 +26,7 @@ add_behind-requires c =
       length-element BLOCK octets c.args.len (length-put c.args.timestamp b c.requires.block.put.lent ∙ sym c.requires.len),
     )
 
--- the header, the Block's Element and what stands behind it
+-- The group is its header, the Block's element and the children after it.
 pub returns : goal.returns
 returns c =
     let b = c.args.block.now in

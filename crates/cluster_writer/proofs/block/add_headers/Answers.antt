@@ -9,7 +9,7 @@ use Rattle.cluster_writer.proofs.block.add_headers.Goals as goal
 pub add-requires : goal.add-requires
 add-requires c = omega (arith, c.requires.room, ap length (short-header c.args.id c.args.len (sym c.is_short.ensures ∙ c.if-is_short.true)))
 
--- the two octets of the Element's header, and then those of the Block's
+-- The element's header has two bytes, and the Block's follows.
 pub returns-then-is_short : goal.returns-then-is_short
 returns-then-is_short c =
     let b = c.args.block.now in

@@ -5,7 +5,7 @@ use Rattle.cluster_writer.specs.Room.{Adds}
 use Rattle.cluster_writer.proofs.FramesLemmas.{prefixed-empty}
 use Rattle.cluster_writer.proofs.lace.add_laced.Goals as goal
 
--- without a prefix the sizes are as they are
+-- Without a prefix, the sizes are unchanged.
 pub add_count_and_head-requires-clause-can : goal.add_count_and_head-requires-clause-can
 add_count_and_head-requires-clause-can c =
     let P : List ℕ → Type 0 = λ ss. CanLace c.args.kind ss in

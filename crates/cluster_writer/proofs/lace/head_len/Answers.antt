@@ -3,7 +3,7 @@ use Rattle.lacing.specs.Writing.{CanLace, lace_head}
 use Rattle.cluster_writer.proofs.FramesLemmas.{prefixed-empty}
 use Rattle.cluster_writer.proofs.lace.head_len.Goals as goal
 
--- without a prefix the sizes are as they are
+-- Without a prefix, the sizes are unchanged.
 pub lace_len-requires : goal.lace_len-requires
 lace_len-requires c =
     let P : List ℕ → Type 0 = λ ss. CanLace c.args.kind ss in
