@@ -8,23 +8,23 @@ use Rattle.tree_format.proofs.ChildLemmas.{child-stands, children-sound, stands-
 use Rattle.file_format.specs.Entry.{entries_of}
 use Rattle.track_records.specs.Sound.{IsEntry}
 
--- the TrackEntries from an index on
+-- the TrackEntries from the index `i` on
 abbrev pub entries_from : ℕ → List Node → List Node
 entries_from i ns = filter (λ n. id_of n == TRACK_ENTRY) (drop i ns)
 
--- a TrackEntry in a sound tree is sound
+-- A TrackEntry in a sound tree is sound.
 pub child-entry : (tracks n : Node) (ns : List Node) (i id : ℕ) → IsSound tracks → ns ≡ children tracks → i < length ns → n ≡ get_or ns i n → id ≡ id_of n → id ≡ TRACK_ENTRY → IsEntry n
 child-entry tracks n ns i id sound are inside is of same =
     record { id = cc; sound = stands-sound (id_of tracks) n (child-stands tracks n ns i sound are inside is) }
 
--- the TrackEntries of a sound tree are sound
+-- The TrackEntries of a sound tree are sound.
 pub entries-sound : (tracks : Node) → IsSound tracks → All IsEntry (entries_of tracks)
 entries-sound tracks sound = λ k d inside. record {
   id = eqb-true _ _ (filter_passes (λ n. id_of n == TRACK_ENTRY) (children tracks) k d inside);
   sound = All-filter (λ n. id_of n == TRACK_ENTRY) IsSound (children tracks) (children-sound tracks sound) k d inside;
 }
 
--- each leaves room for the Tracks around it
+-- Each one leaves room for the Tracks element around it.
 low-each : (ns : List Node) → depth_all (nodes_of ns) < deepest → All HasRoom ns
 low-each [] low = λ k d inside. absurd (omega arith)
 low-each (n ∷ ns) low = of (low-each ns (omega arith))

@@ -1,4 +1,4 @@
--- The values of a TrackEntry that stands in a sound tree.
+-- The values of a TrackEntry in a sound tree.
 use Rattle.std.proofs.Common.{◌≡◌, ◌≤◌, ℕ, true, length, inl, refl, arith}
 use Rattle.std.proofs.lemmas.Bool.Decides.{nat_tests}
 use Rattle.mkv_schema.specs.declared.ids.TheConstants.{TRACK_ENTRY, TRACK_NUMBER, TRACK_UID, TRACK_TYPE, CODEC_ID, LANGUAGE, LANGUAGE_BCP47, DEFAULT_DURATION, CONTENT_ENCODING, CONTENT_ENCODING_SCOPE, CONTENT_ENCODING_TYPE, CONTENT_COMPRESSION, CONTENT_COMP_ALGO}
@@ -13,7 +13,7 @@ use Rattle.tree_format.proofs.ChildLemmas.{stands-value, HasUint-of}
 use Rattle.ebml_tree.specs.Texts.{HasText}
 use Rattle.ebml_tree.proofs.TextLemmas.{HasText-of}
 
--- ---- what the table has in a TrackEntry and in its encodings
+-- ---- the table for a TrackEntry and its encodings
 
 pub number : HasUint TRACK_ENTRY TRACK_NUMBER
 unfolding entry_of table
@@ -57,7 +57,7 @@ algorithm = record { stands = refl; kind = refl }
 
 pub ruleset known = (HasUint-of, HasText-of, number, uid, type, default_duration, codec, language, language_bcp47, scope, encoding_type, algorithm)
 
--- ---- the values of these
+-- ---- the values
 
 pub stands-short : (n : Node) (id : ℕ) → StandsIn TRACK_ENTRY n → id ≡ id_of n → HasUint TRACK_ENTRY id → length (body_of n) ≤ 8
 stands-short n id stands is integer =

@@ -1,4 +1,4 @@
--- What refuses a Tracks Element, one step at a time.
+-- Damage of a Tracks element, one step at a time.
 use Rattle.std.proofs.Common.{◌≡◌, ◌<◌, ℕ, suc, ◌+◌, ◌-◌, ◌==◌, Bool, true, false, not, ◌&&◌, ◌||◌, List, ◌∷◌, length, take, drop, find, get_or, Option, cond, nat_le, nat_lt, nat_cmp, refl, sym, ap, ap₂, subst, ◌∙◌, arith, add-one, eqb-true}
 use Rattle.std.proofs.Math.Seq.{drop-cons}
 use Rattle.std.proofs.lemmas.Bool.Decides.{nat_tests}
@@ -14,13 +14,13 @@ use Rattle.file_format.specs.Refusal.{firsts, is_bad, too_long}
 use Rattle.file_format.proofs.FirstLemmas.{find-same, find-without}
 use Rattle.track_records.specs.Met.{is_met}
 
--- a bad value of an ID that wasn't met
+-- The node `n` is invalid, and no node with its ID came before.
 abbrev pub is_new_bad : Bool → Bool → Node → Bool
 is_new_bad numbered timed n = not (is_met numbered timed (id_of n)) && is_bad n
 
 -- ---- tests
 
--- a value of the same ID isn't new any more
+-- A value with the same ID isn't new any more.
 same_id : (a b t d z y : Bool) → not (((a || t) && t) || ((b || d) && d)) && ((t && z) || (d && y)) ≡ false
 same_id true b true d z y = refl
 same_id false b true d z y = refl
@@ -33,7 +33,7 @@ same_id true false false false z y = refl
 same_id false true false false z y = refl
 same_id false false false false z y = refl
 
--- one of another ID is as new as before
+-- A value with another ID stays new.
 other_id : (a u t : Bool) → t && u ≡ false → (a || u) && t ≡ a && t
 other_id true u t apart = refl
 other_id false true true apart = absurd (cc)
@@ -43,7 +43,7 @@ other_id false false t apart = refl
 apart_of : (x k c : ℕ) → (x == k) ≡ false → (x == c) && (k == c) ≡ false
 apart_of x k c other = grind (arith, nat_tests)
 
--- behind an Element the new ones are those of other IDs
+-- After an element, the new ones have other IDs.
 new_next : (a b : Bool) (n m : Node) → not (id_of m == id_of n) && is_new_bad a b m ≡ is_new_bad (a || id_of n == TRACK_NUMBER) (b || id_of n == DEFAULT_DURATION) m
 new_next a b n m = split (id_of m == id_of n) refl
   where
@@ -58,11 +58,11 @@ new_next a b n m = split (id_of m == id_of n) refl
 
 -- ---- the first bad value
 
--- what is left of a list begins with its next item
+-- The rest of a list begins with its next item.
 next-is : (i : ℕ) (ns : List Node) (n : Node) → i < length ns → n ≡ get_or ns i n → drop i ns ≡ n ∷ drop (i + 1) ns
 next-is i ns n inside is = drop-cons ns i n inside ∙ rw (add-one, ← is) refl
 
--- behind a child that isn't bad, or not new, what is left tells the same
+-- After a child that is valid or not new, the first damage is the same.
 pub bad-next : (a b : Bool) (i id : ℕ) (ns : List Node) (n : Node) (all : Option Node) → i < length ns → n ≡ get_or ns i n → id ≡ id_of n → is_new_bad a b n ≡ false → find (is_new_bad a b) (firsts (drop i ns)) ≡ all
     → find (is_new_bad (a || id == TRACK_NUMBER) (b || id == DEFAULT_DURATION)) (firsts (drop (i + 1) ns)) ≡ all
 bad-next a b i id ns n all inside is of old same =
@@ -90,7 +90,7 @@ range-next k n inside = let more : n - k ≡ suc (n - (k + 1)) = omega arith in 
 pub find-passes : (p : ℕ → Bool) (k n : ℕ) (all : Option ℕ) → k < n → p k ≡ false → find p (range_with_len k (n - k)) ≡ all → find p (range_with_len (k + 1) (n - (k + 1))) ≡ all
 find-passes p k n all inside passes same = sym (ap (find p) (range-next k n inside) ∙ rw passes refl) ∙ same
 
--- a number is found exactly at itself
+-- A number equals only itself.
 is_eq-nat_cmp : (x q : ℕ) → is_eq (nat_cmp x q) ≡ (x == q)
 is_eq-nat_cmp x q = split (nat_lt x q) refl (x == q) refl
   where
@@ -100,7 +100,7 @@ is_eq-nat_cmp x q = split (nat_lt x q) refl (x == q) refl
     split false more true same = refl
     split false more false other = refl
 
--- with one number more, those are known that stood before and this one
+-- One more number is known.
 pub known-next : (numbers : List ℕ) (k q : ℕ) (old new : Bool) → k < length numbers → old ≡ list_any (λ n. n == q) (take k numbers) → new ≡ cond (is_eq (nat_cmp (get_or numbers k 0) q)) true old → new ≡ list_any (λ n. n == q) (take (k + 1) numbers)
 known-next numbers k q old new inside before is =
     is ∙ ap₂ (λ t o. cond t true o) (is_eq-nat_cmp (get_or numbers k 0) q) before
@@ -113,7 +113,7 @@ known-next numbers k q old new inside before is =
     join false true = refl
     join false false = refl
 
--- a number that is added isn't repeated
+-- A number that is added isn't repeated.
 pub added-new : (added found : Bool) → added ≡ not found → added ≡ true → found ≡ false
 added-new added true is new = absurd (cc)
 added-new added false is new = refl

@@ -1,4 +1,4 @@
--- What is set in a TrackEntry stands there, and leaves it whole.
+-- A child that is set is valid in a TrackEntry, and leaves it whole.
 use Rattle.std.proofs.Common.{◌≡◌, inl, inr, ◌≤◌, ℕ, List, [], ◌∷◌, ◌++◌, Option, Some, Result, Ok, Err, OnOk, refl, sym, ap, subst, ◌∙◌, arith}
 use Rattle.std.specs.declared.alloc.AllocError.{AllocError}
 use Rattle.ebml_numbers.specs.Number.{is_id}
@@ -80,13 +80,13 @@ module _ (old new : Node) (whole : IsWholeEntry old) where
         room = subst HasRoom (sym is) (room-with old ns whole.master whole.room low);
       }
 
--- ---- one after the other
+-- ---- changes in sequence
 
 pub set_each-append : (cs ds : List Node) (n : Node) → set_each (cs ++ ds) n ≡ set_each ds (set_each cs n)
 set_each-append [] ds n = refl
 set_each-append (c ∷ cs) ds n = set_each-append cs ds (set_in c n)
 
--- the steps of a change are all that it sets
+-- The steps of a change make the whole change.
 pub set-all : (c : TrackChange) (e0 e1 e2 e3 e4 e5 e6 : Node) → SetsEach (uint_leaf TRACK_NUMBER c.number ∷ []) e0 e1 → SetsEach (uint_leaf TRACK_UID c.uid ∷ []) e1 e2
     → SetsEach (given (leaf NAME 0) c.name) e2 e3 → SetsEach (given (leaf LANGUAGE 0) c.language) e3 e4 → SetsEach (given (flag_leaf FLAG_DEFAULT) c.flag_default) e4 e5 → SetsEach (given (flag_leaf FLAG_FORCED) c.flag_forced) e5 e6
     → e6 ≡ set_each (children_set c) e0
@@ -101,7 +101,7 @@ set-all c e0 e1 e2 e3 e4 e5 e6 s1 s2 s3 s4 s5 s6 =
     ∙ sym (set_each-append (number ∷ uid ∷ named ++ spoken ++ default) forced e0
     ∙ ap (set_each forced) (set_each-append (number ∷ uid ∷ named ++ spoken) default e0 ∙ ap (set_each default) (set_each-append (number ∷ uid ∷ named) spoken e0)))
 
--- ---- a leaf that is made is set
+-- ---- a new leaf is set
 
 module _ (old new : Node) (whole : IsWholeEntry old) (r : Result (Unit {0}) AllocError) where
   pub set-leaf : (child : Node) (id : ℕ) (made body : List ℕ) → child ≡ leaf id 0 made → made ≡ body → OnOk r (new ≡ with_children old (with_child child (children old))) → IsMaster new → (IsSound old → StandsIn (id_of old) child → IsSound new)
@@ -115,6 +115,6 @@ module _ (old new : Node) (whole : IsWholeEntry old) (r : Result (Unit {0}) Allo
       of (Ok u) ok = whole-set old new whole id body (ok ∙ ap (λ m. with_children old (with_child m (children old))) all) is_master (λ s t. sound s (subst (StandsIn (id_of old)) (sym all) t)) (subst (StandsIn TRACK_ENTRY) all stands)
       of (Err e) ok = tt
 
-  -- where a text is given
+  -- A text is set if it is present.
   pub set-given : (o : Option (List ℕ)) (id : ℕ) (text : List ℕ) → o ≡ Some text → OnOk r (SetsEach (leaf id 0 text ∷ []) old new) → OnOk r (SetsEach (given (leaf id 0) o) old new)
   set-given o id text is set = let P : Option (List ℕ) → Type 0 = λ p. OnOk r (SetsEach (given (leaf id 0) p) old new) in subst P (sym is) set

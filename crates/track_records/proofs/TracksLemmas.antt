@@ -1,4 +1,4 @@
--- What follows from an answer.
+-- Consequences of a result.
 use Rattle.std.proofs.Common.{◌≡◌, ◌≢◌, List, map, Option, Some, None, Result, Ok, Err, OnOk, IfOk, IfErr, All, subst, refl}
 use Rattle.std.proofs.lemmas.List.Elements.{All-map}
 use Rattle.mkv_io.specs.declared.damage.Damage.{Damage as Harm}
@@ -17,7 +17,7 @@ use Rattle.track_records.specs.Sound.{IsEntry}
 use Rattle.track_records.specs.Track.{track_of, tracks_of}
 use Rattle.track_records.specs.Outcome.{ReadsTracks}
 
--- what isn't refused
+-- The tracks weren't refused.
 taken-is : {A : Type 0} (o : Option Harm) (x y : A) → unless o x ≡ Ok y → (o ≡ None) × (x ≡ y)
 taken-is None x y is = (refl, cc)
 taken-is (Some d) x y is = absurd (cc)

@@ -1,4 +1,4 @@
--- A Tracks Element's entries as tracks: RFC 9559, section 5.1.4 (Tracks Element).
+-- The entries of a Tracks element as tracks: RFC 9559, section 5.1.4 (Tracks).
 use Rattle.std.specs.Prelude.{List, map, Result}
 use Rattle.mkv_io.specs.declared.damage.Damage.{Damage}
 use Rattle.mkv_io.specs.Results.{unless}
@@ -7,7 +7,7 @@ use Rattle.file_format.specs.Entry.{entries_of, number_of, uid_of, type_of, code
 use Rattle.file_format.specs.Refusal.{refusal_of}
 use Rattle.track_records.specs.declared.track.Track.{Track}
 
--- what an entry says of its track
+-- the track of a TrackEntry
 abbrev pub track_of : Node → Track
 track_of entry = record {
   number = number_of entry;
@@ -20,6 +20,6 @@ track_of entry = record {
   entry = entry;
 }
 
--- the tracks in the order of the entries, unless something refuses them
+-- the tracks in the order of the entries, or the first damage
 abbrev pub tracks_of : Node → Result (List Track) Damage
 tracks_of tracks = unless (refusal_of tracks) (map track_of (entries_of tracks))

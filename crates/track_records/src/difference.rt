@@ -1,4 +1,4 @@
-//! Whether a track may follow another: RFC 9559, section 5.1.4 (Tracks Element).
+//! Test whether a track may be appended to another: RFC 9559, section 5.1.4 (Tracks).
 
 ghost use Rattle.std.specs.Prelude.{◌≡◌};
 ghost use Rattle.std.specs.Option.{option_copied};
@@ -8,7 +8,7 @@ use crate::fields::{FIELDS, Field};
 use crate::track::Track;
 use ebml_tree::Tree;
 
-// The first Element of a field.
+// Returns the first element of `field` in `entry`.
 fn in_master<'a>(entry: &'a Tree, field: &Field) -> Option<&'a Tree>
     ensures { option_copied result ≡ in_master field.now.master field.now.id entry.now }
 {
@@ -18,7 +18,7 @@ fn in_master<'a>(entry: &'a Tree, field: &Field) -> Option<&'a Tree>
     }
 }
 
-// Its octets as they are written.
+// Returns the bytes of the first element of `field` in `entry`.
 fn octets_at<'a>(entry: &'a Tree, field: &Field) -> Option<&'a [u8]>
     ensures { option_copied result ≡ octets_at field.now entry.now }
 {
@@ -38,9 +38,8 @@ fn are_alike(p: Option<&[u8]>, q: Option<&[u8]>) -> bool
     }
 }
 
-/// The ID of the first Element in which the second track differs from the first, so that it may not follow
-/// it; none where it may. Of each field the first Element counts, with its octets as they are written, or
-/// that it is missing.
+/// Returns the ID of the first field in which `b` differs from `a`, or nothing if `b` may be appended to `a`. Only
+/// the first element of each field counts, compared by its bytes or its absence.
 pub fn differs(a: &Track, b: &Track) -> Option<u32>
     ensures { result ≡ first_difference a.now.entry b.now.entry }
 {

@@ -1,4 +1,4 @@
-//! Whether a track's frames can be used: RFC 9559, section 5.1.4 (Tracks Element), ContentEncodings and
+//! Test whether a track's frames can be used: RFC 9559, section 5.1.4 (Tracks), ContentEncodings and
 //! TrackTimestampScale.
 
 ghost use Rattle.std.specs.Prelude.{◌≡◌, ◌≤◌, length, IfOk};
@@ -17,22 +17,22 @@ use mkv_schema::ids::{
     CONTENT_ENCODING_SCOPE, CONTENT_ENCODING_TYPE, CONTENT_ENCODINGS, TRACK_TIMESTAMP_SCALE,
 };
 
-/// The ContentEncodingScope of what encodes frames and nothing else.
+/// ContentEncodingScope of an encoding of only the frames
 const FRAMES: u64 = 1;
 
-/// The ContentEncodingType of compression.
+/// ContentEncodingType of compression
 const COMPRESSION: u64 = 0;
 
-/// The ContentCompAlgo of zlib, which stands for one that is missing.
+/// ContentCompAlgo of zlib, the default if it is absent
 const ZLIB: u64 = 0;
 
-/// The ContentCompAlgo of header stripping.
+/// ContentCompAlgo of header stripping
 const HEADER_STRIPPING: u64 = 3;
 
-/// The most octets that are put back in front of a frame.
+/// Maximum number of bytes that are restored before a frame
 const MAX_STRIPPED: usize = 4096;
 
-/// 1.0 as a float of four and of eight octets (RFC 8794, section 7.3, Float Element).
+/// 1.0 as a float of four and of eight bytes (RFC 8794, section 7.3, Float)
 const ONE_IN_4: [u8; 4] = [0x3F, 0x80, 0, 0];
 
 const ONE_IN_8: [u8; 8] = [0x3F, 0xF0, 0, 0, 0, 0, 0, 0];
@@ -61,7 +61,7 @@ fn settings_of(encoding: &Tree) -> &[u8]
     }
 }
 
-// Frames alone are compressed, by header stripping, and not too many octets were taken.
+// Checks whether `encoding` is header stripping of only the frames, by at most `MAX_STRIPPED` bytes.
 #[tactic(auto, using(crate::proofs::EntryLemmas::known))]
 fn strips_headers(encoding: &Tree) -> bool
     requires { IsSoundOf ENCODING_ID encoding.now }
@@ -88,7 +88,7 @@ fn can_be_undone(encodings: &Tree) -> bool
     }
 }
 
-// The first ContentEncodings, where it can't be undone.
+// Returns damage at the first ContentEncodings, unless it can be undone.
 fn bad_encoding(entry: &Tree) -> Option<Damage>
     requires { IsEntry entry.now }
     ensures { result ≡ bad_encoding entry.now }
@@ -104,14 +104,14 @@ fn bad_encoding(entry: &Tree) -> Option<Damage>
     })
 }
 
-// An empty float, or 1.0.
+// Checks whether `octets` is an empty float or 1.0.
 fn is_one(octets: &[u8]) -> bool
     ensures { result ≡ is_one octets.now }
 {
     octets.is_empty() || octets == ONE_IN_4.as_slice() || octets == ONE_IN_8.as_slice()
 }
 
-// The first TrackTimestampScale, where it isn't 1.
+// Returns damage at the first TrackTimestampScale, unless it is 1.
 fn bad_scale(entry: &Tree) -> Option<Damage>
     ensures { result ≡ bad_scale entry.now }
 {
@@ -126,7 +126,7 @@ fn bad_scale(entry: &Tree) -> Option<Damage>
     })
 }
 
-// What keeps a track's frames from being used.
+// Returns the first damage that keeps a track's frames from being used.
 fn cause_of(entry: &Tree) -> Option<Damage>
     requires { IsEntry entry.now }
     ensures { result ≡ first_damage (usable_causes entry.now) }
@@ -134,7 +134,7 @@ fn cause_of(entry: &Tree) -> Option<Damage>
     bad_encoding(entry).or(bad_scale(entry))
 }
 
-// What header stripping took from the front of each frame.
+// Returns the bytes that header stripping removed from the start of each frame.
 fn prefix_of(entry: &Tree) -> &[u8]
     ensures { result.now ≡ prefix_of entry.now }
 {
@@ -147,12 +147,12 @@ fn prefix_of(entry: &Tree) -> &[u8]
     }
 }
 
-/// The octets to put back in front of each frame of a track, none where nothing was taken; or what keeps
-/// its frames from being used. A track that was read has a sound entry.
+/// Returns the bytes to restore before each frame of the track, which are none without header stripping. Fails with
+/// the damage that keeps its frames from being used.
 ///
-/// `Encoding` is told at the first ContentEncodings, where it holds anything but one header stripping of
-/// frames by at most 4,096 octets; `TrackScale` behind it, at the first TrackTimestampScale, where it is
-/// neither empty nor 1.
+/// `Encoding` is reported at the first ContentEncodings, unless it has at most one encoding, which strips at most
+/// 4,096 bytes from frames. Otherwise `TrackScale` is reported at the first TrackTimestampScale, unless it is empty
+/// or 1.
 pub fn usable(track: &Track) -> Result<&[u8], Damage>
     requires { IsEntry track.now.entry }
     ensures exact { lent result ≡ usable_prefix track.now.entry }

@@ -1,4 +1,4 @@
-//! The values of a TrackEntry: RFC 9559, section 5.1.4 (Tracks Element).
+//! Values of a TrackEntry: RFC 9559, section 5.1.4 (Tracks).
 
 ghost use Rattle.std.specs.Prelude.{◌≡◌, IfOk};
 ghost use Rattle.file_format.specs.Entry.{number_of};
@@ -13,7 +13,7 @@ use mkv_schema::ids::{
 };
 use std::alloc::{AllocError, Global};
 
-/// The TrackNumber, 0 where there is none.
+/// Returns the TrackNumber, or 0 if it is absent.
 #[tactic(auto, using(crate::proofs::EntryLemmas::known))]
 pub(crate) fn number_of(entry: &Tree) -> u64
     requires { IsEntry entry.now }
@@ -30,7 +30,7 @@ fn as_text(alloc: Global, text: &str) -> Result<Text, AllocError>
     Ok(copy)
 }
 
-/// What an entry says of its track.
+/// Returns the track of a TrackEntry.
 #[tactic(auto, using(crate::proofs::EntryLemmas::known))]
 pub(crate) fn track_of(alloc: Global, entry: &Tree) -> Result<Track, AllocError>
     requires { IsEntry entry.now }

@@ -1,18 +1,17 @@
-//! What tracks that follow one another have alike.
+//! Fields that appended tracks must have in common
 use mkv_schema::ids::{
     AUDIO, CHANNELS, CODEC_ID, CODEC_PRIVATE, PIXEL_HEIGHT, PIXEL_WIDTH, SAMPLING_FREQUENCY,
     TRACK_TYPE, VIDEO,
 };
 
-/// An Element of a TrackEntry: its ID, and the master in which it stands, where that isn't the entry itself.
+/// Element of a TrackEntry: its ID, and its master unless that is the entry
 #[derive(Clone, Copy)]
 pub struct Field {
     pub master: Option<u32>,
     pub id: u32,
 }
 
-/// The Elements that are alike in tracks that may follow one another, in the order in which a difference is
-/// told.
+/// Fields that appended tracks must have in common, in the order of their comparison
 pub const FIELDS: [Field; 7] = [
     Field {
         master: None,

@@ -1,9 +1,8 @@
 #![tactic(auto)]
 
-//! The tracks of a file: the entries of a Tracks Element that is held as a tree, as values, or the first thing that refuses
-//! them; whether a track's frames can be used; and the tracks as they are written: a source's TrackEntry with its number
-//! and identifier in the output and what the user gives, and whether a track may follow another (RFC 9559, section 5.1.4,
-//! Tracks Element).
+//! Tracks of a file: RFC 9559, section 5.1.4 (Tracks). It reads the entries of a Tracks element as values, or reports
+//! the first damage. It checks whether a track's frames can be used, and whether a track may be appended to another.
+//! It writes a source's TrackEntry with its output number and identifier, and with the user's changes.
 
 mod difference;
 mod encoding;

@@ -1,4 +1,4 @@
-//! What refuses a Tracks Element: RFC 9559, section 5.1.4 (Tracks Element).
+//! Damage of a Tracks element: RFC 9559, section 5.1.4 (Tracks).
 
 ghost use Rattle.std.specs.Prelude.{◌≡◌, map, IfOk, is_none};
 ghost use Rattle.mkv_schema.specs.declared.ids.TheConstants.{TRACK_ENTRY as ENTRY_ID};
@@ -17,16 +17,16 @@ use mkv_schema::ids::{CODEC_ID, DEFAULT_DURATION, TRACK_ENTRY, TRACK_NUMBER, TRA
 use std::alloc::{AllocError, Global};
 use std::collections::BTreeSet;
 
-/// The least DefaultDuration that is refused, in nanoseconds.
+/// Least DefaultDuration that is refused, in nanoseconds
 const TOO_LONG: u64 = 1 << 48;
 
-/// What an entry must have, in the order in which it is missed.
+/// Mandatory children of an entry, in the order of the checks
 const MANDATORY: [u32; 3] = [TRACK_NUMBER, TRACK_TYPE, CODEC_ID];
 
-/// The most entries.
+/// Maximum number of entries
 const MAX_TRACKS: usize = 1024;
 
-// A TrackNumber of 0, or a DefaultDuration that is too long.
+// Checks whether `child` is a TrackNumber of 0 or a DefaultDuration that is too long.
 fn is_bad(child: &Tree) -> bool
     requires { StandsIn ENTRY_ID child.now }
     ensures { result ≡ is_bad child.now }
@@ -38,14 +38,14 @@ fn is_bad(child: &Tree) -> bool
     }
 }
 
-// Whether a value of this ID was met, by which of the two that may be bad were.
+// Checks whether an element with this ID came before. Only the two IDs that may be invalid are noted.
 fn is_met(numbered: bool, timed: bool, id: u32) -> bool
     ensures { result ≡ is_met numbered timed id }
 {
     numbered && id == TRACK_NUMBER || timed && id == DEFAULT_DURATION
 }
 
-// The first value of an entry that is bad.
+// Returns damage at the first invalid value of `entry`.
 fn bad_value(entry: &Tree) -> Option<Damage>
     requires { IsEntry entry.now }
     ensures { result ≡ bad_value entry.now }
@@ -73,7 +73,7 @@ fn lacks(entry: &Tree, id: u32) -> bool
     entry.child(id).is_none()
 }
 
-// What an entry lacks.
+// Returns damage if `entry` lacks a mandatory child.
 fn missing_child(entry: &Tree) -> Option<Damage>
     ensures { result ≡ missing_child entry.now }
 {
@@ -85,7 +85,7 @@ fn missing_child(entry: &Tree) -> Option<Damage>
     })
 }
 
-// The first bad value of all entries.
+// Returns damage at the first invalid value in all entries.
 fn first_bad_value(tracks: &Tree) -> Option<Damage>
     requires { IsSound tracks.now }
     ensures { result ≡ first_in bad_value (entries_of tracks.now) }
@@ -100,7 +100,7 @@ fn first_bad_value(tracks: &Tree) -> Option<Damage>
     None
 }
 
-// What the first entry lacks that lacks something.
+// Returns damage at the first entry that lacks a mandatory child.
 fn first_missing_child(tracks: &Tree) -> Option<Damage>
     ensures { result ≡ first_in missing_child (entries_of tracks.now) }
 {
@@ -114,7 +114,7 @@ fn first_missing_child(tracks: &Tree) -> Option<Damage>
     None
 }
 
-// The TrackNumbers of the entries.
+// Returns the TrackNumbers of the entries.
 fn numbers_of(alloc: Global, tracks: &Tree) -> Result<Vec<u64>, AllocError>
     requires { IsSound tracks.now }
     ensures { IfOk result (λ numbers. numbers.items ≡ map number_of (entries_of tracks.now)) }
@@ -128,7 +128,7 @@ fn numbers_of(alloc: Global, tracks: &Tree) -> Result<Vec<u64>, AllocError>
     Ok(numbers)
 }
 
-// The least index whose number stands before it.
+// Returns the index of the first number that also came before.
 fn first_repeated(alloc: Global, numbers: &[u64]) -> Result<Option<usize>, AllocError>
     ensures { IfOk result (λ place. place ≡ first_repeated numbers.now) }
 {
@@ -141,7 +141,7 @@ fn first_repeated(alloc: Global, numbers: &[u64]) -> Result<Option<usize>, Alloc
     Ok(None)
 }
 
-// A damage at the place of an entry, counted from 0.
+// Returns damage at the entry with the index `k`.
 fn told_at(tracks: &Tree, kind: Kind, id: u32, k: usize) -> Option<Damage>
     ensures { result ≡ told_at (entries_of tracks.now) (damage kind id) k }
 {
@@ -153,7 +153,7 @@ fn told_at(tracks: &Tree, kind: Kind, id: u32, k: usize) -> Option<Damage>
     })
 }
 
-// The first entry with the TrackNumber of one before it.
+// Returns damage at the first entry with the TrackNumber of a previous entry.
 fn repeated_number(alloc: Global, tracks: &Tree) -> Result<Option<Damage>, AllocError>
     requires { IsSound tracks.now }
     ensures { IfOk result (λ damage. damage ≡ repeated_number (entries_of tracks.now)) }
@@ -165,7 +165,7 @@ fn repeated_number(alloc: Global, tracks: &Tree) -> Result<Option<Damage>, Alloc
     }
 }
 
-/// What refuses a Tracks Element.
+/// Returns the first damage of a Tracks element.
 pub(crate) fn refusal_of(alloc: Global, tracks: &Tree) -> Result<Option<Damage>, AllocError>
     requires { IsSound tracks.now }
     ensures { IfOk result (λ damage. damage ≡ refusal_of tracks.now) }

@@ -1,20 +1,19 @@
-//! What is changed in a track.
+//! Changes to a track
 use mkv_io::Text;
 
-/// What is set in a TrackEntry when it is written (RFC 9559, section 5.1.4, Tracks Element). What isn't given
-/// stays as it is in the source.
+/// Changes to a TrackEntry when it is written (RFC 9559, section 5.1.4, Tracks); absent fields stay as in the source
 #[derive(Drop)]
 pub struct TrackChange {
-    /// The TrackNumber.
+    /// TrackNumber
     pub number: u64,
-    /// The TrackUID.
+    /// TrackUID
     pub uid: u64,
-    /// The Name.
+    /// Name
     pub name: Option<Text>,
-    /// The Language; a LanguageBCP47 goes, since it would be shown in its place.
+    /// Language; LanguageBCP47 is removed, since it would be displayed instead
     pub language: Option<Text>,
-    /// The FlagDefault.
+    /// FlagDefault
     pub flag_default: Option<bool>,
-    /// The FlagForced.
+    /// FlagForced
     pub flag_forced: Option<bool>,
 }

@@ -1,4 +1,4 @@
-//! The tracks of a Tracks Element: RFC 9559, section 5.1.4 (Tracks Element).
+//! Tracks of a Tracks element: RFC 9559, section 5.1.4 (Tracks).
 
 ghost use Rattle.std.specs.Prelude.{◌≡◌, ◌≢◌, map, All, OnOk, IfOk, IfErr};
 ghost use Rattle.tree_format.specs.Node.{HasRoom};
@@ -17,7 +17,7 @@ use mkv_io::List;
 use mkv_schema::ids::TRACK_ENTRY;
 use std::alloc::{AllocError, Global};
 
-// The entries as tracks.
+// Returns the entries as tracks.
 fn tracks_in(alloc: Global, tracks: &Tree) -> Result<List<Track>, AllocError>
     requires { IsSound tracks.now }
     ensures exact { IfOk result (λ list. list ≡ map track_of (entries_of tracks.now)) }
@@ -32,7 +32,7 @@ fn tracks_in(alloc: Global, tracks: &Tree) -> Result<List<Track>, AllocError>
     Ok(list)
 }
 
-// The tracks that the definition has.
+// Reads the tracks, as the definition has them.
 fn read(alloc: Global, tracks: &Tree) -> Result<List<Track>, TreeEnd>
     requires { IsSound tracks.now }
     ensures exact { ReadsTracks result (tracks_of tracks.now) }
@@ -44,16 +44,16 @@ fn read(alloc: Global, tracks: &Tree) -> Result<List<Track>, TreeEnd>
     }
 }
 
-/// The tracks of a Tracks Element in the order of its entries, or what refuses them. A tree that was
-/// parsed is sound.
+/// Reads the tracks of a Tracks element in the order of its entries, or returns the first damage. A tree from the
+/// parser is sound.
 ///
-/// Of all entries the first bad value is told before the first child that is missing, then the first
-/// repeated TrackNumber, then the 1,025th entry.
+/// An invalid value in any entry is reported first. Then come a missing child, a repeated TrackNumber, and the
+/// 1,025th entry.
 pub fn read_tracks(alloc: Global, tracks: &Tree) -> Result<List<Track>, TreeEnd>
     requires { IsSound tracks.now }
     ensures exact { ReadsTracks result (tracks_of tracks.now) }
 
-    // The entries are refused exactly where they aren't tracks; those that are given are sound, and fit into a Tracks.
+    // The entries are refused exactly if they aren't tracks. Returned tracks are sound, and fit in a Tracks element.
     ensures taken { IfOk result (λ list. AreTracks (entries_of tracks.now)) }
     ensures refused { IfErr result (λ end. end ≢ TreeEnd.Memory → ¬ AreTracks (entries_of tracks.now)) }
     ensures sound { IfOk result (All (λ track. IsEntry track.entry)) }

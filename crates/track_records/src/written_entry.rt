@@ -1,4 +1,4 @@
-//! The TrackEntry that is written: RFC 9559, section 5.1.4 (Tracks Element).
+//! TrackEntry of an output: RFC 9559, section 5.1.4 (Tracks).
 
 ghost use Rattle.std.specs.Prelude.{◌≡◌, [], ◌∷◌, OnOk, IfOk};
 ghost use Rattle.tree_format.specs.Node.{leaf};
@@ -18,7 +18,7 @@ use mkv_schema::ids::{
 };
 use std::alloc::{AllocError, Global};
 
-// A copy of the entry without what goes.
+// Returns a copy of `entry` without the removed children.
 fn bare(alloc: Global, entry: &Tree, language: &Option<Text>) -> Result<Tree, AllocError>
     requires { IsWholeEntry entry.now }
     ensures exact { IfOk result (λ bare. bare ≡ removed_each (ids_removed language.now) entry.now) }
@@ -40,7 +40,7 @@ fn set_uint(alloc: Global, entry: &mut Tree, id: u32, value: u64) -> Result<(), 
     entry.set(uint_leaf(alloc, id, value)?)
 }
 
-// Sets a text where one is given.
+// Sets a text if it is present.
 fn set_text(alloc: Global, entry: &mut Tree, id: u32, text: &Option<Text>) -> Result<(), AllocError>
     requires id { IsTextIn TRACK_ENTRY id }
     requires whole { IsWholeEntry entry.old }
@@ -52,7 +52,7 @@ fn set_text(alloc: Global, entry: &mut Tree, id: u32, text: &Option<Text>) -> Re
     }
 }
 
-// Sets a flag where one is given.
+// Sets a flag if it is present.
 fn set_flag(alloc: Global, entry: &mut Tree, id: u32, flag: Option<bool>) -> Result<(), AllocError>
     requires id { IsUintIn TRACK_ENTRY id }
     requires whole { IsWholeEntry entry.old }
@@ -64,8 +64,8 @@ fn set_flag(alloc: Global, entry: &mut Tree, id: u32, flag: Option<bool>) -> Res
     }
 }
 
-/// The entry that is written of a source's track: without ContentEncodings, with the number and the
-/// identifier that it gets, and then with what the user gives. All else stays, each Element in its order.
+/// Returns the output entry of a source's track. It has no ContentEncodings, the output's number and identifier, and
+/// then the user's changes. Other children stay in their order.
 pub fn written(alloc: Global, track: &Track, change: &TrackChange) -> Result<Tree, AllocError>
     requires { IsWholeEntry track.now.entry }
     ensures exact { IfOk result (λ entry. entry ≡ written_entry change.now track.now.entry) }

@@ -1,4 +1,4 @@
--- The compression stands in the encoding.
+-- The compression is valid in the encoding.
 use Rattle.std.proofs.Common.{sym}
 use Rattle.tree_format.proofs.ChildLemmas.{first_child-sound, HasUint-of}
 use Rattle.track_records.proofs.EntryLemmas.{algorithm}

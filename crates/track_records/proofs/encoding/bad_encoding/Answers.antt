@@ -1,4 +1,4 @@
--- The ContentEncodings stands in the entry.
+-- The ContentEncodings is valid in the entry.
 use Rattle.std.proofs.Common.{sym}
 use Rattle.tree_format.proofs.ChildLemmas.{first_child-sound}
 use Rattle.track_records.proofs.encoding.bad_encoding.Goals as goal

@@ -1,4 +1,4 @@
--- The first of the encodings, and what follows it.
+-- The first encoding and the next one decide.
 use Rattle.std.proofs.Common.{sym, ◌∙◌}
 use Rattle.tree_format.proofs.ChildLemmas.{first_child-sound}
 use Rattle.file_format.proofs.EncodingLemmas.{undone-none, undone-one}

@@ -1,4 +1,4 @@
--- What is put back keeps the limit, where the encodings can be undone.
+-- The restored bytes keep the limit if the encodings can be undone.
 use Rattle.file_format.proofs.EncodingLemmas.{usable-few}
 use Rattle.track_records.proofs.encoding.usable.Goals as goal
 

@@ -1,4 +1,4 @@
--- A child stands in the entry, and is new or was met.
+-- A child is valid in the entry, and is new or came before.
 use Rattle.std.proofs.Common.{◌≡◌, false, subst, ℕ}
 use Rattle.tree_format.specs.Standing.{StandsIn}
 use Rattle.tree_format.proofs.ChildLemmas.{child-stands}

@@ -1,4 +1,4 @@
--- What is left tells what all tell, but for what was met.
+-- The rest has the first damage, if the IDs that came before are excluded.
 use Rattle.std.proofs.Common.{◌≡◌, drop, find}
 use Rattle.tree_format.specs.Node.{children}
 use Rattle.file_format.specs.Refusal.{firsts, is_bad}

@@ -1,4 +1,4 @@
--- The entry is sound, as the tree is.
+-- The entry is sound, like the tree.
 use Rattle.track_records.proofs.EntriesLemmas.{child-entry}
 use Rattle.track_records.proofs.refusal.first_bad_value.Goals as goal
 

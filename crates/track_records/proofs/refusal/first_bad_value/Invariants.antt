@@ -1,4 +1,4 @@
--- What is left tells what all tell.
+-- The rest has the first damage.
 use Rattle.std.proofs.Common.{◌≡◌}
 use Rattle.file_format.specs.Entry.{entries_of}
 use Rattle.file_format.specs.Refusal.{first_in, bad_value}

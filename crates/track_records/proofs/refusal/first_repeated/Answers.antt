@@ -1,4 +1,4 @@
--- A number that is new to those before isn't repeated.
+-- A number that is new isn't repeated.
 use Rattle.std.proofs.Common.{sym, ◌∙◌, get_or}
 use Rattle.file_format.specs.Refusal.{is_repeated}
 use Rattle.track_records.proofs.RefusalLemmas.{find-passes, known-next, added-new}

@@ -1,4 +1,4 @@
--- What is left tells what all tell, and the numbers before are known.
+-- The rest has the first repeated number, and the previous numbers are known.
 use Rattle.std.proofs.Common.{◌≡◌, ◌-◌, ◌==◌, ℕ, nat_cmp, length, find, take}
 use Rattle.std.specs.BTreeSet.{contains}
 use Rattle.std.specs.List.{list_any, range_with_len}

@@ -1,4 +1,4 @@
--- The entry is sound, as the tree is.
+-- The entry is sound, like the tree.
 use Rattle.track_records.proofs.EntriesLemmas.{child-entry}
 use Rattle.track_records.proofs.refusal.numbers_of.Goals as goal
 

@@ -1,4 +1,4 @@
--- The numbers so far, with those of what is left, are those of all.
+-- The numbers found and the rest make the whole list.
 use Rattle.std.proofs.Common.{◌≡◌, ◌++◌, map}
 use Rattle.file_format.specs.Entry.{entries_of, number_of}
 use Rattle.track_records.proofs.EntriesLemmas.{entries_from}

@@ -1,4 +1,4 @@
--- What was read is the definition's.
+-- The result is the definition's.
 use Rattle.track_records.proofs.TracksLemmas.{taken, refused, sound, room}
 use Rattle.track_records.proofs.tracks.read_tracks.Goals as goal
 

@@ -1,4 +1,4 @@
--- The entry is sound, as the tree is.
+-- The entry is sound, like the tree.
 use Rattle.track_records.proofs.EntriesLemmas.{child-entry, entries-room}
 use Rattle.track_records.proofs.tracks.tracks_in.Goals as goal
 

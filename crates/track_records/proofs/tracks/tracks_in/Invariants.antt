@@ -1,4 +1,4 @@
--- The tracks so far, with those of what is left, are those of all.
+-- The tracks found and the rest make the whole list.
 use Rattle.std.proofs.Common.{◌≡◌, ◌++◌, map}
 use Rattle.file_format.specs.Entry.{entries_of}
 use Rattle.track_records.specs.Track.{track_of}

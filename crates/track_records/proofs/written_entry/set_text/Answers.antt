@@ -1,4 +1,4 @@
--- The leaf stands in a TrackEntry.
+-- The leaf is valid in a TrackEntry.
 use Rattle.track_records.proofs.StandLemmas.{set-leaf, set-given}
 use Rattle.track_records.proofs.written_entry.set_text.Goals as goal
 

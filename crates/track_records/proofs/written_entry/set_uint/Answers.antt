@@ -1,4 +1,4 @@
--- The leaf stands in a TrackEntry.
+-- The leaf is valid in a TrackEntry.
 use Rattle.std.proofs.Common.{refl}
 use Rattle.track_records.proofs.StandLemmas.{set-leaf}
 use Rattle.track_records.proofs.written_entry.set_uint.Goals as goal

@@ -1,4 +1,4 @@
--- What is set is set one after the other.
+-- The changes are made in sequence.
 use Rattle.std.proofs.Common.{◌∙◌, ap}
 use Rattle.tree_format.specs.Children.{set_each}
 use Rattle.track_records.specs.Entry.{children_set}
