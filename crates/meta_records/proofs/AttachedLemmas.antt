@@ -1,4 +1,4 @@
--- The attached files of a file whose outline was read.
+-- The attached files of a file with an outline.
 use Rattle.std.proofs.Common.{◌≡◌, ℕ, List, [], ◌∷◌, map, Option, Some, None, Ok, Err, refl, sym, ◌∙◌, ap}
 use Rattle.mkv_schema.specs.declared.ids.TheConstants.{ATTACHMENTS}
 use Rattle.mkv_io.specs.declared.damage.Damage.{Damage}
@@ -13,17 +13,17 @@ use Rattle.meta_records.specs.Attachments.{attached_in, attachment_of, attachmen
 use Rattle.meta_records.specs.Attached.{AttachedFile, file_at, files_at, first_attached, in_file}
 use Rattle.meta_records.proofs.RecordsLemmas.{first_same}
 
--- those of the first Attachments that the outline has
+-- The attached files are those of the first Attachments in the outline.
 pub first_attached-of : (before : ℕ) (bytes : List ℕ) (v : FileOutline) (h : Option Header) → outline_in before bytes ≡ Ok v → first_in ATTACHMENTS v ≡ h → first_attached bytes v.segment ≡ files_at bytes h
 first_attached-of before bytes v h outline found =
     ap (files_at bytes) (sym (first_same ATTACHMENTS before bytes v refl (Outlines-shown before bytes v outline)) ∙ found)
 
--- each is what its AttachedFile says
+-- Each attached file agrees with its AttachedFile.
 files-same : (bytes : List ℕ) (file : FileId) (list : List Header) → map (file_at bytes) list ≡ map in_file (map (attachment_of bytes file) list)
 files-same bytes file [] = refl
 files-same bytes file (h ∷ hs) = ap (λ (files : List AttachedFile). file_at bytes h ∷ files) (files-same bytes file hs)
 
--- they are read
+-- They are read.
 pub attached-read : (bytes : List ℕ) (file : FileId) (h : Header) (list : List Attachment) → attachments_in bytes file h ≡ Ok list → files_at bytes (Some h) ≡ Ok (map in_file list)
 attached-read bytes file h list read = step (first_damage (attachments_causes bytes h)) read
   where
@@ -33,7 +33,7 @@ attached-read bytes file h list read = step (first_damage (attachments_causes by
         ap (λ (files : List AttachedFile). Ok files) (files-same bytes file (attached_in bytes h) ∙ ap (map in_file) same)
     step (Some d) made = absurd (cc)
 
--- or refused
+-- They are refused.
 pub attached-refused : (bytes : List ℕ) (file : FileId) (h : Header) (d : Damage) → attachments_in bytes file h ≡ Err d → files_at bytes (Some h) ≡ Err d
 attached-refused bytes file h d read = step (first_damage (attachments_causes bytes h)) read
   where

@@ -1,4 +1,4 @@
--- The limits of what is counted.
+-- The limits of the counts.
 use Rattle.std.proofs.Common.{◌≡◌, ◌<◌, ◌≤◌, ℕ, ◌+◌, ◌-◌, nat_lt, nat_le, true, false, Some, None, refl, arith}
 use Rattle.mkv_io.specs.declared.damage.Kind.TheVariants.{HeaderTooLarge, TooMany}
 use Rattle.mkv_schema.specs.declared.element.Header.{Header}

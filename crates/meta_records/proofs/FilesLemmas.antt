@@ -25,9 +25,9 @@ use Rattle.meta_records.specs.declared.end.MetaEnd.TheVariants.{Refused, ReadFau
 use Rattle.meta_records.specs.declared.limits.TheConstants.{MAX_ATTACHMENTS}
 use Rattle.meta_records.proofs.MetLemmas.{run_at, run_at-step}
 
--- ---- on the way
+-- ---- while the children are read
 
--- Of the Elements from a place on those up to another gave what was found.
+-- `found` has the attached files and damage of the elements from `from` up to `p`.
 pub record AreFound (bytes : List ℕ) (file : FileId) (from p e : ℕ) (found : AttachmentScan) : Type 0 where
   pub attachments : map (attachment_of bytes file) (filter is_attached (run_at bytes from e).list) ≡ found.attachments ++ map (attachment_of bytes file) (filter is_attached (run_at bytes p e).list)
   pub missing : first_damage (map (missing_data bytes) (filter is_attached (run_at bytes from e).list)) ≡ option_or found.missing (first_damage (map (missing_data bytes) (filter is_attached (run_at bytes p e).list)))
@@ -82,7 +82,7 @@ AreFound-more bytes file from p e next old new are inside reads =
           ∙ ap (λ (d : Option Damage). option_or d (first_damage (M back))) (sym reads.adds.missing);
     }
 
--- all were found
+-- All were found.
 pub AreFound-all : (bytes : List ℕ) (file : FileId) (h : Header) (p : ℕ) (found : AttachmentScan) → AreFound bytes file h.body p (stated_end h) found → stated_end h ≤ p → refused_in bytes h ≡ None → HasAll bytes file h found
 AreFound-all bytes file h p found are past good =
     let none : filter is_attached (run_at bytes p (stated_end h)).list ≡ [] =
@@ -97,10 +97,10 @@ AreFound-all bytes file h p found are past good =
     same (Some e) = refl
     same None = refl
 
--- ---- from the start on
+-- ---- from the start
 
 module _ (bytes : List ℕ) (h : Header) (old : Counts) (none : old.octets ≡ 0) (one : old.nodes ≡ 1) where
-  -- what is met from there on
+  -- The counts begin at 0 bytes and one element.
   from-start : refused_from old.octets old.nodes (met_in (at_child bytes) (children_of bytes h) ++ []) ≡ refused_in bytes h
   from-start =
       ap (refused_from old.octets old.nodes) (append-nil (met_in (at_child bytes) (children_of bytes h)))
@@ -115,7 +115,7 @@ module _ (bytes : List ℕ) (h : Header) (old : Counts) (none : old.octets ≡ 0
   walk-refused T file new ReadFault meets = tt
   walk-refused T file new Memory meets = tt
 
--- ---- the answer
+-- ---- result
 
 first-of_rest : (a b : Option Damage) → first_damage (None ∷ a ∷ b ∷ []) ≡ first_refusal a b
 first-of_rest (Some d) b = refl
@@ -131,7 +131,7 @@ one_over-is bytes file files =
     twice None = refl
     twice (Some h) = refl
 
--- what was found, unless something refuses it, is the definition's
+-- The attached files found, or their damage, are the definition's.
 pub good_files-is : (bytes : List ℕ) (file : FileId) (h : Header) (found : AttachmentScan) → HasAll bytes file h found → attachments_in bytes file h ≡ good_files found
 good_files-is bytes file h found has =
     let files = attached_in bytes h in
@@ -143,7 +143,7 @@ good_files-is bytes file h found has =
     ∙ ap (λ (r : Option Damage). unless (first_refusal found.missing r) A) (sym (one_over-is bytes file files))
     ∙ ap (λ (l : List Attachment). unless (first_refusal found.missing (one_over l)) l) (sym has.attachments)
 
--- something among the Elements refuses it
+-- Damage of the elements refuses them.
 pub refused-is : (bytes : List ℕ) (file : FileId) (h : Header) (end : MetaEnd) → WalksAll bytes file h (Err end) → ReadsAs (attachments_in bytes file h) (Err end)
 refused-is bytes file h (Refused d) is =
     let files = attached_in bytes h in

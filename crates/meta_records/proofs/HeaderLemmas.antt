@@ -14,7 +14,7 @@ use Rattle.mkv_schema.specs.Element.{Setting, in_master, id_in, with_body, with_
 use Rattle.mkv_schema.proofs.ElementLemmas.{element_at-front, element_in-placed, element_in-whole}
 use Rattle.meta_records.specs.Walk.{IsChild}
 
--- ---- its ID is valid
+-- ---- valid ID
 
 id-of-body : (made h : Header) (found : Option Kind) → with_body made found ≡ Ok h → made.id ≡ h.id
 id-of-body made h None is = let same : made ≡ h = cc in ap (λ (x : Header). x.id) same
@@ -38,7 +38,7 @@ pub element_in-id : (octets : List ℕ) (total p e : ℕ) (h : Header) → AreOc
 unfolding element_in
 element_in-id octets total p e h bytes is = id-of-id octets total p e h (id_in in_master octets) bytes refl is
 
--- ---- what was read is enough
+-- ---- enough bytes were read
 
 pub header-read : (bytes octets : List ℕ) (total at end len n : ℕ) → octets ≡ octets_from bytes at n → n ≡ len → total ≡ length bytes → at ≤ end → len ≡ min (end - at) MAX_ELEMENT_HEADER_LEN → element_in in_master octets total at end ≡ element_at in_master bytes at end
 header-read bytes octets total at end len n read count is place most =
@@ -46,7 +46,7 @@ header-read bytes octets total at end len n read count is place most =
     ∙ ap (λ t. element_in in_master (octets_from bytes at len) t at end) is
     ∙ element_at-front in_master bytes at end len place most
 
--- it stands there
+-- The header is at the offset `at`.
 pub IsChild-found : (octets : List ℕ) (total at end : ℕ) (h : Header) → AreOctets octets → at + length octets ≤ end → element_in in_master octets total at end ≡ Ok h → IsChild at end h
 IsChild-found octets total at end h bytes inside is =
     let whole = element_in-whole in_master octets total at end h is in
@@ -57,7 +57,7 @@ IsChild-found octets total at end h bytes inside is =
       valid = element_in-id octets total at end h bytes is;
     }
 
--- it stands so in a longer parent
+-- The header is also valid in a longer parent.
 pub IsChild-longer : (at end total : ℕ) (h : Header) → IsChild at end h → end ≤ total → IsChild h.offset total h
 IsChild-longer at end total h is longer =
     let placed = is.placed in

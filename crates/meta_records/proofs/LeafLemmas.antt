@@ -1,4 +1,4 @@
--- A child of an AttachedFile as a leaf.
+-- Children of an AttachedFile as leaves.
 use Rattle.std.proofs.Common.{◌≡◌, ◌≤◌, ℕ, ◌+◌, ◌-◌, ◌==◌, Bool, true, false, not, if◌then◌else◌, List, [], Result, Ok, sym, ◌∙◌, ap, arith}
 use Rattle.std.proofs.lemmas.Bool.Decides.{nat_tests}
 use Rattle.mkv_schema.specs.declared.ids.TheConstants.{ATTACHED_FILE, FILE_DATA}
@@ -14,7 +14,7 @@ use Rattle.meta_records.specs.Attachments.{counted_of, header_len, leaf_of, told
 use Rattle.meta_records.specs.Walk.{leaf_in, octets_of}
 use Rattle.meta_records.proofs.TableFacts.{file_data-value}
 
--- ---- of FileData
+-- ---- FileData
 
 is-data : (h : Header) → h.id ≡ FILE_DATA → (h.id == FILE_DATA) ≡ true
 is-data h is = grind (arith, nat_tests)
@@ -28,9 +28,9 @@ leaf_in-data bytes h n is made =
     ∙ ap (λ (i : ℕ). ok (leaf i 0 [])) is
     ∙ ap ok (sym made)
 
--- ---- what is counted
+-- ---- counted bytes
 
--- what is read of it is counted, and no more than it has
+-- The bytes read of a child count, and it has no fewer.
 pub octets_of-counted : (h : Header) → h.offset ≤ h.body → (octets_of h ≤ counted_of h) × (counted_of h ≤ stated_end h - h.offset)
 octets_of-counted h behind = of (h.id == FILE_DATA)
   where

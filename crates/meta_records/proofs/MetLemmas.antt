@@ -1,4 +1,4 @@
--- What is met of some Elements, one step at a time.
+-- Scanned elements, one step at a time.
 use Rattle.std.proofs.Common.{◌≡◌, ℕ, ◌+◌, ◌<◌, ◌≤◌, Bool, true, if◌then◌else◌, List, [], ◌∷◌, ◌++◌, length, flat_map, Option, Some, None, Result, Ok, Err, refl, sym, ◌∙◌, ap, subst, arith, append_assoc}
 use Rattle.mkv_io.specs.declared.damage.Damage.{Damage}
 use Rattle.mkv_schema.specs.declared.element.Header.{Header}
@@ -15,12 +15,12 @@ use Rattle.meta_records.specs.declared.counts.Counts.{Counts}
 use Rattle.meta_records.specs.declared.end.MetaEnd.{MetaEnd}
 use Rattle.meta_records.specs.declared.end.MetaEnd.TheVariants.{Refused, ReadFault, Memory}
 
--- ---- the Elements from a place on
+-- ---- elements from an offset on
 
 abbrev pub run_at : List ℕ → ℕ → ℕ → Run
 run_at bytes p e = children_in in_master bytes p e
 
--- an Element with those behind it, or a damage
+-- the rest of a run, given the element or damage at its start
 abbrev pub run_of : List ℕ → ℕ → ℕ → Result Header Damage → Run
 run_of bytes p e (Ok h) = in_front h (run_at bytes (stated_end h) e)
 run_of bytes p e (Err d) = breaks_at p d
@@ -39,13 +39,13 @@ run_at-step bytes p e (Ok h) inside is =
         let within : stated_end h ≤ e = (element_in-whole in_master (octets_between bytes p e) (length bytes) p e h is).inside refl in
         omega arith
 
--- ---- what is met of them
+-- ---- scanned elements
 
 abbrev pub later : (Header → List (Result ScannedElement Damage)) → List ℕ → ℕ → Result Header Damage → List (Result ScannedElement Damage)
 later at bytes e (Ok h) = met_in at (run_at bytes (stated_end h) e)
 later at bytes e (Err d) = []
 
--- what stands at a place, and what stands behind it
+-- The element or damage at an offset comes first, then the rest.
 pub met_in-step : (at : Header → List (Result ScannedElement Damage)) (bytes : List ℕ) (p e : ℕ) (found : Result Header Damage) → p < e → element_at in_master bytes p e ≡ found → met_in at (run_at bytes p e) ≡ met_at at found ++ later at bytes e found
 met_in-step at bytes p e (Err d) inside is = ap (met_in at) (run_at-step bytes p e (Err d) inside is)
 met_in-step at bytes p e (Ok h) inside is =
@@ -53,20 +53,20 @@ met_in-step at bytes p e (Ok h) inside is =
     ap (met_in at) (run_at-step bytes p e (Ok h) inside is)
     ∙ append_assoc (at h) (flat_map at rest.list) (ended rest.damage)
 
--- nothing is met at the end
+-- At the end nothing is scanned.
 pub met_in-end : (at : Header → List (Result ScannedElement Damage)) (bytes : List ℕ) (p e : ℕ) → e ≤ p → met_in at (run_at bytes p e) ≡ []
 met_in-end at bytes p e past = ap (met_in at) (elements-end in_master never (λ h. Ok (end_in e h)) bytes p e past)
 
--- ---- on the way
+-- ---- during the scan
 
--- Some Elements from a place on were met up to another, and behind them so much is counted.
+-- The elements from `from` up to `p` were scanned, and `new` counts them.
 pub record IsMet (at : Header → List (Result ScannedElement Damage)) (bytes : List ℕ) (from p e : ℕ) (old new : Counts) : Type 0 where
   pub on : (more : List (Result ScannedElement Damage)) → refused_from old.octets old.nodes (met_in at (run_at bytes from e) ++ more) ≡ refused_from new.octets new.nodes (met_in at (run_at bytes p e) ++ more)
 
 pub IsMet-none : (at : Header → List (Result ScannedElement Damage)) (bytes : List ℕ) (p e : ℕ) (c : Counts) → IsMet at bytes p p e c c
 IsMet-none at bytes p e c = record { on = λ more. refl }
 
--- up to a place, and then what stands there
+-- After the elements up to `p`, the element at `p` is next.
 IsMet-at : (at : Header → List (Result ScannedElement Damage)) (bytes : List ℕ) (from p e : ℕ) (old mid : Counts) (more : List (Result ScannedElement Damage)) → IsMet at bytes from p e old mid → p < e
     → refused_from old.octets old.nodes (met_in at (run_at bytes from e) ++ more)
     ≡ refused_from mid.octets mid.nodes (met_at at (element_at in_master bytes p e) ++ (later at bytes e (element_at in_master bytes p e) ++ more))
@@ -76,7 +76,7 @@ IsMet-at at bytes from p e old mid more is inside =
     ∙ ap (λ (l : List (Result ScannedElement Damage)). refused_from mid.octets mid.nodes (l ++ more)) (met_in-step at bytes p e found inside refl)
     ∙ ap (refused_from mid.octets mid.nodes) (append_assoc (met_at at found) (later at bytes e found) more)
 
--- one Element more
+-- One more element is scanned.
 pub IsMet-more : {T : Type 0} (at : Header → List (Result ScannedElement Damage)) (bytes : List ℕ) (from p e next : ℕ) (old mid new : Counts) (h : Header) (x : T) → IsMet at bytes from p e old mid → p < e
     → element_at in_master bytes p e ≡ Ok h → next ≡ stated_end h → Meets (met_at at (element_at in_master bytes p e)) mid new (Ok x) → IsMet at bytes from next e old new
 IsMet-more at bytes from p e next old mid new h x is inside found behind meets = record {
@@ -87,7 +87,7 @@ IsMet-more at bytes from p e next old mid new h x is inside found behind meets =
       ∙ ap (λ (q : ℕ). refused_from new.octets new.nodes (met_in at (run_at bytes q e) ++ more)) (sym behind);
 }
 
--- what stands at the place is refused, or it isn't known
+-- Damage at the offset refuses all, unless a read failed or memory ran out.
 pub IsMet-stops : (T U : Type 0) (at : Header → List (Result ScannedElement Damage)) (bytes : List ℕ) (from p e : ℕ) (old mid new final : Counts) (end : MetaEnd) → IsMet at bytes from p e old mid → p < e
     → Meets {T = T} (met_at at (element_at in_master bytes p e)) mid new (Err end) → Meets {T = U} (met_in at (run_at bytes from e)) old final (Err end)
 IsMet-stops T U at bytes from p e old mid new final (Refused d) is inside meets =
@@ -95,25 +95,25 @@ IsMet-stops T U at bytes from p e old mid new final (Refused d) is inside meets 
 IsMet-stops T U at bytes from p e old mid new final ReadFault is inside meets = tt
 IsMet-stops T U at bytes from p e old mid new final Memory is inside meets = tt
 
--- all were met
+-- All elements were scanned.
 pub IsMet-all : {T : Type 0} (at : Header → List (Result ScannedElement Damage)) (bytes : List ℕ) (from p e : ℕ) (old new : Counts) (x : T) → IsMet at bytes from p e old new → e ≤ p → Meets (met_in at (run_at bytes from e)) old new (Ok x)
 IsMet-all at bytes from p e old new x is past =
     λ more. is.on more ∙ ap (λ (l : List (Result ScannedElement Damage)). refused_from new.octets new.nodes (l ++ more)) (met_in-end at bytes p e past)
 
--- ---- what stands at one place
+-- ---- element at one place
 
--- a damage is met
+-- Damage is scanned.
 pub Meets-damage : (T : Type 0) (at : Header → List (Result ScannedElement Damage)) (found : Result Header Damage) (old new : Counts) (end : MetaEnd) → ReadsAs found (Err end) → Meets {T = T} (met_at at found) old new (Err end)
 Meets-damage T at found old new (Refused d) is =
     λ more. ap (λ (r : Result Header Damage). refused_from old.octets old.nodes (met_at at r ++ more)) is
 Meets-damage T at found old new ReadFault is = tt
 Meets-damage T at found old new Memory is = tt
 
--- an Element is met
+-- An element is scanned.
 pub Meets-at : {T : Type 0} (at : Header → List (Result ScannedElement Damage)) (found : Result Header Damage) (h : Header) (old new : Counts) (r : Result T MetaEnd) → found ≡ Ok h → Meets (at h) old new r → Meets (met_at at found) old new r
 Meets-at at found h old new r is meets = subst (λ (f : Result Header Damage). Meets (met_at at f) old new r) (sym is) meets
 
--- ---- the first of three causes
+-- ---- first of three causes
 
 first-of_three : (a b c : Option Damage) (d : Damage) → first_damage (a ∷ b ∷ []) ≡ Some d → first_damage (a ∷ b ∷ c ∷ []) ≡ Some d
 first-of_three (Some e) b c d is = is
@@ -127,15 +127,15 @@ last-of_three None None (Some d) is = refl
 last-of_three None None None is = refl
 
 module _ (octets nodes : ℕ) (m : ScannedElement) (more : List (Result ScannedElement Damage)) where
-  -- it passes a limit
+  -- The element passes a limit.
   pub refused_from-over : (d : Damage) → first_damage (limits_passed (octets + m.counted) nodes m.header) ≡ Some d → refused_from octets nodes (Ok m ∷ more) ≡ Some d
   refused_from-over d over = ap (λ (r : Option Damage). first_refusal r (refused_from (octets + m.counted) (nodes + 1) more)) (first-of_three (too_large (octets + m.counted) m.header) (one_too_many nodes m.header) (no_value m) d over)
 
-  -- it passes none, and then its value counts
+  -- The element passes no limit, so its value decides.
   pub refused_from-within : first_damage (limits_passed (octets + m.counted) nodes m.header) ≡ None → refused_from octets nodes (Ok m ∷ more) ≡ first_refusal (no_value m) (refused_from (octets + m.counted) (nodes + 1) more)
   refused_from-within within = ap (λ (r : Option Damage). first_refusal r (refused_from (octets + m.counted) (nodes + 1) more)) (last-of_three (too_large (octets + m.counted) m.header) (one_too_many nodes m.header) (no_value m) within)
 
--- so much is counted behind it
+-- A valid element is counted.
 pub refused_from-counted : (octets nodes : ℕ) (m : ScannedElement) (new : Counts) (more : List (Result ScannedElement Damage)) → first_damage (limits_passed (octets + m.counted) nodes m.header) ≡ None → no_value m ≡ None → new.octets ≡ octets + m.counted → new.nodes ≡ nodes + 1
     → refused_from octets nodes (Ok m ∷ more) ≡ refused_from new.octets new.nodes more
 refused_from-counted octets nodes m new more within good counted one =
@@ -179,7 +179,7 @@ part-good bytes h old new made x within is counted one = λ more.
 pub child-over : (T : Type 0) (bytes : List ℕ) (h : Header) (old new : Counts) (d : Damage) → first_damage (limits_passed (old.octets + (child_of h).counted) old.nodes h) ≡ Some d → Meets {T = T} (at_child bytes h) old new (Err (Refused d))
 child-over T bytes h old new d over = λ more. refused_from-over old.octets old.nodes (child_of h) _ d over
 
--- inside an AttachedFile its children are
+-- The children of an AttachedFile follow it.
 module _ (bytes : List ℕ) (h : Header) (old mid : Counts) (file : is_attached h ≡ true) (within : first_damage (limits_passed (old.octets + (child_of h).counted) old.nodes h) ≡ None)
     (counted : mid.octets ≡ old.octets + (child_of h).counted) (one : mid.nodes ≡ old.nodes + 1) where
   pub file-front : (more : List (Result ScannedElement Damage)) → refused_from old.octets old.nodes (at_child bytes h ++ more) ≡ refused_from mid.octets mid.nodes (met_in (at_part bytes) (children_of bytes h) ++ more)
@@ -195,7 +195,7 @@ module _ (bytes : List ℕ) (h : Header) (old mid : Counts) (file : is_attached 
   file-bad T U new ReadFault meets = tt
   file-bad T U new Memory meets = tt
 
--- what is said of a refusal doesn't hang on what would have been answered
+-- A failure doesn't depend on the type of the result.
 pub Meets-passed : (T U : Type 0) (list : List (Result ScannedElement Damage)) (old new : Counts) (end : MetaEnd) → Meets {T = T} list old new (Err end) → Meets {T = U} list old new (Err end)
 Meets-passed T U list old new (Refused d) meets = meets
 Meets-passed T U list old new ReadFault meets = tt

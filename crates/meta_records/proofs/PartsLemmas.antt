@@ -35,16 +35,16 @@ use Rattle.meta_records.proofs.MetLemmas.{run_at, run_at-step}
 use Rattle.meta_records.proofs.TableFacts.{file_data-stands, no_master-in}
 use Rattle.ebml_numbers.specs.Number.{is_id}
 
--- ---- a leaf of it
+-- ---- a leaf
 
 pub leaf-stands : (id : ℕ) (body : List ℕ) (n : Node) → is_id id ≡ true → is_known_value ATTACHED_FILE id body ≡ true → n ≡ leaf id 0 body → IsPartLeaf n
 leaf-stands id body n valid value is =
     let P : Node → Type 0 = IsPartLeaf in
     subst P (sym is) (record { stands = record { id_stands = valid; no_master = no_master-in id; value = value }; flat = refl })
 
--- ---- on the way
+-- ---- while the children are read
 
--- Of the Elements from a place on those up to another are these leaves, and the first FileData is this or one behind them.
+-- `ns` are the leaves of the children from `from` up to `p`, and `kept` is the first FileData among them.
 pub record AreRead (bytes : List ℕ) (from p e : ℕ) (ns : List Node) (kept : Option Header) : Type 0 where
   pub leaves : map (leaf_of bytes) (run_at bytes from e).list ≡ ns ++ map (leaf_of bytes) (run_at bytes p e).list
   pub first : first_of FILE_DATA (run_at bytes from e).list ≡ option_or kept (first_of FILE_DATA (run_at bytes p e).list)
@@ -52,7 +52,7 @@ pub record AreRead (bytes : List ℕ) (from p e : ℕ) (ns : List Node) (kept : 
 pub AreRead-none : (bytes : List ℕ) (p e : ℕ) → AreRead bytes p p e [] None
 AreRead-none bytes p e = record { leaves = refl; first = refl }
 
--- the first of some headers
+-- The first FileData is kept.
 first-more : (kept : Option Header) (h : Header) (rest : List Header) → option_or kept (first_of FILE_DATA (h ∷ rest)) ≡ option_or (option_or kept (data_at h)) (first_of FILE_DATA rest)
 first-more (Some d) h rest = refl
 first-more None h rest = split (h.id == FILE_DATA)
@@ -74,7 +74,7 @@ read-more bytes from p e ns kept h n are inside found is =
       first = are.first ∙ ap (λ (r : Run). option_or kept (first_of FILE_DATA r.list)) step ∙ first-more kept h rest.list;
     }
 
--- a child more
+-- One more child is read.
 pub AreRead-more : (bytes : List ℕ) (from p e next : ℕ) (ns ms : List Node) (kept found : Option Header) (part : Part) → AreRead bytes from p e ns kept → p < e → IsPart bytes p e part → next ≡ stated_end part.header → ms ≡ ns ++ part.leaf ∷ [] → found ≡ option_or kept (data_at part.header)
     → AreRead bytes from next e ms found
 AreRead-more bytes from p e next ns ms kept found part are inside is behind grown first =
@@ -83,7 +83,7 @@ AreRead-more bytes from p e next ns ms kept found part are inside is behind grow
     let B = subst (λ (l : List Node). AreRead bytes from next e l (option_or kept (data_at part.header))) (sym grown) A in
     subst (λ (o : Option Header). AreRead bytes from next e ms o) (sym first) B
 
--- the first FileData ends before a place, where each child does
+-- The first FileData ends before `end`, like each child.
 pub first-inside : (kept found : Option Header) (h : Header) (end : ℕ) → IfSome kept (λ (d : Header). stated_end d ≤ end) → stated_end h ≤ end → found ≡ option_or kept (data_at h) → IfSome found (λ (d : Header). stated_end d ≤ end)
 first-inside kept found h end before within is =
     let Q : Option Header → Type 0 = λ o. IfSome o (λ (d : Header). stated_end d ≤ end) in
@@ -97,7 +97,7 @@ first-inside kept found h end before within is =
     of (Some d) before = before
     of None before = one (h.id == FILE_DATA)
 
--- ---- all were read
+-- ---- all children are read
 
 option_or-none : (kept : Option Header) → option_or kept None ≡ kept
 option_or-none (Some d) = refl
@@ -113,19 +113,19 @@ AreRead-first bytes from p e ns kept are past =
 
 -- ---- the entry
 
--- its children are those that it was built of
+-- Its children are the ones that it was built from.
 pub built-children : (id at deep : ℕ) (ns : List Node) (t : Node) → IsBuilt id at deep ns t → children t ≡ ns
 built-children id at deep ns t built = ap children built.is ∙ list-nodes ns
 
 pub built-own : (id at deep : ℕ) (ns : List Node) (t : Node) → IsBuilt id at deep ns t → IsBuilt id at deep (children t) t
 built-own id at deep ns t built = let P : List Node → Type 0 = λ l. IsBuilt id at deep l t in subst P (sym (built-children id at deep ns t built)) built
 
--- a leaf more
+-- One more leaf is added.
 pub built-part : (at : ℕ) (old child new : Node) → IsBuilt ATTACHED_FILE at 0 (children old) old → IsPut old child new → IsPartLeaf child → IsBuilt ATTACHED_FILE at 0 (children old ++ child ∷ []) new
 built-part at old child new built put is =
     built-push ATTACHED_FILE at 0 (children old) old child new built put is.stands (omega (arith, is.flat))
 
--- a child that is set
+-- A child is set.
 pub built-set : (id at deep : ℕ) (old child new : Node) → IsBuilt id at deep (children old) old → depth child ≤ deep → new ≡ with_children old (with_child child (children old)) → (AreTooLong (with_child child (children old)) → ⊥) → IsSound new
     → IsBuilt id at deep (with_child child (children old)) new
 built-set id at deep old child new built flat is short sound =
@@ -140,7 +140,7 @@ built-set id at deep old child new built flat is short sound =
       short = short;
     }
 
--- the empty FileData is set
+-- The empty FileData is set.
 pub built-data : (at : ℕ) (old child new : Node) → IsBuilt ATTACHED_FILE at 0 (children old) old → child ≡ leaf FILE_DATA 0 [] → new ≡ with_children old (with_child child (children old))
     → (AreTooLong (with_child child (children old)) → IsErr {T = Unit {0}} {E = AllocError} (Ok tt)) → (IsSound old → StandsIn (id_of old) child → IsSound new)
     → IsBuilt ATTACHED_FILE at 0 (with_child (leaf FILE_DATA 0 []) (children old)) new
@@ -154,7 +154,7 @@ built-data at old child new built made is full keeps =
     let whole = built-set ATTACHED_FILE at 0 old child new built flat is (λ long. (let never = full long in absurd (cc))) (keeps sound stands) in
     subst (λ (n : Node). IsBuilt ATTACHED_FILE at 0 (with_child n (children old)) new) made whole
 
--- it can be written and read again
+-- The entry can be written and read again.
 pub built-attachment : (at : ℕ) (ns : List Node) (t : Node) → IsBuilt ATTACHED_FILE at 0 (with_child (leaf FILE_DATA 0 []) ns) t → IsAttachment t
 built-attachment at ns t built =
     let all = with_child (leaf FILE_DATA 0 []) ns in
@@ -170,7 +170,7 @@ built-attachment at ns t built =
       one = ap (λ (l : List Node). length (part FILE_DATA l)) (built-children ATTACHED_FILE at 0 all t built) ∙ ap (λ (l : List Node). length l) (part-set (leaf FILE_DATA 0 []) ns);
     }
 
--- it is the definition's
+-- The entry is the definition's.
 pub entry-is : (bytes : List ℕ) (h : Header) (ns : List Node) (t : Node) → IsBuilt ATTACHED_FILE h.offset 0 (with_child (leaf FILE_DATA 0 []) ns) t → ns ≡ map (leaf_of bytes) (children_of bytes h).list → t ≡ spec.entry_of bytes h
 entry-is bytes h ns t built is = built.is ∙ ap (λ l. master ATTACHED_FILE h.offset (nodes_of (with_child (leaf FILE_DATA 0 []) l))) is
 
@@ -194,7 +194,7 @@ attachment-is bytes file h parts uid at len are is place count =
 pub missing-is : (bytes : List ℕ) (h : Header) (parts : Parts) (m : Option Damage) → ArePartsOf bytes h parts → m ≡ where_it (is_none parts.first) (damage MissingChild FILE_DATA h.offset) → m ≡ spec.missing_data bytes h
 missing-is bytes h parts m are is = is ∙ ap (λ (o : Option Header). where_it (is_none o) (damage MissingChild FILE_DATA h.offset)) are.first
 
--- the data end where the AttachedFile does, or before
+-- The data end in the AttachedFile.
 pub data-inside : (end : ℕ) (first : Option Header) → IfSome first (λ (d : Header). stated_end d ≤ end) → option_map_or (λ (d : Header). d.body) first 0 + option_map_or (λ (d : Header). known d.size) first 0 ≤ end
 data-inside end (Some d) inside = inside
 data-inside end None inside = omega arith

@@ -1,4 +1,4 @@
--- The first Elements of a file whose outline was read, and what is made of them.
+-- The first elements of a file with an outline, and values from them.
 use Rattle.std.proofs.Common.{◌≡◌, ℕ, zero, suc, ◌+◌, ◌<◌, ◌≤◌, ◌==◌, nat_lt, Bool, true, false, ◌&&◌, ◌||◌, if◌then◌else◌, List, [], ◌∷◌, ◌++◌, length, get_or, map, Option, Some, None, Result, Ok, Err, refl, sym, ◌∙◌, ap, subst, arith}
 use Rattle.std.specs.List.{All}
 use Rattle.std.specs.Option.{option_map_or}
@@ -33,7 +33,7 @@ use Rattle.track_records.specs.declared.track.Track.{Track}
 use Rattle.meta_records.specs.Attached.{first_attached}
 use Rattle.meta_records.specs.Records.{AreRead, FileRecords, IsHeld, file_records, first_tree, good_info, good_tracks, scale_of_info, tree_at}
 
--- Info, Tracks, Chapters and Tags are read whole
+-- Info, Tracks, Chapters and Tags are read whole.
 pub record AreHeld : Type 0 where
   pub info : IsHeld INFO
   pub tracks : IsHeld TRACKS
@@ -49,9 +49,9 @@ held = record {
   tags = record { master = refl; described = refl; limit = refl; other = refl };
 }
 
--- ---- an Element that an outline shows isn't too large to be read
+-- ---- an element in an outline is small enough to be read
 
--- a refusal that isn't there
+-- Without a refusal the first cause doesn't apply.
 no_first : (a b : Option Damage) → first_refusal a b ≡ None → a ≡ None
 no_first None b none = refl
 no_first (Some d) b none = absurd (cc)
@@ -60,12 +60,12 @@ no_second : (a b : Option Damage) → first_refusal a b ≡ None → b ≡ None
 no_second None b none = none
 no_second (Some d) b none = absurd (cc)
 
--- a test that refuses nothing fails
+-- A test that refuses nothing is false.
 test_fails : (test more : Bool) (d e : Damage) → first_damage (where_it test d ∷ where_it more e ∷ []) ≡ None → test ≡ false
 test_fails true more d e none = absurd (cc)
 test_fails false more d e none = refl
 
--- an Element within the limits is small
+-- An element within the limits is small.
 small_where : (held : ℕ) (before : List Header) (h : Header) → is_described h.id ≡ true → passes_size held before h ≡ false → known h.size ≤ MAX_MASTER_LEN
 small_where held before h is passes =
     small (nat_lt MAX_MASTER_LEN (known h.size)) (nat_lt MAX_MASTERS_LEN (held + described (before ++ h ∷ []))) refl
@@ -87,20 +87,20 @@ small_first id held before (k ∷ ks) h is limits found = here (small_first id h
         subst (λ (e : Header). (e.id ≡ id) × (known e.size ≤ MAX_MASTER_LEN)) same (named, within)
     here later false test_is some = later some
 
--- The first Element of an ID in a file whose outline was read so: it has that ID, and isn't too large to be read.
+-- `h` is the first element with this ID in a file with this outline, and is small enough to be read.
 pub record IsFirst (id : ℕ) (bytes : List ℕ) (v : FileOutline) (h : Header) : Type 0 where
   pub first : first_of id (segment_run bytes v.segment).list ≡ Some h
   pub own : h.id ≡ id
   pub small : too_large h ≡ None
 
--- the first of those that the outline has
+-- The outline has the first element of the list.
 first_listed : (id before : ℕ) (bytes : List ℕ) (v : FileOutline) → (id == CLUSTER) ≡ false → (of : Outlines before bytes v) → first_in id v ≡ first_of id of.outlined.list
 first_listed id before bytes v other of =
     ap (λ (w : FileOutline). first_in id w) of.shows
     ∙ cond-false (id == CLUSTER) (first_of CLUSTER of.outlined.list) (first_of id (others_of of.outlined.list)) other
     ∙ first_in-others id of.outlined.list other
 
--- is that of the Segment
+-- The outline has the first element of the Segment.
 pub first_same : (id before : ℕ) (bytes : List ℕ) (v : FileOutline) → (id == CLUSTER) ≡ false → (of : Outlines before bytes v) → first_in id v ≡ first_of id (segment_run bytes v.segment).list
 first_same id before bytes v other of =
     first_listed id before bytes v other of ∙ ap (first_of id) of.list
@@ -128,20 +128,20 @@ IsFirst-shown id before bytes v h held outline found =
 
 -- ---- as a tree
 
--- there is none
+-- There is no such element.
 pub first_tree-none : (id before : ℕ) (bytes : List ℕ) (v : FileOutline) → IsHeld id → outline_in before bytes ≡ Ok v → first_in id v ≡ None → first_tree id bytes v.segment ≡ Ok None
 first_tree-none id before bytes v held outline found = ap (tree_at bytes) (sym (first_same id before bytes v held.other (Outlines-shown before bytes v outline)) ∙ found)
 
--- there is one
+-- There is such an element.
 pub first_tree-some : (id : ℕ) (bytes : List ℕ) (v : FileOutline) (h : Header) (body : List ℕ) → IsFirst id bytes v h → body ≡ body_of bytes h → first_tree id bytes v.segment ≡ and_then (tree_of id h.offset body h.body MAX_NODES) (λ (tree : Node). Ok (Some tree))
 first_tree-some id bytes v h body is same =
     ap (tree_at bytes) is.first
     ∙ ap (λ (own : ℕ). and_then (tree_of own h.offset (body_of bytes h) h.body MAX_NODES) (λ (tree : Node). Ok (Some tree))) is.own
     ∙ ap (λ (octets : List ℕ). and_then (tree_of id h.offset octets h.body MAX_NODES) (λ (tree : Node). Ok (Some tree))) (sym same)
 
--- ---- the scale
+-- ---- scale
 
--- the Info that nothing refuses gives the file's scale
+-- A valid Info gives the file's scale.
 scale_of-tree : (bytes : List ℕ) (h : Header) (read : Result Node Damage) (info : Option Node) → and_then (and_then read (λ (tree : Node). Ok (Some tree))) good_info ≡ Ok info → scale_of_info info ≡ scale_in read
 scale_of-tree bytes h (Err d) info is = absurd (cc)
 scale_of-tree bytes h (Ok tree) info is = step (info_refusal tree) is
@@ -165,9 +165,9 @@ file_records-scale bytes segment r is =
     let made : record { info = info.0; tracks = tracks.0; attachments = attached.0; chapters = chapters.0; tags = tags.0 } ≡ r = cc (tags.1.1) in
     ap (λ (each : FileRecords). scale_of_info each.info) (sym made) ∙ scale_of-first bytes (first_info bytes segment) info.0 info.1.0
 
--- ---- the tracks
+-- ---- tracks
 
--- what is read of entries that nothing refuses
+-- The tracks of valid entries are valid.
 pub AreRead-made : (tree : Node) (tracks : List Track) → tracks_of tree ≡ Ok tracks → AreTracks (entries_of tree) → All (λ (t : Track). IsEntry t.entry) tracks → All (λ (t : Track). HasRoom t.entry) tracks → AreRead tracks
 AreRead-made tree tracks is are sound room =
     let same : map track_of (entries_of tree) ≡ tracks = (unless-ok (refusal_of tree) (map track_of (entries_of tree)) tracks is).1 in

@@ -1,4 +1,4 @@
--- What the table has of Attachments.
+-- Facts of the table about Attachments.
 use Rattle.std.proofs.Common.{◌≡◌, ℕ, Bool, true, false, ◌&&◌, not, List, [], Option, Some, refl, subst}
 use Rattle.std.specs.Option.{option_map_or}
 use Rattle.std.specs.List.{list_all}
@@ -21,7 +21,7 @@ pub file_data-valid : is_id FILE_DATA ≡ true
 unfolding is_id
 file_data-valid = refl
 
--- any octets are a FileData's
+-- FileData may have any bytes.
 pub file_data-value : (body : List ℕ) → is_known_value ATTACHED_FILE FILE_DATA body ≡ true
 unfolding entry_of table
 file_data-value body = refl
@@ -34,7 +34,7 @@ pub uid-known : HasUint ATTACHED_FILE FILE_UID
 unfolding entry_of table
 uid-known = record { stands = refl; kind = refl }
 
--- ---- no master stands in an AttachedFile
+-- ---- no master is a child of an AttachedFile
 
 abbrev no_master : Entry → Bool
 no_master e = not (allows e.parents e.id ATTACHED_FILE && is_master_kind e.kind)

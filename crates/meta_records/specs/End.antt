@@ -1,4 +1,4 @@
--- Why a call that reads a file ends early, as the answer of one that reads attached files.
+-- Failures of reading a file, as failures of reading attached files.
 use Rattle.mkv_io.specs.declared.outside.ReadEnd.{ReadEnd}
 use Rattle.mkv_io.specs.declared.outside.ReadEnd.TheVariants as read_end
 use Rattle.meta_records.specs.declared.end.MetaEnd.{MetaEnd}

@@ -1,4 +1,4 @@
--- An Info as values: RFC 9559, section 5.1.2 (Info Element).
+-- An Info as values: RFC 9559, section 5.1.2 (Info).
 use Rattle.std.specs.Prelude.{◌≡◌, ℕ, List, Some, Result, Ok}
 use Rattle.mkv_io.specs.declared.damage.Damage.{Damage}
 use Rattle.mkv_io.specs.Results.{unless}
@@ -7,10 +7,10 @@ use Rattle.file_format.specs.Info.{first_info, info_refusal, info_tree, scale_of
 use Rattle.meta_records.specs.declared.info.Info.{Info}
 use Rattle.mkv_schema.specs.declared.element.Header.{Header}
 
--- what an Info says of its file, unless something refuses it
+-- the values of an Info, or its damage
 abbrev pub info_of : Node → Result Info Damage
 info_of info = unless (info_refusal info) (record { scale = scale_of info })
 
--- a fact of each file whose first Info this is
+-- The fact `P` holds for each file with the first Info `info`.
 abbrev pub IfFirst : Node → (List ℕ → Header → Type 0) → Type 0
 IfFirst info P = (bytes : List ℕ) (segment h : Header) → first_info bytes segment ≡ Some h → info_tree bytes h ≡ Ok info → P bytes segment

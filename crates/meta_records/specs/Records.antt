@@ -1,4 +1,5 @@
--- The records of a file: RFC 9559, sections 5.1.2 (Info Element), 5.1.4 (Tracks Element), 5.1.6 (Attachments Element), 5.1.7 (Chapters Element) and 5.1.8 (Tags Element). What refuses a file, and the order, are this project's.
+-- The records of a file: RFC 9559, sections 5.1.2 (Info), 5.1.4 (Tracks), 5.1.6 (Attachments), 5.1.7 (Chapters) and 5.1.8 (Tags). The refusals
+-- and their order are this project's.
 use Rattle.std.specs.Prelude.{◌≡◌, ⊤, ℕ, ◌==◌, true, false, List, map, Option, Some, None, IfSome, Result, Ok, Err}
 use Rattle.std.specs.List.{All}
 use Rattle.mkv_schema.specs.declared.ids.TheConstants.{CHAPTERS, CLUSTER, INFO, TAGS, TRACKS}
@@ -33,34 +34,33 @@ use Rattle.mkv_io.specs.Sources.{IfTold}
 use Rattle.mkv_io.specs.declared.reads.Reads.{Ghosts}
 use Rattle.element_reader.specs.Outline.{FileOutline, outline_in}
 
--- An Element of this ID is a master of level 1, other than a Cluster, of which at most 16 MiB are read.
+-- An element with this ID is a master of level 1 other than a Cluster, limited to 16 MiB.
 pub record IsHeld (id : ℕ) : Type 0 where
   pub master : is_master id ≡ true
   pub described : is_described id ≡ true
   pub limit : limit_of id ≡ Some MAX_MASTER_LEN
   pub other : (id == CLUSTER) ≡ false
 
--- an Element as a tree, if there is one, or what is wrong inside
+-- an element as a tree, if there is one, or its damage
 abbrev pub tree_at : List ℕ → Option Header → Result (Option Node) Damage
 tree_at bytes None = Ok None
 tree_at bytes (Some h) = and_then (tree_of h.id h.offset (body_of bytes h) h.body MAX_NODES) (λ tree. Ok (Some tree))
 
--- the first Element of level 1 of an ID
+-- the first element of level 1 with this ID as a tree, or its damage
 abbrev pub first_tree : ℕ → List ℕ → Header → Result (Option Node) Damage
 first_tree id bytes segment = tree_at bytes (first_of id (segment_run bytes segment).list)
 
--- an Info, unless something refuses it
+-- an Info, or its damage
 abbrev pub good_info : Option Node → Result (Option Node) Damage
 good_info None = Ok None
 good_info (Some info) = unless (info_refusal info) (Some info)
 
--- the tracks of a Tracks, unless something refuses them; without a Tracks the file is refused
+-- the tracks of a Tracks, or their damage; without a Tracks the file is damaged
 abbrev pub good_tracks : Header → Option Node → Result (List Track) Damage
 good_tracks segment None = Err (damage NoTracks 0 segment.offset)
 good_tracks segment (Some tracks) = tracks_of tracks
 
--- What describes a file: its first Info, the tracks of its first Tracks, the attached files of its first Attachments, its
--- first Chapters and its first Tags.
+-- the records of a file: its first Info, the tracks of its first Tracks, the attached files of its first Attachments, its first Chapters and Tags
 pub record FileRecords : Type 0 where
   pub info : Option Node
   pub tracks : List Track
@@ -68,7 +68,7 @@ pub record FileRecords : Type 0 where
   pub chapters : Option Node
   pub tags : Option Node
 
--- the records of a content with this Segment, or what refuses it: Info, Tracks, Attachments, Chapters, and then Tags
+-- the records of a file with this Segment, or the first damage: in Info, Tracks, Attachments, Chapters, then Tags
 abbrev pub file_records : List ℕ → Header → Result FileRecords Damage
 file_records bytes segment =
     and_then (and_then (first_tree INFO bytes segment) good_info) (λ info.
@@ -78,19 +78,19 @@ file_records bytes segment =
     and_then (first_tree TAGS bytes segment) (λ tags.
     Ok (record { info = info; tracks = tracks; attachments = attachments; chapters = chapters; tags = tags }))))))
 
--- nanoseconds a tick of a file whose first Info this is
+-- the nanoseconds per tick of a file with this first Info
 abbrev pub scale_of_info : Option Node → ℕ
 scale_of_info None = DEFAULT_SCALE
 scale_of_info (Some info) = scale_of info
 
--- What is read is this, or what refuses it; a read may fail, and there may be no memory.
+-- A reader's result is right for `found`: the same value or damage, unless a read failed or memory ran out.
 abbrev pub ReadsAs : {A : Type 0} → Result A Damage → Result A OutlineEnd → Type 0
 ReadsAs found (Ok x) = found ≡ Ok x
 ReadsAs found (Err (outline_end.Refused d)) = found ≡ Err d
 ReadsAs found (Err outline_end.ReadFault) = ⊤
 ReadsAs found (Err outline_end.Memory) = ⊤
 
--- what was read of a file
+-- the records of a file, as they were read
 abbrev pub described_by : Records → FileRecords
 described_by r = record {
   info = r.info;
@@ -100,28 +100,28 @@ described_by r = record {
   tags = r.tags;
 }
 
--- Records were read so, or this refuses the file; a read may fail, and there may be no memory.
+-- A reader's result is right for `found`: the same records or damage, unless a read failed or memory ran out.
 abbrev pub ReadsRecords : Result FileRecords Damage → Result Records OutlineEnd → Type 0
 ReadsRecords found (Ok r) = found ≡ Ok (described_by r)
 ReadsRecords found (Err (outline_end.Refused d)) = found ≡ Err d
 ReadsRecords found (Err outline_end.ReadFault) = ⊤
 ReadsRecords found (Err outline_end.Memory) = ⊤
 
--- ---- what was read
+-- ---- facts about records that were read
 
--- An Info that nothing refuses.
+-- `info` is a sound Info without damage.
 pub record IsGoodInfo (info : Node) : Type 0 where
   pub sound : IsSoundOf INFO info
   pub good : info_refusal info ≡ None
 
--- The tracks are what their entries say, which nothing refuses, and which fit into a Tracks Element.
+-- The tracks agree with their entries, which are valid and fit in a Tracks element.
 pub record AreRead (tracks : List Track) : Type 0 where
   pub said : All (λ (t : Track). t ≡ track_of t.entry) tracks
   pub sound : All (λ (t : Track). IsEntry t.entry) tracks
   pub each : All (λ (t : Track). IsTrack t.entry) tracks
   pub room : All (λ (t : Track). HasRoom t.entry) tracks
 
--- The records of a file of so many octets are such as nothing refuses.
+-- The records of a file of `total` bytes are valid.
 pub record AreGood (file : FileId) (total : ℕ) (r : Records) : Type 0 where
   pub info : IfSome r.info IsGoodInfo
   pub tracks : AreRead r.tracks
@@ -129,10 +129,10 @@ pub record AreGood (file : FileId) (total : ℕ) (r : Records) : Type 0 where
   pub chapters : IfSome r.chapters (IsRead CHAPTERS)
   pub tags : IfSome r.tags (IsRead TAGS)
 
--- a fact of a file's content, where it is told and this is its outline, whatever earlier inputs have held
+-- The fact `P` holds for the file's bytes if they are visible to the proof and have this outline, whatever other inputs held.
 abbrev pub IfOutlined : {S : Type 0} → Ghosts S → S → FileId → FileOutline → (List ℕ → Type 0) → Type 0
 IfOutlined r src file outline P = IfTold r src file (λ bytes. (held : ℕ) → outline_in held bytes ≡ Ok outline → P bytes)
 
--- The same of what such a content and its Segment come to.
+-- The fact `P` holds for `found` of the file's bytes and Segment, if they are visible to the proof and have this outline.
 abbrev pub IfOutlinedAs : {S X : Type 0} → Ghosts S → S → FileId → FileOutline → (List ℕ → Header → X) → (X → Type 0) → Type 0
 IfOutlinedAs r src file outline found P = IfOutlined r src file outline (λ bytes. P (found bytes outline.segment))

@@ -1,4 +1,4 @@
--- What the calls that read attached files answer, and what they read.
+-- Results of the calls that read attached files, and the bytes they read.
 use Rattle.std.specs.Prelude.{◌≡◌, ◌≤◌, ⊤, ℕ, ◌+◌, ◌-◌, ◌*◌, ◌==◌, Bool, true, false, if◌then◌else◌, List, [], ◌∷◌, ◌++◌, All, map, filter, slice_get, Option, Some, None, IfSome, Result, Ok, Err}
 use Rattle.std.specs.Option.{option_map, option_or}
 use Rattle.ebml_numbers.specs.Number.{is_id}
@@ -25,167 +25,166 @@ use Rattle.meta_records.specs.declared.end.MetaEnd.TheVariants.{Refused, ReadFau
 use Rattle.meta_records.specs.declared.limits.TheConstants.{MAX_ATTACHMENTS}
 use Rattle.meta_records.specs.declared.part.Part.{Part}
 
--- ---- answers
+-- ---- results
 
--- What is read is this, or what refuses it; a read may fail, and there may be no memory.
+-- A reader's result is right for `found`: the same value or damage, unless a read failed or memory ran out.
 abbrev pub ReadsAs : {A : Type 0} → Result A Damage → Result A MetaEnd → Type 0
 ReadsAs found (Ok x) = found ≡ Ok x
 ReadsAs found (Err (Refused d)) = found ≡ Err d
 ReadsAs found (Err ReadFault) = ⊤
 ReadsAs found (Err Memory) = ⊤
 
--- a read failed
+-- The failure is a failed read.
 abbrev pub is_attachments_fault : MetaEnd → Bool
 is_attachments_fault (Refused d) = false
 is_attachments_fault ReadFault = true
 is_attachments_fault Memory = false
 
--- A header that was read at a place: its Element ends with its parent or before, and its ID is a valid one.
+-- `h` is a header at the offset `at`, with a valid ID, whose element ends at `end` or before.
 pub record IsChild (at end : ℕ) (h : Header) : Type 0 where
   pub placed : StandsAt at end h
   pub sized : is_unknown h.size ≡ false
   pub inside : stated_end h ≤ end
   pub valid : is_id h.id ≡ true
 
--- ---- what was counted
+-- ---- counts
 
--- These were met: none refuses, and behind them so much is counted; or one refuses. Nothing is said where a
--- read failed or there is no memory.
+-- The elements in `list` were scanned: none is damaged, and `new` counts them, or the damage is the first one. Promises nothing if a read failed
+-- or memory ran out.
 abbrev pub Meets : {T : Type 0} → List (Result ScannedElement Damage) → Counts → Counts → Result T MetaEnd → Type 0
 Meets list old new (Ok x) = (more : List (Result ScannedElement Damage)) → refused_from old.octets old.nodes (list ++ more) ≡ refused_from new.octets new.nodes more
 Meets list old new (Err (Refused d)) = (more : List (Result ScannedElement Damage)) → refused_from old.octets old.nodes (list ++ more) ≡ Some d
 Meets list old new (Err ReadFault) = ⊤
 Meets list old new (Err Memory) = ⊤
 
--- what is met at a place: an Element, with what else is met there, or a damage
+-- the elements scanned at a place, given the header or damage there
 abbrev pub met_at : (Header → List (Result ScannedElement Damage)) → Result Header Damage → List (Result ScannedElement Damage)
 met_at at (Ok h) = at h
 met_at at (Err d) = Err d ∷ []
 
--- what is met at a place of an AttachedFile, and of an Attachments Element, that ends at a place
+-- the elements scanned at the offset `at` of a master that ends at `end`: an AttachedFile, or an Attachments element
 abbrev pub part_met : List ℕ → ℕ → ℕ → List (Result ScannedElement Damage)
 part_met bytes at end = met_at (at_part bytes) (element_at in_master bytes at end)
 
 abbrev pub child_met : List ℕ → ℕ → ℕ → List (Result ScannedElement Damage)
 child_met bytes at end = met_at (at_child bytes) (element_at in_master bytes at end)
 
--- a child of an AttachedFile as a leaf, unless it isn't a value of its kind
+-- a child of an AttachedFile as a leaf, or damage if its body isn't a valid value
 abbrev pub leaf_in : List ℕ → Header → Result Node Damage
 leaf_in bytes h = unless (no_value (part_of bytes h)) (leaf_of bytes h)
 
--- how many octets are read of its body
+-- the number of bytes of its body that are read
 abbrev pub octets_of : Header → ℕ
 octets_of h = if h.id == FILE_DATA then 0 else known h.size
 
--- the header, where it is that of FileData
+-- the header if it is a FileData
 abbrev pub data_at : Header → Option Header
 data_at h = if h.id == FILE_DATA then Some h else None
 
--- a child of an AttachedFile was read at a place
+-- `part` is the child of an AttachedFile at the offset `at`.
 pub record IsPart (bytes : List ℕ) (at end : ℕ) (part : Part) : Type 0 where
   pub found : element_at in_master bytes at end ≡ Ok part.header
   pub leaf : part.leaf ≡ leaf_of bytes part.header
 
--- a leaf stands in an AttachedFile
+-- The node `n` is a valid leaf of an AttachedFile.
 pub record IsPartLeaf (n : Node) : Type 0 where
   pub stands : StandsIn ATTACHED_FILE n
   pub flat : depth n ≡ 0
 
--- ---- what was found
+-- ---- attached files found
 
--- These children of Attachments are read besides: the AttachedFiles among them.
+-- `new` is `old` with the AttachedFiles among these children of Attachments added.
 pub record Adds (bytes : List ℕ) (file : FileId) (children : List Header) (old new : AttachmentScan) : Type 0 where
   pub attachments : new.attachments ≡ old.attachments ++ map (attachment_of bytes file) (filter is_attached children)
   pub missing : new.missing ≡ option_or old.missing (first_damage (map (missing_data bytes) (filter is_attached children)))
 
--- A child of Attachments was read at a place; behind it is the next.
+-- The child of Attachments at the offset `at` was added, and `next` is the offset after it.
 pub record ReadsChild (bytes : List ℕ) (file : FileId) (at end next : ℕ) (old new : AttachmentScan) : Type 0 where
   pub child : Header
   pub found : element_at in_master bytes at end ≡ Ok child
   pub behind : next ≡ stated_end child
   pub adds : Adds bytes file (child ∷ []) old new
 
--- An attached file whose entry can be written and read again, and whose data stand in this file before a place.
+-- `a` is an attached file whose entry can be written and read again, and whose data are in this file before `end`.
 pub record IsAttachedIn (file : FileId) (end : ℕ) (a : Attachment) : Type 0 where
   pub entry : IsAttachment a.entry
   pub same : a.file ≡ file
   pub inside : a.at + a.len ≤ end
 
--- All that were found are such.
+-- All attached files found are valid in this file before `end`.
 abbrev pub AreAttachedIn : FileId → ℕ → AttachmentScan → Type 0
 AreAttachedIn file end found = All (IsAttachedIn file end) found.attachments
 
--- What an AttachedFile says in a content, and what is told of it there where it has no data.
+-- `a` is the attached file with the header `h` in these bytes; and the damage is the one reported if it has no data.
 abbrev pub IsAttachedOf : FileId → Header → Attachment → List ℕ → Type 0
 IsAttachedOf file h a bytes = a ≡ attachment_of bytes file h
 
 abbrev pub IsMissingOf : Header → Option Damage → List ℕ → Type 0
 IsMissingOf h missing bytes = missing ≡ missing_data bytes h
 
--- The children of an AttachedFile: its entry, and the header of its first FileData.
+-- `parts` are the entry of an AttachedFile and the header of its first FileData.
 pub record ArePartsOf (bytes : List ℕ) (attached : Header) (parts : Parts) : Type 0 where
   pub entry : parts.entry ≡ entry_of bytes attached
   pub first : parts.first ≡ data_in bytes attached
 
--- So is each content in which these are the children of an AttachedFile.
+-- The fact `P` holds for all bytes in which `parts` are the parts of the AttachedFile `h`.
 abbrev pub IfPartsOf : Header → Parts → (List ℕ → Type 0) → Type 0
 IfPartsOf h parts P = (bytes : List ℕ) → ArePartsOf bytes h parts → P bytes
 
--- The entry can be written and read again, and the data end before a place.
+-- The entry can be written and read again, and the data end at `end` or before.
 pub record AreSoundParts (end : ℕ) (parts : Parts) : Type 0 where
   pub entry : IsAttachment parts.entry
   pub inside : IfSome parts.first (λ (d : Header). stated_end d ≤ end)
 
--- All children of an Attachments Element were met, and none refuses: its attached files, and what is told of the
--- first that has no data.
+-- `found` has all attached files of an Attachments element, whose elements have no damage, and the damage of the first one without data.
 pub record HasAll (bytes : List ℕ) (file : FileId) (h : Header) (found : AttachmentScan) : Type 0 where
   pub good : refused_in bytes h ≡ None
   pub attachments : found.attachments ≡ map (attachment_of bytes file) (attached_in bytes h)
   pub missing : found.missing ≡ first_damage (map (missing_data bytes) (attached_in bytes h))
 
--- They were met, or one of them refuses.
+-- All elements of an Attachments element were scanned, or the damage is the first one.
 abbrev pub WalksAll : List ℕ → FileId → Header → Result AttachmentScan MetaEnd → Type 0
 WalksAll bytes file h (Ok found) = HasAll bytes file h found
 WalksAll bytes file h (Err (Refused d)) = refused_in bytes h ≡ Some d
 WalksAll bytes file h (Err ReadFault) = ⊤
 WalksAll bytes file h (Err Memory) = ⊤
 
--- the attached file that is one too many
+-- the damage at the first attached file above the limit
 abbrev pub one_over : List Attachment → Option Damage
 one_over attachments = option_map (λ (a : Attachment). damage TooMany ATTACHED_FILE (offset_of a.entry)) (slice_get attachments MAX_ATTACHMENTS)
 
--- the attached files, unless one has no data or there are too many
+-- the attached files, or damage if one has no data or there are too many
 abbrev pub good_files : AttachmentScan → Result (List Attachment) Damage
 good_files found = unless (first_refusal found.missing (one_over found.attachments)) found.attachments
 
--- ---- what was read
+-- ---- bytes that are read
 
--- the most octets that are read for what is counted: a header for each node, and the octets
+-- an upper bound on the bytes that are read for these counts: one header per element, and the counted bytes
 abbrev pub cost : Counts → ℕ
 cost c = MAX_ELEMENT_HEADER_LEN * c.nodes + c.octets
 
--- What was read is paid by what was counted, and that by the way.
+-- The bytes read are bounded by the cost of the new counts, and this cost by `far`, the distance moved.
 pub record IsPaid (far : ℕ) (old new : Counts) (before now : ℕ) : Type 0 where
   pub reads : now + cost old ≤ before + cost new
   pub way : cost new ≤ cost old + 16 * far
 
--- The same but for a last header.
+-- The bytes read are bounded as by `IsPaid`, with one more header.
 pub record IsSpent (far : ℕ) (old new : Counts) (before now : ℕ) : Type 0 where
   pub reads : now + cost old ≤ before + cost new + MAX_ELEMENT_HEADER_LEN
   pub way : now ≤ before + 16 * far
 
--- The one of a call that has gone on from a place to where its answer says, the other of one that ended on the way to the end.
+-- The bytes read are bounded by the distance to the returned place, or after an error by the distance to `end`.
 abbrev pub Pays : {T : Type 0} → ℕ → (T → ℕ) → ℕ → Counts → Counts → ℕ → ℕ → Result T MetaEnd → Type 0
 Pays from to end old new before now (Ok x) = IsPaid (to x - from) old new before now
 Pays from to end old new before now (Err e) = IsSpent (end - from) old new before now
 
--- The same of a call that goes on to the place that it answers, or to the end; and of one that reads all that is inside.
+-- The bytes read are bounded by the distance from `from` to the returned offset, or after an error by the distance to `end`.
 abbrev pub PaysUpTo : ℕ → ℕ → Counts → Counts → ℕ → ℕ → Result ℕ MetaEnd → Type 0
 PaysUpTo from end = Pays from (λ next. next) end
 
 abbrev pub PaysInside : {T : Type 0} → Header → Counts → Counts → ℕ → ℕ → Result T MetaEnd → Type 0
 PaysInside h = Pays h.body (λ _. stated_end h) (stated_end h)
 
--- the place behind a child of an AttachedFile
+-- the offset after a child of an AttachedFile
 abbrev pub behind_part : Part → ℕ
 behind_part part = stated_end part.header

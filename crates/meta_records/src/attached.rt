@@ -1,4 +1,4 @@
-//! An AttachedFile: RFC 9559, section 5.1.6 (Attachments Element).
+//! AttachedFile elements: RFC 9559, section 5.1.6 (Attachments).
 
 ghost use Rattle.std.specs.Prelude.{◌≡◌, is_none, IfOk};
 ghost use Rattle.std.specs.Option.{option_map_or, option_or};
@@ -24,7 +24,7 @@ use mkv_schema::ids::{ATTACHED_FILE, FILE_DATA, FILE_UID};
 use output_model::Attachment;
 use std::alloc::Global;
 
-/// An AttachedFile with one FileData, which is empty, and the header of its first, if it has one.
+/// AttachedFile with one empty FileData, and the header of its first FileData, if any
 #[derive(Drop)]
 pub(crate) struct Parts {
     pub entry: Tree,
@@ -62,7 +62,7 @@ fn read_parts<R: Reads>(
     Ok(Parts { entry, first })
 }
 
-// The FileData that was found first, or this child, if it is one.
+// Returns the first FileData found before, or `child` if it is one.
 fn first_data(first: Option<Header>, child: &Header) -> Option<Header>
     ensures { result ≡ option_or first (data_at child.now) }
 {
@@ -73,7 +73,7 @@ fn first_data(first: Option<Header>, child: &Header) -> Option<Header>
     }
 }
 
-// The FileUID, 0 where there is none.
+// Returns the FileUID, or 0 if it is absent.
 fn uid_of(entry: &Tree) -> u64
     requires { IsSoundOf ATTACHED_ID entry.now }
     ensures { result ≡ uint_in FILE_UID_ID entry.now }
@@ -84,7 +84,7 @@ fn uid_of(entry: &Tree) -> u64
     }
 }
 
-// Where the data begin, 0 where there are none.
+// Returns the offset of the data, or 0 if there is none.
 fn place_of(first: Option<Header>) -> u64
     ensures { result ≡ option_map_or (λ (h : HeaderSeen). h.body) first 0 }
 {
@@ -94,7 +94,7 @@ fn place_of(first: Option<Header>) -> u64
     }
 }
 
-// How many octets the data are.
+// Returns the length of the data in bytes.
 fn len_of(first: Option<Header>) -> u64
     ensures { result ≡ option_map_or (λ (h : HeaderSeen). known h.size) first 0 }
 {
@@ -104,7 +104,7 @@ fn len_of(first: Option<Header>) -> u64
     }
 }
 
-// What is told of an AttachedFile without FileData.
+// Returns damage if an AttachedFile has no FileData.
 fn missing_data(first: Option<Header>, attached: &Header) -> Option<Damage>
     ensures { result ≡ where_it (is_none first) (damage Kind.MissingChild FILE_DATA attached.now.offset) }
 {
@@ -114,14 +114,14 @@ fn missing_data(first: Option<Header>, attached: &Header) -> Option<Damage>
     }
 }
 
-/// An attached file, and what is told where it has no data.
+/// Attached file, and its damage if it has no data
 #[derive(Drop)]
 pub(crate) struct Attached {
     pub attachment: Attachment,
     pub missing: Option<Damage>,
 }
 
-// The attached file that these parts make.
+// Returns the attached file with these parts.
 fn attached_of(file: FileId, attached: &Header, parts: Parts) -> Attached
     requires { AreSoundParts (stated_end attached.now) parts }
     ensures exact { IfPartsOf attached.now parts (IsAttachedOf file attached.now result.attachment) }
@@ -142,7 +142,7 @@ fn attached_of(file: FileId, attached: &Header, parts: Parts) -> Attached
     }
 }
 
-/// Reads an AttachedFile, and counts what is inside. The bodies of FileData are left alone.
+/// Reads an AttachedFile, and counts its children. The bodies of FileData stay unread.
 pub(crate) fn read_attached<R: Reads>(
     alloc: Global,
     src: &mut R,

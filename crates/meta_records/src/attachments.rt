@@ -1,4 +1,4 @@
-//! All attached files of a file: RFC 9559, section 5.1.6 (Attachments Element).
+//! Attached files of a file: RFC 9559, section 5.1.6 (Attachments).
 
 ghost use Rattle.std.specs.Prelude.{◌≡◌, ◌+◌, ◌*◌, ◌<◌, ◌≤◌, false, All, IfOk, OnOk};
 ghost use Rattle.mkv_io.specs.Bounds.{ReadsUpTo};
@@ -21,14 +21,14 @@ use mkv_schema::ids::ATTACHED_FILE;
 use output_model::Attachment;
 use std::alloc::Global;
 
-/// The attached files so far, and what is told of the first that has no data.
+/// Attached files found, and the damage of the first one without data
 #[derive(Drop)]
 pub(crate) struct AttachmentScan {
     pub attachments: List<Attachment>,
     pub missing: Option<Damage>,
 }
 
-// How many octets of a child of Attachments are counted.
+// Returns the number of bytes of `child`, in Attachments, that count towards the limit.
 fn counted_of(child: &Header) -> u64
     requires { child.now.offset ≤ child.now.body }
     ensures { result ≡ (child_of child.now).counted }
@@ -40,8 +40,8 @@ fn counted_of(child: &Header) -> u64
     }
 }
 
-// Reads the child at a place of an Attachments Element that ends at `end`, and counts it. It answers where the next
-// begins.
+// Reads the child at offset `at` of an Attachments element that ends at `end`, and counts it. Returns the offset of
+// the next child.
 fn read_child<R: Reads>(
     alloc: Global,
     src: &mut R,
@@ -77,7 +77,7 @@ fn read_child<R: Reads>(
     Ok(next)
 }
 
-// Reads the children of an Attachments Element.
+// Reads the children of an Attachments element.
 fn read_children<R: Reads>(
     alloc: Global,
     src: &mut R,
@@ -107,7 +107,7 @@ fn read_children<R: Reads>(
     Ok(found)
 }
 
-// The attached files that were found, unless one has no data or there are too many.
+// Returns the attached files, or damage if one has no data or there are too many.
 fn good_files(found: AttachmentScan) -> Result<List<Attachment>, Damage>
     ensures exact { result ≡ good_files found }
     ensures same { IfOk result (λ files. files ≡ found.attachments) }
@@ -125,10 +125,12 @@ fn good_files(found: AttachmentScan) -> Result<List<Attachment>, Damage>
     }
 }
 
-/// The attached files of an Attachments Element, RFC 9559, section 5.1.6 (Attachments Element), or the first thing that
-/// refuses it. Their data aren't read. It is refused where it isn't made of valid Elements; where
-/// `MAX_ATTACHMENTS_LEN` octets are passed, counted without data, 65,536 Elements or 1,024 attached files; and where an
-/// AttachedFile has no FileData. What is wrong among the Elements is told first.
+/// Reads the attached files of an Attachments element without their data, or returns the first damage (RFC 9559,
+/// section 5.1.6, Attachments).
+///
+/// It fails if the element isn't made of valid elements, or an AttachedFile has no FileData. It also fails above
+/// `MAX_ATTACHMENTS_LEN` bytes without data, 65,536 elements or 1,024 attached files. Damage of the elements is
+/// reported first.
 pub fn read_attachments<R: Reads>(
     alloc: Global,
     src: &mut R,
@@ -140,12 +142,12 @@ pub fn read_attachments<R: Reads>(
     requires inside { stated_end header.now ≤ file_size R.Reads src.old file }
     ensures exact { IfTold R.Reads src.old file (λ bytes. ReadsAs (attachments_in bytes file header.now) result) }
 
-    // Their entries can be written and read again, and their data stand in the file.
+    // Their entries can be written and read again, and their data are in the file.
     ensures sound { IfOk result (All (IsAttachedIn file (stated_end header.now))) }
     ensures standing { R.standing src.new ≡ R.standing src.old }
     ensures cause { HasCause is_attachments_fault (R.reading_faults src.old) (R.reading_faults src.new) result }
 
-    // Of a long Element no more is read than of one whose data are empty.
+    // The data don't add to the bytes that are read.
     ensures octets { ReadsUpTo R.Reads src.old src.new (16 * known header.now.size) }
     ensures few { ReadsUpTo R.Reads src.old src.new (2 * MAX_ATTACHMENTS_LEN) }
 {

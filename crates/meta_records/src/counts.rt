@@ -1,4 +1,4 @@
-//! What is counted on the way through an Attachments Element.
+//! Counts for the limits of an Attachments element
 
 ghost use Rattle.std.specs.Prelude.{◌≡◌, ◌+◌, ◌≤◌, IfErr, OnErr, OnOk};
 ghost use Rattle.tree_format.specs.declared.limits.TheConstants.{MAX_NODES};
@@ -11,7 +11,7 @@ use elements::damage_at;
 use mkv_io::{Damage, Kind};
 use mkv_schema::Header;
 
-/// How many octets and how many nodes stand before a place, of those that are counted.
+/// Number of bytes and elements before a place that count towards the limits
 #[derive(Clone, Copy)]
 pub(crate) struct Counts {
     pub octets: u64,
@@ -21,7 +21,7 @@ pub(crate) struct Counts {
 }
 
 impl Counts {
-    /// Before the first child: the Attachments Element is a node.
+    /// Returns the counts before the first child: one element, Attachments itself.
     pub fn new() -> Counts
         ensures octets { result.octets ≡ 0 }
         ensures nodes { result.nodes ≡ 1 }
@@ -32,7 +32,7 @@ impl Counts {
         }
     }
 
-    /// Counts an Element, with so many of its octets, or answers the limit that it passes.
+    /// Counts an element and `octets` of its bytes, or returns damage if it passes a limit.
     #[tactic(auto, using(crate::proofs::CountsLemmas::limits))]
     pub fn add(&mut self, header: &Header, octets: u64) -> Result<(), Damage>
         ensures ok { OnOk result (limit_passed (self.old.octets + octets) self.old.nodes header.now ≡ None) }

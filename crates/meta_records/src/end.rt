@@ -1,4 +1,4 @@
-//! Why attached files aren't read.
+//! Failures to read attached files
 
 ghost use Rattle.std.specs.Prelude.{◌≡◌};
 ghost use Rattle.meta_records.specs.declared.end.MetaEnd.TheVariants as attachments_end;
@@ -6,14 +6,14 @@ ghost use Rattle.meta_records.specs.declared.end.MetaEnd.TheVariants as attachme
 use mkv_io::{Damage, Failed, ReadEnd};
 use std::alloc::AllocError;
 
-/// Why attached files aren't read.
+/// Failure to read attached files
 #[derive(Debug, Drop)]
 pub enum MetaEnd {
-    /// They aren't made of valid Elements, pass a limit, or one has no data.
+    /// Invalid elements, a passed limit, or an attached file without data
     Refused(Damage),
-    /// A read failed.
+    /// Failed read
     ReadFault,
-    /// There is no memory.
+    /// Out of memory
     Memory,
 }
 

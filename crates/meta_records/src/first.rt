@@ -1,4 +1,4 @@
-//! The first Element of an ID, as a tree.
+//! First element with an ID, as a tree
 
 ghost use Rattle.std.specs.Prelude.{◌≡◌, List, Ok, IfOk, IfSome};
 ghost use Rattle.mkv_io.specs.Bounds.{ReadsUpTo};
@@ -14,7 +14,7 @@ use element_reader::{LoadEnd, Outline, OutlineEnd, load};
 use mkv_io::{FileId, Reads};
 use std::alloc::Global;
 
-/// The first Element of level 1 of an ID as a tree, if there is one, or what is wrong inside.
+/// Reads the first element of level 1 with the ID `id` as a tree, if there is one, or returns its damage.
 pub fn first_tree<R: Reads>(
     alloc: Global,
     outline: &Outline,

@@ -1,4 +1,4 @@
-//! The attached files of the first Attachments: RFC 9559, section 5.1.6 (Attachments Element).
+//! Attached files of the first Attachments: RFC 9559, section 5.1.6 (Attachments).
 
 ghost use Rattle.std.specs.Prelude.{◌≡◌, ◌*◌, List, Ok, IfOk};
 ghost use Rattle.std.specs.List.{All};
@@ -19,8 +19,8 @@ use mkv_schema::ids::ATTACHMENTS;
 use output_model::Attachment;
 use std::alloc::Global;
 
-/// The attached files of the first Attachments of level 1, none where there is no such Element, or what is wrong inside.
-/// Their data aren't read.
+/// Reads the attached files of the first Attachments of level 1 without their data, or returns its damage. Without
+/// such an element the list is empty.
 pub fn first_attachments<R: Reads>(
     alloc: Global,
     outline: &Outline,

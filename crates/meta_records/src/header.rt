@@ -1,4 +1,4 @@
-//! The header of a child, read from the file.
+//! Header of a child, read from the file
 
 ghost use Rattle.std.specs.Prelude.{◌≡◌, ◌+◌, ◌-◌, ◌≤◌, length, min, Ok, Err, IfOk, IfErr};
 ghost use Rattle.mkv_io.specs.Bounds.{ReadsUpTo};
@@ -14,8 +14,8 @@ use mkv_io::{Damage, FileId, Reads};
 use mkv_schema::Header;
 use mkv_schema::limits::MAX_ELEMENT_HEADER_LEN;
 
-/// The child at `at` octets behind the start of a file, of a master that isn't read whole and ends at `end`. No
-/// octet behind that end is read.
+/// Reads the header of the child at offset `at` of a master that isn't read whole and ends at `end`. No byte after
+/// `end` is read.
 pub(crate) fn child_header<R: Reads>(
     src: &mut R,
     file: FileId,
@@ -40,7 +40,7 @@ pub(crate) fn child_header<R: Reads>(
     Ok(header)
 }
 
-// The header of the child that these octets begin.
+// Returns the header of the child that begins with `octets`.
 fn header_in(octets: &[u8], total: u64, at: u64, end: u64) -> Result<Header, Damage>
     requires place { at ≤ LONGEST_FILE }
     requires inside { at + length octets.now ≤ end }

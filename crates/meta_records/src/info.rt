@@ -1,4 +1,4 @@
-//! The values of an Info: RFC 9559, section 5.1.2 (Info Element).
+//! Values of an Info: RFC 9559, section 5.1.2 (Info).
 
 ghost use Rattle.std.specs.Prelude.{◌≡◌, ◌<◌, ℕ, List, Some, Ok, IfOk};
 ghost use Rattle.mkv_schema.specs.declared.ids.TheConstants.{INFO as INFO_ID};
@@ -12,14 +12,14 @@ use file_format::DEFAULT_SCALE;
 use mkv_io::{Damage, Kind};
 use mkv_schema::ids::TIMESTAMP_SCALE;
 
-/// What an Info says of its file (RFC 9559, section 5.1.2, Info Element).
+/// Values of an Info (RFC 9559, section 5.1.2, Info)
 #[derive(Clone, Copy, Debug, PartialEq, Eq)]
 pub struct Info {
-    /// Nanoseconds a tick, at least 1.
+    /// Nanoseconds per tick, at least 1
     pub scale: u64,
 }
 
-// Nanoseconds a tick.
+// Returns the nanoseconds per tick.
 fn scale_of(info: &Tree) -> u64
     requires { IsSoundOf INFO_ID info.now }
     ensures { result ≡ scale_of info.now }
@@ -30,7 +30,7 @@ fn scale_of(info: &Tree) -> u64
     }
 }
 
-// A TimestampScale of 0.
+// Returns damage if the TimestampScale is 0.
 fn refusal_of(info: &Tree) -> Option<Damage>
     requires { IsSoundOf INFO_ID info.now }
     ensures { result ≡ info_refusal info.now }
@@ -46,14 +46,14 @@ fn refusal_of(info: &Tree) -> Option<Damage>
     })
 }
 
-/// The values of an Info, whose tree is sound where it was parsed; or `BadValue` at its TimestampScale,
-/// where that is 0. An empty one is 1,000,000, as one that is missing.
+/// Returns the values of an Info. A tree from the parser is sound. Fails with `BadValue` at its TimestampScale if
+/// that is 0. An empty or absent one is 1,000,000, the default.
 pub fn read_info(info: &Tree) -> Result<Info, Damage>
     requires { IsSoundOf INFO_ID info.now }
     ensures exact { result ≡ info_of info.now }
     ensures some { IfOk result (λ values. 0 < values.scale) }
 
-    // The scale of the first Info of a file is the file's.
+    // The scale of a file's first Info is the file's.
     ensures file { IfFirst info.now (λ bytes segment. IfOk result (λ values. values.scale ≡ file_scale bytes segment)) }
 {
     match refusal_of(info) {

@@ -1,8 +1,7 @@
 #![tactic(auto)]
 
-//! What describes a file: the scale of its Info, its attached files, whose data is left where it stands, and all of this
-//! with its tracks, chapters and tags, read at once (RFC 9559, sections 5.1.2, Info Element, and 5.1.6, Attachments
-//! Element).
+//! Metadata of a file: the scale of its Info, its attached files without their data, and both with its tracks,
+//! chapters and tags, read at once (RFC 9559, sections 5.1.2, Info, and 5.1.6, Attachments).
 
 mod attached;
 mod attachments;

@@ -1,8 +1,8 @@
-//! The most that is read of attached files. The limits are this project's; RFC 9559 has none.
+//! Limits on attached files. They are this project's; RFC 9559 has none.
 
-/// The most octets of an Attachments Element that are counted: of each AttachedFile its header, of what is
-/// inside one headers and bodies, other than the bodies of FileData.
+/// Maximum number of counted bytes of an Attachments element: the header of each AttachedFile, and its children
+/// without the bodies of FileData
 pub const MAX_ATTACHMENTS_LEN: u64 = 1 << 20;
 
-/// The most attached files.
+/// Maximum number of attached files
 pub const MAX_ATTACHMENTS: usize = 1024;

@@ -1,4 +1,4 @@
-//! A child of an AttachedFile: RFC 9559, section 5.1.6 (Attachments Element).
+//! Child of an AttachedFile: RFC 9559, section 5.1.6 (Attachments).
 
 ghost use Rattle.std.specs.Prelude.{◌≡◌, ◌+◌, ◌^◌, ◌<◌, ◌≤◌, IfOk};
 ghost use Rattle.mkv_io.specs.Bounds.{ReadsUpTo};
@@ -19,14 +19,14 @@ use mkv_schema::Header;
 use mkv_schema::ids::{ATTACHED_FILE, FILE_DATA};
 use std::alloc::Global;
 
-/// A child of an AttachedFile: its header, and itself as a leaf. That of FileData is empty.
+/// Child of an AttachedFile: its header, and its leaf, which is empty for FileData
 #[derive(Drop)]
 pub(crate) struct Part {
     pub header: Header,
     pub leaf: Tree,
 }
 
-// How many octets of a child of an AttachedFile are counted.
+// Returns the number of bytes of `part`, in an AttachedFile, that count towards the limit.
 fn counted_of(part: &Header) -> u64
     requires behind { part.now.offset ≤ part.now.body }
     requires short { stated_end part.now < 2 ^ 64 }
@@ -40,7 +40,7 @@ fn counted_of(part: &Header) -> u64
     }
 }
 
-// The octets of an Element's body.
+// Reads the body of an element.
 fn body_of<R: Reads>(
     alloc: Global,
     src: &mut R,
@@ -59,8 +59,7 @@ fn body_of<R: Reads>(
     Ok(Bytes::from_vec(body))
 }
 
-// A child of an AttachedFile as a leaf: its body is read and has to be a value of its kind, but that of FileData,
-// which is left alone.
+// Reads a child of an AttachedFile as a leaf. Its body must be a valid value; the body of FileData stays unread.
 fn leaf_of<R: Reads>(
     alloc: Global,
     src: &mut R,
@@ -85,7 +84,7 @@ fn leaf_of<R: Reads>(
     Ok(Tree::leaf(alloc, part.id, body.as_slice())?)
 }
 
-/// Reads the child at a place of an AttachedFile that ends at `end`, and counts it.
+/// Reads the child at offset `at` of an AttachedFile that ends at `end`, and counts it.
 pub(crate) fn read_part<R: Reads>(
     alloc: Global,
     src: &mut R,

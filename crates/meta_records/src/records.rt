@@ -1,4 +1,4 @@
-//! The records of a file.
+//! Records of a file
 
 ghost use Rattle.std.specs.Prelude.{◌≡◌, ◌+◌, ◌*◌, ◌≤◌, false, List, Ok, IfOk, IfErr, IfSome};
 ghost use Rattle.mkv_schema.specs.declared.ids.TheConstants.{INFO as INFO_ID, TRACKS as TRACKS_ID};
@@ -22,24 +22,24 @@ use output_model::Attachment;
 use std::alloc::Global;
 use track_records::{Track, read_tracks};
 
-/// What stands before the blocks of a file and describes them.
+/// Elements of a file that describe its blocks
 #[derive(Drop)]
 pub struct Records {
-    /// Its first Info, if it has one.
+    /// First Info, if any
     pub info: Option<Tree>,
-    /// The tracks of its first Tracks.
+    /// Tracks of the first Tracks
     pub tracks: List<Track>,
-    /// The attached files of its first Attachments, whose data stay in the file.
+    /// Attached files of the first Attachments, whose data stay in the file
     pub attachments: List<Attachment>,
-    /// Its first Chapters, if it has one.
+    /// First Chapters, if any
     pub chapters: Option<Tree>,
-    /// Its first Tags, if it has one.
+    /// First Tags, if any
     pub tags: Option<Tree>,
 }
 
-/// The records of a file with this outline, or the first thing that refuses them: of Info, Tracks, Attachments, Chapters
-/// and Tags, in this order, first what is wrong inside, and then a value that is refused. A file without Tracks is
-/// refused. Earlier inputs may have held any number of octets when the outline was read.
+/// Reads the records of a file with this outline, or returns the first damage. Info, Tracks, Attachments, Chapters
+/// and Tags are checked in this order; each first as elements, then for its values. A file without Tracks is refused.
+/// The outline may have been read after other inputs, with any number of bytes held.
 #[tactic(auto, using(crate::proofs::RecordsLemmas::held))]
 pub fn read_records<R: Reads>(
     alloc: Global,
@@ -54,7 +54,7 @@ pub fn read_records<R: Reads>(
     ensures standing { R.standing src.new ≡ R.standing src.old }
     ensures cause { HasCause is_outline_fault (R.reading_faults src.old) (R.reading_faults src.new) result }
 
-    // Info, Tracks, Chapters and Tags are each read once, and of Attachments no data.
+    // Info, Tracks, Chapters and Tags are each read once, and Attachments without data.
     ensures octets { ReadsUpTo R.Reads src.old src.new (20 * file_size R.Reads src.old file) }
     ensures few { ReadsOf R.Reads src.old src.new file (λ size. 4 * size + 2 * MAX_ATTACHMENTS_LEN) }
 {
@@ -74,7 +74,7 @@ pub fn read_records<R: Reads>(
     })
 }
 
-/// Nanoseconds a tick of a file whose first Info this is.
+/// Returns the nanoseconds per tick of a file with the first Info `info`.
 pub fn scale_of(info: &Option<Tree>) -> u64
     requires { IfSome info.now IsGoodInfo }
     ensures value { result ≡ scale_of_info info.now }
@@ -89,7 +89,7 @@ pub fn scale_of(info: &Option<Tree>) -> u64
     }
 }
 
-/// An Info, unless something refuses it.
+/// Returns the Info, or its damage.
 pub fn good_info(info: Option<Tree>) -> Result<Option<Tree>, Damage>
     requires { IfSome info (IsSoundOf INFO_ID) }
     ensures { result ≡ good_info info }
@@ -100,7 +100,7 @@ pub fn good_info(info: Option<Tree>) -> Result<Option<Tree>, Damage>
     Ok(info)
 }
 
-/// The tracks of a Tracks, which has to be there.
+/// Returns the tracks of a Tracks element, which must be present.
 fn good_tracks(
     alloc: Global,
     segment: &Header,

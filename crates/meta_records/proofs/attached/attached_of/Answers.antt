@@ -1,4 +1,4 @@
--- What the parts of an AttachedFile say.
+-- The attached file agrees with the parts of its AttachedFile.
 use Rattle.std.proofs.Common.{refl, arith}
 use Rattle.meta_records.proofs.PartsLemmas.{attachment-is, data-inside, missing-is}
 use Rattle.meta_records.proofs.attached.attached_of.Goals as goal

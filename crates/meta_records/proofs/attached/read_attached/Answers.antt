@@ -1,4 +1,4 @@
--- What its children tell.
+-- The children decide.
 use Rattle.std.proofs.lemmas.Result.{err_from_is_err_and}
 use Rattle.meta_records.specs.Attachments.{at_part, children_of, met_in}
 use Rattle.meta_records.specs.declared.attached.Attached.{Attached}

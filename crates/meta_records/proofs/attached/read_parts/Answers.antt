@@ -1,4 +1,4 @@
--- The children are read one behind the other.
+-- The children are read in sequence.
 use Rattle.std.proofs.Common.{◌≡◌, ◌+◌, ◌-◌, ◌≤◌, [], ◌∷◌, ◌++◌, ◌<◌, ℕ, List, None, IfSome, Ok, Err, refl, sym, ap, subst, ◌∙◌, arith}
 use Rattle.std.proofs.lemmas.Result.{err_from_is_err_and}
 use Rattle.mkv_schema.specs.declared.ids.TheConstants.{ATTACHED_FILE}
@@ -74,7 +74,7 @@ loop-at-preserved g c =
           (IsPaid-longer _ _ _ _ _ _ (omega arith) c.in_ok-header.ensures.pays);
     }
 
--- no child stands there
+-- There is damage instead of a child.
 pub returns-in_err-header-clause-meets : goal.returns-in_err-header-clause-meets
 returns-in_err-header-clause-meets g c = λ bytes told.
     let h = c.args.attached.now in
@@ -95,7 +95,7 @@ returns-in_err-header-clause-pays g c =
     rw p.1 (IsSpent-longer (h.body + c.known.result - h.body) _ _ _ _ _ (omega arith)
     (IsSpent-on h.body c.loop-at.at (h.body + c.known.result) c.args.counts.now c.loop-at.counts c.read_part.new.counts _ _ _ inv.begin (omega arith) inv.pays c.in_err-header.ensures.pays))
 
--- all children were read
+-- All children are read.
 
 pub set-requires-clause-master : goal.set-requires-clause-master
 set-requires-clause-master g c = built-master ATTACHED_FILE c.args.attached.now.offset 0 _ c.loop-at.entry c.loop-at.invariant.built

@@ -1,4 +1,4 @@
--- The children so far were met and read.
+-- The previous children were scanned and read.
 use Rattle.std.proofs.Common.{◌≡◌, ◌-◌, ◌≤◌, IfSome}
 use Rattle.mkv_io.specs.Told.{IfVisible}
 use Rattle.mkv_schema.specs.declared.ids.TheConstants.{ATTACHED_FILE}

@@ -1,4 +1,4 @@
--- What was found is the definition's.
+-- The result is the definition's.
 use Rattle.std.proofs.Common.{List, sym, subst, ◌∙◌}
 use Rattle.std.specs.Prelude.{All}
 use Rattle.std.proofs.lemmas.Result.{err_from_is_err_and}

@@ -1,4 +1,4 @@
--- A child is met, and an AttachedFile read.
+-- A child is scanned, and an AttachedFile is read.
 use Rattle.std.proofs.Common.{ℕ, Err, refl, sym, subst, arith}
 use Rattle.std.proofs.lemmas.Result.{err_from_is_err_and}
 use Rattle.std.proofs.lemmas.List.Elements.{All-push}
@@ -21,7 +21,7 @@ returns-in_err-child-clause-pays g c =
     let p = err_from_is_err_and c.from_residual.result c.from_residual.ensures.1 in
     rw p.1 (IsSpent-header _ _ _ _ _ refl c.in_err-child.ensures.octets)
 
--- it passes a limit
+-- It passes a limit.
 
 pub returns-in_err-add-clause-meets : goal.returns-in_err-add-clause-meets
 returns-in_err-add-clause-meets g c = λ bytes told.
@@ -36,7 +36,7 @@ returns-in_err-add-clause-pays g c =
     let p = err_from_is_err_and c.from_residual-in_err-add.result c.from_residual-in_err-add.ensures.1 in
     rw p.1 (IsSpent-header _ _ _ _ _ c.in_err-add.ensures.refused c.in_ok-child.ensures.octets)
 
--- the attached files stand in the file
+-- The attached files are in the file.
 pub returns-clause-sound : goal.returns-clause-sound
 returns-clause-sound g c = λ all.
     let P : Attachment → Type 0 = IsAttachedIn c.args.file c.args.end in

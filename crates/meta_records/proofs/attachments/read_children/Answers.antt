@@ -1,4 +1,4 @@
--- The children are met one behind the other.
+-- The children are scanned in sequence.
 use Rattle.std.proofs.Common.{◌≡◌, ◌+◌, ◌-◌, ◌<◌, ◌≤◌, ℕ, List, Ok, Err, refl, sym, ap, subst, ◌∙◌, arith}
 use Rattle.std.specs.Prelude.{All}
 use Rattle.std.proofs.lemmas.List.Elements.{All-nil}
@@ -60,7 +60,7 @@ loop-at-preserved g c =
       pays = IsPaid-on h.body at next c.new-counts.result c.loop-at.counts c.read_child.new.counts _ _ _ inv.begin (omega arith) inv.pays one.pays;
     }
 
--- a child is refused, or isn't known
+-- A child is damaged, or couldn't be read.
 pub returns-in_err-at-clause-exact : goal.returns-in_err-at-clause-exact
 returns-in_err-at-clause-exact g c = λ bytes told.
     let h = c.args.header.now in
@@ -90,7 +90,7 @@ returns-in_err-at-clause-few g c =
     let spent = IsSpent-on h.body c.loop-at.at (h.body + c.known.result) c.new-counts.result c.loop-at.counts c.read_child.new.counts _ _ _ inv.begin (omega arith) inv.pays c.in_err-at.ensures.pays in
     few-spent _ c.new-counts.result c.read_child.new.counts _ _ c.new-counts.ensures.nodes c.new-counts.ensures.octets c.read_child.new.counts.few_octets c.read_child.new.counts.few_nodes spent
 
--- all were met
+-- All children were scanned.
 pub returns-clause-exact : goal.returns-clause-exact
 returns-clause-exact g c = λ bytes told.
     let h = c.args.header.now in

@@ -1,4 +1,4 @@
--- The children so far were met, and the attached files among them found.
+-- The previous children were scanned, and the attached files among them found.
 use Rattle.std.proofs.Common.{◌≡◌, ◌-◌, ◌≤◌}
 use Rattle.std.specs.Prelude.{All}
 use Rattle.mkv_io.specs.Told.{IfVisible}

@@ -5,12 +5,12 @@ use Rattle.tree_format.specs.Node.{Node}
 use Rattle.meta_records.proofs.RecordsLemmas.{IsFirst-shown, first_tree-none, first_tree-some}
 use Rattle.meta_records.proofs.first.first_tree.Goals as goal
 
--- there is no such Element
+-- There is no such element.
 pub returns-in_default-clause-exact : goal.returns-in_default-clause-exact
 returns-in_default-clause-exact g c = λ bytes told before outline.
     first_tree-none c.args.id before bytes c.args.outline.now c.requires.held outline (sym c.first.ensures.kept ∙ c.in_default.is)
 
--- what an outline keeps isn't too large
+-- An element in an outline is small enough.
 pub returns-in-Err-TooLarge-clause-exact : goal.returns-in-Err-TooLarge-clause-exact
 returns-in-Err-TooLarge-clause-exact g c = λ bytes told before outline.
     let is = IsFirst-shown c.args.id before bytes c.args.outline.now c.in-Some.header c.requires.held outline (sym c.first.ensures.kept ∙ c.in-Some.is) in
@@ -18,14 +18,14 @@ returns-in-Err-TooLarge-clause-exact g c = λ bytes told before outline.
     let both : Some c.in-Err-TooLarge.damage ≡ None = sym large ∙ is.small in
     absurd (cc)
 
--- it is read as a tree
+-- It is read as a tree.
 pub returns-in-Ok-parse-clause-exact : goal.returns-in-Ok-parse-clause-exact
 returns-in-Ok-parse-clause-exact g c = λ bytes told before outline.
     let is = IsFirst-shown c.args.id before bytes c.args.outline.now c.in-Some.header c.requires.held outline (sym c.first.ensures.kept ∙ c.in-Some.is) in
     first_tree-some c.args.id bytes c.args.outline.now c.in-Some.header c.as_slice.result.now is (c.as_slice.ensures ∙ c.in-Ok.ensures.ok bytes told)
     ∙ ap (λ (read : Result Node Damage). and_then read (λ (tree : Node). Ok (Some tree))) c.in-Ok-parse.ensures.exact
 
--- or something is wrong inside
+-- It is damaged.
 pub returns-in-Err-Damage-clause-exact : goal.returns-in-Err-Damage-clause-exact
 returns-in-Err-Damage-clause-exact g c = λ bytes told before outline.
     let is = IsFirst-shown c.args.id before bytes c.args.outline.now c.in-Some.header c.requires.held outline (sym c.first.ensures.kept ∙ c.in-Some.is) in

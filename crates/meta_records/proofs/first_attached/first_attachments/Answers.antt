@@ -4,19 +4,19 @@ use Rattle.meta_records.specs.Attached.{in_file}
 use Rattle.meta_records.proofs.AttachedLemmas.{attached-read, attached-refused, first_attached-of}
 use Rattle.meta_records.proofs.first_attached.first_attachments.Goals as goal
 
--- there are none
+-- There are no attached files.
 pub returns-in_default-clause-exact : goal.returns-in_default-clause-exact
 returns-in_default-clause-exact g c = λ bytes told before outline.
     first_attached-of before bytes c.args.outline.now _ outline (sym c.first.ensures.kept ∙ c.in_default.is)
     ∙ ap (λ (list : List Attachment). Ok (map in_file list)) (sym c.new.ensures)
 
--- they are read
+-- They are read.
 pub returns-in-Ok-clause-exact : goal.returns-in-Ok-clause-exact
 returns-in-Ok-clause-exact g c = λ bytes told before outline.
     first_attached-of before bytes c.args.outline.now _ outline (sym c.first.ensures.kept ∙ c.in-Some.is)
     ∙ attached-read bytes c.args.file c.in-Some.header c.in-Ok.attachments (c.in-Ok.ensures.exact bytes told)
 
--- or something refuses them
+-- They are refused.
 pub returns-in-Err-Refused-clause-exact : goal.returns-in-Err-Refused-clause-exact
 returns-in-Err-Refused-clause-exact g c = λ bytes told before outline.
     first_attached-of before bytes c.args.outline.now _ outline (sym c.first.ensures.kept ∙ c.in-Some.is)

@@ -1,4 +1,4 @@
--- What was read is enough for a header.
+-- The bytes that were read are enough for a header.
 use Rattle.std.proofs.Common.{◌≡◌, length, sym, ◌∙◌, ap, arith}
 use Rattle.std.proofs.lemmas.Grind.{common_steps}
 use Rattle.std.proofs.lemmas.Result.{err_from_is_err_and}

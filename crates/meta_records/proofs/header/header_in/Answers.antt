@@ -1,4 +1,4 @@
--- What is read stands there.
+-- The header is valid at this offset.
 use Rattle.std.proofs.Common.{sym, arith}
 use Rattle.ebml_numbers.specs.Number.{AreOctets}
 use Rattle.meta_records.proofs.HeaderLemmas.{IsChild-found}

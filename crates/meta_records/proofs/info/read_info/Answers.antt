@@ -1,4 +1,4 @@
--- A scale that isn't refused is the file's, and not 0.
+-- A valid scale is the file's, and not 0.
 use Rattle.std.proofs.Common.{sym, ◌∙◌, ◌<◌, ℕ, subst}
 use Rattle.file_format.proofs.InfoLemmas.{scale-some, file_scale-some}
 use Rattle.meta_records.proofs.info.read_info.Goals as goal

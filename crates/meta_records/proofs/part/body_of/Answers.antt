@@ -1,4 +1,4 @@
--- The octets that were read are the body's.
+-- The bytes that were read are the body.
 use Rattle.std.proofs.Common.{◌≡◌, length, sym, ◌∙◌, ap, arith}
 use Rattle.std.proofs.lemmas.Grind.{common_steps}
 use Rattle.std.proofs.lemmas.List.{drop-take, take_at}

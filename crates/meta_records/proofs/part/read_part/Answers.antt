@@ -21,7 +21,7 @@ leaf_of-requires-clause-child g c =
     let size = ap (λ s. (g.R.Reads.files s).size c.args.file.n) c.in_ok-header.ensures.standing in
     rw size (IsChild-longer _ _ _ _ c.in_ok-header.ensures.child c.requires.inside)
 
--- no Element stands there
+-- There is no element.
 pub returns-in_err-header-clause-meets : goal.returns-in_err-header-clause-meets
 returns-in_err-header-clause-meets g c = λ bytes told.
     let p = err_from_is_err_and c.from_residual.result c.from_residual.ensures.1 in
@@ -32,7 +32,7 @@ returns-in_err-header-clause-pays g c =
     let p = err_from_is_err_and c.from_residual.result c.from_residual.ensures.1 in
     rw p.1 (IsSpent-header _ _ _ _ _ refl c.in_err-header.ensures.octets)
 
--- it passes a limit
+-- It passes a limit.
 
 pub returns-in_err-add-clause-meets : goal.returns-in_err-add-clause-meets
 returns-in_err-add-clause-meets g c = λ bytes told.
@@ -47,7 +47,7 @@ returns-in_err-add-clause-pays g c =
     let p = err_from_is_err_and c.from_residual-in_err-add.result c.from_residual-in_err-add.ensures.1 in
     rw p.1 (IsSpent-header _ _ _ _ _ c.in_err-add.ensures.refused c.in_ok-header.ensures.octets)
 
--- its value is no value, or it can't be read
+-- Its body is invalid, or couldn't be read.
 
 pub returns-in_err-leaf-clause-meets : goal.returns-in_err-leaf-clause-meets
 returns-in_err-leaf-clause-meets g c = λ bytes told.
@@ -67,7 +67,7 @@ returns-in_err-leaf-clause-pays g c =
     let p = err_from_is_err_and c.from_residual-in_err-leaf.result c.from_residual-in_err-leaf.ensures.1 in
     rw p.1 (IsSpent-one _ _ _ _ _ _ _ _ c.in_ok-header.ensures.octets c.in_err-leaf.ensures.octets (rw c.counted_of.ensures at c.in_ok-add.ensures.octets) c.in_ok-add.ensures.nodes few.0 (omega (arith, few.1)))
 
--- it is read
+-- It is read.
 
 pub returns-clause-meets : goal.returns-clause-meets
 returns-clause-meets g c = λ bytes told.
