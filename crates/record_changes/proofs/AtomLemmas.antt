@@ -1,4 +1,4 @@
--- Editions and atoms, one more behind the others.
+-- Editions and atoms, with one more.
 use Rattle.std.proofs.Common.{◌≡◌, ◌<◌, ◌≤◌, ℕ, zero, suc, ◌+◌, ◌==◌, Bool, cond, if◌then◌else◌, List, [], ◌∷◌, ◌++◌, length, take, drop, map, flat_map, get_or, refl, sym, ap, ◌∙◌, arith, append-nil, append_assoc, length-append}
 use Rattle.std.proofs.lemmas.List.{take_more, take_all, take-append-drop, map-append}
 use Rattle.std.proofs.lemmas.List.Elements.{filter-append}
@@ -16,7 +16,7 @@ take-step xs i x inside is = take_more xs i x inside ∙ ap (λ y. take i xs ++ 
 
 -- ---- atoms
 
--- an atom comes before those inside it
+-- An atom comes before the atoms inside it.
 pub atoms-own : (n : Node) → IsRead CHAPTER_ATOM n → atoms_at n ≡ n ∷ atoms_inside n
 atoms-own (leaf id at body) read = let never = read.master in absurd (cc)
 atoms-own (master id at kids) read =
@@ -39,7 +39,7 @@ atoms-counted xs i x inside is = ap length (atoms-step xs i x inside is) ∙ len
 pub atoms-all : (n : Node) (items : List Node) (i : ℕ) → items ≡ children n → length items ≤ i → length (atoms_among (nodes_of (take i items))) ≡ length (atoms_inside n)
 atoms-all n items i are past = ap (λ l. length (atoms_among (nodes_of l))) (take_all i items past ∙ are)
 
--- those so far and the next are no more than all
+-- The atoms found and the next ones are at most all.
 pub atoms-few : (xs : List Node) (i : ℕ) (x : Node) → i < length xs → x ≡ get_or xs i x → length (atoms_among (nodes_of (take i xs))) + length (atoms_at x) ≤ length (atoms_among (nodes_of xs))
 atoms-few [] i x inside is = absurd (omega arith)
 atoms-few (y ∷ ys) zero x inside is = omega (arith, length-append (atoms_at y) (atoms_among (nodes_of ys)), ap (λ n. length (atoms_at n)) is)
@@ -64,7 +64,7 @@ atom-own x own = ap (λ i. cond (i == CHAPTER_ATOM) (x ∷ []) []) own
 pub atom-other : (x : Node) → (id_of x ≡ CHAPTER_ATOM → ⊥) → part CHAPTER_ATOM (x ∷ []) ≡ []
 atom-other x other = ap (λ (b : Bool). cond b (x ∷ []) []) (other-id (id_of x) CHAPTER_ATOM other)
 
--- what isn't an edition is passed over
+-- A child that isn't an edition is skipped.
 pub part-passed : (xs : List Node) (i : ℕ) (x : Node) → i < length xs → x ≡ get_or xs i x → (id_of x ≡ EDITION_ENTRY → ⊥) → part EDITION_ENTRY (take (i + 1) xs) ≡ part EDITION_ENTRY (take i xs)
 part-passed xs i x inside is other =
     part-step EDITION_ENTRY xs i x inside is ∙ ap (λ l. part EDITION_ENTRY (take i xs) ++ l) (edition-other x other) ∙ append-nil (part EDITION_ENTRY (take i xs))
@@ -72,7 +72,7 @@ part-passed xs i x inside is other =
 pub part-grown : (xs : List Node) (i : ℕ) (x : Node) → i < length xs → x ≡ get_or xs i x → id_of x ≡ EDITION_ENTRY → part EDITION_ENTRY (take (i + 1) xs) ≡ part EDITION_ENTRY (take i xs) ++ x ∷ []
 part-grown xs i x inside is own = part-step EDITION_ENTRY xs i x inside is ∙ ap (λ l. part EDITION_ENTRY (take i xs) ++ l) (edition-own x own)
 
--- the atoms inside so many editions, and those inside one more
+-- One more edition adds its atoms.
 pub atoms-grown : (xs : List Node) (i : ℕ) (x : Node) → i < length xs → x ≡ get_or xs i x → id_of x ≡ EDITION_ENTRY
     → length (flat_map atoms_inside (part EDITION_ENTRY (take (i + 1) xs))) ≡ length (flat_map atoms_inside (part EDITION_ENTRY (take i xs))) + length (atoms_inside x)
 atoms-grown xs i x inside is own =
@@ -91,7 +91,7 @@ module _ (xs : List Node) (i : ℕ) (x : Node) (inside : i < length xs) (is : x 
       ap (part EDITION_ENTRY) (sym (take-append-drop (i + 1) xs)) ∙ filter-append (λ n. id_of n == EDITION_ENTRY) (take (i + 1) xs) (drop (i + 1) xs)
       ∙ ap (λ l. l ++ part EDITION_ENTRY (drop (i + 1) xs)) (part-grown xs i x inside is own)
 
-  -- there is one more than were before it
+  -- One more edition is left.
   pub editions-few : length (part EDITION_ENTRY (take i xs)) < length (part EDITION_ENTRY xs)
   editions-few =
       let before = part EDITION_ENTRY (take i xs) in
@@ -104,13 +104,13 @@ module _ (xs : List Node) (i : ℕ) (x : Node) (inside : i < length xs) (is : x 
       let all = ap (flat_map atoms_inside) whole ∙ flat_map-append atoms_inside (before ++ x ∷ []) behind ∙ ap (λ l. l ++ flat_map atoms_inside behind) (flat_map-append atoms_inside before (x ∷ [])) in
       omega (arith, ap length all, length-append (flat_map atoms_inside before ++ (atoms_inside x ++ [])) (flat_map atoms_inside behind), length-append (flat_map atoms_inside before) (atoms_inside x ++ []), length-append (atoms_inside x) [])
 
--- ---- identifiers that are added
+-- ---- appended identifiers
 
 pub uids-grown : (f : Node → ℕ) (base had new : List ℕ) (before one all : List Node) → all ≡ before ++ one → had ≡ base ++ map f before → new ≡ had ++ map f one → new ≡ base ++ map f all
 uids-grown f base had new before one all is was put =
     put ∙ ap (λ l. l ++ map f one) was ∙ append_assoc base (map f before) (map f one) ∙ ap (λ l. base ++ l) (sym (map-append f before one)) ∙ ap (λ l. base ++ map f l) (sym is)
 
--- those of an atom are its own, and those inside it
+-- The identifiers of an atom are its own, then the ones of the atoms inside it.
 pub uids-own : (base new : List ℕ) (atom : Node) (items : List Node) (i : ℕ) → IsRead CHAPTER_ATOM atom → items ≡ children atom → length items ≤ i
     → new ≡ (base ++ value_in CHAPTER_UID atom ∷ []) ++ map (value_in CHAPTER_UID) (atoms_among (nodes_of (take i items))) → new ≡ base ++ map (value_in CHAPTER_UID) (atoms_at atom)
 uids-own base new atom items i read are past is =

@@ -1,4 +1,4 @@
--- What the table has in a Chapters Element.
+-- Facts of the table about Chapters.
 use Rattle.std.proofs.Common.{◌≡◌, true, refl}
 use Rattle.ebml_numbers.specs.Number.{is_id}
 use Rattle.mkv_schema.specs.declared.ids.TheConstants.{CHAPTERS, EDITION_ENTRY, EDITION_UID, CHAPTER_ATOM, CHAPTER_UID, CHAPTER_TIME_START, CHAPTER_TIME_END}

@@ -1,4 +1,4 @@
--- What goes into a stretch of time.
+-- Chapters cut to a period of time.
 use Rattle.std.proofs.Common.{◌≡◌, ◌<◌, ◌≤◌, ℕ, ◌+◌, ◌-◌, ◌==◌, Bool, true, false, cond, if◌then◌else◌, List, [], ◌∷◌, ◌++◌, length, take, drop, find, get_or, All, Option, None, Some, eqb-true, refl, sym, ap, subst, ◌∙◌, arith, append-nil, append_assoc, length-drop}
 use Rattle.std.specs.Option.{option_to_list}
 use Rattle.std.proofs.lemmas.List.{drop_all, take_all, get_or_default}
@@ -21,7 +21,7 @@ use Rattle.record_changes.specs.Standing.{HoldsAtoms, IsReadIf, MayReplace, Sets
 use Rattle.record_changes.proofs.ChapterFacts.{edition-master, atom-master, atom-in_edition, atom-in_atom}
 use Rattle.record_changes.proofs.StandLemmas.{read-if, other-id, stands-here, built-whole}
 
--- ---- what holds atoms
+-- ---- masters with atoms
 
 pub edition-holds : (n : Node) → IsRead EDITION_ENTRY n → HoldsAtoms n
 edition-holds n read = record {
@@ -37,7 +37,7 @@ atom-holds n read = record {
   atoms = ap (λ p. is_master_in p CHAPTER_ATOM) read.id ∙ atom-in_atom;
 }
 
--- its atoms were read
+-- Its atoms were read.
 pub all-read-if : (parent own : ℕ) (n : Node) (ns : List Node) → is_master_in parent own ≡ true → IsRead parent n → ns ≡ children n → All (IsReadIf own) ns
 all-read-if parent own n ns has read are = λ i d inside. read-if parent own n (get_or ns i d) ns i has read are inside (get_or_default ns i d (get_or ns i d) inside)
 
@@ -54,7 +54,7 @@ find-read own (m ∷ ms) n all found = split (id_of m == own) refl (find-read ow
         subst (IsRead own) same (All-head (IsReadIf own) m ms all (eqb-true (id_of m) own is))
     split false is rest found = rest found
 
--- ---- a time is set
+-- ---- setting a time
 
 set-id : (n : Node) (ns : List Node) → id_of (with_children n ns) ≡ id_of n
 set-id (leaf id at body) ns = refl
@@ -84,7 +84,7 @@ atom-in_place : (parent : ℕ) (n new : Node) → is_master_in parent CHAPTER_AT
 atom-in_place parent n (leaf id at body) has read shallow = let never = read.master in absurd (cc)
 atom-in_place parent n (master id at kids) has read shallow = record { stands = (ap (is_master_in parent) read.id ∙ has, read.sound); shallow = shallow }
 
--- with its times set an atom still takes the place
+-- With its times set, an atom is still valid in its place.
 pub may-sets : (n t first last : Node) (cs ds : List Node) → IsRead CHAPTER_ATOM n → MayReplace n t → SetsTimes cs t first → SetsTimes ds first last → MayReplace n last
 may-sets n t first last cs ds read may one two =
     λ parent stands.
@@ -93,7 +93,7 @@ may-sets n t first last cs ds read may one two =
     let b = two.shallow in
     atom-in_place parent n last (stands-here parent CHAPTER_ATOM n read stands) two.read (omega arith)
 
--- ---- an Element
+-- ---- one element
 
 pub cut-other : (s : Stretch) (n : Node) (next : Option ℕ) → (id_of n ≡ CHAPTER_ATOM → ⊥) → cut_at s n next ≡ n ∷ []
 cut-other s (leaf id at body) next other = refl
@@ -114,13 +114,13 @@ cut-taken s n next read is = cut-own s n next read ∙ ap (λ (b : Bool). if b t
 pub cut-left : (s : Stretch) (n : Node) (next : Option ℕ) → IsRead CHAPTER_ATOM n → takes s (start_of n) (end_of n next) ≡ false → cut_at s n next ≡ []
 cut-left s n next read is = cut-own s n next read ∙ ap (λ (b : Bool). if b then set_each (times_within s n) (cut_inside s n) ∷ [] else []) is
 
--- ---- Elements, one after the other
+-- ---- elements in sequence
 
--- what stands from a place on
+-- The elements from index `m` on are the rest.
 pub from-rest : (m : ℕ) (xs : List Node) → take (length xs - m) (drop m xs) ≡ drop m xs
 from-rest m xs = take_all (length xs - m) (drop m xs) (omega (arith, length-drop m xs))
 
--- what was built so far, with what goes in of those that are left, is what goes in of all
+-- The elements that were built and the rest, cut to the period, make the whole.
 pub record IsCutTo (own at i : ℕ) (s : Stretch) (xs : List Node) (t : Node) : Type 0 where
   pub built : IsBuilt own at (depth_all (nodes_of xs)) (children t) t
   pub rest : children t ++ cut_among s (nodes_of (drop i xs)) ≡ cut_among s (nodes_of xs)
@@ -128,7 +128,7 @@ pub record IsCutTo (own at i : ℕ) (s : Stretch) (xs : List Node) (t : Node) : 
 pub built-children : (own at deep : ℕ) (ns : List Node) (t : Node) → IsBuilt own at deep ns t → children t ≡ ns
 built-children own at deep ns t built = ap children built.is ∙ list-nodes ns
 
--- nothing is built yet
+-- Nothing is built at first.
 pub cut-none_yet : (own own' at at' : ℕ) (s : Stretch) (xs : List Node) (t : Node) → own ≡ own' → at ≡ at' → ((d : ℕ) → IsBuilt own at d [] t) → IsCutTo own' at' 0 s xs t
 cut-none_yet own own' at at' s xs t own_is at_is empty =
     let d : ℕ = depth_all (nodes_of xs) in
@@ -145,7 +145,7 @@ cut-next s xs i x inside is =
     ap (λ l. cut_among s (nodes_of l)) (next-is i xs x inside is)
     ∙ ap (λ l. cut_at s x (next_start l) ++ cut_among s (nodes_of (drop (i + 1) xs))) (list-nodes (drop (i + 1) xs))
 
--- an Element goes in, or doesn't
+-- An element is added or left out.
 module _ (own at i : ℕ) (s : Stretch) (xs : List Node) (x old : Node) (next : Option ℕ) (o : Option Node) (inside : i < length xs) (is : x ≡ get_or xs i x) (here : next ≡ next_start (drop (i + 1) xs))
     (so_far : IsCutTo own at i s xs old) (exact : option_to_list o ≡ cut_at s x next) where
   after : List Node
@@ -176,13 +176,13 @@ module _ (own at i : ℕ) (s : Stretch) (xs : List Node) (x old : Node) (next : 
       let Q : Node → Type 0 = IsCutTo own at (i + 1) s xs in
       subst Q (sym last) (record { built = so_far.built; rest = ap (λ l. l ++ after) (sym (append-nil (children old))) ∙ grown [] (ap option_to_list lacks) })
 
--- all of them
+-- All elements are cut.
 pub cut-done : (own i : ℕ) (s : Stretch) (n t : Node) (xs : List Node) → IsRead own n → xs ≡ children n → length xs ≤ i → IsCutTo own (offset_of n) i s xs t → t ≡ cut_inside s n
 cut-done own i s n t xs read are past so_far =
     built-whole own (depth_all (nodes_of xs)) n t (children t) read so_far.built
     ∙ ap (with_children n) (sym (append-nil (children t)) ∙ ap (λ l. children t ++ cut_among s (nodes_of l)) (sym (drop_all i xs past)) ∙ so_far.rest ∙ ap (λ l. cut_among s (nodes_of l)) are)
 
--- ---- nothing where there are none
+-- ---- nothing without children
 
 pub unless-none : (tree : Node) (ns : List Node) → (length ns == 0) ≡ true → unless_empty tree ns ≡ None
 unless-none tree [] is = refl

@@ -1,4 +1,4 @@
--- The smallest number that is free.
+-- The smallest free number.
 use Rattle.std.proofs.Common.{◌≡◌, ◌⊎◌, inl, inr, ◌<◌, ◌≤◌, ℕ, zero, suc, ◌+◌, ◌==◌, Bool, true, false, not, ◌||◌, cond, List, [], ◌∷◌, length, find, filter, Some, refl, sym, ap, subst, ◌∙◌, arith}
 use Rattle.std.specs.Prelude.{unwrap_or}
 use Rattle.std.specs.List.{list_any, range_with_len}
@@ -6,9 +6,9 @@ use Rattle.std.proofs.lemmas.Bool.Decides.{nat_tests}
 use Rattle.record_changes.specs.Identifiers.{is_free, smallest_free}
 use Rattle.record_changes.specs.Laws.{SmallestIsFree}
 
--- ---- what is found among numbers in a row
+-- ---- search in consecutive numbers
 
--- the first number from a on that passes, among n
+-- `m` is the first of `n` numbers from `a` on that passes.
 pub record FoundAt (p : ℕ → Bool) (a n m : ℕ) : Type 0 where
   pub found : find p (range_with_len a n) ≡ Some m
   pub passes : p m ≡ true
@@ -58,7 +58,7 @@ found-or-none p a (suc n) = split (p a) refl (found-or-none p (a + 1) n)
     split false is (inr none) =
         inr (λ k from within. elim (either k from) [ inl same ↦ at_a k is same | inr past ↦ none k past (omega arith) ])
 
--- ---- as many numbers as there are places
+-- ---- a list is at least as long as its distinct numbers
 
 abbrev is_in : List ℕ → ℕ → Bool
 is_in xs n = list_any (λ m. n == m) xs
@@ -74,7 +74,7 @@ length-others x (m ∷ xs) = split (x == m) (length-others x xs)
     split true rest = omega arith
     split false rest = omega arith
 
--- without one that is there they are fewer
+-- Without one number the list is shorter.
 fewer-others : (x : ℕ) (xs : List ℕ) → is_in xs x ≡ true → length (others x xs) < length xs
 fewer-others x [] here = absurd (cc)
 fewer-others x (m ∷ xs) here = split (x == m) here (fewer-others x xs) (length-others x xs)
@@ -84,7 +84,7 @@ fewer-others x (m ∷ xs) here = split (x == m) here (fewer-others x xs) (length
     split true is rest most = omega arith
     split false is rest most = let less = rest is in omega arith
 
--- and another one is still there
+-- Another number is still in the list.
 in-others : (x k : ℕ) (xs : List ℕ) → (k == x) ≡ false → is_in xs k ≡ true → is_in (others x xs) k ≡ true
 in-others x k [] apart here = here
 in-others x k (m ∷ xs) apart here = split (x == m) (k == m) refl refl here (in-others x k xs apart)
@@ -98,7 +98,7 @@ in-others x k (m ∷ xs) apart here = split (x == m) (k == m) refl refl here (in
     split false true x_is k_is is rest = ap (λ b. b || is_in (others x xs) k) k_is
     split false false x_is k_is is rest = ap (λ b. b || is_in (others x xs) k) k_is ∙ rest is
 
--- Where each positive number up to n is there, there are n at least.
+-- A list with each positive number up to `n` has at least `n` numbers.
 pub at_least : (n : ℕ) (xs : List ℕ) → ((k : ℕ) → 0 < k → k ≤ n → is_free xs k ≡ false) → n ≤ length xs
 at_least zero xs there = omega arith
 at_least (suc n) xs there =
@@ -120,7 +120,7 @@ at_least (suc n) xs there =
     free-not : (k : ℕ) → is_in (others (suc n) xs) k ≡ true → is_free (others (suc n) xs) k ≡ false
     free-not k is = ap not is
 
--- ---- the smallest that is free
+-- ---- smallest free number
 
 pub record IsSmallest (taken : List ℕ) (m : ℕ) : Type 0 where
   pub is : smallest_free taken ≡ m
@@ -158,7 +158,7 @@ smallest-free = record {
   small = λ taken. let f = found-smallest taken in let P : ℕ → Type 0 = λ m. m ≤ length taken + 1 in subst P (sym f.1.is) f.1.small;
 }
 
--- a free number with none below it is the smallest
+-- A free number with no smaller free one is the smallest.
 pub smallest-is : (taken : List ℕ) (m : ℕ) → 0 < m → is_free taken m ≡ true → ((n : ℕ) → 0 < n → n < m → is_free taken n ≡ false) → smallest_free taken ≡ m
 smallest-is taken m some free least = of (smallest_free taken) (smallest-free.positive taken) (smallest-free.free taken) (smallest-free.least taken)
   where

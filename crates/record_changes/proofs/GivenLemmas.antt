@@ -1,4 +1,4 @@
--- The numbers that identifiers get.
+-- The output's numbers for identifiers.
 use Rattle.std.proofs.Common.{◌≡◌, ◌≢◌, ◌<◌, ℕ, zero, suc, ◌+◌, ◌==◌, Bool, true, false, not, ◌&&◌, ◌||◌, if◌then◌else◌, List, [], ◌∷◌, ◌++◌, length, All, get_or, refl, sym, ap, ap₂, subst, ◌∙◌, arith, append-nil, append_assoc, length-append}
 use Rattle.std.specs.List.{list_any}
 use Rattle.std.proofs.Math.Seq.{get_or-append_seam}
@@ -13,7 +13,7 @@ use Rattle.record_changes.proofs.FreeLemmas.{smallest-free}
 
 -- ---- free numbers
 
--- what is free of two lists is free of the second
+-- A number that isn't in either list isn't in the second.
 free-second : (a b : List ℕ) (n : ℕ) → is_free (a ++ b) n ≡ true → is_free b n ≡ true
 free-second a b n free = split (list_any (λ m. n == m) a) (list_any (λ m. n == m) b) (sym (ap not (list_any-append (λ m. n == m) a b)) ∙ free)
   where
@@ -21,7 +21,7 @@ free-second a b n free = split (list_any (λ m. n == m) a) (list_any (λ m. n ==
     split true t is = absurd (cc)
     split false t is = is
 
--- a free number is none of the list, at any place
+-- A free number is at no index of the list.
 free-apart : (ids : List ℕ) (n : ℕ) → is_free ids n ≡ true → (k d : ℕ) → k < length ids → get_or ids k d ≡ n → ⊥
 free-apart [] n free k d inside same = absurd (omega arith)
 free-apart (m ∷ ids) n free k d inside same = split (n == m) refl free (λ left k inside same. free-apart ids n left k d inside same) k inside same
@@ -40,9 +40,9 @@ apart-free (m ∷ ids) n apart = split (n == m) refl (apart-free ids n (λ k ins
     split true is rest = let same : m ≡ n = grind (arith, nat_tests) in absurd (apart 0 (omega arith) same)
     split false is rest = rest
 
--- ---- each number that is given
+-- ---- each number
 
--- a positive number that wasn't given
+-- The number `n` is positive, and not in `given`.
 pub record IsGood (given : List ℕ) (n : ℕ) : Type 0 where
   pub positive : 0 < n
   pub free : is_free given n ≡ true
@@ -62,7 +62,7 @@ pub length-from : (source given ids : List ℕ) → length (renumbered_from sour
 length-from source given [] = refl
 length-from source given (id ∷ ids) = ap suc (length-from source (given ++ number_for source given id ∷ []) ids)
 
--- ---- they are settled
+-- ---- numbers are positive and distinct
 
 settled-push : (given : List ℕ) (n : ℕ) → AreSettled given → IsGood given n → AreSettled (given ++ n ∷ [])
 settled-push given n settled good = record {
@@ -80,9 +80,9 @@ settled-from source given (id ∷ ids) settled =
 none-settled : AreSettled []
 none-settled = record { positive = All-nil (λ id. 0 < id); distinct = λ i j d below inside. absurd (omega arith) }
 
--- ---- and stay
+-- ---- such numbers stay unchanged
 
--- what follows settled numbers, all of them settled, is positive and new
+-- The number after others, all positive and distinct, is positive and new.
 good-next : (given : List ℕ) (id : ℕ) (ids : List ℕ) → AreSettled (given ++ id ∷ ids) → IsGood given id
 good-next given id ids settled =
     let long : length (given ++ id ∷ ids) ≡ length given + suc (length ids) = length-append given (id ∷ ids) in
@@ -115,7 +115,7 @@ numbers-settle = record {
   stays = λ ids settled. stays-from ids [] ids settled;
 }
 
--- ---- they fit
+-- ---- numbers stay below the limit
 
 fits-from : (source given ids : List ℕ) (most : ℕ) → All (λ n. n < most) ids → length source + length given + length ids < most → All (λ n. n < most) (renumbered_from source given ids)
 fits-from source given [] most small few = All-nil (λ n. n < most)

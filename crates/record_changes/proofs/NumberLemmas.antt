@@ -1,4 +1,4 @@
--- Identifiers that are given to atoms and editions.
+-- Identifiers of atoms and editions.
 use Rattle.std.proofs.Common.{◌≡◌, ◌<◌, ℕ, ◌+◌, ◌==◌, Bool, if◌then◌else◌, List, [], ◌∷◌, ◌++◌, length, take, flat_map, get_or, refl, sym, ap, ap₂, subst, ◌∙◌, arith, length-append}
 use Rattle.std.specs.Prelude.{slice_index}
 use Rattle.mkv_schema.specs.declared.ids.TheConstants.{EDITION_ENTRY, CHAPTER_ATOM, CHAPTER_UID}
@@ -13,7 +13,7 @@ use Rattle.record_changes.specs.ChapterIdentifiers.{numbered, numbered_among, nu
 use Rattle.record_changes.proofs.StandLemmas.{other-id}
 use Rattle.record_changes.proofs.AtomLemmas.{take-step, part-grown}
 
--- ---- an atom
+-- ---- one atom
 
 pub numbered-other : (uids : List ℕ) (k : ℕ) (n : Node) → (id_of n ≡ CHAPTER_ATOM → ⊥) → numbered uids k n ≡ n
 numbered-other uids k (leaf id at body) other = refl
@@ -27,7 +27,7 @@ numbered-own uids k (master id at kids) read =
     ap (λ i. if i == CHAPTER_ATOM then set (master id at (nodes_of (numbered_among uids (k + 1) kids))) else master id at kids) read.id
     ∙ ap (λ ks. set (master id at (nodes_of (numbered_among uids (k + 1) ks)))) (sym (nodes-list kids))
 
--- one Element more
+-- One more element.
 numbered_among-append : (uids : List ℕ) (k : ℕ) (xs : List Node) (x : Node)
     → numbered_among uids k (nodes_of (xs ++ x ∷ [])) ≡ numbered_among uids k (nodes_of xs) ++ numbered uids (k + length (atoms_among (nodes_of xs))) x ∷ []
 numbered_among-append uids k [] x = let same : k ≡ k + 0 = omega arith in ap (λ j. numbered uids j x ∷ []) same

@@ -1,4 +1,4 @@
--- Times that are later.
+-- Later times.
 use Rattle.std.proofs.Common.{◌≡◌, ◌≤◌, ℕ, ◌==◌, Bool, true, false, if◌then◌else◌, ◌||◌, List, [], ◌∷◌, ◌++◌, length, map, refl, sym, ap, subst, ◌∙◌, arith, append-nil, eqb-true}
 use Rattle.std.proofs.lemmas.Bool.Decides.{nat_tests}
 use Rattle.mkv_schema.specs.declared.ids.TheConstants.{CHAPTER_ATOM, CHAPTER_TIME_START, CHAPTER_TIME_END}
@@ -18,7 +18,7 @@ use Rattle.record_changes.proofs.ChapterFacts.{start, end}
 
 -- ---- times
 
--- a start and an end are integers of the table
+-- A start and an end are integers of the table.
 pub time-uint : (id : ℕ) → is_time id ≡ true → IsUintIn CHAPTER_ATOM id
 time-uint id is = of (id == CHAPTER_TIME_START) (id == CHAPTER_TIME_END) refl refl is
   where
@@ -30,14 +30,14 @@ time-uint id is = of (id == CHAPTER_TIME_START) (id == CHAPTER_TIME_END) refl re
     of false true a_is b_is one = at CHAPTER_TIME_END b_is end
     of false false a_is b_is one = absurd (cc)
 
--- so it has at most eight octets
+-- A time has at most eight bytes.
 pub time-short : (n : Node) → StandsIn CHAPTER_ATOM n → is_time (id_of n) ≡ true → length (body_of n) ≤ 8
 time-short n stands is =
     let has = time-uint (id_of n) is in
     let value : is_value Uint (body_of n) ≡ true = stands-value CHAPTER_ATOM Uint n stands has.known.stands has.known.kind in
     grind (arith, nat_tests)
 
--- ---- an Element of an atom
+-- ---- a child of an atom
 
 part-plain : (by : ℕ) (n : Node) → (id_of n ≡ CHAPTER_ATOM → ⊥) → shifted_part by n ≡ later_time by n
 part-plain by (leaf id at body) other = refl
@@ -54,7 +54,7 @@ parts-map : (by : ℕ) (ns : List Node) → shifted_parts by (nodes_of ns) ≡ m
 parts-map by [] = refl
 parts-map by (n ∷ ns) = ap (λ l. shifted_part by n ∷ l) (parts-map by ns)
 
--- an atom has its Elements later, and a start
+-- An atom has later children, and a start.
 pub part-own : (by : ℕ) (n : Node) → IsRead CHAPTER_ATOM n → shifted_part by n ≡ with_children n (map (shifted_part by) (children n) ++ missing_start by (children n))
 part-own by (leaf id at body) read = let never = read.master in absurd (cc)
 part-own by (master id at kids) read =
@@ -67,7 +67,7 @@ part-built by deep n t items read are built =
     built-whole CHAPTER_ATOM deep n t (map (shifted_part by) items ++ missing_start by items) read built
     ∙ ap (λ l. with_children n (map (shifted_part by) l ++ missing_start by l)) are ∙ sym (part-own by n read)
 
--- ---- its start
+-- ---- start
 
 pub start-there : (by : ℕ) (ns ms : List Node) → has_start ns ≡ true → ms ++ missing_start by ns ≡ ms
 start-there by ns ms is = ap (λ (b : Bool). ms ++ (if b then [] else uint_leaf CHAPTER_TIME_START by ∷ [])) is ∙ append-nil ms

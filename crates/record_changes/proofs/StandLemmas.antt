@@ -1,4 +1,4 @@
--- What is changed still stands where it stood.
+-- Changed elements are still valid in their parents.
 use Rattle.std.proofs.Common.{◌≡◌, ◌<◌, ◌≤◌, ℕ, zero, suc, ◌==◌, Bool, true, false, List, [], ◌∷◌, length, take, get_or, Option, None, Some, IfSome, Result, Ok, Err, IfOk, OnOk, eqb-true, refl, sym, ap, ap₂, subst, ◌∙◌, arith}
 use Rattle.std.specs.declared.alloc.AllocError.{AllocError}
 use Rattle.std.proofs.lemmas.List.{take_all}
@@ -15,7 +15,7 @@ use Rattle.record_changes.specs.Standing.{IsReadIf, MayReplace}
 
 -- ---- children
 
--- a child of a master that was read was read, where the table has it as a master
+-- A child of a master that was read was read too, if the table has it as a master.
 pub read-if : (parent own : ℕ) (tree n : Node) (ns : List Node) (i : ℕ) → is_master_in parent own ≡ true → IsRead parent tree → ns ≡ children tree → i < length ns → n ≡ get_or ns i n → IsReadIf own n
 read-if parent own tree n ns i has read are inside is = λ same. stands-read parent own n has (child-of parent tree n ns i read are inside is) same
 
@@ -26,7 +26,7 @@ other-id a b other = split (a == b) refl
     split true is = absurd (other (eqb-true a b is))
     split false is = is
 
--- a child is smaller than its parent
+-- A child is smaller than its parent.
 count-get : (ns : List Node) (i : ℕ) (n : Node) → i < length ns → n ≡ get_or ns i n → count n ≤ count_all (nodes_of ns)
 count-get [] i n inside is = absurd (omega arith)
 count-get (m ∷ ns) zero n inside is = omega (arith, ap count is)
@@ -43,7 +43,7 @@ child-smaller tree n ns i are inside is =
     let same = ap (λ l. count_all (nodes_of l)) are in
     omega arith
 
--- ---- a master that is built in another's place
+-- ---- a master that replaces another
 
 pub stands-here : (parent own : ℕ) (n : Node) → IsRead own n → StandsIn parent n → is_master_in parent own ≡ true
 stands-here parent own (leaf id at body) read stands = let never = read.master in absurd (cc)
@@ -52,7 +52,7 @@ stands-here parent own (master id at kids) read stands = ap (is_master_in parent
 pub may-built : (own : ℕ) (n t : Node) (ks ns : List Node) → IsRead own n → ks ≡ children n → IsBuilt own (offset_of n) (depth_all (nodes_of ks)) ns t → MayReplace n t
 may-built own n t ks ns read are built = λ parent stands. built-in_place parent own (offset_of n) n t ks ns (stands-here parent own n read stands) read are built
 
--- once all children were looked at
+-- All children were read.
 pub built-all : (own at deep i : ℕ) (f : List Node → List Node) (xs : List Node) (t : Node) → length xs ≤ i → IsBuilt own at deep (f (take i xs)) t → IsBuilt own at deep (f xs) t
 built-all own at deep i f xs t past built = let P : List Node → Type 0 = λ l. IsBuilt own at deep (f l) t in subst P (take_all i xs past) built
 
@@ -64,7 +64,7 @@ built-whole own deep n t ns read built =
 pub built-read : (own at deep : ℕ) (ns : List Node) (t : Node) → IsBuilt own at deep ns t → IsRead own t
 built-read own at deep ns t built = let P : Node → Type 0 = IsRead own in subst P (sym built.is) (record { id = refl; master = refl; sound = built.stand })
 
--- ---- a child that is set in it
+-- ---- setting a child
 
 set-in_place : (parent : ℕ) (n t child new : Node) → IsMaster t → IsInPlace parent n t → depth child ≡ 0 → new ≡ with_children t (with_child child (children t)) → IsSound new → IsInPlace parent n new
 set-in_place parent n (leaf id at body) child new is place low same sound = absurd (cc)
@@ -79,7 +79,7 @@ set-in_place parent n (master id at kids) child new is place low same sound =
 
 module _ (own : ℕ) (n t child new : Node) (ks ns : List Node) (read : IsRead own n) (are : ks ≡ children n) (built : IsBuilt own (offset_of n) (depth_all (nodes_of ks)) ns t)
     (same : new ≡ with_children t (with_child child (children t))) where
-  -- it is sound, so it takes the place
+  -- The new element is sound, so it may replace the old one.
   pub may-set : (id value : ℕ) → child ≡ uint_leaf id value → (IsSound t → StandsIn (id_of t) child → IsSound new) → StandsIn own child → MayReplace n new
   may-set id value is keeps stands =
       let whole = built-read own (offset_of n) (depth_all (nodes_of ks)) ns t built in
@@ -90,7 +90,7 @@ module _ (own : ℕ) (n t child new : Node) (ks ns : List Node) (read : IsRead o
   pub set-whole : (set : Node) → child ≡ set → new ≡ set_in set (with_children n ns)
   set-whole set is = same ∙ ap₂ (λ m s. with_children s (with_child m (children s))) is (built-whole own (depth_all (nodes_of ks)) n t ns read built)
 
--- ---- what a call answers
+-- ---- result of a call
 
 pub on-ok : (r : Result Node AllocError) (P : Type 0) → P → OnOk r P
 on-ok (Ok t) P holds = holds
@@ -100,7 +100,7 @@ pub ok-is : (r : Result Node AllocError) (m n : Node) → m ≡ n → IfOk r (λ
 ok-is (Ok t) m n same is = is ∙ same
 ok-is (Err e) m n same is = tt
 
--- what is copied may stand there
+-- A copy may replace its original.
 pub may-copy : (r : Result Node AllocError) (n : Node) → IfOk r (λ t. t ≡ n) → IfOk r (MayReplace n)
 may-copy (Ok t) n is = λ parent stands. (let P : Node → Type 0 = IsInPlace parent n in subst P (sym is) (record { stands = stands; shallow = omega arith }))
 may-copy (Err e) n is = tt
@@ -109,7 +109,7 @@ pub may-here : (r : Result Node AllocError) (parent : ℕ) (n : Node) → Stands
 may-here (Ok t) parent n stands may = may parent stands
 may-here (Err e) parent n stands may = tt
 
--- an integer is no deeper than any Element
+-- An integer has depth 0.
 pub leaf-here : (r : Result Node AllocError) (parent id value : ℕ) (n : Node) → IfOk r (λ t. t ≡ uint_leaf id value) → IfOk r (StandsIn parent) → IfOk r (IsInPlace parent n)
 leaf-here (Ok t) parent id value n is stands = record { stands = stands; shallow = (let P : Node → Type 0 = λ m. depth m ≤ depth n in subst P (sym is) (omega arith)) }
 leaf-here (Err e) parent id value n is stands = tt

@@ -1,4 +1,4 @@
--- What the table has as masters.
+-- Facts of the table about masters.
 use Rattle.std.proofs.Common.{◌≡◌, true, refl}
 use Rattle.mkv_schema.specs.declared.ids.TheConstants.{TAGS, TAG, TARGETS}
 use Rattle.mkv_schema.specs.Table.{table}

@@ -1,4 +1,4 @@
--- Which numbers are taken.
+-- The numbers that are taken.
 use Rattle.std.proofs.Common.{◌≡◌, ◌⊎◌, inl, inr, ◌<◌, ◌≤◌, ℕ, ◌+◌, ◌==◌, nat_eq, Bool, true, false, not, ◌&&◌, ◌||◌, if◌then◌else◌, List, [], ◌∷◌, ◌++◌, length, drop, get_or, refl, sym, ap, ◌∙◌, arith, length-append, append_assoc, add-one, drop-cons}
 use Rattle.std.specs.List.{list_any}
 use Rattle.std.proofs.lemmas.Bool.Decides.{nat_tests}
@@ -9,12 +9,12 @@ use Rattle.record_changes.proofs.FreeLemmas.{at_least, smallest-is, smallest-fre
 use Rattle.record_changes.proofs.GivenLemmas.{good-number}
 use Rattle.record_changes.specs.Taken.{is_taken, IsNext}
 
--- a number is free of two sets where it isn't taken
+-- A number is free if it isn't in either set.
 pub free-of : {S : Type 0} (source given : IndexSet ℕ S) (n : ℕ) → is_free (source.keys ++ given.keys) n ≡ not (is_taken source given n)
 free-of source given n = ap not (list_any-append (λ m. n == m) source.keys given.keys)
 
 module _ {S : Type 0} (source given : IndexSet ℕ S) (n : ℕ) (next : IsNext (is_taken source given) n) where
-  -- behind a number that is taken comes the next
+  -- After a taken number the next one follows.
   pub next-taken : is_taken source given n ≡ true → IsNext (is_taken source given) (n + 1)
   next-taken here = record { positive = omega arith; below = λ k some less. of k some (past k less) }
     where
@@ -29,16 +29,16 @@ module _ {S : Type 0} (source given : IndexSet ℕ S) (n : ℕ) (next : IsNext (
       of k some (inl less) = next.below k some less
       of k some (inr same) = ap (is_taken source given) same ∙ here
 
-  -- there are as many that are taken
+  -- A taken number with all smaller ones taken is at most the number of elements.
   pub taken-few : is_taken source given n ≡ true → n ≤ length source.keys + length given.keys
   taken-few here =
       let more = next-taken here in
       let most = at_least n (source.keys ++ given.keys) (λ k some within. free-of source given k ∙ ap not (more.below k some (omega arith))) in
       omega (arith, length-append source.keys given.keys)
 
--- ---- the number of an identifier
+-- ---- number of an identifier
 
--- a number that is positive and isn't taken, with those below taken, is the smallest that is free
+-- A free number with all smaller ones taken is the smallest free one.
 pub smallest-next : {S : Type 0} (source given : IndexSet ℕ S) (n : ℕ) → IsNext (is_taken source given) n → is_taken source given n ≡ false → smallest_free (source.keys ++ given.keys) ≡ n
 smallest-next source given n next free =
     smallest-is (source.keys ++ given.keys) n next.positive (free-of source given n ∙ ap not free) (λ k some below. free-of source given k ∙ ap not (next.below k some below))
@@ -53,10 +53,10 @@ number-old source given id old = split (id == 0)
     split true = refl
     split false = ap (λ t. if not t then id else smallest_free (source ++ given)) old
 
--- ---- the numbers so far
+-- ---- numbers in sequence
 
 module _ (source given : List ℕ) (id : ℕ) where
-  -- a number that is given is put behind the others
+  -- A new number is appended.
   pub number-pushed : insert_key nat_eq given (number_for source given id) ≡ given ++ number_for source given id ∷ []
   number-pushed = of (list_any (λ m. number_for source given id == m) given) (good-number source given id).free
     where
@@ -64,7 +64,7 @@ module _ (source given : List ℕ) (id : ℕ) where
       of true free = absurd (cc)
       of false free = refl
 
--- the smallest that is free depends on which numbers there are alone
+-- The smallest free number depends only on the numbers in the list.
 smallest-same : (a b : List ℕ) → ((n : ℕ) → is_free a n ≡ is_free b n) → smallest_free a ≡ smallest_free b
 smallest-same a b same =
     smallest-is a (smallest_free b) (smallest-free.positive b) (same (smallest_free b) ∙ smallest-free.free b) (λ n some below. same n ∙ smallest-free.least b n some below)
@@ -89,7 +89,7 @@ module _ {S : Type 0} (source : IndexSet ℕ S) (uids : List ℕ) (from : IsFrom
       ∙ all
 
 module _ {S : Type 0} (source old new : IndexSet ℕ S) (n : ℕ) (pushed : new.keys ≡ insert_key nat_eq old.keys n) where
-  -- what was taken still is
+  -- Taken numbers stay taken.
   pub next-pushed : (least : ℕ) → IsNext (is_taken source old) least → IsNext (is_taken source new) least
   next-pushed least next = record { positive = next.positive; below = λ k some less. still k (list_any (λ m. n == m) old.keys) (ap (λ (ks : List ℕ). list_any (λ m. k == m) ks) pushed) (next.below k some less) }
     where
@@ -109,6 +109,6 @@ module _ {S : Type 0} (source old new : IndexSet ℕ S) (n : ℕ) (pushed : new.
       of true is = omega arith
       of false is = omega (arith, length-append old.keys (n ∷ []))
 
--- no positive number stands below one
+-- No positive number is below 1.
 pub first-next : (taken : ℕ → Bool) → IsNext taken 1
 first-next taken = record { positive = omega arith; below = λ k some less. absurd (omega arith) }

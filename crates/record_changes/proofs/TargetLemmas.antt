@@ -1,4 +1,4 @@
--- Targets.
+-- Targets of Tags.
 use Rattle.std.proofs.Common.{◌≡◌, ◌≤◌, ℕ, ◌==◌, Bool, true, false, not, ◌&&◌, ◌||◌, length, refl, sym, subst, arith, eqb-true}
 use Rattle.std.proofs.lemmas.Bool.Decides.{nat_tests}
 use Rattle.ebml_numbers.specs.Number.{is_id}
@@ -16,7 +16,7 @@ use Rattle.record_changes.specs.Tags.{is_target_id, is_target}
 use Rattle.ebml_tree.specs.Building.{IsInPlace}
 use Rattle.ebml_tree.specs.Leaves.{IsUintIn}
 
--- what the table has of a target
+-- The table has targets as integers.
 track : IsUintIn TARGETS TAG_TRACK_UID
 unfolding entry_of table is_id
 track = record { valid = refl; known = record { stands = refl; kind = refl } }
@@ -46,7 +46,7 @@ target-id id is = of (id == TAG_TRACK_UID) (id == TAG_EDITION_UID) (id == TAG_CH
     of false false false true a_is b_is c_is d_is one = at TAG_ATTACHMENT_UID d_is attachment
     of false false false false a_is b_is c_is d_is one = absurd (cc)
 
--- a target is an integer of at most eight octets
+-- A target is an integer of at most eight bytes.
 pub target-short : (n : Node) → StandsIn TARGETS n → is_target_id (id_of n) ≡ true → length (body_of n) ≤ 8
 target-short n stands is =
     let has = target-id (id_of n) is in
@@ -60,6 +60,6 @@ target-is n is = of (is_target_id (id_of n)) is
     of true is = refl
     of false is = absurd (cc)
 
--- an integer is no deeper than any Element
+-- An integer has depth 0.
 pub in-place : (child n : Node) (id number : ℕ) → n ≡ uint_leaf id number → StandsIn TARGETS n → IsInPlace TARGETS child n
 in-place child n id number is stands = record { stands = stands; shallow = let P : Node → Type 0 = λ m. depth m ≤ depth child in subst P (sym is) (omega arith) }

@@ -1,4 +1,4 @@
--- The editions and the chapters of a Chapters Element, and their identifiers: RFC 9559, section 5.1.7 (Chapters Element). Their order is this project's.
+-- The editions and chapters of a Chapters element, and their identifiers: RFC 9559, section 5.1.7 (Chapters). Their order is this project's.
 use Rattle.std.specs.Prelude.{ℕ, ◌==◌, if◌then◌else◌, List, [], ◌∷◌, ◌++◌, map, flat_map}
 use Rattle.std.specs.Option.{option_map_or}
 use Rattle.mkv_schema.specs.declared.ids.TheConstants.{EDITION_ENTRY, EDITION_UID, CHAPTER_ATOM, CHAPTER_UID}
@@ -6,13 +6,13 @@ use Rattle.tree_format.specs.Node.{Node, Nodes, leaf, master, none, node, nodes_
 use Rattle.tree_format.specs.Values.{first_child, integer_of}
 use Rattle.tree_format.specs.Changes.{part}
 
--- ---- which there are
+-- ---- editions and atoms
 
 -- the editions, in their order
 abbrev pub editions_of : Node → List Node
 editions_of chapters = part EDITION_ENTRY (children chapters)
 
--- an Element, if it is an atom, and then the atoms inside it, in their order
+-- the atoms at an element: itself if it is an atom, and then the atoms inside it, in their order
 abbrev mutual
   pub atoms_at : Node → List Node
   atoms_at (leaf id at body) = []
@@ -22,27 +22,27 @@ abbrev mutual
   atoms_among none = []
   atoms_among (node n ns) = atoms_at n ++ atoms_among ns
 
--- the atoms of an edition, and of all editions
+-- the atoms of an edition; and the atoms of all editions
 abbrev pub atoms_inside : Node → List Node
 atoms_inside edition = atoms_among (nodes_of (children edition))
 
 abbrev pub atoms_of : Node → List Node
 atoms_of chapters = flat_map atoms_inside (editions_of chapters)
 
--- ---- their identifiers
+-- ---- identifiers
 
--- the unsigned integer of an ID among the children, 0 where it is missing
+-- the unsigned integer of the first child with the ID `id`, or 0 if it is absent
 abbrev pub value_in : ℕ → Node → ℕ
 value_in id n = option_map_or integer_of (first_child id n) 0
 
--- those that a child of Chapters has, if it is an edition: its own, and those of its atoms
+-- the identifiers of a child of Chapters, if it is an edition: its own; and the identifiers of its atoms
 abbrev pub own_uids : Node → List ℕ
 own_uids child = map (value_in EDITION_UID) (part EDITION_ENTRY (child ∷ []))
 
 abbrev pub inner_uids : Node → List ℕ
 inner_uids child = map (value_in CHAPTER_UID) (flat_map atoms_inside (part EDITION_ENTRY (child ∷ [])))
 
--- those of all editions, and of all their atoms
+-- the identifiers of all editions; and the identifiers of all their atoms
 abbrev pub edition_uids : Node → List ℕ
 edition_uids chapters = map (value_in EDITION_UID) (editions_of chapters)
 

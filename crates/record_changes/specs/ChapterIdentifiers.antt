@@ -1,32 +1,32 @@
--- A Chapters Element with other identifiers: RFC 9559, section 5.1.7 (Chapters Element). How they are given is this project's.
+-- A Chapters element with new identifiers: RFC 9559, section 5.1.7 (Chapters). Their order is this project's.
 use Rattle.std.specs.Prelude.{ℕ, ◌+◌, ◌==◌, if◌then◌else◌, List, [], ◌∷◌, length, slice_index}
 use Rattle.mkv_schema.specs.declared.ids.TheConstants.{EDITION_UID, CHAPTER_ATOM, CHAPTER_UID}
 use Rattle.tree_format.specs.Node.{Node, Nodes, leaf, master, none, node, nodes_of, children, with_children}
 use Rattle.tree_format.specs.Children.{uint_leaf, set_in}
 use Rattle.record_changes.specs.Atoms.{editions_of, atoms_at, atoms_inside}
 
--- An Element of an edition: an atom has the k-th identifier, and the atoms inside it have the next ones. All else stays.
+-- a child of an edition with new identifiers: an atom gets the one at index `k`, the atoms inside it get the next ones, and others are unchanged
 abbrev mutual
   pub numbered : List ℕ → ℕ → Node → Node
   numbered uids k (leaf id at body) = leaf id at body
   numbered uids k (master id at kids) =
       if id == CHAPTER_ATOM then set_in (uint_leaf CHAPTER_UID (slice_index uids k)) (master id at (nodes_of (numbered_among uids (k + 1) kids))) else master id at kids
 
-  -- Elements one behind the other, whose first atom has the k-th
+  -- children in sequence, whose first atom gets the identifier at index `k`
   pub numbered_among : List ℕ → ℕ → Nodes → List Node
   numbered_among uids k none = []
   numbered_among uids k (node n ns) = numbered uids k n ∷ numbered_among uids (k + length (atoms_at n)) ns
 
--- an edition with its identifier, whose first atom has the k-th
+-- an edition with the identifier `uid`, whose first atom gets the identifier at index `k`
 abbrev pub numbered_edition : ℕ → List ℕ → ℕ → Node → Node
 numbered_edition uid uids k edition = set_in (uint_leaf EDITION_UID uid) (with_children edition (numbered_among uids k (nodes_of (children edition))))
 
--- editions, of which the first has the j-th identifier, and its first atom the k-th
+-- editions in sequence, whose first one gets the identifier at index `j`, and its first atom the one at index `k`
 abbrev pub numbered_editions : List ℕ → List ℕ → ℕ → ℕ → List Node → List Node
 numbered_editions editions uids j k [] = []
 numbered_editions editions uids j k (e ∷ es) =
     numbered_edition (slice_index editions j) uids k e ∷ numbered_editions editions uids (j + 1) (k + length (atoms_inside e)) es
 
--- A Chapters Element whose editions and atoms have these identifiers, in their order. What isn't an edition goes.
+-- a Chapters element whose editions and atoms have these identifiers, in their order; other children are left out
 abbrev pub with_identifiers : List ℕ → List ℕ → Node → Node
 with_identifiers editions uids chapters = with_children chapters (numbered_editions editions uids 0 0 (editions_of chapters))

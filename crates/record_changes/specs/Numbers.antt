@@ -1,10 +1,10 @@
--- The identifiers that targets have in the output: RFC 9559, section 5.1.8 (Tags Element). Which they are is this project's.
+-- The output's identifiers of targets: RFC 9559, section 5.1.8 (Tags). Their choice is this project's.
 use Rattle.std.specs.Prelude.{ℕ, ◌==◌, nat_eq, if◌then◌else◌, Option, None}
 use Rattle.indexmap.specs.IndexMap.{get}
 use Rattle.mkv_schema.specs.declared.ids.TheConstants.{TAG_TRACK_UID, TAG_EDITION_UID, TAG_CHAPTER_UID, TAG_ATTACHMENT_UID}
 use Rattle.record_changes.specs.declared.uid_map.UidMap.{UidMap}
 
--- the number that a target of this ID has for an identifier
+-- the output's number for the identifier `uid` in a target with the ID `id`
 abbrev pub numbers_in : UidMap → ℕ → ℕ → Option ℕ
 numbers_in map id uid =
     if id == TAG_TRACK_UID then get nat_eq map.tracks uid else

@@ -1,4 +1,4 @@
--- A Chapters Element whose chapters are later: RFC 9559, section 5.1.7 (Chapters Element). That they are is this project's.
+-- A Chapters element with later chapters: RFC 9559, section 5.1.7 (Chapters). The shift is this project's.
 use Rattle.std.specs.Prelude.{ℕ, ◌+◌, ◌-◌, ◌^◌, ◌==◌, min, Bool, ◌||◌, if◌then◌else◌, List, [], ◌∷◌, ◌++◌, map}
 use Rattle.std.specs.List.{list_any}
 use Rattle.mkv_schema.specs.declared.ids.TheConstants.{EDITION_ENTRY, CHAPTER_ATOM, CHAPTER_TIME_START, CHAPTER_TIME_END}
@@ -6,25 +6,25 @@ use Rattle.tree_format.specs.Node.{Node, Nodes, leaf, master, none, node, nodes_
 use Rattle.tree_format.specs.Values.{integer_of}
 use Rattle.tree_format.specs.Children.{uint_leaf}
 
--- a time in nanoseconds that is later by so much, and at most the last one
+-- a time in nanoseconds, later by `by`, and at most the largest 64-bit number
 abbrev pub later : ℕ → ℕ → ℕ
 later by time = min (time + by) (2 ^ 64 - 1)
 
--- an Element of an atom: a start or an end is later, all else stays
+-- a child of an atom: later if it is a start or an end, otherwise unchanged
 abbrev pub is_time : ℕ → Bool
 is_time id = id == CHAPTER_TIME_START || id == CHAPTER_TIME_END
 
 abbrev pub later_time : ℕ → Node → Node
 later_time by n = if is_time (id_of n) then uint_leaf (id_of n) (later by (integer_of n)) else n
 
--- a start for children without one: 0, and so much later
+-- a start for children without one: 0, later by `by`
 abbrev pub has_start : List Node → Bool
 has_start ns = list_any (λ n. id_of n == CHAPTER_TIME_START) ns
 
 abbrev pub missing_start : ℕ → List Node → List Node
 missing_start by ns = if has_start ns then [] else uint_leaf CHAPTER_TIME_START by ∷ []
 
--- an Element of an atom: an atom inside it has all its own Elements later, and a start
+-- a child of an atom: an atom inside it has later children, and a start
 abbrev mutual
   pub shifted_part : ℕ → Node → Node
   shifted_part by (leaf id at body) = later_time by (leaf id at body)
@@ -35,13 +35,13 @@ abbrev mutual
   shifted_parts by none = []
   shifted_parts by (node n ns) = shifted_part by n ∷ shifted_parts by ns
 
--- an Element of an edition, and one of a Chapters Element
+-- a child of an edition; and a child of a Chapters element
 abbrev pub shifted_in_edition : ℕ → Node → Node
 shifted_in_edition by n = if id_of n == CHAPTER_ATOM then shifted_part by n else n
 
 abbrev pub shifted_edition : ℕ → Node → Node
 shifted_edition by n = if id_of n == EDITION_ENTRY then with_children n (map (shifted_in_edition by) (children n)) else n
 
--- A Chapters Element whose atoms are all later by so many nanoseconds.
+-- a Chapters element whose atoms are all later by `by` nanoseconds
 abbrev pub shifted : ℕ → Node → Node
 shifted by chapters = with_children chapters (map (shifted_edition by) (children chapters))

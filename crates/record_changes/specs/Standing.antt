@@ -1,4 +1,4 @@
--- What is changed still stands where it stood.
+-- Changed elements are still valid in their parents.
 use Rattle.std.specs.Prelude.{◌≡◌, ◌≤◌, ℕ, true, List}
 use Rattle.mkv_schema.specs.declared.ids.TheConstants.{CHAPTER_ATOM}
 use Rattle.mkv_schema.specs.Schema.{is_master}
@@ -8,21 +8,21 @@ use Rattle.tree_format.specs.Standing.{StandsIn}
 use Rattle.tree_format.specs.Children.{set_each}
 use Rattle.ebml_tree.specs.Building.{IsInPlace, IsRead}
 
--- a master that was read, where it is one of this ID
+-- The node `n` is a master that was read, if it has the ID `own`.
 abbrev pub IsReadIf : ℕ → Node → Type 0
 IsReadIf own n = id_of n ≡ own → IsRead own n
 
--- a master that was read, in which the table has atoms
+-- The node `n` is a master that was read, and the table allows atoms in it.
 pub record HoldsAtoms (n : Node) : Type 0 where
   pub read : IsRead (id_of n) n
   pub known : is_master (id_of n) ≡ true
   pub atoms : is_master_in (id_of n) CHAPTER_ATOM ≡ true
 
--- wherever the one stands, the other may take its place
+-- In each parent in which `old` is valid, `new` may replace it.
 abbrev pub MayReplace : Node → Node → Type 0
 MayReplace old new = (parent : ℕ) → StandsIn parent old → IsInPlace parent old new
 
--- each of these times was set in an atom, which still is one, no deeper than it was
+-- `new` is the atom `old` with these times set, and no deeper.
 pub record SetsTimes (times : List Node) (old new : Node) : Type 0 where
   pub changed : new ≡ set_each times old
   pub read : IsRead CHAPTER_ATOM new

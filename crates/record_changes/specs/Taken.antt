@@ -1,16 +1,16 @@
--- Which numbers are taken.
+-- The numbers that are taken.
 use Rattle.std.specs.Prelude.{◌≡◌, ◌<◌, ◌+◌, ◌^◌, ℕ, Bool, true, ◌||◌, nat_eq, length}
 use Rattle.indexmap.specs.IndexSet.{IndexSet, contains}
 
--- a number is in one of two sets
+-- The number is in one of the two sets.
 abbrev pub is_taken : {S : Type 0} → IndexSet ℕ S → IndexSet ℕ S → ℕ → Bool
 is_taken source given n = contains nat_eq source n || contains nat_eq given n
 
--- every positive number below a positive one is taken
+-- `n` is positive, and each smaller positive number is taken.
 pub record IsNext (taken : ℕ → Bool) (n : ℕ) : Type 0 where
   pub positive : 0 < n
   pub below : (k : ℕ) → 0 < k → k < n → taken k ≡ true
 
--- more numbers fit 64 bits than are in the two sets
+-- The two sets leave room for a 64-bit number.
 abbrev pub HasRoom : {S : Type 0} → IndexSet ℕ S → IndexSet ℕ S → Type 0
 HasRoom source given = length source.keys + length given.keys + 1 < 2 ^ 64

@@ -1,4 +1,4 @@
-//! What of chapters lies in a stretch of time: RFC 9559, section 5.1.7 (Chapters Element).
+//! Chapters within a period of time: RFC 9559, section 5.1.7 (Chapters).
 
 ghost use Rattle.std.specs.Prelude.{◌≡◌, ◌≤◌, ◌==◌, ◌∷◌, [], All, find, IfOk, IfSome, OnOk};
 ghost use Rattle.std.specs.Option.{option_copied, option_to_list};
@@ -20,7 +20,7 @@ use mkv_schema::ids::{
 };
 use std::alloc::{AllocError, Global};
 
-// Where an atom starts.
+// Returns the start of an atom.
 pub(crate) fn start_of(atom: &Tree) -> u64
     requires { IsRead ids.CHAPTER_ATOM atom.now }
     ensures { result ≡ start_of atom.now }
@@ -28,7 +28,7 @@ pub(crate) fn start_of(atom: &Tree) -> u64
     value_in(atom, CHAPTER_TIME_START)
 }
 
-// Where it says that it ends.
+// Returns the ChapterTimeEnd of an atom, if present.
 fn own_end(atom: &Tree) -> Option<u64>
     requires { IsRead ids.CHAPTER_ATOM atom.now }
     ensures { result ≡ integer_in ids.CHAPTER_TIME_END atom.now }
@@ -43,7 +43,7 @@ fn first_atom(trees: &[Tree]) -> Option<&Tree>
     trees.iter().find(|tree| tree.id() == CHAPTER_ATOM)
 }
 
-// Where the first atom of these starts.
+// Returns the start of the first atom in `behind`.
 fn next_start(behind: &[Tree]) -> Option<u64>
     requires { All (IsReadIf ids.CHAPTER_ATOM) behind.now }
     ensures { result ≡ next_start behind.now }
@@ -52,7 +52,7 @@ fn next_start(behind: &[Tree]) -> Option<u64>
     Some(start_of(atom))
 }
 
-// Where an atom before these ends.
+// Returns the end of an atom: its ChapterTimeEnd, or the start of the next atom in `behind`.
 fn end_of(atom: &Tree, behind: &[Tree]) -> Option<u64>
     requires atom { IsRead ids.CHAPTER_ATOM atom.now }
     requires behind { All (IsReadIf ids.CHAPTER_ATOM) behind.now }
@@ -72,7 +72,7 @@ fn set_time(alloc: Global, atom: &mut Tree, id: u32, time: u64) -> Result<(), Al
     atom.set(uint_leaf(alloc, id, time)?)
 }
 
-// Sets the end of an atom that says one.
+// Sets the end of an atom if `end` is present.
 fn set_end(
     alloc: Global,
     atom: &mut Tree,
@@ -89,7 +89,8 @@ fn set_end(
     }
 }
 
-// What goes into a stretch of a child of an edition or of an atom, with those behind it.
+// Returns a child of an edition or atom, cut to `stretch`, or nothing if it is outside. `behind` has the children
+// after it.
 #[cycle(cutting)]
 fn cut_child(
     alloc: Global,
@@ -116,7 +117,7 @@ fn cut_child(
     Ok(Some(atom))
 }
 
-// An edition or an atom with what goes into a stretch of its children.
+// Returns an edition or atom with its children cut to `stretch`.
 #[cycle(cutting)]
 fn cut_inside(alloc: Global, parent: &Tree, stretch: Stretch) -> Result<Tree, AllocError>
     requires holds { HoldsAtoms parent.now }
@@ -145,7 +146,7 @@ fn has_atom(edition: &Tree) -> bool
         .any(|child| child.id() == CHAPTER_ATOM)
 }
 
-// What goes into a stretch of a child of Chapters.
+// Returns a child of Chapters, cut to `stretch`, or nothing if it isn't an edition with a chapter inside.
 fn cut_edition(alloc: Global, child: &Tree, stretch: Stretch) -> Result<Option<Tree>, AllocError>
     requires edition { IsReadIf ids.EDITION_ENTRY child.now }
     requires stretch { IfSome stretch.to (λ to. stretch.from ≤ to) }
@@ -162,10 +163,11 @@ fn cut_edition(alloc: Global, child: &Tree, stretch: Stretch) -> Result<Option<T
     Ok(Some(edition))
 }
 
-/// The chapters that lie in a stretch of time, from its begin on: each chapter that starts in it, or starts
-/// before it and ends behind its begin, with its times moved into the stretch. A chapter ends where it says,
-/// else where the next one beside it starts, else never. Editions of which no chapter goes into it are left
-/// out, and nothing is written where that is so of all.
+/// Returns the chapters in the period from `from` to `to`, with times relative to `from`. A chapter is kept if it
+/// starts in the period, or starts before it and ends after `from`. Its times are limited to the period.
+///
+/// A chapter without an end ends at the start of the next one beside it, or never. Editions without such chapters are
+/// left out; without editions the result is empty.
 pub fn cut(
     alloc: Global,
     chapters: &Tree,
@@ -176,7 +178,7 @@ pub fn cut(
     requires stretch { IfSome to (λ to. from ≤ to) }
     ensures exact { IfOk result (λ part. part ≡ cut (record { from = from; to = to }) chapters.now) }
 
-    // It is a sound master, and in what is written it can be read again.
+    // The result is a sound master, and can be read again after it is written.
     ensures read { IfOk result (λ part. IfSome part (IsRead ids.CHAPTERS)) }
     ensures limits { IfOk result (λ part. IfSome part KeepsLimits) }
 {

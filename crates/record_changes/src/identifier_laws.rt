@@ -1,20 +1,20 @@
-//! The identifiers of what is written, as functions on lists of numbers: RFC 9559, sections 5.1.4.1.2
-//! (TrackUID Element), 5.1.6.1.5 (FileUID Element) and the like. The definitions, which the crates above
-//! cite, stand in `specs/`; the calls, which do nothing, carry laws of them.
+//! Laws about the identifiers of an output, as functions on lists of numbers: RFC 9559, sections 5.1.4.1.2 (TrackUID)
+//! and 5.1.6.1.5 (FileUID), and similar ones. The definitions are in `specs/`. These calls do nothing; their
+//! contracts state the laws.
 
 ghost use Rattle.record_changes.specs.Laws.{SmallestIsFree, NumbersSettle, NumbersFit};
 
-/// The smallest positive number that is none of some is just that, and at most one more than they are.
+/// The smallest positive number that isn't in a list is at most one more than its length.
 pub fn smallest_is_free()
     ensures { SmallestIsFree }
 {}
 
-/// Identifiers that were given are positive and distinct, and such ones stay as they are.
+/// Output identifiers are positive and distinct, and identifiers that already are stay unchanged.
 pub fn numbers_settle()
     ensures { NumbersSettle }
 {}
 
-/// Identifiers that were given fit where those of the source do.
+/// Output identifiers fit if the source's identifiers do.
 pub fn numbers_fit()
     ensures { NumbersFit }
 {}

@@ -1,5 +1,4 @@
-//! The identifiers that are given to what is written: RFC 9559, sections 5.1.4.1.2 (TrackUID Element),
-//! 5.1.6.1.5 (FileUID Element) and the like.
+//! Identifiers of an output: RFC 9559, sections 5.1.4.1.2 (TrackUID) and 5.1.6.1.5 (FileUID), and similar ones.
 
 ghost use Rattle.std.specs.Prelude.{◌≡◌, ◌<◌, ◌+◌, ◌^◌, false, length, nat_eq, IfOk};
 ghost use Rattle.indexmap.specs.IndexSet.{IsFromIterResult};
@@ -16,7 +15,7 @@ fn is_taken(source: &IndexSet<u64>, given: &IndexSet<u64>, number: u64) -> bool
     source.contains(&number) || given.contains(&number)
 }
 
-// The first number that isn't taken, where those below `least` are.
+// Returns the smallest number that isn't taken, if all positive numbers below `least` are.
 fn free_from(source: &IndexSet<u64>, given: &IndexSet<u64>, least: u64) -> u64
     requires next { IsNext (is_taken source.now given.now) least }
     requires room { HasRoom source.now given.now }
@@ -30,7 +29,7 @@ fn free_from(source: &IndexSet<u64>, given: &IndexSet<u64>, least: u64) -> u64
     number
 }
 
-// The number that an identifier gets, where those below `least` are taken.
+// Returns the output's number for the identifier `uid`, if all positive numbers below `least` are taken.
 fn number_for(source: &IndexSet<u64>, given: &IndexSet<u64>, uid: u64, least: &mut u64) -> u64
     requires next { IsNext (is_taken source.now given.now) least.old }
     requires room { HasRoom source.now given.now }
@@ -44,7 +43,7 @@ fn number_for(source: &IndexSet<u64>, given: &IndexSet<u64>, uid: u64, least: &m
     *least
 }
 
-// The numbers that the identifiers of a source get.
+// Returns the output's numbers for the identifiers of a source.
 fn numbers_of(
     alloc: Global,
     source: &IndexSet<u64>,
@@ -62,11 +61,10 @@ fn numbers_of(
     Ok(given)
 }
 
-/// The numbers that these identifiers get, in the order in which they are written; 0 stands for one that
-/// is missing.
+/// Returns the output's numbers for these identifiers, in the order of writing; 0 means an absent identifier.
 ///
-/// The first use of a positive one keeps it. Any other gets the smallest positive number that is none of
-/// these and wasn't given before.
+/// The first use of a positive identifier keeps it. Any other gets the smallest positive number that isn't in `uids`
+/// and wasn't used before.
 pub fn renumber(alloc: Global, uids: &[u64]) -> Result<List<u64>, AllocError>
     ensures { IfOk result (λ numbers. numbers ≡ renumbered uids.now) }
 {

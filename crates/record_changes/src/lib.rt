@@ -1,7 +1,7 @@
 #![tactic(auto)]
 
-//! What a merge makes of the records of its inputs: the identifiers that are given, and the tags and chapters with them
-//! (RFC 9559, sections 5.1.7, Chapters Element, and 5.1.8, Tags Element).
+//! Changes to the records of a merge's inputs: the output's identifiers, and the tags and chapters with them (RFC
+//! 9559, sections 5.1.7, Chapters, and 5.1.8, Tags).
 
 mod cutting;
 mod identifier_laws;

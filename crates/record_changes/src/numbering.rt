@@ -1,4 +1,4 @@
-//! Chapters with other identifiers: RFC 9559, section 5.1.7 (Chapters Element).
+//! Chapters with new identifiers: RFC 9559, section 5.1.7 (Chapters).
 
 ghost use Rattle.std.specs.Prelude.{◌≡◌, ◌+◌, ◌≤◌, length, IfOk, OnOk};
 ghost use Rattle.mkv_schema.specs.declared.ids.TheConstants as ids;
@@ -12,7 +12,8 @@ use ebml_tree::{Tree, empty, uint_leaf};
 use mkv_schema::ids::{CHAPTER_ATOM, CHAPTER_UID, CHAPTERS, EDITION_ENTRY, EDITION_UID};
 use std::alloc::{AllocError, Global};
 
-// A child of an edition or of an atom: an atom gets the next identifier, and those inside it the ones behind that.
+// Returns a child of an edition or atom with new identifiers: an atom gets the next one, and the atoms inside it get
+// the following ones.
 fn numbered(alloc: Global, child: &Tree, uids: &[u64], next: &mut usize) -> Result<Tree, AllocError>
     requires atom { IsReadIf ids.CHAPTER_ATOM child.now }
     requires enough { next.old + length (atoms_at child.now) ≤ length uids.now }
@@ -33,7 +34,7 @@ fn numbered(alloc: Global, child: &Tree, uids: &[u64], next: &mut usize) -> Resu
     Ok(atom)
 }
 
-// An edition with its identifier, whose atoms get the next ones.
+// Returns an edition with the identifier `uid`, whose atoms get the next identifiers.
 fn numbered_edition(
     alloc: Global,
     edition: &Tree,
@@ -55,8 +56,8 @@ fn numbered_edition(
     Ok(written)
 }
 
-/// Chapters whose editions and chapters have these identifiers, in the order in which they are read. What
-/// isn't an edition is left out.
+/// Returns Chapters whose editions and chapters have these identifiers, in reading order. Children other than
+/// editions are left out.
 pub fn with_identifiers(
     alloc: Global,
     tree: &Tree,
@@ -68,7 +69,7 @@ pub fn with_identifiers(
     requires chapters { length (chapter_uids tree.now) ≤ length chapters.now }
     ensures exact { IfOk result (λ written. written ≡ with_identifiers editions.now chapters.now tree.now) }
 
-    // It is a sound master, and in what is written it can be read again.
+    // The result is a sound master, and can be read again after it is written.
     ensures read { IfOk result (IsRead ids.CHAPTERS) }
     ensures limits { IfOk result KeepsLimits }
 {

@@ -1,4 +1,4 @@
-//! Chapters at later times: RFC 9559, section 5.1.7 (Chapters Element).
+//! Chapters at later times: RFC 9559, section 5.1.7 (Chapters).
 
 ghost use Rattle.std.specs.Prelude.{◌≡◌, IfOk, OnOk, OnErr};
 ghost use Rattle.mkv_schema.specs.declared.ids.TheConstants as ids;
@@ -28,7 +28,7 @@ fn has_start(atom: &Tree) -> bool
         .any(|child| child.id() == CHAPTER_TIME_START)
 }
 
-// An atom, later with all that is inside.
+// Returns an atom with all its times later.
 #[cycle(shifting)]
 fn shifted_atom(alloc: Global, atom: &Tree, by: u64) -> Result<Tree, AllocError>
     requires { IsRead ids.CHAPTER_ATOM atom.now }
@@ -46,7 +46,7 @@ fn shifted_atom(alloc: Global, atom: &Tree, by: u64) -> Result<Tree, AllocError>
     Ok(shifted)
 }
 
-// A child of an atom: a time or an atom is later, all else stays.
+// Returns a child of an atom: later if it is a time or an atom, otherwise unchanged.
 #[cycle(shifting)]
 fn shifted_part(alloc: Global, part: &Tree, by: u64) -> Result<Tree, AllocError>
     requires { StandsIn ids.CHAPTER_ATOM part.now }
@@ -63,7 +63,7 @@ fn shifted_part(alloc: Global, part: &Tree, by: u64) -> Result<Tree, AllocError>
     part.copy(alloc)
 }
 
-// A child of an edition.
+// Returns a child of an edition: later if it is an atom, otherwise unchanged.
 fn shifted_in_edition(alloc: Global, child: &Tree, by: u64) -> Result<Tree, AllocError>
     requires { IsReadIf ids.CHAPTER_ATOM child.now }
     ensures exact { IfOk result (λ tree. tree ≡ shifted_in_edition by child.now) }
@@ -76,7 +76,7 @@ fn shifted_in_edition(alloc: Global, child: &Tree, by: u64) -> Result<Tree, Allo
     }
 }
 
-// A child of Chapters.
+// Returns a child of Chapters: later if it is an edition, otherwise unchanged.
 fn shifted_edition(alloc: Global, child: &Tree, by: u64) -> Result<Tree, AllocError>
     requires { IsReadIf ids.EDITION_ENTRY child.now }
     ensures exact { IfOk result (λ tree. tree ≡ shifted_edition by child.now) }
@@ -92,14 +92,14 @@ fn shifted_edition(alloc: Global, child: &Tree, by: u64) -> Result<Tree, AllocEr
     Ok(shifted)
 }
 
-/// Makes all chapters later by so many nanoseconds: each start and each end, up to the last time that there
-/// is. A chapter without a start gets one, from 0. On a refusal they stay as they are.
+/// Adds `by` nanoseconds to each start and end of the chapters, up to the largest 64-bit time. A chapter without a
+/// start gets `by` as its start. If it fails, the chapters are unchanged.
 pub fn shift(alloc: Global, chapters: &mut Tree, by: u64) -> Result<(), AllocError>
     requires { IsRead ids.CHAPTERS chapters.old }
     ensures ok { OnOk result (chapters.new ≡ shifted by chapters.old) }
     ensures err { OnErr result (chapters.new ≡ chapters.old) }
 
-    // It is a sound master, and in what is written it can be read again.
+    // The result is a sound master, and can be read again after it is written.
     ensures read { IsRead ids.CHAPTERS chapters.new }
     ensures limits { OnOk result (KeepsLimits chapters.new) }
 {

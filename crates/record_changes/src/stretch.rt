@@ -1,9 +1,9 @@
-//! A stretch of time.
+//! Period of time
 
 ghost use Rattle.std.specs.Prelude.{◌≡◌, ◌≤◌, IfSome};
 ghost use Rattle.record_changes.specs.Before.{is_before};
 
-/// The times from one on, in nanoseconds, and before another, where it ends.
+/// Period of time in nanoseconds, from `from` up to but excluding `to`, if present
 #[derive(Clone, Copy)]
 pub struct Stretch {
     pub from: u64,
@@ -13,7 +13,7 @@ pub struct Stretch {
 impl Stretch {
     ghost use Rattle.record_changes.specs.Cut.{takes, within};
 
-    /// Whether it takes what starts and ends there.
+    /// Checks whether a chapter with this start and end is in the period.
     pub(crate) fn takes(self, start: u64, end: Option<u64>) -> bool
         ensures { result ≡ takes self start end }
     {
@@ -24,7 +24,7 @@ impl Stretch {
         }
     }
 
-    /// A time, moved into it and counted from its begin.
+    /// Returns a time limited to the period, relative to its start.
     pub(crate) fn within(self, time: u64) -> u64
         requires { IfSome self.to (λ to. self.from ≤ to) }
         ensures { result ≡ within self time }

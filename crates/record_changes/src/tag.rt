@@ -1,4 +1,4 @@
-//! A Tag: RFC 9559, section 5.1.8 (Tags Element).
+//! Tag elements: RFC 9559, section 5.1.8 (Tags).
 
 ghost use Rattle.std.specs.Prelude.{◌≡◌, IfOk};
 ghost use Rattle.mkv_schema.specs.declared.ids.TheConstants.{TAG as TAG_ID, TAGS as TAGS_ID, TARGETS as TARGETS_ID};
@@ -14,7 +14,7 @@ use ebml_tree::{Tree, empty};
 use mkv_schema::ids::{TAG, TARGETS};
 use std::alloc::{AllocError, Global};
 
-// What is written of Targets.
+// Returns Targets as written to the output.
 fn written_targets(alloc: Global, targets: &Tree, map: &UidMap) -> Result<Tree, AllocError>
     requires { IsRead TARGETS_ID targets.now }
     ensures exact { IfOk result (λ tree. tree ≡ written_part (numbers_in map.now) targets.now) }
@@ -30,7 +30,7 @@ fn written_targets(alloc: Global, targets: &Tree, map: &UidMap) -> Result<Tree, 
     Ok(written)
 }
 
-// What is written of a child of a Tag.
+// Returns a child of a Tag as written to the output.
 fn written_part(alloc: Global, part: &Tree, map: &UidMap) -> Result<Tree, AllocError>
     requires { StandsIn TAG_ID part.now }
     ensures exact { IfOk result (λ tree. tree ≡ written_part (numbers_in map.now) part.now) }
@@ -43,7 +43,7 @@ fn written_part(alloc: Global, part: &Tree, map: &UidMap) -> Result<Tree, AllocE
     }
 }
 
-/// What is written of a Tag.
+/// Returns a Tag as written to the output.
 pub(crate) fn written_tag(alloc: Global, tag: &Tree, map: &UidMap) -> Result<Tree, AllocError>
     requires { IsRead TAG_ID tag.now }
     ensures exact { IfOk result (λ tree. tree ≡ written_tag (numbers_in map.now) tag.now) }
@@ -56,7 +56,7 @@ pub(crate) fn written_tag(alloc: Global, tag: &Tree, map: &UidMap) -> Result<Tre
     Ok(written)
 }
 
-// What a child of a Tag names.
+// Returns a summary of the targets in a child of a Tag.
 fn tag_targets_in_part(part: &Tree, map: &UidMap) -> TagTargets
     requires { StandsIn TAG_ID part.now }
     ensures { result ≡ tag_targets_of (numbers_in map.now) (targets_in part.now) }
@@ -70,7 +70,7 @@ fn tag_targets_in_part(part: &Tree, map: &UidMap) -> TagTargets
     aims
 }
 
-/// What the targets of a Tag name.
+/// Returns a summary of the targets of a Tag.
 pub(crate) fn aims_in(tag: &Tree, map: &UidMap) -> TagTargets
     requires { IsRead TAG_ID tag.now }
     ensures { result ≡ aims_in (numbers_in map.now) tag.now }

@@ -1,4 +1,4 @@
-//! All Tags of an input: RFC 9559, section 5.1.8 (Tags Element).
+//! Tags of an input: RFC 9559, section 5.1.8 (Tags).
 
 ghost use Rattle.std.specs.Prelude.{◌≡◌, IfOk, IfSome};
 ghost use Rattle.mkv_schema.specs.declared.ids.TheConstants.{TAGS as TAGS_ID};
@@ -22,7 +22,7 @@ fn are_kept(keep: TagKeep, aims: TagTargets) -> bool
     wanted && (!aims.any || aims.written)
 }
 
-// What is written of a child of Tags.
+// Returns a child of Tags as written to the output, or nothing if it is left out.
 fn written_child(
     alloc: Global,
     child: &Tree,
@@ -42,9 +42,9 @@ fn written_child(
     Ok(Some(tag::written_tag(alloc, child, map)?))
 }
 
-/// The Tags that are written of an input's: those that are wanted, with the identifiers that their targets
-/// have in the output. A target whose thing isn't written goes; so does a Tag that had targets and keeps
-/// none. What names all of a kind, by 0, stays.
+/// Returns the Tags of an input as written to the output: the Tags that `keep` chooses, with the output's identifiers
+/// in their targets. A target that isn't in the output is removed. A Tag that loses all its targets is left out. A
+/// target of 0, which names all of its kind, stays.
 pub fn merge_tags(
     alloc: Global,
     tags: &Tree,

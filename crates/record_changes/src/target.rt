@@ -1,4 +1,4 @@
-//! The targets of a Tag: RFC 9559, section 5.1.8 (Tags Element).
+//! Targets of a Tag: RFC 9559, section 5.1.8 (Tags).
 
 ghost use Rattle.std.specs.Prelude.{◌≡◌, ◌<◌, ◌^◌, true, [], ◌∷◌, filter, IfOk, IfSome, IsTrue};
 ghost use Rattle.std.specs.Option.{option_to_list};
@@ -24,7 +24,7 @@ fn is_target_id(id: u32) -> bool
         || id == TAG_ATTACHMENT_UID
 }
 
-// A child of Targets that names one thing.
+// Checks whether a child of Targets names one thing.
 fn is_target(child: &Tree) -> bool
     requires { StandsIn TARGETS_ID child.now }
     ensures { result ≡ is_target child.now }
@@ -32,7 +32,7 @@ fn is_target(child: &Tree) -> bool
     is_target_id(child.id()) && child.uint() != 0
 }
 
-// The number that a target of an ID has for an identifier.
+// Returns the output's number for the identifier `uid` in a target with the ID `id`.
 fn number_in(map: &UidMap, id: u32, uid: u64) -> Option<u64>
     ensures { result ≡ numbers_in map.now id uid }
 {
@@ -45,7 +45,7 @@ fn number_in(map: &UidMap, id: u32, uid: u64) -> Option<u64>
     }
 }
 
-// The number of a target in the output.
+// Returns the output's number of a target.
 fn number_of(target: &Tree, map: &UidMap) -> Option<u64>
     requires stands { StandsIn TARGETS_ID target.now }
     requires target { is_target_id (id_of target.now) ≡ true }
@@ -54,7 +54,7 @@ fn number_of(target: &Tree, map: &UidMap) -> Option<u64>
     number_in(map, target.id(), target.uint())
 }
 
-/// What is written of a child of Targets.
+/// Returns a child of Targets as written to the output, or nothing if it is removed.
 pub(crate) fn written_target(
     alloc: Global,
     child: &Tree,
@@ -73,7 +73,7 @@ pub(crate) fn written_target(
     }
 }
 
-/// What a child of Targets names.
+/// Returns a summary of a child of Targets.
 pub(crate) fn tag_targets_of(child: &Tree, map: &UidMap) -> TagTargets
     requires { StandsIn TARGETS_ID child.now }
     ensures { result ≡ tag_targets_of (numbers_in map.now) (filter is_target (child.now ∷ [])) }

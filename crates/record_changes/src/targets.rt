@@ -1,9 +1,9 @@
-//! What the targets of a Tag name.
+//! Summary of the targets of a Tag
 
 ghost use Rattle.std.specs.Prelude.{◌≡◌};
 ghost use Rattle.record_changes.specs.Tags.{both_aims};
 
-/// What some targets name: anything; a track; anything that is written.
+/// Summary of targets: whether there is any, one with a track, and one that is in the output
 #[derive(Clone, Copy)]
 pub struct TagTargets {
     pub any: bool,
@@ -12,14 +12,14 @@ pub struct TagTargets {
 }
 
 impl TagTargets {
-    /// Those of no target.
+    /// Summary of no targets
     pub const NONE: TagTargets = TagTargets {
         any: false,
         track: false,
         written: false,
     };
 
-    /// Those of some targets and of others.
+    /// Returns the summary of the targets of both.
     pub fn or(self, other: TagTargets) -> TagTargets
         ensures { result ≡ both_aims self other }
     {

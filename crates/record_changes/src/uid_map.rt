@@ -1,7 +1,7 @@
-//! What becomes of the targets of Tags.
+//! Identifiers and choice for the Tags of an input
 use indexmap::IndexMap;
 
-/// The identifiers of an input that are written, each with the one that it has in the output.
+/// Identifiers of an input that are in the output, with their numbers there
 #[derive(Drop)]
 pub struct UidMap {
     pub tracks: IndexMap<u64, u64>,
@@ -10,11 +10,11 @@ pub struct UidMap {
     pub attachments: IndexMap<u64, u64>,
 }
 
-/// Which Tags of an input are kept.
+/// Choice of the Tags of an input that are kept
 #[derive(Clone, Copy)]
 pub struct TagKeep {
-    /// Those about a track.
+    /// Tags with a track as target
     pub tracks: bool,
-    /// All others.
+    /// Other Tags
     pub global: bool,
 }

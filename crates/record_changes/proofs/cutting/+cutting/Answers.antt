@@ -1,4 +1,4 @@
--- What goes into a stretch of an Element, and of those inside it.
+-- An element is cut to the period, with the elements inside it.
 use Rattle.std.proofs.Common.{◌≡◌, ◌+◌, ◌∷◌, [], All, Ok, refl, sym, ap, ap₂, subst, ◌∙◌, arith}
 use Rattle.std.proofs.lemmas.List.Elements.{All-drop}
 use Rattle.mkv_schema.specs.declared.ids.TheConstants.{CHAPTER_ATOM, CHAPTER_TIME_START}
@@ -16,7 +16,7 @@ use Rattle.record_changes.proofs.CutLemmas.{from-rest, atom-holds, all-read, may
 use Rattle.record_changes.proofs.cutting.+cutting.Goals as goal
 use Rattle.record_changes.proofs.cutting.+cutting.Goals.{cut_inside-in-Some+in_ok-push-in-Some, cut_inside-in-None}
 
--- ---- an Element
+-- ---- one element
 
 pub cut_child-start_of-start-requires : goal.cut_child-start_of-start-requires
 cut_child-start_of-start-requires t c = c.requires.atom (sym c.id.ensures ∙ c.if-id-ne-CHAPTER_ATOM.false)
@@ -36,7 +36,7 @@ cut_child-returns-then-id-ne-CHAPTER_ATOM t c =
       place = may-copy (Ok c.in_ok-copy.field-0) child c.in_ok-copy.ensures;
     }
 
--- an atom that isn't taken
+-- An atom outside the period is left out.
 pub cut_child-returns-then-not-takes : goal.cut_child-returns-then-not-takes
 cut_child-returns-then-not-takes t c =
     let child : Node = c.args.child.now in
@@ -75,7 +75,7 @@ cut_child-returns t c =
       place = may-sets child _ _ _ _ _ read c.in_ok-atom.ensures.place c.in_ok-set_time.ensures c.in_ok-set_end.ensures;
     }
 
--- ---- those inside it
+-- ---- elements inside it
 
 pub cut_inside-empty-requires : goal.cut_inside-empty-requires
 cut_inside-empty-requires t c = ap is_master c.id.ensures ∙ c.requires.holds.known

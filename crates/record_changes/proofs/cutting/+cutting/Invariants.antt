@@ -1,4 +1,4 @@
--- What goes in of the Elements so far was written.
+-- The previous elements were cut.
 use Rattle.std.proofs.Common.{◌+◌, ◌*◌}
 use Rattle.tree_format.specs.Node.{id_of, offset_of, count}
 use Rattle.record_changes.proofs.CutLemmas.{IsCutTo}

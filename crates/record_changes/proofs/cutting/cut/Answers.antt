@@ -1,4 +1,4 @@
--- What goes in of each edition is written, if there is something.
+-- Each edition is cut, and kept if it has an atom.
 use Rattle.std.proofs.Common.{◌==◌, List, Some, flat_map, length, sym, ap, ◌∙◌}
 use Rattle.mkv_schema.specs.declared.ids.TheConstants.{CHAPTERS}
 use Rattle.tree_format.specs.Node.{Node, with_children}

@@ -1,4 +1,4 @@
--- What goes in of the editions so far was written.
+-- The previous editions were cut.
 use Rattle.std.proofs.Common.{take, flat_map}
 use Rattle.mkv_schema.specs.declared.ids.TheConstants.{CHAPTERS}
 use Rattle.tree_format.specs.Node.{nodes_of, offset_of, depth_all}

@@ -1,4 +1,4 @@
--- An edition with an atom goes in.
+-- An edition with an atom is kept.
 use Rattle.std.proofs.Common.{◌≡◌, ◌==◌, ◌&&◌, ◌∷◌, [], Bool, true, false, if◌then◌else◌, sym, ap, ap₂, ◌∙◌}
 use Rattle.mkv_schema.specs.declared.ids.TheConstants.{EDITION_ENTRY}
 use Rattle.tree_format.specs.Node.{Node, id_of}

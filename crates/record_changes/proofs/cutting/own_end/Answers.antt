@@ -1,4 +1,4 @@
--- An end stands in an atom.
+-- An end is valid in an atom.
 use Rattle.std.proofs.Common.{ℕ, sym, subst}
 use Rattle.mkv_schema.specs.declared.ids.TheConstants.{CHAPTER_TIME_END}
 use Rattle.tree_format.specs.Values.{HasUint}

@@ -1,4 +1,4 @@
--- An end that is said is set, and where none is, nothing changes.
+-- An end is set if present; otherwise nothing changes.
 use Rattle.std.proofs.Common.{◌∷◌, [], OnOk, sym, subst}
 use Rattle.mkv_schema.specs.declared.ids.TheConstants.{CHAPTER_TIME_END}
 use Rattle.tree_format.specs.Node.{Node}

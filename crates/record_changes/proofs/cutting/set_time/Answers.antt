@@ -1,4 +1,4 @@
--- A time stands in an atom.
+-- A time is valid in an atom.
 use Rattle.std.proofs.Common.{◌≡◌, ℕ, ◌∷◌, [], Result, Ok, Err, OnOk}
 use Rattle.std.specs.declared.alloc.AllocError.{AllocError}
 use Rattle.tree_format.specs.Node.{Node, id_of, children, with_children, IsMaster}

@@ -1,4 +1,4 @@
--- A start stands in an atom.
+-- A start is valid in an atom.
 use Rattle.std.proofs.Common.{ℕ, sym, subst}
 use Rattle.mkv_schema.specs.declared.ids.TheConstants.{CHAPTER_TIME_START}
 use Rattle.tree_format.specs.Values.{HasUint}

@@ -1,4 +1,4 @@
--- A number that is taken is one of so many.
+-- A taken number is bounded by the size of the sets.
 use Rattle.std.proofs.Common.{sym, ◌∙◌, arith}
 use Rattle.record_changes.proofs.TakenLemmas.{next-taken, taken-few}
 use Rattle.record_changes.proofs.identifiers.free_from.Goals as goal

@@ -1,4 +1,4 @@
--- No number below is free, so there are as many numbers that are taken.
+-- All smaller numbers are taken.
 use Rattle.std.proofs.Common.{◌+◌, ◌-◌, length}
 use Rattle.record_changes.specs.Taken.{is_taken, IsNext}
 use Rattle.record_changes.proofs.identifiers.free_from.Given as goal

@@ -1,4 +1,4 @@
--- An identifier of 0, or one that was given, gets the smallest that is free.
+-- An identifier of 0 or a repeated one gets the smallest free number.
 use Rattle.std.proofs.Common.{sym, ◌∙◌}
 use Rattle.record_changes.proofs.TakenLemmas.{smallest-next, number-old, number-zero}
 use Rattle.record_changes.proofs.identifiers.number_for.Goals as goal

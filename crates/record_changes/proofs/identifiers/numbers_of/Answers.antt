@@ -1,4 +1,4 @@
--- Each number is new, and put behind the others.
+-- Each number is new, and is appended.
 use Rattle.std.proofs.Common.{◌++◌, refl, ap, arith, length}
 use Rattle.record_changes.specs.Identifiers.{renumbered_from}
 use Rattle.record_changes.proofs.TakenLemmas.{numbers-next, next-pushed, few-pushed, first-next}

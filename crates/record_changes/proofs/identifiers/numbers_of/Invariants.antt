@@ -1,4 +1,4 @@
--- With the numbers of those that are left, the numbers so far are all; they are no more than identifiers.
+-- The numbers found and the rest make the whole; each identifier has at most one.
 use Rattle.std.proofs.Common.{◌≡◌, ◌≤◌, ◌++◌, length, drop}
 use Rattle.record_changes.specs.Identifiers.{renumbered_from, renumbered}
 use Rattle.record_changes.specs.Taken.{is_taken, IsNext}

@@ -1,4 +1,4 @@
--- An atom gets the next identifier, and those inside it the ones behind that.
+-- An atom gets the next identifier, and the atoms inside it get the following ones.
 use Rattle.std.proofs.Common.{◌≡◌, ℕ, ◌+◌, List, length, sym, ap, ◌∙◌, arith}
 use Rattle.std.specs.Prelude.{slice_index}
 use Rattle.mkv_schema.specs.declared.ids.TheConstants.{CHAPTER_ATOM, CHAPTER_UID}
@@ -13,7 +13,7 @@ use Rattle.record_changes.proofs.AtomLemmas.{atoms-own, atoms-other, atoms-few, 
 use Rattle.record_changes.proofs.NumberLemmas.{numbered-other, numbered-own, numbered-step}
 use Rattle.record_changes.proofs.numbering.+numbered.Goals as goal
 
--- ---- no atom
+-- ---- another child
 
 pub returns-then-id-ne-CHAPTER_ATOM : goal.returns-then-id-ne-CHAPTER_ATOM
 returns-then-id-ne-CHAPTER_ATOM t c =

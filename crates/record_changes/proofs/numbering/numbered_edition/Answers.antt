@@ -1,4 +1,4 @@
--- The atoms of an edition get their identifiers one after the other, and it gets its own.
+-- The atoms of an edition get their identifiers in sequence, and it gets its own.
 use Rattle.std.proofs.Common.{ℕ, List, length, ap, ◌∙◌, arith}
 use Rattle.mkv_schema.specs.declared.ids.TheConstants.{EDITION_ENTRY, EDITION_UID}
 use Rattle.tree_format.specs.Node.{Node, nodes_of, with_children}

@@ -1,4 +1,4 @@
--- The Elements so far have their identifiers, and the next one is known.
+-- The previous elements have their identifiers, and the next index is known.
 use Rattle.std.proofs.Common.{◌≡◌, ◌+◌, length, take}
 use Rattle.mkv_schema.specs.declared.ids.TheConstants.{EDITION_ENTRY}
 use Rattle.tree_format.specs.Node.{nodes_of, offset_of, depth_all}

@@ -1,4 +1,4 @@
--- Each edition gets the next identifier, and its atoms the next ones.
+-- Each edition gets the next identifier, and its atoms get the next ones.
 use Rattle.std.proofs.Common.{◌∷◌, [], List, length, flat_map, take, sym, ap, subst, ◌∙◌, arith, length-append}
 use Rattle.std.proofs.lemmas.List.{length-map}
 use Rattle.mkv_schema.specs.declared.ids.TheConstants.{CHAPTERS, EDITION_ENTRY, EDITION_UID, CHAPTER_UID}
@@ -20,7 +20,7 @@ empty-requires c = chapters-master
 pub loop-child-init : goal.loop-child-init
 loop-child-init c = record { built = built-none _ _ _ _ _ c.offset.ensures c.in_ok-written.ensures; edition = omega arith; next = omega arith }
 
--- what isn't an edition is passed over
+-- A child that isn't an edition is skipped.
 pub loop-child-preserved-then-id-ne-EDITION_ENTRY : goal.loop-child-preserved-then-id-ne-EDITION_ENTRY
 loop-child-preserved-then-id-ne-EDITION_ENTRY c =
     let passed = part-passed _ _ _ c.loop-child-test.true c.child-item.is (λ own. c.if-id-ne-EDITION_ENTRY.true (c.id.ensures ∙ own)) in

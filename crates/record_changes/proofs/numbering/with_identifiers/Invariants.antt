@@ -1,4 +1,4 @@
--- The editions so far have their identifiers, and the next ones are known.
+-- The previous editions have their identifiers, and the next indices are known.
 use Rattle.std.proofs.Common.{◌≡◌, length, take, flat_map}
 use Rattle.mkv_schema.specs.declared.ids.TheConstants.{CHAPTERS, EDITION_ENTRY}
 use Rattle.tree_format.specs.Node.{nodes_of, offset_of, depth_all}

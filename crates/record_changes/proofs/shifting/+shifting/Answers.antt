@@ -1,4 +1,4 @@
--- An atom has its Elements later, and a start.
+-- An atom has later children, and a start.
 use Rattle.std.proofs.Common.{◌≡◌, ℕ, ◌++◌, true, false, List, map, sym, ap, ap₂, subst, ◌∙◌, arith}
 use Rattle.mkv_schema.specs.declared.ids.TheConstants.{CHAPTER_ATOM, CHAPTER_TIME_START}
 use Rattle.tree_format.specs.Node.{Node, nodes_of, id_of, offset_of, depth_all}
@@ -51,7 +51,7 @@ shifted_atom-returns-then-has_start t c =
     let whole = subst P (sym (start-there by items (map (shifted_part by) items) has)) built in
     record { exact = part-built by _ atom _ items c.requires are whole; place = may-built CHAPTER_ATOM atom _ items _ c.requires are whole }
 
--- its start is added
+-- Its start is added.
 with-start : (by : ℕ) (atom : Node) (items : List Node) (old child new : Node) → IsBuilt CHAPTER_ATOM (offset_of atom) (depth_all (nodes_of items)) (map (shifted_part by) items) old
     → IsPut old child new → child ≡ uint_leaf CHAPTER_TIME_START by → StandsIn CHAPTER_ATOM child → has_start items ≡ false
     → IsBuilt CHAPTER_ATOM (offset_of atom) (depth_all (nodes_of items)) (map (shifted_part by) items ++ missing_start by items) new
@@ -76,7 +76,7 @@ shifted_atom-returns t c =
     let whole = with-start by atom items _ _ _ built (put-is _ _ _ _ c.in_ok-push-2.ensures.ok c.in_ok-push-2.ensures.full) c.in_ok-uint_leaf.ensures.exact (c.in_ok-uint_leaf.ensures.stands CHAPTER_ATOM start) lacks in
     record { exact = part-built by _ atom _ items c.requires are whole; place = may-built CHAPTER_ATOM atom _ items _ c.requires are whole }
 
--- ---- an Element of an atom
+-- ---- a child of an atom
 
 pub shifted_part-shifted_atom-requires : goal.shifted_part-shifted_atom-requires
 shifted_part-shifted_atom-requires t c = (omega arith, stands-read _ _ _ atom-in_atom c.requires (sym c.id-id.ensures ∙ c.if-id-eq-CHAPTER_ATOM.true))

@@ -1,4 +1,4 @@
--- Each edition has its atoms later.
+-- Each edition has later atoms.
 use Rattle.std.proofs.Common.{map, ap, ◌∙◌}
 use Rattle.mkv_schema.specs.declared.ids.TheConstants.{CHAPTERS}
 use Rattle.tree_format.specs.Node.{Node, with_children}

@@ -1,4 +1,4 @@
--- The Elements so far are later.
+-- The previous elements are later.
 use Rattle.std.proofs.Common.{map, take}
 use Rattle.mkv_schema.specs.declared.ids.TheConstants.{CHAPTERS}
 use Rattle.tree_format.specs.Node.{nodes_of, offset_of, depth_all}

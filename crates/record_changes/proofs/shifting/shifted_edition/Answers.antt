@@ -1,4 +1,4 @@
--- An edition has its atoms later, and what isn't one stays.
+-- An edition has later atoms, and another child is unchanged.
 use Rattle.std.proofs.Common.{◌≡◌, ◌==◌, Bool, true, false, if◌then◌else◌, map, sym, ap, ◌∙◌}
 use Rattle.mkv_schema.specs.declared.ids.TheConstants.{EDITION_ENTRY}
 use Rattle.tree_format.specs.Node.{Node, id_of, children, with_children}

@@ -1,4 +1,4 @@
--- An atom is later, and all else stays.
+-- An atom is later, and another child is unchanged.
 use Rattle.std.proofs.Common.{◌≡◌, ◌==◌, Bool, true, false, if◌then◌else◌, sym, ap, ◌∙◌}
 use Rattle.mkv_schema.specs.declared.ids.TheConstants.{CHAPTER_ATOM}
 use Rattle.tree_format.specs.Node.{Node, id_of}

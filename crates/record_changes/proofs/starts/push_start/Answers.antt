@@ -1,4 +1,4 @@
--- An atom has one start, and what isn't one has none.
+-- An atom has one start, and another child has none.
 use Rattle.std.proofs.Common.{◌≡◌, ◌∷◌, [], ℕ, ◌++◌, List, map, Result, Ok, Err, OnOk, sym, ap, ◌∙◌, append-nil}
 use Rattle.std.specs.declared.alloc.AllocError.{AllocError}
 use Rattle.record_changes.specs.Cut.{start_of}
@@ -14,7 +14,7 @@ returns-then-id-ne-CHAPTER_ATOM c =
 pub start_of-requires : goal.start_of-requires
 start_of-requires c = c.requires (sym c.id.ensures ∙ c.if-id-ne-CHAPTER_ATOM.false)
 
--- on success the same list under another name
+-- Equal lists may be exchanged.
 same-list : (r : Result (Unit {0}) AllocError) (new a b : List ℕ) → a ≡ b → OnOk r (new ≡ a) → OnOk r (new ≡ b)
 same-list (Ok u) new a b same is = is ∙ same
 same-list (Err e) new a b same is = tt

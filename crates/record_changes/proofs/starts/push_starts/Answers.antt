@@ -1,4 +1,4 @@
--- One atom more.
+-- One more atom.
 use Rattle.mkv_schema.specs.declared.ids.TheConstants.{CHAPTER_ATOM}
 use Rattle.record_changes.specs.Cut.{start_of}
 use Rattle.record_changes.proofs.ChapterFacts.{atom-in_edition}

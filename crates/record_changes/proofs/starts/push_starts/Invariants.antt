@@ -1,4 +1,4 @@
--- Those of the atoms so far were added.
+-- The starts of the previous atoms were appended.
 use Rattle.std.proofs.Common.{◌≡◌, ◌++◌, map, take}
 use Rattle.mkv_schema.specs.declared.ids.TheConstants.{CHAPTER_ATOM}
 use Rattle.tree_format.specs.Changes.{part}

@@ -1,4 +1,4 @@
--- A child of a Tag stands there.
+-- A child of a Tag is valid.
 use Rattle.ebml_tree.proofs.BuildLemmas.{child-of}
 use Rattle.record_changes.proofs.tag.aims_in.Goals as goal
 

@@ -1,4 +1,4 @@
--- What the children so far name.
+-- The summary covers the previous children.
 use Rattle.std.proofs.Common.{◌≡◌, take, flat_map}
 use Rattle.record_changes.specs.Tags.{targets_in, tag_targets_of}
 use Rattle.record_changes.specs.Numbers.{numbers_in}

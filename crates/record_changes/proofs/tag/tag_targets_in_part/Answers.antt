@@ -1,4 +1,4 @@
--- A child of Targets stands there.
+-- A child of Targets is valid.
 use Rattle.std.proofs.Common.{sym, ◌∙◌}
 use Rattle.ebml_tree.proofs.BuildLemmas.{stands-read, child-of}
 use Rattle.record_changes.proofs.TagFacts.{targets-in}

@@ -1,4 +1,4 @@
--- What the children so far name.
+-- The summary covers the previous children.
 use Rattle.std.proofs.Common.{◌≡◌, take, filter}
 use Rattle.record_changes.specs.Tags.{is_target, tag_targets_of}
 use Rattle.record_changes.specs.Numbers.{numbers_in}

@@ -1,4 +1,4 @@
--- Targets in a Tag are a master.
+-- Targets in a Tag is a master.
 use Rattle.std.proofs.Common.{sym, ◌∙◌}
 use Rattle.ebml_tree.proofs.BuildLemmas.{stands-read}
 use Rattle.record_changes.proofs.TagFacts.{targets-in}

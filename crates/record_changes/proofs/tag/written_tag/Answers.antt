@@ -1,4 +1,4 @@
--- Each child that is written stands in the Tag.
+-- Each written child is valid in the Tag.
 use Rattle.ebml_tree.proofs.BuildLemmas.{put-is, built-none, child-of, room-of, built-in_place, map-one}
 use Rattle.record_changes.proofs.TagFacts.{tag-master, tag-in}
 use Rattle.record_changes.proofs.tag.written_tag.Goals as goal

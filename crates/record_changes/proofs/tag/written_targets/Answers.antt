@@ -1,4 +1,4 @@
--- Each child that is written stands in its master.
+-- Each written child is valid in its master.
 use Rattle.ebml_tree.proofs.BuildLemmas.{put-is, built-none, child-of, room-of, built-in_place, some-of, step-some, step-none}
 use Rattle.record_changes.proofs.TagFacts.{targets-master, targets-in}
 use Rattle.record_changes.proofs.tag.written_targets.Goals as goal

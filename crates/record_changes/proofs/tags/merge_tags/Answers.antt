@@ -1,4 +1,4 @@
--- Each child that is written stands in its master.
+-- Each written child is valid in its master.
 use Rattle.ebml_tree.proofs.BuildLemmas.{put-is, built-none, child-of, room-of, some-of, step-some, step-none}
 use Rattle.record_changes.proofs.TagFacts.{tags-master}
 use Rattle.record_changes.proofs.tags.merge_tags.Goals as goal

@@ -1,4 +1,4 @@
--- What is written of the children so far.
+-- The previous children were written.
 use Rattle.std.proofs.Common.{take, flat_map}
 use Rattle.mkv_schema.specs.declared.ids.TheConstants.{TAGS}
 use Rattle.tree_format.specs.Node.{offset_of, nodes_of, depth_all}

@@ -1,4 +1,4 @@
--- What is written of a target is an integer of its ID.
+-- A written target is an integer with its ID.
 use Rattle.std.proofs.Common.{◌≡◌, true, sym, ap, ◌∙◌}
 use Rattle.record_changes.specs.Tags.{is_target_id, is_target}
 use Rattle.record_changes.proofs.TargetLemmas.{target-id, target-is, in-place}

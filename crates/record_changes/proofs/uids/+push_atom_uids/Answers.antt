@@ -1,4 +1,4 @@
--- An atom has its own identifier, and then those of the atoms inside it.
+-- An atom has its own identifier, then the ones of the atoms inside it.
 use Rattle.std.proofs.Common.{◌∷◌, [], ℕ, ◌++◌, map, sym, ap, ◌∙◌, append-nil, subst, arith}
 use Rattle.mkv_schema.specs.declared.ids.TheConstants.{CHAPTER_UID}
 use Rattle.tree_format.specs.Values.{HasUint}

@@ -1,4 +1,4 @@
--- The atom's own was added, and those of the atoms inside it so far.
+-- The atom's identifier and the ones of the previous atoms inside it were appended.
 use Rattle.std.proofs.Common.{◌≡◌, ◌++◌, ◌∷◌, [], map, take}
 use Rattle.mkv_schema.specs.declared.ids.TheConstants.{CHAPTER_UID}
 use Rattle.tree_format.specs.Node.{nodes_of, count}

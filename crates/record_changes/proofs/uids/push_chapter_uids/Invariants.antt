@@ -1,4 +1,4 @@
--- Those of the editions so far were added.
+-- The identifiers of the previous editions' atoms were appended.
 use Rattle.std.proofs.Common.{◌≡◌, ◌++◌, map, flat_map, take}
 use Rattle.mkv_schema.specs.declared.ids.TheConstants.{EDITION_ENTRY, CHAPTER_UID}
 use Rattle.tree_format.specs.Changes.{part}

@@ -1,4 +1,4 @@
--- An edition has one identifier, and what isn't one has none.
+-- An edition has one identifier, and another child has none.
 use Rattle.std.proofs.Common.{◌≡◌, ◌∷◌, [], ℕ, ◌++◌, List, map, Result, Ok, Err, OnOk, sym, ap, ◌∙◌, append-nil, subst}
 use Rattle.std.specs.declared.alloc.AllocError.{AllocError}
 use Rattle.mkv_schema.specs.declared.ids.TheConstants.{EDITION_UID}
@@ -21,7 +21,7 @@ value_in-requires-clause-uint c =
     let P : ℕ → Type 0 = λ p. HasUint p EDITION_UID in
     subst P (sym (sym c.id.ensures ∙ c.if-id-ne-EDITION_ENTRY.false)) edition_uid.known
 
--- on success the same list under another name
+-- Equal lists may be exchanged.
 same-list : (r : Result (Unit {0}) AllocError) (new a b : List ℕ) → a ≡ b → OnOk r (new ≡ a) → OnOk r (new ≡ b)
 same-list (Ok u) new a b same is = is ∙ same
 same-list (Err e) new a b same is = tt

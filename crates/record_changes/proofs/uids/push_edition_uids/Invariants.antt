@@ -1,4 +1,4 @@
--- Those of the editions so far were added.
+-- The identifiers of the previous editions were appended.
 use Rattle.std.proofs.Common.{◌≡◌, ◌++◌, map, take}
 use Rattle.mkv_schema.specs.declared.ids.TheConstants.{EDITION_ENTRY, EDITION_UID}
 use Rattle.tree_format.specs.Changes.{part}

@@ -1,4 +1,4 @@
--- An edition has the identifiers of its atoms, and what isn't one has none.
+-- An edition has the identifiers of its atoms, and another child has none.
 use Rattle.std.proofs.Common.{◌++◌, map, flat_map, sym, ap, ◌∙◌, append-nil}
 use Rattle.std.proofs.lemmas.List.{take_all}
 use Rattle.mkv_schema.specs.declared.ids.TheConstants.{CHAPTER_UID}

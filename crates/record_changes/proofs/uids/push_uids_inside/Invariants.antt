@@ -1,4 +1,4 @@
--- Those of the atoms so far were added.
+-- The identifiers of the previous atoms were appended.
 use Rattle.std.proofs.Common.{◌≡◌, ◌++◌, map, take}
 use Rattle.mkv_schema.specs.declared.ids.TheConstants.{CHAPTER_UID}
 use Rattle.tree_format.specs.Node.{nodes_of}

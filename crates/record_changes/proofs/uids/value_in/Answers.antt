@@ -1,4 +1,4 @@
--- The identifier stands in a sound Element.
+-- The identifier is valid in a sound element.
 use Rattle.std.proofs.Common.{sym}
 use Rattle.tree_format.proofs.ChildLemmas.{first_child-short}
 use Rattle.record_changes.proofs.uids.value_in.Goals as goal
