@@ -1,4 +1,4 @@
--- How many Elements of a tree are written.
+-- The number of written elements in a tree.
 use Rattle.std.proofs.Common.{◌≡◌, ◌≤◌, ◌<◌, ℕ, zero, suc, ◌+◌, Bool, true, false, cond, List, [], ◌∷◌, length, drop, flat_map, get_or, nat_lt, Option, Some, None, is_some, not, refl, sym, ap, ◌∙◌, arith}
 use Rattle.std.specs.Option.{SomeIff}
 use Rattle.std.proofs.lemmas.Bool.Decides.{nat_tests}
@@ -14,19 +14,19 @@ use Rattle.tree_format.proofs.WrittenLemmas.{octets-kept, length-filler, length-
 use Rattle.ebml_tree.proofs.LoopLemmas.{next-is}
 use Rattle.output_records.specs.RecordLimits.{is_too_large}
 
--- a tree is one, and those that are written of its children
+-- A tree counts as one, plus its written children.
 pub kept-children : (n : Node) → kept n ≡ kept_all (nodes_of (children n)) + 1
 kept-children (leaf id at body) = refl
 kept-children (master id at kids) = ap (λ k. kept_all k + 1) (sym (nodes-list kids))
 
--- what is written behind a master's header is what is written of its children
+-- The bytes after a master's header are the bytes of its children.
 pub content-children : (n : Node) → IsMaster n → content n ≡ flat_map octets (children n)
 content-children (leaf id at body) is = absurd (cc)
 content-children (master id at kids) is = ap (λ k. content (master id at k)) (sym (nodes-list kids)) ∙ octets_all-flat (children (master id at kids))
 
--- ---- one child more
+-- ---- one more child
 
--- Void and CRC-32 have no octets, and all else has some
+-- Void and CRC-32 have no bytes, and other elements have some.
 pub filler-length : (n : Node) → is_filler (id_of n) ≡ true → length (octets n) ≡ 0
 filler-length n goes = ap length (octets-kept n) ∙ length-filler (id_of n) (content n) goes
 
@@ -39,7 +39,7 @@ kept-length n short keeps =
 kept_all-next : (is_filled : Bool) (n : Node) (ns : List Node) → is_filler (id_of n) ≡ is_filled → kept_all (nodes_of (n ∷ ns)) ≡ cond is_filled (kept_all (nodes_of ns)) (kept n + kept_all (nodes_of ns))
 kept_all-next is_filled n ns is = ap (λ b. cond b (kept_all (nodes_of ns)) (kept n + kept_all (nodes_of ns))) is
 
--- an Element that has octets counts
+-- An element with bytes counts.
 pub next-written : (ns : List Node) (i : ℕ) (n : Node) → i < length ns → n ≡ get_or ns i n → 0 < length (octets n) → kept_all (nodes_of (drop i ns)) ≡ kept n + kept_all (nodes_of (drop (i + 1) ns))
 next-written ns i n inside is some = ap (λ l. kept_all (nodes_of l)) (next-is i ns n inside is) ∙ kept_all-next false n (drop (i + 1) ns) (of (is_filler (id_of n)) refl)
   where
@@ -47,7 +47,7 @@ next-written ns i n inside is some = ap (λ l. kept_all (nodes_of l)) (next-is i
     of true goes = let none = filler-length n goes in absurd (omega arith)
     of false keeps = keeps
 
--- one that has none doesn't
+-- An element without bytes doesn't count.
 pub next-unwritten : (ns : List Node) (i : ℕ) (n : Node) → i < length ns → n ≡ get_or ns i n → length (content n) ≤ longest → length (octets n) ≤ 0 → kept_all (nodes_of (drop i ns)) ≡ kept_all (nodes_of (drop (i + 1) ns))
 next-unwritten ns i n inside is short none = ap (λ l. kept_all (nodes_of l)) (next-is i ns n inside is) ∙ kept_all-next true n (drop (i + 1) ns) (of (is_filler (id_of n)) refl)
   where
@@ -76,7 +76,7 @@ child-smaller tree n ns i are inside is =
     let same = ap (λ l. count_all (nodes_of l)) are in
     omega arith
 
--- ---- what is too large
+-- ---- too large records
 
 few-nodes : (o : Option ℕ) (b : Bool) (nodes k left : ℕ) → SomeIff o (k ≤ nodes) left → is_some o ≡ not b → b ≡ nat_lt nodes k
 few-nodes None true nodes k left few is = of (nat_lt nodes k) refl

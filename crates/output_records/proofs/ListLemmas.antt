@@ -1,4 +1,4 @@
--- Inputs one behind the other.
+-- Inputs in sequence.
 use Rattle.std.proofs.Common.{◌≡◌, ◌≤◌, ◌<◌, ℕ, zero, suc, ◌+◌, List, [], ◌∷◌, ◌++◌, length, take, drop, flat_map, get_or, refl, sym, ap, subst, ◌∙◌, arith, add-one, drop-cons, append-nil, append_assoc, length-append}
 use Rattle.std.specs.Prelude.{All}
 use Rattle.std.proofs.lemmas.Grind.{flat_map-append}
@@ -20,7 +20,7 @@ module _ {X : Type 0} (xs : List X) (i : ℕ) (x : X) (inside : i < length xs) (
   pub each-of : (P : X → Type 0) → All P xs → P x
   each-of P all = subst P (sym is) (all i x inside)
 
--- what is at a place among the lists of all
+-- The lists of the first inputs and the next one fit in all lists.
 pub flat-few : {X Y : Type 0} (f : X → List Y) (xs : List X) (i : ℕ) (x : X) → i < length xs → x ≡ get_or xs i x → length (flat_map f (take i xs)) + length (f x) ≤ length (flat_map f xs)
 flat-few f [] i x inside is = absurd (omega arith)
 flat-few f (y ∷ ys) zero x inside is = omega (arith, length-append (f y) (flat_map f ys), ap (λ z. length (f z)) is)

@@ -1,4 +1,4 @@
--- The records of an output stand, and are read again.
+-- The records of an output are valid, and can be read again.
 use Rattle.std.specs.Prelude.{All}
 use Rattle.std.proofs.Common.{◌≡◌, ◌<◌, ◌^◌, ◌==◌, ℕ, true, false, List, [], ◌∷◌, ◌++◌, length, inr, suc, eqb-true, refl, sym, ap, subst, ◌∙◌, arith, append_assoc}
 use Rattle.ebml_numbers.specs.Number.{is_id, uint_octets}
@@ -18,7 +18,7 @@ use Rattle.ebml_tree.proofs.BuildLemmas.{built-limits}
 use Rattle.output_model.specs.Sound.{IsRecord}
 use Rattle.output_records.specs.Info.{application, title_elements, output_info}
 
--- ---- what the table has
+-- ---- the table
 
 pub info-master : is_master INFO ≡ true
 unfolding entry_of table
@@ -60,7 +60,7 @@ built-record id deep ns t built low = record {
 
 -- ---- the Info
 
--- a title that isn't empty is written
+-- A title that isn't empty is written.
 pub title-written : (title : List ℕ) → (length title == 0) ≡ false → title_elements title ≡ leaf TITLE 0 title ∷ []
 title-written [] some = absurd (cc)
 title-written (octet ∷ octets) some = refl
@@ -69,7 +69,7 @@ pub title-left : (title : List ℕ) → (length title == 0) ≡ true → title_e
 title-left [] none = refl
 title-left (octet ∷ octets) none = absurd (let never : suc (length octets) ≡ 0 = eqb-true (suc (length octets)) 0 none in omega arith)
 
--- the children so far, with the last two
+-- The Info is complete with its last two children.
 pub info-is : (scale : ℕ) (title : List ℕ) (t : Node)
     → IsBuilt INFO 0 0 ((uint_leaf TIMESTAMP_SCALE scale ∷ title_elements title) ++ leaf MUXING_APP 0 application ∷ [] ++ leaf WRITING_APP 0 application ∷ []) t → t ≡ output_info scale title
 info-is scale title t built =
@@ -80,12 +80,12 @@ info-scale scale title small = uint_value-octets TIMESTAMP_SCALE scale (uint_oct
 
 -- ---- the Tracks
 
--- a whole entry stands in Tracks
+-- A whole entry is valid in Tracks.
 pub entry-stands : (n : Node) → IsWholeEntry n → StandsIn TRACKS n
 entry-stands (leaf id at body) whole = let never = whole.master in absurd (cc)
 entry-stands (master id at kids) whole = (ap (is_master_in TRACKS) whole.id ∙ entry-in, whole.sound)
 
--- the first entry is whole, and so are those behind it
+-- The first entry is whole, and so are the others.
 pub first-whole : (ns rest : List Node) (n : Node) → ns ≡ n ∷ rest → All IsWholeEntry ns → IsWholeEntry n
 first-whole ns rest n is whole = let P : List Node → Type 0 = All IsWholeEntry in let all = subst P is whole in all 0 n (omega arith)
 

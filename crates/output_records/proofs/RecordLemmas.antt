@@ -1,4 +1,4 @@
--- Records that grow, or in which a child is set, are read again.
+-- Records with children appended or set can be read again.
 use Rattle.std.proofs.Common.{◌≡◌, ◌<◌, ℕ, true, List, [], ◌∷◌, ◌++◌, length, IfSome, refl, sym, ap, subst, ◌∙◌, arith, append-nil}
 use Rattle.mkv_schema.specs.declared.ids.TheConstants.{CHAPTERS, TAGS, ATTACHED_FILE, FILE_DATA, FILE_UID}
 use Rattle.mkv_schema.specs.Table.{table}
@@ -32,7 +32,7 @@ pub uid-in : IsUintIn ATTACHED_FILE FILE_UID
 unfolding entry_of table is_id
 uid-in = record { valid = refl; known = record { stands = refl; kind = refl } }
 
--- ---- a record, and what is built
+-- ---- a built record
 
 pub built-record : (id at deep : ℕ) (ns : List Node) (t : Node) → IsBuilt id at deep ns t → deep < deepest → IsRecord id t
 built-record id at deep ns t built low = record {
@@ -57,7 +57,7 @@ record-built own (master id at kids) r =
       short = λ more. omega (arith, more, long, ap length (content-children (master id at kids) refl));
     })
 
--- what is put behind the children of a master without more
+-- Children are appended to a master.
 pub grown-in : (id : ℕ) (old new : Node) (ns more : List Node) → old ≡ master id 0 (nodes_of ns) → new ≡ with_children old (children old ++ more) → new ≡ master id 0 (nodes_of (ns ++ more))
 grown-in id old new ns more is grown =
     grown ∙ ap (λ t. with_children t (children t ++ more)) is ∙ ap (λ l. master id 0 (nodes_of (l ++ more))) (list-nodes ns)
@@ -65,7 +65,7 @@ grown-in id old new ns more is grown =
 pub read-record : (own : ℕ) (n : Node) → IsRead own n → KeepsLimits n → IsRecord own n
 read-record own n r keeps = record { id = r.id; master = r.master; sound = r.sound; limits = keeps }
 
--- all children of a record stand in it
+-- Each child of a record is valid in it.
 pub all-stand : (own : ℕ) (n : Node) → IsRead own n → AllStandIn own (nodes_of (children n))
 all-stand own (leaf id at body) read = let never = read.master in absurd (cc)
 all-stand own (master id at kids) read =
@@ -73,12 +73,12 @@ all-stand own (master id at kids) read =
     let Q : Nodes → Type 0 = AllStandIn id in
     subst P read.id (subst Q (sym (nodes-list kids)) read.sound)
 
--- nothing is put behind them
+-- Nothing is appended.
 pub none-grown : (n : Node) → n ≡ with_children n (children n ++ [])
 none-grown (leaf id at body) = refl
 none-grown (master id at kids) = ap (master id at) (sym (nodes-list kids)) ∙ ap (λ l. master id at (nodes_of l)) (sym (append-nil (list_of kids)))
 
--- what holds of a record holds where it has children
+-- A fact about a record also holds if it has children.
 pub some-holds : (P : Node → Type 0) (n : Node) → P n → IfSome (with_some n) P
 some-holds P n holds = of (children n)
   where
@@ -86,7 +86,7 @@ some-holds P n holds = of (children n)
     of [] = tt
     of (m ∷ ns) = holds
 
--- ---- a child is set
+-- ---- setting a child
 
 module _ (own : ℕ) (child : Node) (flat : depth child ≡ 0) where
   set-built : (old new : Node) → IsRecord own old → new ≡ with_children old (with_child child (children old)) → IsSound new → (AreTooLong (with_child child (children old)) → ⊥)
@@ -107,7 +107,7 @@ children-with : (n : Node) (ns : List Node) → IsMaster n → children (with_ch
 children-with (leaf id at body) ns is = absurd (cc)
 children-with (master id at kids) ns is = list-nodes ns
 
--- an AttachedFile with another FileUID
+-- The AttachedFile has a new FileUID.
 pub attached-set : (old new child : Node) (uid : ℕ) → IsAttachment old → child ≡ uint_leaf FILE_UID uid → new ≡ with_children old (with_child child (children old))
     → (IsSound old → StandsIn (id_of old) child → IsSound new) → StandsIn ATTACHED_FILE child → (AreTooLong (with_child child (children old)) → ⊥) → IsAttachment new
 attached-set old new child uid attached is same keeps stands short =

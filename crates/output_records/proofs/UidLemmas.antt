@@ -1,4 +1,4 @@
--- The numbers that identifiers got.
+-- The output's numbers for identifiers.
 use Rattle.std.proofs.Common.{◌≡◌, ℕ, ◌==◌, if◌then◌else◌, length, Result, Ok, Err, IfOk, Bool, true, false, cond, List, [], ◌∷◌, reverse, drop, nat_eq, Option, Some, None, refl, sym, ap, ◌∙◌, arith}
 use Rattle.std.specs.Map.{lookup, update_all}
 use Rattle.std.proofs.lemmas.Bool.Decides.{nat_tests}
@@ -27,7 +27,7 @@ eq-sym a b = of (nat_eq a b) (nat_eq b a) refl refl
     of false true l r = absurd (grind (arith, nat_tests))
     of false false l r = refl
 
--- where the last is inserted first, the first counts
+-- If pairs are inserted from the last to the first, the first one counts.
 pub latest : (ps : List (ℕ × ℕ)) (uid : ℕ) → update_all nat_eq (λ q. None) (reverse ps) uid ≡ lookup (nat_eq uid) ps
 latest [] uid = refl
 latest (p ∷ ps) uid =
@@ -40,7 +40,7 @@ pub latest-in : {M E : Type 0} (look : M → ℕ → Option ℕ) (r : Result M E
 latest-in look (Ok m) ps qs same is = λ uid. is uid ∙ latest ps uid ∙ ap (lookup (nat_eq uid)) same
 latest-in look (Err e) ps qs same is = tt
 
--- ---- those of an input
+-- ---- identifiers of an input
 
 choose : ℕ → Option ℕ → Option ℕ → Option ℕ → Option ℕ → Option ℕ
 choose id t e c a = if id == TAG_TRACK_UID then t else (if id == TAG_EDITION_UID then e else (if id == TAG_CHAPTER_UID then c else (if id == TAG_ATTACHMENT_UID then a else None)))
@@ -58,14 +58,14 @@ module _ (i : InputRecords) (numbers : Uids) (map : UidMap) (t : (uid : ℕ) →
   pub map-for : IsMapFor i numbers map
   map-for = fun_ext (λ id. fun_ext (λ uid. each id uid))
 
--- what is behind the numbers of an input
+-- The numbers after an input are the rest.
 pub behind-is : (u v : Uids) (e c a e' c' a' : List ℕ) (k l m : ℕ) → u ≡ v → k ≡ length u.editions → l ≡ length u.chapters → m ≡ length u.attachments → e' ≡ drop k e → c' ≡ drop l c → a' ≡ drop m a
     → all_uids e' c' a' ≡ behind v (all_uids e c a)
 behind-is u v e c a e' c' a' k l m same ek cl am ee cc' aa =
     ap (λ x. all_uids x c' a') (ee ∙ ap (λ n. drop n e) ek) ∙ ap (λ x. all_uids (drop (length u.editions) e) x a') (cc' ∙ ap (λ n. drop n c) cl)
     ∙ ap (all_uids (drop (length u.editions) e) (drop (length u.chapters) c)) (aa ∙ ap (λ n. drop n a) am) ∙ ap (λ w. behind w (all_uids e c a)) same
 
--- ---- there are as many
+-- ---- equal lengths
 
 pub length-renumbered : (ids : List ℕ) → length (renumbered ids) ≡ length ids
 length-renumbered ids = length-from ids [] ids

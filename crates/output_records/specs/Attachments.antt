@@ -1,4 +1,4 @@
--- The attached files of an output: RFC 9559, section 5.1.6 (Attachments Element). Which identifiers they get is this project's.
+-- The attached files of an output: RFC 9559, section 5.1.6 (Attachments). Their identifiers are this project's choice.
 use Rattle.std.specs.Prelude.{ℕ, List, [], ◌∷◌, map, flat_map}
 use Rattle.mkv_schema.specs.declared.ids.TheConstants.{FILE_UID}
 use Rattle.record_changes.specs.Identifiers.{renumbered}
@@ -6,14 +6,14 @@ use Rattle.tree_format.specs.Children.{uint_leaf, set_in}
 use Rattle.output_model.specs.declared.attachment.Attachment.{Attachment}
 use Rattle.output_records.specs.declared.inputs.InputRecords.{InputRecords}
 
--- the attached files of all inputs, one input behind the other
+-- the attached files of all inputs, in sequence
 abbrev pub files_of : List InputRecords → List Attachment
 files_of inputs = flat_map (λ (i : InputRecords). i.attachments) inputs
 
 abbrev pub file_uids : List Attachment → List ℕ
 file_uids files = map (λ (a : Attachment). a.uid) files
 
--- an attached file with this FileUID, in its entry too
+-- the attached file `a` with the FileUID `uid`, also in its entry
 abbrev pub with_uid : ℕ → Attachment → Attachment
 with_uid uid a = record { uid = uid; file = a.file; at = a.at; len = a.len; entry = set_in (uint_leaf FILE_UID uid) a.entry }
 
@@ -22,10 +22,10 @@ with_uids [] files = []
 with_uids (uid ∷ uids) [] = []
 with_uids (uid ∷ uids) (a ∷ files) = with_uid uid a ∷ with_uids uids files
 
--- the FileUIDs that the files of all inputs get
+-- the output's FileUIDs for the attached files of all inputs
 abbrev pub file_numbers : List InputRecords → List ℕ
 file_numbers inputs = renumbered (file_uids (files_of inputs))
 
--- The attached files of an output, with the FileUIDs that they have there.
+-- the attached files of an output, with their FileUIDs there
 abbrev pub merged_attachments : List InputRecords → List Attachment
 merged_attachments inputs = with_uids (file_numbers inputs) (files_of inputs)

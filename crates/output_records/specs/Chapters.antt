@@ -1,4 +1,4 @@
--- The Chapters of an output: RFC 9559, section 5.1.7 (Chapters Element). Which identifiers and times they get is this project's.
+-- The Chapters of an output: RFC 9559, section 5.1.7 (Chapters). Their identifiers and times are this project's choice.
 use Rattle.std.specs.Prelude.{ℕ, List, flat_map, Option, Some, None}
 use Rattle.std.specs.Option.{option_map}
 use Rattle.mkv_schema.specs.declared.ids.TheConstants.{CHAPTERS}
@@ -10,26 +10,26 @@ use Rattle.record_changes.specs.Shift.{shifted}
 use Rattle.output_records.specs.declared.inputs.InputRecords.{InputRecords}
 use Rattle.output_records.specs.Inputs.{children_in, with_some}
 
--- the Chapters of an input, as they are, or later by its shift where it is appended
+-- the Chapters of an input, later by its shift if it is appended
 abbrev pub later : Option ℕ → Node → Node
 later None chapters = chapters
 later (Some by) chapters = shifted by chapters
 
--- what stands in the Chapters of an input
+-- the children of an input's Chapters
 abbrev pub chapters_in : InputRecords → List Node
 chapters_in i = children_in (option_map (later i.shift) i.chapters)
 
--- one Chapters with what stands in those of all inputs
+-- one Chapters with the children of all inputs' Chapters
 abbrev pub joined_chapters : List InputRecords → Node
 joined_chapters inputs = master CHAPTERS 0 (nodes_of (flat_map chapters_in inputs))
 
--- the EditionUIDs and the ChapterUIDs that all get
+-- the output's EditionUIDs; and its ChapterUIDs
 abbrev pub edition_numbers : List InputRecords → List ℕ
 edition_numbers inputs = renumbered (edition_uids (joined_chapters inputs))
 
 abbrev pub chapter_numbers : List InputRecords → List ℕ
 chapter_numbers inputs = renumbered (chapter_uids (joined_chapters inputs))
 
--- The editions of all inputs with the identifiers that they have in the output; none where there is no edition.
+-- the editions of all inputs with their identifiers in the output, or nothing if there are none
 abbrev pub merged_chapters : List InputRecords → Option Node
 merged_chapters inputs = with_some (with_identifiers (edition_numbers inputs) (chapter_numbers inputs) (joined_chapters inputs))

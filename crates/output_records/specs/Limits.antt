@@ -1,15 +1,15 @@
--- Whether a record of an output is too large. The limits are this project's.
+-- The size limits for records of an output. The limits are this project's.
 use Rattle.std.specs.Prelude.{ℕ, if◌then◌else◌, Option, Some, None}
 use Rattle.std.specs.Option.{option_or}
 use Rattle.mkv_schema.specs.declared.ids.TheConstants.{TRACKS, CHAPTERS, TAGS}
 use Rattle.tree_format.specs.Node.{Node}
 use Rattle.output_records.specs.RecordLimits.{is_too_large}
 
--- the ID of a record that is there, where it is too large
+-- the ID `id` of a record, if it is present and too large
 abbrev pub too_large : ℕ → Option Node → Option ℕ
 too_large id None = None
 too_large id (Some n) = if is_too_large n then Some id else None
 
--- The first of Tracks, Chapters and Tags that is too large, by its ID.
+-- the ID of the first of Tracks, Chapters and Tags that is too large
 abbrev pub first_too_large : Node → Option Node → Option Node → Option ℕ
 first_too_large tracks chapters tags = option_or (too_large TRACKS (Some tracks)) (option_or (too_large CHAPTERS chapters) (too_large TAGS tags))

@@ -1,4 +1,4 @@
--- The Tags of an output: RFC 9559, section 5.1.8 (Tags Element). Which of them are written is this project's.
+-- The Tags of an output: RFC 9559, section 5.1.8 (Tags). The choice of Tags is this project's.
 use Rattle.std.specs.Prelude.{◌≡◌, ◌<◌, ◌^◌, ℕ, ◌==◌, nat_eq, if◌then◌else◌, List, [], ◌∷◌, ◌++◌, length, drop, zip, All, Option, None, Result, OnOk}
 use Rattle.std.specs.Map.{lookup}
 use Rattle.std.specs.Option.{option_map}
@@ -14,7 +14,7 @@ use Rattle.output_records.specs.Inputs.{children_in, uids_in, with_some}
 use Rattle.output_records.specs.Attachments.{file_uids, file_numbers}
 use Rattle.output_records.specs.Chapters.{edition_numbers, chapter_numbers}
 
--- what an identifier of a source got: the number beside its first use
+-- the number for the first use of the identifier `uid` in `source`
 abbrev pub number_of : List ℕ → List ℕ → ℕ → Option ℕ
 number_of source numbers uid = lookup (nat_eq uid) (zip source numbers)
 
@@ -30,8 +30,7 @@ uids_of i = record {
   attachments = file_uids i.attachments;
 }
 
--- The identifiers that the targets of an input's Tags have in the output, by their IDs. The numbers are those of its
--- editions, chapters and attached files, and of what comes behind them.
+-- the output's identifiers of an input's targets, by their IDs; `numbers` begins with the numbers of its editions, chapters and attached files
 abbrev pub numbers_for : InputRecords → Uids → ℕ → ℕ → Option ℕ
 numbers_for i numbers id uid =
     if id == TAG_TRACK_UID then number_of i.track_uids i.output_uids uid else
@@ -39,11 +38,11 @@ numbers_for i numbers id uid =
     (if id == TAG_CHAPTER_UID then number_of (uids_of i).chapters numbers.chapters uid else
     (if id == TAG_ATTACHMENT_UID then number_of (uids_of i).attachments numbers.attachments uid else None)))
 
--- a map that has them
+-- The map has the output's identifiers of the input's targets.
 abbrev pub IsMapFor : InputRecords → Uids → UidMap → Type 0
 IsMapFor i numbers map = numbers_in map ≡ numbers_for i numbers
 
--- the numbers behind those of an input
+-- the numbers after the ones of an input with the identifiers `uids`
 abbrev pub behind : Uids → Uids → Uids
 behind uids numbers = record {
   editions = drop (length uids.editions) numbers.editions;
@@ -51,7 +50,7 @@ behind uids numbers = record {
   attachments = drop (length uids.attachments) numbers.attachments;
 }
 
--- the Tags that are written of an input, and of inputs one behind the other
+-- the kept Tags of an input; and of inputs in sequence
 abbrev pub tags_in : InputRecords → Uids → List Node
 tags_in i numbers = children_in (option_map (written_tags i.keep (numbers_for i numbers)) i.tags)
 
@@ -59,25 +58,25 @@ abbrev pub tags_from : Uids → List InputRecords → List Node
 tags_from numbers [] = []
 tags_from numbers (i ∷ inputs) = tags_in i numbers ++ tags_from (behind (uids_of i) numbers) inputs
 
--- The Tags of an input that are written stand behind the others, where a map has the numbers that its targets get.
+-- `new` is `old` with the kept Tags of the input appended, if `map` has the output's identifiers of its targets.
 abbrev pub AddsTags : {T E : Type 0} → InputRecords → UidMap → Node → Node → Result T E → Type 0
 AddsTags i map old new result =
     (numbers : Uids) → IsMapFor i numbers map → OnOk result (new ≡ with_children old (children old ++ tags_in i numbers))
 
--- the numbers that all get
+-- the output's numbers for all inputs
 abbrev pub numbers_of : List InputRecords → Uids
 numbers_of inputs = all_uids (edition_numbers inputs) (chapter_numbers inputs) (file_numbers inputs)
 
--- They have 64 bits.
+-- The numbers have 64 bits.
 pub record HaveShortNumbers (numbers : Uids) : Type 0 where
   pub editions : All (λ n. n < 2 ^ 64) numbers.editions
   pub chapters : All (λ n. n < 2 ^ 64) numbers.chapters
   pub attachments : All (λ n. n < 2 ^ 64) numbers.attachments
 
--- The Tags of inputs that are written, in one Tags, where these numbers are theirs.
+-- the kept Tags of inputs in one Tags, with these numbers
 abbrev pub joined_tags : Uids → List InputRecords → Node
 joined_tags numbers inputs = master TAGS 0 (nodes_of (tags_from numbers inputs))
 
--- The Tags of all inputs that are written; none where there is no Tag.
+-- the kept Tags of all inputs, or nothing if there are none
 abbrev pub merged_tags : List InputRecords → Option Node
 merged_tags inputs = with_some (joined_tags (numbers_of inputs) inputs)

@@ -1,4 +1,4 @@
-//! The attached files of an output: RFC 9559, section 5.1.6 (Attachments Element).
+//! Attached files of an output: RFC 9559, section 5.1.6 (Attachments).
 
 ghost use Rattle.std.specs.Prelude.{◌≡◌, ◌≤◌, length, All, IfOk};
 ghost use Rattle.output_records.specs.Attachments.{files_of, file_numbers, with_uid, with_uids};
@@ -13,7 +13,7 @@ use output_model::Attachment;
 use record_changes::renumber;
 use std::alloc::{AllocError, Global};
 
-/// The FileUIDs that the attached files of all inputs get.
+/// Returns the output's FileUIDs for the attached files of all inputs.
 pub(crate) fn file_numbers(alloc: Global, inputs: &[InputRecords]) -> Result<List<u64>, AllocError>
     ensures { IfOk result (λ numbers. numbers ≡ file_numbers inputs.now) }
 {
@@ -24,7 +24,7 @@ pub(crate) fn file_numbers(alloc: Global, inputs: &[InputRecords]) -> Result<Lis
     renumber(alloc, uids.as_slice())
 }
 
-// An attached file with this FileUID.
+// Returns `file` with the FileUID `uid`.
 fn with_uid(alloc: Global, uid: u64, file: &Attachment) -> Result<Attachment, AllocError>
     requires { IsAttached file.now }
     ensures exact { IfOk result (λ written. written ≡ with_uid uid file.now) }
@@ -41,7 +41,7 @@ fn with_uid(alloc: Global, uid: u64, file: &Attachment) -> Result<Attachment, Al
     })
 }
 
-/// The attached files of all inputs, one behind the other, with these FileUIDs.
+/// Returns the attached files of all inputs in sequence, with the FileUIDs `numbers`.
 pub(crate) fn attachments_of(
     alloc: Global,
     inputs: &[InputRecords],

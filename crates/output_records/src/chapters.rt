@@ -1,4 +1,4 @@
-//! The Chapters of an output: RFC 9559, section 5.1.7 (Chapters Element).
+//! Chapters of an output: RFC 9559, section 5.1.7 (Chapters).
 
 ghost use Rattle.std.specs.Prelude.{◌≡◌, ◌++◌, All, IfOk, OnOk};
 ghost use Rattle.mkv_schema.specs.declared.ids.TheConstants.{CHAPTERS as CHAPTERS_ID};
@@ -18,7 +18,7 @@ use mkv_schema::ids::CHAPTERS;
 use record_changes::{push_chapter_uids, push_edition_uids, renumber, shift};
 use std::alloc::{AllocError, Global};
 
-// The Chapters of an input, later where it is appended.
+// Returns the Chapters of an input, later by `by` if it is appended.
 fn later(alloc: Global, chapters: &Tree, by: Option<u64>) -> Result<Tree, AllocError>
     requires { IsRead CHAPTERS_ID chapters.now }
     ensures exact { IfOk result (λ tree. tree ≡ later by chapters.now) }
@@ -32,7 +32,7 @@ fn later(alloc: Global, chapters: &Tree, by: Option<u64>) -> Result<Tree, AllocE
     Ok(later)
 }
 
-// Adds what stands in the Chapters of an input.
+// Appends the children of an input's Chapters to `joined`.
 fn push_chapters(alloc: Global, input: &InputRecords, joined: &mut Tree) -> Result<(), AllocError>
     requires input { IsInput input.now }
     requires joined { IsRecord CHAPTERS_ID joined.old }
@@ -45,7 +45,7 @@ fn push_chapters(alloc: Global, input: &InputRecords, joined: &mut Tree) -> Resu
     }
 }
 
-/// One Chapters with what stands in those of all inputs.
+/// Returns one Chapters with the children of all inputs' Chapters.
 pub(crate) fn joined_chapters(alloc: Global, inputs: &[InputRecords]) -> Result<Tree, AllocError>
     requires { All IsInput inputs.now }
     ensures exact { IfOk result (λ joined. joined ≡ joined_chapters inputs.now) }
@@ -58,7 +58,7 @@ pub(crate) fn joined_chapters(alloc: Global, inputs: &[InputRecords]) -> Result<
     Ok(joined)
 }
 
-/// The EditionUIDs that the editions get.
+/// Returns the output's EditionUIDs.
 pub(crate) fn edition_numbers(alloc: Global, joined: &Tree) -> Result<List<u64>, AllocError>
     requires { IsRead CHAPTERS_ID joined.now }
     ensures { IfOk result (λ numbers. numbers ≡ renumbered (edition_uids joined.now)) }
@@ -68,7 +68,7 @@ pub(crate) fn edition_numbers(alloc: Global, joined: &Tree) -> Result<List<u64>,
     renumber(alloc, uids.as_slice())
 }
 
-/// The ChapterUIDs that the chapters get.
+/// Returns the output's ChapterUIDs.
 pub(crate) fn chapter_numbers(alloc: Global, joined: &Tree) -> Result<List<u64>, AllocError>
     requires { IsRead CHAPTERS_ID joined.now }
     ensures { IfOk result (λ numbers. numbers ≡ renumbered (chapter_uids joined.now)) }

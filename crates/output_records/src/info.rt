@@ -1,4 +1,4 @@
-//! The Info of an output: RFC 9559, section 5.1.2 (Info Element).
+//! Info of an output: RFC 9559, section 5.1.2 (Info).
 
 ghost use Rattle.std.specs.Prelude.{◌≡◌, IfOk};
 ghost use Rattle.mkv_schema.specs.declared.ids.TheConstants.{INFO as INFO_ID};
@@ -10,10 +10,10 @@ use ebml_tree::{Tree, empty, text_leaf, uint_leaf};
 use mkv_schema::ids::{INFO, MUXING_APP, TIMESTAMP_SCALE, TITLE, WRITING_APP};
 use std::alloc::{AllocError, Global};
 
-/// The name and the version of what writes outputs.
+/// Name and version of the program, as written to outputs
 const APPLICATION: &str = "mkvsuite 1";
 
-/// The Info of an output with `scale` nanoseconds a tick. An empty title isn't written.
+/// Returns the Info of an output with `scale` nanoseconds per tick. An empty title isn't written.
 pub fn info_of(alloc: Global, scale: u64, title: &str) -> Result<Tree, AllocError>
     ensures exact { IfOk result (λ info. info ≡ output_info scale title.now) }
     ensures sound { IfOk result (IsRecord INFO_ID) }

@@ -1,25 +1,25 @@
-//! What an input of a merge holds.
+//! Records of a merge's input
 
 use ebml_tree::Tree;
 use mkv_io::List;
 use output_model::Attachment;
 use record_changes::TagKeep;
 
-/// What an input of a merge gives besides its tracks and blocks.
+/// Records that an input adds to a merge, other than its tracks and blocks
 #[derive(Drop)]
 pub struct InputRecords {
-    /// The TrackUIDs of the tracks that are taken, as the input has them.
+    /// TrackUIDs of the copied tracks in the input
     pub track_uids: List<u64>,
-    /// The TrackUIDs that these have in the output; those of an appended input are its lanes'.
+    /// TrackUIDs of the copied tracks in the output; an appended input has the ones of its output tracks
     pub output_uids: List<u64>,
-    /// The attached files that are taken.
+    /// Copied attached files
     pub attachments: List<Attachment>,
-    /// The Chapters, where they are taken.
+    /// Chapters, if they are copied
     pub chapters: Option<Tree>,
-    /// By how many nanoseconds the chapters are later, where the input is appended to another.
+    /// Nanoseconds that are added to the chapters, if the input is appended to another
     pub shift: Option<u64>,
-    /// The Tags.
+    /// Tags
     pub tags: Option<Tree>,
-    /// Which Tags are taken.
+    /// Choice of the copied Tags
     pub keep: TagKeep,
 }

@@ -1,8 +1,8 @@
 #![tactic(auto)]
 
-//! The records of an output: its Info and its Tracks, what a merge makes of the Attachments, Chapters and Tags of its inputs,
-//! and whether one of them is too large to be read again (RFC 9559, sections 5.1.2, Info Element, 5.1.4, Tracks Element, 5.1.6,
-//! Attachments Element, 5.1.7, Chapters Element, and 5.1.8, Tags Element).
+//! Records of an output: its Info and Tracks, and the Attachments, Chapters and Tags merged from its inputs. It also
+//! checks whether a record is too large to be read again (RFC 9559, sections 5.1.2, Info, 5.1.4, Tracks, 5.1.6,
+//! Attachments, 5.1.7, Chapters, and 5.1.8, Tags).
 
 mod attachments;
 mod chapters;

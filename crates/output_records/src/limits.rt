@@ -1,4 +1,4 @@
-//! Whether a record of an output is too large.
+//! Size limits for records of an output
 
 ghost use Rattle.std.specs.Prelude.{◌≡◌, IfSome};
 ghost use Rattle.tree_format.specs.Node.{IsMaster};
@@ -18,8 +18,8 @@ fn too_large(id: u32, tree: &Option<Tree>) -> Option<u32>
     }
 }
 
-/// The ID of the first of Tracks, Chapters and Tags, in this order, that would be refused when it is read: it has more
-/// than 16 MiB behind its header, or more than 65,536 Elements.
+/// Returns the ID of the first of Tracks, Chapters and Tags that is too large to be read again. It has more than 16
+/// MiB after its header, or more than 65,536 elements.
 pub fn first_too_large(tracks: &Tree, chapters: &Option<Tree>, tags: &Option<Tree>) -> Option<u32>
     requires tracks { IsMaster tracks.now }
     requires chapters { IfSome chapters.now IsMaster }

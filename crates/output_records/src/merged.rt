@@ -1,4 +1,4 @@
-//! The records of an output.
+//! Merged records of an output
 
 ghost use Rattle.std.specs.Prelude.{◌≡◌, All, IfOk, IfSome};
 ghost use Rattle.mkv_schema.specs.declared.ids.TheConstants.{CHAPTERS, TAGS};
@@ -21,18 +21,19 @@ use output_model::Attachment;
 use record_changes::with_identifiers;
 use std::alloc::{AllocError, Global};
 
-/// The Attachments, Chapters and Tags of an output.
+/// Attachments, Chapters and Tags of an output
 #[derive(Drop)]
 pub struct MergedRecords {
-    /// The attached files, each with its FileUID in the output.
+    /// Attached files, each with its FileUID in the output
     pub attachments: List<Attachment>,
-    /// The Chapters, where there is an edition.
+    /// Chapters, if there is an edition
     pub chapters: Option<Tree>,
-    /// The Tags, where there is a Tag.
+    /// Tags, if there is a Tag
     pub tags: Option<Tree>,
 }
 
-// The numbers that the editions, the chapters and the attached files of all inputs get, whose chapters are joined.
+// Returns the output's numbers for the editions, chapters and attached files of all inputs. `joined` has the chapters
+// of all inputs.
 fn numbers_of(alloc: Global, inputs: &[InputRecords], joined: &Tree) -> Result<Uids, AllocError>
     requires read { IsRead CHAPTERS joined.now }
     requires joined { joined.now ≡ joined_chapters inputs.now }
@@ -45,19 +46,18 @@ fn numbers_of(alloc: Global, inputs: &[InputRecords], joined: &Tree) -> Result<U
     })
 }
 
-/// The Attachments, Chapters and Tags of an output.
+/// Returns the Attachments, Chapters and Tags of an output.
 ///
-/// The attached files and the editions of all inputs stand one input behind the other, with FileUIDs, EditionUIDs and
-/// ChapterUIDs that are given anew, each kind for itself: the first use of a positive one keeps it. The Tags are those
-/// that are kept, with the identifiers that their targets have in the output; of equal ones in an input the first
-/// counts.
+/// The attached files and editions of all inputs follow in sequence, with new FileUIDs, EditionUIDs and ChapterUIDs.
+/// For each kind, the first use of a positive identifier keeps it. The kept Tags follow, with the output's
+/// identifiers in their targets. If an identifier is used twice in an input, its first use counts.
 pub fn merge_records(alloc: Global, inputs: &[InputRecords]) -> Result<MergedRecords, AllocError>
     requires { All IsInput inputs.now }
     ensures attachments { IfOk result (λ made. made.attachments ≡ merged_attachments inputs.now) }
     ensures chapters { IfOk result (λ made. made.chapters ≡ merged_chapters inputs.now) }
     ensures tags { IfOk result (λ made. made.tags ≡ merged_tags inputs.now) }
 
-    // They can be written and read again.
+    // The records can be written and read again.
     ensures attached { IfOk result (λ made. All IsAttached made.attachments) }
     ensures chaptered { IfOk result (λ made. IfSome made.chapters (IsRecord CHAPTERS)) }
     ensures tagged { IfOk result (λ made. IfSome made.tags (IsRecord TAGS)) }

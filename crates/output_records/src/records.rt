@@ -1,4 +1,4 @@
-//! Records that are put together.
+//! Assembly of records
 
 ghost use Rattle.std.specs.Prelude.{◌≡◌, ◌++◌, OnOk};
 ghost use Rattle.tree_format.specs.Node.{children, id_of, with_children};
@@ -9,7 +9,7 @@ ghost use Rattle.output_records.specs.Inputs.{with_some};
 use ebml_tree::Tree;
 use std::alloc::AllocError;
 
-/// Adds the children of another record of the same ID.
+/// Appends the children of another record with the same ID.
 pub(crate) fn push_all(tree: &mut Tree, other: Tree) -> Result<(), AllocError>
     requires own { IsRecord (id_of tree.old) tree.old }
     requires other { IsRead (id_of tree.old) other }
@@ -22,7 +22,7 @@ pub(crate) fn push_all(tree: &mut Tree, other: Tree) -> Result<(), AllocError>
     Ok(())
 }
 
-/// A record, where it has children.
+/// Returns the record, or nothing if it has no children.
 pub(crate) fn with_some(tree: Tree) -> Option<Tree>
     ensures { result ≡ with_some tree }
 {

@@ -1,4 +1,4 @@
-//! The Tags of an output: RFC 9559, section 5.1.8 (Tags Element).
+//! Tags of an output: RFC 9559, section 5.1.8 (Tags).
 
 ghost use Rattle.std.specs.Prelude.{◌≡◌, All, drop, IfOk, OnOk};
 ghost use Rattle.mkv_schema.specs.declared.ids.TheConstants.{TAGS as TAGS_ID};
@@ -14,7 +14,7 @@ use mkv_schema::ids::TAGS;
 use record_changes::{UidMap, merge_tags};
 use std::alloc::{AllocError, Global};
 
-// Adds the Tags of an input that are written.
+// Appends the kept Tags of an input to `joined`.
 fn push_tags(
     alloc: Global,
     input: &InputRecords,
@@ -32,15 +32,15 @@ fn push_tags(
     }
 }
 
-// The numbers behind so many.
+// Returns the numbers after the first `count`.
 fn behind(numbers: &[u64], count: usize) -> &[u64]
     ensures { result.now ≡ drop count numbers.now }
 {
     &numbers[count.min(numbers.len())..]
 }
 
-/// The Tags of all inputs that are written, in one Tags, where these numbers are those of their editions, chapters and
-/// attached files.
+/// Returns the kept Tags of all inputs in one Tags. `numbers` are the output's numbers for their editions, chapters
+/// and attached files.
 pub(crate) fn joined_tags(
     alloc: Global,
     inputs: &[InputRecords],

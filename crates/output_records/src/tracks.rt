@@ -1,4 +1,4 @@
-//! The Tracks of an output: RFC 9559, section 5.1.4 (Tracks Element).
+//! Tracks of an output: RFC 9559, section 5.1.4 (Tracks).
 
 ghost use Rattle.std.specs.Prelude.{◌≡◌, All, IfOk};
 ghost use Rattle.mkv_schema.specs.declared.ids.TheConstants.{TRACKS as TRACKS_ID};
@@ -11,7 +11,7 @@ use mkv_io::List;
 use mkv_schema::ids::TRACKS;
 use std::alloc::{AllocError, Global};
 
-/// The Tracks of an output with these TrackEntries, in their order.
+/// Returns the Tracks of an output with these TrackEntries, in their order.
 pub fn tracks_of(alloc: Global, entries: List<Tree>) -> Result<Tree, AllocError>
     requires { All IsWholeEntry entries }
     ensures exact { IfOk result (λ tracks. tracks ≡ output_tracks entries) }

@@ -1,4 +1,4 @@
-//! Identifiers and the numbers that they get.
+//! Identifiers, and the output's numbers for them
 
 ghost use Rattle.std.specs.Prelude.{◌≡◌, ◌++◌, ℕ, nat_eq, zip, IfOk, OnOk};
 ghost use Rattle.indexmap.specs.IndexMap.{get};
@@ -13,7 +13,7 @@ use output_model::Attachment;
 use record_changes::{UidMap, push_chapter_uids, push_edition_uids};
 use std::alloc::{AllocError, Global};
 
-/// Identifiers, or the numbers that they get, in the order in which they are written.
+/// Identifiers or their numbers in the output, in the order of writing
 #[derive(Drop)]
 pub(crate) struct Uids {
     pub(crate) editions: List<u64>,
@@ -21,7 +21,7 @@ pub(crate) struct Uids {
     pub(crate) attachments: List<u64>,
 }
 
-/// Adds the FileUIDs of attached files. On a refusal some of them may have been added.
+/// Appends the FileUIDs of attached files. If memory runs out, some may have been appended.
 pub(crate) fn push_file_uids(files: &[Attachment], uids: &mut List<u64>) -> Result<(), AllocError>
     ensures { OnOk result (uids.new ≡ uids.old ++ file_uids files.now) }
 {
@@ -31,7 +31,7 @@ pub(crate) fn push_file_uids(files: &[Attachment], uids: &mut List<u64>) -> Resu
     Ok(())
 }
 
-/// The identifiers in an input.
+/// Returns the identifiers in an input.
 pub(crate) fn uids_of(alloc: Global, input: &InputRecords) -> Result<Uids, AllocError>
     requires { IsInput input.now }
     ensures { IfOk result (λ uids. uids ≡ uids_of input.now) }
@@ -51,7 +51,7 @@ pub(crate) fn uids_of(alloc: Global, input: &InputRecords) -> Result<Uids, Alloc
     })
 }
 
-// Identifiers of a source, each with the number that it got.
+// Returns pairs of the identifiers and their numbers.
 fn pairs_of(alloc: Global, source: &[u64], numbers: &[u64]) -> Result<Vec<(u64, u64)>, AllocError>
     ensures { IfOk result (λ pairs. pairs.items ≡ zip source.now numbers.now) }
 {
@@ -62,7 +62,7 @@ fn pairs_of(alloc: Global, source: &[u64], numbers: &[u64]) -> Result<Vec<(u64, 
         .collect(alloc)
 }
 
-// The number that each identifier of a source got at its first use, which is put in last.
+// Returns a map from each identifier to the number of its first use. The first use is inserted last.
 fn number_map(
     alloc: Global,
     source: &[u64],
@@ -75,8 +75,8 @@ fn number_map(
     pairs.into_iter().collect(alloc)
 }
 
-/// The numbers that the identifiers of an input got, where these are the numbers of its editions, chapters and attached
-/// files, and of what comes behind them.
+/// Returns the map from an input's identifiers to the output's numbers. The numbers begin with its editions, chapters
+/// and attached files; the next inputs follow.
 pub(crate) fn map_of(
     alloc: Global,
     input: &InputRecords,

@@ -1,4 +1,4 @@
--- Each file has the number behind those that were given.
+-- Each file has the next number.
 use Rattle.std.proofs.Common.{◌<◌, length, sym, subst, ◌∙◌, arith}
 use Rattle.std.specs.Prelude.{All}
 use Rattle.std.proofs.lemmas.List.Elements.{All-push}

@@ -1,4 +1,4 @@
--- The files so far have their numbers.
+-- The previous files have their numbers.
 use Rattle.std.proofs.Common.{◌≡◌, ◌++◌, take}
 use Rattle.std.specs.Prelude.{All}
 use Rattle.output_records.specs.Attachments.{files_of, with_uids}

@@ -1,4 +1,4 @@
--- Those of the inputs so far were added.
+-- The FileUIDs of the previous inputs were appended.
 use Rattle.std.proofs.Common.{◌≡◌, take}
 use Rattle.output_records.specs.Attachments.{files_of, file_uids}
 use Rattle.output_records.proofs.attachments.file_numbers.Given as goal

@@ -1,4 +1,4 @@
--- The FileUID stands in the AttachedFile.
+-- The FileUID is valid in the AttachedFile.
 use Rattle.std.proofs.Common.{sym, subst}
 use Rattle.mkv_schema.specs.declared.ids.TheConstants.{ATTACHED_FILE}
 use Rattle.output_model.specs.Sound.{IsAttachment}

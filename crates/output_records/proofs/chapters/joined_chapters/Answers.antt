@@ -1,4 +1,4 @@
--- Each input's are put behind the others.
+-- Each input's children are appended.
 use Rattle.std.proofs.Common.{[], sym, ap, ◌∙◌, arith}
 use Rattle.mkv_schema.specs.declared.ids.TheConstants.{CHAPTERS}
 use Rattle.tree_format.specs.Node.{master, nodes_of}

@@ -1,4 +1,4 @@
--- What stands in the Chapters of the inputs so far is in one.
+-- The children of the previous inputs' Chapters are in one.
 use Rattle.std.proofs.Common.{◌≡◌, take}
 use Rattle.mkv_schema.specs.declared.ids.TheConstants.{CHAPTERS}
 use Rattle.output_model.specs.Sound.{IsRecord}

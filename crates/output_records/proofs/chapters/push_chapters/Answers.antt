@@ -1,4 +1,4 @@
--- Without Chapters nothing is added.
+-- Without Chapters nothing is appended.
 use Rattle.std.proofs.Common.{◌++◌, sym, ap, ◌∙◌}
 use Rattle.std.specs.Option.{option_map}
 use Rattle.tree_format.specs.Node.{children, with_children}

@@ -1,4 +1,4 @@
--- The Info has each of its children behind the others.
+-- The children of the Info are appended in sequence.
 use Rattle.std.proofs.Common.{ℕ, List, ◌∷◌, ◌++◌, [], sym, ap, subst, ◌∙◌, arith}
 use Rattle.mkv_schema.specs.declared.ids.TheConstants.{INFO, TIMESTAMP_SCALE, TITLE, MUXING_APP, WRITING_APP}
 use Rattle.tree_format.specs.Node.{Node, leaf}
@@ -29,7 +29,7 @@ text_leaf-requires-3 c = writing-in.valid
 pub push-requires-clause-master : goal.push-requires-clause-master
 push-requires-clause-master c = built-master INFO 0 0 [] c.in_ok-info.info (c.in_ok-info.ensures 0)
 
--- the Info so far, at each child
+-- The Info is valid after each child.
 with-scale : (c : goal.In_ok-push-4) → IsBuilt INFO 0 0 (uint_leaf TIMESTAMP_SCALE c.args.scale ∷ []) c.push.new.self
 with-scale c =
     built-leaf INFO 0 0 TIMESTAMP_SCALE [] _ c.in_ok-info.info c.in_ok-uint_leaf.field-0 c.push.new.self (c.in_ok-info.ensures 0)

@@ -1,4 +1,4 @@
--- Each has a number, and what is made of them can be read again.
+-- Each identifier has a number, and the records can be read again.
 use Rattle.std.proofs.Common.{length, sym, ap, subst, arith, IfSome}
 use Rattle.mkv_schema.specs.declared.ids.TheConstants.{CHAPTERS}
 use Rattle.record_changes.specs.Atoms.{edition_uids, chapter_uids}

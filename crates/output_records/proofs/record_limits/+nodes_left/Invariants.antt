@@ -1,4 +1,4 @@
--- What is left, with what is written of the tree, is what was left at first with what is written of the children that are still to come.
+-- The rest of `nodes` and the written children that were counted are constant together.
 use Rattle.std.proofs.Common.{◌≡◌, ◌+◌, drop}
 use Rattle.tree_format.specs.Node.{nodes_of, count}
 use Rattle.tree_format.specs.Standing.{kept, kept_all}

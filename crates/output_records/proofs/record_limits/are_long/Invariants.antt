@@ -1,4 +1,4 @@
--- What is left, with the octets of all children, is the limit with those of the children that are still to come.
+-- The rest of the limit and the bytes of the previous children are constant together.
 use Rattle.std.proofs.Common.{◌≡◌, ◌+◌, length, flat_map, drop}
 use Rattle.mkv_schema.specs.declared.limits.TheConstants.{MAX_MASTER_LEN}
 use Rattle.tree_format.specs.NormalForm.{octets}

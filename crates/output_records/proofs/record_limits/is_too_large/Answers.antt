@@ -1,4 +1,4 @@
--- Octets behind the header are those of the children; and no node is left where there are too many.
+-- The bytes after the header are the children's, and no element is left if there are too many.
 use Rattle.output_records.proofs.KeptLemmas.{too-long, too-many}
 use Rattle.output_records.proofs.record_limits.is_too_large.Goals as goal
 

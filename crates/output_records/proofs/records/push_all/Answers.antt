@@ -1,4 +1,4 @@
--- Each child is put behind the others.
+-- Each child is appended.
 use Rattle.std.proofs.Common.{List, [], ◌∷◌, ◌++◌, refl, sym, ap, subst, ◌∙◌, arith, append-nil, append_assoc}
 use Rattle.tree_format.specs.Node.{Node, id_of, offset_of, children, nodes_of, depth_all}
 use Rattle.tree_format.specs.Standing.{AllStandIn}

@@ -1,4 +1,4 @@
--- The children so far stand behind the others, and those that are left may stand there.
+-- The previous children were appended, and the others are valid there.
 use Rattle.std.proofs.Common.{◌≡◌, ◌≤◌, ◌++◌}
 use Rattle.tree_format.specs.Node.{id_of, offset_of, children, nodes_of, depth_all}
 use Rattle.tree_format.specs.Standing.{AllStandIn}

@@ -1,4 +1,4 @@
--- Each input's are put behind the others.
+-- Each input's Tags are appended.
 use Rattle.std.proofs.Common.{◌≡◌, [], ◌∷◌, ◌++◌, ◌+◌, List, sym, ap, ◌∙◌, arith, append_assoc, drop}
 use Rattle.mkv_schema.specs.declared.ids.TheConstants.{TAGS}
 use Rattle.tree_format.specs.Node.{Node}

@@ -1,4 +1,4 @@
--- The Tags so far, with those of what is left, are those of all.
+-- The Tags found and the rest make the whole.
 use Rattle.std.proofs.Common.{◌≡◌, ◌++◌, drop, List}
 use Rattle.mkv_schema.specs.declared.ids.TheConstants.{TAGS}
 use Rattle.tree_format.specs.Node.{Node, master, nodes_of}

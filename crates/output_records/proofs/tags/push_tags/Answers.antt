@@ -1,4 +1,4 @@
--- Without Tags nothing is added.
+-- Without Tags nothing is appended.
 use Rattle.std.proofs.Common.{◌++◌, sym, ap, ◌∙◌}
 use Rattle.std.specs.Option.{option_map}
 use Rattle.tree_format.specs.Node.{children, with_children}

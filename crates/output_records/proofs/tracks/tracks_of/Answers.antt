@@ -1,4 +1,4 @@
--- Each entry stands in the Tracks, behind the others.
+-- Each entry is valid in the Tracks, and is appended.
 use Rattle.std.proofs.Common.{◌≡◌, [], ◌∷◌, ◌++◌, refl, sym, ap, subst, ◌∙◌, arith, append-nil, append_assoc}
 use Rattle.std.specs.Prelude.{All}
 use Rattle.std.proofs.lemmas.List.{nil_from_length}

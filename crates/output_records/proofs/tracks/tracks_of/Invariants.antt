@@ -1,4 +1,4 @@
--- The entries so far stand in the Tracks, and those that are left are whole.
+-- The previous entries are in the Tracks, and the others are whole.
 use Rattle.std.proofs.Common.{◌≡◌, ◌++◌}
 use Rattle.std.specs.Prelude.{All}
 use Rattle.mkv_schema.specs.declared.ids.TheConstants.{TRACKS}

@@ -1,4 +1,4 @@
--- Each of the four maps is so.
+-- Each of the four maps is right.
 use Rattle.std.proofs.Common.{ap₂, ap, ◌∙◌}
 use Rattle.output_records.specs.Tags.{number_of, all_uids}
 use Rattle.output_records.proofs.UidLemmas.{map-for}

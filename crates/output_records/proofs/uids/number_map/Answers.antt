@@ -1,4 +1,4 @@
--- The pairs go in from the last to the first.
+-- The pairs are inserted from the last to the first.
 use Rattle.std.proofs.Common.{◌≡◌, ℕ, nat_eq, None, reverse, IfOk, rules}
 use Rattle.std.specs.Map.{update_all}
 use Rattle.indexmap.specs.IndexMap.{get}

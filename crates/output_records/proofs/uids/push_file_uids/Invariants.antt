@@ -1,4 +1,4 @@
--- Those of the files so far were added.
+-- The FileUIDs of the previous files were appended.
 use Rattle.std.proofs.Common.{◌≡◌, ◌++◌, take}
 use Rattle.output_records.specs.Attachments.{file_uids}
 use Rattle.output_records.proofs.uids.push_file_uids.Given as goal
