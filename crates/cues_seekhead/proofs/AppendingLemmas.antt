@@ -1,4 +1,4 @@
--- Octets that are appended, one call after the other.
+-- Bytes that are appended by calls in sequence.
 use Rattle.std.proofs.Common.{◌≡◌, ◌≢◌, ◌≤◌, ◌<◌, ℕ, ◌+◌, List, [], ◌∷◌, ◌++◌, length, map, take, drop, replicate, sum_by, get_or, Result, Ok, Err, IsErrOf, Option, Some, None, true, false, is_some, refl, sym, ap, subst, append_assoc, append-nil, ◌∙◌, arith}
 use Rattle.std.proofs.lemmas.List.{take-append-drop, drop-drop, drop-take, take-take, replicate-append-replicate, length-replicate, length-take-le, length-drop, length-append, take_more, map-append}
 use Rattle.std.proofs.lemmas.List.Concat.{flat_map-append}
@@ -30,9 +30,9 @@ use Rattle.output_model.specs.Attached.{octets_told, attached_file, with_data}
 use Rattle.cues_seekhead.specs.Appending.{IsAppended, AppendsOnly}
 use Rattle.cues_seekhead.specs.OpenOutput.{CanAttach}
 
--- ---- the content of a name
+-- ---- content of a name
 
--- a first part is one of what is longer
+-- A prefix is also a prefix of more bytes.
 pub PassesSome-more : (old new : Names) (name first more : List ℕ) → PassesSome old new name first → PassesSome old new name (first ++ more)
 PassesSome-more old new name first more some = record {
   left = some.left ++ more;
@@ -43,18 +43,18 @@ PassesSome-more old new name first more some = record {
   };
 }
 
--- nothing was appended
+-- Nothing was appended.
 pub PassesSome-none : (old new : Names) (name octets : List ℕ) → new ≡ old → PassesSome old new name octets
 PassesSome-none old new name octets same = record { left = octets; passed = record { written = []; whole = refl; added = same ∙ sym (with_change-none old name) } }
 
--- a refused append
+-- A failed append wrote a prefix.
 pub PassesSome-refused : {T : Type 0} (fault : MakeFault) (old new : LiveFiles) (names now : Names) (file : ℕ) (holder octets : List ℕ) → (IsErrOf {T = T} (Err fault) make_fault.Failed → AppendsPart old new names now file holder octets) → (IsErrOf {T = T} (Err fault) make_fault.Memory → now ≡ names) → PassesSome names now holder octets
 PassesSome-refused make_fault.Failed old new names now file holder octets failed memory =
     let part = failed refl in
     record { left = drop part.kept octets; passed = record { written = take part.kept octets; whole = sym (take-append-drop part.kept octets); added = part.added.names } }
 PassesSome-refused make_fault.Memory old new names now file holder octets failed memory = PassesSome-none names now holder octets (memory refl)
 
--- octets behind others
+-- Two appends make one.
 IsAppended-then : {T E : Type 0} (result : Result T E) (a b c : Names) (name between first next : List ℕ) → between ≡ name → b ≡ with_change a name (with_appended first) → IsAppended b c between next result → IsAppended a c name (first ++ next) result
 IsAppended-then (Ok done) a b c name between first next same before behind =
     behind ∙ ap (λ n. with_change b n (with_appended next)) same ∙ ap (λ names. with_change names name (with_appended next)) before ∙ with_change-more a name first next
@@ -80,9 +80,9 @@ pub cause-make : {S T : Type 0} (U : Type 0) (r : Ghosts S) (f : writing.Ghosts 
 cause-make U r f old new make_fault.Failed reading written = record { reading = reading; writing = written }
 cause-make U r f old new make_fault.Memory reading written = record { reading = reading; writing = written }
 
--- ---- calls, one after the other
+-- ---- calls in sequence
 
--- no call was refused so far
+-- no call failed
 abbrev pub no_refusal : Result ℕ RemuxEnd
 no_refusal = Ok 0
 
@@ -98,7 +98,7 @@ AppendsOnly-then r f file a b c first next m n done result live before behind =
       reads = omega (arith, before.reads, behind.reads);
     }
 
--- nothing is appended
+-- Nothing is appended.
 pub AppendsOnly-none : {S T : Type 0} (r : Ghosts S) (f : writing.Ghosts S) (file : FileId) (a : S) (done : T) → AppendsOnly r f file [] 0 a a (Ok done)
 AppendsOnly-none r f file a done = record {
   appended = sym (with_change-none (f.names a) (f.holder a file.n));
@@ -108,7 +108,7 @@ AppendsOnly-none r f file a done = record {
   reads = omega arith;
 }
 
--- there is no memory before anything is written
+-- Memory runs out before anything is written.
 pub AppendsOnly-memory : {S T : Type 0} (r : Ghosts S) (f : writing.Ghosts S) (file : FileId) (octets : List ℕ) (most : ℕ) (a : S) → AppendsOnly {T = T} r f file octets most a a (Err remux_end.Memory)
 AppendsOnly-memory r f file octets most a = record {
   appended = PassesSome-none (f.names a) (f.names a) (f.holder a file.n) octets refl;
@@ -118,7 +118,7 @@ AppendsOnly-memory r f file octets most a = record {
   reads = omega arith;
 }
 
--- a refused call is one that was to append more
+-- A call that fails could have appended more.
 pub AppendsOnly-more : {S T U : Type 0} (r : Ghosts S) (f : writing.Ghosts S) (file : FileId) (first more whole : List ℕ) (m n : ℕ) (a b : S) (end : RemuxEnd) → first ++ more ≡ whole → m ≤ n → AppendsOnly {T = T} r f file first m a b (Err end) → AppendsOnly {T = U} r f file whole n a b (Err end)
 AppendsOnly-more r f file first more whole m n a b end same within refused = record {
   appended = let P : List ℕ → Type 0 = λ octets. PassesSome (f.names a) (f.names b) (f.holder a file.n) octets in subst P same (PassesSome-more (f.names a) (f.names b) (f.holder a file.n) first more refused.appended);
@@ -128,16 +128,16 @@ AppendsOnly-more r f file first more whole m n a b end same within refused = rec
   reads = omega (arith, refused.reads, within);
 }
 
--- other octets that are the same
+-- Equal bytes may be exchanged.
 pub AppendsOnly-same : {S T : Type 0} (r : Ghosts S) (f : writing.Ghosts S) (file : FileId) (octets others : List ℕ) (m n : ℕ) (a b : S) (result : Result T RemuxEnd) → octets ≡ others → m ≡ n → AppendsOnly r f file octets m a b result → AppendsOnly r f file others n a b result
 AppendsOnly-same r f file octets others m n a b result same most appends =
     let P : List ℕ → Type 0 = λ w. AppendsOnly r f file w m a b result in
     let Q : ℕ → Type 0 = λ k. AppendsOnly r f file others k a b result in
     subst Q most (subst P same appends)
 
--- ---- what is read from another file
+-- ---- bytes of another file
 
--- octets of a content behind others
+-- Two ranges in sequence make one range.
 pub octets_told-more : (content : Option (List ℕ)) (at m n : ℕ) → octets_told content at m ++ octets_told content (at + m) n ≡ octets_told content at (m + n)
 octets_told-more None at m n = replicate-append-replicate m n (let z : ℕ = 0 in z)
 octets_told-more (Some bytes) at m n =
@@ -147,14 +147,14 @@ octets_told-more (Some bytes) at m n =
     ∙ ap (λ w. w ++ drop m (take (m + n) tail)) (sym (take-take m (m + n) tail (omega arith)))
     ∙ take-append-drop m (take (m + n) tail)
 
--- they are as many as were asked for
+-- The range has the requested length.
 pub length-octets_told : (content : Option (List ℕ)) (at n size : ℕ) → IfVisible content (λ bytes. length bytes ≡ size) → at + n ≤ size → length (octets_told content at n) ≡ n
 length-octets_told None at n size told inside = length-replicate n (let z : ℕ = 0 in z)
 length-octets_told (Some bytes) at n size told inside =
     let whole = told bytes refl in
     length-take-le n (drop at bytes) (omega (arith, whole, length-drop at bytes))
 
--- where names are told, so is the content of a live file
+-- If names are visible to the proof, so is the content of a live file.
 pub names-untold : (names : Names) (content : Option (List ℕ)) (holder : List ℕ) → IfVisible names (λ world. content ≡ world holder) → IfVisible names (λ world. is_some (world holder) ≡ true) → content ≡ None → names ≡ None
 names-untold None content holder named there none = refl
 names-untold (Some world) content holder named there none =
@@ -162,7 +162,7 @@ names-untold (Some world) content holder named there none =
     let never : false ≡ true = sym (ap is_some none) ∙ some in
     absurd (cc)
 
--- octets that were read are those of the content
+-- The bytes that were read are the content's.
 IsAppended-told : {T E : Type 0} (result : Result T E) (content : Option (List ℕ)) (old new : Names) (name octets : List ℕ) (at n : ℕ) → IfVisible content (λ bytes. octets ≡ octets_from bytes at n) → (content ≡ None → old ≡ None)
     → IsAppended old new name octets result → IsAppended old new name (octets_told content at n) result
 IsAppended-told (Ok done) (Some bytes) old new name octets at n told untold added = added ∙ ap (λ w. with_change old name (with_appended w)) (told bytes refl)
@@ -172,7 +172,7 @@ IsAppended-told (Err fault) (Some bytes) old new name octets at n told untold so
 IsAppended-told (Err fault) None old new name octets at n told untold some = PassesSome-none old new name (replicate n 0)
     (some.passed.added ∙ ap (λ (names : Names). with_change names name (with_appended some.passed.written)) (untold refl) ∙ sym (untold refl))
 
--- Octets are read from another file, and then appended.
+-- Bytes are read from another file, and then appended.
 pub AppendsOnly-read : {S T : Type 0} (r : Ghosts S) (f : writing.Ghosts S) (file : FileId) (content : Option (List ℕ)) (octets : List ℕ) (at n : ℕ) (a b c : S) (result : Result T RemuxEnd)
     → OnlyReads r a b → r.reading_faults b ≡ r.reading_faults a → r.octets_read b ≤ r.octets_read a + n → f.names b ≡ f.names a → ((k : ℕ) → f.holder b k ≡ f.holder a k) → f.given b ≡ f.given a → f.writing_faults b ≡ f.writing_faults a → f.asked b ≡ f.asked a
     → IfVisible content (λ bytes. octets ≡ octets_from bytes at n) → (content ≡ None → f.names a ≡ None) → length octets ≡ length (octets_told content at n)
@@ -191,7 +191,7 @@ AppendsOnly-read r f file content octets at n a b c result reads faults most nam
       reads = omega (arith, appends.reads, most);
     }
 
--- the read failed
+-- The read failed.
 pub AppendsOnly-unread : {S T : Type 0} (r : Ghosts S) (f : writing.Ghosts S) (file : FileId) (octets : List ℕ) (n : ℕ) (a b : S)
     → OnlyReads r a b → HasIncreased (r.reading_faults a) (r.reading_faults b) → r.octets_read b ≤ r.octets_read a + n → f.names b ≡ f.names a → ((k : ℕ) → f.holder b k ≡ f.holder a k) → f.given b ≡ f.given a → f.writing_faults b ≡ f.writing_faults a → f.asked b ≡ f.asked a
     → AppendsOnly {T = T} r f file octets n a b (Err remux_end.ReadFault)
@@ -205,7 +205,7 @@ AppendsOnly-unread r f file octets n a b reads rose most names holders given wri
 
 -- ---- attached files
 
--- the files of other names are as they were
+-- Files of other names are unchanged.
 pub KeepsOthers-content : {S : Type 0} (r : Ghosts S) (f : writing.Ghosts S) (name : List ℕ) (a b : S) (file : ℕ) → KeepsOthers r f (name ∷ []) a b → (live_files r a).live file ≡ true → f.holder a file ≢ name → (live_files r b).content file ≡ (live_files r a).content file
 KeepsOthers-content r f name a b file kept live apart = (kept.others file (λ same. apart (sym same), tt)).content live
 
@@ -221,7 +221,7 @@ CanAttach-kept r f name a b it kept can = record {
 pub attached_file-kept : {S : Type 0} (r : Ghosts S) (f : writing.Ghosts S) (name : List ℕ) (a b : S) (it : Attachment) → KeepsOthers r f (name ∷ []) a b → CanAttach r f a name it → attached_file (live_files r b) it ≡ attached_file (live_files r a) it
 attached_file-kept r f name a b it kept can = ap (λ content. with_data (octets_told content it.at it.len) it.entry) (KeepsOthers-content r f name a b it.file.n kept can.live can.apart)
 
--- one attached file more
+-- One more attached file.
 pub attached-push : (files : LiveFiles) (attachments : List Attachment) (i : ℕ) (it : Attachment) → i < length attachments → it ≡ get_or attachments i it
     → joined (map tree_element (map (attached_file files) (take i attachments))) ++ octets_of (tree_element (attached_file files it)) ≡ joined (map tree_element (map (attached_file files) (take (i + 1) attachments)))
 attached-push files attachments i it inside is =

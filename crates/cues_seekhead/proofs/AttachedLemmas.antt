@@ -1,4 +1,4 @@
--- An AttachedFile with its data, and what is written in front of them and behind.
+-- An AttachedFile with its data, and the bytes before and after them.
 use Rattle.std.proofs.Common.{◌≡◌, ◌<◌, ◌≤◌, ℕ, suc, ◌+◌, List, [], ◌∷◌, ◌++◌, length, map, flat_map, sum_by, take, drop, get_or, Bool, true, false, not, cond, ◌==◌, nat_lt, position, Some, None, All, refl, sym, ap, append_assoc, ◌∙◌, arith, add-one, length-append}
 use Rattle.std.proofs.lemmas.Bool.Decides.{nat_tests}
 use Rattle.std.proofs.lemmas.List.{take_all, drop_all}
@@ -18,7 +18,7 @@ use Rattle.output_model.specs.declared.attachment.Attachment.{Attachment}
 use Rattle.output_model.specs.Attached.{with_data, attached_file, data_of}
 use Rattle.cues_seekhead.specs.Attached.{data_place, attached_body, attached_total, before_data, behind_data, HaveData}
 
--- ---- where the first FileData stands
+-- ---- index of the first FileData
 
 abbrev is_data : Node → Bool
 is_data n = id_of n == FILE_DATA
@@ -37,7 +37,7 @@ place-none ns is = split (nat_lt (data_place ns) (length ns)) refl is
     split true test same = absurd (cc)
     split false test same = grind (arith, nat_tests)
 
--- the first FileData is none of another ID
+-- Without FileData, the first FileData doesn't matter.
 without-first : (ns : List Node) (d : Node) → data_place ns < length ns → without FILE_DATA (drop (data_place ns) ns) ≡ without FILE_DATA (drop (data_place ns + 1) ns)
 without-first ns d inside =
     let next : drop (data_place ns + 1) ns ≡ drop (suc (data_place ns)) ns = rw add-one refl in
@@ -46,9 +46,9 @@ without-first ns d inside =
     ∙ ap (λ b. cond (not b) (get_or ns (data_place ns) d ∷ without FILE_DATA (drop (suc (data_place ns)) ns)) (without FILE_DATA (drop (suc (data_place ns)) ns))) first
     ∙ ap (without FILE_DATA) (sym next)
 
--- ---- its octets
+-- ---- bytes of an AttachedFile
 
--- the children with the data among them
+-- The children have the data among them.
 data-among : (bytes : List ℕ) (ns : List Node) → flat_map octets (with_child (leaf FILE_DATA 0 bytes) ns)
     ≡ flat_map octets (take (data_place ns) ns) ++ ((header_octets FILE_DATA (length bytes) ++ bytes) ++ flat_map octets (without FILE_DATA (drop (data_place ns) ns)))
 data-among bytes ns = split (nat_lt (data_place ns) (length ns)) refl
@@ -68,7 +68,7 @@ data-among bytes ns = split (nat_lt (data_place ns) (length ns)) refl
         ∙ ap (λ l. flat_map octets l ++ ((header_octets FILE_DATA (length bytes) ++ bytes) ++ [])) (sym (take_all (data_place ns) ns past))
         ∙ ap (λ l. flat_map octets (take (data_place ns) ns) ++ ((header_octets FILE_DATA (length bytes) ++ bytes) ++ flat_map octets (without FILE_DATA l))) (sym (drop_all (data_place ns) ns past))
 
--- the header and what stands behind it
+-- An AttachedFile is its header and its body.
 attached-whole : (bytes : List ℕ) (e : Node) → IsMaster e → id_of e ≡ ATTACHED_FILE → octets_of (tree_element (with_data bytes e))
     ≡ header_octets ATTACHED_FILE (length (flat_map octets (with_child (leaf FILE_DATA 0 bytes) (children e)))) ++ flat_map octets (with_child (leaf FILE_DATA 0 bytes) (children e))
 attached-whole bytes (leaf id at body) is own = absurd (cc)
@@ -82,7 +82,7 @@ body-long a bytes is =
     ∙ ap (λ k. length (flat_map octets (without FILE_DATA (children a.entry))) + k)
     (length-append (header_octets FILE_DATA (length bytes)) bytes ∙ ap (λ k. length (header_octets FILE_DATA k) + k) is)
 
--- What is written in front of the data, these, and what is written behind them, is the AttachedFile.
+-- The bytes before the data, the data, and the bytes after them make the AttachedFile.
 pub attached-parts : (a : Attachment) (bytes : List ℕ) → IsMaster a.entry → id_of a.entry ≡ ATTACHED_FILE → length bytes ≡ a.len
     → octets_of (tree_element (with_data bytes a.entry)) ≡ before_data a ++ (bytes ++ behind_data a)
 attached-parts a bytes is own long =
@@ -98,23 +98,23 @@ attached-parts a bytes is own long =
     ∙ ap (λ w. head ++ w) (sym (append_assoc front middle (bytes ++ behind_data a)))
     ∙ sym (append_assoc head (front ++ middle) (bytes ++ behind_data a))
 
--- how many octets it takes
+-- Its length is the computed one.
 pub attached-long : (a : Attachment) (bytes : List ℕ) → IsMaster a.entry → id_of a.entry ≡ ATTACHED_FILE → length bytes ≡ a.len → length (octets_of (tree_element (with_data bytes a.entry))) ≡ attached_total a
 attached-long a bytes is own long =
     let all = flat_map octets (with_child (leaf FILE_DATA 0 bytes) (children a.entry)) in
     ap length (attached-whole bytes a.entry is own) ∙ length-append (header_octets ATTACHED_FILE (length all)) all
     ∙ ap (λ k. length (header_octets ATTACHED_FILE k) + k) (body-long a bytes long)
 
--- ---- all of them
+-- ---- all AttachedFiles
 
--- the sum of what is left begins with the next one
+-- The sum of the rest begins with the next one.
 pub total-next : (i : ℕ) (attachments : List Attachment) (a : Attachment) → i < length attachments → a ≡ get_or attachments i a
     → sum_by attached_total (drop i attachments) ≡ attached_total a + sum_by attached_total (drop (i + 1) attachments)
 total-next i attachments a inside is =
     let next : drop i attachments ≡ a ∷ drop (i + 1) attachments = drop-cons attachments i a inside ∙ rw (add-one, ← is) refl in
     ap (sum_by attached_total) next ∙ sum_by-cons attached_total a (drop (i + 1) attachments)
 
--- they take as many octets as their sum says
+-- Their length is the sum.
 pub attachments-long : (files : LiveFiles) (attachments : List Attachment) → All (λ (a : Attachment). IsMaster a.entry) attachments → All (λ (a : Attachment). id_of a.entry ≡ ATTACHED_FILE) attachments → HaveData files attachments
     → length (joined (map tree_element (map (attached_file files) attachments))) ≡ sum_by attached_total attachments
 attachments-long files [] masters own have = refl

@@ -1,4 +1,4 @@
--- Attached files that are written, one behind the other.
+-- Attached files that are written in sequence.
 use Rattle.std.proofs.Common.{◌≡◌, ◌≤◌, ℕ, suc, ◌+◌, List, [], ◌∷◌, ◌++◌, length, map, take, drop, All, sum_by, Result, Ok, Err, Option, true, refl, sym, ap, append_assoc, ◌∙◌, arith}
 use Rattle.std.proofs.lemmas.List.{take-append-drop, map-append}
 use Rattle.std.proofs.lemmas.List.Concat.{flat_map-append}
@@ -21,21 +21,21 @@ use Rattle.cues_seekhead.specs.Appending.{AppendsOnly}
 use Rattle.cues_seekhead.specs.OpenOutput.{CanAttach}
 use Rattle.cues_seekhead.proofs.AppendingLemmas.{AppendsOnly-then, AppendsOnly-more, AppendsOnly-same, KeepsOthers-content, attached_file-kept, length-octets_told}
 
--- ---- one of them
+-- ---- one AttachedFile
 
--- what is written of it, in three parts
+-- An AttachedFile has three parts.
 attached-is : {S : Type 0} (r : Ghosts S) (f : writing.Ghosts S) (name : List ℕ) (a : S) (it : Attachment) → CanAttach r f a name it → IfVisible ((live_files r a).content it.file.n) (λ bytes. length bytes ≡ file_size r a it.file)
     → octets_of (tree_element (attached_file (live_files r a) it)) ≡ before_data it ++ (data_of (live_files r a) it ++ behind_data it)
 attached-is r f name a it can told =
     attached-parts it (data_of (live_files r a) it) can.master can.id (length-octets_told ((live_files r a).content it.file.n) it.at it.len (file_size r a it.file) told can.inside)
 
--- the data that are read later are those that were there
+-- The data are the same when they are read.
 data-kept : {S U : Type 0} (r : Ghosts S) (f : writing.Ghosts S) (file : FileId) (a b : S) (it : Attachment) (octets : List ℕ) (m : ℕ) (done : U) → CanAttach r f a (f.holder a file.n) it → AppendsOnly r f file octets m a b (Ok done)
     → octets_told ((live_files r b).content it.file.n) it.at it.len ≡ data_of (live_files r a) it
 data-kept r f file a b it octets m done can before =
     ap (λ (content : Option (List ℕ)). octets_told content it.at it.len) (KeepsOthers-content r f (f.holder a file.n) a b it.file.n before.kept can.live can.apart)
 
--- its three parts are appended
+-- Its three parts are appended.
 pub attached-all : {S T U : Type 0} (r : Ghosts S) (f : writing.Ghosts S) (file : FileId) (it : Attachment) (a b c d : S) (done : U) (result : Result T RemuxEnd) (front back : List ℕ) → (live_files r a).live file.n ≡ true → CanAttach r f a (f.holder a file.n) it
     → IfVisible ((live_files r a).content it.file.n) (λ bytes. length bytes ≡ file_size r a it.file) → front ≡ before_data it → back ≡ behind_data it
     → AppendsOnly r f file front 0 a b (Ok done) → AppendsOnly r f file (octets_told ((live_files r b).content it.file.n) it.at it.len) it.len b c (Ok done) → AppendsOnly r f file back 0 c d result
@@ -49,14 +49,14 @@ attached-all r f file it a b c d done result front back live can told is_front i
     (AppendsOnly-then r f file a b d front (middle ++ back) 0 (it.len + 0) done result live first
     (AppendsOnly-then r f file b c d middle back it.len 0 done result (first.kept.live file.n ∙ live) second third))
 
--- the first part is refused
+-- The first part fails.
 pub attached-unbegun : {S T U : Type 0} (r : Ghosts S) (f : writing.Ghosts S) (file : FileId) (it : Attachment) (a b : S) (end : RemuxEnd) (front : List ℕ) → CanAttach r f a (f.holder a file.n) it
     → IfVisible ((live_files r a).content it.file.n) (λ bytes. length bytes ≡ file_size r a it.file) → front ≡ before_data it → AppendsOnly {T = T} r f file front 0 a b (Err end) → AppendsOnly {T = U} r f file (octets_of (tree_element (attached_file (live_files r a) it))) it.len a b (Err end)
 attached-unbegun r f file it a b end front can told is_front first =
     AppendsOnly-more r f file front (data_of (live_files r a) it ++ behind_data it) (octets_of (tree_element (attached_file (live_files r a) it))) 0 it.len a b end
     (ap (λ w. w ++ (data_of (live_files r a) it ++ behind_data it)) is_front ∙ sym (attached-is r f (f.holder a file.n) a it can told)) (omega arith) first
 
--- the data are refused
+-- The data fail.
 pub attached-uncopied : {S T U V : Type 0} (r : Ghosts S) (f : writing.Ghosts S) (file : FileId) (it : Attachment) (a b c : S) (done : V) (end : RemuxEnd) (front : List ℕ) → (live_files r a).live file.n ≡ true → CanAttach r f a (f.holder a file.n) it
     → IfVisible ((live_files r a).content it.file.n) (λ bytes. length bytes ≡ file_size r a it.file) → front ≡ before_data it → AppendsOnly r f file front 0 a b (Ok done)
     → AppendsOnly {T = T} r f file (octets_told ((live_files r b).content it.file.n) it.at it.len) it.len b c (Err end) → AppendsOnly {T = U} r f file (octets_of (tree_element (attached_file (live_files r a) it))) it.len a c (Err end)
@@ -68,7 +68,7 @@ attached-uncopied {S} {T} {U} r f file it a b c done end front live can told is_
     AppendsOnly-more {T = T} {U = U} r f file (front ++ middle) (behind_data it) (octets_of (tree_element (attached_file (live_files r a) it))) (0 + it.len) it.len a c end same (omega arith)
     (AppendsOnly-then r f file a b c front middle 0 it.len done (Err end) live first second)
 
--- ---- all of them
+-- ---- all AttachedFiles
 
 abbrev pub attached_octets : LiveFiles → List Attachment → List ℕ
 attached_octets files attachments = joined (map tree_element (map (attached_file files) attachments))
@@ -76,7 +76,7 @@ attached_octets files attachments = joined (map tree_element (map (attached_file
 abbrev pub data_total : List Attachment → ℕ
 data_total attachments = sum_by (λ (a : Attachment). a.len) attachments
 
--- some first and those behind them
+-- The first ones and the rest make all.
 pub attached-rest : (files : LiveFiles) (attachments : List Attachment) (k : ℕ) → attached_octets files (take k attachments) ++ attached_octets files (drop k attachments) ≡ attached_octets files attachments
 attached-rest files attachments k =
     let front = take k attachments in
@@ -92,7 +92,7 @@ data-rest attachments k =
     sym (sum_by-append (λ (a : Attachment). a.len) (take k attachments) (drop k attachments)) ∙ ap data_total (take-append-drop k attachments) in
     omega (arith, all)
 
--- they are the same where only another name is written
+-- They are unchanged if only another name is written.
 pub attached-octets-kept : {S : Type 0} (r : Ghosts S) (f : writing.Ghosts S) (name : List ℕ) (a b : S) (attachments : List Attachment) → KeepsOthers r f (name ∷ []) a b → All (CanAttach r f a name) attachments → attached_octets (live_files r b) attachments ≡ attached_octets (live_files r a) attachments
 attached-octets-kept r f name a b [] kept can = refl
 attached-octets-kept r f name a b (it ∷ them) kept can =

@@ -1,4 +1,4 @@
--- An output that is begun, and one that ends.
+-- The start and end of an output.
 use Rattle.std.proofs.Common.{◌≡◌, ◌≤◌, ◌<◌, ℕ, zero, suc, List, [], ◌∷◌, ◌++◌, length, map, All, get_or, true, false, Result, ◌⊎◌, inl, inr, refl, sym, ap, ◌∙◌, arith}
 use Rattle.mkv_io.specs.declared.outside.FileId.{FileId}
 use Rattle.mkv_io.specs.Contents.{with_appended}
@@ -33,7 +33,7 @@ use Rattle.cues_seekhead.proofs.AppendingLemmas.{length-octets_told}
 use Rattle.cues_seekhead.proofs.AttachingLemmas.{attached_octets}
 use Rattle.cues_seekhead.proofs.DraftLemmas.{appended-to}
 
--- ---- a file is made, or isn't
+-- ---- a file is created, or not
 
 pub KeepsOthers-unmade : {S T E : Type 0} (r : Ghosts S) (f : writing.Ghosts S) (name : List ℕ) (old new : S) (result : Result T E) → ((file : ℕ) → (live_files r old).live file ≡ true → file < f.given old)
     → SameLive r old new → StaysAtMaking r f.holder f.given old new name → AsksFor (Made name) (f.asked old) (f.asked new) result → KeepsOthers r f (name ∷ []) old new
@@ -62,7 +62,7 @@ MakesFile-created r f name file old new result numbered is_new stays asks = reco
   asks = asks-made [] name (f.asked old) (f.asked new) result asks;
 }
 
--- a file ends
+-- A file is closed.
 pub EndsOnly-one : {S : Type 0} (r : Ghosts S) (f : writing.Ghosts S) (old new : S) (file : FileId) → (live_files r new).live file.n ≡ false → StaysAtClosing r f.names f.holder f.given f.writing_faults f.asked old new file → ReadsNothing r old new
     → EndsOnly r f old new (file ∷ [])
 EndsOnly-one r f old new file ended stays unread = record {
@@ -81,7 +81,7 @@ EndsOnly-one r f old new file ended stays unread = record {
     at zero d below = ended
     at (suc k) d below = absurd (omega arith)
 
--- ---- what can be attached
+-- ---- files that can be attached
 
 pub CanAttach-created : {S : Type 0} (r : Ghosts S) (f : writing.Ghosts S) (name : List ℕ) (file : FileId) (old new : S) (it : Attachment) → ((other : ℕ) → (live_files r old).live other ≡ true → other < f.given old) → MakesFile r f name file old new → CanAttach r f old name it → CanAttach r f new (f.holder new file.n) it
 CanAttach-created r f name file old new it numbered made can =
@@ -105,20 +105,20 @@ attached-all-created r f name file old new (it ∷ them) made can =
     ap (λ n. n ∷ map (attached_file (live_files r new)) them) (attached-created r f name file old new it made (can 0 it (omega arith)))
     ∙ ap (λ ns. attached_file (live_files r old) it ∷ ns) (attached-all-created r f name file old new them made (λ k d below. can (suc k) d (omega arith)))
 
--- the data of each are as many octets as it says
+-- The data of each attachment have its length.
 pub can-data : {S : Type 0} (r : Ghosts S) (f : writing.Ghosts S) (name : List ℕ) (a : S) (attachments : List Attachment) → ((file : ℕ) → IfVisible ((live_files r a).content file) (λ bytes. length bytes ≡ (live_files r a).size file)) → All (CanAttach r f a name) attachments → HaveData (live_files r a) attachments
 can-data r f name a attachments told can = λ k d below.
     let it = get_or attachments k d in
     length-octets_told ((live_files r a).content it.file.n) it.at it.len (file_size r a it.file) (told it.file.n) (can k d below).inside
 
--- ---- what is begun
+-- ---- a begun output
 
--- its octets
+-- Its bytes are the elements before the Clusters.
 pub begun-octets : (files : LiveFiles) (front : Front) (o : Opening) → IsOpening front o → All (λ (a : Attachment). IsMaster a.entry) front.attachments → All (λ (a : Attachment). id_of a.entry ≡ ATTACHED_FILE) front.attachments → HaveData files front.attachments
     → o.octets ++ attached_octets files front.attachments ≡ opened_with (front_with files front) []
 begun-octets files front o opening masters own have = ap (λ w. w ++ attached_octets files front.attachments) opening.octets ∙ opening-octets files front masters own have
 
--- what is known of it
+-- The open output agrees with its file.
 pub begun-known : (files : LiveFiles) (front : Front) (o : Opening) (out : OpenOutput) → IsOpening front o → All (λ (a : Attachment). IsMaster a.entry) front.attachments → All (λ (a : Attachment). id_of a.entry ≡ ATTACHED_FILE) front.attachments → HaveData files front.attachments
     → out.webm ≡ front.webm → out.len ≡ o.len → out.seeks ≡ o.seeks.items → Knows (front_with files front) [] out
 begun-known files front o out opening masters own have webm len seeks = record {
@@ -127,7 +127,7 @@ begun-known files front o out opening masters own have webm len seeks = record {
   seeks = seeks ∙ opening.seeks ∙ opening-seeks files front;
 }
 
--- a first part of it is an output that is begun
+-- A prefix of it is also a begun output.
 pub begun-part : (before made now : Names) (holder name octets : List ℕ) → made ≡ with_content before name [] → holder ≡ name → PassesSome made now holder octets → ArePrefixes before now (record { name = name; content = octets } ∷ [])
 begun-part before made now holder name octets is same some = record {
   stand = record { name = name; content = some.passed.written } ∷ [];
@@ -135,7 +135,7 @@ begun-part before made now holder name octets is same some = record {
   names = appended-to before made now name [] some.passed.written is (some.passed.added ∙ ap (λ h. with_change made h (with_appended some.passed.written)) same);
 }
 
--- so is one that has no octets yet, or whose name is as before
+-- An empty output, or an unchanged name, is also a begun output.
 pub begun-none : (before now : Names) (name octets : List ℕ) → (now ≡ before) ⊎ (now ≡ with_content before name []) → ArePrefixes before now (record { name = name; content = octets } ∷ [])
 begun-none before now name octets (inl same) = record { stand = []; begun = tt; names = same }
 begun-none before now name octets (inr made) = record {

@@ -1,4 +1,4 @@
--- What stands of an output whose last writes are refused.
+-- An output whose last writes fail.
 use Rattle.std.proofs.Common.{◌≡◌, ◌≤◌, ◌<◌, ℕ, ◌+◌, ◌-◌, Bool, true, false, nat_lt, List, ◌++◌, length, take, drop, get_or, ◌⊎◌, inl, inr, refl, sym, ap, append_assoc, ◌∙◌, arith}
 use Rattle.std.proofs.lemmas.Bool.Decides.{nat_tests}
 use Rattle.std.proofs.lemmas.List.{length-append, length-take-le, length-drop, get_or_append_left, get_or-append_right, get_or-take, get_or-drop}
@@ -11,24 +11,24 @@ use Rattle.cues_seekhead.specs.Draft.{StandsDrafted, patches_at}
 
 -- ---- names
 
--- octets are added to a name that has a content
+-- Bytes are appended to the content of a name.
 pub appended-to : (before names now : Names) (name content more : List ℕ) → names ≡ with_content before name content → now ≡ with_change names name (with_appended more) → now ≡ with_content before name (content ++ more)
 appended-to before names now name content more had changed = changed ∙ ap (λ n. with_change n name (with_appended more)) had ∙ with_content-appended before name content more
 
--- octets are written over others of its content
+-- Bytes of the content are overwritten.
 pub overwrote : (before names now : Names) (holder name content octets : List ℕ) (at : ℕ) → holder ≡ name → names ≡ with_content before name content → now ≡ with_change names holder (with_overwritten at octets) → now ≡ with_content before name (overwritten content at octets)
 overwrote before names now holder name content octets at same had changed =
     changed ∙ ap (λ h. with_change names h (with_overwritten at octets)) same ∙ ap (λ n. with_change n name (with_overwritten at octets)) had
     ∙ with_content-overwritten before name content at octets
 
--- ---- octets that are overwritten
+-- ---- overwritten bytes
 
 pub length-overwritten : (bytes now : List ℕ) (at : ℕ) → at + length now ≤ length bytes → length (overwritten bytes at now) ≡ length bytes
 length-overwritten bytes now at inside =
     let behind = drop (at + length now) bytes in
     omega (arith, length-append (take at bytes) (now ++ behind), length-append now behind, length-take-le at bytes (omega arith), length-drop (at + length now) bytes)
 
--- an octet is as before, or one of those that were written
+-- A byte is unchanged, or is one of the written ones.
 overwritten-at : (bytes now : List ℕ) (at k : ℕ) → at + length now ≤ length bytes → (get_or (overwritten bytes at now) k 0 ≡ get_or bytes k 0) ⊎ ((at ≤ k) × (k < at + length now))
 overwritten-at bytes now at k inside = split (nat_lt k at) refl (nat_lt k (at + length now)) refl
   where
@@ -50,7 +50,7 @@ overwritten-at bytes now at k inside = split (nat_lt k at) refl (nat_lt k (at + 
         ∙ get_or-drop (at + length now) bytes (k - at - length now) 0
         ∙ ap (λ j. get_or bytes j 0) place)
 
--- Octets that are written in the place of a patch leave an output patched.
+-- Bytes written in the place of a patch leave an output patched.
 pub IsPatched-over : (octets now : List ℕ) (d : Draft) (at : ℕ) → IsPatched octets d → at + length now ≤ length octets → ((k : ℕ) → at ≤ k → k < at + length now → IsPatchedAt k d.patches) → IsPatched (overwritten octets at now) d
 IsPatched-over octets now d at was inside among = record {
   count = length-overwritten octets now at inside ∙ was.count;
@@ -63,13 +63,13 @@ IsPatched-over octets now d at was inside among = record {
     step k (inl same) (inr patch) = inr patch
     step k (inr within) is = inr (among k within.0 within.1)
 
--- nothing is patched yet
+-- Nothing is patched at first.
 pub IsPatched-none : (d : Draft) → IsPatched d.appended d
 IsPatched-none d = record { count = refl; each = λ k. inl refl }
 
--- ---- what stands
+-- ---- content of the file
 
--- a first part of what is appended
+-- It is a prefix of the appended bytes.
 pub StandsDrafted-begun : (before names now : Names) (name content more : List ℕ) (patches : List Patch) → names ≡ with_content before name content → PassesSome names now name more
     → StandsDrafted before now (record { name = name; appended = content ++ more; patches = patches })
 StandsDrafted-begun before names now name content more patches had some = record {
@@ -78,7 +78,7 @@ StandsDrafted-begun before names now name content more patches had some = record
   names = appended-to before names now name content some.passed.written had some.passed.added;
 }
 
--- all of it, with the area or the size changed
+-- It is all bytes, with the area or the size changed.
 pub StandsDrafted-patched : (before now : Names) (d : Draft) (content : List ℕ) → now ≡ with_content before d.name content → IsPatched content d → StandsDrafted before now d
 StandsDrafted-patched before now d content is patched = record {
   output = record { name = d.name; content = content };
@@ -86,7 +86,7 @@ StandsDrafted-patched before now d content is patched = record {
   names = is;
 }
 
--- the places of the two patches
+-- The two patches have their places.
 pub in-area : (start k : ℕ) (area size : List ℕ) (n : ℕ) → n ≡ length area → start ≤ k → k < start + n → IsPatchedAt k (patches_at start area size)
 in-area start k area size n is low high = inl (low, omega arith)
 

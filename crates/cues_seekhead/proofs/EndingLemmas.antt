@@ -1,4 +1,4 @@
--- The Seeks of what stands behind the Clusters.
+-- The Seeks of the elements after the Clusters.
 use Rattle.std.proofs.Common.{◌≡◌, ◌≤◌, ℕ, suc, ◌+◌, List, [], ◌∷◌, ◌++◌, length, true, Option, Some, None, IfSome, refl, sym, ap, ◌∙◌, subst}
 use Rattle.std.proofs.lemmas.List.Elements.{All-from_recursion, All-append}
 use Rattle.std.specs.List.{AllByRecursion}
@@ -42,7 +42,7 @@ tags-valid : is_id TAGS ≡ true
 unfolding is_id
 tags-valid = refl
 
--- they are of valid IDs
+-- Their IDs are valid.
 pub ids-behind : (at : ℕ) (points : List CuePoint) (chapters tags : Option Node) (out out' : List ℕ) (seeks seeks' : List Seek) → IfSome chapters (λ n. id_of n ≡ CHAPTERS) → IfSome tags (λ n. id_of n ≡ TAGS)
     → Adds at (back_with points chapters tags) out out' seeks seeks' → AreIds seeks → AreIds seeks'
 ids-behind at points chapters tags out out' seeks seeks' is_chapters is_tags adds ids =

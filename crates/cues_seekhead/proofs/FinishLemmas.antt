@@ -1,4 +1,4 @@
--- An output that has all its Clusters becomes its layout.
+-- An output with all its Clusters becomes its layout.
 use Rattle.std.proofs.Common.{◌≡◌, ◌≤◌, ℕ, ◌+◌, List, ◌++◌, length, Result, Ok, Err, Option, refl, sym, ap, subst, ◌∙◌, arith}
 use Rattle.std.proofs.lemmas.List.{length-append}
 use Rattle.ebml_numbers.specs.Number.{size_octets}
@@ -25,16 +25,16 @@ use Rattle.cues_seekhead.proofs.AppendingLemmas.{PassesSome-none}
 use Rattle.cues_seekhead.proofs.DraftLemmas.{StandsDrafted-begun}
 use Rattle.cues_seekhead.proofs.LayoutLemmas.{opened-more, behind-area, draft-layout, length-layout, length-opened}
 
--- what stands in front of the last writes
+-- the content before the last writes
 abbrev pub so_far : Document → List ℕ
 so_far d = opened_with d.front (joined (clusters_elements d.clusters))
 
--- behind it stand these Elements
+-- The elements after the Clusters follow.
 back-is : {S : Type 0} (r : Ghosts S) (f : writing.Ghosts S) (before : Names) (d : Document) (files : S) (o : OpenOutput) (its_chapters its_tags : Option Node) → IsReady r f before d files o its_chapters its_tags → back_with o.cues its_chapters its_tags ≡ back_elements d
 back-is r f before d files o its_chapters its_tags ready =
     ap (λ (cs : List CuePoint). back_with cs its_chapters its_tags) (sym ready.cues) ∙ ap (λ n. back_with d.cues n its_tags) (sym ready.chapters) ∙ ap (λ n. back_with d.cues d.chapters n) (sym ready.tags)
 
--- the octets of the Segment's body
+-- The length of the Segment's body is the computed one.
 total-is : (d : Document) (len : ℕ) (back : List ℕ) → len ≡ clusters_at d.front + length (joined (clusters_elements d.clusters)) → back ≡ joined (back_elements d) → len + length back ≡ 256 + length (joined (elements_behind_area d))
 total-is d len back is same =
     omega (
@@ -46,7 +46,7 @@ total-is d len back is same =
       length-append (joined (clusters_elements d.clusters)) (joined (back_elements d)),
     )
 
--- the last writes make the draft of the document
+-- The last writes make the draft of the document.
 pub ending-draft : {S : Type 0} (r : Ghosts S) (f : writing.Ghosts S) (before : Names) (d : Document) (files : S) (o : OpenOutput) (its_chapters its_tags : Option Node) (name : List ℕ) (e : Ending)
     → IsReady r f before d files o its_chapters its_tags → IsEnding o.len o.seeks (back_with o.cues its_chapters its_tags) e
     → record { name = name; appended = so_far d ++ e.back; patches = patches_at (body_start o.webm) e.area (size_octets e.total 8) } ≡ draft_of name d
@@ -67,7 +67,7 @@ ending-draft r f before d files o its_chapters its_tags name e ready ending =
     ∙ ap (λ a. build (opened d) (body_start d.front.webm) a e.total) area
     ∙ ap (λ n. build (opened d) (body_start d.front.webm) (joined (area_elements (seeks_of d))) n) total
 
--- how long the area of the document is
+-- The area of the document has its fixed length.
 ending-filled : {S : Type 0} (r : Ghosts S) (f : writing.Ghosts S) (before : Names) (d : Document) (files : S) (o : OpenOutput) (its_chapters its_tags : Option Node) (e : Ending)
     → IsReady r f before d files o its_chapters its_tags → IsEnding o.len o.seeks (back_with o.cues its_chapters its_tags) e → length (joined (area_elements (seeks_of d))) ≡ 256
 ending-filled r f before d files o its_chapters its_tags e ready ending =
@@ -79,11 +79,11 @@ ending-filled r f before d files o its_chapters its_tags e ready ending =
     ∙ ap (λ (es : List Element). seeks_from 256 (front_elements d.front) ++ seeks_from (back_at d) es) same in
     sym (ap (λ (ss : List Seek). length (joined (area_elements ss))) seeks) ∙ sym (ap length ending.area) ∙ ending.filled
 
--- there is room for what is overwritten
+-- There is room for the overwritten bytes.
 pub so_far-long : (d : Document) → body_start d.front.webm + 256 ≤ length (so_far d)
 so_far-long d = omega (arith, length-opened d.front (joined (clusters_elements d.clusters)))
 
--- the layout stands
+-- The file has the layout.
 pub finished : {S : Type 0} (r : Ghosts S) (f : writing.Ghosts S) (before now : Names) (d : Document) (files : S) (o : OpenOutput) (its_chapters its_tags : Option Node) (name : List ℕ) (e : Ending)
     → IsReady r f before d files o its_chapters its_tags → IsEnding o.len o.seeks (back_with o.cues its_chapters its_tags) e
     → now ≡ with_content before name (patched (so_far d ++ e.back) (patches_at (body_start o.webm) e.area (size_octets e.total 8))) → HoldsLayout before now name d (body_start o.webm + e.total)
@@ -98,7 +98,7 @@ finished r f before now d files o its_chapters its_tags name e ready ending writ
       becomes = ap (λ w. record { name = name; content = w }) layout-is;
     }
 
--- nothing was written
+-- Nothing was written.
 pub unfinished : {S : Type 0} (r : Ghosts S) (f : writing.Ghosts S) (before : Names) (d : Document) (files : S) (o : OpenOutput) (its_chapters its_tags : Option Node) → IsReady r f before d files o its_chapters its_tags
     → StandsDrafted before (f.names files) (draft_of (f.holder files o.file.n) d)
 unfinished r f before d files o its_chapters its_tags ready =
@@ -107,7 +107,7 @@ unfinished r f before d files o its_chapters its_tags ready =
     subst P (opened-more d.front (joined (clusters_elements d.clusters)) (joined (back_elements d)))
     (StandsDrafted-begun before (f.names files) (f.names files) name (so_far d) (joined (back_elements d)) (draft_of name d).patches ready.stands.names (PassesSome-none (f.names files) (f.names files) name (joined (back_elements d)) refl))
 
--- ---- and then the file is closed
+-- ---- then the file is closed
 
 pub Finishes-closed : {S : Type 0} (r : Ghosts S) (f : writing.Ghosts S) (o : OpenOutput) (its_chapters its_tags : Option Node) (a b c : S) (result : Result ℕ RemuxEnd) → f.names c ≡ f.names b → Finishes r f o its_chapters its_tags a b result → Finishes r f o its_chapters its_tags a c result
 Finishes-closed r f o its_chapters its_tags a b c (Ok len) same finishes = λ before d ready.

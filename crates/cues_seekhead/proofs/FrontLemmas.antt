@@ -1,4 +1,4 @@
--- What stands in front of the Clusters.
+-- The elements before the Clusters.
 use Rattle.std.proofs.Common.{◌≡◌, ◌≤◌, List, ℕ, ◌+◌, [], ◌∷◌, ◌++◌, length, map, sum_by, All, true, refl, sym, ap, append_assoc, append-nil, ◌∙◌, arith, Bool}
 use Rattle.std.proofs.lemmas.List.{length-append}
 use Rattle.std.proofs.lemmas.List.Concat.{flat_map-append}
@@ -23,7 +23,7 @@ use Rattle.cues_seekhead.specs.Places.{Adds, AreIds}
 use Rattle.cues_seekhead.proofs.AttachedLemmas.{attachments-long}
 use Rattle.cues_seekhead.proofs.PlacesLemmas.{Adds-then, seeks_from-append}
 
--- the parts of an open output, added one after the other
+-- The parts of an open output are appended in sequence.
 pub head-parts : (e i u v r r' o0 o1 o2 o3 o4 : List ℕ) → o0 ≡ [] → o1 ≡ o0 ++ e → o2 ≡ o1 ++ (i ++ u) → o3 ≡ o2 ++ v → o4 ≡ o3 ++ r' → r' ≡ r
     → o4 ≡ e ++ (i ++ (u ++ ((v ++ []) ++ r)))
 head-parts e i u v r r' o0 o1 o2 o3 o4 none one two three four same =
@@ -31,7 +31,7 @@ head-parts e i u v r r' o0 o1 o2 o3 o4 none one two three four same =
     ∙ append_assoc (e ++ (i ++ u)) v r ∙ append_assoc e (i ++ u) (v ++ r) ∙ ap (λ w. e ++ w) (append_assoc i u (v ++ r))
     ∙ ap (λ w. e ++ (i ++ (u ++ (w ++ r)))) (sym (append-nil v))
 
--- what is added at the end of a file stands behind its last Element
+-- Bytes appended to a file follow its last element.
 pub file_with-append : (webm : Bool) (size : List ℕ) (area : List Element) (rest more : List ℕ) → file_with webm size area rest ++ more ≡ file_with webm size area (rest ++ more)
 file_with-append webm size area rest more =
     let head = octets_of (ebml_element webm) in
@@ -53,9 +53,9 @@ attachments-places : (files : LiveFiles) (attachments : List Attachment) (positi
 attachments-places files [] position = refl
 attachments-places files (a ∷ attachments) position = refl
 
--- ---- what an output begins with
+-- ---- start of an output
 
--- with the AttachedFiles behind it, it is the open output
+-- With the AttachedFiles after it, it is the open output.
 pub opening-octets : (files : LiveFiles) (f : Front) → All (λ (a : Attachment). IsMaster a.entry) f.attachments → All (λ (a : Attachment). id_of a.entry ≡ ATTACHED_FILE) f.attachments → HaveData files f.attachments
     → file_with f.webm unknown_size open_area (front_head f) ++ joined (map tree_element (map (attached_file files) f.attachments)) ≡ opened_with (front_with files f) []
 opening-octets files f masters own have =
@@ -89,7 +89,7 @@ opening-long files f masters own have =
       length-append (joined (records_of f)) (joined elements),
     )
 
--- ---- the Seeks
+-- ---- Seeks
 
 info-valid : is_id INFO ≡ true
 unfolding is_id
@@ -111,7 +111,7 @@ more-few : (position : ℕ) (attachments : List Attachment) → length (attachme
 more-few position [] = omega arith
 more-few position (a ∷ attachments) = omega arith
 
--- they are of valid IDs, and three at most
+-- Their IDs are valid, and there are at most three.
 pub front-ids : (f : Front) → id_of f.info ≡ INFO → id_of f.tracks ≡ TRACKS → AreIds (front_seeks f)
 front-ids f is_info is_tracks =
     let two : AllByRecursion (λ (s : Seek). is_id s.id ≡ true) (seeks_from 256 (records_of f)) = (ap is_id is_info ∙ info-valid, (ap is_id is_tracks ∙ tracks-valid, tt)) in
@@ -125,9 +125,9 @@ front-few f =
     let place = 256 + length (joined (records_of f)) in
     omega (arith, length-append (seeks_from 256 (records_of f)) (attachments_seeks place f.attachments), more-few place f.attachments)
 
--- ---- Elements added one after the other
+-- ---- elements in sequence
 
--- two records, and then the header of Attachments
+-- Two records are appended, then the header of Attachments.
 pub front-added : (f : Front) (r1 r2 r3 : List ℕ) (s1 s2 s3 : List Seek) → Adds 256 (tree_element f.info ∷ []) [] r1 [] s1 → Adds 256 (tree_element f.tracks ∷ []) r1 r2 s1 s2
     → r3 ≡ r2 ++ attachments_header f.attachments → s3 ≡ s2 ++ attachments_seeks (256 + length r2) f.attachments → (r3 ≡ front_head f) × (s3 ≡ front_seeks f)
 front-added f r1 r2 r3 s1 s2 s3 info tracks octets places =

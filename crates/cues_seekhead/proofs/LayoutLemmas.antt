@@ -1,4 +1,4 @@
--- The octets of an output grow at their end, and are overwritten in their middle.
+-- The bytes of an output grow at their end, and are overwritten in the middle.
 use Rattle.std.proofs.Common.{◌≡◌, ℕ, ◌+◌, ◌-◌, Bool, true, false, List, ◌++◌, length, drop, refl, sym, ap, append_assoc, ◌∙◌, arith}
 use Rattle.std.proofs.lemmas.List.{length-append, take_at, drop_at, drop-drop}
 use Rattle.std.proofs.lemmas.List.Concat.{flat_map-append}
@@ -23,7 +23,7 @@ opened-more f behind more =
 
 -- ---- in the middle
 
--- octets in the middle are written over by as many others
+-- Bytes in the middle are overwritten by equally many.
 overwritten-middle : (front old back now : List ℕ) (at : ℕ) → length front ≡ at → length now ≡ length old → overwritten (front ++ (old ++ back)) at now ≡ front ++ (now ++ back)
 overwritten-middle front old back now at is same =
     let behind : drop (at + length now) (front ++ (old ++ back)) ≡ back =
@@ -31,7 +31,7 @@ overwritten-middle front old back now at is same =
     ap (λ w. w ++ (now ++ drop (at + length now) (front ++ (old ++ back)))) (take_at front (old ++ back) at is)
     ∙ ap (λ w. front ++ (now ++ w)) behind
 
--- an output with these octets as size and area
+-- an output with these bytes as size and area
 abbrev spelled : Bool → List ℕ → List ℕ → List ℕ → List ℕ
 spelled webm size area rest = octets_of (ebml_element webm) ++ (id_octets SEGMENT ++ (size ++ (area ++ rest)))
 
@@ -39,7 +39,7 @@ four : length (id_octets SEGMENT) ≡ 4
 unfolding uint_width
 four = refl
 
--- the EBML header, the Segment's ID and its size
+-- The EBML header, the Segment's ID and its size come first.
 header-long : (webm : Bool) → length (octets_of (ebml_element webm)) + 12 ≡ body_start webm
 unfolding uint_width least_size_width
 header-long true = refl
@@ -71,7 +71,7 @@ area-long = refl
 size-long : length unknown_size ≡ 8
 size-long = length-size_octets (all_ones 8) 8
 
--- how long an open output is
+-- The length of an open output is the computed one.
 pub length-opened : (f : Front) (behind : List ℕ) → length (opened_with f behind) ≡ body_start f.webm + (clusters_at f + length behind)
 length-opened f behind =
     let head = octets_of (ebml_element f.webm) in
@@ -90,7 +90,7 @@ length-opened f behind =
       header-long f.webm,
     )
 
--- how long a whole one is
+-- The length of a finished output is the computed one.
 pub length-layout : (d : Document) → length (joined (area_elements (seeks_of d))) ≡ 256 → length (layout d) ≡ body_start d.front.webm + (256 + length (joined (elements_behind_area d)))
 length-layout d filled =
     let head = octets_of (ebml_element d.front.webm) in
@@ -110,13 +110,13 @@ length-layout d filled =
       header-long d.front.webm,
     )
 
--- all that stands behind the area
+-- The elements after the area are in three parts.
 pub behind-area : (d : Document) → joined (front_elements d.front) ++ (joined (clusters_elements d.clusters) ++ joined (back_elements d)) ≡ joined (elements_behind_area d)
 behind-area d =
     ap (λ w. joined (front_elements d.front) ++ w) (sym (flat_map-append octets_of (clusters_elements d.clusters) (back_elements d)))
     ∙ sym (flat_map-append octets_of (front_elements d.front) (clusters_elements d.clusters ++ back_elements d))
 
--- The patches make the layout of the open output.
+-- The patches turn the open output into the layout.
 pub draft-layout : (name : List ℕ) (d : Document) → length (joined (area_elements (seeks_of d))) ≡ 256 → patched (opened d) (draft_of name d).patches ≡ layout d
 draft-layout name d filled =
     let webm = d.front.webm in

@@ -1,4 +1,4 @@
--- A file that is made, written and ended.
+-- A file that is created, written and closed.
 use Rattle.std.proofs.Common.{◌≡◌, ◌≤◌, ◌<◌, ℕ, zero, suc, List, [], ◌∷◌, true, get_or, sym, ◌∙◌, subst, arith}
 use Rattle.mkv_io.specs.declared.outside.FileId.{FileId}
 use Rattle.mkv_io.specs.Asked.{IsNotAmong}
@@ -13,7 +13,7 @@ use Rattle.mkv_outputs.specs.Sinks.{EndsOnly, MadeSince}
 use Rattle.mkv_outputs.proofs.FilesLemmas.{KeepsOthers-ended}
 use Rattle.cues_seekhead.specs.Made.{MakesFile, WritesAndEnds}
 
--- other names are written, or none: the file is made still
+-- The file stays created if only other names are written.
 pub MakesFile-kept : {S : Type 0} (r : Ghosts S) (f : writing.Ghosts S) (name : List ℕ) (file : FileId) (a b c : S) → ((other : ℕ) → (live_files r a).live other ≡ true → other < f.given a) → MakesFile r f name file a b → KeepsOthers r f (name ∷ []) b c → MakesFile r f name file a c
 MakesFile-kept r f name file a b c numbered made kept = record {
   newer = made.newer;
@@ -30,7 +30,7 @@ MakesFile-kept r f name file a b c numbered made kept = record {
     stays : (other : ℕ) → (live_files r a).live other ≡ true → (live_files r b).live other ≡ true
     stays other live = made.besides other (λ same. let below = numbered other live in let newer = made.newer in absurd (omega (arith, same))) ∙ live
 
--- it is the one output that was made
+-- It is the only output that was created.
 as_made : {S : Type 0} (r : Ghosts S) (f : writing.Ghosts S) (name : List ℕ) (file : FileId) (a b : S) → MakesFile r f name file a b → MadeSince r f (name ∷ []) a b (record { file = file; waiting = [] } ∷ [])
 as_made r f name file a b made = record {
   newer = at;
@@ -45,12 +45,12 @@ as_made r f name file a b made = record {
     at zero d below = made.newer
     at (suc k) d below = absurd (omega arith)
 
--- A file that was made has ended: which files are live is as before it was made.
+-- After a created file is closed, the same files are live as before.
 pub MakesFile-ended : {S : Type 0} (r : Ghosts S) (f : writing.Ghosts S) (name : List ℕ) (file : FileId) (a b c : S) → ((other : ℕ) → (live_files r a).live other ≡ true → other < f.given a) → MakesFile r f name file a b → EndsOnly r f b c (file ∷ []) → KeepsOthers r f (name ∷ []) a c
 MakesFile-ended r f name file a b c numbered made ends =
     KeepsOthers-ended r f (name ∷ []) a b c (record { file = file; waiting = [] } ∷ []) numbered (as_made r f name file a b made) ends
 
--- the same where it is written before it ends
+-- The same files are also live if it was written before.
 pub MakesFile-finished : {S : Type 0} (r : Ghosts S) (f : writing.Ghosts S) (name : List ℕ) (file : FileId) (a b c : S) → ((other : ℕ) → (live_files r a).live other ≡ true → other < f.given a) → MakesFile r f name file a b → WritesAndEnds r f file b c → KeepsOthers r f (name ∷ []) a c
 MakesFile-finished r f name file a b c numbered made ends =
     let P : List ℕ → Type 0 = λ n. KeepsOthers r f (n ∷ []) b ends.before in

@@ -1,4 +1,4 @@
--- An open output, as its caller follows it from call to call.
+-- An open output from call to call.
 use Rattle.std.proofs.Common.{◌≡◌, ℕ, List, ◌++◌, length, ap, ◌∙◌, arith}
 use Rattle.std.proofs.lemmas.List.{length-append}
 use Rattle.mkv_io.specs.Contents.{with_appended}
@@ -11,7 +11,7 @@ use Rattle.cues_seekhead.specs.OpenOutput.{OpenOutput, IsOpen, StandsOpen, grown
 use Rattle.cues_seekhead.proofs.DraftLemmas.{appended-to}
 use Rattle.cues_seekhead.proofs.LayoutLemmas.{opened-more}
 
--- octets were added to it
+-- Bytes were appended to it.
 pub StandsOpen-grown : {S : Type 0} (r : Ghosts S) (f : writing.Ghosts S) (before : Names) (name : List ℕ) (front : Front) (behind more : List ℕ) (old new : S) (o : OpenOutput) → StandsOpen r f before name front behind old o
     → f.names new ≡ with_change (f.names old) (f.holder old o.file.n) (with_appended more) → f.holder new o.file.n ≡ f.holder old o.file.n → IsOpen r new (grown o (length more)) → StandsOpen r f before name front (behind ++ more) new (grown o (length more))
 StandsOpen-grown r f before name front behind more old new o stands added holder is_open = record {
@@ -22,7 +22,7 @@ StandsOpen-grown r f before name front behind more old new o stands added holder
   known = record { webm = stands.known.webm; len = omega (arith, stands.known.len, length-append behind more); seeks = stands.known.seeks };
 }
 
--- a cue point was added
+-- A cue point was added.
 pub StandsOpen-cued : {S : Type 0} (r : Ghosts S) (f : writing.Ghosts S) (before : Names) (name : List ℕ) (front : Front) (behind : List ℕ) (files : S) (o : OpenOutput) (point : CuePoint) → StandsOpen r f before name front behind files o → StandsOpen r f before name front behind files (with_cue o point)
 StandsOpen-cued r f before name front behind files o point stands = record {
   is_open = record { live = stands.is_open.live; size = stands.is_open.size };
@@ -31,7 +31,7 @@ StandsOpen-cued r f before name front behind files o point stands = record {
   known = record { webm = stands.known.webm; len = stands.known.len; seeks = stands.known.seeks };
 }
 
--- other files were read
+-- Other files were read.
 pub StandsOpen-read : {S : Type 0} (r : Ghosts S) (f : writing.Ghosts S) (before : Names) (name : List ℕ) (front : Front) (behind : List ℕ) (old new : S) (o : OpenOutput) → r.standing new ≡ r.standing old → f.names new ≡ f.names old → f.holder new o.file.n ≡ f.holder old o.file.n
     → StandsOpen r f before name front behind old o → StandsOpen r f before name front behind new o
 StandsOpen-read r f before name front behind old new o same names holder stands = record {

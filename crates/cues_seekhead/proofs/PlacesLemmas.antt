@@ -1,4 +1,4 @@
--- Elements that are added with where they stand.
+-- Elements that are appended with their places.
 use Rattle.std.proofs.Common.{◌≡◌, ◌≤◌, ℕ, ◌+◌, ◌-◌, Bool, List, [], ◌∷◌, ◌++◌, length, replicate, refl, sym, ap, append_assoc, ◌∙◌, arith, true, false, if◌then◌else◌, nat_le}
 use Rattle.std.proofs.lemmas.List.{length-append, length-replicate}
 use Rattle.std.proofs.lemmas.List.Concat.{flat_map-append}
@@ -10,7 +10,7 @@ use Rattle.output_model.specs.declared.places.Seek.{Seek}
 use Rattle.output_model.specs.SeekHead.{seeks_from}
 use Rattle.cues_seekhead.specs.Places.{Adds}
 
--- the places of Elements and of those behind them
+-- The places of the elements and of the next ones are computed in sequence.
 pub seeks_from-append : (p : ℕ) (xs ys : List Element) → seeks_from p (xs ++ ys) ≡ seeks_from p xs ++ seeks_from (p + length (joined xs)) ys
 seeks_from-append p [] ys = let same : p ≡ p + 0 = omega arith in ap (λ q. seeks_from q ys) same
 seeks_from-append p (e ∷ es) ys =
@@ -18,7 +18,7 @@ seeks_from-append p (e ∷ es) ys =
     ap (λ ss. record { id = e.id; position = p } ∷ ss)
     (seeks_from-append (p + length (octets_of e)) es ys ∙ ap (λ q. seeks_from (p + length (octets_of e)) es ++ seeks_from q ys) same)
 
--- Elements are added, and then others
+-- Two groups of elements are appended.
 pub Adds-then : (at : ℕ) (xs ys : List Element) (a b c : List ℕ) (r s t : List Seek) → Adds at xs a b r s → Adds at ys b c s t → Adds at (xs ++ ys) a c r t
 Adds-then at xs ys a b c r s t first next =
     let place : at + length b ≡ at + length a + length (joined xs) = omega (arith, ap length first.octets, length-append a (joined xs)) in
@@ -30,7 +30,7 @@ Adds-then at xs ys a b c r s t first next =
           ∙ ap (λ w. r ++ w) (sym (seeks_from-append (at + length a) xs ys));
     }
 
--- a Void has as many octets as it is to have
+-- A Void has the requested length.
 pub length-void : (total : ℕ) → 2 ≤ total → total ≤ 256 → length (octets_of (void_element total)) ≡ total
 unfolding uint_width
 length-void total some most = step (nat_le total 128) refl

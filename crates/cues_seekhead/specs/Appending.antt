@@ -1,4 +1,4 @@
--- Octets that are appended to a file, some of them read from others.
+-- Bytes that are appended to a file, some of them copied from others.
 use Rattle.std.specs.Prelude.{◌≡◌, ◌≤◌, ℕ, ◌+◌, List, [], ◌∷◌, ◌++◌, length, map, sum_by, Result, Ok, Err, OnOk}
 use Rattle.mkv_io.specs.declared.outside.FileId.{FileId}
 use Rattle.mkv_io.specs.Contents.{with_appended}
@@ -16,12 +16,12 @@ use Rattle.output_model.specs.Attached.{attached_file, octets_told}
 use Rattle.output_model.specs.Element.{joined, octets_of}
 use Rattle.output_model.specs.Document.{tree_element}
 
--- Octets are appended to the content of a name, and no other name changes. After a refusal some first of them are.
+-- The bytes `octets` were appended to the content of `name`, and other names are unchanged. After an error only a prefix was appended.
 abbrev pub IsAppended : {T E : Type 0} → Names → Names → List ℕ → List ℕ → Result T E → Type 0
 IsAppended old new name octets (Ok _) = new ≡ with_change old name (with_appended octets)
 IsAppended old new name octets (Err _) = PassesSome old new name octets
 
--- Octets are appended to a live file, at most so many of them read from others; all other files stay.
+-- The bytes `octets` were appended to the live file `file`, and at most `most` bytes were read from others. All other files are unchanged.
 pub record AppendsOnly {S T : Type 0} (r : Ghosts S) (f : writing.Ghosts S) (file : FileId) (octets : List ℕ) (most : ℕ) (old new : S) (result : Result T RemuxEnd) : Type 0 where
   pub appended : IsAppended (f.names old) (f.names new) (f.holder old file.n) octets result
   pub size : OnOk result (file_size r new file ≡ file_size r old file + length octets)
@@ -29,26 +29,26 @@ pub record AppendsOnly {S T : Type 0} (r : Ghosts S) (f : writing.Ghosts S) (fil
   pub cause : HasRemuxCause r f old new result
   pub reads : r.octets_read new ≤ r.octets_read old + most
 
--- The AttachedFile of an attachment is appended, with the data of its file.
+-- The AttachedFile of `a` was appended, with the data of its file.
 abbrev pub AppendsAttachment : {S T : Type 0} → Ghosts S → writing.Ghosts S → FileId → Attachment → S → S → Result T RemuxEnd → Type 0
 AppendsAttachment r f file a old new result = AppendsOnly r f file (octets_of (tree_element (attached_file (live_files r old) a))) a.len old new result
 
--- octets of all AttachedFiles, and how many of them are data
+-- the bytes of all AttachedFiles; and the length of their data
 abbrev pub attached_octets : LiveFiles → List Attachment → List ℕ
 attached_octets files attachments = joined (map tree_element (map (attached_file files) attachments))
 
 abbrev pub data_octets : List Attachment → ℕ
 data_octets attachments = sum_by (λ (a : Attachment). a.len) attachments
 
--- Those of all attachments are, behind these octets.
+-- The bytes `before` and the AttachedFiles of all attachments were appended.
 abbrev pub AppendsAttached : {S T : Type 0} → Ghosts S → writing.Ghosts S → FileId → List ℕ → List Attachment → S → S → Result T RemuxEnd → Type 0
 AppendsAttached r f file before attachments old new result =
     AppendsOnly r f file (before ++ attached_octets (live_files r old) attachments) (data_octets attachments) old new result
 
--- Octets of another live file are, from a place on.
+-- `len` bytes of the live file `from`, from offset `at` on, were appended to the file `to`.
 abbrev pub AppendsCopy : {S T : Type 0} → Ghosts S → writing.Ghosts S → FileId → FileId → ℕ → ℕ → S → S → Result T RemuxEnd → Type 0
 AppendsCopy r f to from at len old new result = AppendsOnly r f to (octets_told (content_of r old from) at len) len old new result
 
--- Octets are appended to the name of a live file.
+-- The bytes `octets` were appended to the name of the live file `file`.
 abbrev pub AppendsToLive : {S T E : Type 0} → writing.Ghosts S → FileId → List ℕ → S → S → Result T E → Type 0
 AppendsToLive f file octets old new result = IsAppended (f.names old) (f.names new) (f.holder old file.n) octets result

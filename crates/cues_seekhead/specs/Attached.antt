@@ -1,4 +1,4 @@
--- An AttachedFile as it is written: RFC 9559, section 5.1.6 (Attachments Element).
+-- An AttachedFile as it is written: RFC 9559, section 5.1.6 (Attachments).
 use Rattle.std.specs.Prelude.{◌≡◌, ℕ, ◌+◌, ◌==◌, List, [], ◌∷◌, ◌++◌, length, flat_map, take, drop, sum_by, All}
 use Rattle.std.specs.List.{position_or_len}
 use Rattle.mkv_io.specs.LiveFiles.{LiveFiles}
@@ -10,29 +10,29 @@ use Rattle.output_model.specs.declared.attachment.Attachment.{Attachment}
 use Rattle.output_model.specs.Attached.{data_of}
 use Rattle.output_model.specs.declared.places.Seek.{Seek}
 
--- where the first FileData stands among the children; where there is none, behind them all
+-- the index of the first FileData among the children, or their number if there is none
 abbrev pub data_place : List Node → ℕ
 data_place ns = position_or_len (λ n. id_of n == FILE_DATA) ns
 
--- how many octets stand behind its header
+-- the length of the AttachedFile's body
 abbrev pub attached_body : Attachment → ℕ
 attached_body a = length (flat_map octets (without FILE_DATA (children a.entry))) + (length (header_octets FILE_DATA a.len) + a.len)
 
--- how many octets it takes with its data
+-- the length of the AttachedFile with its data
 abbrev pub attached_total : Attachment → ℕ
 attached_total a = length (header_octets ATTACHED_FILE (attached_body a)) + attached_body a
 
--- the header of Attachments; without attachments there is none
+-- the header of Attachments, or nothing without attachments
 abbrev pub attachments_header : List Attachment → List ℕ
 attachments_header [] = []
 attachments_header (a ∷ attachments) = header_octets ATTACHMENTS (sum_by attached_total (a ∷ attachments))
 
--- the Seek of Attachments that stand at a place
+-- the Seek of Attachments at this position, or nothing without attachments
 abbrev pub attachments_seeks : ℕ → List Attachment → List Seek
 attachments_seeks position [] = []
 attachments_seeks position (a ∷ attachments) = record { id = ATTACHMENTS; position = position } ∷ []
 
--- what is written in front of the data, and behind them
+-- the bytes before the data; and the bytes after them
 abbrev pub before_data : Attachment → List ℕ
 before_data a =
     header_octets ATTACHED_FILE (attached_body a)
@@ -41,10 +41,10 @@ before_data a =
 abbrev pub behind_data : Attachment → List ℕ
 behind_data a = flat_map octets (without FILE_DATA (drop (data_place (children a.entry)) (children a.entry)))
 
--- The data of each are as many octets as it says.
+-- The data of each attachment have its length.
 abbrev pub HaveData : LiveFiles → List Attachment → Type 0
 HaveData files attachments = All (λ (a : Attachment). length (data_of files a) ≡ a.len) attachments
 
--- the same of Attachments behind octets of which the first stands at a place
+-- the Seek of Attachments after the bytes `out`, which begin `at` bytes inside the Segment
 abbrev pub seeks_behind : ℕ → List ℕ → List Attachment → List Seek
 seeks_behind at out attachments = attachments_seeks (at + length out) attachments

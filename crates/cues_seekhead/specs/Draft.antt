@@ -1,4 +1,4 @@
--- What stands of an output whose last writes may be refused.
+-- An output whose last writes may fail.
 use Rattle.std.specs.Prelude.{◌≡◌, ◌≤◌, ℕ, ◌+◌, ◌-◌, List, [], ◌∷◌, ◌++◌, length, Result, Ok, Err}
 use Rattle.mkv_io.specs.declared.outside.FileId.{FileId}
 use Rattle.mkv_io.specs.Names.{Names, with_content}
@@ -13,18 +13,17 @@ use Rattle.cues_seekhead.specs.declared.ending.Ending.{Ending}
 use Rattle.output_model.specs.declared.TheConstants.{AREA}
 use Rattle.ebml_numbers.specs.Number.{size_octets}
 
--- Under the name of a draft stands what becomes of it on the way, and every other name has what it had before.
+-- The name of the draft `d` has a content that is possible while it is written, and other names have their content in `before`.
 pub record StandsDrafted (before now : Names) (d : Draft) : Type 0 where
   pub output : Output
   pub drafted : IsDrafted output d
   pub names : now ≡ with_content before output.name output.content
 
--- The area of a Segment's body that begins so many octets behind the file's first, and the eight octets of the
--- Segment's size, which stand in front of it.
+-- the area of the Segment's body, which begins at byte `start`, and the eight bytes of the Segment's size before it
 abbrev pub patches_at : ℕ → List ℕ → List ℕ → List Patch
 patches_at start area size = record { at = start; octets = area } ∷ record { at = start - 8; octets = size } ∷ []
 
--- An output is written as it is while its size and its area aren't known; these are then written over.
+-- an output before its size and its area are known, and the two writes of them
 abbrev pub draft_of : List ℕ → Document → Draft
 draft_of name d = record {
   name = name;
@@ -32,8 +31,8 @@ draft_of name d = record {
   patches = patches_at (body_start d.front.webm) (joined (area_elements (seeks_of d))) (segment_size (length (joined (elements_behind_area d))));
 }
 
--- Octets are appended to the content of a file's name, and then the patches are written over it. After a refusal
--- that stands as a draft.
+-- The bytes `back` were appended to the content of the file's name, and then the patches were written. After an error the content is one of the
+-- draft.
 abbrev pub Drafts : {S T E : Type 0} → Ghosts S → FileId → ℕ → List ℕ → List Patch → S → S → Result T E → Type 0
 Drafts f file least back patches old new (Ok _) =
     (before : Names) (content : List ℕ) → least ≤ length content → f.names old ≡ with_content before (f.holder old file.n) content
@@ -42,6 +41,6 @@ Drafts f file least back patches old new (Err _) =
     (before : Names) (content : List ℕ) → least ≤ length content → f.names old ≡ with_content before (f.holder old file.n) content
     → StandsDrafted before (f.names new) (record { name = f.holder old file.n; appended = content ++ back; patches = patches })
 
--- Those of an ending are the Segment's area and its size, whose body begins there.
+-- The last writes of an output were done, whose Segment's body begins at byte `start`.
 abbrev pub DraftsEnd : {S T E : Type 0} → Ghosts S → FileId → ℕ → Ending → S → S → Result T E → Type 0
 DraftsEnd f file start e old new result = Drafts f file (start + AREA) e.back (patches_at start e.area (size_octets e.total 8)) old new result

@@ -1,4 +1,4 @@
--- The octets of an output's last writes.
+-- The bytes of an output's last writes.
 use Rattle.std.specs.Prelude.{◌≡◌, ◌≤◌, ℕ, ◌+◌, List, ◌++◌, length}
 use Rattle.tree_format.specs.NormalForm.{longest}
 use Rattle.output_model.specs.Element.{Element, joined}
@@ -7,8 +7,8 @@ use Rattle.output_model.specs.declared.places.Seek.{Seek}
 use Rattle.output_model.specs.SeekHead.{area_elements, seeks_from}
 use Rattle.cues_seekhead.specs.declared.ending.Ending.{Ending}
 
--- These Elements, which stand so many octets inside the Segment; an area with their Seeks behind others; and how many
--- octets the Segment's body has then.
+-- `e` has the bytes of `elements`, which begin `len` bytes inside the Segment, the area with `seeks` and their Seeks, and the length of the
+-- Segment's body.
 pub record IsEnding (len : ℕ) (seeks : List Seek) (elements : List Element) (e : Ending) : Type 0 where
   pub back : e.back ≡ joined elements
   pub area : e.area ≡ joined (area_elements (seeks ++ seeks_from len elements))

@@ -1,4 +1,4 @@
--- An output that has all its Clusters, and what becomes of it.
+-- An output with all its Clusters, and its finished file.
 use Rattle.std.specs.Prelude.{◌≡◌, ℕ, List, length, Option, Result, Ok, Err}
 use Rattle.mkv_io.specs.Names.{Names, with_content}
 use Rattle.mkv_io.specs.declared.reads.Reads.{Ghosts}
@@ -11,20 +11,20 @@ use Rattle.output_model.specs.Document.{Document, clusters_elements, layout}
 use Rattle.cues_seekhead.specs.OpenOutput.{OpenOutput, StandsOpen}
 use Rattle.cues_seekhead.specs.Draft.{StandsDrafted, draft_of}
 
--- All Clusters of a document stand under the output's name, and its cue points, Chapters and Tags are these.
+-- All Clusters of the document `d` are in the output's file, and `d` has its cue points and these Chapters and Tags.
 pub record IsReady {S : Type 0} (r : Ghosts S) (f : writing.Ghosts S) (before : Names) (d : Document) (files : S) (o : OpenOutput) (its_chapters its_tags : Option Node) : Type 0 where
   pub stands : StandsOpen r f before (f.holder files o.file.n) d.front (joined (clusters_elements d.clusters)) files o
   pub cues : d.cues ≡ o.cues
   pub chapters : d.chapters ≡ its_chapters
   pub tags : d.tags ≡ its_tags
 
--- The octets of the document stand under the name, and this is how many they are; they are what its draft becomes.
+-- The name has the layout of the document `d`, which is `len` bytes long, and is the result of its draft.
 pub record HoldsLayout (before now : Names) (name : List ℕ) (d : Document) (len : ℕ) : Type 0 where
   pub names : now ≡ with_content before name (layout d)
   pub len_is : len ≡ length (layout d)
   pub becomes : output_of (draft_of name d) ≡ record { name = name; content = layout d }
 
--- Whichever document is ready, its layout then stands, and this is how long it is. After a refusal it stands as a draft.
+-- For each document that is ready, the name has its layout, of the returned length. After an error the content is one of its draft.
 abbrev pub Finishes : {S : Type 0} → Ghosts S → writing.Ghosts S → OpenOutput → Option Node → Option Node → S → S → Result ℕ RemuxEnd → Type 0
 Finishes r f o chapters tags old new (Ok len) =
     (before : Names) (d : Document) → IsReady r f before d old o chapters tags → HoldsLayout before (f.names new) (f.holder old o.file.n) d len

@@ -1,4 +1,5 @@
--- What stands in front of the Clusters: an EBML header (RFC 8794, section 8.1, EBML Header), and the first of a Segment (RFC 9559, section 4.5, Data Layout).
+-- The elements before the Clusters: an EBML header (RFC 8794, section 8.1, EBML Header), and the start of a Segment (RFC 9559, section 4.5, Data
+-- Layout).
 use Rattle.std.specs.Prelude.{◌≡◌, ℕ, ◌+◌, if◌then◌else◌, Bool, List, [], ◌∷◌, ◌++◌, length, sum_by}
 use Rattle.output_model.specs.Element.{Element, joined}
 use Rattle.output_model.specs.declared.TheConstants.{AREA}
@@ -9,7 +10,7 @@ use Rattle.cues_seekhead.specs.Attached.{attached_total, attachments_header, att
 use Rattle.output_model.specs.declared.front.Front as given
 use Rattle.cues_seekhead.specs.declared.front.Opening.{Opening}
 
--- how many octets stand before the Segment's body: an EBML header of 36 or 40 octets, the Segment's ID and its size
+-- the number of bytes before the Segment's body: an EBML header of 36 or 40 bytes, the Segment's ID and its size
 abbrev pub body_start : Bool → ℕ
 body_start webm = if webm then 48 else 52
 
@@ -23,8 +24,7 @@ front_head f = joined (records_of f) ++ attachments_header f.attachments
 abbrev pub front_seeks : given.Front → List Seek
 front_seeks f = seeks_from AREA (records_of f) ++ attachments_seeks (AREA + length (joined (records_of f))) f.attachments
 
--- The first octets of an open output, up to its first AttachedFile; the Seeks of what stands in front of the Clusters;
--- and how many octets of the Segment's body that is.
+-- `o` has the first bytes of an open output up to its first AttachedFile, the Seeks of the elements before the Clusters, and their length.
 pub record IsOpening (f : given.Front) (o : Opening) : Type 0 where
   pub octets : o.octets ≡ file_with f.webm unknown_size open_area (front_head f)
   pub seeks : o.seeks.items ≡ front_seeks f

@@ -1,4 +1,4 @@
--- A file that is made, written and ended.
+-- A file that is created, written and closed.
 use Rattle.std.specs.Prelude.{◌≡◌, ◌≢◌, ◌≤◌, ℕ, List, [], ◌∷◌, true, Result, Ok, Err}
 use Rattle.mkv_io.specs.declared.outside.FileId.{FileId}
 use Rattle.mkv_io.specs.Asked.{AsksOnly}
@@ -12,8 +12,8 @@ use Rattle.mkv_io.specs.declared.remux_end.RemuxEnd.{RemuxEnd}
 use Rattle.mkv_outputs.specs.Sinks.{EndsOnly}
 use Rattle.cues_seekhead.specs.OpenOutput.{OpenOutput}
 
--- A file was made under a name, and is live under a new number. Which other files are live stays, and under which
--- names; and the files of other names stay the same. No other file was made, and none opened.
+-- `file` was created with this name, and is live with a new number. Other files are live as before, with the same names. Files of other names are
+-- unchanged. No other file was created or opened.
 pub record MakesFile {S : Type 0} (r : Ghosts S) (f : writing.Ghosts S) (name : List ℕ) (file : FileId) (old new : S) : Type 0 where
   pub newer : f.given old ≤ file.n
   pub live : (live_files r new).live file.n ≡ true
@@ -24,13 +24,12 @@ pub record MakesFile {S : Type 0} (r : Ghosts S) (f : writing.Ghosts S) (name : 
   pub others : KeepsFiles (live_files r old) (live_files r new) (λ other. ((live_files r old).live other ≡ true) × AreOthers (f.holder old other) (name ∷ []))
   pub asks : AsksOnly [] (name ∷ []) (f.asked old) (f.asked new)
 
--- A file is made for an output. After a refusal none is open: the same files are live as before, and those of other
--- names are the same.
+-- A file was created for an output. After an error it isn't open: the same files are live as before, and files of other names are unchanged.
 abbrev pub MakesForOutput : {S : Type 0} → Ghosts S → writing.Ghosts S → List ℕ → S → S → Result OpenOutput RemuxEnd → Type 0
 MakesForOutput r f name old new (Ok o) = MakesFile r f name o.file old new
 MakesForOutput r f name old new (Err _) = KeepsOthers r f (name ∷ []) old new
 
--- Of all files only this one's name is written, and then it ends.
+-- Only the name of `file` was written, and then the file was closed.
 pub record WritesAndEnds {S : Type 0} (r : Ghosts S) (f : writing.Ghosts S) (file : FileId) (old new : S) : Type 0 where
   pub before : S
   pub written : WritesOnly r f (f.holder old file.n ∷ []) old before

@@ -19,8 +19,7 @@ use Rattle.mkv_outputs.specs.Starts.{ArePrefixes}
 use Rattle.output_model.specs.Front.{front_with}
 use Rattle.output_model.specs.declared.front.Front.{Front as GivenFront}
 
--- The file; whether it is WebM; how many octets the Segment's body has so far; where the Elements in front of the
--- Clusters stand; and the cue points so far.
+-- the file, whether it is WebM, the length of the Segment's body, the places of the elements before the Clusters, and the cue points
 pub record OpenOutput : Type 0 where
   pub file : FileId
   pub webm : Bool
@@ -28,42 +27,40 @@ pub record OpenOutput : Type 0 where
   pub seeks : List Seek
   pub cues : List CuePoint
 
--- what always holds of it
+-- The open output `o` keeps its invariants.
 pub record HasBegun (o : OpenOutput) : Type 0 where
   pub cues : length o.cues ≤ MAX_CUES
   pub seeks : length o.seeks ≤ 3
   pub ids : AreIds o.seeks
   pub area : AREA ≤ o.len
 
--- with another cue point
+-- the open output with one more cue point
 abbrev pub with_cue : OpenOutput → CuePoint → OpenOutput
 with_cue o point = record o { cues = o.cues ++ point ∷ [] }
 
--- with so many octets more
+-- the open output with `more` bytes more
 abbrev pub grown : OpenOutput → ℕ → OpenOutput
 grown o more = record o { len = o.len + more }
 
--- Its file is live, and as long as it knows.
+-- The file of `o` is live, and has the length that `o` expects.
 pub record IsOpen {S : Type 0} (r : Ghosts S) (files : S) (o : OpenOutput) : Type 0 where
   pub live : IsLive r files o.file
   pub size : file_size r files o.file ≡ body_start o.webm + o.len
 
--- It knows an output that has this in front of the Clusters, and these octets behind that.
+-- `o` agrees with an output that has `front` before the Clusters, and the bytes `behind` after that.
 pub record Knows (front : Front) (behind : List ℕ) (o : OpenOutput) : Type 0 where
   pub webm : o.webm ≡ front.webm
   pub len : o.len ≡ clusters_at front + length behind
   pub seeks : o.seeks ≡ seeks_from AREA (front_elements front)
 
--- It is open, and under its name stand what is in front of the Clusters, and these octets behind that; every other
--- name has what it had before.
+-- `o` is open, and its name has `front` and then the bytes `behind`. Other names have their content in `before`.
 pub record StandsOpen {S : Type 0} (r : Ghosts S) (f : writing.Ghosts S) (before : Names) (name : List ℕ) (front : Front) (behind : List ℕ) (files : S) (o : OpenOutput) : Type 0 where
   pub is_open : IsOpen r files o
   pub holder : f.holder files o.file.n ≡ name
   pub names : f.names files ≡ with_content before name (opened_with front behind)
   pub known : Knows front behind o
 
--- An attached file can be written into an output of a name: it is an AttachedFile, and its data stand in a live file of
--- another name.
+-- The attached file `a` can be written to an output with this name: it is an AttachedFile, and its data are in a live file of another name.
 pub record CanAttach {S : Type 0} (r : Ghosts S) (f : writing.Ghosts S) (files : S) (name : List ℕ) (a : Attachment) : Type 0 where
   pub id : id_of a.entry ≡ ATTACHED_FILE
   pub master : IsMaster a.entry
@@ -71,7 +68,7 @@ pub record CanAttach {S : Type 0} (r : Ghosts S) (f : writing.Ghosts S) (files :
   pub inside : a.at + a.len ≤ file_size r files a.file
   pub apart : f.holder files a.file.n ≢ name
 
--- An output of this name was begun: under it stands what is in front of the Clusters; or a first part of that.
+-- An output with this name was begun, and its content is the elements before the Clusters.
 abbrev pub BeginsOutput : {S : Type 0} → Ghosts S → writing.Ghosts S → List ℕ → GivenFront → S → S → OpenOutput → Type 0
 BeginsOutput r f name front old new out = StandsOpen r f (f.names old) name (front_with (live_files r old) front) [] new out
 
@@ -79,7 +76,7 @@ abbrev pub BeginsInPart : {S : Type 0} → Ghosts S → writing.Ghosts S → Lis
 BeginsInPart r f name front old new =
     ArePrefixes (f.names old) (f.names new) (record { name = name; content = opened_with (front_with (live_files r old) front) [] } ∷ [])
 
--- A cue point at the next place is kept behind the others, where there may be one more.
+-- `new` is `old` with a cue point at the next place, unless there are too many.
 abbrev pub KeepsPoint : ℕ → ℕ → ℕ → OpenOutput → OpenOutput → Type 0
 KeepsPoint tick lane relative old new =
     length old.cues < MAX_CUES → new ≡ with_cue old (record { tick = tick; lane = lane; cluster = old.len; relative = relative })

@@ -1,4 +1,4 @@
-//! The area in front, RFC 9559, section 5.1.1 (SeekHead Element): a SeekHead, and a Void that fills the rest.
+//! Area of a SeekHead and a Void that fills the rest, before the other elements: RFC 9559, section 5.1.1 (SeekHead).
 
 ghost use Rattle.std.specs.Prelude.{◌≡◌, ◌*◌, ◌<◌, ◌≤◌, ◌++◌, length, map, replicate, OnOk, IfOk, IsTrue};
 ghost use Rattle.ebml_numbers.specs.Number.{all_ones, is_id, id_octets};
@@ -32,7 +32,7 @@ fn put_seek(out: &mut Bytes, seek: &Seek) -> Result<(), AllocError>
     Ok(())
 }
 
-/// Adds Seeks, one behind the other.
+/// Appends Seeks in sequence.
 pub fn put_seeks(out: &mut Bytes, seeks: &[Seek]) -> Result<(), AllocError>
     requires { AreIds seeks.now }
     ensures ok { OnOk result (out.new ≡ out.old ++ joined (map seek_element seeks.now)) }
@@ -43,7 +43,7 @@ pub fn put_seeks(out: &mut Bytes, seeks: &[Seek]) -> Result<(), AllocError>
     Ok(())
 }
 
-// How many octets an ID has.
+// Returns the length of an ID in bytes.
 fn id_len(id: u32) -> u64
     requires { IsTrue (is_id id) }
     ensures exact { result ≡ length (id_octets id) }
@@ -78,7 +78,7 @@ fn seeks_len(seeks: &[Seek]) -> u64
     total
 }
 
-/// Adds a Void of so many octets in all.
+/// Appends a Void of `total` bytes, header included.
 pub(crate) fn put_void(out: &mut Bytes, total: u64) -> Result<(), AllocError>
     requires some { 2 ≤ total }
     requires most { total ≤ AREA }
@@ -91,7 +91,7 @@ pub(crate) fn put_void(out: &mut Bytes, total: u64) -> Result<(), AllocError>
     }
 }
 
-// Adds a Void of so many zeros, whose size takes so many octets.
+// Appends a Void of `len` zeros, with a size of `width` bytes.
 #[tactic(auto, unfolding(ebml_numbers::specs::Number::is_id))]
 fn put_filled(out: &mut Bytes, len: u64, width: u8) -> Result<(), AllocError>
     requires some { 1 ≤ width }
@@ -114,7 +114,7 @@ fn put_zeros(out: &mut Bytes, count: u64) -> Result<(), AllocError>
     Ok(())
 }
 
-/// The area with Seeks of at most six Elements.
+/// Returns the area with at most six Seeks.
 #[tactic(auto, unfolding(ebml_numbers::specs::Number::is_id))]
 pub fn area_octets(alloc: Global, seeks: &[Seek]) -> Result<Bytes, AllocError>
     requires few { length seeks.now ≤ 6 }

@@ -1,5 +1,4 @@
-//! An AttachedFile, RFC 9559, section 5.1.6 (Attachments Element): what is written in front of its data, and
-//! what behind them.
+//! AttachedFile, before and after its data: RFC 9559, section 5.1.6 (Attachments).
 
 ghost use Rattle.std.specs.Prelude.{◌≡◌, ◌==◌, ◌^◌, ◌<◌, ◌≤◌, ◌++◌, length, flat_map, position, take, drop, OnOk, IfOk, MatchOption};
 ghost use Rattle.mkv_schema.specs.declared.ids.TheConstants.{FILE_DATA as FILE_DATA_ID};
@@ -16,7 +15,7 @@ use mkv_schema::ids::{ATTACHED_FILE, FILE_DATA};
 use output_model::Attachment;
 use std::alloc::{AllocError, Global};
 
-// Where the first FileData stands among the children.
+// Returns the index of the first FileData among the children, if any.
 fn first_data(children: &[Tree]) -> Option<usize>
     ensures exact { result ≡ position (λ n. id_of n == FILE_DATA_ID) children.now }
     ensures inside { MatchOption result (Unit {0}) (λ k. k < length children.now) }
@@ -24,7 +23,7 @@ fn first_data(children: &[Tree]) -> Option<usize>
     children.iter().position(|child| child.id() == FILE_DATA)
 }
 
-// The children of an AttachedFile in front of its first FileData, and those from there on.
+// Splits the children of an AttachedFile at its first FileData.
 fn split_at_file_data(children: &[Tree]) -> (&[Tree], &[Tree])
     ensures front { result.0.now ≡ take (data_place children.now) children.now }
     ensures back { result.1.now ≡ drop (data_place children.now) children.now }
@@ -35,7 +34,7 @@ fn split_at_file_data(children: &[Tree]) -> (&[Tree], &[Tree])
     }
 }
 
-// How many octets children take, but for any FileData.
+// Returns the length of the children without FileData.
 #[tactic(auto, using(ebml_tree::proofs::LoopLemmas::others))]
 fn others_len(children: &[Tree]) -> Result<u64, AllocError>
     ensures exact { IfOk result (λ len. len ≡ length (flat_map octets (without FILE_DATA_ID children.now))) }
@@ -59,7 +58,7 @@ fn put_children(out: &mut Bytes, children: &[Tree]) -> Result<(), AllocError>
     Ok(())
 }
 
-// Adds children, but for any FileData.
+// Appends the children without FileData.
 fn put_others(out: &mut Bytes, children: &[Tree]) -> Result<(), AllocError>
     ensures { OnOk result (out.new ≡ out.old ++ flat_map octets (without FILE_DATA_ID children.now)) }
 {
@@ -71,7 +70,7 @@ fn put_others(out: &mut Bytes, children: &[Tree]) -> Result<(), AllocError>
     Ok(())
 }
 
-// How many octets stand behind the header of an AttachedFile.
+// Returns the length of an AttachedFile's body, with its data.
 #[tactic(auto, unfolding(ebml_numbers::specs::Number::is_id))]
 fn body_len(attachment: &Attachment) -> Result<u64, AllocError>
     ensures exact { IfOk result (λ len. len ≡ attached_body attachment.now) }
@@ -83,7 +82,7 @@ fn body_len(attachment: &Attachment) -> Result<u64, AllocError>
     sized(others + data)
 }
 
-/// How many octets an AttachedFile takes with its data.
+/// Returns the length of an AttachedFile with its data.
 #[tactic(auto, unfolding(ebml_numbers::specs::Number::is_id))]
 pub fn attached_len(attachment: &Attachment) -> Result<u64, AllocError>
     ensures exact { IfOk result (λ len. len ≡ attached_total attachment.now) }
@@ -93,7 +92,7 @@ pub fn attached_len(attachment: &Attachment) -> Result<u64, AllocError>
     Ok(element_len(ATTACHED_FILE, len))
 }
 
-/// What is written of an AttachedFile in front of its data.
+/// Returns the bytes of an AttachedFile before its data.
 #[tactic(auto, unfolding(ebml_numbers::specs::Number::is_id))]
 pub fn octets_before_data(alloc: Global, attachment: &Attachment) -> Result<Bytes, AllocError>
     ensures { IfOk result (λ out. out ≡ before_data attachment.now) }
@@ -106,7 +105,7 @@ pub fn octets_before_data(alloc: Global, attachment: &Attachment) -> Result<Byte
     Ok(out)
 }
 
-/// What is written of it behind its data.
+/// Returns the bytes of an AttachedFile after its data.
 pub fn octets_behind_data(alloc: Global, attachment: &Attachment) -> Result<Bytes, AllocError>
     ensures { IfOk result (λ out. out ≡ behind_data attachment.now) }
 {

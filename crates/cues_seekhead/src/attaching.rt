@@ -1,4 +1,4 @@
-//! Attached files that are written, each with its data.
+//! Attached files, written with their data
 
 ghost use Rattle.std.specs.Prelude.{[], ◌≤◌, All, length, map, sum_by};
 ghost use Rattle.mkv_io.specs.Sources.{IsLive, live_files};
@@ -15,10 +15,10 @@ use mkv_io::{FileId, Files, Reads, RemuxEnd as OutEnd};
 use output_model::Attachment;
 use std::alloc::Global;
 
-// So many octets of data are copied at once.
+// Number of bytes of data that are copied at once
 const CHUNK: usize = 65_536;
 
-/// Adds an AttachedFile.
+/// Appends an AttachedFile with its data.
 fn add_attachment<F: Files>(
     alloc: Global,
     files: &mut F,
@@ -45,7 +45,7 @@ fn add_attachment<F: Files>(
     append(files, file, behind.as_slice())
 }
 
-// Adds AttachedFiles through a buffer.
+// Appends AttachedFiles with their data, through `buffer`.
 fn add_each<F: Files>(
     alloc: Global,
     files: &mut F,
@@ -64,7 +64,7 @@ fn add_each<F: Files>(
     Ok(())
 }
 
-/// Adds AttachedFiles, one behind the other.
+/// Appends AttachedFiles with their data, in sequence.
 pub(crate) fn add_attachments<F: Files>(
     alloc: Global,
     files: &mut F,

@@ -1,4 +1,4 @@
-//! What stands behind the Clusters, with where it stands.
+//! Elements after the Clusters, with their places
 
 ghost use Rattle.std.specs.Prelude.{◌≡◌, ◌≤◌, [], false, length, OnOk, IfOk, IfSome};
 ghost use Rattle.mkv_schema.specs.declared.ids.TheConstants.{CHAPTERS, TAGS};
@@ -51,8 +51,8 @@ fn add_tree_of(
     Ok(())
 }
 
-/// What stands behind the Clusters, the first of it `at` octets inside the Segment: the Cues of these points,
-/// Chapters and Tags, where there are any. Their Seeks are added.
+/// Returns the elements after the Clusters: the Cues of `points`, Chapters and Tags, if present. The first one begins
+/// `at` bytes inside the Segment. Their Seeks are appended to `seeks`.
 pub fn back_octets(
     alloc: Global,
     at: u64,

@@ -1,4 +1,4 @@
-//! Octets of one file that are added to another.
+//! Copies of bytes from one file to another
 
 ghost use Rattle.std.specs.Prelude.{◌≢◌, ◌+◌, ◌≤◌, length};
 ghost use Rattle.mkv_io.specs.Sources.{IsLive, file_size, live_files};
@@ -7,7 +7,7 @@ ghost use Rattle.cues_seekhead.specs.Appending.{AppendsCopy, AppendsOnly};
 
 use mkv_io::{FileId, Files, Reads, RemuxEnd as OutEnd};
 
-/// Adds octets at the end of a file.
+/// Appends `octets` to a file.
 pub fn append<F: Files>(files: &mut F, file: FileId, octets: &[u8]) -> Result<(), OutEnd>
     requires { IsLive F.Reads files.old file }
     ensures { AppendsOnly F.Reads F.Files.own file octets.now 0 files.old files.new result }
@@ -16,7 +16,7 @@ pub fn append<F: Files>(files: &mut F, file: FileId, octets: &[u8]) -> Result<()
     Ok(())
 }
 
-// Adds as many octets as the chunk holds, read from another file.
+// Copies as many bytes as `chunk` holds from another file, from offset `at` on.
 fn copy_chunk<F: Files>(
     files: &mut F,
     from: FileId,
@@ -35,7 +35,8 @@ fn copy_chunk<F: Files>(
     }
 }
 
-/// Adds so many octets of one file, from a place on, to another, as many at a time as the buffer holds.
+/// Copies `len` bytes of one file, from offset `at` on, to the end of another. `buffer` limits the bytes that are
+/// copied at once.
 pub fn copy_data<F: Files>(
     files: &mut F,
     from: FileId,

@@ -1,4 +1,4 @@
-//! The Cues, RFC 9559, section 5.1.5 (Cues Element).
+//! Cues: RFC 9559, section 5.1.5 (Cues).
 
 ghost use Rattle.std.specs.Prelude.{◌≡◌, ◌^◌, ◌≤◌, ◌++◌, length, map, OnOk};
 ghost use Rattle.output_model.specs.Element.{octets_of, joined};
@@ -13,7 +13,7 @@ use mkv_schema::ids::{
 use output_model::CuePoint;
 use std::alloc::AllocError;
 
-// How many octets stand behind the header of a point's CueTrackPositions.
+// Returns the length of the body of a point's CueTrackPositions.
 #[tactic(auto, unfolding(ebml_numbers::specs::Number::is_id))]
 fn positions_len(point: &CuePoint) -> u64
     ensures exact { result ≡ length (positions_element point.now).body }
@@ -24,7 +24,7 @@ fn positions_len(point: &CuePoint) -> u64
         + uint_len(CUE_RELATIVE_POSITION, point.relative)
 }
 
-// How many stand behind that of the point.
+// Returns the length of the body of a CuePoint.
 #[tactic(auto, unfolding(ebml_numbers::specs::Number::is_id))]
 fn point_body_len(point: &CuePoint) -> u64
     ensures exact { result ≡ length (point_element point.now).body }
@@ -83,7 +83,7 @@ fn put_points(out: &mut Bytes, points: &[CuePoint]) -> Result<(), AllocError>
     Ok(())
 }
 
-/// Adds the Cues of these points; without points there are none.
+/// Appends the Cues of these points, or nothing if there are none.
 #[tactic(auto, unfolding(ebml_numbers::specs::Number::is_id))]
 pub(crate) fn put_cues(out: &mut Bytes, points: &[CuePoint]) -> Result<(), AllocError>
     requires { length points.now ≤ 2 ^ 20 }

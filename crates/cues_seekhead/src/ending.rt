@@ -1,4 +1,4 @@
-//! The last writes of an output.
+//! Last writes of an output
 
 ghost use Rattle.std.specs.Prelude.{◌≡◌, ◌+◌, ◌≤◌, [], ◌∷◌, length, IfOk, IfSome};
 ghost use Rattle.ebml_numbers.specs.Number.{size_octets};
@@ -25,19 +25,19 @@ use mkv_io::{Bytes, FileId, Files, Reads, RemuxEnd as OutEnd};
 use output_model::{CuePoint, Seek};
 use std::alloc::{AllocError, Global};
 
-/// The octets of an output's last writes.
+/// Bytes of an output's last writes
 #[derive(Drop)]
 pub(crate) struct Ending {
-    // what stands behind the Clusters
+    // elements after the Clusters
     back: Bytes,
     area: Bytes,
-    // octets of the Segment's body
+    // length of the Segment's body
     pub(crate) total: u64,
 }
 
 impl Ending {
-    /// What is written behind the Clusters, the first of it `len` octets inside the Segment, and then over the
-    /// area and the Segment's size. An output that is longer than a size can tell has no memory.
+    /// Returns the bytes after the Clusters, the area, and the Segment's size. The first byte is `len` bytes inside
+    /// the Segment. An output longer than a size can express fails like out of memory.
     pub(crate) fn new(
         alloc: Global,
         len: u64,
@@ -60,8 +60,8 @@ impl Ending {
         Ok(Ending { back, area, total })
     }
 
-    /// Adds what stands behind the Clusters, and then writes the area and the size. The Segment's body
-    /// begins `start` octets behind the file's first.
+    /// Appends the elements after the Clusters, and then writes the area and the size. The Segment's body begins at
+    /// byte `start` of the file.
     pub(crate) fn write<F: Files>(
         &self,
         files: &mut F,

@@ -1,4 +1,4 @@
-//! What stands in front of the Clusters.
+//! Elements before the Clusters
 
 ghost use Rattle.std.specs.Prelude.{◌≡◌, ◌+◌, ◌≤◌, ◌++◌, length, sum_by, OnOk, IfOk};
 ghost use Rattle.ebml_numbers.specs.Number.{id_octets};
@@ -21,14 +21,14 @@ use mkv_schema::ids::{ATTACHMENTS, INFO, TRACKS};
 use output_model::{AREA, Attachment, Front, Seek};
 use std::alloc::{AllocError, Global};
 
-/// What an output begins with.
+/// Start of an output
 #[derive(Drop)]
 pub struct Opening {
-    /// Its first octets, up to its first AttachedFile, or where it has none up to the Clusters.
+    /// First bytes, up to the first AttachedFile or else up to the Clusters
     pub octets: Bytes,
-    /// Where the Elements in front of the Clusters stand.
+    /// Places of the elements before the Clusters
     pub seeks: Vec<Seek>,
-    /// How many octets of the Segment's body stand in front of the Clusters, AttachedFiles among them.
+    /// Length of the Segment's body before the Clusters, AttachedFiles included
     pub len: u64,
 }
 
@@ -44,7 +44,7 @@ const WEBM: [u8; 36] = [
     0x42, 0x85, 0x81, 0x02,
 ];
 
-// The Segment's ID and an unknown size.
+// the Segment's ID and an unknown size
 const SEGMENT_HEADER: [u8; 12] = [
     0x18, 0x53, 0x80, 0x67, 0x01, 0xFF, 0xFF, 0xFF, 0xFF, 0xFF, 0xFF, 0xFF,
 ];
@@ -69,7 +69,7 @@ fn put_segment(out: &mut Bytes) -> Result<(), AllocError>
     Ok(())
 }
 
-/// How many octets stand before the Segment's body: the EBML header, the Segment's ID and its size.
+/// Returns the number of bytes before the Segment's body: the EBML header, the Segment's ID and its size.
 pub fn body_start(webm: bool) -> u64
     ensures { result ≡ body_start webm }
 {
@@ -77,7 +77,7 @@ pub fn body_start(webm: bool) -> u64
     (ebml + SEGMENT_HEADER.len()) as u64
 }
 
-// How many octets the AttachedFiles take.
+// Returns the length of the AttachedFiles.
 fn attachments_len(attachments: &[Attachment]) -> Result<u64, AllocError>
     ensures exact { IfOk result (λ len. len ≡ sum_by attached_total attachments.now) }
     ensures most { IfOk result (λ len. len ≤ longest) }
@@ -89,8 +89,8 @@ fn attachments_len(attachments: &[Attachment]) -> Result<u64, AllocError>
     Ok(total)
 }
 
-// Adds the header of Attachments, where there are any, with their Seek, and answers how many octets the
-// AttachedFiles take, which come next.
+// Appends the header of Attachments and its Seek, if there are any. Returns the length of the AttachedFiles, which
+// follow.
 #[tactic(auto, unfolding(ebml_numbers::specs::Number::is_id))]
 fn add_attachments(
     out: &mut Bytes,
@@ -112,7 +112,7 @@ fn add_attachments(
     Ok(len)
 }
 
-// An open output up to its Clusters, with these octets behind its area.
+// Returns an open output up to its Clusters, with `rest` after its area.
 fn head_octets(alloc: Global, webm: bool, rest: &Bytes) -> Result<Bytes, AllocError>
     ensures { IfOk result (λ out. out ≡ file_with webm unknown_size open_area rest.now) }
 {
@@ -124,8 +124,8 @@ fn head_octets(alloc: Global, webm: bool, rest: &Bytes) -> Result<Bytes, AllocEr
     Ok(out)
 }
 
-/// What an output begins with that has this in front of its Clusters. An output that is longer than a size
-/// can tell has no memory.
+/// Returns the start of an output with these elements before its Clusters. An output longer than a size can express
+/// fails like out of memory.
 pub fn open_octets(alloc: Global, front: &Front) -> Result<Opening, AllocError>
     requires info { id_of front.now.info ≡ INFO_ID }
     requires tracks { id_of front.now.tracks ≡ TRACKS_ID }

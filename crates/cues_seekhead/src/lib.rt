@@ -1,8 +1,8 @@
 #![tactic(auto)]
 
-//! Whole outputs in their files, RFC 9559, section 5.1 (Segment Element): what stands in front of the Clusters,
-//! then the Clusters one by one, and behind them Cues, Chapters and Tags. The SeekHead and the Segment's
-//! size are written last, over what was reserved for them.
+//! Whole outputs in their files: RFC 9559, section 5.1 (Segment). The elements before the Clusters come first, then
+//! the Clusters one by one, and after them Cues, Chapters and Tags. The SeekHead and the Segment's size are written
+//! last, into the room that was reserved for them.
 
 mod area;
 mod attached;

@@ -1,4 +1,4 @@
-//! An output that is being written.
+//! Output that is being written
 
 ghost use Rattle.std.specs.Prelude.{◌≡◌, ◌+◌, ◌<◌, ◌≤◌, [], ◌∷◌, ◌++◌, length, map, All, sum_by, OnOk, OnErr, IfOk, IfSome, IsOk};
 ghost use Rattle.mkv_io.specs.Sources.{IsLive, live_files};
@@ -30,13 +30,13 @@ use output_model::{CuePoint, Front, MAX_CUES, Seek};
 use std::alloc::{AllocError, Global};
 use std::marker::Model;
 
-/// An output that is being written. After a refusal of `cluster` or `cue` it can only be given up.
+/// Output that is being written; after an error of `cluster` or `cue` it can only be abandoned
 #[derive(Drop)]
 pub struct OutFile {
     alloc: Global,
     file: FileId,
     webm: bool,
-    // octets of the Segment's body so far
+    // length of the Segment's body up to now
     len: u64,
     seeks: Vec<Seek>,
     cues: Vec<CuePoint>,
@@ -55,8 +55,8 @@ impl Model for OutFile {
 }
 
 impl OutFile {
-    /// Makes an output, and writes what stands in front of its Clusters. Of an attached file no more is read than
-    /// its data, 64 KiB at once. After a refusal no file of the output is open.
+    /// Creates an output, and writes the elements before its Clusters. Only the data of attached files are read, 64
+    /// KiB at once. If it fails, no file of the output is open.
     pub fn begin<F: Files>(
         alloc: Global,
         files: &mut F,
@@ -92,8 +92,8 @@ impl OutFile {
         }
     }
 
-    /// Adds a cue point to a block of the Cluster that is written next, which stands `relative` octets behind that
-    /// Cluster's header. Of more than 1,048,576 points the first are kept.
+    /// Adds a cue point to a block of the next Cluster. The block's element begins `relative` bytes after the
+    /// Cluster's header. Only the first 1,048,576 points are kept.
     pub fn cue(&mut self, tick: u64, lane: u8, relative: u64) -> Result<(), AllocError>
         ensures ok { OnOk result (KeepsPoint tick lane relative self.old self.new) }
         ensures err { OnErr result (self.new ≡ self.old) }
@@ -111,7 +111,7 @@ impl OutFile {
         Ok(())
     }
 
-    /// Adds the octets of a Cluster.
+    /// Appends the bytes of a Cluster.
     pub fn cluster<F: Files>(&mut self, files: &mut F, bytes: &[u8]) -> Result<(), OutEnd>
         requires { IsOpen F.Reads files.old self.old }
         ensures appended { AppendsToLive F.Files.own self.old.file bytes.now files.old files.new result }
@@ -126,8 +126,8 @@ impl OutFile {
         Ok(())
     }
 
-    /// Adds Cues, Chapters and Tags, and writes the SeekHead and the Segment's size over what was reserved for
-    /// them. Whatever it answers, the file is closed. Answers the file's length.
+    /// Appends Cues, Chapters and Tags, writes the SeekHead and the Segment's size into their room, and closes the
+    /// file. Returns the file's length. The file is closed also if it fails.
     pub fn finish<F: Files>(
         self,
         files: &mut F,
@@ -144,7 +144,7 @@ impl OutFile {
         self.finish_with(files, &chapters, &tags)
     }
 
-    /// The same with Chapters and Tags that are lent, as those that several outputs have.
+    /// Finishes the output, like `finish`, with borrowed Chapters and Tags, which several outputs can share.
     pub fn finish_with<F: Files>(
         self,
         files: &mut F,
@@ -164,7 +164,7 @@ impl OutFile {
         done
     }
 
-    // Does what `finish` does, but for the closing.
+    // Does the work of `finish` except closing the file.
     fn write_end<F: Files>(
         self,
         files: &mut F,
@@ -192,7 +192,7 @@ impl OutFile {
         Ok(start + ending.total)
     }
 
-    /// Closes the file, and leaves it as it is. So an output is given up after a refusal.
+    /// Closes the file unchanged. It is for an output that can't be finished.
     pub fn abandon<F: Files>(self, files: &mut F)
         requires { IsLive F.Reads files.old self.file }
         ensures { EndsOnly F.Reads F.Files.own files.old files.new (self.file ∷ []) }
@@ -201,7 +201,7 @@ impl OutFile {
     }
 }
 
-// Writes what stands in front of the Clusters, of which these are the octets up to the first AttachedFile.
+// Writes the elements before the Clusters. `octets` has their bytes up to the first AttachedFile.
 fn write_front<F: Files>(
     alloc: Global,
     files: &mut F,

@@ -1,4 +1,4 @@
-//! Elements that are added with where they stand.
+//! Elements that are appended with their places
 
 ghost use Rattle.std.specs.Prelude.{◌≡◌, ◌+◌, ◌≤◌, [], ◌∷◌, ◌++◌, false, length, OnOk, IfOk};
 ghost use Rattle.tree_format.specs.Node.{id_of};
@@ -12,10 +12,10 @@ use mkv_io::Bytes;
 use output_model::Seek;
 use std::alloc::AllocError;
 
-// The most octets that a size of eight octets tells: RFC 8794, section 6.2 (Unknown Data Size).
+// Maximum number that a size of eight bytes can express: RFC 8794, section 6.2 (Unknown Data Size)
 const LONGEST: u64 = 0xFF_FFFF_FFFF_FFFE;
 
-/// So many octets, where a size can tell them; else there is no room for them.
+/// Returns `len`, or fails like out of memory if a size can't express it.
 pub fn sized(len: u64) -> Result<u64, AllocError>
     ensures { IfOk result (λ same. (same ≡ len) × (same ≤ longest)) }
 {
@@ -25,15 +25,15 @@ pub fn sized(len: u64) -> Result<u64, AllocError>
     Ok(len)
 }
 
-// Where the next Element stands: behind these octets, the first of which stands `at` octets inside the
-// Segment. A place that can't be told has no room.
+// Returns the place of the next element: after `out`, which begins `at` bytes inside the Segment. Fails like out of
+// memory if the place is too large.
 fn place_behind(at: u64, out: &Bytes) -> Result<u64, AllocError>
     ensures { IfOk result (λ place. place ≡ at + length out.now) }
 {
     at.checked_add(out.len() as u64).ok_or(AllocError)
 }
 
-/// Adds the Seek of an Element that comes next.
+/// Appends the Seek of the next element.
 pub(crate) fn add_seek(
     seeks: &mut Vec<Seek>,
     id: u32,
@@ -47,7 +47,7 @@ pub(crate) fn add_seek(
     Ok(())
 }
 
-/// Adds a tree of this ID, with its Seek.
+/// Appends a tree with the ID `id`, and its Seek.
 pub(crate) fn add_tree(
     out: &mut Bytes,
     seeks: &mut Vec<Seek>,

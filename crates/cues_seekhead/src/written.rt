@@ -1,4 +1,4 @@
-//! Elements that are added to octets in memory.
+//! Elements that are appended to bytes in memory
 
 ghost use Rattle.std.specs.Prelude.{◌≡◌, ◌+◌, ◌<◌, ◌≤◌, ◌++◌, false, length, OnOk, IsTrue};
 ghost use Rattle.ebml_numbers.specs.Number.{all_ones, is_id};
@@ -12,7 +12,7 @@ use ebml_tree::Tree;
 use mkv_io::Bytes;
 use std::alloc::AllocError;
 
-/// Adds a header, as short as can be, of an Element with so many octets behind it.
+/// Appends the shortest header of an element with `len` bytes after it.
 pub(crate) fn put_header(out: &mut Bytes, id: u32, len: u64) -> Result<(), AllocError>
     requires id { IsTrue (is_id id) }
     requires len { len < all_ones 8 }
@@ -23,7 +23,7 @@ pub(crate) fn put_header(out: &mut Bytes, id: u32, len: u64) -> Result<(), Alloc
     Ok(())
 }
 
-/// How many octets an Element has with so many behind its header.
+/// Returns the length of an element with `len` bytes after its header.
 pub(crate) fn element_len(id: u32, len: u64) -> u64
     requires id { IsTrue (is_id id) }
     requires len { len < all_ones 8 }
@@ -52,7 +52,7 @@ pub(crate) fn put_uint_element(out: &mut Bytes, id: u32, value: u64) -> Result<(
     Ok(())
 }
 
-/// Adds a tree in its normal form.
+/// Appends a tree in its normal form.
 pub(crate) fn put_tree(out: &mut Bytes, tree: &Tree) -> Result<(), AllocError>
     requires { is_filler (id_of tree.now) ≡ false }
     ensures ok { OnOk result (out.new ≡ out.old ++ octets_of (tree_element tree.now)) }

@@ -1,4 +1,4 @@
--- The sum, with what is left, is the whole.
+-- The sum and the rest make the whole.
 use Rattle.std.proofs.Common.{◌≡◌, ◌≤◌, ◌+◌, length, flat_map, drop}
 use Rattle.mkv_schema.specs.declared.ids.TheConstants.{FILE_DATA}
 use Rattle.tree_format.specs.NormalForm.{octets, longest}

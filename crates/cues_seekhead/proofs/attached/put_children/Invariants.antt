@@ -1,4 +1,4 @@
--- What was added, with what is left, is the whole.
+-- The appended part and the rest make the whole.
 use Rattle.std.proofs.Common.{◌≡◌, ◌++◌, flat_map, drop}
 use Rattle.tree_format.specs.NormalForm.{octets}
 use Rattle.cues_seekhead.proofs.attached.put_children.Given as goal

@@ -1,4 +1,4 @@
--- What was added, with what is left, is the whole.
+-- The appended part and the rest make the whole.
 use Rattle.std.proofs.Common.{◌≡◌, ◌++◌, flat_map, drop}
 use Rattle.mkv_schema.specs.declared.ids.TheConstants.{FILE_DATA}
 use Rattle.tree_format.specs.NormalForm.{octets}

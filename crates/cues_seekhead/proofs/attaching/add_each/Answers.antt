@@ -10,11 +10,11 @@ use Rattle.cues_seekhead.proofs.AppendingLemmas.{AppendsOnly-none, AppendsOnly-t
 use Rattle.cues_seekhead.proofs.AttachingLemmas.{attached_octets, data_total, attached-rest, data-rest}
 use Rattle.cues_seekhead.proofs.attaching.add_each.Goals as goal
 
--- none was added
+-- Nothing was appended.
 pub loop-attachment-init : goal.loop-attachment-init
 loop-attachment-init g c = AppendsOnly-none g.F.Reads g.F.Files c.args.file c.args.files.now 0
 
--- the next one can be added
+-- The next one can be appended.
 pub add_attachment-requires : goal.add_attachment-requires
 add_attachment-requires g c =
     let r = g.F.Reads in
@@ -33,7 +33,7 @@ add_attachment-requires g c =
       buffer = omega (arith, c.requires.buffer);
     }
 
--- it was
+-- It was appended.
 pub loop-attachment-preserved : goal.loop-attachment-preserved
 loop-attachment-preserved g c =
     let r = g.F.Reads in
@@ -54,7 +54,7 @@ loop-attachment-preserved g c =
     (AppendsOnly-then r f c.args.file start c.loop-attachment.files c.add_attachment.new.files _ _ _ _ 0 no_refusal c.requires.live before
     (record { appended = one.appended; size = one.size; kept = one.kept; cause = record { reading = one.cause.reading; writing = one.cause.writing }; reads = one.reads }))
 
--- it was refused
+-- It failed.
 pub returns-in_err-add_attachment : goal.returns-in_err-add_attachment
 returns-in_err-add_attachment g c =
     let r = g.F.Reads in
@@ -77,7 +77,7 @@ returns-in_err-add_attachment g c =
     (data-push them i it c.loop-attachment-test.true c.attachment-item.is)
     (AppendsOnly-then r f c.args.file start c.loop-attachment.files c.add_attachment.new.files _ _ _ _ 0 (Err c.in_err-add_attachment.field-0.0) c.requires.live before c.in_err-add_attachment.ensures)))
 
--- all were
+-- All were appended.
 pub returns : goal.returns
 returns g c =
     let them = c.args.attachments.now in

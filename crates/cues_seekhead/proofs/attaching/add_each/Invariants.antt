@@ -1,4 +1,4 @@
--- The first attached files were added.
+-- The first attached files were appended.
 use Rattle.std.proofs.Common.{take}
 use Rattle.mkv_io.specs.Sources.{live_files}
 use Rattle.cues_seekhead.specs.Appending.{AppendsOnly}

@@ -5,7 +5,7 @@ use Rattle.mkv_io.specs.Faults.{is_make_failure}
 use Rattle.cues_seekhead.proofs.AppendingLemmas.{PassesSome-refused, cause-make}
 use Rattle.cues_seekhead.proofs.copying.append.Goals as goal
 
--- the octets stand at the end
+-- The bytes are at the end.
 pub returns : goal.returns
 returns g c =
     let only = WritesOnly-one g.F.Reads g.F.Files c.args.files.now c.append.new.self c.args.file is_make_failure c.append.result
@@ -18,7 +18,7 @@ returns g c =
       reads = omega (arith, c.append.ensures.unread.octets);
     }
 
--- a first part of them does
+-- A prefix of them is at the end.
 pub returns-in_err-append : goal.returns-in_err-append
 returns-in_err-append g c =
     let p = err_from_is_err_and c.from_residual.result c.from_residual.ensures.1 in

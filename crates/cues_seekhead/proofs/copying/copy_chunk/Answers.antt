@@ -2,7 +2,7 @@ use Rattle.std.proofs.Common.{length, sym, ◌∙◌, arith}
 use Rattle.cues_seekhead.proofs.AppendingLemmas.{AppendsOnly-read, AppendsOnly-unread, names-untold, length-octets_told}
 use Rattle.cues_seekhead.proofs.copying.copy_chunk.Goals as goal
 
--- what was read is what the file holds, and reading changes no name
+-- The bytes that were read are the file's, and reading changes no name.
 pub returns-in-Ok : goal.returns-in-Ok
 returns-in-Ok g c =
     let start = c.args.files.now in
@@ -19,7 +19,7 @@ returns-in-Ok g c =
     (c.read_at.auto.into ∙ sym (length-octets_told content c.args.at n _ (g.met.F.Reads.told_size (g.F.Reads.standing start) c.args.from.n) c.requires.inside))
     c.append.ensures
 
--- nothing was read
+-- Nothing was read.
 pub returns-in-Err : goal.returns-in-Err
 returns-in-Err g c =
     let start = c.args.files.now in

@@ -5,7 +5,7 @@ use Rattle.output_model.specs.Attached.{octets_told}
 use Rattle.cues_seekhead.proofs.AppendingLemmas.{AppendsOnly-then, AppendsOnly-more, AppendsOnly-same, no_refusal, KeepsOthers-content, octets_told-more}
 use Rattle.cues_seekhead.proofs.copying.copy_data.Goals as goal
 
--- the file that is read is as it was
+-- The file that is read is unchanged.
 pub copy_chunk-requires : goal.copy_chunk-requires
 copy_chunk-requires g c =
     let kept = c.loop-done.invariant.copied.kept in
@@ -23,7 +23,7 @@ copy_chunk-requires g c =
       );
     }
 
--- a chunk more
+-- One more chunk.
 pub loop-done-preserved : goal.loop-done-preserved
 loop-done-preserved g c =
     let before = c.loop-done.invariant.copied in
@@ -43,7 +43,7 @@ loop-done-preserved g c =
       within = omega (arith, c.min-count.ensures);
     }
 
--- a chunk wasn't copied
+-- A chunk wasn't copied.
 pub returns-in_err-copy_chunk : goal.returns-in_err-copy_chunk
 returns-in_err-copy_chunk g c =
     let before = c.loop-done.invariant.copied in

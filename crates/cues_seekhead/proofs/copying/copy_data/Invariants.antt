@@ -1,4 +1,4 @@
--- What was copied so far.
+-- The first chunks were copied.
 use Rattle.std.proofs.Common.{◌≤◌, ◌-◌}
 use Rattle.mkv_io.specs.Sources.{live_files}
 use Rattle.output_model.specs.Attached.{octets_told}

@@ -1,4 +1,4 @@
--- The sum, with what is left, is the whole.
+-- The sum and the rest make the whole.
 use Rattle.std.proofs.Common.{◌≡◌, ◌≤◌, ◌+◌, ◌*◌, length, map, drop}
 use Rattle.output_model.specs.Element.{joined}
 use Rattle.output_model.specs.Cues.{point_element}

@@ -1,4 +1,4 @@
--- What was added, with what is left, is the whole.
+-- The appended part and the rest make the whole.
 use Rattle.std.proofs.Common.{◌≡◌, ◌++◌, map, drop}
 use Rattle.output_model.specs.Element.{joined}
 use Rattle.output_model.specs.Cues.{point_element}

@@ -1,4 +1,4 @@
--- The sum, with what is left, is the whole.
+-- The sum and the rest make the whole.
 use Rattle.std.proofs.Common.{◌≡◌, ◌≤◌, ◌+◌, sum_by, drop}
 use Rattle.tree_format.specs.NormalForm.{longest}
 use Rattle.cues_seekhead.specs.Attached.{attached_total}

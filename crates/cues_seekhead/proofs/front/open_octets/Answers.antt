@@ -1,4 +1,4 @@
--- Info, Tracks and the header of Attachments, one behind the other.
+-- Info, Tracks and the header of Attachments follow in sequence.
 use Rattle.std.proofs.Common.{length, sym, ap, ◌∙◌, arith, subst, List}
 use Rattle.output_model.specs.declared.places.Seek.{Seek}
 use Rattle.output_model.specs.SeekHead.{open_area}

@@ -6,14 +6,14 @@ use Rattle.cues_seekhead.proofs.AppendingLemmas.{AppendsOnly-more, AppendsOnly-s
 use Rattle.cues_seekhead.proofs.AttachingLemmas.{attached_octets, attached-octets-kept, data_total}
 use Rattle.cues_seekhead.proofs.out.write_front.Goals as goal
 
--- the first octets are refused
+-- The first bytes fail.
 pub returns-in_err-append : goal.returns-in_err-append
 returns-in_err-append g c =
     let p = err_from_is_err_and c.from_residual.result c.from_residual.ensures.1 in
     rw (p.1, p.2) (AppendsOnly-more g.F.Reads g.F.Files c.args.file c.args.octets.now (attached_octets (live_files g.F.Reads c.args.files.now) c.args.front.now.attachments)
     (c.args.octets.now ++ attached_octets (live_files g.F.Reads c.args.files.now) c.args.front.now.attachments) 0 (data_total c.args.front.now.attachments) c.args.files.now c.append.new.files c.in_err-append.field-0.0 refl (omega arith) c.in_err-append.ensures)
 
--- each can still be attached
+-- Each one can still be attached.
 pub add_attachments-requires-clause-attached : goal.add_attachments-requires-clause-attached
 add_attachments-requires-clause-attached g c = rw c.as_slice.ensures (λ k d below.
     let start = c.args.files.now in
@@ -23,7 +23,7 @@ add_attachments-requires-clause-attached g c = rw c.as_slice.ensures (λ k d bel
     let P : List ℕ → Type 0 = λ n. CanAttach g.F.Reads g.F.Files c.append.new.files n it in
     subst P (sym (kept.holders c.args.file.n c.requires.live)) (CanAttach-kept g.F.Reads g.F.Files name start c.append.new.files it kept (c.requires.attached k d below)))
 
--- the attached files stand behind them
+-- The attached files follow.
 pub returns : goal.returns
 returns g c =
     let start = c.args.files.now in

@@ -10,7 +10,7 @@ use Rattle.cues_seekhead.proofs.AppendingLemmas.{PassesSome-refused}
 use Rattle.cues_seekhead.proofs.DraftLemmas.{appended-to, overwrote, length-overwritten, IsPatched-none, IsPatched-over, StandsDrafted-begun, StandsDrafted-patched, in-area, in-size}
 use Rattle.cues_seekhead.proofs.ending.Ending.write.Goals as goal
 
--- a first part stands
+-- A prefix was appended.
 pub returns-in_err-append-clause-drafts : goal.returns-in_err-append-clause-drafts
 returns-in_err-append-clause-drafts g c =
     let p = err_from_is_err_and c.from_residual.result c.from_residual.ensures.1 in
@@ -18,7 +18,7 @@ returns-in_err-append-clause-drafts g c =
     (λ is. g.met.F.Files.names_stand c.append.new.self c.args.files.now (c.in_err-append.ensures.memory is))) in
     rw p.1 (λ before content long had. StandsDrafted-begun before _ _ _ content c.args.self.now.back _ had some)
 
--- the area may be anything
+-- The area may have any bytes.
 pub returns-in_err-overwrite-clause-drafts : goal.returns-in_err-overwrite-clause-drafts
 returns-in_err-overwrite-clause-drafts g c =
     let p = err_from_is_err_and c.from_residual-in_err-overwrite.result c.from_residual-in_err-overwrite.ensures.1 in
@@ -39,7 +39,7 @@ returns-in_err-overwrite-clause-drafts g c =
     (IsPatched-over (content ++ back) within.now d start (IsPatched-none d) (omega (arith, count, c.requires.area, long, length-append content back))
     (λ k low high. in-area start k area size (length within.now) count low high)))
 
--- the area stands, and the size may be anything
+-- The area is complete, and the size may have any bytes.
 pub returns-in_err-overwrite-2-clause-drafts : goal.returns-in_err-overwrite-2-clause-drafts
 returns-in_err-overwrite-2-clause-drafts g c =
     let p = err_from_is_err_and c.from_residual-in_err-overwrite-2.result c.from_residual-in_err-overwrite-2.ensures.1 in
@@ -71,7 +71,7 @@ returns-in_err-overwrite-2-clause-drafts g c =
     (omega (arith, count, eight, c.requires.area, c.requires.start, long, more, length-overwritten all area start inside))
     (λ k low high. in-size start k area size (length within.now) count low high)))
 
--- both stand
+-- Both are complete.
 pub returns-clause-drafts : goal.returns-clause-drafts
 returns-clause-drafts g c = λ before content long had.
     let holder = g.F.Files.holder c.args.files.now c.args.file.n in

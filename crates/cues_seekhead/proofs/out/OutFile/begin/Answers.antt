@@ -17,7 +17,7 @@ use Rattle.cues_seekhead.proofs.LayoutLemmas.{length-opened}
 use Rattle.cues_seekhead.proofs.MadeLemmas.{MakesFile-ended, MakesFile-kept}
 use Rattle.cues_seekhead.proofs.out.OutFile.begin.Goals as goal
 
--- the file wasn't made
+-- The file wasn't created.
 pub returns-in_err-file-clause-err : goal.returns-in_err-file-clause-err
 returns-in_err-file-clause-err g c =
     let p = err_from_is_err_and c.from_residual-in_err-file.result c.from_residual-in_err-file.ensures.1 in
@@ -32,7 +32,7 @@ returns-in_err-file-clause-made g c =
     let new = c.create.new.self in
     rw p.1 (KeepsOthers-unmade r f c.args.name.now old new c.create.result (g.met.F.Files.numbered old) c.in_err-file.ensures.refused.live c.create.ensures.stays c.create.ensures.asks)
 
--- attached files stay what they are
+-- Attached files are unchanged.
 pub write_front-requires-clause-attached : goal.write_front-requires-clause-attached
 write_front-requires-clause-attached g c = λ k d below.
     let old = c.args.files.now in
@@ -41,7 +41,7 @@ write_front-requires-clause-attached g c = λ k d below.
     let made = MakesFile-created g.F.Reads g.F.Files c.args.name.now c.in_ok-file.file old new c.create.result (g.met.F.Files.numbered old) ok.is_new c.create.ensures.stays c.create.ensures.asks in
     CanAttach-created g.F.Reads g.F.Files c.args.name.now c.in_ok-file.file old new _ (g.met.F.Files.numbered old) made (c.requires.attached k d below)
 
--- it was made, and written
+-- It was created and written.
 pub returns-in-Ok-clause-made : goal.returns-in-Ok-clause-made
 returns-in-Ok-clause-made g c =
     let r = g.F.Reads in
@@ -53,7 +53,7 @@ returns-in-Ok-clause-made g c =
     let P : List ℕ → Type 0 = λ name. KeepsOthers r f (name ∷ []) new c.write_front.new.files in
     MakesFile-kept r f c.args.name.now c.in_ok-file.file old new c.write_front.new.files (g.met.F.Files.numbered old) made (subst P ok.is_new.holder c.write_front.ensures.kept)
 
--- the name has what stands in front of the Clusters
+-- The name has the elements before the Clusters.
 pub returns-in-Ok-clause-ok : goal.returns-in-Ok-clause-ok
 returns-in-Ok-clause-ok g c =
     let r = g.F.Reads in
@@ -87,7 +87,7 @@ returns-in-Ok-clause-ok g c =
       known = record { webm = known.webm; len = known.len; seeks = known.seeks };
     }
 
--- a first part of that was written
+-- A prefix was written.
 pub returns-clause-err : goal.returns-clause-err
 returns-clause-err g c =
     let r = g.F.Reads in
@@ -110,7 +110,7 @@ returns-clause-err g c =
     let P : List ℕ → Type 0 = λ w. PassesSome (f.names new) (f.names c.write_front.new.files) (f.holder new c.in_ok-file.file.n) w in
     rw c.close.ensures.stays.names (begun-part (f.names old) (f.names new) (f.names c.write_front.new.files) (f.holder new c.in_ok-file.file.n) name (opened_with (front_with files front) []) ok.names ok.is_new.holder (subst P whole c.in-Err.ensures.appended))
 
--- and the file was closed
+-- The file was closed.
 pub returns-clause-made : goal.returns-clause-made
 returns-clause-made g c =
     let r = g.F.Reads in

@@ -2,7 +2,7 @@ use Rattle.std.proofs.lemmas.Result.{err_from_is_err_and}
 use Rattle.cues_seekhead.proofs.AppendingLemmas.{PassesSome-refused}
 use Rattle.cues_seekhead.proofs.out.OutFile.cluster.Goals as goal
 
--- a first part of the octets was written
+-- A prefix of the bytes was written.
 pub returns-in_err-append-clause-appended : goal.returns-in_err-append-clause-appended
 returns-in_err-append-clause-appended g c =
     let p = err_from_is_err_and c.from_residual.result c.from_residual.ensures.1 in

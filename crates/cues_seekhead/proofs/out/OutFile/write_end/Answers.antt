@@ -11,13 +11,13 @@ use Rattle.cues_seekhead.specs.OpenOutput.{OpenOutput}
 use Rattle.cues_seekhead.proofs.FinishLemmas.{ending-draft, finished, so_far, so_far-long, unfinished}
 use Rattle.cues_seekhead.proofs.out.OutFile.write_end.Goals as goal
 
--- nothing was written
+-- Nothing was written.
 pub returns-in_err-ending-clause-finishes : goal.returns-in_err-ending-clause-finishes
 returns-in_err-ending-clause-finishes g c =
     let p = err_from_is_err_and c.from_residual.result c.from_residual.ensures.1 in
     rw p.1 (λ before d ready. unfinished g.F.Reads g.F.Files before d c.args.files.now c.args.self c.args.chapters.now c.args.tags.now ready)
 
--- the last writes were refused
+-- The last writes failed.
 pub returns-in_err-write-clause-finishes : goal.returns-in_err-write-clause-finishes
 returns-in_err-write-clause-finishes g c =
     let p = err_from_is_err_and c.from_residual-in_err-write.result c.from_residual-in_err-write.ensures.1 in
@@ -33,7 +33,7 @@ returns-in_err-write-clause-finishes g c =
     let at_start : ℕ → Draft = λ start. record { name = name; appended = so_far d ++ e.back; patches = patches_at start e.area (size_octets e.total 8) } in
     subst Q (ap at_start c.body_start-start.ensures ∙ ending-draft g.F.Reads g.F.Files before d c.args.files.now o c.args.chapters.now c.args.tags.now name e ready ending) drafted)
 
--- all was written
+-- All was written.
 pub returns-clause-finishes : goal.returns-clause-finishes
 returns-clause-finishes g c =
     let o : OpenOutput = record { file = c.self.inside.file; webm = c.self.inside.webm; len = c.self.inside.len; seeks = c.self.inside.seeks.items; cues = c.self.inside.cues.items } in
