@@ -17,9 +17,9 @@ use Rattle.std.proofs.lemmas.Bool.{and_right, eq-eqb, le-leb, ne_eqb, or_parts, 
 use Rattle.splitter.specs.Laws.{PartNamesAre, PartNamesDiffer}
 use Rattle.splitter.specs.Names.{are_digits, before, behind, extension, is_plain, number_in, part_name, stem, stem_len, three_digits}
 
--- ---- where the extension begins
+-- ---- start of the extension
 
--- Behind an octet, no point stands.
+-- The bytes have no point.
 abbrev pub NoPoint : List ℕ → Type 0
 NoPoint bs = (i : ℕ) → i < length bs → get_or bs i 0 ≢ 46
 
@@ -64,14 +64,14 @@ slash-behind [] k slash = slash-none k slash
 slash-behind (b ∷ bs) zero slash = slash
 slash-behind (b ∷ bs) (suc k) slash = or_right (eqb b 47) (has_slash bs) (slash-behind bs k slash)
 
--- an octet behind which all isn't plain begins no extension
+-- An extension doesn't begin at a byte before another point or `/`.
 no-begin : (b : ℕ) (bs : List ℕ) → list_all is_plain bs ≡ false → stem_len (b ∷ bs) ≡ suc (stem_len bs)
 no-begin b bs isnt = ap (λ q. if q then 0 else suc (stem_len bs)) (ap (λ q. eqb b 46 && q) isnt ∙ and_right (eqb b 46) false refl)
 
 no-point-begins : (b : ℕ) (bs : List ℕ) → eqb b 46 ≡ false → stem_len (b ∷ bs) ≡ suc (stem_len bs)
 no-point-begins b bs isnt = ap (λ (q : Bool). if q && list_all is_plain bs then 0 else suc (stem_len bs)) isnt
 
--- the last point, with no `/` behind it
+-- The extension begins at the last point if no `/` follows.
 pub stem-at : (bs : List ℕ) (k : ℕ) → k < length bs → get_or bs k 0 ≡ 46 → ((i : ℕ) → k < i → i < length bs → get_or bs i 0 ≢ 46) → has_slash (drop k bs) ≡ false → stem_len bs ≡ k
 stem-at [] k inside here last slash = absurd (omega arith)
 stem-at (b ∷ bs) zero inside here last slash =
@@ -82,12 +82,12 @@ stem-at (b ∷ bs) (suc k) inside here last slash =
     no-begin b bs (point-isnt-plain bs k (omega arith) here)
     ∙ ap suc (stem-at bs k (omega arith) here (λ i behind within. last (suc i) (omega arith) (omega arith)) slash)
 
--- no point
+-- Without a point there is no extension.
 pub stem-none : (bs : List ℕ) → NoPoint bs → stem_len bs ≡ length bs
 stem-none [] none = refl
 stem-none (b ∷ bs) none = no-point-begins b bs (no-point-here b bs none) ∙ ap suc (stem-none bs (no-point-more b bs none))
 
--- the last point, with a `/` behind it
+-- If a `/` follows the last point, there is no extension.
 pub stem-slash : (bs : List ℕ) (k : ℕ) → k < length bs → get_or bs k 0 ≡ 46 → ((i : ℕ) → k < i → i < length bs → get_or bs i 0 ≢ 46) → has_slash (drop k bs) ≡ true → stem_len bs ≡ length bs
 stem-slash [] k inside here last slash = absurd (omega arith)
 stem-slash (b ∷ bs) zero inside here last slash =
@@ -100,13 +100,13 @@ stem-slash (b ∷ bs) (suc k) inside here last slash =
     no-begin b bs (slash-isnt-plain bs (slash-behind bs k slash))
     ∙ ap suc (stem-slash bs k (omega arith) here (λ i behind within. last (suc i) (omega arith) (omega arith)) slash)
 
--- a `/` behind a place, as it was looked for in what stands there
+-- The search for a `/` looks at the bytes after a place.
 pub slash-told : (name bs : List ℕ) (k : ℕ) (told : Bool) → bs ≡ name → told ≡ list_any (λ b. eqb b 47) (take (length bs - k) (drop k bs)) → has_slash (drop k name) ≡ told
 slash-told name bs k told same is =
     let long : length (drop k bs) ≡ length bs - k = length-drop k bs in
     sym (is ∙ ap has_slash (ap (λ n. take n (drop k bs)) (sym long) ∙ take-length (drop k bs)) ∙ ap (λ xs. has_slash (drop k xs)) same)
 
--- a name without an extension is cut at its end
+-- A name without an extension is its stem.
 pub whole-stem : (name : List ℕ) → stem_len name ≡ length name → name ≡ stem name
 whole-stem name is = sym (ap (λ k. take k name) is ∙ take-length name)
 
@@ -119,7 +119,7 @@ pub padded-three : (n : ℕ) → padded_integral (format_spec 32 0 4 3 (2 ^ 64 -
 unfolding padded_integral char_count
 padded-three n = simp (sub-zero, append-nil) refl
 
--- the name as it was written
+-- The name is the one that was written.
 pub written-name : (output stem' extension' digits : List ℕ) (text : String Global) (number : ℕ) (name : List ℕ)
     → digits ≡ padded_integral (format_spec 32 0 4 3 (2 ^ 64 - 1)) false [] (decimal number) → stem' ≡ stem output → extension' ≡ extension output
     → string_bytes text ≡ stem' ++ (45 ∷ (digits ++ extension')) → name ≡ string_bytes text → name ≡ part_name output number
@@ -128,7 +128,7 @@ written-name output stem' extension' digits text number name three first last is
     ∙ (ap (λ ds. stem' ++ (45 ∷ (ds ++ extension'))) (three ∙ padded-three number)
     ∙ ap₂ (λ (s e : List ℕ). s ++ (45 ∷ (three_digits number ++ e))) first last))
 
--- ---- the form of names
+-- ---- form of names
 
 same-octets : (xs : List ℕ) → pointwise nat_eq xs xs ≡ true
 same-octets [] = refl
@@ -165,7 +165,7 @@ three-are-digits n small =
     long : (l : ℕ) (ds : List ℕ) → length ds ≡ l → 3 ≤ length (replicate (3 - l) 48 ++ ds)
     long l ds is = omega (arith, length-append (replicate (3 - l) 48) ds, length-replicate {A = ℕ} (3 - l) 48)
 
--- the number is found in the name
+-- The number is found in the name.
 number-in-name : (output : List ℕ) (n : ℕ) → number_in output (part_name output n) ≡ Some (three_digits n)
 number-in-name output n =
     ap (λ o. option_and_then (before (extension output)) (option_and_then (behind (codes "-")) o)) (behind-first (stem output) (codes "-" ++ (three_digits n ++ extension output)))
@@ -174,7 +174,7 @@ number-in-name output n =
 pub part-names : PartNamesAre
 part-names output n small = ap (λ o. option_map_or are_digits o false) (number-in-name output n) ∙ three-are-digits n small
 
--- zeros in front of digits count nothing
+-- Leading zeros don't change a number.
 value-behind-zeros : (k : ℕ) (ds : List ℕ) → digits_value 10 (replicate k 48 ++ ds) ≡ digits_value 10 ds
 value-behind-zeros zero ds = refl
 value-behind-zeros (suc k) ds = value-behind-zeros k ds

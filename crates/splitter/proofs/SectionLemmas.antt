@@ -1,4 +1,4 @@
--- Sections, and the steps that lead to them.
+-- Sections, and the steps that make them.
 use Rattle.std.proofs.Common.{◌≡◌, ℕ, zero, suc, ◌+◌, ◌*◌, ◌^◌, ◌<◌, Bool, true, false, cond, ◌&&◌, ◌||◌, ◌⊎◌, inl, inr, List, [], ◌∷◌, ◌++◌, map, take, Option, Some, None, IfSome, refl, sym, subst, ◌∙◌, ap, ap₂, append_assoc, append-nil, arith}
 use Rattle.std.specs.Prelude.{if◌then◌else◌, flat_map}
 use Rattle.std.specs.List.{filter, slice_get}
@@ -16,18 +16,18 @@ use Rattle.splitter.specs.Sections.{Section, Split, begun, beyond, cut_from, cut
 use Rattle.splitter.specs.Steps.{CutsSeen, counted, is_cut, place_at, place_of, stepped}
 use Rattle.splitter.specs.Laws.{AreCutApart, IsUncut, SectionsAreCut, SectionsGoOn, StepsJoin, WholeIsOnePart, all_placed, placed, with_last}
 
--- ---- the load
+-- ---- load
 
--- a further block
+-- One more block adds its length.
 pub load-more : (xs : List OutputBlock) (b : OutputBlock) → load (xs ++ b ∷ []) ≡ load xs + octets_taken b
 load-more xs b = sum_by_push octets_taken xs b
 
--- what is counted says of a limit of 64 bits whether it is reached
+-- The counted load reaches a 64-bit limit exactly if the load does.
 pub full-counted : (size : Option ℕ) (n : ℕ) → IfSome size (λ limit. limit < 2 ^ 64) → is_full size (counted size n) ≡ is_full size n
 full-counted None n fits = refl
 full-counted (Some limit) n fits = grind (arith, nat_tests)
 
--- octets more are counted on
+-- Counting more bytes is the same as counting the sum.
 counted-more : (size : Option ℕ) (n k : ℕ) → counted size (counted size n + k) ≡ counted size (n + k)
 counted-more None n k = refl
 counted-more (Some limit) n k = omega arith
@@ -41,15 +41,15 @@ like-more size n m k same = sym (counted-more size n k) ∙ ap (λ c. counted si
 
 -- ---- step by step
 
--- what is known behind the last block of a section that has this load
+-- the state after a section's last block, with this load
 abbrev pub at_start : Split → ℕ → ℕ → CutsSeen
 at_start s start octets = record { spec = s.spec; size = s.size; scale = s.scale; start = Some start; load = counted s.size octets }
 
--- behind the last block of a section
+-- the state after the section `x`
 abbrev pub at_section : Split → Section → CutsSeen
 at_section s x = at_start s x.start (load x.blocks)
 
--- a section, if it is written
+-- the section if it is written
 abbrev standing : Split → Section → List Section
 standing s x = cond (is_written s x) (x ∷ []) []
 
@@ -70,7 +70,7 @@ filter-first : (x : Section) (xs : List Section) (w : Bool) → cond w (x ∷ []
 filter-first x xs true = refl
 filter-first x xs false = refl
 
--- behind a block, before which there is a cut or not
+-- the state after a block, with or without a cut before it
 abbrev stepped_if : Split → Section → OutputBlock → Bool → CutsSeen
 stepped_if s x b q = record {
   spec = s.spec;
@@ -83,7 +83,7 @@ stepped_if s x b q = record {
 abbrev place_if : Split → Section → OutputBlock → Bool → Place
 place_if s x b q = place_at (keeps s.spec ((if q then b.tick else x.start) * s.scale)) (q || false) (if q then b.tick else x.start)
 
--- the section that has the block
+-- the section with the block
 abbrev section_if : Section → OutputBlock → Bool → Section
 section_if x b q = if q then begun b.tick b else with_block x b
 
@@ -94,7 +94,7 @@ stepped-if s x b false =
     (counted-more s.size (load x.blocks) (octets_taken b) ∙ ap (counted s.size) (sym (load-more x.blocks b)))
 
 module _ (s : Split) (fits : IfSome s.size (λ limit. limit < 2 ^ 64)) where
-  -- what is known says whether a cut stands before a block
+  -- The state decides the cut before a block.
   pub cut-seen : (x : Section) (b : OutputBlock) → is_cut (at_section s x) (may_cut s b) b.tick ≡ cuts s x b
   cut-seen x b = ap (λ full. may_cut s b && (full || is_over s.spec (x.start * s.scale) (b.tick * s.scale))) (full-counted s.size (load x.blocks) fits)
 
@@ -104,7 +104,7 @@ module _ (s : Split) (fits : IfSome s.size (λ limit. limit < 2 ^ 64)) where
   pub place-seen : (x : Section) (b : OutputBlock) → place_of (at_section s x) (may_cut s b) b.tick ≡ place_if s x b (cuts s x b)
   place-seen x b = ap (place_if s x b) (cut-seen x b)
 
-  -- the steps over these blocks, from any section on, join to the sections that are written
+  -- The steps over these blocks, from any section on, make the written sections.
   abbrev Joins : List OutputBlock → Type 0
   Joins bs = (x : Section) (done : List Section) → all_placed s (at_section s x) (done ++ standing s x) bs ≡ done ++ filter (is_written s) (cut_from s x bs)
 
@@ -130,7 +130,7 @@ module _ (s : Split) (fits : IfSome s.size (λ limit. limit < 2 ^ 64)) where
   joins-first b bs start =
       ap (λ xs. all_placed s (at_section s (begun start b)) xs bs) (in-next [] b start (is_written s (begun start b))) ∙ joins bs (begun start b) []
 
-  -- the first block begins a section, whether a cut stands before it or not
+  -- The first block begins a section, with or without a cut before it.
   begins-first : (b : OutputBlock) (bs : List OutputBlock) (start : ℕ) (q : Bool)
       → all_placed s (at_start s start ((if q then 0 else 0) + octets_taken b)) (placed [] (place_at (keeps s.spec (start * s.scale)) (q || true) start) b) bs
       ≡ filter (is_written s) (cut_from s (begun start b) bs)
@@ -140,7 +140,7 @@ module _ (s : Split) (fits : IfSome s.size (λ limit. limit < 2 ^ 64)) where
 pub steps-join : StepsJoin
 steps-join s fits b bs = begins-first s fits b bs (if cuts s from_nought b then b.tick else 0) (cuts s from_nought b)
 
--- ---- over the whole list
+-- ---- for the whole list
 
 whole-next : (s : Split) (b : OutputBlock) (bs : List OutputBlock) (x : Section) → ((y : Section) → flat_map (λ (z : Section). z.blocks) (cut_from s y bs) ≡ y.blocks ++ bs) → (q : Bool)
     → flat_map (λ (z : Section). z.blocks) (if q then x ∷ cut_from s (begun b.tick b) bs else cut_from s (with_block x b) bs) ≡ x.blocks ++ (b ∷ bs)
@@ -151,7 +151,7 @@ whole : (s : Split) (bs : List OutputBlock) (x : Section) → flat_map (λ (z : 
 whole s [] x = refl
 whole s (b ∷ bs) x = whole-next s b bs x (whole s bs) (cuts s x b)
 
--- one of the blocks, or the one behind them, and what stands before it
+-- The block is an earlier one, with the same blocks before it.
 record IsOld (xs : List OutputBlock) (b c : OutputBlock) (k : ℕ) : Type 0 where
   here : slice_get xs k ≡ Some c
   before : take k (xs ++ b ∷ []) ≡ take k xs
@@ -181,7 +181,7 @@ uncut-more s x b before uncut k c some here =
       | inr new ↦ ap (λ ys. cuts s (record { start = x.start; blocks = ys }) c) new.before ∙ ap (cuts s x) (sym new.same) ∙ uncut
     ]
 
--- The first of the sections of blocks is the one that they were cut off, with some of them; and cuts stand between all.
+-- The first section of `xs` continues `x`, and cuts are exactly between all of them.
 record Continues (s : Split) (x : Section) (xs : List Section) : Type 0 where
   first : Section
   others : List Section
@@ -191,7 +191,7 @@ record Continues (s : Split) (x : Section) (xs : List Section) : Type 0 where
   blocks : first.blocks ≡ x.blocks ++ rest
   cut : AreCutApart s (first ∷ others)
 
--- from any section on
+-- The sections from any section on have cuts exactly between them.
 abbrev AreCut : Split → List OutputBlock → Type 0
 AreCut s bs = (x : Section) → IsUncut s x → Continues s x (cut_from s x bs)
 
@@ -233,7 +233,7 @@ sections-cut s (b ∷ bs) =
 
 -- ---- up to the next cut
 
--- what stands behind a section that starts at a tick and has a load
+-- the sections from one on that started at `start` and has this load
 abbrev goes_on_from : Split → ℕ → List OutputBlock → ℕ → List OutputBlock → List Section
 goes_on_from s start blocks octets bs = record { start = start; blocks = blocks ++ within s start octets bs } ∷ sections_at s (beyond s start octets bs)
 
@@ -250,12 +250,12 @@ pub goes-on : SectionsGoOn
 goes-on s x [] = ap (λ blocks. record { start = x.start; blocks = blocks } ∷ []) (sym (append-nil x.blocks))
 goes-on s x (b ∷ bs) = goes-on-next s b bs x (λ y. goes-on s y bs) (cuts s x b)
 
--- what is counted of the load says as much
+-- The counted load decides the same cuts.
 module _ (s : Split) (fits : IfSome s.size (λ limit. limit < 2 ^ 64)) (start : ℕ) where
   pub cuts-counted : (n : ℕ) (b : OutputBlock) → cuts_at s start (counted s.size n) b ≡ cuts_at s start n b
   cuts-counted n b = ap (λ full. may_cut s b && (full || is_over s.spec (start * s.scale) (b.tick * s.scale))) (full-counted s.size n fits)
 
-  -- two loads that count as much
+  -- Loads with equal counts have the same cuts.
   pub within-like : (bs : List OutputBlock) (n m : ℕ) → counted s.size n ≡ counted s.size m → within s start n bs ≡ within s start m bs
   within-like [] n m same = refl
   within-like (b ∷ bs) n m same =
@@ -276,9 +276,9 @@ module _ (s : Split) (fits : IfSome s.size (λ limit. limit < 2 ^ 64)) (start : 
   pub beyond-counted : (bs : List OutputBlock) (n : ℕ) → beyond s start (counted s.size n) bs ≡ beyond s start n bs
   beyond-counted bs n = beyond-like bs (counted s.size n) n (counted-twice s.size n)
 
--- ---- not split
+-- ---- without a split
 
--- neither by times nor by load
+-- The split has neither times nor a load limit.
 record IsWhole (s : Split) : Type 0 where
   spec : s.spec ≡ Whole
   size : s.size ≡ None
@@ -297,7 +297,7 @@ one-section s (b ∷ bs) x none =
     ap (λ q. if q then x ∷ cut_from s (begun b.tick b) bs else cut_from s (with_block x b) bs) (never-cut s x b none)
     ∙ (one-section s bs (with_block x b) none ∙ ap (λ blocks. record { start = x.start; blocks = blocks } ∷ []) (append_assoc x.blocks (b ∷ []) bs))
 
--- from nought on blocks have the ticks that they had
+-- From 0 on, blocks keep their ticks.
 same-blocks : (bs : List OutputBlock) → map (in_part 0) bs ≡ bs
 same-blocks [] = refl
 same-blocks (b ∷ bs) = ap₂ (λ (tick : ℕ) (more : List OutputBlock). in_output b.lane tick b ∷ more) (sub-zero b.tick) (same-blocks bs)

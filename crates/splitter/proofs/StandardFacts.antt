@@ -1,4 +1,4 @@
--- A small merge, split in several ways, and names of parts: computed, so that a wrong definition does not check.
+-- A small merge, split in several ways, and names of parts. They are computed: a wrong definition doesn't check.
 use Rattle.std.proofs.Common.{◌≡◌, ℕ, ◌+◌, ◌*◌, ◌-◌, Bool, true, false, List, [], ◌∷◌, Some, None, refl}
 use Rattle.std.specs.Prelude.{codes}
 use Rattle.std.specs.Fmt.{digits}
@@ -28,7 +28,7 @@ block lane tick key = record {
   kept = [];
 }
 
--- of the video lane, of which only some blocks are key, and of the audio lane, in which all are
+-- blocks of the video track, with some keyframes, and of the audio track, with only keyframes
 abbrev video : ℕ → Bool → OutputBlock
 video tick key = block 1 tick key
 
@@ -39,7 +39,7 @@ abbrev blocks : List OutputBlock
 blocks =
     video 0 true ∷ (audio 0 ∷ (audio 500 ∷ (video 1000 false ∷ (audio 1000 ∷ (audio 1500 ∷ (video 2000 true ∷ (video 1960 false ∷ (audio 2000 ∷ (audio 2500 ∷ (video 3000 false ∷ (audio 3000 ∷ [])))))))))))
 
--- split there, at milliseconds
+-- a split with ticks of a millisecond
 abbrev at : SplitSpec → List Bool → Split
 at spec videos = record { spec = spec; size = None; scale = 1000000; drives = λ lane. is_driver videos (lane - 1) }
 
@@ -49,41 +49,41 @@ seconds n = n * 1000000000
 abbrev between : ℕ → ℕ → SpanWords
 between start end = record { start = seconds start; end = Some (seconds end) }
 
--- ---- its parts
+-- ---- parts of the merge
 
 abbrev first : List OutputBlock
 first = video 0 true ∷ (audio 0 ∷ (audio 500 ∷ (video 1000 false ∷ (audio 1000 ∷ (audio 1500 ∷ [])))))
 
--- a block before the start of its part stands at 0
+-- A block before the start of its part is at 0.
 abbrev second : List OutputBlock
 second = video 0 true ∷ (video 0 false ∷ (audio 0 ∷ (audio 500 ∷ (video 1000 false ∷ (audio 1000 ∷ [])))))
 
 abbrev both : List Part
 both = record { start = 0; end = Some 2000; blocks = first } ∷ (record { start = 2000; end = None; blocks = second } ∷ [])
 
--- split by this, where the first lane is video
+-- the parts if the first track is video
 abbrev video_parts : SplitSpec → List Part
 video_parts spec = parts (at spec (true ∷ (false ∷ []))) blocks
 
 pub record AreSplit : Type 0 where
-  -- the key block that follows a time is at 2 seconds
+  -- The next keyframe is at 2 seconds.
   pub timestamp : video_parts (Times (seconds 1 ∷ [])) ≡ both
-  -- 0 is no such time, and one block uses up all that it reaches
+  -- The time 0 has no effect, and one block passes all times before it.
   pub timestamps : video_parts (Times (0 ∷ (seconds 1 ∷ (seconds 2 ∷ [])))) ≡ both
   pub duration : video_parts (Duration (seconds 1)) ≡ both
   pub stretches : video_parts (Parts (between 0 1 ∷ (between 2 3 ∷ []))) ≡ both
-  -- of the bounds that one cut uses up the last says what is written
+  -- If one cut passes several bounds, the last one decides.
   pub last_bound : video_parts (Parts (between 0 1 ∷ (record { start = seconds 1 + 500000000; end = None } ∷ []))) ≡ both
-  -- a cut that uses up both bounds begins a section that isn't written
+  -- A cut that passes both bounds begins a section that isn't written.
   pub past_both : video_parts (Parts (between 1 2 ∷ [])) ≡ []
-  -- stretches that touch are two parts
+  -- Adjacent spans are two parts.
   pub touching : video_parts (Parts (between 0 2 ∷ (between 2 3 ∷ []))) ≡ both
   pub not_split : video_parts Whole ≡ record { start = 0; end = None; blocks = blocks } ∷ []
 
 are_split : AreSplit
 are_split = record { timestamp = refl; timestamps = refl; duration = refl; stretches = refl; last_bound = refl; past_both = refl; touching = refl; not_split = refl }
 
--- ---- where every lane drives, and where nothing stands before a cut
+-- ---- each track drives, or nothing is before a cut
 
 abbrev audio_parts : SplitSpec → List OutputBlock → List Part
 audio_parts spec list = parts (at spec (false ∷ [])) list
@@ -92,14 +92,14 @@ abbrev lone : ℕ → ℕ → Part
 lone start tick = record { start = start; end = None; blocks = block 1 tick true ∷ [] }
 
 pub record AreLone : Type 0 where
-  -- a cut before the first block makes no part
+  -- A cut before the first block makes no part.
   pub cut_before : audio_parts (Times (seconds 1 ∷ [])) (block 1 1500 true ∷ []) ≡ lone 1500 0 ∷ []
   pub not_cut : audio_parts (Times (seconds 2 ∷ [])) (block 1 1500 true ∷ []) ≡ lone 0 1500 ∷ []
   pub each : audio_parts (Duration (seconds 1)) (block 1 0 true ∷ (block 1 1000 true ∷ [])) ≡ record { start = 0; end = Some 1000; blocks = block 1 0 true ∷ [] } ∷ (lone 1000 0 ∷ [])
-  -- the section from the beginning is a part, even without blocks
+  -- The section at the start is a part even without blocks.
   pub no_blocks : audio_parts (Duration (seconds 1)) [] ≡ record { start = 0; end = None; blocks = [] } ∷ []
   pub none_kept : audio_parts (Parts (between 1 2 ∷ [])) [] ≡ []
-  -- what is left out ends the part before it
+  -- A section that isn't written ends the part before it.
   pub left_out : audio_parts (Parts (between 0 1 ∷ [])) (block 1 0 true ∷ (block 1 1000 true ∷ [])) ≡ record { start = 0; end = Some 1000; blocks = block 1 0 true ∷ [] } ∷ []
 
 are_lone : AreLone

@@ -1,4 +1,4 @@
--- What holds of every split.
+-- Laws about each split.
 use Rattle.std.specs.Prelude.{◌≡◌, ⊤, ℕ, ◌<◌, ◌^◌, true, false, List, [], ◌∷◌, ◌++◌, filter, flat_map, take, Some, None, IfSome}
 use Rattle.std.specs.List.{slice_get}
 use Rattle.output_model.specs.OutputBlock.{OutputBlock}
@@ -13,36 +13,36 @@ use Rattle.splitter.specs.Steps.{CutsSeen, new_cuts, place_of, stepped}
 
 -- ---- step by step
 
--- with a further block in the last section
+-- the sections with one more block in the last one
 abbrev pub with_last : List Section → OutputBlock → List Section
 with_last [] b = []
 with_last (x ∷ []) b = with_block x b ∷ []
 with_last (x ∷ (y ∷ ys)) b = x ∷ with_last (y ∷ ys) b
 
--- sections that are written, and a block at its place: it begins one, is in the last one, or is in none
+-- the written sections after a block at this place: it begins one, joins the last one, or is in none
 abbrev pub placed : List Section → Place → OutputBlock → List Section
 placed xs (Next start) b = xs ++ begun start b ∷ []
 placed xs Same b = with_last xs b
 placed xs Out b = xs
 
--- the same of blocks, each at the place that a step says
+-- the written sections after blocks, each at the place of its step
 abbrev pub all_placed : Split → CutsSeen → List Section → List OutputBlock → List Section
 all_placed s c xs [] = xs
 all_placed s c xs (b ∷ bs) = all_placed s (stepped c (may_cut s b) b.tick (octets_taken b)) (placed xs (place_of c (may_cut s b) b.tick) b) bs
 
--- The places of all blocks, step by step, are those in the sections that are written, where a limit has 64 bits.
+-- The places of all blocks, step by step, make the written sections, if a limit has 64 bits.
 abbrev pub StepsJoin : Type 0
 StepsJoin =
     (s : Split) → IfSome s.size (λ limit. limit < 2 ^ 64) → (b : OutputBlock) (bs : List OutputBlock)
     → all_placed s (new_cuts s.spec s.size s.scale) [] (b ∷ bs) ≡ filter (is_written s) (sections s (b ∷ bs))
 
--- ---- over the whole list
+-- ---- for the whole list
 
--- No cut stands before a block of a section, but for its first.
+-- No cut is before a block of the section `x`, except its first block.
 abbrev pub IsUncut : Split → Section → Type 0
 IsUncut s x = (k : ℕ) (b : OutputBlock) → 0 < k → slice_get x.blocks k ≡ Some b → cuts s (record { start = x.start; blocks = take k x.blocks }) b ≡ false
 
--- A section begins with a block, at whose tick it starts, and a cut stands before that behind the other section.
+-- The section `y` begins with a block and starts at its tick, and a cut is before this block, after the section `x`.
 pub record IsCutOff (s : Split) (x y : Section) : Type 0 where
   pub first : OutputBlock
   pub rest : List OutputBlock
@@ -50,13 +50,13 @@ pub record IsCutOff (s : Split) (x y : Section) : Type 0 where
   pub start : y.start ≡ first.tick
   pub cut : cuts s x first ≡ true
 
--- Cuts stand between sections, and nowhere else.
+-- Cuts are exactly between the sections.
 abbrev pub AreCutApart : Split → List Section → Type 0
 AreCutApart s [] = ⊤
 AreCutApart s (x ∷ []) = IsUncut s x
 AreCutApart s (x ∷ (y ∷ ys)) = IsUncut s x × IsCutOff s x y × AreCutApart s (y ∷ ys)
 
--- The sections of a merged list, one behind the other, are that list, and cuts stand between them.
+-- The sections `xs` in sequence make the list `blocks`, and cuts are exactly between them.
 pub record AreSections (s : Split) (blocks : List OutputBlock) (xs : List Section) : Type 0 where
   pub whole : flat_map (λ (x : Section). x.blocks) xs ≡ blocks
   pub cut : AreCutApart s xs
@@ -64,11 +64,11 @@ pub record AreSections (s : Split) (blocks : List OutputBlock) (xs : List Sectio
 abbrev pub SectionsAreCut : Type 0
 SectionsAreCut = (s : Split) (blocks : List OutputBlock) → AreSections s blocks (sections s blocks)
 
--- A section has what stands before the next cut, and behind it are those of the blocks from there on.
+-- A section has the blocks before the next cut, and the next sections have the blocks after it.
 abbrev pub SectionsGoOn : Type 0
 SectionsGoOn = (s : Split) (x : Section) (bs : List OutputBlock) → cut_from s x bs ≡ record { start = x.start; blocks = x.blocks ++ within s x.start (load x.blocks) bs } ∷ sections_at s (beyond s x.start (load x.blocks) bs)
 
--- What isn't split is one part, which has all blocks as they are.
+-- An output that isn't split is one part with all blocks unchanged.
 abbrev pub WholeIsOnePart : Type 0
 WholeIsOnePart = (s : Split) (blocks : List OutputBlock) → s.spec ≡ Whole → s.size ≡ None → parts s blocks ≡ record { start = 0; end = None; blocks = blocks } ∷ []
 
@@ -78,6 +78,6 @@ WholeIsOnePart = (s : Split) (blocks : List OutputBlock) → s.spec ≡ Whole �
 abbrev pub PartNamesAre : Type 0
 PartNamesAre = (output : List ℕ) (number : ℕ) → number < 2 ^ 64 → is_part_name output (part_name output number) ≡ true
 
--- Parts of different numbers have different names.
+-- Parts with different numbers have different names.
 abbrev pub PartNamesDiffer : Type 0
 PartNamesDiffer = (output : List ℕ) (m n : ℕ) → m < 2 ^ 64 → n < 2 ^ 64 → part_name output m ≡ part_name output n → m ≡ n

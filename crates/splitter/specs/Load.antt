@@ -1,14 +1,14 @@
--- How many octets blocks take, by which an output may be cut too: RFC 9559, section 5.1.3 (Cluster Element).
+-- The load of blocks in bytes, for a split by size: RFC 9559, section 5.1.3 (Cluster).
 use Rattle.std.specs.Prelude.{ℕ, nat_le, Bool, false, List, Option, Some, None}
 use Rattle.std.specs.List.{sum_by}
 use Rattle.output_model.specs.OutputBlock.{OutputBlock}
 use Rattle.cluster_writer.specs.Lengths.{octets_taken}
 
--- The load of blocks: the octets of their SimpleBlocks and BlockGroups.
+-- the load of blocks: the bytes of their SimpleBlocks and BlockGroups
 abbrev pub load : List OutputBlock → ℕ
 load blocks = sum_by octets_taken blocks
 
--- a load of so many octets has reached the limit, where there is one
+-- A load of `octets` bytes has reached the limit, if there is one.
 abbrev pub is_full : Option ℕ → ℕ → Bool
 is_full None octets = false
 is_full (Some limit) octets = nat_le limit octets

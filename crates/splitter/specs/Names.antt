@@ -1,4 +1,4 @@
--- The names of the parts of an output, which are this project's.
+-- The names of an output's parts, which are this project's choice.
 use Rattle.std.specs.Prelude.{ℕ, suc, ◌-◌, ◌==◌, nat_eq, nat_le, Bool, false, not, ◌&&◌, ◌||◌, if◌then◌else◌, List, [], ◌∷◌, ◌++◌, length, take, drop, replicate, codes, Option, Some, None}
 use Rattle.std.specs.List.{list_all, starts_with, ends_with}
 use Rattle.std.specs.Option.{option_and_then, option_map_or}
@@ -6,17 +6,16 @@ use Rattle.std.specs.Char.{is_ascii_digit}
 use Rattle.std.specs.Fmt.{decimal}
 use Rattle.mkv_io.specs.Characters.{DIGIT_0, POINT, char}
 
--- no point and no `/`
+-- The byte is neither a point nor `/`.
 abbrev pub is_plain : ℕ → Bool
 is_plain b = not (b == POINT || b == char "/")
 
--- How many octets stand before the extension of a name: that begins at a point behind which there is no other, and no
--- `/`. Where there is none, it is empty.
+-- the number of bytes before a name's extension; it begins at the last point if no `/` follows, and is empty otherwise
 abbrev pub stem_len : List ℕ → ℕ
 stem_len [] = 0
 stem_len (b ∷ bs) = if b == POINT && list_all is_plain bs then 0 else suc (stem_len bs)
 
--- a name without its extension
+-- the name without its extension
 abbrev pub stem : List ℕ → List ℕ
 stem name = take (stem_len name) name
 
@@ -24,30 +23,30 @@ stem name = take (stem_len name) name
 abbrev pub extension : List ℕ → List ℕ
 extension name = drop (stem_len name) name
 
--- a number in decimal, with zeros in front up to three digits
+-- a decimal number with leading zeros up to three digits
 abbrev pub three_digits : ℕ → List ℕ
 three_digits n = replicate (3 - length (decimal n)) DIGIT_0 ++ decimal n
 
--- The name of the part of this number of an output, from 1 on.
+-- the name of the part `number` of an output, counted from 1
 abbrev pub part_name : List ℕ → ℕ → List ℕ
 part_name output number = stem output ++ (codes "-" ++ (three_digits number ++ extension output))
 
--- three digits or more
+-- The bytes are at least three digits.
 abbrev pub are_digits : List ℕ → Bool
 are_digits bs = nat_le 3 (length bs) && list_all is_ascii_digit bs
 
--- what stands behind these octets, where they are the first
+-- the bytes without the prefix `front`, if they have it
 abbrev pub behind : List ℕ → List ℕ → Option (List ℕ)
 behind front bs = if starts_with nat_eq bs front then Some (drop (length front) bs) else None
 
--- what stands before these octets, where they are the last
+-- the bytes without the suffix `end`, if they have it
 abbrev pub before : List ℕ → List ℕ → Option (List ℕ)
 before end bs = if ends_with nat_eq bs end then Some (take (length bs - length end) bs) else None
 
--- what stands between the stem of an output with a `-` and its extension
+-- the bytes of `name` between the output's stem with `-` and its extension, if it has both
 abbrev pub number_in : List ℕ → List ℕ → Option (List ℕ)
 number_in output name = option_and_then (before (extension output)) (option_and_then (behind (codes "-")) (behind (stem output) name))
 
--- A name has the form of those of the parts of an output, whatever its number.
+-- The name has the form of a part of the output, with any number.
 abbrev pub is_part_name : List ℕ → List ℕ → Bool
 is_part_name output name = option_map_or are_digits (number_in output name) false

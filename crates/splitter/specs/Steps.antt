@@ -1,4 +1,4 @@
--- The places of blocks, one after the other: what the code knows on the way. What a split is stands in Split and Sections.
+-- The places of blocks in sequence, as the code computes them. Split and Sections define a split.
 use Rattle.std.specs.Prelude.{ℕ, ◌+◌, ◌-◌, ◌*◌, ◌^◌, min, Bool, ◌&&◌, ◌||◌, if◌then◌else◌, Option, Some, None, is_none, unwrap_or}
 use Rattle.splitter.specs.declared.cuts.Place.{Place}
 use Rattle.splitter.specs.declared.cuts.Place.TheVariants.{Same, Next, Out}
@@ -6,10 +6,9 @@ use Rattle.splitter.specs.declared.spec.SplitSpec.{SplitSpec}
 use Rattle.splitter.specs.Load.{is_full}
 use Rattle.splitter.specs.Split.{is_over, keeps}
 
--- ---- what is known on the way
+-- ---- state of cutting
 
--- Where is split, the nanoseconds of a tick, the tick at which the section starts that has the last block, if there was one,
--- and its load.
+-- the times and the load limit of a split, the nanoseconds per tick, the start of the last block's section if any, and its load
 pub record CutsSeen : Type 0 where
   pub spec : SplitSpec
   pub size : Option ℕ
@@ -17,44 +16,44 @@ pub record CutsSeen : Type 0 where
   pub start : Option ℕ
   pub load : ℕ
 
--- no block has been placed
+-- the state before the first block
 abbrev pub new_cuts : SplitSpec → Option ℕ → ℕ → CutsSeen
 new_cuts spec size scale = record { spec = spec; size = size; scale = scale; start = None; load = 0 }
 
--- the tick at which the section starts that has the last block, or the one at the beginning
+-- the start of the last block's section, or of the one at the start of the output
 abbrev pub start_of : CutsSeen → ℕ
 start_of c = unwrap_or c.start 0
 
--- that section is written
+-- This section is written.
 abbrev pub is_kept : CutsSeen → Bool
 is_kept c = keeps c.spec (start_of c * c.scale)
 
--- that section is full, or is over at a tick
+-- This section is full, or over at the tick `tick`.
 abbrev pub is_over_at : CutsSeen → ℕ → Bool
 is_over_at c tick = is_full c.size c.load || is_over c.spec (start_of c * c.scale) (tick * c.scale)
 
--- A load is counted up to 2^64 - 1, which is the greatest limit, and only where there is a limit.
+-- a load, counted up to 2^64 - 1, the largest limit, and only if there is a limit
 abbrev pub counted : Option ℕ → ℕ → ℕ
 counted None octets = 0
 counted (Some limit) octets = min octets (2 ^ 64 - 1)
 
--- ---- a step
+-- ---- one step
 
--- before a block, at which a cut may be, there is one
+-- A cut is before a block at `tick`, if one may be.
 abbrev pub is_cut : CutsSeen → Bool → ℕ → Bool
 is_cut c may tick = may && is_over_at c tick
 
--- behind a block at a tick, which takes so many octets
+-- the state after a block at `tick` of `len` bytes
 abbrev pub stepped : CutsSeen → Bool → ℕ → ℕ → CutsSeen
 stepped c may tick len = record c {
   start = Some (if is_cut c may tick then tick else start_of c);
   load = counted c.size ((if is_cut c may tick then 0 else c.load) + len);
 }
 
--- the place of a block in a section that is written or not, and that it begins or not
+-- the place of a block in a section that is written or not, as its first block or not
 abbrev pub place_at : Bool → Bool → ℕ → Place
 place_at kept first start = if kept then (if first then Next start else Same) else Out
 
--- A block begins a section where a cut stands before it, or no block does.
+-- the place of the next block; it begins a section if a cut is before it, or if it is the first block
 abbrev pub place_of : CutsSeen → Bool → ℕ → Place
 place_of c may tick = place_at (is_kept (stepped c may tick 0)) (is_cut c may tick || is_none c.start) (start_of (stepped c may tick 0))

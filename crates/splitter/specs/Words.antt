@@ -1,4 +1,4 @@
--- Where an output is split, by its words. The rule is this project's, after mkvmerge(1).
+-- The meaning of a `--split` option. The rule is this project's, after mkvmerge(1).
 use Rattle.std.specs.Prelude.{ℕ, zero, suc, List, filter_map, Option, Some, None}
 use Rattle.std.specs.List.{slice_get}
 use Rattle.requests.specs.declared.split.SplitWords.{SplitWords}
@@ -6,12 +6,12 @@ use Rattle.requests.specs.declared.split.SplitWords.TheVariants as words
 use Rattle.splitter.specs.declared.spec.SplitSpec.{SplitSpec}
 use Rattle.splitter.specs.declared.spec.SplitSpec.TheVariants.{Whole, Duration, Times, Parts}
 
--- where the chapter of this number starts, from 1 on, if there is one
+-- the start of the chapter `number`, counted from 1, if there is one
 abbrev pub start_at : List ℕ → ℕ → Option ℕ
 start_at starts zero = None
 start_at starts (suc k) = slice_get starts k
 
--- The times at which an output is split whose chapters start at these times.
+-- the split by times of an output with these chapter starts
 abbrev pub spec_of : Option SplitWords → List ℕ → SplitSpec
 spec_of None starts = Whole
 spec_of (Some (words.Duration by)) starts = Duration by
@@ -21,7 +21,7 @@ spec_of (Some words.AllChapters) starts = Times starts
 spec_of (Some (words.Chapters numbers)) starts = Times (filter_map (start_at starts) numbers)
 spec_of (Some (words.Size limit)) starts = Whole
 
--- The load at which each of its parts ends, where it is split by its load.
+-- the load at the end of each part, if the option splits by size
 abbrev pub size_of : Option SplitWords → Option ℕ
 size_of None = None
 size_of (Some (words.Duration by)) = None

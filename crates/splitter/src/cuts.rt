@@ -1,4 +1,4 @@
-//! The places of blocks, one after the other.
+//! Places of blocks in the parts of an output, in sequence
 
 ghost use Rattle.std.specs.Prelude.{◌≡◌, ◌&&◌, ℕ};
 ghost use Rattle.splitter.specs.Steps.{is_kept, is_over_at, new_cuts, place_of, stepped};
@@ -7,25 +7,25 @@ use crate::spec::SplitSpec;
 use output_model::OutHead;
 use std::marker::Model;
 
-/// Where a block of a merged list stands.
+/// Place of a block of a merged list
 #[derive(Clone, Copy, Debug, PartialEq, Eq)]
 pub enum Place {
-    /// In the same part as the block before it.
+    /// Same part as the previous block
     Same,
-    /// In a new part, which starts at this tick. It is the first block of that part.
+    /// First block of a new part, which starts at this tick
     Next { start: u64 },
-    /// In no part.
+    /// No part
     Out,
 }
 
-/// Where a merged list is cut by times, block by block.
+/// State of cutting a merged list by times, block by block
 #[derive(Drop)]
 pub struct Cuts {
     spec: SplitSpec,
     scale: u64,
-    // the tick at which the section starts that has the last block; before the first block there is none
+    // tick at the start of the last block's section; none before the first block
     start: Option<u64>,
-    // the time at which that section ends, and whether it is written
+    // time at the end of that section, and whether it is written
     end: Option<u128>,
     kept: bool,
 }
@@ -43,7 +43,7 @@ impl Model for Cuts {
 }
 
 impl Cuts {
-    /// An output of so many nanoseconds a tick, of which no block has been placed. Takes no memory.
+    /// Returns the state before the first block, for an output with `scale` nanoseconds per tick. It takes no memory.
     pub fn new(spec: SplitSpec, scale: u64) -> Cuts
         ensures { result ≡ new_cuts spec None scale }
     {
@@ -58,15 +58,15 @@ impl Cuts {
         }
     }
 
-    /// Whether the section is written that has the last block. Before the first block it is the one that starts at the
-    /// beginning: where that is written, it is a part even if there are no blocks.
+    /// Checks whether the last block's section is written. Before the first block this is the section at the start of
+    /// the output. If it is written, it is a part even without blocks.
     pub fn is_kept(&self) -> bool
         ensures { result ≡ is_kept self.now }
     {
         self.kept
     }
 
-    // Begins the section that starts at this tick.
+    // Starts a section at the tick `start`.
     fn begin(&mut self, start: u64)
         ensures { self.new ≡ record self.old { start = Some start } }
     {
@@ -76,7 +76,7 @@ impl Cuts {
         self.start = Some(start);
     }
 
-    // Whether the section is over at this tick.
+    // Checks whether the section is over at the tick `tick`.
     fn is_over(&self, tick: u64) -> bool
         ensures { result ≡ is_over_at self.now tick }
     {
@@ -84,7 +84,8 @@ impl Cuts {
         self.end.is_some_and(|end| end <= time)
     }
 
-    /// The place of the next block of a merged list, whose lane drives or doesn't. Takes no memory.
+    /// Returns the place of the next block of a merged list. `drives` is set if its output track drives the cuts. It
+    /// takes no memory.
     pub fn assign(&mut self, head: &OutHead, drives: bool) -> Place
         ensures place { result ≡ place_of self.old (head.now.key && drives) head.now.tick }
         ensures steps { (len : ℕ) → self.new ≡ stepped self.old (head.now.key && drives) head.now.tick len }

@@ -1,10 +1,10 @@
-//! The lanes at whose blocks an output is cut.
+//! Output tracks that drive the cuts of an output
 
 ghost use Rattle.std.specs.Prelude.{◌≡◌};
 ghost use Rattle.splitter.specs.Split.{is_driver};
 
-/// Whether a lane, counted from 0, drives: an output is cut before its key blocks. Of these lanes, of which some are
-/// video, the first video lane does; where none is video, every lane does.
+/// Checks whether the output track `lane`, counted from 0, drives: an output is cut before its keyframes. The first
+/// video track drives, or each track if there is no video. `videos` marks the video tracks.
 pub fn is_driver(videos: &[bool], lane: usize) -> bool
     ensures { result ≡ is_driver videos.now lane }
 {

@@ -1,23 +1,23 @@
-//! What holds of every split.
+//! Laws about each split
 
 ghost use Rattle.splitter.specs.Laws.{PartNamesAre, PartNamesDiffer, SectionsAreCut, SectionsGoOn, StepsJoin, WholeIsOnePart};
 
-/// The places that the steps say of the blocks of a merged list are those in its sections that are written.
+/// The places of a merged list's blocks, step by step, make its written sections.
 pub fn steps_join()
     ensures { StepsJoin }
 {}
 
-/// Each block of a merged list stands in one section, and cuts stand between sections and nowhere else.
+/// Each block of a merged list is in one section, and cuts are exactly between the sections.
 pub fn sections_are_cut()
     ensures { SectionsAreCut }
 {}
 
-/// A section ends at the next cut, and the others begin there.
+/// A section ends at the next cut, and the next section begins there.
 pub fn sections_go_on()
     ensures { SectionsGoOn }
 {}
 
-/// What isn't split is one part.
+/// An output that isn't split is one part.
 pub fn whole_is_one_part()
     ensures { WholeIsOnePart }
 {}
@@ -27,7 +27,7 @@ pub fn part_names_are()
     ensures { PartNamesAre }
 {}
 
-/// Parts of different numbers have different names.
+/// Parts with different numbers have different names.
 pub fn part_names_differ()
     ensures { PartNamesDiffer }
 {}

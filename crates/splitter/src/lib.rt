@@ -1,6 +1,6 @@
 #![tactic(auto)]
 
-//! Where a merged list is cut, and which blocks each part of the output has.
+//! Cuts of a merged list, and the blocks of each part of an output
 
 mod cuts;
 mod driving;

@@ -1,4 +1,4 @@
-//! The names of parts.
+//! Names of parts
 
 ghost use Rattle.std.specs.Prelude.{◌≡◌, take, drop, IfOk};
 ghost use Rattle.std.specs.Option.{option_copied};
@@ -7,7 +7,7 @@ ghost use Rattle.splitter.specs.Names.{are_digits, before, behind, extension, is
 use mkv_io::Text;
 use std::alloc::{AllocError, Global};
 
-// A name, cut in front of its extension.
+// Splits a name before its extension.
 fn cut(name: &str) -> (&str, &str)
     ensures stem { result.0.now ≡ stem name.now }
     ensures extension { result.1.now ≡ extension name.now }
@@ -18,8 +18,8 @@ fn cut(name: &str) -> (&str, &str)
     }
 }
 
-/// The name of the part of this number of an output, from 1 on: the number, with three digits or more, stands behind a
-/// `-` in front of the extension. That begins at the last point behind the last `/`, if there is one.
+/// Returns the name of the part `number` of an output, counted from 1: `-` and the number, with at least three
+/// digits, before the extension. The extension begins at the last point after the last `/`, if there is one.
 pub fn part_name(alloc: Global, output: &str, number: u64) -> Result<Text, AllocError>
     ensures { IfOk result (λ name. name ≡ part_name output.now number) }
 {
@@ -28,28 +28,28 @@ pub fn part_name(alloc: Global, output: &str, number: u64) -> Result<Text, Alloc
     Ok(Text::from_string(name))
 }
 
-// Three digits or more.
+// Checks whether `octets` are at least three digits.
 fn are_digits(octets: &[u8]) -> bool
     ensures { result ≡ are_digits octets.now }
 {
     octets.len() >= 3 && octets.iter().all(|octet| octet.is_ascii_digit())
 }
 
-// What stands behind these octets, where they are the first.
+// Returns `octets` without the prefix `front`, or nothing if it hasn't this prefix.
 fn behind<'a>(front: &[u8], octets: &'a [u8]) -> Option<&'a [u8]>
     ensures { option_copied result ≡ behind front.now octets.now }
 {
     octets.strip_prefix(front)
 }
 
-// What stands before these octets, where they are the last.
+// Returns `octets` without the suffix `end`, or nothing if it hasn't this suffix.
 fn before<'a>(end: &[u8], octets: &'a [u8]) -> Option<&'a [u8]>
     ensures { option_copied result ≡ before end.now octets.now }
 {
     octets.strip_suffix(end)
 }
 
-// What stands between the stem of an output with a `-` and its extension.
+// Returns the bytes of `name` between the output's stem with `-` and its extension, if it has both.
 fn number_in<'a>(output: &str, name: &'a str) -> Option<&'a [u8]>
     ensures { option_copied result ≡ number_in output.now name.now }
 {
@@ -59,7 +59,7 @@ fn number_in<'a>(output: &str, name: &'a str) -> Option<&'a [u8]>
     before(extension.as_bytes(), rest)
 }
 
-/// Whether a name has the form of those of the parts of an output, whatever its number.
+/// Checks whether `name` has the form of a part of `output`, with any number.
 pub fn is_part_name(output: &str, name: &str) -> bool
     ensures { result ≡ is_part_name output.now name.now }
 {

@@ -1,4 +1,4 @@
-//! Where an output is split.
+//! Split of an output
 
 ghost use Rattle.std.specs.Prelude.{◌≡◌, ◌≤◌, ◌*◌, ◌-◌, ◌^◌, ℕ, ◌||◌};
 ghost use Rattle.std.specs.List.{list_any};
@@ -7,20 +7,20 @@ ghost use Rattle.splitter.specs.Split.{has_come, holds, is_over, is_within, keep
 use mkv_io::List;
 use requests::SpanWords;
 
-/// Where an output is split: mkvmerge's `--split`. Times are in nanoseconds from the start of the output.
+/// Split of an output, as by mkvmerge's `--split`; times are in nanoseconds from the start of the output
 #[derive(Debug, Drop)]
 pub enum SplitSpec {
-    /// Nowhere.
+    /// No split
     Whole,
-    /// So much time behind the start of each section.
+    /// A cut `by` nanoseconds after the start of each section
     Duration { by: u64 },
-    /// At these times, of which 0 is none.
+    /// Cuts at these times; 0 has no effect
     Times { at: List<u64> },
-    /// At the bounds of these stretches; what starts in one of them is written, and nothing else.
+    /// Cuts at the bounds of these spans; only sections that start in one of them are written
     Parts { spans: List<SpanWords> },
 }
 
-// The sooner of an end and a bound, which counts where it lies behind the start.
+// Returns the earlier of `end` and `bound`. The bound counts only if it is after `start`.
 fn sooner(end: Option<u128>, bound: u64, start: u128) -> Option<u128>
     ensures { (time : ℕ) → has_come result time ≡ (has_come end time || is_within start time bound) }
 {
@@ -34,7 +34,7 @@ fn sooner(end: Option<u128>, bound: u64, start: u128) -> Option<u128>
     }
 }
 
-// The first of these times behind the start.
+// Returns the first of these times after `start`, if any.
 fn first_time(at: &[u64], start: u128) -> Option<u128>
     ensures { (time : ℕ) → has_come result time ≡ list_any (is_within start time) at.now }
 {
@@ -45,7 +45,7 @@ fn first_time(at: &[u64], start: u128) -> Option<u128>
     end
 }
 
-// The first of the bounds of these stretches behind the start.
+// Returns the first bound of these spans after `start`, if any.
 fn first_bound(spans: &[SpanWords], start: u128) -> Option<u128>
     ensures { (time : ℕ) → has_come result time ≡ list_any (passes start time) spans.now }
 {
@@ -59,7 +59,7 @@ fn first_bound(spans: &[SpanWords], start: u128) -> Option<u128>
     end
 }
 
-// Whether a time lies in a stretch.
+// Checks whether a time is in a span.
 fn holds(span: &SpanWords, time: u128) -> bool
     ensures { result ≡ holds time span.now }
 {
@@ -67,7 +67,7 @@ fn holds(span: &SpanWords, time: u128) -> bool
 }
 
 impl SplitSpec {
-    /// The time at which a section ends that starts at this one, if it ends.
+    /// Returns the time at the end of a section that starts at `start`, if it ends.
     pub(crate) fn end_behind(&self, start: u128) -> Option<u128>
         requires { start ≤ (2 ^ 64 - 1) * (2 ^ 64 - 1) }
         ensures { (time : ℕ) → has_come result time ≡ is_over self.now start time }
@@ -80,7 +80,7 @@ impl SplitSpec {
         }
     }
 
-    /// Whether a section is written that starts at this time.
+    /// Checks whether a section that starts at `start` is written.
     pub(crate) fn keeps(&self, start: u128) -> bool
         ensures { result ≡ keeps self.now start }
     {

@@ -1,4 +1,4 @@
-//! What the words of a split come to.
+//! Meaning of a `--split` option
 
 ghost use Rattle.std.specs.Prelude.{◌≡◌, filter_map, IfOk};
 ghost use Rattle.splitter.specs.declared.spec.SplitSpec.TheVariants as spec;
@@ -9,7 +9,7 @@ use mkv_io::List;
 use requests::SplitWords;
 use std::alloc::{AllocError, Global};
 
-// Where the chapter of this number starts, from 1 on, if there is one.
+// Returns the start of the chapter `number`, counted from 1, if there is one.
 fn start_at(starts: &[u64], number: u64) -> Option<u64>
     ensures { result ≡ start_at starts.now number }
 {
@@ -17,7 +17,7 @@ fn start_at(starts: &[u64], number: u64) -> Option<u64>
     starts.get(k as usize).copied()
 }
 
-// Where the chapters of these numbers start.
+// Returns the starts of the chapters with these numbers.
 fn starts_at(alloc: Global, starts: &[u64], numbers: &[u64]) -> Result<List<u64>, AllocError>
     ensures { IfOk result (λ at. at ≡ filter_map (start_at starts.now) numbers.now) }
 {
@@ -35,8 +35,8 @@ fn times(alloc: Global, at: &[u64]) -> Result<SplitSpec, AllocError>
     })
 }
 
-/// The times at which an output is split, by its words; its chapters start at these times, of which those count that the
-/// words name. Without words, and where it is split by its load, it is split at none.
+/// Returns the split of an output for its `--split` option. `starts` are the starts of its chapters, for a split by
+/// chapters. Without the option, or if it splits by size, there are no times.
 pub fn split_spec(
     alloc: Global,
     words: &Option<SplitWords>,
@@ -58,7 +58,7 @@ pub fn split_spec(
     }
 }
 
-/// The load at which each part of an output ends, in octets, where its words split it by its load.
+/// Returns the load at the end of each part in bytes, if the option splits by size.
 pub fn split_size(words: &Option<SplitWords>) -> Option<u64>
     ensures { result ≡ size_of words.now }
 {

@@ -6,7 +6,7 @@ use Rattle.std.proofs.lemmas.Iterator.Search.{position_from_yields_List}
 use Rattle.splitter.specs.Split.{is_driver}
 use Rattle.splitter.proofs.driving.is_driver.Goals as goal
 
--- what the place of the first video lane says
+-- The index of the first video track decides.
 drives-by : (videos : List Bool) (lane : ℕ) (o : Option ℕ) → o ≡ position (λ video. video) videos → option_map_or (λ first. eqb first lane) o true ≡ is_driver videos lane
 drives-by videos lane o is = ap (λ p. option_map_or (λ first. eqb first lane) p true) is
 

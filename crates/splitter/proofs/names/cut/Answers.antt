@@ -13,7 +13,7 @@ returns-in-Some c =
     let at = stem-at name c.in-Some.at here.0 here.1 here.2 (told ∙ c.if-not-contains.true) in
     record { stem = c.split_at.ensures.front ∙ ap (λ k. take k name) (sym at); extension = c.split_at.ensures.back ∙ ap (λ k. drop k name) (sym at) }
 
--- no point stands there, or a `/` behind the last one
+-- There is no point, or a `/` follows the last one.
 pub returns-in_default : goal.returns-in_default
 returns-in_default c =
     let name = c.args.name.now in
