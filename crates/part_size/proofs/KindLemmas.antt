@@ -1,4 +1,4 @@
--- A list that is cut at times or at a load stays one.
+-- A cut at times or at a load stays one.
 use Rattle.std.proofs.Common.{◌≡◌, ℕ, Bool, refl, sym, ◌∙◌, ap, subst}
 use Rattle.std.specs.Prelude.{is_some}
 use Rattle.splitter.specs.declared.spec.SplitSpec.TheVariants.{Whole}
@@ -7,11 +7,11 @@ use Rattle.part_size.specs.Kinds.{HasLimit, times_beside}
 use Rattle.part_size.specs.declared.kinds.Kind.{Kind}
 use Rattle.part_size.specs.declared.kinds.Kind.TheVariants.{Times, Sizes}
 
--- what is known of how a list is cut
+-- The state `k` has times or a load limit, and not both.
 abbrev pub IsCut : Kind → Type 0
 IsCut k = (times_beside k ≡ Whole) × HasLimit k
 
--- a step keeps it
+-- A step keeps this.
 pub times-stay : (old new : Kind) (cuts after : CutsSeen) (may : Bool) (tick len : ℕ) → old ≡ Times cuts → new ≡ Times after → after ≡ stepped cuts may tick len → IsCut old → IsCut new
 times-stay old new cuts after may tick len was now steps is =
     let had : IsCut (Times cuts) = subst IsCut was is in

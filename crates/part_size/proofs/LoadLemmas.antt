@@ -17,7 +17,7 @@ use Rattle.part_size.specs.Laws.{BlocksKeepTheirLength, LoadsAreWritten, PartsKe
 
 -- ---- sums
 
--- A weight that a change of the blocks keeps: the sum is the same of all of them, and of the first of them.
+-- If a change of blocks keeps their weight, the sums of all and of the first ones are the same.
 module _ (f : OutputBlock → ℕ) (g : OutputBlock → OutputBlock) (keeps : (b : OutputBlock) → f (g b) ≡ f b) where
   same-sum : (bs : List OutputBlock) → sum_by f (map g bs) ≡ sum_by f bs
   same-sum [] = refl
@@ -29,7 +29,7 @@ module _ (f : OutputBlock → ℕ) (g : OutputBlock → OutputBlock) (keeps : (b
   same-first (b ∷ bs) (suc k) =
       sum_by-cons f (g b) (take k (map g bs)) ∙ ap₂ (λ (n m : ℕ). n + m) (keeps b) (same-first bs k) ∙ sym (sum_by-cons f b (take k bs))
 
--- the lengths of Elements that a weight tells
+-- The weight `f` is the length of the elements.
 same-length : (f : OutputBlock → ℕ) (e : OutputBlock → Element) → ((b : OutputBlock) → length (octets_of (e b)) ≡ f b) → (bs : List OutputBlock) → length (joined (map e bs)) ≡ sum_by f bs
 same-length f e is [] = refl
 same-length f e is (b ∷ bs) =
@@ -37,7 +37,7 @@ same-length f e is (b ∷ bs) =
 
 -- ---- in a part
 
--- the relative time takes two octets, and neither lane nor tick counts besides
+-- The relative time takes two bytes, and neither output track nor tick changes the length.
 pub keeps-length : BlocksKeepTheirLength
 keeps-length timestamp start b =
     length-block_element timestamp (in_part start b) (length (frame_octets b.lace b.frames)) refl ∙ sym (length-block_element b.tick b (length (frame_octets b.lace b.frames)) refl)
@@ -48,17 +48,17 @@ load-in_part start bs = same-sum octets_taken (in_part start) (λ b. keeps-lengt
 pub keep-loads : PartsKeepTheirLoad
 keep-loads x end = load-in_part x.start x.blocks
 
--- the same of the first of them
+-- The load of the first blocks is also the same.
 pub load-first : (start : ℕ) (bs : List OutputBlock) (k : ℕ) → load (take k (map (in_part start) bs)) ≡ load (take k bs)
 load-first start bs k = same-first octets_taken (in_part start) (λ b. keeps-length (in_part start b).tick start b) bs k
 
 -- ---- in Clusters
 
--- in a Cluster of any Timestamp
+-- It is the same in a Cluster with any Timestamp.
 in-cluster : (timestamp : ℕ) (bs : List OutputBlock) → length (joined (block_elements timestamp bs)) ≡ load bs
 in-cluster timestamp bs = same-length octets_taken (block_element timestamp) (λ b. length-same timestamp b.tick b) bs
 
--- what a Cluster so far and those behind it take, by a weight of blocks and the length of Clusters that it tells
+-- The lengths of a Cluster and the next ones are the weights of their blocks.
 module _ (f : OutputBlock → ℕ) (len : OutputCluster → ℕ) (is : (c : OutputCluster) → len c ≡ sum_by f c.blocks) (limits : ClusterLimits) where
   behind : (bs : List OutputBlock) (c : OutputCluster) → sum_by len (cut_from limits c bs) ≡ sum_by f c.blocks + sum_by f bs
   behind [] c = single (len c) (sum_by f c.blocks) (is c)

@@ -1,4 +1,4 @@
--- What holds of every output that is cut by its load, which is this project's.
+-- Laws about outputs that are cut by their load, by this project's rules.
 use Rattle.std.specs.Prelude.{◌≡◌, ◌<◌, ◌≤◌, ⊤, ℕ, ◌^◌, Bool, true, List, [], ◌∷◌, length, take, Option, Some}
 use Rattle.std.specs.List.{All, slice_get, sum_by}
 use Rattle.output_model.specs.Element.{joined, octets_of}
@@ -13,13 +13,13 @@ use Rattle.splitter.specs.Sections.{Part, Section, Split, in_part, may_cut, part
 use Rattle.splitter.specs.Steps.{new_cuts}
 use Rattle.splitter.specs.Laws.{all_placed}
 
--- An output that is cut at this load alone, where a tick has so many nanoseconds, and these lanes drive.
+-- the split only at this load limit, with `scale` nanoseconds per tick and these driving output tracks
 abbrev pub by_size : ℕ → ℕ → (ℕ → Bool) → Split
 by_size limit scale drives = record { spec = Whole; size = Some limit; scale = scale; drives = drives }
 
 -- ---- step by step
 
--- The places of all blocks, step by step, are those in the sections, whatever a tick has.
+-- The places of all blocks, step by step, make the sections, for each scale.
 abbrev pub SizesJoin : Type 0
 SizesJoin =
     (limit scale : ℕ) (drives : ℕ → Bool) → limit < 2 ^ 64 → (b : OutputBlock) (bs : List OutputBlock)
@@ -27,26 +27,26 @@ SizesJoin =
 
 -- ---- loads
 
--- a fact of each of a list but the last
+-- `P` holds for each item of the list except the last.
 abbrev pub AllButLast : {X : Type 0} → (X → Type 0) → List X → Type 0
 AllButLast P [] = ⊤
 AllButLast P (x ∷ []) = ⊤
 AllButLast P (x ∷ (y ∷ ys)) = P x × AllButLast P (y ∷ ys)
 
--- a part has a load of at least the limit
+-- The part `p` has a load of at least `limit`.
 abbrev pub IsFull : ℕ → Part → Type 0
 IsFull limit p = limit ≤ load p.blocks
 
--- Each part but the last has a load of at least the limit.
+-- Each part except the last has a load of at least the limit.
 abbrev pub PartsAreFull : Type 0
 PartsAreFull =
     (limit scale : ℕ) (drives : ℕ → Bool) (blocks : List OutputBlock) → AllButLast (IsFull limit) (parts (by_size limit scale drives) blocks)
 
--- before each block of a part at which it might be cut the load is below the limit
+-- Before each block of the part `p` with a possible cut, the load is below `limit`.
 abbrev pub IsSmall : Split → ℕ → Part → Type 0
 IsSmall s limit p = (k : ℕ) (b : OutputBlock) → slice_get p.blocks k ≡ Some b → may_cut s b ≡ true → load (take k p.blocks) < limit
 
--- In each part the load before each key block of a driving lane, so also before the last of them, is below the limit.
+-- In each part the load is below the limit before each keyframe of a driving output track, and so before the last one.
 abbrev pub PartsAreSmall : Type 0
 PartsAreSmall =
     (limit scale : ℕ) (drives : ℕ → Bool) (blocks : List OutputBlock) → 1 ≤ limit
@@ -54,18 +54,18 @@ PartsAreSmall =
 
 -- ---- as they are written
 
--- A block's Element is as long in its part, in a Cluster of whatever Timestamp, as in the merged list.
+-- A block's element has the same length in its part, in a Cluster with any Timestamp, and in the merged list.
 abbrev pub BlocksKeepTheirLength : Type 0
 BlocksKeepTheirLength = (timestamp start : ℕ) (b : OutputBlock) → length (octets_of (block_element timestamp (in_part start b))) ≡ octets_taken b
 
--- The load of a part is that of its section in the merged list.
+-- The load of a part is the load of its section in the merged list.
 abbrev pub PartsKeepTheirLoad : Type 0
 PartsKeepTheirLoad = (x : Section) (end : Option ℕ) → load (part_of x end).blocks ≡ load x.blocks
 
--- how many octets the blocks of a Cluster take in it
+-- the length of a Cluster's blocks
 abbrev pub blocks_len : OutputCluster → ℕ
 blocks_len c = length (joined (block_elements c.timestamp c.blocks))
 
--- The load of the blocks of an output is what they take in its Clusters, wherever these end.
+-- The load of an output's blocks is their length in its Clusters, for each division into Clusters.
 abbrev pub LoadsAreWritten : Type 0
 LoadsAreWritten = (limits : ClusterLimits) (blocks : List OutputBlock) → sum_by blocks_len (clusters limits blocks) ≡ load blocks
