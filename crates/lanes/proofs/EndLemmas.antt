@@ -31,7 +31,7 @@ use Rattle.lanes.specs.Ends.{end_of, ends_of, lasting_for, link_end, text_end, t
 
 -- ---- one link
 
--- no block ends nowhere
+-- Without blocks the end is 0.
 last_end-none : (p : Placing) (times : Option Listing) (k : ℕ) → last_end p (timed times k []) ≡ 0
 last_end-none p None k = refl
 last_end-none p (Some l) k = refl
@@ -44,7 +44,7 @@ last_end-first p (Some l) k b bs = refl
 abbrev of_track : TrackLink → List Block → List Block
 of_track t bs = filter (λ (x : Block). x.track == t.number) bs
 
--- where they end, behind so many frames
+-- the end of a track's blocks, after `k` frames
 abbrev end_from : TrackLink → ℕ → List Block → ℕ
 end_from t k bs = last_end (placing_of t) (timed (listing_of t) k (of_track t bs))
 
@@ -66,18 +66,18 @@ max-mix a b c d = omega arith
 
 -- ---- all links
 
--- where a link ends, behind so many frames of its track
+-- the end of a link, after `k` frames of its track
 abbrev end_behind : List Event → ℕ → Link → ℕ
 end_behind es k (Track t) = end_from t k (blocks_of es)
 end_behind es k (Entries e) = text_end e
 
--- the end of a file of which so much is left, behind so many frames of each link's track
+-- the end of the rest of a file, after these numbers of frames
 abbrev pub ends_from : List Event → List ℕ → List Link → ℕ
 ends_from es [] links = 0
 ends_from es (k ∷ counts) [] = 0
 ends_from es (k ∷ counts) (link ∷ links) = max (end_behind es k link) (ends_from es counts links)
 
--- no frame was counted
+-- No frame was counted.
 pub ends-whole : (es : List Event) (links : List Link) → ends_from es (replicate (length links) 0) links ≡ end_of es links
 ends-whole es [] = refl
 ends-whole es (Track t ∷ links) = ap (λ (n : ℕ). max (end_from t 0 (blocks_of es)) n) (ends-whole es links)
@@ -107,7 +107,7 @@ ends-damage last d es (k ∷ counts) (Entries e ∷ links) = ap (λ (n : ℕ). m
 pub texts-track : (t : TrackLink) (links : List Link) → texts_end (Track t ∷ links) ≡ texts_end links
 texts-track t links = let none : last_end (placing_of t) (timed (listing_of t) 0 []) ≡ 0 = last_end-none (placing_of t) (listing_of t) 0 in omega arith
 
--- where nothing is left, the texts alone
+-- If nothing is left, only the texts count.
 ends-none : (counts : List ℕ) (links : List Link) → length counts ≡ length links → ends_from [] counts links ≡ texts_end links
 ends-none [] [] each = refl
 ends-none [] (link ∷ links) each = absurd (omega arith)
@@ -119,7 +119,7 @@ ends-none (k ∷ counts) (Track t ∷ links) each =
     omega arith
 ends-none (k ∷ counts) (Entries e ∷ links) each = ap (λ (n : ℕ). max (text_end e) n) (ends-none counts links (omega arith))
 
--- the texts end no later
+-- The texts end at the file's end or before.
 ends-texts : (es : List Event) (links : List Link) → texts_end links ≤ end_of es links
 ends-texts es [] = omega arith
 ends-texts es (Track t ∷ links) =
@@ -137,19 +137,19 @@ none-counted (suc count) most = All-cons (λ n. n ≤ most) 0 (replicate count 0
 pub more-counted : (counts : List ℕ) (most more : ℕ) → most ≤ more → All (λ n. n ≤ most) counts → All (λ n. n ≤ more) counts
 more-counted counts most more room all = λ k d lt. let small = all k d lt in omega arith
 
--- there are as many as before
+-- The number of counts is unchanged.
 pub counted-length : (b : Block) (counts : List ℕ) (links : List Link) → length (counted_for b counts links) ≡ length counts
 counted-length b [] links = refl
 counted-length b (n ∷ counts) [] = refl
 counted-length b (n ∷ counts) (link ∷ links) = ap suc (counted-length b counts links)
 
--- one that has grown by so little, where none was more
+-- A count that stays small keeps all counts small.
 pub set-few : (counts : List ℕ) (k v most : ℕ) → All (λ n. n ≤ most) counts → v ≤ most → All (λ n. n ≤ most) (set counts k v)
 set-few [] k v most all few = all
 set-few (n ∷ counts) zero v most all few = All-cons (λ m. m ≤ most) v counts few (All-tail (λ m. m ≤ most) n counts all)
 set-few (n ∷ counts) (suc k) v most all few = All-cons (λ m. m ≤ most) n (set counts k v) (All-head (λ m. m ≤ most) n counts all) (set-few counts k v most (All-tail (λ m. m ≤ most) n counts all) few)
 
--- one count after the other
+-- The counts grow one after another.
 pub count-one : (b : Block) (counts : List ℕ) (links : List Link) (k : ℕ) (link : Link) (v : ℕ) → k < length counts → k < length links → link ≡ get_or links k link → v ≡ get_or counts k 0 + link_frames b link
     → take (suc k) (set counts k v) ++ counted_for b (drop (suc k) (set counts k v)) (drop (suc k) links) ≡ take k counts ++ counted_for b (drop k counts) (drop k links)
 count-one b [] links k link v inside there is value = absurd (omega arith)
@@ -179,7 +179,7 @@ pub count-all : (b : Block) (counts : List ℕ) (links : List Link) (k : ℕ) �
 count-all b counts links k most =
     ap₂ (λ (front left : List ℕ). front ++ counted_for b left (drop k links)) (take_all k counts most) (none-behind counts k most) ∙ append-nil counts
 
--- ---- a block of the code, by its head
+-- ---- a block by its head
 
 pub by_head-count : (b : Buffered) → length (by_head b).frames ≡ b.frames
 by_head-count b = length-replicate b.frames []
@@ -194,19 +194,19 @@ end-taken t k b time n frames is at lasts long =
     ∙ ap (λ (m : ℕ). time + lasting_for b.head.duration t.default_duration m) (by_head-count b ∙ sym long)
     ∙ ap (λ (m : ℕ). time + m) (sym lasts)
 
--- how many frames a block of the code has of a track
+-- The head has the number of a track's frames.
 pub frames-here : (t : TrackLink) (b : Buffered) → b.head.track ≡ t.number → frames_of t (by_head b) ≡ b.frames
 frames-here t b is = ap (λ (x : Bool). if x then length (by_head b).frames else 0) (eq-eqb b.head.track t.number is) ∙ by_head-count b
 
--- ---- a block of a file, and what the code knows of it by its head
+-- ---- a block of a file, and its head
 
--- blocks of one head and of as many frames end at one place, and have as many frames of a track
+-- Blocks with equal heads and frame counts have equal ends and frames of a track.
 frames-alike : (t : TrackLink) (a b : Block) → a.track ≡ b.track → length a.frames ≡ length b.frames → frames_of t a ≡ frames_of t b
 frames-alike t a b track count =
     ap (λ (n : ℕ). if n == t.number then length a.frames else 0) track
     ∙ ap (λ (n : ℕ). if b.track == t.number then n else 0) count
 
--- a block that is lent whole has as many frames as sizes
+-- A block has one size for each frame.
 frames-long : (sizes body : List ℕ) → length (frames_cut sizes body) ≡ length sizes
 frames-long [] body = refl
 frames-long (s ∷ sizes) body = ap suc (frames-long sizes (drop s body))
@@ -215,7 +215,7 @@ pub frames-lent : (t : TrackLink) (b : Buffered) → IsLendable b → frames_of 
 frames-lent t b lends = frames-alike t (block_of b) (by_head b) refl
     (frames-long b.sizes b.body ∙ sym lends.count ∙ sym (by_head-count b))
 
--- where its frames are of one number
+-- The end depends only on the frame count.
 end-count : (t : TrackLink) (k : ℕ) (b : Block) (fs : List (List ℕ)) → length fs ≡ length b.frames → track_end t k (block_with (head_of b) fs [] []) ≡ track_end t k b
 end-count t k b fs count = split (b.track == t.number)
   where
@@ -227,7 +227,7 @@ end-count t k b fs count = split (b.track == t.number)
     split true = at (delayed (placing_of t) (at_time t k b))
     split false = refl
 
--- What is known of a block by its head.
+-- The head and frame count of `lent` give the ends and frames of the block `b`.
 pub record IsByHead (b : Block) (lent : Buffered) : Type 0 where
   pub ends : (t : TrackLink) (k : ℕ) → track_end t k (by_head lent) ≡ track_end t k b
   pub frames : (t : TrackLink) → frames_of t (by_head lent) ≡ frames_of t b
@@ -242,7 +242,7 @@ known-head b lent known =
       frames = λ t. frames-alike t (by_head lent) b (sym (ap (λ (h : BlockHead). h.track) known.head)) count;
     }
 
--- so are the ends and the counts of all links
+-- They give the ends and counts of all links.
 link-ends : (b : Block) (lent : Buffered) → IsByHead b lent → (k : ℕ) (link : Link) → link_end (by_head lent) k link ≡ link_end b k link
 link-ends b lent is k (Track t) = is.ends t k
 link-ends b lent is k (Entries e) = refl
@@ -261,7 +261,7 @@ counted-by_head b lent is [] links = refl
 counted-by_head b lent is (n ∷ counts) [] = refl
 counted-by_head b lent is (n ∷ counts) (link ∷ links) = ap₂ (λ (m : ℕ) (ms : List ℕ). m ∷ ms) (ap (λ (m : ℕ). n + m) (link-frames b lent is link)) (counted-by_head b lent is counts links)
 
--- ---- a step of the walk
+-- ---- one step of the walk
 
 pub end-start : (start : List Event) (links : List Link) → max (texts_end links) (ends_from start (replicate (length links) 0) links) ≡ end_of start links
 end-start start links =
@@ -274,7 +274,7 @@ end-block end now b old new start counts links sofar gives is =
     let whole : ends_from old counts links ≡ max (ends_of b counts links) (ends_from new (counted_for b counts links) links) = ap (λ (es : List Event). ends_from es counts links) gives ∙ ends-block b new counts links in
     (let same : max now (ends_from new (counted_for b counts links) links) ≡ max end (ends_from old counts links) = omega arith in same) ∙ sofar
 
--- of which its head alone is known
+-- The head of a block is enough for a step.
 pub end-step : (end now : ℕ) (b : Block) (lent : Buffered) (old new start : List Event) (counts after : List ℕ) (links : List Link) → IsByHead b lent → max end (ends_from old counts links) ≡ end_of start links → old ≡ block b ∷ new
     → now ≡ max end (ends_of (by_head lent) counts links) → after ≡ counted_for (by_head lent) counts links → max now (ends_from new after links) ≡ end_of start links
 end-step end now b lent old new start counts after links known sofar gives is counted =

@@ -1,4 +1,4 @@
--- A lane stands as before where its links' files are the same, whatever was written elsewhere.
+-- An output track is unchanged if its links' files are, whatever was written to other files.
 use Rattle.std.proofs.Common.{◌≡◌, ℕ, ◌+◌, ◌-◌, true, List, [], ◌∷◌, ◌++◌, map, take, drop, Option, Some, None, refl, sym, ◌∙◌, ap, ap₂, subst}
 use Rattle.std.specs.List.{All, slice_get}
 use Rattle.std.specs.Option.{unwrap_or}
@@ -95,7 +95,7 @@ due_from-kept f h w (l ∷ ls) keeps files =
 all-told : (f h : LiveFiles) (ls : List Link) → All (KeepsLink f h) ls → All (IsOpenLink f) ls → All (IsToldLink f) ls → All (IsToldLink h) ls
 all-told f h ls keeps files told = λ k d lt. told-kept f h _ (keeps k d lt) (files k d lt) (told k d lt)
 
--- A lane stands as before.
+-- The output track is unchanged.
 pub stands-kept : (old new : LiveFiles) (l : LaneSeen) → KeepsLane old new l → IsReady old l → StandsAmong old new l
 stands-kept old new l keeps ready = record {
   ready = record {

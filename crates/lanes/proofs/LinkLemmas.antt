@@ -1,4 +1,4 @@
--- What the first thing of an input gives to a lane.
+-- The first event of an input, for an output track.
 use Rattle.std.proofs.Common.{◌≡◌, ℕ, ◌+◌, Bool, true, false, if◌then◌else◌, List, [], ◌∷◌, ◌++◌, filter, flat_map, length, Option, Some, None, refl, sym, ap, add-zero}
 use Rattle.std.specs.Prelude.{◌||◌, ◌==◌}
 use Rattle.mkv_io.specs.declared.damage.Damage.{Damage}
@@ -16,12 +16,12 @@ use Rattle.lanes.specs.Walks.{track_behind}
 
 -- ---- a track
 
--- the first of some blocks, behind so many frames
+-- The first block comes after `k` frames.
 timed-first : (scale : ℕ) (p : Placing) (times : Option Listing) (k : ℕ) (b : Block) (bs : List Block) → flat_map (placed scale p) (timed times k (b ∷ bs)) ≡ placed scale p (record b { time = time_for times k b.time }) ++ flat_map (placed scale p) (timed times (k + length b.frames) bs)
 timed-first scale p None k b bs = refl
 timed-first scale p (Some l) k b bs = refl
 
--- a block of its file
+-- The next event is a block of its file.
 pub track-block : (scale : ℕ) (t : TrackLink) (k : ℕ) (st : Bool) (b : Block) (es : List Event) → given_blocks scale (track_behind t k st (block b ∷ es)) ≡ track_placed scale t k b ++ given_blocks scale (track_behind t (k + frames_of t b) st es)
 track-block scale t k st b es = split (b.track == t.number)
   where
@@ -33,24 +33,24 @@ track-block scale t k st b es = split (b.track == t.number)
     split true = timed-first scale (placing_of t) (listing_of t) k b (filter (λ (x : Block). x.track == t.number) (blocks_of es))
     split false = ap (λ (n : ℕ). flat_map (placed scale (placing_of t)) (timed (listing_of t) n (filter (λ (x : Block). x.track == t.number) (blocks_of es)))) (sym (add-zero k))
 
--- a damage of its file gives no block
+-- A damaged place has no block.
 pub damage-blocks : (scale : ℕ) (t : TrackLink) (k : ℕ) (st last now : Bool) (d : Damage) (es : List Event) → given_blocks scale (track_behind t k st (damage_event last d ∷ es)) ≡ given_blocks scale (track_behind t k now es)
 damage-blocks scale t k st true now d es = refl
 damage-blocks scale t k st false now d es = refl
 
--- it is told
+-- A damaged place is reported.
 pub damage-told : (t : TrackLink) (k : ℕ) (st last now : Bool) (d : Damage) (es : List Event) → (track_behind t k st (damage_event last d ∷ es)).damages ≡ d ∷ (track_behind t k now es).damages
 damage-told t k st true now d es = refl
 damage-told t k st false now d es = refl
 
--- and it may end what is read
+-- A damaged place may end the reading.
 pub damage-stops : (t : TrackLink) (k : ℕ) (st last : Bool) (d : Damage) (es : List Event) → (track_behind t k st (damage_event last d ∷ es)).stops ≡ (track_behind t k (last || st) es).stops
 damage-stops t k true true d es = refl
 damage-stops t k true false d es = refl
 damage-stops t k false true d es = refl
 damage-stops t k false false d es = refl
 
--- the end of a file
+-- At the file's end no block is left.
 pub end-blocks : (scale : ℕ) (t : TrackLink) (k : ℕ) (st : Bool) → given_blocks scale (track_behind t k st []) ≡ []
 end-blocks scale t k st = none (listing_of t)
   where

@@ -1,4 +1,4 @@
--- Lists, from a place on.
+-- Lists from an index on.
 use Rattle.std.proofs.Common.{◌≡◌, ℕ, suc, zero, ◌-◌, ◌<◌, ◌≤◌, get_or, List, [], ◌∷◌, ◌++◌, length, take, drop, Some, refl, ◌∙◌, ap, arith}
 use Rattle.std.specs.List.{slice_get}
 pub use Rattle.lemmas.proofs.PlainLemmas.{drop-some as drop-at, drop-none as drop-past}
@@ -13,7 +13,7 @@ take-drop zero xs = refl
 take-drop (suc k) [] = refl
 take-drop (suc k) (x ∷ xs) = ap (λ each. x ∷ each) (take-drop k xs)
 
--- ---- two lists, one behind the other
+-- ---- two lists in sequence
 
 pub get-front : {X : Type 0} (xs ys : List X) (k : ℕ) (x : X) → slice_get xs k ≡ Some x → slice_get (xs ++ ys) k ≡ Some x
 get-front [] ys k x is = absurd (cc)

@@ -16,7 +16,7 @@ use Rattle.merge_model.specs.Ticks.{ticks_to}
 use Rattle.merge_model.specs.Links.{lace_for}
 use Rattle.merge_model.specs.declared.link.TrackLink.{TrackLink}
 
--- ---- the lace
+-- ---- lacing
 
 pub lace-one : (sizes body : List ℕ) (kind : Lace) → length sizes ≡ 1 → lace_for (frames_cut sizes body) kind ≡ lace.None
 lace-one [] body kind is = absurd (omega arith)
@@ -30,7 +30,7 @@ lace-more (s ∷ r ∷ sizes) body kind is = refl
 
 pub ruleset laces = (lace-one, lace-more)
 
--- ---- what is lent of a block that can be written can be written too
+-- ---- a placed block can be written
 
 fits-alone : (sizes body : List ℕ) (kind : Lace) → FitsKind kind sizes → 1 ≤ length sizes → FitsKind (lace_for (frames_cut sizes body) kind) sizes
 fits-alone [] body kind fits some = absurd (omega arith)

@@ -1,4 +1,4 @@
--- A lane that has given nothing.
+-- An output track at its start.
 use Rattle.std.proofs.Common.{◌≡◌, ℕ, suc, Bool, true, false, if◌then◌else◌, List, [], ◌∷◌, ◌++◌, length, map, take, drop, replicate, Option, None, refl, sym, ◌∙◌, ap, subst, append-nil, append_assoc}
 use Rattle.std.specs.List.{All, slice_get}
 use Rattle.std.proofs.lemmas.List.{length-map, length-replicate}
@@ -20,7 +20,7 @@ use Rattle.lanes.specs.declared.walk.Walk.{Walk}
 use Rattle.lanes.proofs.WalkLemmas.{links_left-fresh}
 use Rattle.lanes.proofs.WayLemmas.{due-fresh}
 
--- what is told of damages, one after the other
+-- Adding damaged places in sequence gives the report of the whole list.
 with-told : (before ds : List Damage) → with_damages (told_damages before) ds ≡ told_damages (before ++ ds)
 with-told before [] = ap told_damages (sym (append-nil before))
 with-told before (d ∷ ds) =

@@ -17,14 +17,14 @@ use Rattle.lanes.specs.Walked.{IsWalked}
 use Rattle.lanes.specs.declared.survey_result.Survey.{Survey}
 pub use Rattle.lemmas.proofs.PlainLemmas.{IfOk-map as answer-map}
 
--- the same file has the same blocks and damages
+-- Tracks of the same file have the same events.
 same-events : (f : LiveFiles) (t other : TrackLink) → IsSameFile t other → track_events f other ≡ track_events f t
 same-events f t other same =
     ap (λ (scale : ℕ). events_of (with_limits scale) (octets_in f other.file.n) other.outline.value.segment) same.scale
     ∙ ap (λ file. events_of (with_limits t.scale) (octets_in f file.n) other.outline.value.segment) same.file
     ∙ ap (λ segment. events_of (with_limits t.scale) (octets_in f t.file.n) segment) same.segment
 
--- what links of one file give, by its blocks and damages
+-- The links of one file agree with its events.
 given-one : (f : LiveFiles) (t : TrackLink) (link : Link) → IsOfFile t link → given_in f link ≡ given_by (track_events f t) link
 given-one f t (Track other) is = ap (track_with other) (same-events f t other is)
 given-one f t (Entries e) is = refl
@@ -33,7 +33,7 @@ pub given-all : (f : LiveFiles) (t : TrackLink) (links : List Link) → All (IsO
 given-all f t [] all = refl
 given-all f t (link ∷ links) all = ap₂ (λ g gs. g ∷ gs) (given-one f t link (All-head (IsOfFile t) link links all)) (given-all f t links (All-tail (IsOfFile t) link links all))
 
--- ---- no track
+-- ---- without a track
 
 pub given-texts : (f : LiveFiles) (links : List Link) → first_track links ≡ None → map (given_in f) links ≡ map (given_by []) links
 given-texts f [] none = refl
@@ -51,9 +51,9 @@ survey-texts f links end none is = record {
   stopped = sym (stops-texts f links none);
 }
 
--- ---- a track
+-- ---- with a track
 
--- a text stops nothing, and each track as its file does
+-- A text never stops, and a track stops if its file does.
 stops-given : (es : List Event) (links : List Link) → (stops_any (map (given_by es) links) || is_some (last_of es)) ≡ is_some (last_of es)
 stops-given es [] = refl
 stops-given es (Track t ∷ links) = split (is_some (last_of es)) (stops-given es links)
@@ -84,7 +84,7 @@ survey-walked f links t s es first one is walked =
       stopped = walked.stopped ∙ sym (stops-first es links t first) ∙ ap stops_any (sym given);
     }
 
--- what holds of all links holds of the first track
+-- A fact about all links holds for the first track.
 pub first-all : (P : Link → Type 0) (links : List Link) (t : TrackLink) → first_track links ≡ Some t → All P links → P (Track t)
 first-all P [] t is all = absurd (cc)
 first-all P (Track other ∷ links) t is all = let same : other ≡ t = cc in subst (λ each. P (Track each)) same (All-head P (Track other) links all)

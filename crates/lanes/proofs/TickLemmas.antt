@@ -10,7 +10,7 @@ use Rattle.std.proofs.lemmas.Int.{ints}
 use Rattle.merge_model.specs.Ticks.{floor_div, tick_of, ticks_for, ticks_to}
 use Rattle.lanes.specs.Times.{most_time, ticks_before, ticks_back}
 
--- r more are at most r quotients more
+-- Adding `r` adds at most `r` to the quotient.
 pub div-more : (x r s : ℕ) → 0 < s → (x + r) / s ≤ x / s + r
 div-more x r s some =
     let split : x / s * s + x % s ≡ x = div-add-mod' x s in
@@ -23,7 +23,7 @@ div-more x r s some =
 pub div-le : (x s : ℕ) → 0 < s → x / s ≤ x
 div-le x s some = let more : (0 + x) / s ≤ 0 / s + x = div-more 0 x s some in let none : 0 / s ≡ 0 = grind arith in let same : 0 + x ≡ x = omega arith in let e : (0 + x) / s ≡ x / s = ap (λ (n : ℕ). n / s) same in omega arith
 
--- a time that is rounded to ticks is later by half a tick at most
+-- A time rounded to ticks is at most half a tick later.
 below-rounded : (s t most : ℕ) → t < most → tick_of s t * s ≤ most + s / 2
 below-rounded s t most less =
     let split : (t + s / 2) / s * s + (t + s / 2) % s ≡ t + s / 2 = div-add-mod' (t + s / 2) s in
@@ -32,7 +32,7 @@ below-rounded s t most less =
 pub tick-early : (s t : ℕ) → t < most_time → tick_of s t * s ≤ most_time + s / 2
 tick-early s t less = below-rounded s t most_time less
 
--- a shorter way is fewer ticks
+-- A smaller number has a smaller quotient.
 pub div-rises : (x y s : ℕ) → 0 < s → x ≤ y → x / s ≤ y / s
 div-rises x y s some le = grind arith
 
@@ -84,7 +84,7 @@ pub ruleset small = (ticks_before-small, ticks_for-small)
 
 pub ruleset few = (tick-early)
 
--- the same of a number with a sign, as the code has it
+-- The distance forwards, with a sign, as the code has it.
 
 pub forward : (s t : ℕ) (away : ℤ) (n : ℕ) → 0 < s → pos 0 ≤ℤ away → nat_abs away < 2 ^ 56 → n ≡ ticks_for s t (nat_abs away) → to_z w64 n ≡ ticks_to s t away
 forward s t (pos r) n some sign small is =

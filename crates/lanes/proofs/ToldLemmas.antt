@@ -1,4 +1,4 @@
--- The damages that were reached and those that are left, one turn after the other.
+-- Damaged places that were reached and the rest, one turn at a time.
 use Rattle.std.proofs.Common.{◌≡◌, ℕ, suc, ◌+◌, ◌-◌, ◌<◌, ◌≤◌, Bool, true, false, if◌then◌else◌, List, [], ◌∷◌, ◌++◌, length, map, take, drop, Some, option_map, refl, sym, ◌∙◌, ap, add-one, append-nil, append_assoc, arith}
 use Rattle.std.proofs.Math.ListN.{set}
 use Rattle.std.proofs.lemmas.List.{take-set, drop-set, take_all, length-map}
@@ -17,17 +17,17 @@ use Rattle.lanes.specs.declared.walk.Walk.{Walk}
 use Rattle.lanes.proofs.ListLemmas.{drop-at, get-behind, get-front, take-at, take-drop}
 use Rattle.lanes.proofs.WalkLemmas.{Stays, Leaves, behind, later, links_left-behind}
 
--- what is told, by what is reached, the place, and what is left
+-- the report from the reached places, the current link and the rest
 abbrev told_by : List ToldDamages → ℕ → List Given → List ToldDamages
 told_by ts k gs = take k ts ++ with_all (drop k ts) (lane_damages gs)
 
--- the damages of the links behind one
+-- the report of the next links
 abbrev told_behind : Bool → List ToldDamages → List Given → List ToldDamages
 told_behind st ts rest = with_all ts (if st then map (λ _. []) rest else lane_damages rest)
 
 -- ---- a turn that stays at its link
 
--- no damage is reached
+-- No damaged place is reached.
 pub told-passes : (f : LiveFiles) (links : List Link) (old new : Walk) (g h : Given) → Stays f links old new g h → g.damages ≡ h.damages → new.told ≡ old.told → told_in_all f links new ≡ told_in_all f links old
 told-passes f links old new g h is same told =
     ap (λ (k : ℕ). told_by new.told.items k (links_left f links new)) is.at
@@ -37,7 +37,7 @@ told-passes f links old new g h is same told =
     ∙ ap (λ (st : Bool). take old.at old.told.items ++ with_all (drop old.at old.told.items) (g.damages ∷ (if st then map (λ _. []) is.rest else lane_damages is.rest))) (sym is.stops)
     ∙ ap (told_by old.told.items old.at) (sym is.was)
 
--- one is reached
+-- One damaged place is reached.
 pub told-damage : (f : LiveFiles) (links : List Link) (old new : Walk) (g h : Given) (d : Damage) (r : ToldDamages) → Stays f links old new g h → g.damages ≡ d ∷ h.damages → slice_get old.told.items old.at ≡ Some r → old.at < length old.told.items → new.told.items ≡ set old.told.items old.at (with_damage r d) → told_in_all f links new ≡ told_in_all f links old
 told-damage f links old new g h d r is more here inside told =
     ap (λ (k : ℕ). told_by new.told.items k (links_left f links new)) is.at
@@ -53,7 +53,7 @@ told-damage f links old new g h d r is more here inside told =
 
 -- ---- a turn that leaves its link
 
--- links that don't count have none
+-- Links that don't count have no damaged places.
 with_all-none : (ts : List ToldDamages) (gs : List Given) → with_all ts (map (λ _. []) gs) ≡ ts
 with_all-none [] gs = refl
 with_all-none (t ∷ ts) [] = refl
@@ -90,7 +90,7 @@ told-leaves f links old new g r is none here long = sym (
         ∙ ap (λ (each : List ToldDamages). each ++ with_all (drop (suc old.at) old.told.items) (lane_damages (later f links old.at))) (take-at old.told.items old.at r here)
         ∙ append_assoc (take old.at old.told.items) (r ∷ []) (with_all (drop (suc old.at) old.told.items) (lane_damages (later f links old.at))))
 
--- ---- those that are told one by one
+-- ---- damaged places that are reported one by one
 
 pub damage-here : (told : List ToldDamages) (number k : ℕ) (t : ToldDamages) (d : Damage) → slice_get told number ≡ Some t → slice_get t.first k ≡ Some d → slice_get (damages_from number (drop number told)) k ≡ Some (of_link number d)
 damage-here told number k t d here is =

@@ -1,4 +1,4 @@
--- A turn at a link, one answer of its cursor after the other: what it gives, how far it goes, and what it reads.
+-- A turn at a link, for each result of its cursor: its block, its distance, and the bytes it reads.
 use Rattle.std.proofs.Common.{◌≡◌, ℕ, suc, zero, ◌+◌, ◌-◌, ◌*◌, ◌<◌, ◌≤◌, Bool, true, false, List, [], ◌∷◌, ◌++◌, length, drop, Option, Some, None, Result, Ok, Err, refl, sym, ◌∙◌, ap, subst, add-one, arith}
 use Rattle.std.specs.Prelude.{◌||◌, ◌==◌}
 use Rattle.std.specs.Result.{IsErr}
@@ -46,45 +46,45 @@ use Rattle.lanes.proofs.WalkLemmas.{HasLeft, Leaves, Stays, later, left-gives, l
 use Rattle.lanes.proofs.WayLemmas.{due-leaves, due-stays, length-at, way-leaves, way-stays}
 pub use Rattle.lemmas.proofs.PlainLemmas.{All-get as all-at}
 
--- ---- what is known of the link
+-- ---- the current link
 
--- the element at a place
+-- There is an element at an index of the list.
 pub element-at : {X : Type 0} (xs : List X) (k : ℕ) → k < length xs → (x : X) × (slice_get xs k ≡ Some x)
 element-at [] k inside = absurd (omega arith)
 element-at (x ∷ xs) zero inside = (x, refl)
 element-at (x ∷ xs) (suc k) inside = element-at xs k (omega arith)
 
--- the cursor is in the file of the track
+-- The cursor is in the file of the track.
 pub at-track : (f : LiveFiles) (links : List Link) (w : Walk) (t : TrackLink) (c : Reading) → IsReady f links w → slice_get links w.at ≡ Some (Track t) → w.cursor ≡ Some c → CanRead f c × (c.file ≡ t.file)
 at-track f links w t c ready is cursor =
     let here : IsAt f (Some c) (slice_get links w.at) = subst (λ each. IsAt f each (slice_get links w.at)) cursor ready.here in
     subst (IsAt f (Some c)) is here
 
--- what the cursor gives, of the octets that are told
+-- The cursor's result is right for the visible bytes.
 pub cursor-gives : (f : LiveFiles) (links : List Link) (k : ℕ) (t : TrackLink) (c d : Reading) (result : Result Step ReadEnd) → All (IsToldLink f) links → slice_get links k ≡ Some (Track t) → c.file ≡ t.file → IfVisible (f.content c.file.n) (λ bytes. GivesWanted (takes.Track t.number) bytes c d result) → GivesWanted (takes.Track t.number) (octets_in f t.file.n) c d result
 cursor-gives f links k t c d result all is file gives =
     gives (octets_in f t.file.n) (ap (λ each. f.content each.n) file ∙ all-at (IsToldLink f) links k (Track t) all is)
 
--- the blocks and damages of a track's file, with a Segment
+-- the events of a track's file, with this Segment
 abbrev pub events_with : LiveFiles → TrackLink → Header → List Event
 events_with f t segment = events_of (with_limits t.scale) (octets_in f t.file.n) segment
 
--- the content of the file at a place
+-- The content of the current file is visible.
 pub content-at : (f : LiveFiles) (links : List Link) (k : ℕ) (t : TrackLink) → All (IsToldLink f) links → slice_get links k ≡ Some (Track t) → f.content t.file.n ≡ Some (octets_in f t.file.n)
 content-at f links k t all is = all-at (IsToldLink f) links k (Track t) all is
 
--- what is paid for
+-- Bytes that were read are no longer due.
 sums : (before now total c d : ℕ) → now + c ≤ before + d → d ≤ total → now + (total - d) ≤ before + (total - c)
 sums before now total c d pays most = omega arith
 
--- so many frames stand before a track that isn't opened, and before a cursor
+-- Without a cursor no frame was counted.
 pub none-counted : (f : LiveFiles) (links : List Link) (w : Walk) → IsReady f links w → w.cursor ≡ None → w.frames ≡ 0
 none-counted f links w ready none = subst (HasCounted w.frames) none ready.frames
 
 pub few-counted : (f : LiveFiles) (links : List Link) (w : Walk) (c : Reading) → IsReady f links w → w.cursor ≡ Some c → w.frames ≤ 256 * c.place.at
 few-counted f links w c ready is = subst (HasCounted w.frames) is ready.frames
 
--- A track makes the same of a block as of what is lent of it, where what its lane wants is known.
+-- The block `b` and its visible parts give the same placed block and frame count.
 pub record IsSame (t : TrackLink) (b : Block) (lent : Buffered) : Type 0 where
   pub placed : (scale k : ℕ) → track_placed scale t k b ≡ track_placed scale t k (block_of lent)
   pub frames : frames_of t b ≡ frames_of t (by_head lent)
@@ -104,7 +104,7 @@ known-same t b lent known lends = split (lent.head.track == t.number) refl
           frames = cond-false (b.track == t.number) _ _ other ∙ sym (cond-false (lent.head.track == t.number) _ _ is);
         }
 
--- ---- a turn in the file of a track, whose cursor was c and is d
+-- ---- a turn in the file of a track, with its cursor `c` before and `d` after
 
 pub record Reads (links : List Link) (t : TrackLink) (old new : Walk) (c d : Reading) : Type 0 where
   pub at : slice_get links old.at ≡ Some (Track t)
@@ -116,7 +116,7 @@ module _ {links : List Link} {t : TrackLink} {old new : Walk} {c d : Reading} (i
   at_new : slice_get links new.at ≡ Some (Track t)
   at_new = ap (slice_get links) is.same ∙ is.at
 
-  -- it may go on
+  -- The walk can be advanced.
   pub ready-reads : (f g : LiveFiles) → g ≡ f → IsReady f links old → CanRead g d → d.file ≡ t.file → length new.told.items ≡ length old.told.items → new.frames ≤ 256 * d.place.at → IsReady g links new
   ready-reads f g same was can file told few =
       let ready = subst (λ (each : LiveFiles). IsReady each links old) (sym same) was in
@@ -130,7 +130,7 @@ module _ {links : List Link} {t : TrackLink} {old new : Walk} {c d : Reading} (i
         frames = subst (HasCounted new.frames) (sym is.now) few;
       }
 
-  -- what is lent
+  -- The last block is the cursor's.
   pub lent-here : lent_in links new ≡ track_lent t d.block new.placed
   lent-here = ap (lent_by new) at_new ∙ ap (lent_by_track new.placed t) is.now
 
@@ -141,7 +141,7 @@ module _ {links : List Link} {t : TrackLink} {old new : Walk} {c d : Reading} (i
       omega arith)
 
 module _ (f : LiveFiles) (scale : ℕ) {links : List Link} {t : TrackLink} {old new : Walk} {c d : Reading} (is : Reads links t old new c d) where
-  -- what its link has left
+  -- The rest of its link is what the cursor has left.
   was : links_left f links old ≡ track_behind t old.frames old.stopped (left_of (octets_in f t.file.n) c) ∷ later f links old.at
   was = links_left-at f links old (Track t) is.at ∙ ap (λ each. track_left f t old.frames old.stopped each ∷ later f links old.at) is.before
 
@@ -154,7 +154,7 @@ module _ (f : LiveFiles) (scale : ℕ) {links : List Link} {t : TrackLink} {old 
       → Stays f links old new (track_behind t old.frames old.stopped (left_of (octets_in f t.file.n) c)) (track_behind t new.frames new.stopped (left_of (octets_in f t.file.n) d))
   stays stops = record { rest = later f links old.at; was = was; now = now; stops = stops; at = is.same }
 
-  -- a call that gives nothing
+  -- The call returns no event.
   pub turns-same : new.frames ≡ old.frames → new.stopped ≡ old.stopped → new.greatest ≡ old.greatest → new.told ≡ old.told → left_of (octets_in f t.file.n) d ≡ left_of (octets_in f t.file.n) c → (result : Result (Option LaneStep) ReadEnd) → IsErr result → Turns f scale links old new result
   turns-same frames stopped greatest told gives result err = record {
     blocks = refused result err (left-passes f scale links old new _ _ (stays (ap (λ g. g.stops) same)) (ap (given_blocks scale) same) greatest);
@@ -187,7 +187,7 @@ module _ (f : LiveFiles) (scale : ℕ) {links : List Link} {t : TrackLink} {old 
     block-told : told_in_all f links new ≡ told_in_all f links old
     block-told = told-passes f links old new _ _ block-stays (ap (λ es. (track_behind t old.frames old.stopped es).damages) gives) told
 
-    -- one that isn't the lane's
+    -- The block is dropped.
     pub turns-other : new.greatest ≡ old.greatest → track_placed scale t old.frames b ≡ [] → Turns f scale links old new (Ok None)
     turns-other greatest none = record {
       blocks = left-passes f scale links old new _ _ block-stays
@@ -195,7 +195,7 @@ module _ (f : LiveFiles) (scale : ℕ) {links : List Link} {t : TrackLink} {old 
       damages = block-told;
     }
 
-    -- one that is
+    -- The block is placed.
     pub turns-gives : IsPlaced (track_placed scale t old.frames b) old.greatest (track_lent t d.block new.placed) → new.greatest ≡ new.placed.head.order → Turns f scale links old new (Ok (Some ABlock))
     turns-gives placed greatest = record {
       blocks =
@@ -205,7 +205,7 @@ module _ (f : LiveFiles) (scale : ℕ) {links : List Link} {t : TrackLink} {old 
       damages = block-told;
     }
 
-  -- ---- a damage
+  -- ---- a damaged place
 
   pub turns-damage : (last : Bool) (x : Damage) (r : ToldDamages) → new.frames ≡ old.frames → new.stopped ≡ (last || old.stopped) → new.greatest ≡ old.greatest → left_of (octets_in f t.file.n) c ≡ damage_event last x ∷ left_of (octets_in f t.file.n) d
       → slice_get old.told.items old.at ≡ Some r → old.at < length old.told.items → new.told.items ≡ set old.told.items old.at (with_damage r x) → Turns f scale links old new (Ok None)
@@ -224,7 +224,7 @@ module _ (f : LiveFiles) (scale : ℕ) {links : List Link} {t : TrackLink} {old 
           ∙ damage-stops t old.frames old.stopped last x (left_of (octets_in f t.file.n) d)
           ∙ ap (λ st. (track_behind t old.frames st (left_of (octets_in f t.file.n) d)).stops) (sym stopped))
 
-  -- ---- how far it goes, and what it reads
+  -- ---- distance, and bytes that are read
 
   due-both : (track_due f t old.cursor ≡ f.size t.file.n - read_to c) × (track_due f t new.cursor ≡ f.size t.file.n - read_to d)
   due-both = (ap (track_due f t) is.before, ap (track_due f t) is.now)
@@ -237,7 +237,7 @@ module _ (f : LiveFiles) (scale : ℕ) {links : List Link} {t : TrackLink} {old 
       let less : now + (f.size t.file.n - read_to d) ≤ before + (f.size t.file.n - read_to c) = sums before now (f.size t.file.n) (read_to c) (read_to d) pays most_here in
       due-stays f links (Track t) old new before now is.at is.same (omega (arith, less, both.0, both.1))
 
-  -- one that is refused
+  -- The call fails.
   pub refused-pays : c.file ≡ t.file → (before now : ℕ) (result : Result (Option LaneStep) ReadEnd) → IsErr result → now + read_to c ≤ before + read_to d + f.size c.file.n → read_to d ≤ f.size c.file.n → Pays f links old new before now result
   refused-pays file before now (Ok turn) err pays most = absurd (cc)
   refused-pays file before now (Err end) err pays most =
@@ -246,7 +246,7 @@ module _ (f : LiveFiles) (scale : ℕ) {links : List Link} {t : TrackLink} {old 
       let less : now + due f links new ≤ before + f.size c.file.n + due f links old = reads-pays file (before + f.size c.file.n) now (omega arith) most in
       omega arith
 
--- ---- the end of its file
+-- ---- end of its file
 
 module _ (f : LiveFiles) (scale : ℕ) (links : List Link) (t : TrackLink) (old new : Walk) (c : Reading) (at : slice_get links old.at ≡ Some (Track t)) (cursor : old.cursor ≡ Some c) (has : HasLeft (length links) old new) where
   pub turns-ends : (r : ToldDamages) → left_of (octets_in f t.file.n) c ≡ [] → slice_get old.told.items old.at ≡ Some r → length old.told.items ≡ length links → Turns f scale links old new (Ok None)
@@ -272,7 +272,7 @@ module _ (f : LiveFiles) (scale : ℕ) (links : List Link) (t : TrackLink) (old 
       let size : f.size c.file.n ≡ f.size t.file.n = ap (λ each. f.size each.n) file in
       due-leaves f links (Track t) old new before now at has (omega (arith, pays, most, size, was))
 
--- ---- the beginning of its file
+-- ---- start of its file
 
 module _ (f : LiveFiles) (scale : ℕ) (links : List Link) (t : TrackLink) (old new : Walk) (d : Reading) (at : slice_get links old.at ≡ Some (Track t)) (before : old.cursor ≡ None) (is : new ≡ record old { cursor = Some d }) where
   opened_same : new.at ≡ old.at
@@ -334,7 +334,7 @@ module _ (f : LiveFiles) (scale : ℕ) (links : List Link) (t : TrackLink) (old 
 
 -- ---- a turn in a text
 
--- It went on behind the entries before the next one.
+-- The walk went on by one entry of the text.
 pub record ReadsText (links : List Link) (t : TextLink) (old new : Walk) (e : Entry) : Type 0 where
   pub at : slice_get links old.at ≡ Some (Entries t)
   pub same : new.at ≡ old.at
@@ -346,7 +346,7 @@ module _ {links : List Link} {t : TextLink} {old new : Walk} {e : Entry} (is : R
   text_new : slice_get links new.at ≡ Some (Entries t)
   text_new = ap (slice_get links) is.same ∙ is.at
 
-  -- what is lent
+  -- The last block is the entry.
   pub text-here : lent_in links new ≡ text_lent e.text new.placed
   text-here =
       ap (lent_by new) text_new
@@ -372,14 +372,14 @@ module _ (f : LiveFiles) (scale : ℕ) {links : List Link} {t : TextLink} {old n
     at = is.same;
   }
 
-  -- an entry that is dropped
+  -- The entry is dropped.
   pub text-other : new.greatest ≡ old.greatest → entry_placed scale t e ≡ [] → Turns f scale links old new (Ok None)
   text-other greatest none = record {
     blocks = left-passes f scale links old new _ _ text-stays (ap (λ bs. bs ++ given_blocks scale (text_with t (drop (suc old.next) t.entries))) none) greatest;
     damages = told-passes f links old new _ _ text-stays refl is.told;
   }
 
-  -- one that is given
+  -- The entry is placed.
   pub text-gives : IsPlaced (entry_placed scale t e) old.greatest (text_lent e.text new.placed) → new.greatest ≡ new.placed.head.order → Turns f scale links old new (Ok (Some ABlock))
   text-gives placed greatest = record {
     blocks =
@@ -388,7 +388,7 @@ module _ (f : LiveFiles) (scale : ℕ) {links : List Link} {t : TextLink} {old n
     damages = told-passes f links old new _ _ text-stays refl is.told;
   }
 
--- ---- the end of a text
+-- ---- end of a text
 
 module _ (f : LiveFiles) (scale : ℕ) (links : List Link) (t : TextLink) (old new : Walk) (at : slice_get links old.at ≡ Some (Entries t)) (past : slice_get t.entries old.next ≡ None) (has : HasLeft (length links) old new) where
   pub turns-text_ends : (r : ToldDamages) → old.stopped ≡ false → slice_get old.told.items old.at ≡ Some r → length old.told.items ≡ length links → Turns f scale links old new (Ok None)
@@ -410,7 +410,7 @@ text_ends-on links t old new at has = way-leaves links (Entries t) old new at ha
 pub text_ends-pays : (f : LiveFiles) (links : List Link) (t : TextLink) (old new : Walk) → slice_get links old.at ≡ Some (Entries t) → HasLeft (length links) old new → due f links new ≤ due f links old
 text_ends-pays f links t old new at has = let less : 0 + due f links new ≤ 0 + due f links old = due-leaves f links (Entries t) old new 0 0 at has (omega arith) in omega arith
 
--- ---- what is lent can be written
+-- ---- the last block can be written
 
 pub lends-here : (scale : ℕ) (links : List Link) (w : Walk) (l : Lent) → lent_in links w ≡ l → IsLent l → HasFewTicks scale w.placed → w.greatest ≡ w.placed.head.order → LendsBlock scale links w
 lends-here scale links w l here lends ticks greatest = record { lent = subst IsLent (sym here) lends; ticks = ticks; order = sym greatest }

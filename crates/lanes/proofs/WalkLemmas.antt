@@ -1,4 +1,4 @@
--- What a turn at one link makes of what is left of a lane.
+-- The effect of a turn at one link on the blocks that are left.
 use Rattle.std.proofs.Common.{◌≡◌, ℕ, suc, ◌+◌, max, Bool, true, false, if◌then◌else◌, List, [], ◌∷◌, ◌++◌, length, map, drop, Some, None, refl, sym, ◌∙◌, ap, add-one}
 use Rattle.std.specs.List.{slice_get}
 use Rattle.std.proofs.Math.Seq.{drop-length}
@@ -15,16 +15,16 @@ use Rattle.lanes.specs.Walks.{here_left, links_from, links_left, left, track_lef
 use Rattle.lanes.specs.declared.walk.Walk.{Walk}
 use Rattle.lanes.proofs.ListLemmas.{drop-at}
 
--- ---- the links that are left
+-- ---- links that are left
 
--- what the links behind the one at which a walk stands give
+-- the blocks and damaged places of the links after the current one
 abbrev pub later : LiveFiles → List Link → ℕ → List Given
 later f links at = map (given_in f) (drop (suc at) links)
 
 pub links_left-at : (f : LiveFiles) (links : List Link) (w : Walk) (link : Link) → slice_get links w.at ≡ Some link → links_left f links w ≡ here_left f w link ∷ later f links w.at
 links_left-at f links w link is = ap (links_from f w) (drop-at links w.at link is)
 
--- where no link was begun
+-- No link was begun.
 pub links_left-fresh : (f : LiveFiles) (links : List Link) (w : Walk) → w.cursor ≡ None → w.next ≡ 0 → links_left f links w ≡ map (given_in f) (drop w.at links)
 links_left-fresh f links w cursor next = step (drop w.at links)
   where
@@ -38,7 +38,7 @@ links_left-fresh f links w cursor next = step (drop w.at links)
 
 -- ---- a turn that stays at its link
 
--- Of its link g was left, and h is left now.
+-- The rest of the current link was `g`, and is `h` now; the other links are unchanged.
 pub record Stays (f : LiveFiles) (links : List Link) (old new : Walk) (g h : Given) : Type 0 where
   pub rest : List Given
   pub was : links_left f links old ≡ g ∷ rest
@@ -46,7 +46,7 @@ pub record Stays (f : LiveFiles) (links : List Link) (old new : Walk) (g h : Giv
   pub stops : g.stops ≡ h.stops
   pub at : new.at ≡ old.at
 
--- nothing is given
+-- No block is taken.
 pub left-passes : (f : LiveFiles) (scale : ℕ) (links : List Link) (old new : Walk) (g h : Given) → Stays f links old new g h → given_blocks scale g ≡ given_blocks scale h → new.greatest ≡ old.greatest → left f scale links new ≡ left f scale links old
 left-passes f scale links old new g h is same greatest =
     ap (λ ls. ordered_from new.greatest (lane_blocks scale ls)) is.now
@@ -55,7 +55,7 @@ left-passes f scale links old new g h is same greatest =
     ∙ ap (λ (m : ℕ). ordered_from m (lane_blocks scale (g ∷ is.rest))) greatest
     ∙ ap (λ ls. ordered_from old.greatest (lane_blocks scale ls)) (sym is.was)
 
--- a block is given
+-- A block is taken.
 pub left-gives : (f : LiveFiles) (scale : ℕ) (links : List Link) (old new : Walk) (g h : Given) (l : Lent) → Stays f links old new g h → given_blocks scale g ≡ lent_block l ∷ given_blocks scale h → l.head.order ≡ max old.greatest l.head.tick → new.greatest ≡ l.head.order → left f scale links old ≡ lent_ordered l ∷ left f scale links new
 left-gives f scale links old new g h l is gives order greatest =
     ap (λ ls. ordered_from old.greatest (lane_blocks scale ls)) is.was
@@ -67,11 +67,11 @@ left-gives f scale links old new g h l is gives order greatest =
 
 -- ---- a turn that leaves its link
 
--- where a walk goes on behind a link
+-- the number of the link after the current one
 abbrev pub behind : Bool → ℕ → ℕ → ℕ
 behind stopped count at = if stopped then count else at + 1
 
--- It stands at the next link, or behind all.
+-- The walk `new` is at the next link, or after all.
 pub record HasLeft (count : ℕ) (old new : Walk) : Type 0 where
   pub at : new.at ≡ behind old.stopped count old.at
   pub cursor : new.cursor ≡ None
@@ -100,7 +100,7 @@ links_left-behind f links old new has =
     step true = ap (map (given_in f)) (drop-length links)
     step false = ap (λ (k : ℕ). map (given_in f) (drop k links)) (add-one old.at)
 
--- Nothing was left of its link.
+-- Nothing was left of the current link.
 pub record Leaves (f : LiveFiles) (links : List Link) (old new : Walk) (g : Given) : Type 0 where
   pub was : links_left f links old ≡ g ∷ later f links old.at
   pub left : HasLeft (length links) old new

@@ -1,4 +1,4 @@
--- How far a walk can go on, and how much it may still read.
+-- Bounds on the turns and bytes that are left.
 use Rattle.std.proofs.Common.{◌≡◌, ℕ, suc, zero, ◌+◌, ◌-◌, ◌<◌, ◌≤◌, Bool, true, false, List, [], ◌∷◌, length, drop, Some, None, refl, ◌∙◌, ap, add-one, arith}
 use Rattle.std.proofs.Math.Seq.{drop-length}
 use Rattle.std.specs.List.{slice_get}
@@ -10,7 +10,7 @@ use Rattle.lanes.specs.declared.walk.Walk.{Walk}
 use Rattle.lanes.proofs.ListLemmas.{drop-at}
 use Rattle.lanes.proofs.WalkLemmas.{HasLeft, behind}
 
--- ---- the way
+-- ---- turns
 
 way-at : (links : List Link) (w : Walk) (link : Link) → slice_get links w.at ≡ Some link → way links w ≡ here_way w link + way_all (drop (suc w.at) links)
 way-at links w link is = ap (way_from w) (drop-at links w.at link is)
@@ -26,7 +26,7 @@ way-fresh links w cursor next = step (drop w.at links)
     step [] = refl
     step (link ∷ ls) = ap (λ (n : ℕ). n + way_all ls) (here link)
 
--- A walk that stays at its link has the same way behind it.
+-- A walk that stays at its link keeps the turns of the next links.
 pub way-stays : (links : List Link) (link : Link) (old new : Walk) → slice_get links old.at ≡ Some link → new.at ≡ old.at → here_way new link < here_way old link → way links new < way links old
 way-stays links link old new is at less =
     let was : way links old ≡ here_way old link + way_all (drop (suc old.at) links) = way-at links old link is in
@@ -34,7 +34,7 @@ way-stays links link old new is at less =
     let rest : way_all (drop (suc new.at) links) ≡ way_all (drop (suc old.at) links) = ap (λ (k : ℕ). way_all (drop (suc k) links)) at in
     omega arith
 
--- one that has left its link has that way alone
+-- A walk that has left its link has only the turns of the next links.
 pub way-leaves : (links : List Link) (link : Link) (old new : Walk) → slice_get links old.at ≡ Some link → HasLeft (length links) old new → 1 ≤ here_way old link → way links new < way links old
 way-leaves links link old new is has some =
     let was : way links old ≡ here_way old link + way_all (drop (suc old.at) links) = way-at links old link is in
@@ -47,7 +47,7 @@ way-leaves links link old new is has some =
     step true = let none : way_all (drop (length links) links) ≡ 0 = ap way_all (drop-length links) in omega arith
     step false = let one : way_all (drop (old.at + 1) links) ≡ way_all (drop (suc old.at) links) = ap (λ (k : ℕ). way_all (drop k links)) (add-one old.at) in omega arith
 
--- ---- what may still be read
+-- ---- bytes that may still be read
 
 due-at : (f : LiveFiles) (links : List Link) (w : Walk) (link : Link) → slice_get links w.at ≡ Some link → due f links w ≡ here_due f w link + files_length f (drop (suc w.at) links)
 due-at f links w link is = ap (due_from f w) (drop-at links w.at link is)
@@ -82,7 +82,7 @@ due-leaves f links link old new before now is has less =
     step true = let none : files_length f (drop (length links) links) ≡ 0 = ap (files_length f) (drop-length links) in omega arith
     step false = let one : files_length f (drop (old.at + 1) links) ≡ files_length f (drop (suc old.at) links) = ap (λ (k : ℕ). files_length f (drop k links)) (add-one old.at) in omega arith
 
--- a file of the lane is at most as long as all
+-- A link's file is at most as long as all files together.
 pub length-at : (f : LiveFiles) (links : List Link) (k : ℕ) (link : Link) → slice_get links k ≡ Some link → file_length f link ≤ files_length f links
 length-at f [] k link is = cc
 length-at f (l ∷ links) zero link is = let e : l ≡ link = cc in let s : file_length f l ≡ file_length f link = ap (file_length f) e in omega arith

@@ -1,9 +1,9 @@
--- A walk that has not begun.
+-- A walk before its start.
 use Rattle.std.specs.Prelude.{◌≡◌, ℕ, false, [], None, replicate}
 use Rattle.cluster_reader.specs.ToldDamages.{told_damages}
 use Rattle.lanes.specs.declared.walk.Walk.{Walk}
 
--- It stands at the first of so many links, nothing was opened, and no damage was reached.
+-- The walk `w` is at the first of `count` links: no file was opened, and no damaged place was reached.
 pub record Begins (count : ℕ) (w : Walk) : Type 0 where
   pub at : w.at ≡ 0
   pub cursor : w.cursor ≡ None

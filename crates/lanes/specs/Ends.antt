@@ -1,5 +1,4 @@
--- The end of a file, over the links that take blocks of it: what the code knows on the way. The end of a file is that of
--- `merge_model`, Ends.
+-- The end of a file over the links that take its blocks, as the code computes it. `merge_model`, Ends, defines the end of a file.
 use Rattle.std.specs.Prelude.{◌<◌, ◌^◌, ℕ, ◌*◌, ◌==◌, max, if◌then◌else◌, List, [], ◌∷◌, map, Option}
 use Rattle.std.specs.Option.{IfSome, unwrap_or}
 use Rattle.block_format.specs.Block.{Block}
@@ -18,7 +17,7 @@ use Rattle.merge_model.specs.declared.link.TrackLink.{TrackLink}
 abbrev pub lasting_for : Option ℕ → Option ℕ → ℕ → ℕ
 lasting_for duration default_duration frames = unwrap_or duration (frames * unwrap_or default_duration 0)
 
--- the end of a block that is the track's, else 0, where so many frames of the track stand before it
+-- the end of the block `b` in the track `t`, after `k` frames of the track, or 0 if it isn't the track's
 abbrev pub track_end : TrackLink → ℕ → Block → ℕ
 track_end t k b = if b.track == t.number then block_end (placing_of t) (at_time t k b) else 0
 
@@ -26,7 +25,7 @@ abbrev pub link_end : Block → ℕ → Link → ℕ
 link_end b k (Track t) = track_end t k b
 link_end b k (Entries e) = 0
 
--- the greatest of 0 and a block's ends, where so many frames of each link's track stand before it
+-- the greatest of 0 and the ends of the block `b` in all links, after these numbers of frames
 abbrev pub ends_of : Block → List ℕ → List Link → ℕ
 ends_of b [] links = 0
 ends_of b (k ∷ counts) [] = 0
@@ -36,24 +35,24 @@ ends_of b (k ∷ counts) (link ∷ links) = max (link_end b k link) (ends_of b c
 abbrev pub text_end : TextLink → ℕ
 text_end e = last_end (text_with e []).placing (map entry_block e.entries)
 
--- ---- all of them
+-- ---- all blocks
 
--- what a link gives, where its file has these blocks and damages
+-- the blocks and damaged places of a link, if its file has these events
 abbrev pub given_by : List Event → Link → Given
 given_by events (Track t) = track_with t events
 given_by events (Entries e) = text_with e e.entries
 
--- the end of a file with these blocks and damages
+-- the end of a file with these events
 abbrev pub end_of : List Event → List Link → ℕ
 end_of events links = file_end (map (given_by events) links)
 
--- the texts alone
+-- the end of a file with only the texts
 abbrev pub texts_end : List Link → ℕ
 texts_end links = end_of [] links
 
 -- ---- limits
 
--- A track's delay and its default duration keep their limits.
+-- The delay and default duration of the track `t` are within their limits.
 pub record IsTimedTrack (t : TrackLink) : Type 0 where
   pub moves : CanMove t.delay t.shift
   pub default : IfSome t.default_duration (λ d. d < 2 ^ 48)

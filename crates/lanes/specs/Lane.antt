@@ -1,4 +1,4 @@
--- A lane: its links, and the walk over them.
+-- An output track: its links, and the walk over them.
 use Rattle.std.specs.Prelude.{◌≡◌, ℕ, ◌+◌, ◌<◌, ◌≤◌, ⊤, List, [], ◌∷◌, length, map, Result, Ok, Err}
 use Rattle.std.specs.List.{All}
 use Rattle.block_format.specs.declared.limits.TheConstants.{MAX_BLOCK_LEN, MAX_REFERENCES}
@@ -22,26 +22,26 @@ use Rattle.lanes.specs.declared.lane.LaneStep.{LaneStep}
 use Rattle.lanes.specs.declared.lane.LaneStep.TheVariants.{Block, End}
 use Rattle.lanes.specs.declared.walk.Walk.{Walk}
 
--- its links, nanoseconds for a tick of the output, where it stands, and how many blocks it has given
+-- the links of an output track, the nanoseconds per tick, the walk over its links, and the number of blocks returned
 pub record LaneSeen : Type 0 where
   pub links : List Link
   pub scale : ℕ
   pub walk : Walk
   pub given : ℕ
 
--- the blocks that are left of a lane, among these files
+-- the blocks that are left of the output track `l` among these files
 abbrev pub left : LiveFiles → LaneSeen → List Ordered
 left f l = walks.left f l.scale l.links l.walk
 
--- the damages of each link that will have been told in the end
+-- the damaged places of each link that are reported at the end
 abbrev pub told_in_all : LiveFiles → LaneSeen → List ToldDamages
 told_in_all f l = walks.told_in_all f l.links l.walk
 
--- a block that is lent, by what is seen of it
+-- the block `b` by its visible parts
 abbrev pub as_lent : LaneBlock → Lent
 as_lent b = record { head = b.head.now; prefix = b.prefix.now; body = b.body.now; sizes = b.sizes.now; references = b.references.now; kept = b.kept.now }
 
--- It has no more than a block may have.
+-- The block `b` is within a block's limits.
 pub record HasFew (b : LaneBlock) : Type 0 where
   pub prefix : length b.prefix.now ≤ MAX_PREFIX_LEN
   pub body : length b.body.now ≤ MAX_BLOCK_LEN
@@ -49,27 +49,27 @@ pub record HasFew (b : LaneBlock) : Type 0 where
   pub references : length b.references.now ≤ MAX_REFERENCES
   pub kept : length b.kept.now ≤ MAX_BLOCK_LEN
 
--- what it lends
+-- the last block of the output track
 abbrev pub lent : LaneSeen → Lent
 lent l = walks.lent_in l.links l.walk
 
--- ---- among which files
+-- ---- among files
 
--- It stands among these files, and may be advanced.
+-- The output track `l` can be advanced among these files.
 abbrev pub IsReady : LiveFiles → LaneSeen → Type 0
 IsReady f l = walks.IsReady f l.links l.walk
 
--- the files of its links are told
+-- The files of its links are visible to the proof.
 abbrev pub IsTold : LiveFiles → LaneSeen → Type 0
 IsTold f l = All (IsToldLink f) l.links
 
--- the files of its links are the same as before
+-- The files of its links are unchanged.
 abbrev pub KeepsLane : LiveFiles → LiveFiles → LaneSeen → Type 0
 KeepsLane old new l = All (KeepsLink old new) l.links
 
--- ---- the start
+-- ---- start
 
--- A lane over these links that has given nothing: its blocks are left, and the damages of its links will have been told.
+-- The output track `l` is at its start: all blocks of its links are left, and all their damaged places will be reported.
 pub record Starts (f : LiveFiles) (scale : ℕ) (links : List Link) (l : LaneSeen) : Type 0 where
   pub left : left f l ≡ ordered (lane_blocks scale (map (given_in f) links))
   pub told : told_in_all f l ≡ map told_damages (lane_damages (map (given_in f) links))
@@ -83,18 +83,18 @@ pub record Begins (ticks : ℕ) (chain : List Link) (l : LaneSeen) : Type 0 wher
 
 -- ---- a call
 
--- The first block that was left is given, or none is left. After a read that failed or want of memory the same is left.
+-- A call takes the first block that was left, or none is left. After an error the same blocks are left.
 abbrev pub GivesBlock : LiveFiles → LaneSeen → LaneSeen → Result LaneStep ReadEnd → Type 0
 GivesBlock f old new (Ok Block) = left f old ≡ lent_ordered (lent new) ∷ left f new
 GivesBlock f old new (Ok End) = (left f old ≡ []) × (left f new ≡ [])
 GivesBlock f old new (Err end) = left f new ≡ left f old
 
--- What is left by what is answered; and the damages that will have been told in the end stay.
+-- A call takes the first block that was left, and the damaged places that are reported at the end are the same.
 pub record Gives (f : LiveFiles) (old new : LaneSeen) (result : Result LaneStep ReadEnd) : Type 0 where
   pub blocks : GivesBlock f old new result
   pub damages : told_in_all f new ≡ told_in_all f old
 
--- The same where the files of its links are told.
+-- A call is right if the files of the links are visible to the proof.
 abbrev pub GivesIfTold : LiveFiles → LaneSeen → LaneSeen → Result LaneStep ReadEnd → Type 0
 GivesIfTold f old new result = IsTold f old → Gives f old new result
 
@@ -103,20 +103,20 @@ given_by (Ok Block) = 1
 given_by (Ok End) = 0
 given_by (Err end) = 0
 
--- at most so many turns are left
+-- an upper bound on the turns that are left
 abbrev pub way : LaneSeen → ℕ
 way l = walks.way l.links l.walk
 
--- It has given all its blocks, and left all its links.
+-- The output track has returned all its blocks, and left all its links.
 abbrev pub IsEnded : LaneSeen → Type 0
 IsEnded l = walks.IsEnded l.links l.walk
 
--- A block that is given can be written, its order number is the greatest tick so far, and fewer are left.
+-- The last block can be written, its order number is the greatest tick, and fewer turns are left.
 pub record StepsTo (old new : LaneSeen) : Type 0 where
   pub lends : LendsBlock new.scale new.links new.walk
   pub on : way new < way old
 
--- No more turns are left than before, and the lane has ended.
+-- No more turns are left than before, and the output track has ended.
 pub record Ends (old new : LaneSeen) : Type 0 where
   pub on : way new ≤ way old
   pub ended : IsEnded new
@@ -126,28 +126,27 @@ Steps old new (Ok Block) = StepsTo old new
 Steps old new (Ok End) = Ends old new
 Steps old new (Err end) = ⊤
 
--- Its links and its scale stay, and what is given is counted.
+-- A call keeps the links and the scale, and counts the blocks it returns.
 pub record Moves (old new : LaneSeen) (result : Result LaneStep ReadEnd) : Type 0 where
   pub links : new.links ≡ old.links
   pub scale : new.scale ≡ old.scale
   pub given : new.given ≡ counted old.given (given_by result)
   pub steps : Steps old new result
 
--- ---- how much is read
+-- ---- bytes that are read
 
--- what may still be read for it, and the lengths of the files of its links
+-- the bytes that may still be read; and the lengths of its links' files
 abbrev pub due : LiveFiles → LaneSeen → ℕ
 due f l = walks.due f l.links l.walk
 
 abbrev pub files_length : LiveFiles → LaneSeen → ℕ
 files_length f l = walks.files_length f l.links
 
--- What a call reads is taken from what may still be read. One that a failed read or want of memory ends may read
--- as much besides as the files have octets.
+-- The bytes that a call reads are no longer due. A failed call may read the length of the files once more.
 abbrev pub Pays : {T : Type 0} → LiveFiles → LaneSeen → LaneSeen → ℕ → ℕ → Result T ReadEnd → Type 0
 Pays f old new before now (Ok answer) = now + due f new ≤ before + due f old
 Pays f old new before now (Err end) = now + due f new ≤ before + due f old + files_length f old
 
--- The same of a call on what reads the files, by how many octets it has read before and behind it.
+-- The bytes that a call reads through its source are no longer due, as `Pays`.
 abbrev pub PaysFor : {S T : Type 0} → Ghosts S → S → S → LaneSeen → LaneSeen → Result T ReadEnd → Type 0
 PaysFor r src src' old new result = Pays (live_files r src) old new (r.octets_read src) (r.octets_read src') result

@@ -1,10 +1,9 @@
--- What holds of every lane.
+-- Laws about output tracks.
 use Rattle.std.specs.Prelude.{◌≡◌}
 use Rattle.mkv_io.specs.LiveFiles.{LiveFiles}
 use Rattle.lanes.specs.Lane.{IsEnded, IsReady, IsTold, KeepsLane, LaneSeen, due, files_length, left, told_in_all}
 
--- It stands among the new files as it stood among the old ones: it may be advanced, the same is left, and as much may
--- still be read.
+-- The output track `l` is the same among `new` as among `old`: it can be advanced, and the same blocks, damaged places and bytes are left.
 pub record StandsAmong (old new : LiveFiles) (l : LaneSeen) : Type 0 where
   pub ready : IsReady new l
   pub told : IsTold old l → IsTold new l
@@ -13,10 +12,10 @@ pub record StandsAmong (old new : LiveFiles) (l : LaneSeen) : Type 0 where
   pub due : due new l ≡ due old l
   pub length : files_length new l ≡ files_length old l
 
--- A lane stands over what is written to files that aren't its links'.
+-- Writes to files other than its links' don't affect an output track.
 abbrev pub AreUnaffectedByWrites : Type 0
 AreUnaffectedByWrites = (old new : LiveFiles) (l : LaneSeen) → KeepsLane old new l → IsReady old l → StandsAmong old new l
 
--- Where a lane has ended, the damages that will have been told in the end are those that were reached.
+-- An output track that has ended has reached all damaged places that are reported at the end.
 abbrev pub EndedHaveToldAll : Type 0
 EndedHaveToldAll = (f : LiveFiles) (l : LaneSeen) → IsReady f l → IsEnded l → told_in_all f l ≡ l.walk.told.items

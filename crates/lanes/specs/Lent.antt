@@ -1,4 +1,4 @@
--- A block of an input as a lane hands it out.
+-- A block of an input as an output track returns it.
 use Rattle.std.specs.Prelude.{◌≡◌, ◌<◌, ◌≤◌, ◌+◌, ◌*◌, ◌/◌, ◌^◌, ℕ, Bool, true, false, List, [], ◌∷◌, max}
 use Rattle.std.specs.List.{All}
 use Rattle.std.specs.Option.{IfSome}
@@ -14,34 +14,34 @@ use Rattle.lanes.specs.Placed.{entry_placed, text_lent, track_lent, track_placed
 use Rattle.lanes.specs.Times.{most_time}
 use Rattle.lanes.specs.declared.place.Placed.{Placed}
 
--- the block that is handed out, with its order number
+-- the block `l` with its order number
 abbrev pub lent_ordered : Lent → Ordered
 lent_ordered l = record { order = l.head.order; block = lent_block l }
 
--- Its tick is below 2^63 where a tick has two nanoseconds or more, and in nanoseconds no later than a time may be, rounded;
--- its duration and the ticks that it refers to are below 2^56.
+-- The tick of `p` is below 2^63 if a tick has at least two nanoseconds, and not after the latest time, rounded. Its duration and references are
+-- below 2^56 ticks.
 pub record HasFewTicks (scale : ℕ) (p : Placed) : Type 0 where
   pub tick : 2 ≤ scale → p.head.tick < 2 ^ 63
   pub early : p.head.tick * scale ≤ most_time + scale / 2
   pub duration : IfSome p.head.duration (λ d. d < TOO_LARGE_TIME)
   pub references : All IsSmallTime p.references.items
 
--- ---- what a block becomes
+-- ---- placing a block
 
--- It is this block alone, whose order number is the greatest tick of its lane up to it.
+-- `blocks` is only the block `l`, and its order number is the greatest tick of its output track up to it.
 pub record IsPlaced (blocks : List OutputBlock) (greatest : ℕ) (l : Lent) : Type 0 where
   pub block : blocks ≡ lent_block l ∷ []
   pub order : l.head.order ≡ max greatest l.head.tick
 
--- It is given as what is lent, or isn't.
+-- The block was placed as `l`, or dropped.
 abbrev pub Becomes : List OutputBlock → ℕ → Lent → Bool → Type 0
 Becomes blocks greatest l true = IsPlaced blocks greatest l
 Becomes blocks greatest l false = blocks ≡ []
 
--- A track makes this of the block that its cursor has given, where so many of its frames stand before it.
+-- The track `t` places the cursor's block as `p`, after `k` of its frames, or drops it.
 abbrev pub TrackBecomes : ℕ → TrackLink → ℕ → Buffered → ℕ → Placed → Bool → Type 0
 TrackBecomes scale t k b greatest p given = Becomes (track_placed scale t k (block_of b)) greatest (track_lent t b p) given
 
--- A text makes this of an entry.
+-- The text `t` places the entry `e` as `p`, or drops it.
 abbrev pub EntryBecomes : ℕ → TextLink → Entry → ℕ → Placed → Bool → Type 0
 EntryBecomes scale t e greatest p given = Becomes (entry_placed scale t e) greatest (text_lent e.text p) given

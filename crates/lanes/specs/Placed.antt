@@ -11,26 +11,26 @@ use Rattle.merge_model.specs.declared.link.TrackLink.{TrackLink}
 use Rattle.merge_model.specs.declared.link.TextLink.{TextLink}
 use Rattle.lanes.specs.declared.place.Placed.{Placed}
 
--- a block at the time that it has in a track, where so many frames of the track stand before it
+-- the block `b` with its time in the track `t`, after `k` frames of the track
 abbrev pub at_time : TrackLink → ℕ → Block → Block
 at_time t k b = record b { time = time_for (listing_of t) k b.time }
 
--- what a track makes then of a block of its file: nothing, or one block
+-- the block `b` of a track's file, placed in the output, or nothing if it is dropped
 abbrev pub track_placed : ℕ → TrackLink → ℕ → Block → List OutputBlock
 track_placed scale t k b = if b.track == t.number then placed scale (placing_of t) (at_time t k b) else []
 
--- what is lent of a block that was placed
+-- the visible parts of a placed block
 abbrev pub track_lent : TrackLink → Buffered → Placed → Lent
 track_lent t b p = record { head = p.head; prefix = t.prefix; body = b.body; sizes = b.sizes; references = p.references.items; kept = b.kept }
 
--- what a text makes of an entry
+-- an entry of a text, placed in the output, or nothing if it is dropped
 abbrev pub entry_placed : ℕ → TextLink → Entry → List OutputBlock
 entry_placed scale t e = placed scale (text_with t []).placing (entry_block e)
 
--- what is lent of an entry with this text that was placed: one frame
+-- the visible parts of a placed entry with this text: one frame
 abbrev pub text_lent : List ℕ → Placed → Lent
 text_lent text p = record { head = p.head; prefix = []; body = text; sizes = p.one_size; references = p.references.items; kept = [] }
 
--- where there is no block
+-- the visible parts without a block
 abbrev pub nothing_lent : Placed → Lent
 nothing_lent p = record { head = p.head; prefix = []; body = []; sizes = []; references = p.references.items; kept = [] }

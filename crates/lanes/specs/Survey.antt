@@ -1,4 +1,4 @@
--- What is known of a file for those that are appended to it.
+-- Facts about a file for the inputs that are appended to it.
 use Rattle.std.specs.Prelude.{◌≡◌, ⊤, ℕ, Bool, false, ◌||◌, List, [], ◌∷◌, Option, Some, None, map, Result, IfOk}
 use Rattle.std.specs.List.{All}
 use Rattle.mkv_io.specs.LiveFiles.{LiveFiles}
@@ -11,13 +11,13 @@ use Rattle.merge_model.specs.declared.link.Link.TheVariants.{Track, Entries}
 use Rattle.merge_model.specs.declared.link.TrackLink.{TrackLink}
 use Rattle.lanes.specs.declared.survey_result.Survey.{Survey}
 
--- the first link to a track of a file
+-- the first link to a track of a file, if any
 abbrev pub first_track : List Link → Option TrackLink
 first_track [] = None
 first_track (Track t ∷ links) = Some t
 first_track (Entries e ∷ links) = first_track links
 
--- It is a track of the same file, as it was read.
+-- `other` is a track of the same file, with the same Segment and scale.
 pub record IsSameFile (t other : TrackLink) : Type 0 where
   pub file : other.file ≡ t.file
   pub segment : other.outline.value.segment ≡ t.outline.value.segment
@@ -31,17 +31,17 @@ IsOfFile t (Entries e) = ⊤
 abbrev pub AreOfOneFile : List Link → Type 0
 AreOfOneFile links = (t : TrackLink) → first_track links ≡ Some t → All (IsOfFile t) links
 
--- whether one of these isn't read to its end
+-- One of the links isn't read to its end.
 abbrev pub stops_any : List Given → Bool
 stops_any [] = false
 stops_any (g ∷ gs) = g.stops || stops_any gs
 
--- The end of the file, and whether a damage ends what is read of it.
+-- `s` has the end of the file, and whether damage ends its reading.
 pub record IsSurvey (given : List Given) (s : Survey) : Type 0 where
   pub end : s.end ≡ file_end given
   pub stopped : s.stopped ≡ stops_any given
 
--- A survey of the file of these links finds this, where the files are told.
+-- A survey of the file of these links is right, if the files are visible to the proof.
 abbrev pub Surveys : LiveFiles → List Link → Result Survey ReadEnd → Type 0
 Surveys f links result = All (IsToldLink f) links → IfOk result (IsSurvey (map (given_in f) links))
 

@@ -1,20 +1,21 @@
--- Times of the blocks of a lane, in nanoseconds of the output and in ticks: RFC 9559, section 11 (Timestamps). By how much they are moved is this project's.
+-- Times of an output track's blocks, in nanoseconds of the output and in ticks: RFC 9559, section 11 (Timestamps). Delays and append offsets are
+-- this project's.
 use Rattle.std.specs.Prelude.{ℕ, ◌+◌, ◌-◌, ◌/◌, ◌*◌, ◌^◌, nat_le, if◌then◌else◌, ℤ, ◌+ℤ◌, Option, option_map}
 use Rattle.merge_model.specs.Ticks.{since_start}
 
--- the time of a block in the output, none where it stands before the start
+-- the time of a block in the output, or nothing if it is before the start
 abbrev pub output_time : ℤ → ℕ → ℤ → Option ℕ
 output_time delay shift time = option_map (λ (t : ℕ). t + shift) (since_start (time +ℤ delay))
 
--- no block stands so many nanoseconds behind the start of an output: the limits of a time, a delay and a shift
+-- an upper bound on the time of a block in an output, from the limits of time, delay and append offset
 abbrev pub most_time : ℕ
 most_time = 2 ^ 57 + 63 * (2 ^ 57 + 2 ^ 55)
 
--- so many nanoseconds backwards from a place that is so far from the start, in ticks
+-- `size` nanoseconds backwards from a place that is `from` nanoseconds after the start, in ticks
 abbrev pub ticks_before : ℕ → ℕ → ℕ → ℕ
 ticks_before scale from size =
     if nat_le size from then from / scale - (from - size) / scale else from / scale + (size - from - 1) / scale + 1
 
--- the same of a time, which is rounded
+-- `size` nanoseconds backwards from the time `t`, in ticks, rounded
 abbrev pub ticks_back : ℕ → ℕ → ℕ → ℕ
 ticks_back scale t size = ticks_before scale (t + scale / 2) size

@@ -1,4 +1,4 @@
--- What a turn makes of a walk.
+-- The effect of one turn on a walk.
 use Rattle.std.specs.Prelude.{◌≡◌, ℕ, ◌+◌, ◌<◌, ◌≤◌, ⊤, List, [], ◌∷◌, Option, Some, None, Result, Ok, Err}
 use Rattle.std.specs.List.{All}
 use Rattle.mkv_io.specs.declared.outside.ReadEnd.{ReadEnd}
@@ -15,23 +15,23 @@ use Rattle.lanes.specs.declared.lane.LaneStep.{LaneStep}
 use Rattle.lanes.specs.declared.lane.LaneStep.TheVariants.{Block, End}
 use Rattle.lanes.specs.declared.walk.Walk.{Walk}
 
--- The first of these blocks is lent and the others are left, the same are left, or none is.
+-- The first of the blocks is taken, all of them are left, or there are none.
 abbrev pub GivesFirst : List Ordered → List Ordered → Lent → Result (Option LaneStep) ReadEnd → Type 0
 GivesFirst old new lent (Ok None) = new ≡ old
 GivesFirst old new lent (Ok (Some Block)) = old ≡ lent_ordered lent ∷ new
 GivesFirst old new lent (Ok (Some End)) = (old ≡ []) × (new ≡ [])
 GivesFirst old new lent (Err end) = new ≡ old
 
--- What is left of the blocks, by what a turn gives; and the damages that will have been told in the end stay.
+-- A turn takes the first block that was left or none, and the damaged places that are reported at the end are the same.
 pub record Turns (f : LiveFiles) (scale : ℕ) (links : List Link) (old new : Walk) (result : Result (Option LaneStep) ReadEnd) : Type 0 where
   pub blocks : GivesFirst (left f scale links old) (left f scale links new) (lent_in links new) result
   pub damages : told_in_all f links new ≡ told_in_all f links old
 
--- The same where the files of the links are told.
+-- A turn is right if the files of the links are visible to the proof.
 abbrev pub TurnsIfTold : LiveFiles → ℕ → List Link → Walk → Walk → Result (Option LaneStep) ReadEnd → Type 0
 TurnsIfTold f scale links old new result = All (IsToldLink f) links → Turns f scale links old new result
 
--- The block that is lent can be written, and its order number is the greatest tick so far.
+-- The last block can be written, and its order number is the greatest tick.
 pub record LendsBlock (scale : ℕ) (links : List Link) (w : Walk) : Type 0 where
   pub lent : IsLent (lent_in links w)
   pub ticks : HasFewTicks scale w.placed
@@ -53,17 +53,16 @@ GoesOn links old new None = way links new < way links old
 GoesOn links old new (Some Block) = way links new < way links old
 GoesOn links old new (Some End) = Ends links old new
 
--- A turn goes on, and what it lends can be written.
+-- A turn moves forwards, and its block can be written.
 pub record Moves (scale : ℕ) (links : List Link) (old new : Walk) (turn : Option LaneStep) : Type 0 where
   pub on : GoesOn links old new turn
   pub lends : LendsFor scale links new turn
 
--- What a call reads is taken from what may still be read. One that a failed read or want of memory ends may read
--- as much besides as the files have octets.
+-- The bytes that a call reads are no longer due. A failed call may read the length of the files once more.
 abbrev pub Pays : {T : Type 0} → LiveFiles → List Link → Walk → Walk → ℕ → ℕ → Result T ReadEnd → Type 0
 Pays f links old new before now (Ok answer) = now + due f links new ≤ before + due f links old
 Pays f links old new before now (Err end) = now + due f links new ≤ before + due f links old + files_length f links
 
--- The same of a call on what reads the files, by how many octets it has read before and behind it.
+-- The bytes that a call reads through its source are no longer due, as `Pays`.
 abbrev pub PaysFor : {S T : Type 0} → Ghosts S → S → S → List Link → Walk → Walk → Result T ReadEnd → Type 0
 PaysFor r src src' links old new result = Pays (live_files r src) links old new (r.octets_read src) (r.octets_read src') result

@@ -1,4 +1,4 @@
--- A walk over the links of a lane: what is left of them, what it lends, and how it stands among the files.
+-- A walk over the links of an output track: the blocks that are left, its last block, and its place among the files.
 use Rattle.std.specs.Prelude.{◌≡◌, ℕ, ◌+◌, ◌-◌, ◌*◌, ◌≤◌, ⊤, Bool, false, ◌||◌, List, [], ◌∷◌, ◌++◌, length, map, take, drop, Option, Some, None, is_some, if◌then◌else◌}
 use Rattle.std.specs.List.{All, slice_get}
 use Rattle.mkv_io.specs.LiveFiles.{LiveFiles}
@@ -19,23 +19,23 @@ use Rattle.lanes.specs.declared.place.Placed.{Placed}
 use Rattle.lanes.specs.Told.{with_all}
 use Rattle.lanes.specs.declared.walk.Walk.{Walk}
 
--- ---- what is left
+-- ---- blocks and damaged places that are left
 
--- what a track gives of these blocks and damages, behind so many of its frames, and where one may have ended what is read
+-- the rest of a track, given these events, after `k` of its frames; `stopped` is set if damage has ended the reading
 abbrev pub track_behind : TrackLink → ℕ → Bool → List Event → Given
 track_behind t k stopped events = record (timed_given (listing_of t) k (track_given (placing_of t) t.number events)) { stops = stopped || is_some (last_of events) }
 
--- what is left of a track: all of it, or what its cursor has left
+-- the rest of a track: all of it, or what its cursor has left
 abbrev pub track_left : LiveFiles → TrackLink → ℕ → Bool → Option Reading → Given
 track_left f t k stopped None = given_in f (Track t)
 track_left f t k stopped (Some c) = track_behind t k stopped (left_of (octets_in f t.file.n) c)
 
--- what is left of the link at which a walk stands
+-- the rest of the current link
 abbrev pub here_left : LiveFiles → Walk → Link → Given
 here_left f w (Track t) = track_left f t w.frames w.stopped w.cursor
 here_left f w (Entries e) = text_with e (drop w.next e.entries)
 
--- of the links from there on
+-- the rest of the links from the current one on
 abbrev pub links_from : LiveFiles → Walk → List Link → List Given
 links_from f w [] = []
 links_from f w (link ∷ links) = here_left f w link ∷ map (given_in f) links
@@ -47,13 +47,13 @@ links_left f links w = links_from f w (drop w.at links)
 abbrev pub left : LiveFiles → ℕ → List Link → Walk → List Ordered
 left f scale links w = ordered_from w.greatest (lane_blocks scale (links_left f links w))
 
--- The damages that will have been told in the end, link by link: those that were reached, and those that are left.
+-- the damaged places that are reported at the end, link by link: the reached ones and the rest
 abbrev pub told_in_all : LiveFiles → List Link → Walk → List ToldDamages
 told_in_all f links w = take w.at w.told.items ++ with_all (drop w.at w.told.items) (lane_damages (links_left f links w))
 
--- ---- what is lent
+-- ---- last block
 
--- of a track the block that its cursor has given
+-- the last block of a track, which is its cursor's
 abbrev pub lent_by_track : Placed → TrackLink → Option Reading → Lent
 lent_by_track p t None = nothing_lent p
 lent_by_track p t (Some c) = track_lent t c.block p
@@ -62,31 +62,31 @@ abbrev pub text_of : Option Entry → List ℕ
 text_of None = []
 text_of (Some e) = e.text
 
--- of a text the entry before the one that is next
+-- the last block of a link; for a text, the entry before the next one
 abbrev pub lent_by : Walk → Option Link → Lent
 lent_by w None = nothing_lent w.placed
 lent_by w (Some (Track t)) = lent_by_track w.placed t w.cursor
 lent_by w (Some (Entries e)) = text_lent (text_of (slice_get e.entries (w.next - 1))) w.placed
 
--- what is lent at the link at which a walk stands
+-- the last block of the current link
 abbrev pub lent_in : List Link → Walk → Lent
 lent_in links w = lent_by w (slice_get links w.at)
 
--- ---- where it stands
+-- ---- place of a walk
 
--- The cursor, if there is one, is in the file of the track at which the walk stands.
+-- The cursor, if there is one, is in the file of the current track.
 abbrev pub IsAt : LiveFiles → Option Reading → Option Link → Type 0
 IsAt f None link = ⊤
 IsAt f (Some c) (Some (Track t)) = CanRead f c × (c.file ≡ t.file)
 IsAt f (Some c) (Some (Entries e)) = ⊥
 IsAt f (Some c) None = ⊥
 
--- So many frames stand in the blocks before the cursor, each of which has at most 256; none stands before a track that isn't opened.
+-- The count of previous frames is at most 256 per byte before the cursor, and 0 if no file was opened.
 abbrev pub HasCounted : ℕ → Option Reading → Type 0
 HasCounted frames None = frames ≡ 0
 HasCounted frames (Some c) = frames ≤ 256 * c.place.at
 
--- A walk over these links may go on among these files.
+-- The walk `w` over these links can be advanced among these files.
 pub record IsReady (f : LiveFiles) (links : List Link) (w : Walk) : Type 0 where
   pub files : All (IsOpenLink f) links
   pub here : IsAt f w.cursor (slice_get links w.at)
@@ -94,7 +94,7 @@ pub record IsReady (f : LiveFiles) (links : List Link) (w : Walk) : Type 0 where
   pub stopped : w.cursor ≡ None → w.stopped ≡ false
   pub frames : HasCounted w.frames w.cursor
 
--- the walk that has left the link at which it stood, of so many: it is at the next one, or behind all where its file wasn't read to its end
+-- the walk after leaving its current link: at the next one, or after all `count` links if the file wasn't read to its end
 abbrev pub behind_link : ℕ → Walk → Walk
 behind_link count w = record w { at = if w.stopped then count else w.at + 1; cursor = None; next = 0; frames = 0; stopped = false }
 
@@ -102,9 +102,9 @@ behind_link count w = record w { at = if w.stopped then count else w.at + 1; cur
 abbrev pub IsEnded : List Link → Walk → Type 0
 IsEnded links w = length links ≤ w.at
 
--- ---- how far it can go on
+-- ---- number of turns that are left
 
--- at most so many turns for a link
+-- an upper bound on the turns of a link
 abbrev pub way_of : Link → ℕ
 way_of (Track t) = t.outline.value.total + 2
 way_of (Entries e) = length e.entries + 1
@@ -128,9 +128,9 @@ way_from w (link ∷ links) = here_way w link + way_all links
 abbrev pub way : List Link → Walk → ℕ
 way links w = way_from w (drop w.at links)
 
--- ---- how much is read
+-- ---- bytes that are read
 
--- the length of a link's file; a text has none
+-- the length of a link's file; 0 for a text
 abbrev pub file_length : LiveFiles → Link → ℕ
 file_length f (Track t) = f.size t.file.n
 file_length f (Entries e) = 0
@@ -139,7 +139,7 @@ abbrev pub files_length : LiveFiles → List Link → ℕ
 files_length f [] = 0
 files_length f (link ∷ links) = file_length f link + files_length f links
 
--- what may still be read of a file: all of it, or what stands behind the place up to which its cursor has read it
+-- the bytes of a file that may still be read: all, or the rest after the place up to which its cursor has read it
 abbrev pub track_due : LiveFiles → TrackLink → Option Reading → ℕ
 track_due f t None = f.size t.file.n
 track_due f t (Some c) = f.size t.file.n - read_to c

@@ -1,4 +1,4 @@
-//! The damages that a lane has reached, by link.
+//! Damaged places that an output track has reached, by link
 
 ghost use Rattle.std.specs.Prelude.{◌≡◌};
 ghost use Rattle.std.specs.List.{slice_get};
@@ -7,15 +7,15 @@ ghost use Rattle.lanes.specs.Told.{link_damages, more_of};
 use cluster_reader::Damages;
 use mkv_io::Damage;
 
-/// A damage of a link's file.
+/// Damaged place in a link's file
 #[derive(Clone, Copy, Debug, PartialEq, Eq)]
 pub struct LinkDamage {
-    /// The number of the link in its lane, from 0.
+    /// Number of the link in its output track, counted from 0
     pub link: usize,
     pub damage: Damage,
 }
 
-/// The k-th damage that is told, from 0, link after link.
+/// Returns the reported damaged place with the number `k`, counted from 0, link after link.
 pub fn damage_at(told: &[Damages], k: usize) -> Option<LinkDamage>
     ensures { result ≡ slice_get (link_damages told.now) k }
 {
@@ -33,7 +33,7 @@ pub fn damage_at(told: &[Damages], k: usize) -> Option<LinkDamage>
     None
 }
 
-/// How many others of the link of this number there are.
+/// Returns the number of damaged places of the link that aren't reported one by one.
 pub fn more_of(told: &[Damages], link: usize) -> u64
     ensures { result ≡ more_of told.now link }
 {

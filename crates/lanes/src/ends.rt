@@ -1,4 +1,4 @@
-//! Where a block ends, and an entry of a text.
+//! Ends of blocks, and of a text's entries
 
 ghost use Rattle.std.specs.Prelude.{◌≡◌, ◌<◌, ◌≤◌, ◌^◌, ◌+◌, ℕ, [], length, max, IfSome};
 ghost use Rattle.std.specs.List.{All};
@@ -16,7 +16,7 @@ use cluster_reader::Cursor;
 use merge_model::{Link, TextLink, TrackLink};
 use mkv_io::Entry;
 
-/// How many nanoseconds a block lasts: its duration, else that of its frames, else nothing.
+/// Returns the duration of a block in nanoseconds: its own, or the frames' default durations, or 0.
 fn lasting(duration: Option<u64>, default_duration: Option<u64>, frames: u16) -> u64
     requires duration { IfSome duration (λ d. d < TOO_LARGE_TIME) }
     requires default { IfSome default_duration (λ d. d < 2 ^ 48) }
@@ -33,8 +33,8 @@ fn lasting(duration: Option<u64>, default_duration: Option<u64>, frames: u16) ->
     }
 }
 
-/// Where the block that a cursor gave ends in a track, before its shift, where so many frames of the track stand before it; 0
-/// where it isn't the track's or is dropped.
+/// Returns the end of the cursor's block in a track, before its append offset. `before` is the number of the track's
+/// previous frames. The end is 0 if the block isn't the track's or is dropped.
 fn track_end(track: &TrackLink, before: u64, cursor: &Cursor) -> u64
     requires { IsTimedTrack track.now }
     ensures exact { result ≡ track_end track.now before (by_head cursor.now.block) }
@@ -51,7 +51,7 @@ fn track_end(track: &TrackLink, before: u64, cursor: &Cursor) -> u64
     t + lasting(block.duration, track.default_duration, cursor.frames())
 }
 
-/// The same of a link; a text has no block of a file.
+/// Returns the end of the cursor's block in a link, before its append offset; 0 for a text.
 fn link_end(link: &Link, before: u64, cursor: &Cursor) -> u64
     requires { IsTimed link.now }
     ensures exact { result ≡ link_end (by_head cursor.now.block) before link.now }
@@ -63,7 +63,7 @@ fn link_end(link: &Link, before: u64, cursor: &Cursor) -> u64
     }
 }
 
-/// How many frames the block that a cursor gave has of a link's track; of a text none.
+/// Returns the number of frames of the link's track in the cursor's block; 0 for a text.
 fn link_frames(link: &Link, cursor: &Cursor) -> u64
     ensures exact { result ≡ link_frames (by_head cursor.now.block) link.now }
     ensures few { result ≤ 256 }
@@ -74,7 +74,8 @@ fn link_frames(link: &Link, cursor: &Cursor) -> u64
     }
 }
 
-/// The greatest of `end` and the ends of the block that a cursor gave, where so many frames of each link's track stand before it.
+/// Returns the greatest of `end` and the ends of the cursor's block in all links. `before` has the number of previous
+/// frames of each link's track.
 pub fn greatest_end(links: &[Link], before: &[u64], cursor: &Cursor, end: u64) -> u64
     requires links { All IsTimed links.now }
     requires each { length before.now ≡ length links.now }
@@ -89,7 +90,7 @@ pub fn greatest_end(links: &[Link], before: &[u64], cursor: &Cursor, end: u64) -
     end
 }
 
-/// Counts the frames of the block that a cursor gave, for each link those of its track.
+/// Adds the frames of the cursor's block to the count of each link's track.
 pub fn count_frames(links: &[Link], cursor: &Cursor, counts: &mut [u64])
     requires each { length counts.old ≡ length links.now }
     requires room { All (λ n. n < 2 ^ 63) counts.old }
@@ -101,7 +102,7 @@ pub fn count_frames(links: &[Link], cursor: &Cursor, counts: &mut [u64])
     }
 }
 
-/// Where an entry of a text ends, before its shift; 0 where it is dropped.
+/// Returns the end of a text's entry, before its append offset; 0 if it is dropped.
 fn entry_end(text: &TextLink, entry: &Entry) -> u64
     requires moves { CanMove text.now.delay text.now.shift }
     requires small { IsSmallEntry entry.now }
@@ -114,7 +115,7 @@ fn entry_end(text: &TextLink, entry: &Entry) -> u64
     }
 }
 
-/// The greatest of `end` and the ends of a text's entries.
+/// Returns the greatest of `end` and the ends of a text's entries.
 fn text_end(text: &TextLink, end: u64) -> u64
     requires moves { CanMove text.now.delay text.now.shift }
     requires small { All IsSmallEntry text.now.entries }
@@ -129,7 +130,7 @@ fn text_end(text: &TextLink, end: u64) -> u64
     end
 }
 
-/// The greatest of 0 and the ends of all texts.
+/// Returns the greatest of 0 and the ends of all texts.
 pub fn texts_end(links: &[Link]) -> u64
     requires { All IsTimed links.now }
     ensures exact { result ≡ texts_end links.now }

@@ -1,4 +1,4 @@
-//! A walk over a file.
+//! Walk over a whole file
 
 ghost use Rattle.std.specs.Prelude.{◌≡◌, ◌*◌, ◌≤◌, IfOk, length, replicate};
 ghost use Rattle.std.specs.List.{All};
@@ -20,7 +20,8 @@ use merge_model::{Link, TrackLink};
 use mkv_io::{List, ReadEnd, Reads};
 use std::alloc::Global;
 
-/// Goes over all that a cursor has left, and counts the frames of each link's track. What stands in them isn't asked for.
+/// Reads all that `cursor` has left, and counts the frames of each link's track. It only needs the heads of the
+/// blocks.
 fn walk<R: Reads>(
     cursor: &mut Cursor,
     links: &[Link],
@@ -52,7 +53,7 @@ fn walk<R: Reads>(
     }
 }
 
-/// The first link to a track of a file.
+/// Returns the first link to a track of a file, if any.
 fn first_track(links: &[Link]) -> Option<&TrackLink>
     ensures { option_copied result ≡ first_track links.now }
 {
@@ -64,8 +65,8 @@ fn first_track(links: &[Link]) -> Option<&TrackLink>
     None
 }
 
-/// The end of a file over all links that take blocks of it, and whether it can be read to its end. A walk over the
-/// file reads what its blocks say of themselves.
+/// Returns the end of a file over all links that take its blocks, and whether it can be read to its end. It reads the
+/// heads of the file's blocks.
 pub fn survey<R: Reads>(alloc: Global, src: &mut R, links: &List<Link>) -> Result<Survey, ReadEnd>
     requires open { All (IsOpenLink (live_files R.Reads src.old)) links.now }
     requires timed { All IsTimed links.now }
@@ -75,7 +76,7 @@ pub fn survey<R: Reads>(alloc: Global, src: &mut R, links: &List<Link>) -> Resul
     ensures standing { R.standing src.new ≡ R.standing src.old }
     ensures cause { HasCause is_read_fault (R.reading_faults src.old) (R.reading_faults src.new) result }
 
-    // One octet for each of the file, and one more where a read fails.
+    // Each byte of the file is read at most once, and once more if a read fails.
     ensures octets { ReadsUpTo R.Reads src.old src.new (2 * surveyed_length (live_files R.Reads src.old) links.now) }
 {
     let links = links.as_slice();

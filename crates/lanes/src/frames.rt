@@ -1,4 +1,4 @@
-//! The frames of a track, which count from 0, and the times that they have.
+//! Frames of a track, counted from 0, and their times
 
 ghost use Rattle.std.specs.Prelude.{◌≡◌, ◌≤◌};
 ghost use Rattle.block_reader.specs.Time.{IsSmallTime};
@@ -9,7 +9,7 @@ ghost use Rattle.lanes.specs.Frames.{by_head, frames_of};
 use cluster_reader::Cursor;
 use merge_model::TrackLink;
 
-/// How many frames of a track the block has that a cursor gave: none where it is another track's.
+/// Returns the number of the track's frames in the cursor's block, or 0 if it is another track's block.
 pub fn frames_of(track: &TrackLink, cursor: &Cursor) -> u64
     ensures exact { result ≡ frames_of track.now (by_head cursor.now.block) }
     ensures few { result ≤ 256 }
@@ -21,8 +21,8 @@ pub fn frames_of(track: &TrackLink, cursor: &Cursor) -> u64
     }
 }
 
-/// The time of a block of the track before which so many of its frames stand, where this is its own: that of its first frame
-/// where the times are those of a file.
+/// Returns the time of a block, after `before` frames of the track. It is the block's `own` time, or its first
+/// frame's time in a timestamp file.
 pub fn time_of(track: &TrackLink, before: u64, own: i64) -> i64
     requires { IsSmallTime own }
     ensures exact { result ≡ time_for (listing_of track.now) before own }

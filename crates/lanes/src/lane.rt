@@ -1,4 +1,4 @@
-//! The lane.
+//! Output track
 
 ghost use Rattle.std.specs.Prelude.{◌≡◌, ◌-◌, ◌≤◌, length, IfOk};
 ghost use Rattle.std.specs.List.{All, slice_get};
@@ -23,16 +23,16 @@ use output_model::OutHead;
 use std::alloc::{AllocError, Global};
 use std::marker::Model;
 
-/// What a lane gives.
+/// Result of advancing an output track
 #[derive(Clone, Copy, Debug, PartialEq, Eq)]
 pub enum LaneStep {
-    /// A block, which the lane lends until it is advanced again.
+    /// Block, available until the output track is advanced again
     Block,
-    /// All blocks were given.
+    /// End: all blocks were returned
     End,
 }
 
-// The text of the entry before this one, from 0.
+// Returns the text of the entry before `next`, or of the first one.
 fn text_before(text: &TextLink, next: usize) -> &[u8]
     ensures exact { result.now ≡ text_of (slice_get text.now.entries (next - 1)) }
     ensures most { All IsSmallEntry text.now.entries → length result.now ≤ MAX_BLOCK_LEN }
@@ -43,9 +43,9 @@ fn text_before(text: &TextLink, next: usize) -> &[u8]
     }
 }
 
-/// A block that a lane lends: what it says of itself; what stands in front of each of its frames; the octets of these, one
-/// behind the other, and how many each has; the ticks from it to the blocks that it refers to; and the octets of what else its
-/// group has, one Element behind the other, as they were found. A text has nothing in front, and nothing else.
+/// Block of an output track: its head, the prefix of each frame, the bytes of the frames in sequence and their sizes,
+/// the references in ticks relative to it, and the bytes of the kept children of its group. An entry of a text has no
+/// prefix and no kept children.
 #[derive(Clone, Copy)]
 pub struct LaneBlock<'a> {
     pub head: &'a OutHead,
@@ -56,7 +56,7 @@ pub struct LaneBlock<'a> {
     pub kept: &'a [u8],
 }
 
-/// The blocks of one output track, one after the other.
+/// Blocks of one output track in sequence
 #[derive(Drop)]
 pub struct Lane {
     alloc: Global,
@@ -80,8 +80,8 @@ impl Model for Lane {
 }
 
 impl Lane {
-    /// A lane over these links, in an output of so many nanoseconds a tick. It takes memory for the damages that
-    /// are told, and reads nothing.
+    /// Returns an output track with these links, for an output with `scale` nanoseconds per tick. It allocates memory
+    /// for the damaged places, and reads nothing.
     pub fn start(alloc: Global, spec: LaneSpec, scale: u64) -> Result<Lane, AllocError>
         requires scale { 1 ≤ scale }
         requires most { length spec.links ≤ MAX_LINKS }
@@ -100,8 +100,8 @@ impl Lane {
         })
     }
 
-    /// Gives the next block. `End` is answered where none is left, and again from then on. After a refusal the
-    /// same block is looked for again; damages that were reached on the way stay so.
+    /// Reads the next block. Returns `End` after the last one, at each call. After an error the same block is due,
+    /// and damaged places that were reached stay reported.
     pub fn advance<R: Reads>(&mut self, src: &mut R) -> Result<LaneStep, ReadEnd>
         requires { IsReady (live_files R.Reads src.old) self.old }
         ensures gives { GivesIfTold (live_files R.Reads src.old) self.old self.new result }
@@ -110,7 +110,7 @@ impl Lane {
         ensures standing { R.standing src.new ≡ R.standing src.old }
         ensures cause { HasCause is_read_fault (R.reading_faults src.old) (R.reading_faults src.new) result }
 
-        // What is read adds up to at most the lengths of the files, and to these once more for each call that fails.
+        // The bytes that are read are at most the lengths of the files, and once more for each call that fails.
         ensures pays { PaysFor R.Reads src.old src.new self.old self.new result }
     {
         'turns: loop {
@@ -131,35 +131,37 @@ impl Lane {
         }
     }
 
-    /// The k-th damage that was reached, from 0: of each link the first hundred, link after link.
+    /// Returns the reached damaged place with the number `k`, counted from 0. Of each link the first hundred count,
+    /// link after link.
     pub fn damage(&self, k: usize) -> Option<LinkDamage>
         ensures { result ≡ slice_get (link_damages self.now.walk.told.items) k }
     {
         damage_at(self.walk.told.as_slice(), k)
     }
 
-    /// How many other damages of a link were reached, which counts from 0.
+    /// Returns the number of the link's other damaged places that were reached. Links are counted from 0.
     pub fn more(&self, link: usize) -> u64
         ensures { result ≡ more_of self.now.walk.told.items link }
     {
         more_of(self.walk.told.as_slice(), link)
     }
 
-    /// The damages of the link of this number, from 0, that were reached: the first hundred, and how many others.
+    /// Returns the damaged places of the link that were reached, counted from 0: the first hundred, and the number of
+    /// others.
     pub fn damages(&self, link: usize) -> Option<&Damages>
         ensures { option_copied result ≡ slice_get self.now.walk.told.items link }
     {
         self.walk.told.get(link)
     }
 
-    /// What the block says of itself.
+    /// Returns the head of the block.
     pub fn head(&self) -> &OutHead
         ensures { result.now ≡ (lent self.now).head }
     {
         &self.walk.placed.head
     }
 
-    /// The block that it lends.
+    /// Returns the last block.
     pub fn lent(&self) -> LaneBlock<'_>
         ensures exact { as_lent result ≡ lent self.now }
         ensures few { HasFew result }

@@ -1,13 +1,13 @@
-//! What holds of every lane.
+//! Laws about output tracks
 
 ghost use Rattle.lanes.specs.Laws.{EndedHaveToldAll, AreUnaffectedByWrites};
 
-/// A lane stands as before where the files of its links are the same, whatever was written elsewhere.
+/// An output track is unchanged if the files of its links are, whatever was written to other files.
 pub fn lanes_stand_over_writes()
     ensures { AreUnaffectedByWrites }
 {}
 
-/// A lane that has ended has told all damages of its links.
+/// An output track that has ended has reported all damaged places of its links.
 pub fn ended_lanes_have_told_all()
     ensures { EndedHaveToldAll }
 {}

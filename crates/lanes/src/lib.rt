@@ -1,7 +1,8 @@
 #![tactic(auto)]
 
-//! A lane: one output track, whose blocks come from one input, or from one input after the other. It goes forwards, keeps
-//! one block, and lends what it has read, placed in the output. And where a file ends, over all lanes that take blocks of it.
+//! One output track, with blocks from one input or from appended inputs. It goes forwards, keeps one block, and
+//! returns it as placed in the output. The crate also computes the end of a file over all output tracks that take its
+//! blocks.
 
 mod damages;
 mod ends;

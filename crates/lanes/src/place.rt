@@ -1,4 +1,4 @@
-//! A block of an input, placed in the output.
+//! Block of an input, placed in the output
 
 ghost use Rattle.std.specs.Prelude.{◌≡◌, ◌<◌, ◌≤◌, ℕ, List as AList, map, length, option_map, IfSome};
 ghost use Rattle.std.specs.Bool.{OnTrue};
@@ -23,19 +23,19 @@ use merge_model::{TextLink, TrackLink};
 use mkv_io::Entry;
 use output_model::OutHead;
 
-/// What a lane keeps of the block that it gave last, besides the octets of its frames.
+/// Parts of the last block that an output track keeps, other than the bytes of its frames
 #[derive(Drop)]
 pub struct Placed {
-    /// What the block says of itself.
+    /// Head of the block
     pub head: OutHead,
-    /// The ticks from it to the blocks that it refers to.
+    /// Ticks from the block to the blocks that it references
     pub references: ArrayVec<i64, 64>,
-    /// The octets of its one frame, where it is an entry of a text.
+    /// Size of its only frame, if it is an entry of a text
     pub one_size: [u32; 1],
 }
 
 impl Placed {
-    /// No block yet.
+    /// Returns the placement of no block.
     pub fn nothing() -> Placed {
         let head = OutHead {
             tick: 0,
@@ -55,7 +55,7 @@ impl Placed {
     }
 }
 
-// Writes references in ticks.
+// Writes references in ticks to `into`.
 fn put_references(scale: u64, t: u64, references: &[i64], into: &mut ArrayVec<i64, 64>)
     requires scale { 1 ≤ scale }
     requires early { t < most_time }
@@ -70,7 +70,7 @@ fn put_references(scale: u64, t: u64, references: &[i64], into: &mut ArrayVec<i6
     }
 }
 
-// A duration in ticks.
+// Returns a duration in ticks.
 fn duration_ticks(scale: u64, t: u64, duration: Option<u64>) -> Option<u64>
     requires scale { 1 ≤ scale }
     requires early { t < most_time }
@@ -84,7 +84,7 @@ fn duration_ticks(scale: u64, t: u64, duration: Option<u64>) -> Option<u64>
     }
 }
 
-// One frame is written without lace.
+// Returns the lacing for the output: a single frame has none.
 #[tactic(auto, using(crate::proofs::PlaceLemmas::laces))]
 fn lace_for(sizes: &[u32], lace: Lace) -> Lace
     ensures { (body : AList ℕ) → result ≡ lace_for (frames_cut sizes.now body) lace }
@@ -92,8 +92,8 @@ fn lace_for(sizes: &[u32], lace: Lace) -> Lace
     if sizes.len() == 1 { Lace::None } else { lace }
 }
 
-/// Places the block that a cursor has given, behind one of this greatest tick, where so many frames of the track stand before
-/// it. Answers whether it is given: one of another track isn't, and one that stands before the start.
+/// Places the cursor's block in the output, after `before` frames of the track and blocks up to the tick `greatest`.
+/// Returns false if it is dropped: it is another track's, or before the start of the output.
 #[tactic(auto, using(crate::proofs::TickLemmas::few))]
 pub fn place_block(
     track: &TrackLink,
@@ -109,7 +109,7 @@ pub fn place_block(
 
     ensures own { OnTrue result (cursor.now.block.head.track ≡ track.now.number) }
 
-    // Where the cursor lends a block that can be written, this one can be.
+    // If the cursor's block can be written, the placed one can too.
     ensures lent { IsLendable cursor.now.block → OnTrue result (IsLent (track_lent track.now cursor.now.block placed.new)) }
     ensures ticks { OnTrue result (HasFewTicks scale placed.new) }
 {
@@ -136,8 +136,8 @@ pub fn place_block(
     true
 }
 
-/// Places an entry of a text, behind a block of this greatest tick. Answers whether it is given: one that stands
-/// before the start isn't.
+/// Places an entry of a text in the output, after blocks up to the tick `greatest`. Returns false if it is dropped:
+/// it is before the start of the output.
 #[tactic(auto, using(crate::proofs::TickLemmas::few))]
 pub fn place_entry(
     text: &TextLink,

@@ -1,13 +1,13 @@
-//! What a walk over a file finds.
+//! Results of walking over a file
 
-/// The most nanoseconds at which a file ends: a block stands below 2^56 + 2^55 with its delay, and lasts less than 2^56.
+/// Maximum end of a file in nanoseconds: a block is below 2^56 + 2^55 with its delay, and its duration below 2^56
 pub const MAX_END: u64 = (1 << 57) + (1 << 55);
 
-/// What is known of a file for those that are appended to it.
+/// Facts about a file for the inputs that are appended to it
 #[derive(Clone, Copy, Debug, PartialEq, Eq)]
 pub struct Survey {
-    /// Its end in nanoseconds, before any shift.
+    /// End in nanoseconds, without an append offset
     pub end: u64,
-    /// A damage ends what is read of it.
+    /// Damage ends the reading
     pub stopped: bool,
 }

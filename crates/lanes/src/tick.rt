@@ -1,4 +1,4 @@
-//! Times of blocks in an output, in nanoseconds and in ticks.
+//! Times of an output's blocks, in nanoseconds and ticks
 
 ghost use Rattle.std.specs.Prelude.{◌≡◌, ◌+◌, ◌+ℤ◌, ◌*◌, ◌<◌, ◌≤◌, ◌^◌, nat_abs, IfSome};
 ghost use Rattle.block_reader.specs.Time.{IsSmallTime};
@@ -6,7 +6,7 @@ ghost use Rattle.merge_model.specs.Ticks.{since_start, tick_of, ticks_for, ticks
 ghost use Rattle.merge_model.specs.declared.limits.TheConstants.{MAX_SHIFT, TOO_LARGE_DELAY};
 ghost use Rattle.lanes.specs.Times.{output_time, most_time, ticks_back};
 
-/// A time with a delay, nothing where that stands before the start.
+/// Returns a time with its delay, or nothing if it is before the start.
 pub fn delayed(time: i64, delay: i64) -> Option<u64>
     requires time { IsSmallTime time }
     requires delay { nat_abs delay < TOO_LARGE_DELAY }
@@ -20,7 +20,7 @@ pub fn delayed(time: i64, delay: i64) -> Option<u64>
     Some(delayed as u64)
 }
 
-/// The time of a block in the output, nothing where it stands before the start.
+/// Returns the time of a block in the output, or nothing if it is before the start.
 pub fn output_time(time: i64, delay: i64, shift: u64) -> Option<u64>
     requires time { IsSmallTime time }
     requires delay { nat_abs delay < TOO_LARGE_DELAY }
@@ -31,7 +31,7 @@ pub fn output_time(time: i64, delay: i64, shift: u64) -> Option<u64>
     Some(delayed(time, delay)? + shift)
 }
 
-/// The tick nearest to a time.
+/// Returns the tick nearest to the time `t`.
 pub fn tick_of(scale: u64, t: u64) -> u64
     requires { 1 ≤ scale }
     ensures { result ≡ tick_of scale t }
@@ -45,7 +45,7 @@ pub fn tick_of(scale: u64, t: u64) -> u64
     }
 }
 
-/// So many nanoseconds from a time on, in ticks.
+/// Returns `duration` nanoseconds from the time `t` on, in ticks.
 #[tactic(auto, using(crate::proofs::TickLemmas::small))]
 pub fn ticks_for(scale: u64, t: u64, duration: u64) -> u64
     requires scale { 1 ≤ scale }
@@ -56,7 +56,7 @@ pub fn ticks_for(scale: u64, t: u64, duration: u64) -> u64
     tick_of(scale, t + duration) - tick_of(scale, t)
 }
 
-// So many nanoseconds backwards from a time, in ticks.
+// Returns `size` nanoseconds backwards from the time `t`, in ticks.
 #[tactic(auto, using(crate::proofs::TickLemmas::small))]
 fn ticks_back(scale: u64, t: u64, size: u64) -> u64
     requires { 1 ≤ scale }
@@ -74,7 +74,7 @@ fn ticks_back(scale: u64, t: u64, size: u64) -> u64
     back as u64
 }
 
-/// So many nanoseconds from a time, forwards or backwards, in ticks.
+/// Returns `away` nanoseconds from the time `t`, forwards or backwards, in ticks.
 pub fn ticks_to(scale: u64, t: u64, away: i64) -> i64
     requires scale { 1 ≤ scale }
     requires early { t < most_time }

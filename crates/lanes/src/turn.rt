@@ -1,4 +1,4 @@
-//! One turn of a walk: what the next thing of a link makes of what is left.
+//! One turn of a walk: the next event of a link
 
 ghost use Rattle.std.specs.Prelude.{◌≡◌, ◌≤◌, Some, Ok, None, IfOk};
 ghost use Rattle.std.specs.List.{All, slice_get};
@@ -19,7 +19,7 @@ use merge_model::{Link, TextLink, TrackLink};
 use mkv_io::{ReadEnd, Reads};
 use std::alloc::Global;
 
-// One turn in the file of a track: None where it was passed, and the walk has gone on.
+// Takes one turn in the file of a track. Returns `None` if something was skipped.
 fn turn_track<R: Reads>(
     alloc: Global,
     links: &[Link],
@@ -74,7 +74,7 @@ fn turn_track<R: Reads>(
     }
 }
 
-// One turn in a text.
+// Takes one turn in a text. Returns `None` if an entry was dropped, or the text has ended.
 fn turn_text(links: &[Link], text: &TextLink, scale: u64, walk: &mut Walk) -> Option<LaneStep>
     requires here { slice_get links.now walk.old.at ≡ Some (AText text.now) }
     requires scale { 1 ≤ scale }
@@ -98,7 +98,7 @@ fn turn_text(links: &[Link], text: &TextLink, scale: u64, walk: &mut Walk) -> Op
     }
 }
 
-/// One turn of a walk over these links: None where something was passed, and the walk has gone on.
+/// Takes one turn of a walk over these links. Returns `None` if something was skipped.
 pub fn take_turn<R: Reads>(
     alloc: Global,
     links: &[Link],

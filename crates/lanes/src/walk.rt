@@ -1,4 +1,4 @@
-//! A walk over the links of a lane.
+//! Walk over the links of an output track
 
 ghost use Rattle.std.specs.Prelude.{◌≡◌, ◌<◌, IfOk};
 ghost use Rattle.lanes.specs.Begun.{Begins};
@@ -8,29 +8,29 @@ use crate::place::Placed;
 use cluster_reader::{Cursor, Damages};
 use std::alloc::{AllocError, Global};
 
-/// Where a lane stands among its links, and what it keeps of the block that it gave last.
+/// Place of an output track in its links, and the parts of its last block
 #[derive(Drop)]
 pub struct Walk {
-    /// The number of the link whose blocks are next, from 0.
+    /// Number of the current link, counted from 0
     pub at: usize,
-    /// The cursor in its file, once it was opened.
+    /// Cursor in its file, after the file was opened
     pub cursor: Option<Cursor>,
-    /// The number of its entry that is next, where it is a text.
+    /// Number of its next entry, if it is a text
     pub next: usize,
-    /// How many frames of its track stood in the blocks before the next one, where it is a track.
+    /// Number of its track's previous frames, if it is a track
     pub frames: u64,
-    /// Whether a damage was met that ends what is read of its file.
+    /// Damage ended the reading of its file
     pub stopped: bool,
-    /// The damages that were reached, by link.
+    /// Damaged places that were reached, by link
     pub told: Vec<Damages>,
-    /// The greatest tick so far.
+    /// Greatest tick up to now
     pub greatest: u64,
-    /// The block that was given last.
+    /// Last block
     pub placed: Placed,
 }
 
 impl Walk {
-    /// A walk over so many links, which has not begun. It takes memory for the damages that are told.
+    /// Returns the walk over `count` links before its start. It allocates memory for the damaged places.
     pub fn start(alloc: Global, count: usize) -> Result<Walk, AllocError>
         ensures { IfOk result (Begins count) }
     {
@@ -50,8 +50,7 @@ impl Walk {
         })
     }
 
-    /// Goes on behind the link at which it stands: to the next one, or behind all `count`, where the file wasn't
-    /// read to its end.
+    /// Leaves the current link: goes to the next one, or after all `count` links if the file wasn't read to its end.
     pub fn leave(&mut self, count: usize)
         requires { self.old.at < count }
         ensures { self.new ≡ behind_link count self.old }

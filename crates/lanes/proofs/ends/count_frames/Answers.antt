@@ -4,7 +4,7 @@ use Rattle.lanes.specs.Frames.{by_head, counted_for}
 use Rattle.lanes.proofs.EndLemmas.{count-all, count-one, left-one, set-few, value-left}
 use Rattle.lanes.proofs.ends.count_frames.Goals as goal
 
--- a count is still as it was
+-- A count is unchanged before its turn.
 pub overflow_add-counts : goal.overflow_add-counts
 overflow_add-counts c =
     let inside : c.loop-k.k < length c.loop-k.counts = omega arith in
@@ -14,7 +14,7 @@ overflow_add-counts c =
     let few = c.link_frames.ensures.few in
     omega (arith, same, room, few)
 
--- one more is counted
+-- One more count grows.
 pub loop-k-preserved : goal.loop-k-preserved
 loop-k-preserved c =
     let b = by_head c.args.cursor.now.block in
@@ -39,6 +39,6 @@ loop-k-preserved c =
           set-few counts k v (most + 256) (c.loop-k.invariant.few most all) (omega (arith, same, old, c.link_frames.ensures.few));
     }
 
--- all are
+-- All counts have grown.
 pub returns : goal.returns
 returns c = record { exact = sym (count-all (by_head c.args.cursor.now.block) c.loop-k.counts c.args.links.now c.loop-k.k (omega arith)) ∙ c.loop-k.invariant.exact; few = c.loop-k.invariant.few }

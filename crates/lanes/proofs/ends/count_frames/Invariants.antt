@@ -1,4 +1,4 @@
--- The frames of the first links are counted, and those of the others aren't yet.
+-- The frames of the first links are counted, and the other counts are unchanged.
 use Rattle.std.proofs.Common.{◌≡◌, ◌≤◌, ◌+◌, ℕ, ◌++◌, take, drop}
 use Rattle.std.specs.List.{All}
 use Rattle.lanes.specs.Frames.{by_head, counted_for}

@@ -13,7 +13,7 @@ use Rattle.lanes.specs.Walked.{IsWalked}
 use Rattle.lanes.proofs.SurveyLemmas.{answer-map, first-all, survey-texts, survey-walked}
 use Rattle.lanes.proofs.file_survey.survey.Goals as goal
 
--- ---- there is no track
+-- ---- without a track
 
 pub returns-in_default-clause-value : goal.returns-in_default-clause-value
 returns-in_default-clause-value g c = λ told.
@@ -21,7 +21,7 @@ returns-in_default-clause-value g c = λ told.
     (ap first_track (sym c.as_slice-links.ensures) ∙ sym c.in_default.ensures)
     (c.texts_end.ensures.exact ∙ ap texts_end c.as_slice-links.ensures)
 
--- ---- the file of the first
+-- ---- the file of the first track
 
 pub start-requires : goal.start-requires
 start-requires g c =

@@ -3,7 +3,7 @@ use Rattle.block_reader.specs.declared.head.BlockHead.{BlockHead}
 use Rattle.lanes.proofs.EndLemmas.{frames-here}
 use Rattle.lanes.proofs.frames.frames_of.Goals as goal
 
--- all frames of the track's block are its own
+-- All frames of the track's block are its own.
 pub returns-then-head-track-clause-exact : goal.returns-then-head-track-clause-exact
 returns-then-head-track-clause-exact c =
     c.from.ensures

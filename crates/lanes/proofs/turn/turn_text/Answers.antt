@@ -9,7 +9,7 @@ use Rattle.lanes.proofs.WalkLemmas.{has-left}
 use Rattle.lanes.proofs.turn.turn_text.Goals as goal
 use Rattle.lanes.proofs.turn.turn_text.Goals.{After-place_entry}
 
--- ---- past the last entry
+-- ---- after the last entry
 
 pub leave-requires : goal.leave-requires
 leave-requires c = slice_get_within c.args.links.now c.args.walk.now.at (Entries c.args.text.now) c.requires.here
@@ -47,7 +47,7 @@ place_entry-requires-clause-small c =
 reads : (c : After-place_entry) (new : Walk) → new.at ≡ c.args.walk.now.at → new.next ≡ c.args.walk.now.next + 1 → new.told ≡ c.args.walk.now.told → turns.ReadsText c.args.links.now c.args.text.now c.args.walk.now new c.in-Some.entry.now
 reads c new same next told = record { at = c.requires.here; same = same; here = sym c.in-Some.ensures; next = next; told = told }
 
--- it is dropped
+-- the walk after a dropped entry
 abbrev behind : After-place_entry → Walk
 behind c = record c.args.walk.now { next = c.args.walk.now.next + 1; placed = c.place_entry.new.placed }
 
@@ -66,7 +66,7 @@ returns-else-place_entry-clause-pays c =
     let after = (goal.at.returns-else-place_entry-clause-pays c).After-place_entry in
     turns.text-pays (reads after (behind after) refl refl refl)
 
--- it is given
+-- the walk after a placed entry
 abbrev given : After-place_entry → Walk
 given c = record c.args.walk.now { next = c.args.walk.now.next + 1; placed = c.place_entry.new.placed; greatest = c.place_entry.new.placed.head.order }
 

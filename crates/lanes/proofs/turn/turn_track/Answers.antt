@@ -75,9 +75,9 @@ returns-in_default-clause-pays g c =
     let d = c.in_ok-cursor.cursor in
     turns.opened-pays f c.args.scale c.args.links.now c.args.track.now w (record w { cursor = Some d }) d c.requires.here (sym c.in_default.ensures.value) refl (g.R.Reads.octets_read c.args.src.now)
 
--- ---- its call
+-- ---- call of the cursor
 
--- it reads the track's file
+-- The cursor reads the track's file.
 at : (g : Over) (c : After-advance_for g) → CanRead (live_files g.R.Reads c.args.src.now) c.in-Some.cursor.now × (c.in-Some.cursor.now.file ≡ c.args.track.now.file)
 at g c = turns.at-track (live_files g.R.Reads c.args.src.now) c.args.links.now c.args.walk.now c.args.track.now c.in-Some.cursor.now c.requires.ready c.requires.here (sym c.in-Some.ensures.value)
 
@@ -92,7 +92,7 @@ given_by g c result told gives = turns.cursor-gives (live_files g.R.Reads c.args
 few : (g : Over) (c : After-advance_for g) → c.args.walk.now.frames ≤ 256 * c.in-Some.cursor.now.place.at
 few g c = turns.few-counted (live_files g.R.Reads c.args.src.now) c.args.links.now c.args.walk.now c.in-Some.cursor.now c.requires.ready (sym c.in-Some.ensures.value)
 
--- ---- it is refused
+-- ---- the call fails
 
 pub returns-in_err-advance_for-clause-gives : goal.returns-in_err-advance_for-clause-gives
 returns-in_err-advance_for-clause-gives g c = λ told.
@@ -120,7 +120,7 @@ returns-in_err-advance_for-clause-pays g c =
 pub place_block-requires-clause-small : goal.place_block-requires-clause-small
 place_block-requires-clause-small g c = turns.all-at IsSmallLink c.args.links.now c.args.walk.now.at (Track c.args.track.now) c.requires.small c.requires.here
 
--- in no lane, or dropped
+-- the walk after a dropped block
 abbrev behind : (g : Over) (c : After-place_block g) → Walk
 behind g c = record c.args.walk.now { cursor = Some c.advance_for.new.self; frames = c.args.walk.now.frames + c.frames_of.result; placed = c.place_block.new.placed }
 
@@ -156,7 +156,7 @@ returns-else-place_block-clause-pays g c =
     let spends = c.in_ok-advance_for.ensures.spends in
     turns.reads-pays (live_files g.R.Reads c.args.src.now) c.args.scale (reads g after new refl refl) (at g after).1 (g.R.Reads.octets_read c.args.src.now) (g.R.Reads.octets_read c.advance_for.new.src) spends.pays spends.most
 
--- given
+-- the walk after a placed block
 abbrev given : (g : Over) (c : After-place_block g) → Walk
 given g c = record c.args.walk.now { cursor = Some c.advance_for.new.self; frames = c.args.walk.now.frames + c.frames_of.result; placed = c.place_block.new.placed; greatest = c.place_block.new.placed.head.order }
 
@@ -201,7 +201,7 @@ returns-then-place_block-clause-pays g c =
     let spends = c.in_ok-advance_for.ensures.spends in
     turns.reads-pays (live_files g.R.Reads c.args.src.now) c.args.scale (reads g after new refl refl) (at g after).1 (g.R.Reads.octets_read c.args.src.now) (g.R.Reads.octets_read c.advance_for.new.src) spends.pays spends.most
 
--- ---- a damage
+-- ---- a damaged place
 
 inside : (g : Over) (c : After-advance_for g) → c.args.walk.now.at < length c.args.walk.now.told.items
 inside g c =
@@ -280,7 +280,7 @@ returns-in-End-clause-pays g c =
     turns.ends-pays (live_files g.R.Reads c.args.src.now) c.args.scale c.args.links.now c.args.track.now w c.leave.new.self c.in-Some.cursor.now c.requires.here (sym c.in-Some.ensures.value) has c.advance_for.new.self (at g (goal.at.returns-in-End-clause-pays g c).After-advance_for).1
     (g.R.Reads.octets_read c.args.src.now) (g.R.Reads.octets_read c.advance_for.new.src) spends.pays spends.most
 
--- the sum fits: no file is longer than 2^48 octets, and a block has at most 256 frames and at least an octet
+-- The sum fits: a file has at most 2^48 bytes, and a block has at most 256 frames and at least one byte.
 pub overflow_add-walk : goal.overflow_add-walk
 overflow_add-walk g c =
     let after = (goal.at.overflow_add-walk g c).After-advance_for in
