@@ -1,4 +1,4 @@
--- A merge stands as before where its links' files are the same; and what started lanes give.
+-- A merge is unchanged if its links' files are; and the merged list of output tracks at their start.
 use Rattle.std.proofs.Common.{◌≡◌, ℕ, ◌+◌, List, [], ◌∷◌, map, refl, sym, ◌∙◌, ap, ap₂, subst}
 use Rattle.std.specs.List.{All}
 use Rattle.std.proofs.lemmas.List.Elements.{All-head, All-tail}
@@ -28,14 +28,14 @@ use Rattle.time_merge.specs.declared.queue.Head.{Head}
 use Rattle.time_merge.specs.declared.queue.Head.TheVariants.{Due, Waits, Ended}
 use Rattle.time_merge.specs.declared.queue.Queue.{Queue}
 
--- ---- files that are written in between
+-- ---- writes to other files
 
 waiting-kept : (old new : LiveFiles) (l : LaneSeen) (h : Head) → lanes.left new l ≡ lanes.left old l → waiting_as new l h ≡ waiting_as old l h
 waiting-kept old new l Due same = same
 waiting-kept old new l (Waits order) same = ap (λ xs. lent_ordered (lent l) ∷ xs) same
 waiting-kept old new l Ended same = refl
 
--- every lane of these stands as before
+-- Each output track is unchanged.
 abbrev EachStands : LiveFiles → LiveFiles → List Queue → Type 0
 EachStands old new qs = All (λ q. lane_laws.StandsAmong old new q.lane) qs
 
@@ -65,7 +65,7 @@ all-length old new (q ∷ qs) stand =
     ∙ ap₂ (λ (m n : ℕ). m + n) (All-head (λ each. lane_laws.StandsAmong old new each.lane) q qs stand).length (all-length old new qs (All-tail (λ each. lane_laws.StandsAmong old new each.lane) q qs stand))
     ∙ sym (sum_by-cons (λ each. lanes.files_length old each.lane) q qs)
 
--- A merge stands as before.
+-- The merge is unchanged.
 pub stands-kept : (old new : LiveFiles) (m : MergeSeen) → KeepsMerge old new m → IsReady old m → StandsAmong old new m
 stands-kept old new m keeps ready = record {
   ready = λ k d lt. (stand k d lt).ready;
@@ -79,7 +79,7 @@ stands-kept old new m keeps ready = record {
     stand : EachStands old new m.queues
     stand = λ k d lt. lane_lemmas.stands-kept old new _ (keeps k d lt) (ready k d lt)
 
--- ---- a call that writes under other names
+-- ---- a call that writes to other names
 
 -- It keeps the files of a merge.
 pub keeps-merge : {S : Type 0} (r : Ghosts S) (f : writing.Ghosts S) (names : List (List ℕ)) (old new : S) (m : MergeSeen) → KeepsOthers r f names old new → IsApart (f.holder old) names m → KeepsMerge (live_files r old) (live_files r new) m
@@ -89,7 +89,7 @@ keeps-merge r f names old new m keeps apart = λ k d lt. λ j e inside. one (sli
     one (Track t) others = keeps.others t.file.n others
     one (Entries e) others = tt
 
--- Their names stay apart.
+-- Their names stay different.
 pub apart-kept : {S : Type 0} (r : Ghosts S) (f : writing.Ghosts S) (names : List (List ℕ)) (old new : S) (m : MergeSeen) → KeepsOthers r f names old new → IsReady (live_files r old) m → IsApart (f.holder old) names m → IsApart (f.holder new) names m
 apart-kept r f names old new m keeps ready apart = λ k d lt. λ j e inside. one (slice_index_or (slice_index_or m.queues k d).lane.links j e) ((ready k d lt).files j e inside) (apart k d lt j e inside)
   where
@@ -105,6 +105,6 @@ started-left f scale [] (l ∷ ls) are = absurd are
 started-left f scale (links ∷ specs) [] are = absurd are
 started-left f scale (links ∷ specs) (l ∷ ls) are = ap₂ (λ (x : List Ordered) xs. x ∷ xs) are.0.left (started-left f scale specs ls are.1)
 
--- What started lanes have left is the merged list.
+-- The blocks that are left at the start are the merged list.
 pub started-merged : (f : LiveFiles) (scale : ℕ) (specs : List (List Link)) (ls : List LaneSeen) → AreStarted f scale specs ls → merged_from (map (lanes.left f) ls) ≡ merged (lanes_over f scale specs)
 started-merged f scale specs ls are = ap merged_from (started-left f scale specs ls are)

@@ -1,13 +1,13 @@
-//! What holds of every merge.
+//! Laws about each merge
 
 ghost use Rattle.time_merge.specs.Laws.{AreUnaffectedByWrites, StartedAreMerged};
 
-/// A merge stands as before where the files of its links are the same, whatever was written elsewhere.
+/// A merge is unchanged if the files of its links are, whatever was written to other files.
 pub fn merges_stand_over_writes()
     ensures { AreUnaffectedByWrites }
 {}
 
-/// Lanes that have given nothing, merged, give the merged list of their links.
+/// Output tracks at their start, merged, give the merged list of their links.
 pub fn started_lanes_are_merged()
     ensures { StartedAreMerged }
 {}

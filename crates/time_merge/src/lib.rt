@@ -1,6 +1,6 @@
 #![tactic(auto)]
 
-//! The blocks of all lanes in the order in which they are written, one after the other.
+//! Blocks of all output tracks in the order of writing
 
 mod laws;
 mod merge;

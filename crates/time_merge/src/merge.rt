@@ -1,4 +1,4 @@
-//! The merge.
+//! Merge of output tracks
 
 ghost use Rattle.std.specs.Prelude.{◌≡◌, ◌<◌, ◌≤◌, length, Some, IfOk, option_map};
 ghost use Rattle.std.specs.List.{slice_get};
@@ -14,7 +14,7 @@ use mkv_io::{List, ReadEnd, Reads};
 use std::alloc::Global;
 use std::marker::Model;
 
-/// The blocks of all lanes by their order numbers, then lanes, then places in the lane.
+/// Blocks of all output tracks, by order number, then by output track, then by place in the track
 #[derive(Drop)]
 pub struct Merge {
     queues: Queues,
@@ -33,8 +33,8 @@ impl Model for Merge {
 }
 
 impl Merge {
-    /// A merge of these lanes, none of which has given a block. Nothing is read: the first step looks for the first
-    /// block of each lane.
+    /// Returns a merge of these output tracks, which are at their start. It reads nothing: the first step reads the
+    /// first block of each output track.
     pub fn start<R: Reads>(alloc: Global, lanes: List<Lane>, _src: &mut R) -> Result<Merge, ReadEnd>
         requires { length lanes ≤ MAX_LANES }
         ensures starts { (f : LiveFiles) → IfOk result (Starts f lanes) }
@@ -46,8 +46,8 @@ impl Merge {
         Ok(Merge { queues, given: 0 })
     }
 
-    /// Gives the next block: answers the number of its lane, from 0, which lends it until the next call. Nothing is
-    /// answered where none is left, and again from then on. After a refusal the same block is looked for again.
+    /// Reads the next block, and returns the number of its output track, counted from 0. The block is available there
+    /// until the next call. Returns nothing after the last block, at each call. After an error the same block is due.
     pub fn step<R: Reads>(&mut self, src: &mut R) -> Result<Option<usize>, ReadEnd>
         requires { IsReady (live_files R.Reads src.old) self.old }
         ensures gives { GivesIfTold (live_files R.Reads src.old) self.old self.new result }
@@ -56,7 +56,7 @@ impl Merge {
         ensures standing { R.standing src.new ≡ R.standing src.old }
         ensures cause { HasCause is_read_fault (R.reading_faults src.old) (R.reading_faults src.new) result }
 
-        // Each of the files is read once at most, and once more where a call fails.
+        // Each file is read at most once, and once more for each call that fails.
         ensures pays { PaysFor R.Reads src.old src.new self.old.queues self.new.queues result }
     {
         self.queues.fill(src)?;
@@ -67,7 +67,7 @@ impl Merge {
         Ok(Some(k))
     }
 
-    /// The lane of this number, from 0.
+    /// Returns the output track with the number `k`, counted from 0.
     pub fn lane(&self, k: usize) -> &Lane
         requires { k < length self.now.queues }
         ensures { option_map (λ q. q.lane) (slice_get self.now.queues k) ≡ Some result.now }

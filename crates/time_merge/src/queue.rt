@@ -1,4 +1,4 @@
-//! A lane that waits for its turn.
+//! Output track in a merge
 
 ghost use Rattle.std.specs.Prelude.{◌≡◌, true};
 ghost use Rattle.mkv_io.specs.Faults.{HasCause, is_read_fault};
@@ -9,18 +9,18 @@ ghost use Rattle.time_merge.specs.Queues.{Fills, KeepsWaiting, StaysQueue, is_du
 use lanes::{Lane, LaneStep};
 use mkv_io::{ReadEnd, Reads};
 
-/// Where a lane stands.
+/// State of an output track's next block
 #[derive(Clone, Copy)]
 pub enum Head {
-    /// Its next block is to be looked for.
+    /// Not yet read
     Due,
-    /// A block of this order number waits in it.
+    /// Read, with this order number
     Waits(u64),
-    /// No block is left.
+    /// None left
     Ended,
 }
 
-/// A lane that waits for its turn.
+/// Output track in a merge, and the state of its next block
 #[derive(Drop)]
 pub struct Queue {
     pub lane: Lane,
@@ -28,7 +28,7 @@ pub struct Queue {
 }
 
 impl Queue {
-    /// Looks for the next block, and gives its order number, where one is left.
+    /// Reads the next block, and returns its order number, or nothing if none is left.
     pub fn fill<R: Reads>(&mut self, src: &mut R) -> Result<Option<u64>, ReadEnd>
         requires ready { IsReady (live_files R.Reads src.old) self.old.lane }
         requires due { is_due self.old ≡ true }

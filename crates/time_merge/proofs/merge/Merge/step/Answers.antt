@@ -11,7 +11,7 @@ use Rattle.time_merge.proofs.QueueLemmas.{all-ended, left-end}
 use Rattle.time_merge.proofs.TakenLemmas.{taken-damages, taken-due, taken-here, taken-keeps, taken-left, taken-lends, taken-ready, taken-way}
 use Rattle.time_merge.proofs.merge.Merge.step.Goals as goal
 
--- No lane has a head, so nothing is left.
+-- No output track has a block, so nothing is left.
 pub returns-in_default-clause-gives : goal.returns-in_default-clause-gives
 returns-in_default-clause-gives g c = λ told.
     let f = live_files g.R.Reads c.args.src.now in
@@ -34,7 +34,7 @@ returns-in_default-clause-moves g c =
       };
     }
 
--- The first block of what was left is given.
+-- The first block that was left is taken.
 pub returns-clause-gives : goal.returns-clause-gives
 returns-clause-gives g c = λ told.
     let f = live_files g.R.Reads c.args.src.now in
@@ -69,7 +69,7 @@ returns-clause-moves g c =
 pub returns-clause-ready : goal.returns-clause-ready
 returns-clause-ready g c = taken-ready c.fill.new.self c.take.new.self c.in-Some.k c.in-Some.ensures (live_files g.R.Reads c.fill.new.src) c.in_ok-fill.ensures.ready
 
--- As much may still be read as before the block was taken.
+-- Taking the block doesn't change the bytes that may still be read.
 pub returns-clause-pays : goal.returns-clause-pays
 returns-clause-pays g c =
     let f = live_files g.R.Reads c.args.src.now in
