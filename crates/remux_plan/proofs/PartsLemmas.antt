@@ -1,4 +1,4 @@
--- What isn't split: its merged list is one part, which has all blocks as they are.
+-- Without a split, the merged list is one part with all blocks unchanged.
 use Rattle.std.proofs.Common.{◌∙◌, ℕ, [], ◌∷◌, Option, None, ap, ap₂}
 use Rattle.splitter.specs.declared.spec.SplitSpec.{SplitSpec}
 use Rattle.splitter.proofs.SectionLemmas.{whole-part}

@@ -1,4 +1,4 @@
--- The output that a plan comes to.
+-- The output of a plan without a split.
 use Rattle.std.specs.Prelude.{List, map}
 use Rattle.mkv_io.specs.LiveFiles.{LiveFiles}
 use Rattle.output_model.specs.OutputBlock.{OutputBlock}
@@ -14,22 +14,22 @@ use Rattle.remux_plan.specs.declared.plan.MergePlan.{MergePlan}
 use Rattle.remux_plan.specs.declared.plan.PlannedLane.{PlannedLane}
 use Rattle.remux_plan.specs.Uuids.{uuids_at, with_uuids}
 
--- the links of its lanes
+-- the links of the output tracks
 abbrev pub links_of : List PlannedLane → List (List Link)
 links_of lanes = map (λ (l : PlannedLane). l.spec.links) lanes
 
--- the rules by which their blocks get cue points
+-- the rules of the output tracks for cue points
 abbrev pub rules_of : List PlannedLane → List CueRule
 rules_of lanes = map (λ (l : PlannedLane). l.cues) lanes
 
--- the merged list of its lanes, among these files
+-- the merged list of the output tracks among these files
 abbrev pub blocks_of : LiveFiles → MergePlan → List OutputBlock
 blocks_of f p = merged (lanes_over f p.limits.scale (links_of p.lanes))
 
--- what stands in front of the one output, which is the first
+-- the elements before the Clusters of the only output, which has the number 1
 abbrev pub front_in : MergePlan → Front
 front_in p = record p.front { info = with_uuids (uuids_at p.uuids p.link 1) p.front.info }
 
--- the output: what stands in front, the merged list in Clusters, its cue points, Chapters and Tags
+-- the document of the output: the elements before the Clusters, the merged list in Clusters, its cue points, Chapters and Tags
 abbrev pub document_in : LiveFiles → MergePlan → Document
 document_in f p = document_of p.limits (rules_of p.lanes) (front_with f (front_in p)) p.chapters p.tags (blocks_of f p)

@@ -1,4 +1,4 @@
--- What is known of a merge whose output stands.
+-- The summary of a merge with complete outputs.
 use Rattle.std.specs.Prelude.{◌≡◌, ℕ, suc, max, ◌==◌, if◌then◌else◌, List, [], ◌∷◌, length, map, find}
 use Rattle.std.specs.List.{flat_map, range_with_len, zip}
 use Rattle.std.specs.Option.{option_map_or}
@@ -16,35 +16,35 @@ use Rattle.remux_plan.specs.declared.summary.MoreDamage.{MoreDamage}
 use Rattle.remux_plan.specs.declared.summary.Summary.{Summary}
 use Rattle.remux_plan.specs.declared.summary.Written.{Written}
 
--- ---- the damages of the inputs
+-- ---- damaged places of the inputs
 
--- the links of a lane: of each the number of its input, and the damages of its file, where it counts
+-- the links of an output track: the number of each link's input, and the damaged places of its file, if it counts
 abbrev pub link_damages : LiveFiles → PlannedLane → List (ℕ × List Damage)
 link_damages f l = zip l.inputs (lane_damages (map (given_in f) l.spec.links))
 
--- those of an input: all of its links tell the same, so the first of them counts
+-- the damaged places of an input; all its links have the same ones, so the first link counts
 abbrev pub damages_of : LiveFiles → List PlannedLane → ℕ → List Damage
 damages_of f lanes input = option_map_or (λ (link : ℕ × List Damage). link.1) (find (λ (link : ℕ × List Damage). link.0 == input) (flat_map (link_damages f) lanes)) []
 
--- one more than the greatest of numbers, or 0
+-- one more than the greatest number, or 0
 abbrev pub count_to : List ℕ → ℕ
 count_to [] = 0
 count_to (n ∷ ns) = max (suc n) (count_to ns)
 
--- the numbers of the inputs, as far as a lane has a link of one
+-- the numbers up to the greatest one of a linked input
 abbrev pub linked_inputs : List PlannedLane → List ℕ
 linked_inputs lanes = range_with_len 0 (count_to (flat_map (λ (l : PlannedLane). l.inputs) lanes))
 
--- the first hundred of an input, and the number of the others, if there are any
+-- the first hundred damaged places of an input; and the number of the others, if any
 abbrev pub first_damages : ℕ → ToldDamages → List InputDamage
 first_damages input told = map (λ damage. record { input = input; damage = damage }) told.first
 
 abbrev pub more_damages : ℕ → ToldDamages → List MoreDamage
 more_damages input told = if told.more == 0 then [] else record { input = input; count = told.more } ∷ []
 
--- ---- the summary
+-- ---- summary
 
--- what is known of an output that stands: its name, how many blocks it has, in how many Clusters, and with how many cue points
+-- the summary of a complete output: its name, and its numbers of blocks, Clusters and cue points
 abbrev pub written_of : PlannedOutput → Written
 written_of o = record {
   name = o.name;
@@ -53,7 +53,7 @@ written_of o = record {
   cues = length o.document.cues;
 }
 
--- The outputs are those of the plan, and these are the damages of the inputs.
+-- `s` has the outputs of the plan `p`, and the damaged places of the inputs.
 pub record IsSummary (f : LiveFiles) (p : MergePlan) (s : Summary) : Type 0 where
   pub outputs : s.outputs ≡ map written_of (outputs_in f p)
   pub damages : s.damages ≡ flat_map (λ input. first_damages input (told_damages (damages_of f p.lanes input))) (linked_inputs p.lanes)

@@ -1,4 +1,4 @@
--- The identifiers of Segments in an output: RFC 9559, sections 5.1.2 (Info Element) and 17 (Linked Segments). Which output gets which is this project's.
+-- The identifiers of Segments in an output: RFC 9559, sections 5.1.2 (Info) and 17 (Linked Segments). Their choice is this project's.
 use Rattle.std.specs.Prelude.{ℕ, zero, suc, ◌-◌, Bool, if◌then◌else◌, List, [], ◌∷◌, ◌++◌, Option, None}
 use Rattle.std.specs.List.{slice_get}
 use Rattle.byteorder.specs.Endian.{big_bytes}
@@ -7,13 +7,12 @@ use Rattle.tree_format.specs.Node.{Node, leaf, children, with_children}
 use Rattle.tree_format.specs.Children.{given}
 use Rattle.remux_plan.specs.declared.uuids.PartUuids.{PartUuids}
 
--- the identifier of the output of this number, from 1 on, where it is given
+-- the identifier of the output `number`, counted from 1, if it is given
 abbrev pub uuid_at : List ℕ → ℕ → Option ℕ
 uuid_at uuids zero = None
 uuid_at uuids (suc k) = slice_get uuids k
 
--- Those of the output of this number. It has its own; where outputs are linked, it names those of the outputs beside it, whether these are
--- written or not.
+-- the identifiers of the output `number`: its own, and if outputs are linked the ones beside it, written or not
 abbrev pub uuids_at : List ℕ → Bool → ℕ → PartUuids
 uuids_at uuids link number = record {
   own = uuid_at uuids number;
@@ -21,18 +20,18 @@ uuids_at uuids link number = record {
   next = if link then uuid_at uuids (suc number) else None;
 }
 
--- an identifier in its 16 octets, the highest first
+-- an identifier in its 16 bytes, the highest one first
 abbrev pub uuid_leaf : ℕ → ℕ → Node
 uuid_leaf id uuid = leaf id 0 (big_bytes 16 uuid)
 
 abbrev pub uuid_elements : PartUuids → List Node
 uuid_elements u = given (uuid_leaf SEGMENT_UUID) u.own ++ (given (uuid_leaf PREV_UUID) u.before ++ given (uuid_leaf NEXT_UUID) u.next)
 
--- Elements behind the first of a list
+-- the list with `more` after its first element
 abbrev pub behind_first : List Node → List Node → List Node
 behind_first more [] = []
 behind_first more (n ∷ ns) = n ∷ (more ++ ns)
 
--- An Info with these identifiers: they stand behind its first child, which is the TimestampScale.
+-- an Info with these identifiers after its first child, the TimestampScale
 unfoldable pub with_uuids : PartUuids → Node → Node
 with_uuids u info = with_children info (behind_first (uuid_elements u) (children info))

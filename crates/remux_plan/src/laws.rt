@@ -1,8 +1,8 @@
-//! What holds of every plan.
+//! Laws about each plan
 
 ghost use Rattle.remux_plan.specs.Parts.{WholeIsOneOutput};
 
-/// A plan that isn't split comes to its one output.
+/// A plan without a split has only one output.
 pub fn whole_is_one_output()
     ensures { WholeIsOneOutput }
 {}

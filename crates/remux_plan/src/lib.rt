@@ -1,7 +1,6 @@
 #![tactic(auto)]
 
-//! What a merge is to write, and what is known of it when it stands, as plain values. The outputs that a plan comes to,
-//! which the crates above cite, are defined in `specs/`.
+//! Plan of a merge and summary of its outputs, as plain values. `specs/` defines the outputs of a plan.
 
 mod laws;
 mod output;
@@ -18,8 +17,8 @@ pub use splitter::SplitSpec;
 pub use summary::{InputDamage, MoreDamage, Summary, Written};
 pub use uuids::{PartUuids, uuids_at};
 
-/// The most inputs of a merge.
+/// Maximum number of inputs of a merge
 pub const MAX_INPUTS: usize = 64;
 
-/// The most nanoseconds of a tick: so that the time of each block's tick fits 64 bits.
+/// Maximum nanoseconds per tick, so that the time of each block's tick fits in 64 bits
 pub const MAX_SCALE: u64 = 1 << 63;

@@ -1,23 +1,23 @@
-//! What the outputs of a plan have in common.
+//! Common part of a plan's outputs
 
 use ebml_tree::Tree;
 use mkv_io::{List, Text};
 use output_model::{ClusterLimits, CueRule, Front};
 
-/// An output, but for its blocks: RFC 9559, section 5.1 (Segment Element).
+/// Output without its blocks: RFC 9559, section 5.1 (Segment)
 #[derive(Drop)]
 pub struct OutputSpec {
-    /// Its name.
+    /// Name of the output
     pub name: Text,
-    /// Whether it is written in parts, whose names are made of that.
+    /// Output in parts, with names made from `name`
     pub split: bool,
     pub limits: ClusterLimits,
-    /// For each lane, which of its blocks get a cue point.
+    /// Rule of each output track for cue points
     pub rules: List<CueRule>,
     pub front: Front,
     pub chapters: Option<Tree>,
     pub tags: Option<Tree>,
-    /// The SegmentUUIDs of the outputs, and whether each names those beside its own.
+    /// SegmentUUIDs of the outputs, and whether each output names the ones beside it
     pub uuids: List<u128>,
     pub link: bool,
 }

@@ -1,4 +1,4 @@
-//! What a merge is to write.
+//! Plan of a merge
 
 use ebml_tree::Tree;
 use merge_model::LaneSpec;
@@ -6,40 +6,41 @@ use mkv_io::{List, Text};
 use output_model::{ClusterLimits, CueRule, Front};
 use splitter::SplitSpec;
 
-/// One output, or several, each of which has a part of the blocks: RFC 9559, section 5.1 (Segment Element).
+/// Plan of one output, or of several with a part of the blocks each: RFC 9559, section 5.1 (Segment)
 #[derive(Drop)]
 pub struct MergePlan {
-    /// The name of the one output. Where it is split, those of the parts are made of it.
+    /// Name of the output; the names of its parts are made from it
     pub output: Text,
-    /// The times at which it is split.
+    /// Times of the split
     pub split: SplitSpec,
-    /// The load at which each part but the last ends, in octets of SimpleBlocks and BlockGroups; then it is split at no times.
+    /// Load at the end of each part except the last, in bytes of SimpleBlocks and BlockGroups; then there are no
+    /// times
     pub size: Option<u64>,
-    /// Where its Clusters end, and how many nanoseconds a tick has.
+    /// Limits of Clusters, and the nanoseconds per tick
     pub limits: ClusterLimits,
-    /// Its lanes, of which the first has the number 1.
+    /// Output tracks, with numbers from 1
     pub lanes: List<PlannedLane>,
-    /// What stands in front of the Clusters. The attachments go to the first part alone.
+    /// Elements before the Clusters; only the first part has the attachments
     pub front: Front,
-    /// Of these each part has what goes into its stretch of time.
+    /// Chapters, cut to the period of each part
     pub chapters: Option<Tree>,
     pub tags: Option<Tree>,
-    /// The SegmentUUIDs of the outputs, in their order, as far as they are given, read with the highest octet first: RFC 9559,
-    /// section 5.1.2.1 (SegmentUUID Element).
+    /// SegmentUUIDs of the outputs in their order, as far as they are given, with the highest byte first: RFC 9559,
+    /// section 5.1.2.1 (SegmentUUID)
     pub uuids: List<u128>,
-    /// Whether each output names those beside its own.
+    /// Each output names the SegmentUUIDs beside its own
     pub link: bool,
 }
 
-/// One lane of an output.
+/// One output track
 #[derive(Drop)]
 pub struct PlannedLane {
-    /// Its links.
+    /// Links of the output track
     pub spec: LaneSpec,
-    /// For each link the number of its input, from 0.
+    /// Number of each link's input, counted from 0
     pub inputs: List<usize>,
-    /// Which of its blocks get a cue point.
+    /// Rule for cue points
     pub cues: CueRule,
-    /// Whether the output may be cut before its key blocks.
+    /// Output may be cut before its keyframes
     pub drives: bool,
 }

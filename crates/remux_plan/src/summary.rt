@@ -1,42 +1,42 @@
-//! What is known of a merge whose output stands.
+//! Summary of a merge with complete outputs
 
 use mkv_io::{Damage, List, Text};
 
-/// What was written, and what is wrong with the inputs.
+/// Outputs of a merge, and damaged places of its inputs
 #[derive(Drop)]
 pub struct Summary {
-    /// The outputs, in the order in which they were written.
+    /// Outputs, in the order of writing
     pub outputs: List<Written>,
-    /// Of each input that a lane takes blocks of the first hundred damages, in the order of the inputs.
+    /// First hundred damaged places of each input with a link, in the order of the inputs
     pub damages: List<InputDamage>,
-    /// The inputs that have more, in their order.
+    /// Inputs with more damaged places, in their order
     pub more: List<MoreDamage>,
 }
 
-/// An output that stands.
+/// Complete output
 #[derive(Drop)]
 pub struct Written {
     pub name: Text,
-    /// How many blocks it has.
+    /// Number of blocks
     pub blocks: u64,
-    /// In how many Clusters these stand.
+    /// Number of Clusters
     pub clusters: u64,
-    /// How many cue points it has.
+    /// Number of cue points
     pub cues: u64,
 }
 
-/// A damage of an input.
+/// Damaged place of an input
 #[derive(Clone, Copy, Debug, PartialEq, Eq)]
 pub struct InputDamage {
-    /// The number of the input, from 0.
+    /// Number of the input, counted from 0
     pub input: usize,
     pub damage: Damage,
 }
 
-/// How many damages of an input aren't told one by one.
+/// Number of damaged places of an input that aren't reported one by one
 #[derive(Clone, Copy, Debug, PartialEq, Eq)]
 pub struct MoreDamage {
-    /// The number of the input, from 0.
+    /// Number of the input, counted from 0
     pub input: usize,
     pub count: u64,
 }

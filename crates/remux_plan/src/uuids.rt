@@ -1,10 +1,9 @@
-//! The identifiers of Segments: RFC 9559, section 5.1.2 (Info Element).
+//! Identifiers of Segments: RFC 9559, section 5.1.2 (Info).
 
 ghost use Rattle.std.specs.Prelude.{◌≡◌};
 ghost use Rattle.remux_plan.specs.Uuids.{uuid_at, uuids_at};
 
-/// The SegmentUUID of an output, and those of the outputs before and behind it, where it names them; each is read with the
-/// highest octet first.
+/// SegmentUUID of an output, and of the previous and next output if they are linked, with the highest byte first
 #[derive(Clone, Copy, Debug, PartialEq, Eq)]
 pub struct PartUuids {
     pub own: Option<u128>,
@@ -12,7 +11,7 @@ pub struct PartUuids {
     pub next: Option<u128>,
 }
 
-// The identifier of the output of this number, from 1 on, where it is given.
+// Returns the identifier of the output `number`, counted from 1, if it is given.
 fn uuid_at(uuids: &[u128], number: usize) -> Option<u128>
     ensures { result ≡ uuid_at uuids.now number }
 {
@@ -20,8 +19,8 @@ fn uuid_at(uuids: &[u128], number: usize) -> Option<u128>
     uuids.get(k).copied()
 }
 
-/// Those of the output of this number, from 1 on, by the identifiers that are given. It names those beside its own where
-/// outputs are linked.
+/// Returns the identifiers of the output `number`, counted from 1. If outputs are linked, it also names the ones
+/// beside its own.
 pub fn uuids_at(uuids: &[u128], link: bool, number: usize) -> PartUuids
     ensures { result ≡ uuids_at uuids.now link number }
 {
