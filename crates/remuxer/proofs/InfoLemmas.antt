@@ -14,27 +14,27 @@ use Rattle.remux_plan.specs.Uuids.{behind_first, uuid_elements, uuid_leaf, with_
 use Rattle.remux_plan.specs.declared.uuids.PartUuids.{PartUuids}
 use Rattle.remuxer.specs.Info.{with_more}
 
--- nothing more
+-- Nothing is appended.
 pub more-none : (n : Node) → with_more n [] ≡ n
 more-none (leaf id at body) = refl
 more-none (master id at kids) = ap (λ (ns : List Node). master id at (nodes_of ns)) (append-nil (list_of kids)) ∙ ap (master id at) (nodes-list kids)
 
--- some, and then more
+-- Two lists are appended in sequence.
 pub more-then : (n : Node) (xs ys : List Node) → with_more (with_more n xs) ys ≡ with_more n (xs ++ ys)
 more-then (leaf id at body) xs ys = refl
 more-then (master id at kids) xs ys =
     ap (λ (ns : List Node). master id at (nodes_of (ns ++ ys))) (list-nodes (list_of kids ++ xs)) ∙ ap (λ (ns : List Node). master id at (nodes_of ns)) (append_assoc (list_of kids) xs ys)
 
--- a copy of a child has room
+-- There is room for a copy of a child.
 pub copy-room : (ns : List Node) (k : ℕ) (n copy : Node) → depth_all (nodes_of ns) < deepest → k < length ns → n ≡ get_or ns k n → copy ≡ n → HasRoom copy
 copy-room ns k n copy low inside is same = let deep = deep-get ns k n inside is in subst HasRoom (sym same) (omega arith)
 
--- where an Ok says one thing, it says another
+-- A consequence of a success.
 pub on-ok-then : {T E : Type 0} (r : Result T E) (P Q : Type 0) → (P → Q) → OnOk r P → OnOk r Q
 on-ok-then (Ok x) P Q step is = step is
 on-ok-then (Err e) P Q step is = tt
 
--- an Info is a master
+-- An Info is a master.
 pub info-master : is_master INFO ≡ true
 unfolding entry_of table
 info-master = refl
@@ -42,7 +42,7 @@ info-master = refl
 take-step : (xs : List Node) (i : ℕ) (x : Node) → i < length xs → x ≡ get_or xs i x → take (i + 1) xs ≡ take i xs ++ x ∷ []
 take-step xs i x inside is = rw add-one (take-suc xs i x inside ∙ ap (λ (y : Node). take i xs ++ y ∷ []) (sym is))
 
--- the identifiers, one behind the other
+-- The identifiers are appended in sequence.
 pub uuids-added : (n one two three : Node) (u : PartUuids) → one ≡ with_more n (given (uuid_leaf SEGMENT_UUID) u.own) → two ≡ with_more one (given (uuid_leaf PREV_UUID) u.before) → three ≡ with_more two (given (uuid_leaf NEXT_UUID) u.next)
     → three ≡ with_more n (uuid_elements u)
 uuids-added n one two three u first second third =
@@ -51,15 +51,15 @@ uuids-added n one two three u first second third =
     let c = given (uuid_leaf NEXT_UUID) u.next in
     third ∙ ap (λ (t : Node). with_more t c) (second ∙ ap (λ (t : Node). with_more t b) first ∙ more-then n a b) ∙ more-then n (a ++ b) c ∙ ap (with_more n) (append_assoc a b c)
 
--- one child more of some
+-- One more child is copied.
 pub more-step : (n old new : Node) (ns : List Node) (k : ℕ) (child copy : Node) → k < length ns → child ≡ get_or ns k child → copy ≡ child → old ≡ with_more n (take k ns) → new ≡ with_children old (children old ++ copy ∷ [])
     → new ≡ with_more n (take (k + 1) ns)
 more-step n old new ns k child copy inside is same before put =
     put ∙ ap (λ (t : Node). with_more t (copy ∷ [])) before ∙ more-then n (take k ns) (copy ∷ []) ∙ ap (λ (c : Node). with_more n (take k ns ++ c ∷ [])) same ∙ ap (with_more n) (sym (take-step ns k child inside is))
 
--- ---- the whole
+-- ---- the whole Info
 
--- a master without children, and then those of an Info with identifiers behind the first one
+-- The children of an Info, with the identifiers after the first one, make the whole.
 pub whole-info : (info made with_first with_own whole first copy : Node) (others : List Node) (u : PartUuids) → IsMaster info → id_of info ≡ INFO → IsBuilt INFO (offset_of info) 0 [] made → children info ≡ first ∷ others → copy ≡ first
     → with_first ≡ with_children made (children made ++ copy ∷ []) → with_own ≡ with_more with_first (uuid_elements u) → whole ≡ with_more with_own others → whole ≡ with_uuids u info
 unfolding with_uuids
@@ -72,7 +72,7 @@ whole-info (master id at kids) made with_first with_own whole first copy others 
     ∙ ap (λ (own_id : ℕ). master own_id at (nodes_of (first ∷ (uuid_elements u ++ others)))) (sym own)
     ∙ ap (λ (ns : List Node). master id at (nodes_of (behind_first (uuid_elements u) ns))) (sym are)
 
--- of an Info without children nothing is made
+-- An Info without children gets no identifiers.
 pub empty-info : (info made : Node) (u : PartUuids) → IsMaster info → id_of info ≡ INFO → IsBuilt INFO (offset_of info) 0 [] made → length (children info) ≡ 0 → made ≡ with_uuids u info
 unfolding with_uuids
 empty-info (leaf id at body) made u is own built none = absurd (cc)
@@ -84,7 +84,7 @@ empty-info (master id at kids) made u is own built none =
     without [] is = refl
     without (n ∷ ns) is = absurd (omega arith)
 
--- it is an Info still
+-- It is still an Info.
 pub with-id : (u : PartUuids) (n : Node) → id_of (with_uuids u n) ≡ id_of n
 unfolding with_uuids
 with-id u (leaf id at body) = refl

@@ -26,7 +26,7 @@ use Rattle.remuxer.proofs.StepLemmas.{behind-within, gives-same, left-now, lent-
 
 -- ---- a step that only reads
 
--- what it leaves
+-- The merge goes on after it.
 pub read-goes : {S : Type 0} (r : Ghosts S) (a b : S) (p p' : PlacedBlocks) (result : Option ℕ) → r.standing b ≡ r.standing a → Moves p.merge p'.merge (Ok result) → (IsTold (live_files r a) p.merge → Gives (live_files r a) p.merge p'.merge (Ok result))
     → split_in p' ≡ split_in p → CanGive (live_files r b) p' → r.octets_read b + due (live_files r a) p'.merge ≤ r.octets_read a + due (live_files r a) p.merge → GoesOn r 0 a b p p'
 read-goes r a b p p' result same moves gives split can paid =
@@ -43,7 +43,7 @@ read-goes r a b p p' result same moves gives split can paid =
       };
     }
 
--- what stands ahead, and where a part was begun, says nothing of whether blocks can be given
+-- The block ahead and the start don't decide whether blocks can be taken.
 pub goes-idle : {S : Type 0} (r : Ghosts S) (a : S) (p : PlacedBlocks) (next : Option Ahead) (start : ℕ) → CanGive (live_files r a) p → GoesOn r 0 a a p (record p { ahead = next; start = start })
 goes-idle r a p next start gives = record {
   lanes = refl;
@@ -56,7 +56,7 @@ goes-idle r a p next start gives = record {
 
 -- ---- the next block is ahead
 
--- the parts behind a block that begins none
+-- The parts after a block that begins no part are the same.
 parts-past : (f : LiveFiles) (p : PlacedBlocks) (was : Ahead) → CanGive f p → p.ahead ≡ Some was → IsAhead p.merge p.cuts was → start_in was.place ≡ None
     → parts_left f p ≡ parts_in (split_in p) (sections_at (split_in p) (beyond (split_in p) (start_of p.cuts) p.cuts.load (left f p.merge)))
 parts-past f p was can is ahead none = either (is_within (Some was)) refl
@@ -74,7 +74,7 @@ parts-past f p was can is ahead none = either (is_within (Some was)) refl
         ∙ parts-passed s (start_of p.cuts) x bs out
         ∙ ap (λ (behind : List OutputBlock). parts_in s (sections_at s behind)) (without-load s (no-limit p.cuts.size p.cuts.spec (start_of p.cuts * p.cuts.scale) can.limit out) (start_of p.cuts) (octets_taken x) p.cuts.load bs)
 
--- no block has come: the section at the beginning is a part if it is written
+-- Without a block, the section at the start is a part if it is written.
 parts-none : (f h : LiveFiles) (p : PlacedBlocks) (m' : MergeSeen) (c' : CutsSeen) → IsFresh p → left f p.merge ≡ [] → c' ≡ p.cuts → LeavesAll f h p (on_to p m' c' None)
 parts-none f h p m' c' fresh none same =
     ap (λ (c : CutsSeen). if keeps c.spec (start_of c * c.scale) then (let x : Part = record { start = start_of c; end = None; blocks = [] } in x) ∷ [] else []) same
@@ -85,7 +85,7 @@ module _ {S : Type 0} (r : Ghosts S) (a b : S) (p : PlacedBlocks) (m' : MergeSee
   files : live_files r b ≡ live_files r a
   files = ap r.files same
 
-  -- where none was ahead
+  -- No block was ahead.
   leaves-none : (next : Option Ahead) → p.ahead ≡ None → Leaves (live_files r a) (live_files r b) p (on_to p m' c' next)
   leaves-none next is = record {
     rest = λ in_it. let isnt : is_within p.ahead ≡ false = ap is_within is in absurd (cc);
@@ -93,7 +93,7 @@ module _ {S : Type 0} (r : Ghosts S) (a b : S) (p : PlacedBlocks) (m' : MergeSee
     parts = λ none. absurd (subst BeginsNone is none);
   }
 
-  -- no block has come
+  -- The merge has no more blocks.
   module _ (moves : Moves p.merge m' (Ok None)) (gives : IsTold (live_files r a) p.merge → Gives (live_files r a) p.merge m' (Ok None)) (same_cuts : c' ≡ p.cuts) where
     leaves-ended : (was : Option Ahead) → p.ahead ≡ was → StandsAt p.merge p.cuts was → left (live_files r a) p.merge ≡ [] → Leaves (live_files r a) (live_files r b) p (on_to p m' c' None)
     leaves-ended None is stands ended = leaves-none None is
@@ -120,7 +120,7 @@ module _ {S : Type 0} (r : Ghosts S) (a b : S) (p : PlacedBlocks) (m' : MergeSee
         read-goes r a b p (on_to p m' c' None) None same moves gives (ap (λ (c : CutsSeen). split_in (on_to p m' c None)) same_cuts)
         (gives-same (live_files r a) (live_files r b) p (on_to p m' c' None) can moves.keeps ready refl same_cuts) paid
 
-  -- one has
+  -- The merge has a next block.
   module _ (next : Ahead) (moves : Moves p.merge m' (Ok (Some next.lane))) (gives : IsTold (live_files r a) p.merge → Gives (live_files r a) p.merge m' (Ok (Some next.lane))) (places : PlacesOne p.drives moves.steps.queue.lane p.cuts c' next) where
     leaves-next : (was : Option Ahead) → p.ahead ≡ was → StandsAt p.merge p.cuts was → IsTold (live_files r a) p.merge → Leaves (live_files r a) (live_files r b) p (on_to p m' c' (Some next))
     leaves-next None is stands told = leaves-none (Some next) is
@@ -159,12 +159,12 @@ module _ {S : Type 0} (r : Ghosts S) (a b : S) (p : PlacedBlocks) (m' : MergeSee
 
 -- ---- the next part was begun
 
--- the block ahead begins a part, and is of it then
+-- The block ahead begins a part, and is in it afterwards.
 module _ (f : LiveFiles) (b : PlacedBlocks) (a : Ahead) (start : ℕ) (can : CanGive f b) (is : b.ahead ≡ Some a) (ahead : IsAhead b.merge b.cuts a) (found : start_in a.place ≡ Some start) where
   abbrev begun_at : PlacedBlocks
   begun_at = record b { ahead = Some (record { lane = a.lane; place = Same }); start = start }
 
-  -- What is said of a block that begins a part.
+  -- Facts about a block that begins a part.
   record Begins : Type 0 where
     kept : is_kept b.cuts ≡ true
     starts : start ≡ start_of b.cuts
@@ -204,7 +204,7 @@ module _ (f : LiveFiles) (b : PlacedBlocks) (a : Ahead) (start : ℕ) (can : Can
       ∙ parts-first s (fits-of b.cuts.size b.cuts.spec can.limit) (start_of b.cuts) b.cuts.load x bs (ahead.counts begins.alone) begins.kept
       ∙ ap (λ (first : List OutputBlock). part_from s (start_of b.cuts) b.cuts.load first bs ∷ parts_in s (sections_at s (beyond s (start_of b.cuts) b.cuts.load bs))) (sym one))
 
--- none is, where no block is ahead
+-- Without a block ahead no part is left.
 pub none-left : (f : LiveFiles) (p : PlacedBlocks) → p.ahead ≡ None → parts_left f p ≡ []
 none-left f p is = parts-ahead f p (ap is_within is) ∙ ap (λ (o : Option Ahead). parts_from (split_in p) (start_of p.cuts) (ahead_of p.merge o (left f p.merge))) is
 
@@ -214,7 +214,7 @@ module _ {S : Type 0} (r : Ghosts S) (a b : S) (p p' : PlacedBlocks) (fresh : Is
   abbrev all_parts : List Part
   all_parts = parts (split_in p) (left (live_files r a) p.merge)
 
-  -- no block has come
+  -- The merge has no blocks.
   pub first-none : is_some p'.ahead ≡ false → is_kept p'.cuts ≡ true → FindsPart (live_files r a) (live_files r b) (way p.merge + 1) all_parts p p' true
   first-none none kept = either p'.ahead refl
     where
@@ -235,7 +235,7 @@ module _ {S : Type 0} (r : Ghosts S) (a b : S) (p p' : PlacedBlocks) (fresh : Is
           }
       either (Some ahead) is = absurd (let some = ap is_some is in cc)
 
-  -- one has, or the section at the beginning isn't written
+  -- The merge has a block, or the section at the start isn't written.
   pub first-result : (c : S) (p'' : PlacedBlocks) (result : Result Bool ReadEnd) → (is_none p'.ahead && is_kept p'.cuts) ≡ false → FindsBehind r b c p' p'' result → FindsFirst r a c p p'' result
   first-result c p'' (Err end) isnt finds = tt
   first-result c p'' (Ok begun) isnt finds = record {

@@ -1,4 +1,4 @@
--- An output from its first octets to its last.
+-- An output from its first byte to its last.
 use Rattle.std.proofs.Common.{◌≡◌, ◌≢◌, ◌≤◌, ◌<◌, ℕ, zero, suc, ◌+◌, Bool, true, false, List, [], ◌∷◌, ◌++◌, All, length, Option, None, Result, Ok, Err, inl, inr, refl, sym, ◌∙◌, ap, ap₂, subst, arith}
 use Rattle.std.proofs.lemmas.List.{take_all}
 use Rattle.std.specs.Prelude.{slice_index_or, if◌then◌else◌}
@@ -65,7 +65,7 @@ drafted-in_turn before now name d stands = record { stand = stands.output ∷ []
 pub whole-in_turn : (before now : Names) (name : List ℕ) (d : Document) → WritesLayout before now name d → AreWrittenInOrder before now (draft_of name d ∷ [])
 whole-in_turn before now name d writes = record { stand = (let o : Output = record { name = name; content = layout d } in o) ∷ []; drafted = inl (sym writes.becomes); names = writes.names }
 
--- what was refused while it was begun
+-- A failure at the start leaves a content of the draft.
 pub begun-in_turn : (before now : Names) (name : List ℕ) (d : Document) → ArePrefixes before now (record { name = name; content = opened_with d.front [] } ∷ []) → AreWrittenInOrder before now (draft_of name d ∷ [])
 begun-in_turn before now name d stands = record { stand = stands.stand; drafted = step stands.stand stands.begun; names = stands.names }
   where
@@ -80,12 +80,12 @@ begun-in_turn before now name d stands = record { stand = stands.stand; drafted 
     })
     step (o ∷ (p ∷ os)) begun = absurd begun.1
 
--- of an output without blocks
+-- the counts of an output without blocks
 abbrev pub none_counted : Counts
 none_counted = record { clusters = 0; cues = 0 }
 
 module _ {S : Type 0} (r : Ghosts S) (f : writing.Ghosts S) (before : Names) (name : List ℕ) (d : Document) where
-  -- it was begun: all its blocks are left
+  -- The output was begun: all its blocks are left.
   pub stands-begun : (rules : List CueRule) (limits : ClusterLimits) (files : S) (o : OpenOutput) (g : Gathered) (blocks : List OutputBlock) → clusters limits blocks ≡ d.clusters → o.cues ≡ [] → Holds None g → g.limits ≡ limits
       → StandsOpen r f before name d.front [] files o → Stands r f before name rules d files o g none_counted blocks
   stands-begun rules limits files o g blocks is cues holds same stands = record {
@@ -98,7 +98,7 @@ module _ {S : Type 0} (r : Ghosts S) (f : writing.Ghosts S) (before : Names) (na
     stands = stands;
   }
 
-  -- it has all its Clusters, and is finished
+  -- The output has all its Clusters, and is finished.
   pub finishes-all : (old new : S) (o : OpenOutput) (chapters tags : Option Node) (result : Result ℕ RemuxEnd) → d.chapters ≡ chapters → d.tags ≡ tags → HoldsOfFiles r f → Finishes r f o chapters tags old new result → WritesAndEnds r f o.file old new → (n : Counts) → HasAll r f before name d old o n → Writes before (f.names new) name d result
   finishes-all old new o chapters tags result its_chapters its_tags of_files finishes ended n all = step result finishes
     where
@@ -119,7 +119,7 @@ module _ {S : Type 0} (r : Ghosts S) (f : writing.Ghosts S) (before : Names) (na
           let P : List ℕ → Type 0 = λ n. AreWrittenInOrder before (f.names new) (draft_of n d ∷ []) in
           subst P named (drafted-in_turn before (f.names new) (f.holder old o.file.n) d (ends before d ready))
 
--- ---- the merge, while the output is begun
+-- ---- the merge while the output is begun
 
 module _ {S : Type 0} (r : Ghosts S) (f : writing.Ghosts S) (a b : S) (name : List ℕ) (file : FileId) (p : PlacedBlocks) (made : MakesFile r f name file a b) (gives : CanGive (live_files r a) p) (apart : IsApart (f.holder a) (name ∷ []) p.merge) where
   begun-keeps : KeepsMerge (live_files r a) (live_files r b) p.merge
@@ -143,7 +143,7 @@ module _ {S : Type 0} (r : Ghosts S) (f : writing.Ghosts S) (a b : S) (name : Li
       one (Track t) opened others = subst (λ (n : List ℕ). AreOthers n (name ∷ [])) (sym (made.holders t.file.n opened.live)) others
       one (Entries e) opened others = tt
 
-  -- the output can take its blocks
+  -- The output can take its blocks.
   pub begun-can : (w : BlockWriter) → w.out.file ≡ file → IsOpen r b w.out → CanTake r f b w p
   begun-can w same is_open = record {
     is_open = is_open;
@@ -151,14 +151,14 @@ module _ {S : Type 0} (r : Ghosts S) (f : writing.Ghosts S) (a b : S) (name : Li
     apart = subst (λ (id : FileId). IsApart (f.holder b) (f.holder b id.n ∷ []) p.merge) (sym same) begun-apart;
   }
 
-  -- so many octets were read
+  -- At most `more` bytes were read.
   pub begun-goes : (more : ℕ) → r.octets_read b ≤ r.octets_read a + more → GoesOn r more a b p p
   begun-goes more octets = among-goes r more a b p gives begun-among octets
 
   pub begun-told : IsTold (live_files r a) p.merge → IsTold (live_files r b) p.merge
   begun-told told = begun-among.told told
 
--- ---- the output's file has ended
+-- ---- the output's file was closed
 
 module _ {S : Type 0} (r : Ghosts S) (f : writing.Ghosts S) (a b c e : S) (name : List ℕ) (file its : FileId) (numbered : (other : ℕ) → (live_files r a).live other ≡ true → other < f.given a) (made : MakesFile r f name file a b) (kept : KeepsOthers r f (f.holder b file.n ∷ []) b c) (same : its ≡ file) where
   written : MakesFile r f name its a c
@@ -172,7 +172,7 @@ module _ {S : Type 0} (r : Ghosts S) (f : writing.Ghosts S) (a b c e : S) (name 
   pub abandoned-keeps : EndsOnly r f c e (its ∷ []) → KeepsOthers r f (name ∷ []) a e
   abandoned-keeps ends = MakesFile-ended r f name its a c e numbered written ends
 
-  -- the merge, while it ends
+  -- The merge is unchanged while it is closed.
   module _ (p p' : PlacedBlocks) (gives : CanGive (live_files r a) p) (apart : IsApart (f.holder a) (name ∷ []) p.merge) (goes : GoesOn r 0 b c p p') (ends : WritesAndEnds r f its c e) where
     ending-keeps : KeepsMerge (live_files r c) (live_files r e) p'.merge
     ending-keeps = λ k d lt. λ j x inside. one (slice_index_or (slice_index_or p'.merge.queues k d).lane.links j x) ((goes.gives.ready k d lt).files j x inside)
@@ -183,7 +183,7 @@ module _ {S : Type 0} (r : Ghosts S) (f : writing.Ghosts S) (a b c e : S) (name 
         alone n differs zero d inside = differs
         alone n differs (suc k) d inside = absurd (omega arith)
 
-        -- a file of another name isn't the output's
+        -- A file of another name isn't the output's.
         other : (n : ℕ) → (live_files r a).live n ≡ true → AreOthers (f.holder a n) (name ∷ []) → IsSameFile (live_files r c) (live_files r e) n
         other n live others =
             let holder : f.holder c n ≡ f.holder a n = written.holders n live in
@@ -204,13 +204,13 @@ module _ {S : Type 0} (r : Ghosts S) (f : writing.Ghosts S) (a b c e : S) (name 
     pub ending-goes : GoesOn r 0 c e p' p'
     ending-goes = among-goes r 0 c e p' goes.gives ending-among (let one = ends.written.octets in let other = ends.ended.octets in omega (arith, one, other))
 
--- ---- what was written
+-- ---- written counts
 
--- a count that has 64 bits
+-- A count of 64 bits is exact.
 pub counted-all : (blocks n : ℕ) → blocks ≤ last_count → counted blocks 0 ≡ n → blocks ≡ n
 counted-all blocks n few is = grind arith
 
--- the Chapters of a part
+-- The Chapters of the part are the cut ones.
 pub chapters-are : (o : OutputSpec) (f : LiveFiles) (part : Part) (cut : Option Node) → cut ≡ chapters_cut o part.start part.end → (document_with f o part).chapters ≡ chapters_in o cut
 chapters-are o f part cut is = by_split o.split ∙ sym (ap (chapters_in o) is)
   where
@@ -225,11 +225,11 @@ module _ {S : Type 0} (r : Ghosts S) (f : writing.Ghosts S) (o : OutputSpec) (na
   abbrev its : Document
   its = document_with (live_files r a) o (part_in (live_files r a) p)
 
-  -- it is the same while the output is begun
+  -- The part is the same while the output is begun.
   here : part_in (live_files r b) p ≡ part_in (live_files r a) p
   here = part-same (live_files r a) (live_files r b) p same
 
-  -- the output was begun
+  -- The output was begun.
   pub begun-stands : (out : OpenOutput) (buffer : Gathered) → StandsOpen r f (f.names a) name (front_with (live_files r a) o.front) [] b out → out.cues ≡ [] → Holds None buffer → buffer.limits ≡ o.limits
       → Stands r f (f.names a) name o.rules its b out buffer none_counted (part_in (live_files r b) p).blocks
   begun-stands out buffer opened cues holds limits =
@@ -237,14 +237,14 @@ module _ {S : Type 0} (r : Ghosts S) (f : writing.Ghosts S) (o : OutputSpec) (na
       (ap (λ (each : Part). clusters o.limits each.blocks) here) cues holds limits opened
 
   module _ (c e : S) (w w' : BlockWriter) (p' : PlacedBlocks) (cut : Option Node) (fills : FillsPart r f o b c w w' p p' cut) (stands : Stands r f (f.names a) name o.rules its b w.out w.buffer w.counts (part_in (live_files r b) p).blocks) where
-    -- it was filled, and is finished
+    -- The output was filled, and is finished.
     pub filled-finishes : (chapters : Option Node) (result : Result ℕ RemuxEnd) → chapters ≡ chapters_in o cut → HoldsOfFiles r f → Finishes r f w'.out chapters o.tags c e result → WritesAndEnds r f w'.out.file c e → Writes (f.names a) (f.names e) name its result
     filled-finishes chapters result its_chapters of_files finishes ended =
         let is : cut ≡ chapters_cut o (part_in (live_files r a) p).start (part_in (live_files r a) p).end = fills.chapters_are ∙ ap (λ (each : Part). chapters_cut o each.start each.end) here in
         finishes-all r f (f.names a) name its c e w'.out chapters o.tags result (chapters-are o (live_files r a) (part_in (live_files r a) p) cut is ∙ sym its_chapters) refl of_files finishes ended
         w'.counts (fills.all (f.names a) name its refl stands)
 
-    -- so many blocks, and the parts behind it
+    -- Its counts are right, and the parts after it are left.
     pub filled-counts : w.blocks ≡ 0 → left (live_files r e) p'.merge ≡ left (live_files r c) p'.merge → CountsPart (live_files r a) (live_files r e) o p p' (record { blocks = w'.blocks; counts = w'.counts })
     filled-counts none later = record {
       counts = (fills.all (f.names a) name its refl stands).counts;
@@ -253,11 +253,11 @@ module _ {S : Type 0} (r : Ghosts S) (f : writing.Ghosts S) (o : OutputSpec) (na
       behind = parts-same (live_files r c) (live_files r e) p' later ∙ fills.behind ∙ parts-same (live_files r a) (live_files r b) p same;
     }
 
--- what was read for the attachments, and for the blocks
+-- The bytes for the attachments and for the blocks add up.
 pub goes-whole : {S : Type 0} (r : Ghosts S) (more : ℕ) (a b c e : S) (p p' : PlacedBlocks) → GoesOn r more a b p p → GoesOn r 0 b c p p' → GoesOn r 0 c e p' p' → GoesOn r more a e p p'
 goes-whole r more a b c e p p' first next last = goes-more r more a c e p p' p' (goes-more r more a b c p p p' first next) last
 
--- or for blocks that were refused; nothing is read behind them
+-- They also do if reading blocks failed, since nothing is read afterwards.
 pub goes-refused : {S T E : Type 0} (r : Ghosts S) (more : ℕ) (a b c e : S) (p p' : PlacedBlocks) (result : Result T E) → GoesOn r more a b p p → Goes r 0 b c p p' result → r.octets_read e ≤ r.octets_read c
     → r.octets_read e ≤ r.octets_read a + due (live_files r a) p.merge + files_length (live_files r a) p.merge + more
 goes-refused r more a b c e p p' (Ok done) first next same = let one = first.paid in let other = next.paid in omega (arith, one, other, same)

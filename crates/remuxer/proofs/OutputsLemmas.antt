@@ -1,4 +1,4 @@
--- Outputs that are written one after the other.
+-- Outputs that are written in sequence.
 use Rattle.std.proofs.Common.{◌≡◌, ◌≤◌, ◌<◌, ℕ, suc, ◌+◌, ◌^◌, Bool, true, false, List, [], ◌∷◌, ◌++◌, All, length, map, Option, Some, ◌⊎◌, inl, inr, refl, sym, ◌∙◌, ap, ap₂, subst, append_assoc, append-nil, arith}
 use Rattle.std.specs.Prelude.{◌==◌, if◌then◌else◌, slice_index_or}
 use Rattle.std.proofs.lemmas.List.{length-map, map-append}
@@ -48,7 +48,7 @@ use Rattle.remuxer.specs.declared.placed.PlacedBlocks.{PlacedBlocks}
 use Rattle.remuxer.proofs.TakingLemmas.{OnlyRead, files-same, goes-then, read-keeps}
 use Rattle.remuxer.specs.Output.{CanBeNext, FindsNext, FindsPart, HasRecords, IsShort, IsNotMade, IsUnwritten, IsUnwrittenLink, KeepsUnwritten, ReadsParts, WritesAll, WritesOne, data_of, drafts_of, laid_out, next_name, next_spec, own_spec, parts_begun}
 
--- ---- one behind the other
+-- ---- outputs in sequence
 
 outputs-split : (f : LiveFiles) (o : OutputSpec) (number : ℕ) (done more : List Part) → outputs_from f o number (done ++ more) ≡ outputs_from f o number done ++ outputs_from f o (number + length done) more
 outputs-split f o number [] more = ap (λ (n : ℕ). outputs_from f o n more) (let same : number ≡ number + 0 = omega arith in same)
@@ -60,7 +60,7 @@ count-outputs : (f : LiveFiles) (o : OutputSpec) (number : ℕ) (done : List Par
 count-outputs f o number [] = refl
 count-outputs f o number (p ∷ done) = ap suc (count-outputs f o (suc number) done)
 
--- what the names tell after each of these outputs was written
+-- the contents of names after each of these outputs was written
 abbrev pub world_with : (List ℕ → Option (List ℕ)) → List Output → List ℕ → Option (List ℕ)
 world_with world [] = world
 world_with world (o ∷ os) = world_with (changed_at o.name (λ _. Some o.content) world) os
@@ -69,13 +69,13 @@ pub told-with : (world : List ℕ → Option (List ℕ)) (os : List Output) → 
 told-with world [] = refl
 told-with world (o ∷ os) = told-with (changed_at o.name (λ _. Some o.content) world) os
 
--- some first drafts are whole, and one more
+-- The first drafts and one more are complete.
 whole-behind : (old mid new : Names) (done : List Draft) (d : Draft) → mid ≡ with_outputs old (outputs_of done) → new ≡ with_content mid (output_of d).name (output_of d).content → new ≡ with_outputs old (outputs_of (done ++ d ∷ []))
 whole-behind old mid new done d before names =
     names ∙ ap (λ (n : Names). with_content n (output_of d).name (output_of d).content) before
     ∙ sym (ap (with_outputs old) (map-append output_of done (d ∷ [])) ∙ with_outputs-added old (outputs_of done) (output_of d))
 
--- some first drafts are whole, and what stands of the next one stands in turn
+-- The first drafts are complete, and the next one has a content of its draft.
 pub in_turn-behind : (old mid new : Names) (done rest : List Draft) (d : Draft) → mid ≡ with_outputs old (outputs_of done) → AreWrittenInOrder mid new (d ∷ []) → AreWrittenInOrder old new (done ++ d ∷ rest)
 in_turn-behind old mid new done rest d before stands = step stands.stand stands.drafted stands.names
   where
@@ -92,12 +92,12 @@ in_turn-behind old mid new done rest d before stands = step stands.stand stands.
 
 -- ---- names
 
--- the name of each output has the form of those that may be written
+-- The name of each output may be written.
 pub named-so : (split : Bool) (output : List ℕ) (number : ℕ) → number < 2 ^ 64 → may_be_written split output (name_of split output number) ≡ true
 named-so true output number few = part-names output number few
 named-so false output number few = (bytes_eq-Decides output output).1 refl
 
--- so no file of a link was opened under it
+-- No file of a link has this name.
 pub unwritten-apart : (holder : ℕ → List ℕ) (split : Bool) (output name : List ℕ) (m : MergeSeen) → may_be_written split output name ≡ true → IsUnwritten holder split output m → IsApart holder (name ∷ []) m
 unwritten-apart holder split output name m may unwritten = λ k d lt. λ j e inside. one (slice_index_or (slice_index_or m.queues k d).lane.links j e) (unwritten k d lt j e inside)
   where
@@ -105,7 +105,7 @@ unwritten-apart holder split output name m may unwritten = λ k d lt. λ j e ins
     one (Track t) isnt = (λ same. let both : may_be_written split output (holder t.file.n) ≡ true = sym (ap (may_be_written split output) same) ∙ may in absurd (cc), tt)
     one (Entries entries) isnt = tt
 
--- files that stay open keep their names
+-- Open files keep their names.
 pub unwritten-kept : {S : Type 0} (r : Ghosts S) (f : writing.Ghosts S) (split : Bool) (output : List ℕ) (names : List (List ℕ)) (a b : S) (m m' : MergeSeen) → KeepsOthers r f names a b → IsReady (live_files r a) m → KeepsQueues m.queues m'.queues → IsUnwritten (f.holder a) split output m → IsUnwritten (f.holder b) split output m'
 unwritten-kept r f split output names a b m m' kept ready lanes unwritten =
     links-kept (All (IsUnwrittenLink (f.holder b) split output)) m.queues m'.queues lanes
@@ -115,18 +115,18 @@ unwritten-kept r f split output names a b m m' kept ready lanes unwritten =
     one (Track t) opened isnt = ap (may_be_written split output) (kept.holders t.file.n opened.live) ∙ isnt
     one (Entries entries) opened isnt = tt
 
--- ---- the files of other names
+-- ---- files of other names
 
 module _ {S : Type 0} (r : Ghosts S) (f : writing.Ghosts S) (split : Bool) (output : List ℕ) where
-  -- no name was written
+  -- No name was written.
   pub keeps-none : (a : S) → KeepsUnwritten r f split output a a
   keeps-none a = record { names = []; form = All-nil (λ n. may_be_written split output n ≡ true); kept = KeepsOthers-none r f [] a }
 
-  -- the files were only read
+  -- The files were only read.
   pub keeps-read : (a b : S) → OnlyRead r f a b → KeepsUnwritten r f split output a b
   keeps-read a b read = record { names = []; form = All-nil (λ n. may_be_written split output n ≡ true); kept = read-keeps r f a b read [] }
 
-  -- one was
+  -- One name was written.
   pub keeps-one : (name : List ℕ) (a b : S) → may_be_written split output name ≡ true → KeepsOthers r f (name ∷ []) a b → KeepsUnwritten r f split output a b
   keeps-one name a b may kept = record {
     names = name ∷ [];
@@ -134,7 +134,7 @@ module _ {S : Type 0} (r : Ghosts S) (f : writing.Ghosts S) (split : Bool) (outp
     kept = kept;
   }
 
-  -- some were, and then more
+  -- Names were written by two calls.
   pub keeps-then : (a b c : S) → KeepsUnwritten r f split output a b → KeepsUnwritten r f split output b c → KeepsUnwritten r f split output a c
   keeps-then a b c first next = record {
     names = first.names ++ next.names;
@@ -144,7 +144,7 @@ module _ {S : Type 0} (r : Ghosts S) (f : writing.Ghosts S) (split : Bool) (outp
         (KeepsOthers-more r f next.names (first.names ++ next.names) b c (λ name others. others-behind name first.names next.names others) next.kept);
   }
 
-  -- a name that can't be written is none of those that were
+  -- A name that can't be written isn't among the written ones.
   others-unwritten : (name : List ℕ) (names : List (List ℕ)) → may_be_written split output name ≡ false → All (λ n. may_be_written split output n ≡ true) names → AreOthers name names
   others-unwritten name [] isnt form = tt
   others-unwritten name (first ∷ names) isnt form = (
@@ -152,7 +152,7 @@ module _ {S : Type 0} (r : Ghosts S) (f : writing.Ghosts S) (split : Bool) (outp
     others-unwritten name names isnt (All-tail (λ n. may_be_written split output n ≡ true) first names form),
   )
 
-  -- so no file is made under it, and none is opened
+  -- No file is created or opened with such a name.
   pub unwritten-asks : (a b : S) → KeepsUnwritten r f split output a b → AsksNone (IsNotMade split output) (f.asked a) (f.asked b)
   unwritten-asks a b keeps = asks-fewer (IsNotAmong [] keeps.names) (IsNotMade split output) (f.asked a) (f.asked b) each keeps.kept.asks
     where
@@ -160,14 +160,14 @@ module _ {S : Type 0} (r : Ghosts S) (f : writing.Ghosts S) (split : Bool) (outp
       each (Opened name) isnt = tt
       each (Made name) isnt = others-unwritten name keeps.names isnt keeps.form
 
--- what the output of this number has besides its blocks, before it has its own identifiers
+-- the specification of the output `number`, without its own identifiers
 abbrev pub left_at : OutputSpec → ℕ → OutputSpec
 left_at o number = record o { front = record o.front { attachments = if number == 1 then o.front.attachments else [] } }
 
--- ---- on the way
+-- ---- while outputs are written
 
 module _ {S : Type 0} (r : Ghosts S) (f : writing.Ghosts S) (o : OutputSpec) (a : S) (p : PlacedBlocks) where
-  -- The outputs of some first parts stand, and the others are left.
+  -- The outputs of the first parts are complete, and the other parts are left.
   pub record Standing (b : S) (o' : OutputSpec) (p' : PlacedBlocks) (written : List Written) (begun : Bool) : Type 0 where
     pub done : List Part
     pub whole : parts (split_in p) (left (live_files r a) p.merge) ≡ done ++ parts_begun (live_files r b) p' begun
@@ -177,7 +177,7 @@ module _ {S : Type 0} (r : Ghosts S) (f : writing.Ghosts S) (o : OutputSpec) (a 
     pub short : IfVisible (f.names a) (λ world. All (λ (each : PlannedOutput). IsShort each.document) (outputs_from (live_files r a) o 1 done))
     pub front : front_with (live_files r b) o'.front ≡ front_with (live_files r a) o'.front
 
-  -- So it is where the links' files are told; the next part can be begun, and so many octets were read.
+  -- The first outputs are complete if the links' files are visible to the proof, the next part can be begun, and `read` bytes of data were read.
   pub record OnTheWay (b : S) (o' : OutputSpec) (p' : PlacedBlocks) (written : List Written) (begun : Bool) : Type 0 where
     pub read : ℕ
     pub data_left : read + data_of o' ≤ data_of o
@@ -220,7 +220,7 @@ module _ {S : Type 0} (r : Ghosts S) (f : writing.Ghosts S) (o : OutputSpec) (a 
         apart = λ same. can.apart (sym (read.holders it.file.n) ∙ same);
       }
 
-  -- ---- one output more
+  -- ---- one more output
 
   module _ (b : S) (o' : OutputSpec) (p' : PlacedBlocks) (written : List Written) (way : OnTheWay b o' p' written true) where
     pub way-scale : p.cuts.scale ≡ o.limits.scale → p'.cuts.scale ≡ o'.limits.scale
@@ -244,11 +244,11 @@ module _ {S : Type 0} (r : Ghosts S) (f : writing.Ghosts S) (o : OutputSpec) (a 
         subst (λ (each : OutputSpec). IsUnwritten (f.holder b) each.split each.name p'.merge) (sym way.spec)
         (unwritten-kept r f o.split o.name way.kept.names a b p.merge p'.merge way.kept.kept ready way.goes.lanes unwritten)
 
-    -- the files of other names stay
+    -- Files of other names are unchanged.
     pub way-keeps : (c : S) → KeepsUnwritten r f o'.split o'.name b c → KeepsUnwritten r f o.split o.name a c
     way-keeps c kept = keeps-then r f o.split o.name a b c way.kept (subst (λ (each : OutputSpec). KeepsUnwritten r f each.split each.name b c) way.spec kept)
 
-    -- no more octets are read than may be
+    -- The bytes that were read stay within the bound.
     pub way-refused : (c : S) → r.octets_read c ≤ r.octets_read b + due (live_files r b) p'.merge + files_length (live_files r b) p'.merge + data_of o' → ReadsParts r a c o p
     way-refused c reads =
         let paid = way.goes.paid in
@@ -268,7 +268,7 @@ module _ {S : Type 0} (r : Ghosts S) (f : writing.Ghosts S) (o : OutputSpec) (a 
           let count : length written ≡ length so_far.done = ap length so_far.written_are ∙ length-map (outputs_from (live_files r a) o 1 so_far.done) written_of ∙ count-outputs (live_files r a) o 1 so_far.done in
           omega (arith, count)
 
-      -- it is the next of the outputs
+      -- It is the next output of the plan.
       is-next : (let x : PlannedOutput = record { name = next_name o' written; blocks = here.blocks; document = document_with (live_files r b) (next_spec o' written) here } in x) ≡ output_in (live_files r a) o (1 + length so_far.done) here
       is-next =
           ap (λ (fr : model.Front). let x : PlannedOutput = record {
@@ -296,13 +296,13 @@ module _ {S : Type 0} (r : Ghosts S) (f : writing.Ghosts S) (o : OutputSpec) (a 
           ∙ map-append (λ (each : PlannedOutput). draft_of each.name each.document) (outputs_from (live_files r a) o 1 so_far.done) (outputs_from (live_files r a) o (1 + length so_far.done) (here ∷ rest))
           ∙ ap (λ (each : PlannedOutput). done_drafts ++ draft_of each.name each.document ∷ drafts_of (outputs_from (live_files r a) o (suc (1 + length so_far.done)) rest)) (sym is-next)
 
-      -- it was refused
+      -- It failed.
       pub refused-next : (now : Names) → AreWrittenInOrder (f.names b) now (draft_of its.name its.document ∷ []) → AreWrittenInOrder (f.names a) now (drafts_of (outputs_from (live_files r a) o 1 (parts (split_in p) (left (live_files r a) p.merge))))
       refused-next now stands =
           subst (AreWrittenInOrder (f.names a) now) (sym all-drafts)
           (in_turn-behind (f.names a) (f.names b) now done_drafts (drafts_of (outputs_from (live_files r a) o (suc (1 + length so_far.done)) rest)) (draft_of its.name its.document) so_far.names stands)
 
-      -- it stands
+      -- It is complete.
       one-more : outputs_from (live_files r a) o 1 (so_far.done ++ here ∷ []) ≡ outputs_from (live_files r a) o 1 so_far.done ++ its ∷ []
       one-more =
           outputs-split (live_files r a) o 1 so_far.done (here ∷ [])
@@ -338,7 +338,7 @@ module _ {S : Type 0} (r : Ghosts S) (f : writing.Ghosts S) (o : OutputSpec) (a 
           drafts-more : done_drafts ++ draft_of its.name its.document ∷ [] ≡ drafts_of (outputs_from (live_files r a) o 1 so_far.done ++ its ∷ [])
           drafts-more = sym (map-append (λ (each : PlannedOutput). draft_of each.name each.document) (outputs_from (live_files r a) o 1 so_far.done) (its ∷ []))
 
-    -- and so on
+    -- The next part follows.
     pub way-next : (e : S) (o'' : OutputSpec) (p'' : PlacedBlocks) (written' : List Written) (begun : Bool) → FindsNext o' o'' p' p'' written written' begun → GoesOn r (data_of o') b e p' p'' → KeepsUnwritten r f o'.split o'.name b e
         → (IsTold (live_files r b) p'.merge → WritesOne r f b e o' p' p'' written written' begun) → OnTheWay e o'' p'' written' begun
     way-next e o'' p'' written' begun finds goes kept writes = record {
@@ -358,7 +358,7 @@ module _ {S : Type 0} (r : Ghosts S) (f : writing.Ghosts S) (o : OutputSpec) (a 
             more : (n : ℕ) → (n + 1 + 1 == 1) ≡ false
             more n = grind (arith, nat_tests)
 
--- whether a part was begun is known
+-- The result decides whether a part was begun.
 module _ {S : Type 0} {r : Ghosts S} {f : writing.Ghosts S} {o o' : OutputSpec} {a b : S} {p p' : PlacedBlocks} {written : List Written} {begun is : Bool} (same : begun ≡ is) (way : OnTheWay r f o a p b o' p' written begun) where
   pub way-at : OnTheWay r f o a p b o' p' written is
   way-at = subst (OnTheWay r f o a p b o' p' written) same way
@@ -378,7 +378,7 @@ all-summed r f o a b p p' o' written standing =
     let whole : parts (split_in p) (left (live_files r a) p.merge) ≡ standing.done = standing.whole ∙ append-nil standing.done in
     standing.written_are ∙ ap (λ (all : List Part). map written_of (outputs_from (live_files r a) o 1 all)) (sym whole)
 
--- which is what stands where something else is refused then
+-- If something fails afterwards, all outputs are complete.
 pub all-in_turn : (old new : Names) (outputs : List PlannedOutput) → WritesAll old new outputs → AreWrittenInOrder old new (drafts_of outputs)
 all-in_turn old new outputs writes =
     subst (AreWrittenInOrder old new) (append-nil (drafts_of outputs))

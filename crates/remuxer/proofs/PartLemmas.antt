@@ -12,7 +12,7 @@ use Rattle.splitter.specs.Steps.{counted}
 use Rattle.splitter.proofs.SectionLemmas.{beyond-counted, beyond-like, goes-on, within-counted}
 use Rattle.remuxer.specs.Places.{IsEnd, IsLimit, first_tick, parts_from}
 
--- the part that begins with these blocks, and goes up to the next cut
+-- the part that begins with these blocks, up to the next cut
 abbrev pub part_from : Split → ℕ → ℕ → List OutputBlock → List OutputBlock → Part
 part_from s start octets first behind = record {
   start = start;
@@ -20,27 +20,27 @@ part_from s start octets first behind = record {
   blocks = map (in_part start) (first ++ within s start octets behind);
 }
 
--- the parts behind it
+-- the parts after it
 abbrev pub parts_behind : Split → ℕ → ℕ → List OutputBlock → List Part
 parts_behind s start octets behind = parts_in s (sections_at s (beyond s start octets behind))
 
--- a load at which parts end has 64 bits
+-- A load limit has 64 bits.
 pub fits-of : (size : Option ℕ) (spec : SplitSpec) → IfSome size (IsLimit spec) → IfSome size (λ limit. limit < 2 ^ 64)
 fits-of None spec is = tt
 fits-of (Some limit) spec is = is.fits
 
--- and then parts end at no times
+-- A load limit excludes times.
 pub whole-of : (size : Option ℕ) (spec : SplitSpec) → IfSome size (IsLimit spec) → IfSome size (λ limit. spec ≡ Whole)
 whole-of None spec is = tt
 whole-of (Some limit) spec is = is.whole
 
--- so each section is written
+-- With a load limit each section is written.
 pub no-limit : (size : Option ℕ) (spec : SplitSpec) (time : ℕ) → IfSome size (IsLimit spec) → keeps spec time ≡ false → size ≡ None
 no-limit None spec time is out = refl
 no-limit (Some limit) spec time is out = absurd (let kept : keeps spec time ≡ true = ap (λ (each : SplitSpec). keeps each time) is.whole in cc)
 
 module _ (s : Split) (fits : IfSome s.size (λ limit. limit < 2 ^ 64)) (start octets : ℕ) (b : OutputBlock) (bs : List OutputBlock) where
-  -- no cut stands before a block
+  -- No cut is before the block.
   pub within-next : cuts_at s start octets b ≡ false → within s start octets (b ∷ bs) ≡ b ∷ within s start (counted s.size (octets + octets_taken b)) bs
   within-next none =
       ap (λ (q : Bool). if q then [] else b ∷ within s start (octets + octets_taken b) bs) none
@@ -51,7 +51,7 @@ module _ (s : Split) (fits : IfSome s.size (λ limit. limit < 2 ^ 64)) (start oc
       ap (λ (q : Bool). if q then b ∷ bs else beyond s start (octets + octets_taken b) bs) none ∙ sym (beyond-counted s fits start bs (octets + octets_taken b))
 
 module _ (s : Split) (start octets : ℕ) (b : OutputBlock) (bs : List OutputBlock) where
-  -- one does
+  -- A cut is before the block.
   pub within-cut : cuts_at s start octets b ≡ true → within s start octets (b ∷ bs) ≡ []
   within-cut cut = ap (λ (q : Bool). if q then [] else b ∷ within s start (octets + octets_taken b) bs) cut
 
@@ -60,19 +60,19 @@ module _ (s : Split) (start octets : ℕ) (b : OutputBlock) (bs : List OutputBlo
 
 -- ---- the parts from a block on
 
--- where the first section of blocks starts before which a cut stands
+-- The first section after a cut starts at its first block.
 start-at : (s : Split) (bs : List OutputBlock) → next_start (sections_at s bs) ≡ first_tick bs
 start-at s [] = refl
 start-at s (b ∷ bs) = ap next_start (goes-on s (begun b.tick b) bs)
 
 module _ (s : Split) (start : ℕ) (b : OutputBlock) (bs : List OutputBlock) where
-  -- they are the sections that are written, of which the first goes up to the next cut
+  -- They are the written sections, and the first one goes up to the next cut.
   first-sections : parts_from s start (b ∷ bs) ≡ parts_in s (record { start = start; blocks = b ∷ within s start (octets_taken b) bs } ∷ sections_at s (beyond s start (octets_taken b) bs))
   first-sections =
       ap (parts_in s) (goes-on s (begun start b) bs)
       ∙ ap (λ (n : ℕ). parts_in s (record { start = start; blocks = b ∷ within s start n bs } ∷ sections_at s (beyond s start n bs))) (zero-add (octets_taken b))
 
-  -- the first of them is written
+  -- The first section is written.
   parts-kept : keeps s.spec (start * s.scale) ≡ true → parts_from s start (b ∷ bs) ≡ part_from s start (octets_taken b) (b ∷ []) bs ∷ parts_behind s start (octets_taken b) bs
   parts-kept kept =
       first-sections
@@ -85,7 +85,7 @@ module _ (s : Split) (start : ℕ) (b : OutputBlock) (bs : List OutputBlock) whe
       xs : List Section
       xs = sections_at s (beyond s start (octets_taken b) bs)
 
-  -- it isn't
+  -- The first section isn't written.
   pub parts-passed : keeps s.spec (start * s.scale) ≡ false → parts_from s start (b ∷ bs) ≡ parts_behind s start (octets_taken b) bs
   parts-passed kept =
       first-sections
@@ -97,7 +97,7 @@ module _ (s : Split) (start : ℕ) (b : OutputBlock) (bs : List OutputBlock) whe
       xs : List Section
       xs = sections_at s (beyond s start (octets_taken b) bs)
 
--- the same by what is counted of its load
+-- The counted load decides the same parts.
 pub parts-first : (s : Split) → IfSome s.size (λ limit. limit < 2 ^ 64) → (start n : ℕ) (b : OutputBlock) (bs : List OutputBlock) → n ≡ counted s.size (octets_taken b) → keeps s.spec (start * s.scale) ≡ true
     → parts_from s start (b ∷ bs) ≡ part_from s start n (b ∷ []) bs ∷ parts_behind s start n bs
 parts-first s fits start n b bs is kept =
@@ -106,7 +106,7 @@ parts-first s fits start n b bs is kept =
     (sym (within-counted s fits start bs (octets_taken b))) (sym (beyond-counted s fits start bs (octets_taken b)))
     ∙ ap (λ (k : ℕ). part_from s start k (b ∷ []) bs ∷ parts_behind s start k bs) (sym is)
 
--- the parts behind a section, by the block that comes next
+-- The next block after a cut begins the next parts.
 pub behind-cut : (s : Split) (start octets : ℕ) (b : OutputBlock) (bs : List OutputBlock) → cuts_at s start octets b ≡ true → parts_behind s start octets (b ∷ bs) ≡ parts_from s b.tick (b ∷ bs)
 behind-cut s start octets b bs cut = ap (λ (behind : List OutputBlock). parts_in s (sections_at s behind)) (beyond-cut s start octets b bs cut)
 
@@ -114,7 +114,7 @@ behind-next : (s : Split) (start octets : ℕ) (b : OutputBlock) (bs : List Outp
     → parts_behind s start octets (b ∷ bs) ≡ parts_behind s start (octets + octets_taken b) bs
 behind-next s start octets b bs none = ap (λ (behind : List OutputBlock). parts_in s (sections_at s behind)) (ap (λ (q : Bool). if q then b ∷ bs else beyond s start (octets + octets_taken b) bs) none)
 
--- by times alone the load doesn't count
+-- For a split only by times, the load doesn't count.
 pub without-load : (s : Split) → s.size ≡ None → (start n m : ℕ) (bs : List OutputBlock) → beyond s start n bs ≡ beyond s start m bs
 without-load s times start n m bs = beyond-like s (none s.size times) start bs n m (same s.size times)
   where
@@ -126,7 +126,7 @@ without-load s times start n m bs = beyond-like s (none s.size times) start bs n
     same None is = refl
     same (Some limit) is = absurd (cc)
 
--- a section that isn't written goes on; such are those of stretches alone
+-- A section that isn't written goes on; only spans have such sections.
 pub passed-next : (s : Split) → s.size ≡ None → (start octets : ℕ) (b : OutputBlock) (bs : List OutputBlock) → keeps s.spec (start * s.scale) ≡ false → (q : Bool) → cuts_at s start octets b ≡ q
     → parts_behind s start octets (b ∷ bs) ≡ parts_from s (if q then b.tick else start) (b ∷ bs)
 passed-next s times start octets b bs kept true is = behind-cut s start octets b bs is
@@ -137,7 +137,7 @@ passed-next s times start octets b bs kept false is =
 
 -- ---- the end of a part
 
--- it is no earlier than its start, whatever the tick behind the cut
+-- The end isn't before the start, for each tick after the cut.
 pub is-end : (scale start tick : ℕ) → start * scale < 2 ^ 64 → tick * scale < 2 ^ 64 → IsEnd scale start (max start tick)
 is-end scale start tick starts ends = record { behind = later (nat_le start tick) refl; early = short }
   where

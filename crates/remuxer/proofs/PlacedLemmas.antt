@@ -1,4 +1,4 @@
--- The block that was given, at its place.
+-- The last block of a merge, at its place.
 use Rattle.std.proofs.Common.{◌≡◌, ℕ, ◌+◌, Bool, false, ◌&&◌, get_or, List, Option, Some, None, refl, sym, ◌∙◌, ap, ap₂}
 use Rattle.std.specs.Prelude.{if◌then◌else◌, is_some}
 use Rattle.std.specs.List.{slice_get}
@@ -16,11 +16,11 @@ use Rattle.std.specs.Option.{unwrap_or}
 use Rattle.remuxer.specs.Places.{octets_counted}
 use Rattle.remuxer.specs.declared.placed.Ahead.{Ahead}
 
--- a lane drives, counted from 0
+-- The output track `lane`, counted from 0, drives.
 abbrev pub drives_at : List Bool → ℕ → Bool
 drives_at drives lane = unwrap_or (slice_get drives lane) false
 
--- The block that a lane lends stands at its place behind those before it.
+-- The block of the output track `l` gets its place after the previous ones.
 pub record PlacesOne (drives : List Bool) (l : LaneSeen) (old new : CutsSeen) (a : Ahead) : Type 0 where
   pub place : a.place ≡ place_of old ((lent l).head.key && drives_at drives a.lane) (lent l).head.tick
   pub steps : new ≡ stepped old ((lent l).head.key && drives_at drives a.lane) (lent l).head.tick (octets_taken (lent_block (lent l)))
@@ -28,7 +28,7 @@ pub record PlacesOne (drives : List Bool) (l : LaneSeen) (old new : CutsSeen) (a
 same-some : (l m : LaneSeen) → Some l ≡ Some m → l ≡ m
 same-some l m is = cc
 
--- What isn't counted changes no load.
+-- Bytes that don't count don't change the load.
 counted-same : (size : Option ℕ) (before len : ℕ) → counted size (before + (if is_some size then len else 0)) ≡ counted size (before + len)
 counted-same None before len = refl
 counted-same (Some limit) before len = refl

@@ -1,4 +1,4 @@
--- A plan, and the merge that it comes to.
+-- A plan and its merge.
 use Rattle.std.proofs.Common.{◌≡◌, ◌≤◌, ◌<◌, ℕ, Bool, List, [], ◌∷◌, All, length, map, None, Result, Ok, refl, sym, ◌∙◌, ap, ap₂, subst, arith}
 use Rattle.std.proofs.lemmas.List.{length-map}
 use Rattle.std.proofs.lemmas.List.Elements.{All-cons, All-head, All-nil, All-tail}
@@ -41,7 +41,7 @@ use Rattle.remuxer.specs.declared.planned.StartedLanes.{StartedLanes}
 use Rattle.remuxer.proofs.StartedLemmas.{all-due, all-lengths, all-links, all-ready, all-scales, all-told, are-started, count-started}
 use Rattle.remuxer.proofs.SummaryLemmas.{plan-damages}
 
--- what holds of the lanes that a merge was started with
+-- A fact about the started output tracks holds in the merge.
 lanes-to : (P : LaneSeen → Type 0) (qs : List Queue) (ls : List LaneSeen) → map (λ (q : Queue). q.lane) qs ≡ ls → All P ls → All (λ (q : Queue). P q.lane) qs
 lanes-to P qs ls is all = step qs (subst (All P) (sym is) all)
   where
@@ -54,7 +54,7 @@ lanes-map : {A : Type 0} (v : LaneSeen → A) (qs : List Queue) → map (λ (q :
 lanes-map v [] = refl
 lanes-map v (q ∷ qs) = ap (λ rest. v q.lane ∷ rest) (lanes-map v qs)
 
--- The merge of a plan was started, with its cuts, and nothing was read.
+-- The merge of the plan was started, with its cuts, and nothing was read.
 pub record IsMerged {S : Type 0} (r : Ghosts S) (a b : S) (p : MergePlan) (s : StartedLanes) (m : MergeSeen) (cuts : CutsSeen) (split : Bool) : Type 0 where
   pub started : AreStarted p.limits.scale p.lanes s
   pub starts : Starts (live_files r a) s.lanes m
@@ -68,7 +68,7 @@ pub merged : {S : Type 0} (r : Ghosts S) {a b : S} (p : MergePlan) {s : StartedL
 merged r p started starts begins idle cut same = record { started = started; starts = starts; begins = begins; idle = idle; cut = cut; same = same }
 
 module _ {S : Type 0} {r : Ghosts S} {f : writing.Ghosts S} {a : S} {p : MergePlan} (plan : IsPlan r f a p) where
-  -- all its lanes can be started
+  -- All output tracks of the plan can be started.
   pub plan-starts : All CanStart p.lanes
   plan-starts = λ k d inside. record { few = (plan.lanes k d inside).few; small = (plan.lanes k d inside).small }
 
@@ -93,7 +93,7 @@ module _ {S : Type 0} {r : Ghosts S} {f : writing.Ghosts S} {a : S} {p : MergePl
         lanes-to (λ (l : LaneSeen). All (IsUnwrittenLink (f.holder a) (is_split p) p.output) l.links) m.queues s.lanes it.begins.lanes
         (all-links (IsUnwrittenLink (f.holder a) (is_split p) p.output) p.limits.scale p.lanes s.lanes it.started.lanes (λ k d inside. (plan.lanes k d inside).apart))
 
-    -- its blocks, none of which was placed
+    -- Blocks can be taken, and none was placed.
     pub plan-gives : CanGive (live_files r a) (record { merge = m; cuts = new_cuts p.split p.size p.limits.scale; drives = s.drives; ahead = None; start = 0 })
     plan-gives = record {
       ready = plan-ready;
@@ -123,14 +123,14 @@ module _ {S : Type 0} {r : Ghosts S} {f : writing.Ghosts S} {a : S} {p : MergePl
     plan-split : split_in (record { merge = m; cuts = new_cuts p.split p.size p.limits.scale; drives = s.drives; ahead = None; start = 0 }) ≡ split_of p
     plan-split = ap (λ (drivers : List Bool). let x : Split = record { spec = p.split; size = p.size; scale = p.limits.scale; drives = drives_by drivers } in x) it.started.drives
 
-    -- its blocks and what its outputs have in common, as they were made of it
+    -- the blocks of the plan, and the common part of its outputs
     abbrev pub started_blocks : PlacedBlocks
     started_blocks = record { merge = m; cuts = cuts; drives = s.drives; ahead = None; start = 0 }
 
     abbrev pub started_spec : OutputSpec
     started_spec = record { name = p.output; split = split; limits = p.limits; rules = s.rules; front = p.front; chapters = p.chapters; tags = p.tags; uuids = p.uuids; link = p.link }
 
-    -- the outputs can be written
+    -- The outputs can be written.
     pub plan-can : CanWriteAll r f b started_spec started_blocks
     plan-can = subst (λ (x : S). CanWriteAll r f x started_spec started_blocks) (sym it.idle) (record {
       gives = subst (λ (c : CutsSeen). CanGive (live_files r a) (record { merge = m; cuts = c; drives = s.drives; ahead = None; start = 0 })) (sym it.cut) plan-gives;
@@ -140,7 +140,7 @@ module _ {S : Type 0} {r : Ghosts S} {f : writing.Ghosts S} {a : S} {p : MergePl
       records = subst (λ (q : Bool). HasRecords r f a (name_of q p.output 1) p.front p.chapters p.tags) (sym it.same) plan.records;
     })
 
-    -- they are those of the plan
+    -- They are the outputs of the plan.
     plan-outputs : outputs_left (live_files r a) started_spec started_blocks ≡ outputs_in (live_files r a) p
     plan-outputs =
         ap (λ (c : CutsSeen). outputs_left (live_files r a) started_spec (record { merge = m; cuts = c; drives = s.drives; ahead = None; start = 0 })) it.cut
@@ -148,31 +148,31 @@ module _ {S : Type 0} {r : Ghosts S} {f : writing.Ghosts S} {a : S} {p : MergePl
         (record { merge = m; cuts = new_cuts p.split p.size p.limits.scale; drives = s.drives; ahead = None; start = 0 })) it.same it.started.rules
         ∙ ap₂ (λ (each : Split) (blocks : List OutputBlock). outputs_from (live_files r a) (spec_of p) 1 (parts each blocks)) plan-split plan-left
 
-    -- they are written
+    -- They are written.
     pub plan-writes : {T : Type 0} (now : S) (result : Result T RemuxEnd) → WritesParts r f b now started_spec started_blocks result → WritesPlan r f a now p result
     plan-writes now result writes told =
         let here = subst (λ (x : S). WritesParts r f x now started_spec started_blocks result) it.idle writes in
         subst (λ (outputs : List PlannedOutput). WritesOutputs (f.names a) (f.names now) outputs result) plan-outputs (here (plan-told told))
 
-    -- and so it is said
+    -- Their summaries are right.
     pub plan-says : (written : List Written) → SaysWritten r b started_spec started_blocks (Ok written) → IsToldPlan (live_files r a) p → written ≡ map written_of (outputs_in (live_files r a) p)
     plan-says written says told =
         subst (λ (x : S). SaysWritten r x started_spec started_blocks (Ok written)) it.idle says (plan-told told) ∙ ap (map written_of) plan-outputs
 
-    -- so many octets are read
+    -- The bytes that are read stay within the bound.
     pub plan-reads : (now : S) → ReadsParts r b now started_spec started_blocks → ReadsFew r a now p
     plan-reads now reads =
         let here = subst (λ (x : S). ReadsParts r x now started_spec started_blocks) it.idle reads in
         omega (arith, here, plan-due, plan-length)
 
-    -- and files of other names stay
+    -- Files of other names are unchanged.
     pub plan-keeps : (now : S) → KeepsUnwritten r f split p.output b now → KeepsUnwritten r f (is_split p) p.output a now
     plan-keeps now kept = subst (λ (x : S). KeepsUnwritten r f (is_split p) p.output x now) it.idle (subst (λ (q : Bool). KeepsUnwritten r f q p.output b now) it.same kept)
 
     pub plan-ends : (m' : MergeSeen) → Ends (live_files r b) m m' → Ends (live_files r a) m m'
     plan-ends m' ends = subst (λ (x : S). Ends (live_files r x) m m') it.idle ends
 
-    -- and so is the summary
+    -- The summary is the plan's.
     pub plan-summary : (m' : MergeSeen) (sum : Summary) → told_by m' ≡ damages (live_files r a) m → sum.outputs ≡ map written_of (outputs_in (live_files r a) p)
         → HasDamages s.inputs (told_by m') (range_with_len 0 MAX_INPUTS) sum → IsSummary (live_files r a) p sum
     plan-summary m' sum given outputs has = record {

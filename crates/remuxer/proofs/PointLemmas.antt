@@ -1,4 +1,4 @@
--- The cue points of an output, one block more at a time.
+-- The cue points of an output, one block at a time.
 use Rattle.std.proofs.Common.{◌≡◌, ◌≤◌, ◌<◌, ℕ, ◌+◌, List, [], ◌∷◌, ◌++◌, length, take, sym, ap, ◌∙◌, append_assoc, append-nil, arith, Option, Some, None, Bool, inl, inr, ◌⊎◌}
 use Rattle.std.proofs.lemmas.List.{length-append, length_push, take_all, take-append-le, length-take-le}
 use Rattle.std.proofs.lemmas.Bool.{cases_lt}
@@ -14,7 +14,7 @@ use Rattle.cluster_writer.specs.Gathered.{gathered_with, place_in, with_next}
 use Rattle.remuxer.specs.Stands.{clusters_held}
 
 module _ (cued : OutputBlock → Bool) where
-  -- a block more behind these
+  -- One more block adds its point, if any.
   points_in-push : (c t r : ℕ) (bs : List OutputBlock) (b : OutputBlock)
       → points_in cued c t r (bs ++ b ∷ []) ≡ points_in cued c t r bs ++ points_where (cued b) (point_of c (r + length (joined (block_elements t bs))) b)
   points_in-push c t r [] b = append-nil (points_where (cued b) (point_of c r b)) ∙ ap (λ n. points_where (cued b) (point_of c n b)) (let same : r ≡ r + 0 = omega arith in same)
@@ -26,7 +26,7 @@ module _ (cued : OutputBlock → Bool) where
       ∙ sym (append_assoc (points_where (cued x) (point_of c r x)) (points_in cued c t (r + one) bs) (points_where (cued b) (point_of c (r + one + length (joined (block_elements t bs))) b)))
       ∙ ap (λ n. points_in cued c t r (x ∷ bs) ++ points_where (cued b) (point_of c n b)) place
 
-  -- a Cluster that is begun, or has a block more
+  -- The block begins a Cluster or joins it.
   cluster_points-push : (limits : ClusterLimits) (spare c : ℕ) (cl : Option OutputCluster) (b : OutputBlock)
       → cluster_points cued c (with_next cl b) ≡ points_from cued c (clusters_held cl) ++ points_where (cued b) (point_of c (place_in (gathered_with limits spare cl) b.tick) b)
   cluster_points-push limits spare c None b =
@@ -45,7 +45,7 @@ module _ (cued : OutputBlock → Bool) where
       ap (λ ps. cluster_points cued c x ++ ps) (points_from-append (c + one) xs ys ∙ ap (λ n. points_from cued (c + one) xs ++ points_from cued n ys) place)
       ∙ sym (append_assoc (cluster_points cued c x) (points_from cued (c + one) xs) (points_from cued (c + length (joined (clusters_elements (x ∷ xs)))) ys))
 
-  -- a block more in the Cluster behind these
+  -- The block joins the last Cluster.
   pub points_from-push : (limits : ClusterLimits) (spare c : ℕ) (xs : List OutputCluster) (cl : Option OutputCluster) (b : OutputBlock)
       → points_from cued c (xs ++ with_next cl b ∷ []) ≡ points_from cued c (xs ++ clusters_held cl) ++ points_where (cued b) (point_of (c + length (joined (clusters_elements xs))) (place_in (gathered_with limits spare cl) b.tick) b)
   points_from-push limits spare c xs cl b =
@@ -56,7 +56,7 @@ module _ (cued : OutputBlock → Bool) where
       ∙ sym (append_assoc (points_from cued c xs) (points_from cued at (clusters_held cl)) point)
       ∙ ap (λ ps. ps ++ point) (sym (points_from-append c xs (clusters_held cl)))
 
--- a point more, up to the limit
+-- One more point is kept up to the limit.
 pub kept-more : (most : ℕ) (ps old new : List CuePoint) (p : CuePoint) → old ≡ take most ps → (length old < most → new ≡ old ++ p ∷ []) → (most ≤ length old → new ≡ old) → new ≡ take most (ps ++ p ∷ [])
 kept-more most ps old new p is added full = either (cases_lt (length ps) most)
   where

@@ -1,4 +1,4 @@
--- No output is longer than a file may be.
+-- No output exceeds the maximum length of a file.
 use Rattle.std.proofs.Common.{◌≡◌, ◌≤◌, ℕ, true, List, length, Option, Some, sym, ◌∙◌, ap, arith}
 use Rattle.mkv_io.specs.declared.outside.FileId.{FileId}
 use Rattle.mkv_io.specs.declared.outside.TheConstants.{LONGEST_FILE}
@@ -10,13 +10,13 @@ use Rattle.mkv_io.specs.Told.{IfVisible}
 use Rattle.mkv_io.proofs.NamesLemmas.{changed_at-same}
 use Rattle.cues_seekhead.specs.Made.{WritesAndEnds}
 
--- What holds of all files: no live one is longer, a content that is told has the file's length, and it is that of the file's name.
+-- Facts about all files: the length of a live file is limited, a visible content has this length, and is the content of the file's name.
 pub record HoldsOfFiles {S : Type 0} (r : Ghosts S) (f : writing.Ghosts S) : Type 0 where
   pub short : (x : S) (file : ℕ) → (live_files r x).live file ≡ true → (live_files r x).size file ≤ LONGEST_FILE
   pub told_size : (x : S) (file : ℕ) → IfVisible ((live_files r x).content file) (λ bytes. length bytes ≡ (live_files r x).size file)
   pub named : (x : S) (file : ℕ) → (live_files r x).live file ≡ true → IfVisible (f.names x) (λ world. (live_files r x).content file ≡ world (f.holder x file))
 
--- the content of a live file whose name has it is short
+-- The content of a live file is limited.
 content-short : {S : Type 0} (r : Ghosts S) (f : writing.Ghosts S) (x : S) (file : ℕ) (name octets : List ℕ) (world : List ℕ → Option (List ℕ)) → HoldsOfFiles r f → (live_files r x).live file ≡ true → f.holder x file ≡ name → f.names x ≡ Some world → world name ≡ Some octets → length octets ≤ LONGEST_FILE
 content-short r f x file name octets world holds live holder told is =
     let content : (live_files r x).content file ≡ Some octets = holds.named x file live world told ∙ ap world holder ∙ is in
@@ -24,8 +24,7 @@ content-short r f x file name octets world holds live holder told is =
     let most = holds.short x file live in
     omega (arith, size, most)
 
--- Octets that stand under the name of a file which was written and ended are short, where the names were told before: until it ended
--- it was live, and had them.
+-- The content of a file that was written and closed is limited, if names were visible before: the file was live until it was closed.
 pub ended-short : {S : Type 0} (r : Ghosts S) (f : writing.Ghosts S) (before : Names) (name octets : List ℕ) (file : FileId) (old new : S) → HoldsOfFiles r f → IsLive r old file → f.holder old file.n ≡ name → f.names new ≡ with_content before name octets → WritesAndEnds r f file old new
     → IfVisible before (λ world. length octets ≤ LONGEST_FILE)
 ended-short r f before name octets file old new holds live holder names ends = λ world told.

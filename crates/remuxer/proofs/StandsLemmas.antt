@@ -1,4 +1,4 @@
--- An output on the way, one block more at a time.
+-- An output while it is written, one block at a time.
 use Rattle.std.proofs.Common.{◌≡◌, ◌≤◌, ◌<◌, ℕ, ◌+◌, List, [], ◌∷◌, ◌++◌, length, take, refl, sym, ap, subst, ◌∙◌, append_assoc, append-nil, arith, nat_eq, Option, Some, None, true, false, if◌then◌else◌, ◌⊎◌, inl, inr}
 use Rattle.std.proofs.lemmas.List.{length-append, map-append}
 use Rattle.std.proofs.lemmas.List.Concat.{flat_map-append}
@@ -36,7 +36,7 @@ pub empty-octets : (bytes : List ℕ) → nat_eq (length bytes) 0 ≡ true → b
 empty-octets [] none = refl
 empty-octets (x ∷ bytes) none = absurd (grind (arith, nat_tests, none))
 
--- ---- where Clusters end
+-- ---- the ends of Clusters
 
 cut-joins : (limits : ClusterLimits) (cl : Option OutputCluster) (left : List OutputBlock) (b : OutputBlock) → joins_next limits cl b ≡ true → cut_on limits (Some (with_next cl b)) left ≡ cut_on limits cl (b ∷ left)
 cut-joins limits None left b fits = refl
@@ -45,14 +45,14 @@ cut-joins limits (Some c) left b fits = sym (ap (λ t. if t then cut_from limits
 cut-breaks : (limits : ClusterLimits) (c : OutputCluster) (left : List OutputBlock) (b : OutputBlock) → joins limits c b ≡ false → cut_on limits (Some c) (b ∷ left) ≡ c ∷ cut_on limits None (b ∷ left)
 cut-breaks limits c left b never = ap (λ t. if t then cut_from limits (with_block c b) left else c ∷ cut_from limits (begun b) left) never
 
--- ---- what is counted
+-- ---- counts
 
--- nothing is held where the buffer has no block
+-- Without a block the buffer has no Cluster.
 none-held : (g : Gathered) (cl : Option OutputCluster) → Holds cl g → is_empty g ≡ is_none cl
 none-held g None holds = ap (λ (x : Gathered). is_empty x) holds
 none-held g (Some c) holds = ap (λ (x : Gathered). is_empty x) holds
 
--- a block begins a Cluster where none is held
+-- A block begins a Cluster if the buffer has none.
 count-begun : (n : ℕ) (g : Gathered) (done : List OutputCluster) (cl : Option OutputCluster) (b : OutputBlock) (begins : Bool) → Holds cl g → begins ≡ is_empty g
     → n ≡ counted 0 (length (done ++ clusters_held cl)) → (if begins then counted n 1 else n) ≡ counted 0 (length (done ++ clusters_held (Some (with_next cl b))))
 count-begun n g done cl b begins holds empties count = ap (λ (t : Bool). if t then counted n 1 else n) (empties ∙ none-held g cl holds) ∙ by-cluster cl count
@@ -61,7 +61,7 @@ count-begun n g done cl b begins holds empties count = ap (λ (t : Bool). if t t
     by-cluster None count = let one = length-append done [] in let other = length-append done (begun b ∷ []) in grind (arith, one, other, count)
     by-cluster (Some c) count = count ∙ ap (counted 0) (length-append done (c ∷ []) ∙ sym (length-append done (with_block c b ∷ [])))
 
--- and a cue point is one more, as far as there may be one
+-- A cue point counts up to the limit.
 count-point : (old new : List CuePoint) (p : CuePoint) → (length old < MAX_CUES → new ≡ old ++ p ∷ []) → (MAX_CUES ≤ length old → new ≡ old) → with_point (length old) ≡ length new
 count-point old new p added full = either (cases_lt (length old) MAX_CUES)
   where
@@ -69,7 +69,7 @@ count-point old new p added full = either (cases_lt (length old) MAX_CUES)
     either (inl less) = let all = ap length (added less) ∙ length-append old (p ∷ []) in grind (arith, nat_tests, less, all)
     either (inr more) = let same = ap length (full more) in grind (arith, nat_tests, more, same)
 
--- ---- octets of Clusters
+-- ---- bytes of Clusters
 
 clusters-append : (xs ys : List OutputCluster) → joined (clusters_elements (xs ++ ys)) ≡ joined (clusters_elements xs) ++ joined (clusters_elements ys)
 clusters-append xs ys = ap joined (map-append cluster_element xs ys) ∙ flat_map-append octets_of (clusters_elements xs) (clusters_elements ys)
@@ -77,7 +77,7 @@ clusters-append xs ys = ap joined (map-append cluster_element xs ys) ∙ flat_ma
 clusters-push : (xs : List OutputCluster) (c : OutputCluster) → joined (clusters_elements xs) ++ octets_of (cluster_element c) ≡ joined (clusters_elements (xs ++ c ∷ []))
 clusters-push xs c = sym (clusters-append xs (c ∷ []) ∙ ap (λ w. joined (clusters_elements xs) ++ w) (append-nil (octets_of (cluster_element c))))
 
--- an output with some of its Clusters is a first part of the open one
+-- An output with some of its Clusters is a prefix of the open one.
 open-part : (d : Document) (done rest : List OutputCluster) → done ++ rest ≡ d.clusters → opened_with d.front (joined (clusters_elements done)) ++ (joined (clusters_elements rest) ++ joined (back_elements d)) ≡ opened d
 open-part d done rest cut =
     let first = joined (clusters_elements done) in
@@ -86,7 +86,7 @@ open-part d done rest cut =
     ∙ ap (λ w. w ++ joined (back_elements d)) (sym (clusters-append done rest) ∙ ap (λ cs. joined (clusters_elements cs)) cut))
 
 module _ {S : Type 0} (r : Ghosts S) (f : writing.Ghosts S) (before : Names) (name : List ℕ) (rules : List CueRule) (d : Document) where
-  -- some first octets were added behind some Clusters
+  -- A prefix of a Cluster was appended.
   drafted : (old now : Names) (done rest : List OutputCluster) (bytes more : List ℕ) → done ++ rest ≡ d.clusters → bytes ++ more ≡ joined (clusters_elements rest) ++ joined (back_elements d)
       → old ≡ with_content before name (opened_with d.front (joined (clusters_elements done))) → PassesSome old now name bytes → StandsDrafted before now (draft_of name d)
   drafted old now done rest bytes more cut whole had some =
@@ -94,13 +94,13 @@ module _ {S : Type 0} (r : Ghosts S) (f : writing.Ghosts S) (before : Names) (na
       subst P (ap (λ w. opened_with d.front (joined (clusters_elements done)) ++ w) whole ∙ open-part d done rest cut)
       (StandsDrafted-begun before old now name (opened_with d.front (joined (clusters_elements done))) (bytes ++ more) (draft_of name d).patches had (PassesSome-more old now name bytes more some))
 
-  -- what stands is a draft
+  -- The content is one of the draft.
   pub stands-drafted : (files : S) (o : OpenOutput) (g : Gathered) (n : Counts) (left : List OutputBlock) → Stands r f before name rules d files o g n left → StandsDrafted before (f.names files) (draft_of name d)
   stands-drafted files o g n left stands =
       let rest = cut_on g.limits stands.cluster left in
       drafted (f.names files) (f.names files) stands.done rest [] (joined (clusters_elements rest) ++ joined (back_elements d)) stands.cut refl stands.stands.names (PassesSome-none (f.names files) (f.names files) name [] refl)
 
-  -- room was made in the buffer
+  -- Room was made in the buffer.
   pub stands-room : (files : S) (o : OpenOutput) (old new : Gathered) (n : Counts) (left : List OutputBlock) → ((c : Option OutputCluster) → Holds c old → Holds c new) → new.limits ≡ old.limits
       → Stands r f before name rules d files o old n left → Stands r f before name rules d files o new n left
   stands-room files o old new n left same limits stands = record {
@@ -139,7 +139,7 @@ module _ {S : Type 0} (r : Ghosts S) (f : writing.Ghosts S) (before : Names) (na
               stands = subst (λ (w : List ℕ). StandsOpen r f before name d.front w new (grown o (length bytes))) octets grows;
             }
 
-    -- or a first part of it
+    -- A prefix of it is written.
     pub broken-drafted : Stands r f before name rules d old o g n (b ∷ left) → ((c : Option OutputCluster) → Holds c g → joins_next g.limits c b ≡ false) → ((c : OutputCluster) → Holds (Some c) g → bytes ≡ octets_of (cluster_element c))
         → PassesSome (f.names old) (f.names new) (f.holder old o.file.n) bytes → StandsDrafted before (f.names new) (draft_of name d)
     broken-drafted stands never is some = by-cluster stands.cluster stands.cut stands.holds
@@ -154,7 +154,7 @@ module _ {S : Type 0} (r : Ghosts S) (f : writing.Ghosts S) (before : Names) (na
             (ap (λ w. w ++ behind) (is c holds) ∙ sym (append_assoc (octets_of (cluster_element c)) (joined (clusters_elements rest)) (joined (back_elements d))))
             stands.stands.names (subst (λ (h : List ℕ). PassesSome (f.names old) (f.names new) h bytes) stands.stands.holder some)
 
-  -- ---- a block is held
+  -- ---- a block is put into the buffer
 
   module _ (files : S) (o : OpenOutput) (old new : Gathered) (b : OutputBlock) (n : Counts) (left : List OutputBlock) where
     cut-held : (stands : Stands r f before name rules d files o old n (b ∷ left)) → joins_next old.limits stands.cluster b ≡ true → new.limits ≡ old.limits → stands.done ++ cut_on new.limits (Some (with_next stands.cluster b)) left ≡ d.clusters
@@ -178,7 +178,7 @@ module _ {S : Type 0} (r : Ghosts S) (f : writing.Ghosts S) (before : Names) (na
           stands = stands.stands;
         }
 
-    -- with its point
+    -- It gets a cue point.
     pub stands-cued : (begins : Bool) (o' : OpenOutput) (relative : ℕ) (stands : Stands r f before name rules d files o old n (b ∷ left)) → begins ≡ is_empty old → joins_next old.limits stands.cluster b ≡ true → ((c : Option OutputCluster) → Holds c old → Holds (Some (with_next c b)) new) → new.limits ≡ old.limits → is_cue rules b ≡ true
         → relative ≡ place_in old b.tick → (length o.cues < MAX_CUES → o' ≡ with_cue o (record { tick = b.tick; lane = b.lane; cluster = o.len; relative = relative })) → (MAX_CUES ≤ length o.cues → o' ≡ o)
         → Stands r f before name rules d files o' new (counted_with begins true n) left
@@ -239,7 +239,7 @@ module _ {S : Type 0} (r : Ghosts S) (f : writing.Ghosts S) (before : Names) (na
     counts : d.cues ≡ cues_for (is_cue rules) d.front d.clusters → AreCounts d.clusters (length d.cues) n
     counts points = record { clusters = stands.counts.clusters ∙ ap (λ (cs : List OutputCluster). counted 0 (length cs)) all; cues = stands.counts.cues ∙ sym (ap length (cues points)) }
 
-    -- it is written
+    -- It is written.
     pub all-written : (new : S) → d.cues ≡ cues_for (is_cue rules) d.front d.clusters → f.names new ≡ with_change (f.names old) (f.holder old o.file.n) (with_appended bytes) → f.holder new o.file.n ≡ f.holder old o.file.n → IsOpen r new (grown o (length bytes))
         → HasAll r f before name d new (grown o (length bytes)) n
     all-written new points added holder is_open = record {
@@ -249,7 +249,7 @@ module _ {S : Type 0} (r : Ghosts S) (f : writing.Ghosts S) (before : Names) (na
           (StandsOpen-grown r f before name d.front (joined (clusters_elements stands.done)) bytes old new o stands.stands added holder is_open);
     }
 
-    -- there is none
+    -- There is none.
     pub all-stand : d.cues ≡ cues_for (is_cue rules) d.front d.clusters → bytes ≡ [] → HasAll r f before name d old o n
     all-stand points none = record {
       cues = cues points;
@@ -257,7 +257,7 @@ module _ {S : Type 0} (r : Ghosts S) (f : writing.Ghosts S) (before : Names) (na
       stands = subst (λ (w : List ℕ). StandsOpen r f before name d.front w old o) (sym (append-nil (joined (clusters_elements stands.done))) ∙ ap (λ w. joined (clusters_elements stands.done) ++ w) (sym none) ∙ octets) stands.stands;
     }
 
-    -- or a first part of it is
+    -- A prefix of it is written.
     pub rest-drafted : (new : S) → PassesSome (f.names old) (f.names new) (f.holder old o.file.n) bytes → StandsDrafted before (f.names new) (draft_of name d)
     rest-drafted new some =
         drafted (f.names old) (f.names new) stands.done (clusters_held stands.cluster) bytes (joined (back_elements d)) all (ap (λ w. w ++ joined (back_elements d)) (is ∙ clusters_held-octets stands.cluster g stands.holds))

@@ -1,4 +1,4 @@
--- The lanes of a plan, started.
+-- The started output tracks of a plan.
 use Rattle.std.proofs.Common.{◌≡◌, ℕ, suc, ◌+◌, List, [], ◌∷◌, ◌++◌, All, length, map, refl, sym, ◌∙◌, ap, ap₂, subst, append_assoc, append-nil, arith}
 use Rattle.std.specs.List.{AllZip, sum_by}
 use Rattle.std.proofs.lemmas.List.Elements.{All-cons, All-head, All-nil, All-tail}
@@ -17,7 +17,7 @@ use Rattle.remux_plan.specs.declared.plan.PlannedLane.{PlannedLane}
 use Rattle.remuxer.specs.Started.{AddsLane, IsStarted}
 use Rattle.remuxer.specs.declared.planned.StartedLanes.{StartedLanes}
 
--- ---- one lane more
+-- ---- one more output track
 
 pub started-next : (scale : ℕ) (p : PlannedLane) (rest all : List PlannedLane) (old new : StartedLanes) → AddsLane scale p old new → ((ls : List LaneSeen) → AllZip (IsStarted scale) (p ∷ rest) ls → AllZip (IsStarted scale) all (old.lanes ++ ls))
     → (ls : List LaneSeen) → AllZip (IsStarted scale) rest ls → AllZip (IsStarted scale) all (new.lanes ++ ls)
@@ -28,7 +28,7 @@ started-next scale p rest all old new adds before ls are =
 pub listed-next : {A B : Type 0} (f : A → B) (x : A) (rest : List A) (old new all : List B) → new ≡ old ++ f x ∷ [] → old ++ map f (x ∷ rest) ≡ all → new ++ map f rest ≡ all
 listed-next f x rest old new all is before = ap (λ ys. ys ++ map f rest) is ∙ append_assoc old (f x ∷ []) (map f rest) ∙ before
 
--- none is left
+-- All are started.
 pub started-all : (scale : ℕ) (rest all : List PlannedLane) (ls : List LaneSeen) → rest ≡ [] → ((more : List LaneSeen) → AllZip (IsStarted scale) rest more → AllZip (IsStarted scale) all (ls ++ more)) → AllZip (IsStarted scale) all ls
 started-all scale rest all ls none before =
     let P : List PlannedLane → Type 0 = λ each. AllZip (IsStarted scale) each [] in
@@ -38,7 +38,7 @@ started-all scale rest all ls none before =
 pub listed-all : {A B : Type 0} (f : A → B) (rest : List A) (ys all : List B) → rest ≡ [] → ys ++ map f rest ≡ all → ys ≡ all
 listed-all f rest ys all none before = sym (append-nil ys) ∙ ap (λ each. ys ++ map f each) (sym none) ∙ before
 
--- ---- what they have left
+-- ---- blocks that are left
 
 pub count-started : (scale : ℕ) (planned : List PlannedLane) (ls : List LaneSeen) → AllZip (IsStarted scale) planned ls → length ls ≡ length planned
 count-started scale [] [] are = refl
@@ -61,7 +61,7 @@ module _ (f : LiveFiles) (scale : ℕ) where
       All-cons (lanes.IsReady f) l ls ((are.0.starts f).ready (All-head (λ (each : PlannedLane). All (IsOpenLink f) each.spec.links) p ps open_links))
       (all-ready ps ls are.1 (All-tail (λ (each : PlannedLane). All (IsOpenLink f) each.spec.links) p ps open_links))
 
-  -- what may be read
+  -- The bytes that may be read are the files' lengths.
   pub all-due : (planned : List PlannedLane) (ls : List LaneSeen) → AllZip (IsStarted scale) planned ls → sum_by (lanes.due f) ls ≡ sum_by (λ (p : PlannedLane). files_length f p.spec.links) planned
   all-due [] [] are = refl
   all-due [] (l ∷ ls) are = absurd are
@@ -79,14 +79,14 @@ module _ (f : LiveFiles) (scale : ℕ) where
       sum_by-cons (lanes.files_length f) l ls ∙ ap₂ (λ (m n : ℕ). m + n) (ap (files_length f) are.0.begins.links) (all-lengths ps ls are.1)
       ∙ sym (sum_by-cons (λ (each : PlannedLane). files_length f each.spec.links) p ps)
 
-  -- the damages that will have been told
+  -- The damaged places at the end are the links'.
   pub all-told : (planned : List PlannedLane) (ls : List LaneSeen) → AllZip (IsStarted scale) planned ls → map (lanes.told_in_all f) ls ≡ map (λ (p : PlannedLane). map told_damages (lane_damages (map (given_in f) p.spec.links))) planned
   all-told [] [] are = refl
   all-told [] (l ∷ ls) are = absurd are
   all-told (p ∷ ps) [] are = absurd are
   all-told (p ∷ ps) (l ∷ ls) are = ap₂ (λ (t : List ToldDamages) ts. t ∷ ts) (are.0.starts f).told (all-told ps ls are.1)
 
--- what holds of the links of the plan holds of those of its lanes
+-- A fact about the plan's links holds for the output tracks' links.
 pub all-links : (P : Link → Type 0) (scale : ℕ) (planned : List PlannedLane) (ls : List LaneSeen) → AllZip (IsStarted scale) planned ls → All (λ (p : PlannedLane). All P p.spec.links) planned → All (λ (l : LaneSeen). All P l.links) ls
 all-links P scale [] [] are each = All-nil (λ (l : LaneSeen). All P l.links)
 all-links P scale [] (l ∷ ls) are each = absurd are
@@ -95,7 +95,7 @@ all-links P scale (p ∷ ps) (l ∷ ls) are each =
     All-cons (λ (one : LaneSeen). All P one.links) l ls (subst (All P) (sym are.0.begins.links) (All-head (λ (one : PlannedLane). All P one.spec.links) p ps each))
     (all-links P scale ps ls are.1 (All-tail (λ (one : PlannedLane). All P one.spec.links) p ps each))
 
--- a tick has as many nanoseconds in each lane
+-- Each output track has the same scale.
 pub all-scales : (scale : ℕ) (planned : List PlannedLane) (ls : List LaneSeen) → AllZip (IsStarted scale) planned ls → All (λ (l : LaneSeen). l.scale ≡ scale) ls
 all-scales scale [] [] are = All-nil (λ (l : LaneSeen). l.scale ≡ scale)
 all-scales scale [] (l ∷ ls) are = absurd are

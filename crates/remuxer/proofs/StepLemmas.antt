@@ -1,4 +1,4 @@
--- A step of a merge, where its block stands, and what it leaves.
+-- A step of a merge, the place of its block, and the blocks that are left.
 use Rattle.std.proofs.Common.{◌≡◌, ◌≤◌, ◌<◌, ℕ, ◌+◌, ◌-◌, ◌*◌, ◌/◌, ◌^◌, max, Bool, true, false, ◌&&◌, ◌||◌, List, [], ◌∷◌, ◌++◌, All, length, map, Option, Some, None, refl, sym, ◌∙◌, ap, ap₂, subst, zero-add, arith}
 use Rattle.std.specs.Prelude.{if◌then◌else◌, is_none, is_some}
 use Rattle.std.specs.List.{slice_get}
@@ -36,9 +36,9 @@ use Rattle.remuxer.specs.Places.{CanGive, IsAhead, IsFresh, IsLimit, LendsAt, St
 use Rattle.remuxer.specs.declared.placed.PlacedBlocks.{PlacedBlocks}
 use Rattle.remuxer.proofs.PartLemmas.{behind-cut, beyond-cut, beyond-next, fits-of, no-limit, passed-next, within-cut, within-next}
 
--- ---- a lane's block
+-- ---- the block of an output track
 
--- what is lent says of itself what was placed
+-- Its head is the placed one.
 head-by_track : (p : Placed) (t : TrackLink) (c : Option Reading) → (lent_by_track p t c).head ≡ p.head
 head-by_track p t None = refl
 head-by_track p t (Some c) = refl
@@ -48,12 +48,12 @@ lent-head w None = refl
 lent-head w (Some (Track t)) = head-by_track w.placed t w.cursor
 lent-head w (Some (Entries e)) = refl
 
--- the number of the lane takes one octet
+-- The number of the output track takes one byte.
 taken-in_lane : (n : ℕ) (x : OutputBlock) → octets_taken (in_lane n x) ≡ octets_taken x
 taken-in_lane n x =
     length-block_element x.tick (in_lane n x) (length (frame_octets x.lace x.frames)) refl ∙ sym (length-block_element x.tick x (length (frame_octets x.lace x.frames)) refl)
 
--- a fact of all lanes holds of one
+-- A fact about all output tracks holds for one.
 of-one : (P : Queue → Type 0) (qs : List Queue) (k : ℕ) (q : Queue) → All P qs → slice_get qs k ≡ Some q → P q
 of-one P qs k q all here = subst P (get_or_from_slice_get qs k q q here) (all k q (slice_get_within qs k q here))
 
@@ -70,9 +70,9 @@ scales-kept n old new keeps all =
 early-time : (tick scale : ℕ) → scale ≤ MAX_SCALE → tick * scale ≤ most_time + scale / 2 → tick * scale < 2 ^ 64
 early-time tick scale most le = let half : scale / 2 ≤ scale = grind arith in omega (arith, half, le, most)
 
--- ---- where a block stands
+-- ---- the place of a block
 
--- a block that begins a section stands in no part that was begun
+-- A block that begins a section isn't in the current part.
 begins-none : (kept : Bool) (start : ℕ) (a : Ahead) → a.place ≡ place_at kept true start → is_within (Some a) ≡ false
 begins-none kept start a place = ap (λ (q : Bool). is_some (if q then Some a.lane else None)) (ap is_same place ∙ either kept)
   where
@@ -80,15 +80,15 @@ begins-none kept start a place = ap (λ (q : Bool). is_some (if q then Some a.la
     either true = refl
     either false = refl
 
--- nor does one of a section that isn't written
+-- A block in a section that isn't written isn't in the current part.
 out-none : (begins : Bool) (start : ℕ) (a : Ahead) → a.place ≡ place_at false begins start → is_within (Some a) ≡ false
 out-none begins start a place = ap (λ (p : Place). is_some (if is_same p then Some a.lane else None)) place
 
--- any other one does
+-- Other blocks are in the current part.
 same-within : (start : ℕ) (a : Ahead) → a.place ≡ place_at true false start → is_within (Some a) ≡ true
 same-within start a place = ap (λ (p : Place). is_some (if is_same p then Some a.lane else None)) place
 
--- so its section is written
+-- Its section is written then.
 pub within-kept : (m : MergeSeen) (c : CutsSeen) (a : Ahead) → IsAhead m c a → is_within (Some a) ≡ true → is_kept c ≡ true
 within-kept m c a ahead is = either (is_kept c) ahead.place
   where
@@ -96,7 +96,7 @@ within-kept m c a ahead is = either (is_kept c) ahead.place
     either true place = refl
     either false place = let out = out-none ahead.begins (start_of c) a place in absurd (cc)
 
--- a block that begins no part goes on in one, or its section isn't written
+-- A block that begins no part continues one, or its section isn't written.
 pub passed-kept : (m : MergeSeen) (c : CutsSeen) (a : Ahead) → IsAhead m c a → start_in a.place ≡ None → is_within (Some a) ≡ false → is_kept c ≡ false
 passed-kept m c a ahead none isnt = either (is_kept c) ahead.begins ahead.place
   where
@@ -105,12 +105,12 @@ passed-kept m c a ahead none isnt = either (is_kept c) ahead.begins ahead.place
     either true false place = let same = same-within (start_of c) a place in absurd (cc)
     either false begins place = refl
 
--- what is counted of a section that a block begins
+-- The load of a section that a block begins is only its own.
 counts-first : (cut : Bool) (start : Option ℕ) (size : Option ℕ) (load n : ℕ) → (is_none start ≡ true → load ≡ 0) → (cut || is_none start) ≡ true → counted size ((if cut then 0 else load) + n) ≡ counted size n
 counts-first true start size load n empty is = ap (counted size) (zero-add n)
 counts-first false start size load n empty is = ap (counted size) (ap (λ (k : ℕ). k + n) (empty is) ∙ zero-add n)
 
--- ---- what is left, by the block ahead
+-- ---- blocks that are left, by the block ahead
 
 module _ (f : LiveFiles) (b : PlacedBlocks) where
   module _ (is : is_within b.ahead ≡ true) where
@@ -137,7 +137,7 @@ module _ (f : LiveFiles) (b : PlacedBlocks) where
         ap (λ (q : Bool). if q then parts_in (split_in b) (sections_at (split_in b) (behind_part f b)) else parts_from (split_in b) (start_of b.cuts) (behind_part f b)) isnt
         ∙ ap (parts_from (split_in b) (start_of b.cuts)) behind-ahead
 
--- the same where the same is left of the merge
+-- They are the same if the merge has the same blocks left.
 module _ (f h : LiveFiles) (b : PlacedBlocks) (same : left h b.merge ≡ left f b.merge) where
   pub rest-same : rest_of_part h b ≡ rest_of_part f b
   rest-same = ap (λ (bs : List OutputBlock). if is_within b.ahead then lent_ahead b ++ within (split_in b) (start_of b.cuts) b.cuts.load bs else []) same
@@ -154,18 +154,18 @@ module _ (f h : LiveFiles) (b : PlacedBlocks) (same : left h b.merge ≡ left f 
 
 -- ---- one step
 
--- the block that the lane lends
+-- The queue has the block of the output track.
 pub lent-one : (m : MergeSeen) (k : ℕ) (q : Queue) → slice_get m.queues k ≡ Some q → lent_at m k ≡ block_lent k q.lane ∷ []
 lent-one m k q here = ap (λ (o : Option Queue). option_map_or (λ (each : Queue). block_lent k each.lane ∷ []) o []) here
 
--- the lane that is asked for is the one of the queue
+-- The queue has this output track.
 pub lane-is : (m : MergeSeen) (k : ℕ) (q : Queue) (l : LaneSeen) → slice_get m.queues k ≡ Some q → option_map (λ (each : Queue). each.lane) (slice_get m.queues k) ≡ Some l → q.lane ≡ l
 lane-is m k q l here is = let e : Some q.lane ≡ Some l = sym (ap (option_map (λ (each : Queue). each.lane)) here) ∙ is in cc
 
 same-queue : (m : MergeSeen) (k : ℕ) (q p : Queue) → slice_get m.queues k ≡ Some q → slice_get m.queues k ≡ Some p → q ≡ p
 same-queue m k q p one other = let e : Some q ≡ Some p = sym one ∙ other in cc
 
--- The block ahead is of the part that was begun, and this lane lends it.
+-- The block ahead is in the current part, and is the one of the output track `k`.
 pub record LendsAhead (p : PlacedBlocks) (k : ℕ) : Type 0 where
   pub in_it : is_within p.ahead ≡ true
   pub lends : LendsAt p.merge p.cuts.scale k
@@ -184,11 +184,11 @@ lends-ahead p k stands found = either p.ahead refl stands
         subst (LendsAhead p) (lane a (is_same a.place) (sym (ap lane_within is) ∙ found))
         (record { in_it = ap (λ (o : Option ℕ). is_some o) found; lends = ahead.lends; one = ap (ahead_at p.merge) is ∙ lent-one p.merge a.lane ahead.lends.queue ahead.lends.here })
 
--- the blocks, where the merge and the cuts are these, and this is ahead
+-- the blocks with this merge, these cuts and this block ahead
 abbrev pub on_to : PlacedBlocks → MergeSeen → CutsSeen → Option Ahead → PlacedBlocks
 on_to b m' c' next = record { merge = m'; cuts = c'; drives = b.drives; ahead = next; start = b.start }
 
--- they can be given
+-- Blocks can be taken.
 gives-on : (f h : LiveFiles) (b b' : PlacedBlocks) → CanGive f b → KeepsQueues b.merge.queues b'.merge.queues → IsReady h b'.merge → b'.drives ≡ b.drives → b'.cuts.scale ≡ b.cuts.scale → start_of b'.cuts * b'.cuts.scale < 2 ^ 64 → (is_none b'.cuts.start ≡ true → b'.cuts.load ≡ 0) → IfSome b'.cuts.size (IsLimit b'.cuts.spec) → CanGive h b'
 gives-on f h b b' gives keeps ready drives scale early empty limit = record {
   ready = ready;
@@ -201,21 +201,21 @@ gives-on f h b b' gives keeps ready drives scale early empty limit = record {
   limit = limit;
 }
 
--- the same cuts, where no block was placed
+-- The cuts are the same if no block was placed.
 pub gives-same : (f h : LiveFiles) (b b' : PlacedBlocks) → CanGive f b → KeepsQueues b.merge.queues b'.merge.queues → IsReady h b'.merge → b'.drives ≡ b.drives → b'.cuts ≡ b.cuts → CanGive h b'
 gives-same f h b b' gives keeps ready drives same =
     gives-on f h b b' gives keeps ready drives (ap (λ (c : CutsSeen). c.scale) same) (subst (λ (c : CutsSeen). start_of c * c.scale < 2 ^ 64) (sym same) gives.early)
     (subst (λ (c : CutsSeen). is_none c.start ≡ true → c.load ≡ 0) (sym same) gives.empty) (subst (λ (c : CutsSeen). IfSome c.size (IsLimit c.spec)) (sym same) gives.limit)
 
 module _ (f : LiveFiles) (b : PlacedBlocks) (m' : MergeSeen) (c' : CutsSeen) (a : Ahead) (can : CanGive f b) (lanes : KeepsQueues b.merge.queues m'.queues) (steps : StepsTo b.merge m' a.lane) (places : PlacesOne b.drives steps.queue.lane b.cuts c' a) where
-  -- the block that is lent
+  -- the next block
   abbrev x : OutputBlock
   x = block_lent a.lane steps.queue.lane
 
   abbrev may : Bool
   may = may_cut (split_in b) x
 
-  -- a cut may stand before it
+  -- The block decides whether a cut may be before it.
   may-same : ((lent steps.queue.lane).head.key && drives_at b.drives a.lane) ≡ may
   may-same =
       let place : a.lane ≡ a.lane + 1 - 1 = omega arith in
@@ -234,7 +234,7 @@ module _ (f : LiveFiles) (b : PlacedBlocks) (m' : MergeSeen) (c' : CutsSeen) (a 
   pub step-split : split_in (on_to b m' c' (Some a)) ≡ split_in b
   step-split = ap (λ (c : CutsSeen). split_in (on_to b m' c (Some a))) step-cuts
 
-  -- its time has 64 bits
+  -- Its time has 64 bits.
   early-block : x.tick * b.cuts.scale < 2 ^ 64
   early-block =
       let scale : steps.queue.lane.scale ≡ b.cuts.scale = of-one (λ (q : Queue). q.lane.scale ≡ b.cuts.scale) m'.queues a.lane steps.queue (scales-kept b.cuts.scale b.merge.queues m'.queues lanes can.scales) steps.here in
@@ -242,7 +242,7 @@ module _ (f : LiveFiles) (b : PlacedBlocks) (m' : MergeSeen) (c' : CutsSeen) (a 
       let most = subst (λ (n : ℕ). steps.queue.lane.walk.placed.head.tick * n ≤ most_time + n / 2) scale steps.lends.ticks.early in
       subst (λ (h : OutHead). h.tick * b.cuts.scale < 2 ^ 64) (sym head) (early-time steps.queue.lane.walk.placed.head.tick b.cuts.scale can.scale most)
 
-  -- it is ahead then
+  -- It is ahead afterwards.
   pub step-ahead : IsAhead m' c' a
   step-ahead = record {
     lends = record { queue = steps.queue; here = steps.here; sound = steps.lends.lent; early = subst (λ (n : ℕ). x.tick * n < 2 ^ 64) (sym step-scale) early-block };
@@ -263,11 +263,11 @@ module _ (f : LiveFiles) (b : PlacedBlocks) (m' : MergeSeen) (c' : CutsSeen) (a 
       either true = early-block
       either false = can.early
 
-  -- it was the first that was left
+  -- It was the first block that was left.
   pub step-left : GivesOfLane f b.merge m' a.lane → left f b.merge ≡ x ∷ left f m'
   step-left gives = gives.gives ∙ ap (λ (q : Queue). block_lent a.lane q.lane ∷ left f m') (same-queue m' a.lane gives.queue steps.queue gives.here steps.here)
 
-  -- where it stands, by whether a cut stands before it
+  -- Its place depends on the cut before it.
   cut-start : (q : Bool) → is_cut b.cuts may x.tick ≡ q → start_of c' ≡ (if q then x.tick else start_of b.cuts)
   cut-start q is = ap start_of step-cuts ∙ ap (λ (cut : Bool). if cut then x.tick else start_of b.cuts) is
 
@@ -275,7 +275,7 @@ module _ (f : LiveFiles) (b : PlacedBlocks) (m' : MergeSeen) (c' : CutsSeen) (a 
   cut-place q is =
       step-place ∙ ap (λ (cut : Bool). place_at (keeps b.cuts.spec ((if cut then x.tick else start_of b.cuts) * b.cuts.scale)) (cut || is_none b.cuts.start) (if cut then x.tick else start_of b.cuts)) is
 
-  -- the first block begins one
+  -- The first block begins a section.
   pub step-first : b.cuts.start ≡ None → is_within (Some a) ≡ false
   step-first fresh = either (is_cut b.cuts may x.tick) refl
     where
@@ -289,7 +289,7 @@ module _ (f : LiveFiles) (b : PlacedBlocks) (m' : MergeSeen) (c' : CutsSeen) (a 
     abbrev b' : PlacedBlocks
     b' = on_to b m' c' (Some a)
 
-    -- it and those behind it
+    -- It comes before the next blocks.
     step-on : ahead_of m' (Some a) (left h m') ≡ x ∷ bs
     step-on = ap₂ (λ (first more : List OutputBlock). first ++ more) (lent-one m' a.lane steps.queue steps.here) same
 
@@ -297,7 +297,7 @@ module _ (f : LiveFiles) (b : PlacedBlocks) (m' : MergeSeen) (c' : CutsSeen) (a 
     step-parts isnt = parts-ahead h b' isnt ∙ ap₂ (λ (s : Split) (them : List OutputBlock). parts_from s (start_of c') them) step-split step-on
 
     module _ (started : is_none b.cuts.start ≡ false) where
-      -- behind a section that isn't written
+      -- The section before it isn't written.
       step-out : is_kept b.cuts ≡ false → parts_in (split_in b) (sections_at (split_in b) (beyond (split_in b) (start_of b.cuts) b.cuts.load (x ∷ bs))) ≡ parts_left h b'
       step-out out = either (is_cut b.cuts may x.tick) refl
         where
@@ -311,7 +311,7 @@ module _ (f : LiveFiles) (b : PlacedBlocks) (m' : MergeSeen) (c' : CutsSeen) (a 
           either true is = passed true is (begins-none (keeps b.cuts.spec (x.tick * b.cuts.scale)) x.tick a (cut-place true is))
           either false is = passed false is (out-none (is_none b.cuts.start) (start_of b.cuts) a (cut-place false is ∙ ap (λ (k : Bool). place_at k (is_none b.cuts.start) (start_of b.cuts)) out))
 
-      -- What is left behind a block of a part that was begun.
+      -- The blocks that are left after a block of the current part.
       pub record LeftBehind : Type 0 where
         pub rest : within (split_in b) (start_of b.cuts) b.cuts.load (x ∷ bs) ≡ rest_of_part h b'
         pub behind : beyond (split_in b) (start_of b.cuts) b.cuts.load (x ∷ bs) ≡ behind_part h b'
@@ -343,7 +343,7 @@ module _ (f : LiveFiles) (b : PlacedBlocks) (m' : MergeSeen) (c' : CutsSeen) (a 
       pub left-now : is_kept b.cuts ≡ true → LeftBehind
       left-now kept = left-behind kept (is_cut b.cuts may x.tick) refl
 
-      -- the parts behind a section, written or not
+      -- The parts after a section, written or not, are the same.
       pub parts-on : parts_in (split_in b) (sections_at (split_in b) (beyond (split_in b) (start_of b.cuts) b.cuts.load (x ∷ bs))) ≡ parts_left h b'
       parts-on = either (is_kept b.cuts) refl
         where
@@ -351,7 +351,7 @@ module _ (f : LiveFiles) (b : PlacedBlocks) (m' : MergeSeen) (c' : CutsSeen) (a 
           either true kept = (left-now kept).parts_behind
           either false out = step-out out
 
-    -- all parts, where it is the first
+    -- All parts are left if it is the first block.
     pub step-all : IsFresh b → parts_left h b' ≡ parts (split_in b) (x ∷ bs)
     step-all fresh =
         let empty = can.empty (ap (λ (o : Option ℕ). is_none o) fresh.placed) in

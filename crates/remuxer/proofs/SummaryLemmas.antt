@@ -1,4 +1,4 @@
--- The damages of the inputs of a plan, by what the lanes have told of them.
+-- The damaged places of a plan's inputs, from the reports of its output tracks.
 use Rattle.std.proofs.Common.{◌≡◌, ◌≤◌, ◌<◌, ℕ, zero, suc, ◌+◌, ◌-◌, Bool, true, false, not, if◌then◌else◌, List, [], ◌∷◌, ◌++◌, All, length, map, Option, Some, None, option_map, refl, sym, ◌∙◌, ap, ap₂, arith}
 use Rattle.std.specs.Prelude.{◌==◌, find, nat_lt}
 use Rattle.std.specs.List.{flat_map, position, position_or_len, range_with_len, slice_get, zip}
@@ -23,7 +23,7 @@ use Rattle.remuxer.specs.Told.{damages_told, told_at, told_of}
 
 -- ---- the first link of an input
 
--- in a lane
+-- in one output track
 at-find : {X : Type 0} (input : ℕ) (numbers : List ℕ) (xs : List X) → length numbers ≡ length xs → slice_get xs (position_or_len (λ number. number == input) numbers) ≡ option_map (λ (link : ℕ × X). link.1) (find (λ (link : ℕ × X). link.0 == input) (zip numbers xs))
 at-find input [] [] same = refl
 at-find input [] (x ∷ xs) same = absurd (omega arith)
@@ -55,7 +55,7 @@ map-or : {A B : Type 0} (g : A → B) (o p : Option A) → option_map g (option_
 map-or g None p = refl
 map-or g (Some x) p = refl
 
--- in all lanes
+-- in all output tracks
 module _ (f : LiveFiles) (input : ℕ) where
   told-of : (lanes : List PlannedLane) → All (λ (l : PlannedLane). length l.inputs ≡ length l.spec.links) lanes
       → told_of (numbers_of lanes) (map (λ (l : PlannedLane). map told_damages (lane_damages (map (given_in f) l.spec.links))) lanes) input ≡ option_map told_damages (option_map (λ (link : ℕ × List Damage). link.1) (find (λ (link : ℕ × List Damage). link.0 == input) (flat_map (link_damages f) lanes)))
@@ -79,7 +79,7 @@ module _ (f : LiveFiles) (input : ℕ) where
       → damages_told (numbers_of lanes) (map (λ (l : PlannedLane). map told_damages (lane_damages (map (given_in f) l.spec.links))) lanes) input ≡ told_damages (damages_of f lanes input)
   told-is lanes numbered = ap (λ o. unwrap_or o (told_damages [])) (told-of lanes numbered) ∙ or-none (find (λ (link : ℕ × List Damage). link.0 == input) (flat_map (link_damages f) lanes))
 
--- ---- inputs that have no link
+-- ---- inputs without a link
 
 differs : (n input : ℕ) → (n == input) ≡ true → n < input → ⊥
 differs n input is less = grind (arith, nat_tests)
@@ -114,7 +114,7 @@ none-of f input (l ∷ ls) few =
 pub no-damages : (f : LiveFiles) (input : ℕ) (lanes : List PlannedLane) → count_to (flat_map (λ (l : PlannedLane). l.inputs) lanes) ≤ input → damages_of f lanes input ≡ []
 no-damages f input lanes few = ap (λ o. option_map_or (λ (link : ℕ × List Damage). link.1) o []) (none-of f input lanes few)
 
--- ---- all inputs that there may be
+-- ---- all possible inputs
 
 count-below : (most : ℕ) (numbers : List ℕ) → All (λ n. n < most) numbers → count_to numbers ≤ most
 count-below most [] all = omega arith
@@ -134,7 +134,7 @@ count-all most (l ∷ ls) all =
     (count-below most l.inputs (All-head (λ (each : PlannedLane). All (λ n. n < most) each.inputs) l ls all))
     (count-all most ls (All-tail (λ (each : PlannedLane). All (λ n. n < most) each.inputs) l ls all))
 
--- those that give nothing
+-- Inputs without damaged places add nothing.
 empty-range : {A : Type 0} (g : ℕ → List A) (n from : ℕ) → ((k : ℕ) → from ≤ k → g k ≡ []) → flat_map g (range_with_len from n) ≡ []
 empty-range g zero from none = refl
 empty-range g (suc n) from none = ap₂ (λ xs ys. xs ++ ys) (none from (omega arith)) (empty-range g n (from + 1) (λ k high. none k (omega arith)))
@@ -145,7 +145,7 @@ short-range g (suc n) m from none =
     ap (λ k. flat_map g (range_with_len from k)) (let same : suc n + m ≡ suc (n + m) = omega arith in same)
     ∙ ap (λ xs. g from ++ xs) (short-range g n m (from + 1) (λ k high. none k (omega arith)))
 
--- ---- the damages of a plan
+-- ---- the damaged places of a plan
 
 module _ {A : Type 0} (f : LiveFiles) (lanes : List PlannedLane) (of : ℕ → ToldDamages → List A) (none : (input : ℕ) → of input (told_damages []) ≡ [])
     (numbered : All (λ (l : PlannedLane). length l.inputs ≡ length l.spec.links) lanes) (inputs : All (λ (l : PlannedLane). All (λ n. n < MAX_INPUTS) l.inputs) lanes) where

@@ -1,4 +1,4 @@
--- An output that takes the blocks of a merge: the block ahead is written, and then the next one is read.
+-- An output that takes the blocks of a merge: the block ahead is written, then the next one is read.
 use Rattle.std.proofs.Common.{◌≡◌, ◌≤◌, ◌<◌, ◌^◌, max, IfSome, ℕ, ◌+◌, Bool, true, false, List, [], ◌∷◌, length, Option, Some, None, Result, Ok, Err, refl, sym, ◌∙◌, ap, subst, arith, map, ap₂, ◌++◌, take, append-nil, ◌*◌}
 use Rattle.std.specs.Prelude.{if◌then◌else◌, is_some}
 use Rattle.std.proofs.lemmas.List.{drop_all, length-map, take_all}
@@ -55,7 +55,7 @@ use Rattle.remuxer.proofs.StepLemmas.{behind-ahead, behind-same, gives-same, len
 
 -- ---- files that were only read
 
--- What stands, the names, under which of them files were opened, and what was asked for are the same.
+-- The files' state, names, holders and requests are unchanged.
 pub record OnlyRead {S : Type 0} (r : Ghosts S) (f : writing.Ghosts S) (old new : S) : Type 0 where
   pub standing : r.standing new ≡ r.standing old
   pub names : f.names new ≡ f.names old
@@ -63,7 +63,7 @@ pub record OnlyRead {S : Type 0} (r : Ghosts S) (f : writing.Ghosts S) (old new 
   pub given : f.given new ≡ f.given old
   pub asked : f.asked new ≡ f.asked old
 
--- all of these are functions of what stands
+-- They are functions of the state that reading keeps.
 pub only-read : {S : Type 0} (r : Ghosts S) (f : writing.Ghosts S) (old new : S) → r.standing new ≡ r.standing old → ((a b : S) → r.standing a ≡ r.standing b → f.names a ≡ f.names b)
     → ((a b : S) → r.standing a ≡ r.standing b → (file : ℕ) → f.holder a file ≡ f.holder b file) → ((a b : S) → r.standing a ≡ r.standing b → f.given a ≡ f.given b)
     → ((a b : S) → r.standing a ≡ r.standing b → f.asked a ≡ f.asked b) → OnlyRead r f old new
@@ -76,7 +76,7 @@ module _ {S : Type 0} (r : Ghosts S) (f : writing.Ghosts S) (old new : S) (read 
   pub read-keeps : (names : List (List ℕ)) → KeepsOthers r f names old new
   read-keeps names = UsesOnly-standing r f [] names old new read.standing read.given (λ file live. read.holders file) read.asked
 
-  -- nothing was written into an open output
+  -- Nothing was written to an open output.
   pub read-writes : {T : Type 0} (w : BlockWriter) (done : T) → IsOpen r old w.out → WritesInto r f old new w w (Ok done)
   read-writes w done is_open = record {
     file = refl;
@@ -87,7 +87,7 @@ module _ {S : Type 0} (r : Ghosts S) (f : writing.Ghosts S) (old new : S) (read 
     kept = read-keeps (f.holder old w.out.file.n ∷ []);
   }
 
-  -- an output on the way
+  -- The output is unchanged.
   stands-read : (before : Names) (name : List ℕ) (rules : List CueRule) (d : Document) (o : OpenOutput) (g : Gathered) (n : Counts) (left : List OutputBlock) → Stands r f before name rules d old o g n left → Stands r f before name rules d new o g n left
   stands-read before name rules d o g n left stands = record {
     done = stands.done;
@@ -108,22 +108,22 @@ takes-lent r f rules b lent cued begins old new w w' done same cue counts adds =
     let Q : Counts → Type 0 = λ n. Stands r f before name rules d new w'.out w'.buffer n left in
     subst Q (sym counts) (adds before name rules d w.counts left (cue ∙ ap (is_cue rules) (sym same)) (subst P (sym same) stands))
 
--- or it couldn't be
+-- The block couldn't be added.
 pub refused-lent : {S : Type 0} (T : Type 0) (r : Ghosts S) (f : writing.Ghosts S) (rules : List CueRule) (b lent : OutputBlock) (cued : Bool) (old new : S) (w w' : BlockWriter) (end : RemuxEnd) → b ≡ lent
     → Adds r f b cued old new w.out w'.out w.buffer w'.buffer (Err end) → TakesNext {T = T} r f rules lent old new w w' (Err end)
 refused-lent T r f rules b lent cued old new w w' end same adds = λ left before name d stands.
     let P : OutputBlock → Type 0 = λ x. Stands r f before name rules d old w.out w.buffer w.counts (x ∷ left) in
     adds before name rules d w.counts left (subst P (sym same) stands)
 
--- a read was refused
+-- A read failed.
 pub read-drafted : {S : Type 0} (r : Ghosts S) (f : writing.Ghosts S) (rules : List CueRule) (a b : S) (w : BlockWriter) (was : List OutputBlock) → OnlyRead r f a b → StaysDraft r f rules was a b w
 read-drafted r f rules a b w was read before name d stands =
     let P : Names → Type 0 = λ names. StandsDrafted before names (draft_of name d) in
     subst P (sym read.names) (stands-drafted r f before name rules d a w.out w.buffer w.counts was stands)
 
--- ---- the block ahead is written, and the next one is ahead then
+-- ---- the block ahead is written, and the next one is read
 
--- counts
+-- Counts add up.
 counted-next : (n k : ℕ) → counted (counted n 1) k ≡ counted n (1 + k)
 counted-next n k = grind arith
 
@@ -133,7 +133,7 @@ counted-few n k = grind arith
 few-more : (n m k : ℕ) → m ≡ counted n k → m ≤ last_count
 few-more n m k is = let few = counted-few n k in omega (arith, is, few)
 
--- a block of a part that was begun begins none
+-- A block of the current part begins none.
 within-begins : (o : Option Ahead) → is_within o ≡ true → BeginsNone o
 within-begins None is = absurd (cc)
 within-begins (Some a) is = either a.place is
@@ -144,7 +144,7 @@ within-begins (Some a) is = either a.place is
     either Out in_it = refl
 
 module _ {S : Type 0} (r : Ghosts S) (f : writing.Ghosts S) (rules : List CueRule) (start n : ℕ) (starts : start ≡ n) (a b : S) (w w' : BlockWriter) (p : PlacedBlocks) (x : OutputBlock) (in_it : is_within p.ahead ≡ true) (one : lent_ahead p ≡ x ∷ []) where
-  -- the others of its part
+  -- the next blocks of its part
   others : List OutputBlock
   others = map (in_part n) (within (split_in p) (start_of p.cuts) p.cuts.load (left (live_files r a) p.merge))
 
@@ -154,20 +154,20 @@ module _ {S : Type 0} (r : Ghosts S) (f : writing.Ghosts S) (rules : List CueRul
       ap (map (in_part n)) (rest-within (live_files r a) p in_it ∙ ap (λ (first : List OutputBlock). first ++ within (split_in p) (start_of p.cuts) p.cuts.load (left (live_files r a) p.merge)) one)
       ∙ ap (λ (k : ℕ). in_part k x ∷ others) (sym starts)
 
-  -- it couldn't be
+  -- It couldn't be written.
   pub lent-drafted : ((more : List OutputBlock) → StaysDraft r f rules (in_part start x ∷ more) a b w) → StaysDraft r f rules (left_of_part (live_files r a) n p) a b w
   lent-drafted drafted before name d stands =
       let P : List OutputBlock → Type 0 = λ bs. Stands r f before name rules d a w.out w.buffer w.counts bs in
       drafted others before name d (subst P first-left stands)
 
   module _ (takes : (more : List OutputBlock) → StaysOnTheWay r f rules (in_part start x ∷ more) more a b w w') (c : S) (read : OnlyRead r f b c) where
-    -- the next one couldn't be read
+    -- The next one couldn't be read.
     pub next-drafted : StaysDraft r f rules (left_of_part (live_files r a) n p) a c w
     next-drafted before name d stands =
         let P : List OutputBlock → Type 0 = λ bs. Stands r f before name rules d a w.out w.buffer w.counts bs in
         read-drafted r f rules b c w' others read before name d (takes others before name d (subst P first-left stands))
 
-    -- it was read
+    -- The next one was read.
     pub some-next : (p' : PlacedBlocks) → left (live_files r b) p.merge ≡ left (live_files r a) p.merge → w'.blocks ≡ counted w.blocks 1 → Leaves (live_files r b) (live_files r c) p p' → TakesSome r f rules n a c w w' p p'
     some-next p' same count leaves =
         let rest = rest_of_part (live_files r c) p' in
@@ -201,7 +201,7 @@ least-turns n (Some a) = omega arith
 
 -- ---- after some calls
 
--- the output can take more
+-- The output can take more blocks.
 pub can-again : {S : Type 0} (r : Ghosts S) (f : writing.Ghosts S) (a b : S) (w w' : BlockWriter) (p p' : PlacedBlocks) → CanTake r f a w p → w'.out.file ≡ w.out.file → IsOpen r b w'.out → KeepsOthers r f (f.holder a w.out.file.n ∷ []) a b → GoesOn r 0 a b p p' → CanTake r f b w' p'
 can-again r f a b w w' p p' can file is_open kept goes =
     let P : List ℕ → Type 0 = λ name. IsApart (f.holder b) (name ∷ []) p'.merge in
@@ -212,7 +212,7 @@ can-again r f a b w w' p p' can file is_open kept goes =
       apart = subst P (sym named) (apart-same (f.holder b) (f.holder a w.out.file.n ∷ []) p.merge p'.merge goes.lanes (apart-kept r f (f.holder a w.out.file.n ∷ []) a b p.merge kept can.gives.ready can.apart));
     }
 
--- two calls
+-- Two calls make one.
 pub goes-then : {S : Type 0} (r : Ghosts S) (m n : ℕ) (a b c : S) (p q q' : PlacedBlocks) → GoesOn r m a b p q → GoesOn r n b c q q' → GoesOn r (m + n) a c p q'
 goes-then r m n a b c p q q' first next = record {
   lanes = next.lanes ∙ first.lanes;
@@ -226,13 +226,13 @@ goes-then r m n a b c p q q' first next = record {
       record { told = there.told; damages = there.damages ∙ here.damages };
 }
 
--- the second of which reads no more than is due
+-- The second call reads only bytes that are due.
 pub goes-more : {S : Type 0} (r : Ghosts S) (more : ℕ) (a b c : S) (p q q' : PlacedBlocks) → GoesOn r more a b p q → GoesOn r 0 b c q q' → GoesOn r more a c p q'
 goes-more r more a b c p q q' first next =
     let same : more + 0 ≡ more = omega arith in
     subst (λ (n : ℕ). GoesOn r n a c p q') same (goes-then r more 0 a b c p q q' first next)
 
--- some blocks were taken, and then more
+-- Blocks were taken by two calls.
 pub some-then : {S : Type 0} (r : Ghosts S) (f : writing.Ghosts S) (rules : List CueRule) (start : ℕ) (a b c : S) (w v u : BlockWriter) (l m n : PlacedBlocks)
     → TakesSome r f rules start a b w v l m → TakesSome r f rules start b c v u m n → TakesSome r f rules start a c w u l n
 some-then r f rules start a b c w v u l m n first next = record {
@@ -243,13 +243,13 @@ some-then r f rules start a b c w v u l m n first next = record {
   few = λ le. next.few (first.few le);
 }
 
--- none has been taken
+-- No block was taken.
 pub some-none : {S : Type 0} (r : Ghosts S) (f : writing.Ghosts S) (rules : List CueRule) (start : ℕ) (a : S) (w : BlockWriter) (p : PlacedBlocks) → TakesSome r f rules start a a w w p p
 some-none r f rules start a w p = record { stands = λ before name d stands. stands; behind = refl; parts = refl; count = refl; few = λ le. le }
 
--- ---- all lanes have ended
+-- ---- all output tracks have ended
 
--- one lane has told all its damages
+-- An output track that has ended has reported all its damaged places.
 lane-told : (f : LiveFiles) (l : LaneSeen) → lanes.IsReady f l → lanes.IsEnded l → lanes.told_in_all f l ≡ l.walk.told.items
 lane-told f l ready ended =
     let told = l.walk.told.items in
@@ -269,9 +269,9 @@ merge-ends r more a b p p' goes ended = record {
   damages = λ told. ended-told (live_files r b) p'.merge.queues goes.gives.ready ended ∙ (goes.told told).damages;
 }
 
--- ---- what is written behind the last block
+-- ---- writes after the last block
 
--- the files of a merge stand
+-- The merge is unchanged.
 pub among-goes : {S : Type 0} (r : Ghosts S) (more : ℕ) (a b : S) (p : PlacedBlocks) → CanGive (live_files r a) p → StandsAmong (live_files r a) (live_files r b) p.merge → r.octets_read b ≤ r.octets_read a + more → GoesOn r more a b p p
 among-goes r more a b p gives among octets = record {
   lanes = refl;
@@ -292,12 +292,12 @@ module _ {S : Type 0} (r : Ghosts S) (f : writing.Ghosts S) (a b : S) (w : Block
   pub rest-goes : GoesOn r 0 a b p p
   rest-goes = among-goes r 0 a b p can.gives rest-among (omega (arith, octets))
 
--- a call, and then one that may be refused
+-- A call is followed by one that may fail.
 pub goes-result : {S T E : Type 0} (r : Ghosts S) (a b c : S) (p q q' : PlacedBlocks) (result : Result T E) → GoesOn r 0 a b p q → Goes r 0 b c q q' result → Goes r 0 a c p q' result
 goes-result r a b c p q q' (Ok done) first next = goes-then r 0 0 a b c p q q' first next
 goes-result r a b c p q q' (Err end) first next = let paid = first.paid in let long = first.length in omega (arith, paid, long, next)
 
--- two calls that write into one output
+-- Two calls write to one output.
 pub writes-then : {S T U : Type 0} (r : Ghosts S) (f : writing.Ghosts S) (a b c : S) (w v u : BlockWriter) (done : T) (result : Result U RemuxEnd) → IsOpen r a w.out → WritesInto r f a b w v (Ok done) → WritesInto r f b c v u result → WritesInto r f a c w u result
 writes-then r f a b c w v u done result is_open first next =
     let named : f.holder b v.out.file.n ≡ f.holder a w.out.file.n = ap (λ (id : FileId). f.holder b id.n) first.file ∙ first.kept.holders w.out.file.n is_open.live in
@@ -308,14 +308,14 @@ writes-then r f a b c w v u done result is_open first next =
       kept = KeepsOthers-then r f (f.holder a w.out.file.n ∷ []) a b c first.kept (subst P named next.kept);
     }
 
--- where a part ends, by the block behind it
+-- The block after a part decides its end.
 first-ahead : (m : MergeSeen) (c : CutsSeen) (o : Option Ahead) (bs : List OutputBlock) → StandsAt m c o → first_tick (ahead_of m o bs) ≡ first_tick (ahead_at m o)
 first-ahead m c None bs stands = refl
 first-ahead m c (Some a) bs ahead =
     let one = lent-one m a.lane ahead.lends.queue ahead.lends.here in
     ap (λ (first : List OutputBlock). first_tick (first ++ bs)) one ∙ sym (ap first_tick one)
 
--- and no earlier than it starts
+-- The end isn't before the start.
 pub ahead-end : (b : PlacedBlocks) (start : ℕ) → start * b.cuts.scale < 2 ^ 64 → StandsAhead b → IfSome (option_map (max start) (first_tick (lent_ahead b))) (IsEnd b.cuts.scale start)
 ahead-end b start early stands = either b.ahead stands
   where
@@ -326,7 +326,7 @@ ahead-end b start early stands = either b.ahead stands
         (is-end b.cuts.scale start (block_lent a.lane ahead.lends.queue.lane).tick early ahead.lends.early)
 
 module _ {S : Type 0} (r : Ghosts S) (f : writing.Ghosts S) (o : OutputSpec) (rules : List CueRule) (a b : S) (w v : BlockWriter) (p p' : PlacedBlocks) (are : rules ≡ o.rules) (taken : TakesSome r f rules (start_of p.cuts) a b w v p p') (over : IsOver p p') where
-  -- all blocks of a part were taken
+  -- All blocks of a part were taken.
   all-taken : StaysOnTheWay r f o.rules (part_in (live_files r a) p).blocks [] a b w v
   all-taken before name d stands =
       let P : List CueRule → Type 0 = λ each. Stands r f before name each d a w.out w.buffer w.counts (part_in (live_files r a) p).blocks in
@@ -334,7 +334,7 @@ module _ {S : Type 0} (r : Ghosts S) (f : writing.Ghosts S) (o : OutputSpec) (ru
       let L : List OutputBlock → Type 0 = λ bs. Stands r f before name rules d b v.out v.buffer v.counts (map (in_part (start_of p.cuts)) bs) in
       subst Q are (subst L (rest-none (live_files r b) p' over.behind) (taken.stands before name d (subst P (sym are) stands)))
 
-  -- the last Cluster is written
+  -- The last Cluster is written.
   pub fills-part : (c : S) (u : BlockWriter) (start : ℕ) (chapters : Option Node) (end : Option ℕ) → start ≡ start_of p.cuts → end ≡ option_map (max start) (first_tick (lent_ahead p')) → chapters ≡ chapters_cut o start end
       → left (live_files r c) p'.merge ≡ left (live_files r b) p'.merge → runs.Ends {T = Unit {0}} {E = RemuxEnd} r f b c v.out u.out v.buffer (Ok tt) → u.blocks ≡ v.blocks → u.counts ≡ v.counts → FillsPart r f o a c w u p p' chapters
   fills-part c u start chapters end starts at cut same ends blocks counts = record {
@@ -351,6 +351,6 @@ module _ {S : Type 0} (r : Ghosts S) (f : writing.Ghosts S) (o : OutputSpec) (ru
     few = λ le. let most = taken.few le in omega (arith, blocks, most);
   }
 
-  -- it couldn't be
+  -- It couldn't be written.
   pub fills-none : (now : S) → ((before : Names) (name : List ℕ) (d : Document) → Stands r f before name o.rules d b v.out v.buffer v.counts [] → StandsDrafted before (f.names now) (draft_of name d)) → StaysDraft r f o.rules (part_in (live_files r a) p).blocks a now w
   fills-none now drafted = λ before name d stands. drafted before name d (all-taken before name d stands)

@@ -1,4 +1,4 @@
--- The damages of inputs, as the lanes of a merge have told them.
+-- The damaged places of inputs, as the output tracks of a merge have reported them.
 use Rattle.std.proofs.Common.{◌≡◌, ◌<◌, ℕ, ◌+◌, List, [], ◌∷◌, length, drop, get_or, Option, Some, None, Bor, ◌++◌, is_some, true, false, option_map, refl, sym, ◌∙◌, ap, ap₂, append-nil, arith}
 use Rattle.std.specs.List.{flat_map, range_with_len, slice_get}
 use Rattle.std.specs.Option.{option_copied, option_or, unwrap_or}
@@ -15,20 +15,20 @@ use Rattle.time_merge.specs.declared.queue.Queue.{Queue}
 use Rattle.remuxer.specs.Taking.{told_by}
 use Rattle.remuxer.specs.Told.{AddsDamages, HasDamages, damages_told, told_at, told_of}
 
--- ---- one lane after the other
+-- ---- output tracks in sequence
 
 map-twice : {A B C : Type 0} (g : B → C) (h : A → B) (o : Option A) → option_map g (option_map h o) ≡ option_map (λ x. g (h x)) o
 map-twice g h None = refl
 map-twice g h (Some x) = refl
 
--- what the k-th lane has told
+-- The report of the output track `k` is at this index.
 told-here : (m : MergeSeen) (k : ℕ) (l : LaneSeen) → option_map (λ (q : Queue). q.lane) (slice_get m.queues k) ≡ Some l → slice_get (told_by m) k ≡ Some l.walk.told.items
 told-here m k l is =
     slice_get-map (λ (q : Queue). q.lane.walk.told.items) m.queues k
     ∙ sym (map-twice (λ (each : LaneSeen). each.walk.told.items) (λ (q : Queue). q.lane) (slice_get m.queues k))
     ∙ ap (option_map (λ (each : LaneSeen). each.walk.told.items)) is
 
--- the lanes from the k-th on
+-- The output tracks from `k` on begin with this one.
 pub told-step : (inputs : List (List ℕ)) (m : MergeSeen) (k input : ℕ) (numbers : List ℕ) (l : LaneSeen) → k < length inputs → numbers ≡ get_or inputs k numbers → option_map (λ (q : Queue). q.lane) (slice_get m.queues k) ≡ Some l
     → told_of (drop k inputs) (drop k (told_by m)) input ≡ option_or (told_at numbers l.walk.told.items input) (told_of (drop (k + 1) inputs) (drop (k + 1) (told_by m)) input)
 told-step inputs m k input numbers l inside here lane =
@@ -38,17 +38,17 @@ told-step inputs m k input numbers l inside here lane =
     (drop_more inputs k numbers inside ∙ ap (λ (x : List ℕ). x ∷ drop (k + 1) inputs) (sym here))
     (drop_more (told_by m) k told (slice_get_within (told_by m) k told at) ∙ ap (λ (x : List ToldDamages). x ∷ drop (k + 1) (told_by m)) (get_or_from_slice_get (told_by m) k told told at))
 
--- it has told of the input
+-- It has a report of the input.
 pub first-found : {T : Type 0} (o : Option (Bor T)) (p rest : Option T) → is_some o ≡ true → option_copied o ≡ p → option_copied o ≡ option_or p rest
 first-found None p rest found is = absurd (cc)
 first-found (Some x) p rest found is = ap (λ each. option_or each rest) is
 
--- it hasn't
+-- It has no report of the input.
 pub none-found : {T : Type 0} (o : Option (Bor T)) (p rest : Option T) → is_some o ≡ false → option_copied o ≡ p → option_or p rest ≡ rest
 none-found None p rest none is = ap (λ each. option_or each rest) (sym is)
 none-found (Some x) p rest none is = absurd (cc)
 
--- ---- the damages of one input more
+-- ---- the damaged places of one more input
 
 range-next : {A : Type 0} (g : ℕ → List A) (n : ℕ) → flat_map g (range_with_len 0 n) ++ g n ≡ flat_map g (range_with_len 0 (n + 1))
 range-next g n =

@@ -1,7 +1,7 @@
--- A tree to which children are added.
+-- A tree with children appended.
 use Rattle.std.specs.Prelude.{List, ◌++◌}
 use Rattle.tree_format.specs.Node.{Node, children, with_children}
 
--- with these behind its children
+-- the tree `n` with these children appended
 abbrev pub with_more : Node → List Node → Node
 with_more n more = with_children n (children n ++ more)

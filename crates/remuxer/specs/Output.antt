@@ -1,4 +1,4 @@
--- The outputs of a merge, one after the other: what they are to be, and what stands of them.
+-- The outputs of a merge in sequence: the planned documents, and the contents of their files.
 use Rattle.std.specs.Prelude.{◌≡◌, ◌≤◌, ⊤, ℕ, ◌+◌, Bool, true, false, if◌then◌else◌, List, [], ◌∷◌, ◌++◌, All, IfOk, IfSome, length, map, sum_by, Option, None, Result, Ok, Err}
 use Rattle.std.specs.Option.{option_and_then}
 use Rattle.mkv_io.specs.Faults.{counted, last_count}
@@ -43,9 +43,9 @@ use Rattle.remuxer.specs.declared.output.WrittenPart.{WrittenPart}
 use Rattle.remuxer.specs.declared.placed.PlacedBlocks.{PlacedBlocks}
 use Rattle.remuxer.specs.declared.writer.BlockWriter.{BlockWriter}
 
--- ---- what is asked of them
+-- ---- preconditions
 
--- What stands in front of the Clusters of an output and behind them are Elements of their IDs, Chapters can be read, and the attachments can be attached.
+-- The elements outside the Clusters of an output have the right IDs, the Chapters can be read, and the attachments can be attached.
 pub record HasRecords {S : Type 0} (r : Ghosts S) (f : writing.Ghosts S) (files : S) (name : List ℕ) (front : Front) (its_chapters its_tags : Option Node) : Type 0 where
   pub info : id_of front.info ≡ INFO
   pub info_master : IsMaster front.info
@@ -54,7 +54,7 @@ pub record HasRecords {S : Type 0} (r : Ghosts S) (f : writing.Ghosts S) (files 
   pub chapters : IfSome its_chapters (IsRead CHAPTERS)
   pub tags : IfSome its_tags (λ n. id_of n ≡ TAGS)
 
--- No file of a link was opened under a name that may be written.
+-- No file of the link was opened with a name that may be written.
 abbrev pub IsUnwrittenLink : (ℕ → List ℕ) → Bool → List ℕ → Link → Type 0
 IsUnwrittenLink holder split output (Track t) = may_be_written split output (holder t.file.n) ≡ false
 IsUnwrittenLink holder split output (Entries e) = ⊤
@@ -62,8 +62,8 @@ IsUnwrittenLink holder split output (Entries e) = ⊤
 abbrev pub IsUnwritten : (ℕ → List ℕ) → Bool → List ℕ → MergeSeen → Type 0
 IsUnwritten holder split output m = All (λ (q : Queue). All (IsUnwrittenLink holder split output) q.lane.links) m.queues
 
--- An output of this name can be written of the part that was begun: its blocks can be given, their ticks are those of the output, no file of a
--- link was opened under the name, and what stands around the Clusters can be written.
+-- An output with this name can be written for the current part: its blocks can be taken with the output's ticks, no file of a link has this name,
+-- and the elements outside the Clusters can be written.
 pub record CanWrite {S : Type 0} (r : Ghosts S) (f : writing.Ghosts S) (files : S) (o : OutputSpec) (name : List ℕ) (b : PlacedBlocks) : Type 0 where
   pub gives : CanGive (live_files r files) b
   pub begun : IsPartBegun b
@@ -71,49 +71,49 @@ pub record CanWrite {S : Type 0} (r : Ghosts S) (f : writing.Ghosts S) (files : 
   pub apart : IsApart (f.holder files) (name ∷ []) b.merge
   pub records : HasRecords r f files name o.front o.chapters o.tags
 
--- how many octets the data of the attachments are
+-- the length of the attachments' data
 abbrev pub data_of : OutputSpec → ℕ
 data_of o = sum_by (λ (a : Attachment). a.len) o.front.attachments
 
 -- ---- one output
 
--- Its octets are no more than a file may have.
+-- The bytes of the document `d` are at most the maximum length of a file.
 abbrev pub IsShort : Document → Type 0
 IsShort d = length (layout d) ≤ LONGEST_FILE
 
--- The octets of the document stand under the name, and no other name changes; they are what its draft becomes, and where the names are told
--- no more than a file may have.
+-- The name has the layout of `d`, which is the result of its draft, and other names are unchanged. If names are visible to the proof, it is at
+-- most the maximum length of a file.
 pub record WritesLayout (old new : Names) (name : List ℕ) (d : Document) : Type 0 where
   pub names : new ≡ with_content old name (layout d)
   pub becomes : output_of (draft_of name d) ≡ record { name = name; content = layout d }
   pub short : IfVisible old (λ world. IsShort d)
 
--- After a refusal the output stands as a draft, or the name is as before. No other name changes.
+-- The name has the layout of `d`; after an error its content is one of the draft, or unchanged. Other names are unchanged.
 abbrev pub Writes : {T : Type 0} → Names → Names → List ℕ → Document → Result T RemuxEnd → Type 0
 Writes old new name d (Ok _) = WritesLayout old new name d
 Writes old new name d (Err _) = AreWrittenInOrder old new (draft_of name d ∷ [])
 
--- Where the links' files are told, it has the blocks of the part that was begun.
+-- The output has the blocks of the current part, if the links' files are visible to the proof.
 abbrev pub WritesPart : {S T : Type 0} → Ghosts S → writing.Ghosts S → S → S → OutputSpec → List ℕ → PlacedBlocks → Result T RemuxEnd → Type 0
 WritesPart r f old new o name b result =
     IsTold (live_files r old) b.merge → Writes (f.names old) (f.names new) name (document_with (live_files r old) o (part_in (live_files r old) b)) result
 
--- what is cut out of its Chapters for a part from one tick to another, where an output is split
+-- the Chapters cut to a part from the tick `start` to `end`, if the output is split
 abbrev pub chapters_cut : OutputSpec → ℕ → Option ℕ → Option Node
 chapters_cut o start end = if o.split then option_and_then (cut (stretch_of o.limits.scale start end)) o.chapters else None
 
--- the Chapters of a part, for which these were cut out
+-- the Chapters of a part: `part` if the output is split, otherwise all
 abbrev pub chapters_in : OutputSpec → Option Node → Option Node
 chapters_in o part = if o.split then part else o.chapters
 
--- An output that takes blocks can be filled with the part that was begun.
+-- The output in `w` can take the current part.
 pub record CanFill {S : Type 0} (r : Ghosts S) (f : writing.Ghosts S) (files : S) (o : OutputSpec) (w : BlockWriter) (b : PlacedBlocks) : Type 0 where
   pub can : CanTake r f files w b
   pub begun : IsPartBegun b
   pub scale : b.cuts.scale ≡ o.limits.scale
   pub chapters : IfSome o.chapters (IsRead CHAPTERS)
 
--- It has all its Clusters, with as many blocks as the part has, and its Chapters were cut; the parts behind it are left.
+-- The output has all its Clusters with the part's blocks, its Chapters were cut, and the parts after it are left.
 pub record FillsPart {S : Type 0} (r : Ghosts S) (f : writing.Ghosts S) (o : OutputSpec) (old new : S) (w w' : BlockWriter) (b b' : PlacedBlocks) (chapters : Option Node) : Type 0 where
   pub all : GetsAll r f o.rules (part_in (live_files r old) b).blocks old new w w'
   pub chapters_are : chapters ≡ chapters_cut o (part_in (live_files r old) b).start (part_in (live_files r old) b).end
@@ -121,74 +121,74 @@ pub record FillsPart {S : Type 0} (r : Ghosts S) (f : writing.Ghosts S) (o : Out
   pub few : w.blocks ≤ last_count → w'.blocks ≤ last_count
   pub behind : parts_left (live_files r new) b' ≡ parts_left (live_files r old) b
 
--- After a refusal it stands as a draft.
+-- The output is filled; after an error its content is one of the draft.
 abbrev pub FillsOrStaysDraft : {S : Type 0} → Ghosts S → writing.Ghosts S → OutputSpec → S → S → BlockWriter → BlockWriter → PlacedBlocks → PlacedBlocks → Result (Option Node) RemuxEnd → Type 0
 FillsOrStaysDraft r f o old new w w' b b' (Ok chapters) = FillsPart r f o old new w w' b b' chapters
 FillsOrStaysDraft r f o old new w w' b b' (Err _) = StaysDraft r f o.rules (part_in (live_files r old) b).blocks old new w
 
--- So it is where the links' files are told.
+-- The output is filled, if the links' files are visible to the proof.
 abbrev pub Fills : {S : Type 0} → Ghosts S → writing.Ghosts S → OutputSpec → S → S → BlockWriter → BlockWriter → PlacedBlocks → PlacedBlocks → Result (Option Node) RemuxEnd → Type 0
 Fills r f o old new w w' b b' result = IsTold (live_files r old) b.merge → FillsOrStaysDraft r f o old new w w' b b' result
 
--- It has so many blocks, Clusters and cue points, and the parts behind it are left.
+-- `w` has the numbers of the part's blocks, Clusters and cue points, and the parts after it are left.
 pub record CountsPart (f h : LiveFiles) (o : OutputSpec) (b b' : PlacedBlocks) (w : WrittenPart) : Type 0 where
   pub count : w.blocks ≡ counted 0 (length (part_in f b).blocks)
   pub counts : AreCounts (document_with f o (part_in f b)).clusters (length (document_with f o (part_in f b)).cues) w.counts
   pub behind : parts_left h b' ≡ parts_left f b
 
--- So it is where the links' files are told, and what is ahead is behind the part.
+-- `w` has the numbers of the part, if the links' files are visible to the proof, and the block ahead is after the part.
 pub record HasWritten (f h : LiveFiles) (o : OutputSpec) (b b' : PlacedBlocks) (w : WrittenPart) : Type 0 where
   pub told : IsTold f b.merge → CountsPart f h o b b' w
   pub over : IsOver b b'
 
--- Such a part was written, if the call isn't refused.
+-- A part was written as in `HasWritten`, unless the call failed.
 abbrev pub FindsWritten : {S E : Type 0} → Ghosts S → S → S → OutputSpec → PlacedBlocks → PlacedBlocks → Result WrittenPart E → Type 0
 FindsWritten r old new o b b' result = IfOk result (HasWritten (live_files r old) (live_files r new) o b b')
 
--- ---- all of them
+-- ---- all outputs
 
--- the parts that are left, and before them the one that was begun, if one was
+-- the current part, if there is one, and the parts that are left
 abbrev pub parts_begun : LiveFiles → PlacedBlocks → Bool → List Part
 parts_begun f b true = part_in f b ∷ parts_left f b
 parts_begun f b false = []
 
--- at most so many turns are left, and one where a part was begun
+-- an upper bound on the turns that are left, with one more if there is a current part
 abbrev pub turns_left : PlacedBlocks → Bool → ℕ
 turns_left b true = way b.merge + 1
 turns_left b false = way b.merge
 
--- A part was begun, or all lanes have ended.
+-- There is a current part, or all output tracks have ended.
 abbrev pub CanBeNext : PlacedBlocks → Bool → Type 0
 CanBeNext b true = IsPartBegun b
 CanBeNext b false = IsEnded b.merge
 
--- The next part was begun, or none is left; no more turns are left than these; and where the links' files were told, these are the parts.
+-- The next part was begun, or none is left, within `turns` turns, and these parts are left, if the links' files are visible to the proof.
 pub record FindsPart (f h : LiveFiles) (turns : ℕ) (parts : List Part) (b b' : PlacedBlocks) (begun : Bool) : Type 0 where
   pub begins : CanBeNext b' begun
   pub on : turns_left b' begun ≤ turns
   pub found : IsTold f b.merge → parts_begun h b' begun ≡ parts
 
--- The next part was begun of those that were left.
+-- The next part of those that were left was begun, unless the call failed.
 abbrev pub FindsBehind : {S : Type 0} → Ghosts S → S → S → PlacedBlocks → PlacedBlocks → Result Bool ReadEnd → Type 0
 FindsBehind r old new b b' result = IfOk result (FindsPart (live_files r old) (live_files r new) (turns b) (parts_left (live_files r old) b) b b')
 
--- The first part was begun, of all.
+-- The first part of all was begun, unless the call failed.
 abbrev pub FindsFirst : {S : Type 0} → Ghosts S → S → S → PlacedBlocks → PlacedBlocks → Result Bool ReadEnd → Type 0
 FindsFirst r old new b b' result =
     IfOk result (FindsPart (live_files r old) (live_files r new) (way b.merge + 1) (parts (split_in b) (left (live_files r old) b.merge)) b b')
 
--- the name of the output of a number, from 1 on, and what it has besides its blocks: its own identifiers
+-- the name of the output `number`, counted from 1; and its specification with its own identifiers
 abbrev pub own_name : OutputSpec → ℕ → List ℕ
 own_name o number = name_of o.split o.name number
 
 abbrev pub own_spec : OutputSpec → ℕ → OutputSpec
 own_spec o number = record o { front = record o.front { info = with_uuids (uuids_at o.uuids o.link number) o.front.info } }
 
--- the output of a number that this part becomes
+-- the output `number` with this part
 abbrev pub own_output : LiveFiles → OutputSpec → ℕ → Part → PlannedOutput
 own_output f o number part = record { name = own_name o number; blocks = part.blocks; document = document_with f (own_spec o number) part }
 
--- the same of the output behind those that were written
+-- the name of the output after those in `written`
 abbrev pub next_name : OutputSpec → List Written → List ℕ
 next_name o written = own_name o (length written + 1)
 
@@ -198,25 +198,25 @@ next_spec o written = own_spec o (length written + 1)
 abbrev pub next_output : LiveFiles → OutputSpec → List Written → Part → PlannedOutput
 next_output f o written part = own_output f o (length written + 1) part
 
--- Where the links' files are told, the output of a number has the blocks of the part that was begun, and its own identifiers.
+-- The output `number` has the current part and its own identifiers, if the links' files are visible to the proof.
 abbrev pub WritesOwn : {S T : Type 0} → Ghosts S → writing.Ghosts S → S → S → OutputSpec → ℕ → PlacedBlocks → Result T RemuxEnd → Type 0
 WritesOwn r f old new o number b result = WritesPart r f old new (own_spec o number) (own_name o number) b result
 
--- This is said of it, and the parts behind it are left.
+-- `w` is the summary of the output, and the parts after it are left.
 pub record TellsOwn (f h : LiveFiles) (o : OutputSpec) (number : ℕ) (b b' : PlacedBlocks) (w : Written) : Type 0 where
   pub says : w ≡ written_of (own_output f o number (part_in f b))
   pub behind : parts_left h b' ≡ parts_left f b
 
--- So it is where the links' files are told, and what is ahead is behind the part.
+-- `w` is the summary of the output, if the links' files are visible to the proof, and the block ahead is after the part.
 pub record HasOwn (f h : LiveFiles) (o : OutputSpec) (number : ℕ) (b b' : PlacedBlocks) (w : Written) : Type 0 where
   pub told : IsTold f b.merge → TellsOwn f h o number b b' w
   pub over : IsOver b b'
 
--- Such an output was written, if the call isn't refused.
+-- An output was written as in `HasOwn`, unless the call failed.
 abbrev pub FindsOwn : {S E : Type 0} → Ghosts S → S → S → OutputSpec → ℕ → PlacedBlocks → PlacedBlocks → Result Written E → Type 0
 FindsOwn r old new o number b b' result = IfOk result (HasOwn (live_files r old) (live_files r new) o number b b')
 
--- The output of the part that was begun can be written behind these; no file of a link was opened under a name that may be written.
+-- The current part can be written as the next output, and no file of a link has a name that may be written.
 pub record CanWriteNext {S : Type 0} (r : Ghosts S) (f : writing.Ghosts S) (files : S) (o : OutputSpec) (written : List Written) (b : PlacedBlocks) : Type 0 where
   pub gives : CanGive (live_files r files) b
   pub begun : IsPartBegun b
@@ -224,49 +224,49 @@ pub record CanWriteNext {S : Type 0} (r : Ghosts S) (f : writing.Ghosts S) (file
   pub apart : IsUnwritten (f.holder files) o.split o.name b.merge
   pub records : HasRecords r f files (next_name o written) o.front o.chapters o.tags
 
--- One output more stands, and is among those that were written; the parts from the next one on are those that were left.
+-- One more output was written and is in `written'`, and the parts that were left follow.
 pub record WritesOne {S : Type 0} (r : Ghosts S) (f : writing.Ghosts S) (old new : S) (o : OutputSpec) (b b' : PlacedBlocks) (written written' : List Written) (begun : Bool) : Type 0 where
   pub writes : WritesLayout (f.names old) (f.names new) (next_name o written) (document_with (live_files r old) (next_spec o written) (part_in (live_files r old) b))
   pub added : written' ≡ written ++ written_of (next_output (live_files r old) o written (part_in (live_files r old) b)) ∷ []
   pub behind : parts_begun (live_files r new) b' begun ≡ parts_left (live_files r old) b
 
--- After a refusal it stands as a draft, or whole, or its name is as before.
+-- One more output was written; after an error its content is one of the draft, complete or unchanged.
 abbrev pub WritesTold : {S : Type 0} → Ghosts S → writing.Ghosts S → S → S → OutputSpec → PlacedBlocks → PlacedBlocks → List Written → List Written → Result Bool RemuxEnd → Type 0
 WritesTold r f old new o b b' written written' (Ok begun) = WritesOne r f old new o b b' written written' begun
 WritesTold r f old new o b b' written written' (Err _) =
     AreWrittenInOrder (f.names old) (f.names new) (draft_of (next_name o written) (document_with (live_files r old) (next_spec o written) (part_in (live_files r old) b)) ∷ [])
 
--- So it is where the links' files are told.
+-- One more output was written, if the links' files are visible to the proof.
 abbrev pub WritesNext : {S : Type 0} → Ghosts S → writing.Ghosts S → S → S → OutputSpec → PlacedBlocks → PlacedBlocks → List Written → List Written → Result Bool RemuxEnd → Type 0
 WritesNext r f old new o b b' written written' result = IsTold (live_files r old) b.merge → WritesTold r f old new o b b' written written' result
 
--- The next part was begun, or none is left; no attachments are left; and no more turns are.
+-- The next part was begun, or none is left; there are no attachments any more, and no more turns are left.
 pub record FindsNext (o o' : OutputSpec) (b b' : PlacedBlocks) (written written' : List Written) (begun : Bool) : Type 0 where
   pub begins : CanBeNext b' begun
   pub spec : o' ≡ record o { front = record o.front { attachments = [] } }
   pub count : length written' ≡ length written + 1
   pub on : turns_left b' begun ≤ way b.merge
 
--- what outputs are on the way, and when they stand
+-- the drafts of the outputs; and their finished contents
 abbrev pub drafts_of : List PlannedOutput → List Draft
 drafts_of outputs = map (λ (o : PlannedOutput). draft_of o.name o.document) outputs
 
 abbrev pub laid_out : PlannedOutput → Output
 laid_out o = record { name = o.name; content = layout o.document }
 
--- The octets of all documents stand under their names, and no other name changes; they are what the drafts become, and where the names are
--- told no more of each than a file may have.
+-- All outputs have the layouts of their documents, which are the results of their drafts, and other names are unchanged. If names are visible to
+-- the proof, each is at most the maximum length of a file.
 pub record WritesAll (old new : Names) (outputs : List PlannedOutput) : Type 0 where
   pub names : new ≡ with_outputs old (map laid_out outputs)
   pub become : outputs_of (drafts_of outputs) ≡ map laid_out outputs
   pub short : IfVisible old (λ world. All (λ (o : PlannedOutput). IsShort o.document) outputs)
 
--- After a refusal some first outputs stand whole, and the next one as a draft; every other name is as before.
+-- All outputs were written; after an error the first ones are complete, the next one has a content of its draft, and other names are unchanged.
 abbrev pub WritesOutputs : {T : Type 0} → Names → Names → List PlannedOutput → Result T RemuxEnd → Type 0
 WritesOutputs old new outputs (Ok _) = WritesAll old new outputs
 WritesOutputs old new outputs (Err _) = AreWrittenInOrder old new (drafts_of outputs)
 
--- Outputs can be written of all parts: no block was placed, and what stands around the Clusters of the first can be written.
+-- All outputs can be written: no block was placed, and the elements outside the first one's Clusters can be written.
 pub record CanWriteAll {S : Type 0} (r : Ghosts S) (f : writing.Ghosts S) (files : S) (o : OutputSpec) (b : PlacedBlocks) : Type 0 where
   pub gives : CanGive (live_files r files) b
   pub fresh : IsFresh b
@@ -278,30 +278,30 @@ pub record CanWriteAll {S : Type 0} (r : Ghosts S) (f : writing.Ghosts S) (files
 abbrev pub outputs_left : LiveFiles → OutputSpec → PlacedBlocks → List PlannedOutput
 outputs_left f o b = outputs_from f o 1 (parts (split_in b) (left f b.merge))
 
--- Where the links' files are told, these are written,
+-- All outputs were written, if the links' files are visible to the proof.
 abbrev pub WritesParts : {S T : Type 0} → Ghosts S → writing.Ghosts S → S → S → OutputSpec → PlacedBlocks → Result T RemuxEnd → Type 0
 WritesParts r f old new o b result = IsTold (live_files r old) b.merge → WritesOutputs (f.names old) (f.names new) (outputs_left (live_files r old) o b) result
 
--- and so it is said.
+-- The summaries of all outputs are right, if the links' files are visible to the proof.
 abbrev pub SaysWritten : {S : Type 0} → Ghosts S → S → OutputSpec → PlacedBlocks → Result (List Written) RemuxEnd → Type 0
 SaysWritten r old o b result = IsTold (live_files r old) b.merge → IfOk result (λ written. written ≡ map written_of (outputs_left (live_files r old) o b))
 
--- Of the links' files may be read what is due, and each once more, and the data of the attachments.
+-- The bytes that are read are at most those that are due, the links' files once more, and the attachments' data.
 abbrev pub ReadsParts : {S : Type 0} → Ghosts S → S → S → OutputSpec → PlacedBlocks → Type 0
 ReadsParts r old new o b = r.octets_read new ≤ r.octets_read old + due (live_files r old) b.merge + files_length (live_files r old) b.merge + data_of o
 
--- No file stays open, and the files of all names stay but of those that may be written; no other file is made, and none opened.
+-- No file stays open, only names that may be written have changed, and no other file was created or opened.
 pub record KeepsUnwritten {S : Type 0} (r : Ghosts S) (f : writing.Ghosts S) (split : Bool) (output : List ℕ) (old new : S) : Type 0 where
   pub names : List (List ℕ)
   pub form : All (λ name. may_be_written split output name ≡ true) names
   pub kept : KeepsOthers r f names old new
 
--- Another name than those that may be written; one that is opened is always another.
+-- The name can't be written; an opened name never can.
 abbrev pub IsNotMade : Bool → List ℕ → Asked → Type 0
 IsNotMade split output (Opened name) = ⊤
 IsNotMade split output (Made name) = may_be_written split output name ≡ false
 
--- It has as many lanes as before, and has told all damages where the links' files are told.
+-- The merge has the same number of output tracks, and all damaged places were reported, if the links' files are visible to the proof.
 pub record Ends (f : LiveFiles) (m m' : MergeSeen) : Type 0 where
   pub lanes : length m'.queues ≡ length m.queues
   pub damages : IsTold f m → told_by m' ≡ damages f m

@@ -21,44 +21,44 @@ use Rattle.remux_plan.specs.Parts.{drives_by}
 use Rattle.remux_plan.specs.declared.TheConstants.{MAX_SCALE}
 use Rattle.remuxer.specs.declared.placed.PlacedBlocks.{PlacedBlocks}
 
--- where the first of blocks stands
+-- the tick of the first block, if any
 abbrev pub first_tick : List OutputBlock → Option ℕ
 first_tick [] = None
 first_tick (b ∷ bs) = Some b.tick
 
 -- ---- places
 
--- a block stands in the same part as the one before it
+-- The block is in the same part as the previous one.
 abbrev pub is_same : Place → Bool
 is_same Same = true
 is_same (Next start) = false
 is_same Out = false
 
--- where the part starts that a block begins
+-- the start tick of the part that a block begins, if any
 abbrev pub start_in : Place → Option ℕ
 start_in Same = None
 start_in (Next start) = Some start
 start_in Out = None
 
--- how many octets of a block count towards a load: those of its Element, where a load ends a part
+-- the bytes of a block that count towards a load: its element, if parts end at a load
 abbrev pub octets_counted : CutsSeen → OutputBlock → ℕ
 octets_counted c b = if is_some c.size then octets_taken b else 0
 
--- ---- the block ahead
+-- ---- block ahead
 
--- the block that the k-th lane lends, from 0; in the output lanes count from 1
+-- the block of the output track `k`, counted from 0; in the output, track numbers start at 1
 abbrev pub block_lent : ℕ → LaneSeen → OutputBlock
 block_lent k l = in_lane (k + 1) (lent_block (lent l))
 
--- the same in a part that starts at this tick
+-- the block of the output track `k`, in a part that starts at the tick `start`
 abbrev pub lent_in : ℕ → ℕ → LaneSeen → OutputBlock
 lent_in start k l = in_part start (block_lent k l)
 
--- the block that a lane of a merge lends
+-- the block of an output track of a merge
 abbrev pub lent_at : MergeSeen → ℕ → List OutputBlock
 lent_at m k = option_map_or (λ (q : Queue). block_lent k q.lane ∷ []) (slice_get m.queues k) []
 
--- the block ahead, where there is one,
+-- the block ahead, if there is one
 abbrev pub ahead_at : MergeSeen → Option Ahead → List OutputBlock
 ahead_at m None = []
 ahead_at m (Some a) = lent_at m a.lane
@@ -66,12 +66,12 @@ ahead_at m (Some a) = lent_at m a.lane
 abbrev pub lent_ahead : PlacedBlocks → List OutputBlock
 lent_ahead b = ahead_at b.merge b.ahead
 
--- and with it those behind it
+-- the block ahead and the next ones, or nothing without a block ahead
 abbrev pub ahead_of : MergeSeen → Option Ahead → List OutputBlock → List OutputBlock
 ahead_of m None behind = []
 ahead_of m (Some a) behind = lent_at m a.lane ++ behind
 
--- the lane that lends it, where it is of the part that was begun
+-- the output track of the block ahead, if this block is in the current part
 abbrev pub lane_within : Option Ahead → Option ℕ
 lane_within None = None
 lane_within (Some a) = if is_same a.place then Some a.lane else None
@@ -79,21 +79,21 @@ lane_within (Some a) = if is_same a.place then Some a.lane else None
 abbrev pub is_within : Option Ahead → Bool
 is_within ahead = is_some (lane_within ahead)
 
--- ---- what is left
+-- ---- blocks that are left
 
--- how blocks are split
+-- the split of the blocks
 abbrev pub split_in : PlacedBlocks → Split
 split_in b = record { spec = b.cuts.spec; size = b.cuts.size; scale = b.cuts.scale; drives = drives_by b.drives }
 
--- what is left of the part that was begun: the block ahead, if that is of it, and those behind it up to the next cut
+-- the rest of the current part: the block ahead if it is in the part, and the next ones up to the next cut
 abbrev pub rest_of_part : LiveFiles → PlacedBlocks → List OutputBlock
 rest_of_part f b = if is_within b.ahead then lent_ahead b ++ within (split_in b) (start_of b.cuts) b.cuts.load (left f b.merge) else []
 
--- the blocks behind that part
+-- the blocks after the current part
 abbrev pub behind_part : LiveFiles → PlacedBlocks → List OutputBlock
 behind_part f b = if is_within b.ahead then beyond (split_in b) (start_of b.cuts) b.cuts.load (left f b.merge) else ahead_of b.merge b.ahead (left f b.merge)
 
--- the part, as far as it is left; it ends where what is behind it begins, and no earlier than it starts
+-- the rest of the current part, which ends at the next block after it, and not before its own start
 abbrev pub part_in : LiveFiles → PlacedBlocks → Part
 part_in f b = record {
   start = start_of b.cuts;
@@ -101,16 +101,16 @@ part_in f b = record {
   blocks = map (in_part (start_of b.cuts)) (rest_of_part f b);
 }
 
--- the parts of blocks of which the first stands in a section that starts at this tick
+-- the parts of blocks, the first of them in a section that starts at this tick
 abbrev pub parts_from : Split → ℕ → List OutputBlock → List Part
 parts_from s start [] = []
 parts_from s start (b ∷ bs) = parts_in s (cut_from s (begun start b) bs)
 
--- the parts behind the one that was begun
+-- the parts after the current one
 abbrev pub parts_left : LiveFiles → PlacedBlocks → List Part
 parts_left f b = if is_within b.ahead then parts_in (split_in b) (sections_at (split_in b) (behind_part f b)) else parts_from (split_in b) (start_of b.cuts) (behind_part f b)
 
--- at most so many blocks are left: the one ahead, and one for each turn that the merge has left
+-- an upper bound on the blocks that are left: the one ahead, and one for each turn of the merge
 abbrev pub turns_with : ℕ → Option Ahead → ℕ
 turns_with way None = way
 turns_with way (Some a) = way + 1
@@ -118,21 +118,20 @@ turns_with way (Some a) = way + 1
 abbrev pub turns : PlacedBlocks → ℕ
 turns b = turns_with (way b.merge) b.ahead
 
--- ---- what holds on the way
+-- ---- invariants
 
--- No block has been placed, and the start that is kept is 0.
+-- No block was placed, and the start is 0.
 pub record IsFresh (b : PlacedBlocks) : Type 0 where
   pub placed : b.cuts.start ≡ None
   pub start : b.start ≡ 0
 
--- A load at which parts end has 64 bits, and then they end at no times.
+-- A load limit has 64 bits, and excludes times.
 pub record IsLimit (spec : SplitSpec) (limit : ℕ) : Type 0 where
   pub fits : limit < 2 ^ 64
   pub whole : spec ≡ Whole
 
--- Blocks can be given among these files: the merge may go on, it has at most 64 lanes, and of each it is said whether it drives; a
--- tick of each has as many nanoseconds as one of the output; in nanoseconds the start of the section has 64 bits; and parts end at times or at
--- a load.
+-- Blocks can be taken among these files. The merge can continue with at most 64 output tracks of the output's scale, each marked as driving or
+-- not. The start of the section has 64 bits in nanoseconds, and parts end at times or at a load.
 pub record CanGive (f : LiveFiles) (b : PlacedBlocks) : Type 0 where
   pub ready : IsReady f b.merge
   pub few : length b.merge.queues ≤ MAX_LANES
@@ -143,14 +142,14 @@ pub record CanGive (f : LiveFiles) (b : PlacedBlocks) : Type 0 where
   pub empty : is_none b.cuts.start ≡ true → b.cuts.load ≡ 0
   pub limit : IfSome b.cuts.size (IsLimit b.cuts.spec)
 
--- A lane of a merge lends a block that can be written, and whose time has 64 bits.
+-- The output track `lane` has a block that can be written, with a time of 64 bits.
 pub record LendsAt (m : MergeSeen) (scale lane : ℕ) : Type 0 where
   pub queue : Queue
   pub here : slice_get m.queues lane ≡ Some queue
   pub sound : IsLent (lent queue.lane)
   pub early : (lent queue.lane).head.tick * scale < 2 ^ 64
 
--- The block ahead is the last one that was placed. Where it begins a section, it alone is counted of that.
+-- The block ahead is the last one that was placed. If it begins a section, the section's load is only its own.
 pub record IsAhead (m : MergeSeen) (c : CutsSeen) (a : Ahead) : Type 0 where
   pub lends : LendsAt m c.scale a.lane
   pub started : c.start ≡ Some (start_of c)
@@ -158,7 +157,7 @@ pub record IsAhead (m : MergeSeen) (c : CutsSeen) (a : Ahead) : Type 0 where
   pub place : a.place ≡ place_at (is_kept c) begins (start_of c)
   pub counts : begins ≡ true → c.load ≡ counted c.size (octets_taken (block_lent a.lane lends.queue.lane))
 
--- Such a block is ahead, or all lanes have ended.
+-- Such a block is ahead, or all output tracks have ended.
 abbrev pub StandsAt : MergeSeen → CutsSeen → Option Ahead → Type 0
 StandsAt m c None = IsEnded m
 StandsAt m c (Some a) = IsAhead m c a
@@ -166,13 +165,13 @@ StandsAt m c (Some a) = IsAhead m c a
 abbrev pub StandsAhead : PlacedBlocks → Type 0
 StandsAhead b = StandsAt b.merge b.cuts b.ahead
 
--- A part was begun, and it is known where it starts: the block ahead is of it, or none is left.
+-- There is a current part with a known start, and the block ahead is in it, or none is left.
 pub record IsPartBegun (b : PlacedBlocks) : Type 0 where
   pub starts : b.start ≡ start_of b.cuts
   pub stands : StandsAhead b
   pub within : is_within b.ahead ≡ is_some b.ahead
 
--- An end lies no earlier than a start, and in nanoseconds it has 64 bits.
+-- The end isn't before the start, and has 64 bits in nanoseconds.
 pub record IsEnd (scale start end : ℕ) : Type 0 where
   pub behind : start * scale ≤ end * scale
   pub early : end * scale < 2 ^ 64

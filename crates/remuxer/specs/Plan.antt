@@ -1,4 +1,4 @@
--- A plan that can be written, and what becomes of it.
+-- A plan that can be written, and its effect.
 use Rattle.std.specs.Prelude.{◌≡◌, ◌<◌, ◌≤◌, ℕ, ◌+◌, ◌*◌, Bool, List, All, IfOk, IfSome, length, sum_by, Result}
 use Rattle.mkv_io.specs.LiveFiles.{LiveFiles}
 use Rattle.mkv_io.specs.Sources.{live_files}
@@ -19,10 +19,10 @@ use Rattle.remux_plan.specs.declared.summary.Summary.{Summary}
 use Rattle.remuxer.specs.Output.{HasRecords, IsUnwrittenLink, WritesOutputs}
 use Rattle.remuxer.specs.Places.{IsLimit}
 
--- ---- what is asked of a plan
+-- ---- preconditions of a plan
 
--- A lane has at most 64 links, which keep the limits of what a lane lends, and of each the number of its input. Their
--- files are live, and none of them was opened under a name that may be written.
+-- The output track has at most 64 links within their limits, each with its input number. Their files are live, and none of them was opened with a
+-- name that may be written.
 pub record IsPlannedLane {S : Type 0} (r : Ghosts S) (f : writing.Ghosts S) (files : S) (split : Bool) (output : List ℕ) (l : PlannedLane) : Type 0 where
   pub few : length l.spec.links ≤ MAX_LINKS
   pub small : All IsSmallLink l.spec.links
@@ -31,8 +31,8 @@ pub record IsPlannedLane {S : Type 0} (r : Ghosts S) (f : writing.Ghosts S) (fil
   pub numbered : length l.inputs ≡ length l.spec.links
   pub inputs : All (λ input. input < MAX_INPUTS) l.inputs
 
--- A tick has nanoseconds, but not too many; there are at most 64 lanes; what stands around the Clusters can be written; and parts end at times
--- or at a load.
+-- The nanoseconds per tick are within their limits, there are at most 64 output tracks, the elements outside the Clusters can be written, and
+-- parts end at times or at a load.
 pub record IsPlan {S : Type 0} (r : Ghosts S) (f : writing.Ghosts S) (files : S) (p : MergePlan) : Type 0 where
   pub scale : 1 ≤ p.limits.scale
   pub scale_most : p.limits.scale ≤ MAX_SCALE
@@ -41,28 +41,28 @@ pub record IsPlan {S : Type 0} (r : Ghosts S) (f : writing.Ghosts S) (files : S)
   pub records : HasRecords r f files (name_of (is_split p) p.output 1) p.front p.chapters p.tags
   pub limit : IfSome p.size (IsLimit p.split)
 
--- The files of all links tell their contents.
+-- The files of all links are visible to the proof.
 abbrev pub IsToldPlan : LiveFiles → MergePlan → Type 0
 IsToldPlan f p = All (λ (l : PlannedLane). All (IsToldLink f) l.spec.links) p.lanes
 
--- the lengths of the files of all links, each as often as a link names it
+-- the sum of the lengths of all links' files, which counts a file once for each link
 abbrev pub inputs_length : LiveFiles → MergePlan → ℕ
 inputs_length f p = sum_by (λ (l : PlannedLane). files_length f l.spec.links) p.lanes
 
--- how many octets the attachments' data are
+-- the length of the attachments' data
 abbrev pub data_length : MergePlan → ℕ
 data_length p = sum_by (λ (a : Attachment). a.len) p.front.attachments
 
--- ---- what becomes of it
+-- ---- effect
 
--- Each of the links' files is read once, and once more at most where a read fails, and the data of the attachments.
+-- The links' files are read once, and at most once more if a read fails, and the attachments' data.
 abbrev pub ReadsFew : {S : Type 0} → Ghosts S → S → S → MergePlan → Type 0
 ReadsFew r old new p = r.octets_read new ≤ r.octets_read old + 2 * inputs_length (live_files r old) p + data_length p
 
--- Where the links' files are told, the outputs are those of the plan.
+-- The outputs are those of the plan, if the links' files are visible to the proof.
 abbrev pub WritesPlan : {S T : Type 0} → Ghosts S → writing.Ghosts S → S → S → MergePlan → Result T RemuxEnd → Type 0
 WritesPlan r f old new p result = IsToldPlan (live_files r old) p → WritesOutputs (f.names old) (f.names new) (outputs_in (live_files r old) p) result
 
--- And so is the summary that is answered.
+-- The summary is the plan's, if the links' files are visible to the proof.
 abbrev pub SumsUp : {S : Type 0} → Ghosts S → S → MergePlan → Result Summary RemuxEnd → Type 0
 SumsUp r old p result = IsToldPlan (live_files r old) p → IfOk result (IsSummary (live_files r old) p)

@@ -1,4 +1,4 @@
--- An output on the way: what of its document stands in the file, what is held in the buffer, and what is left.
+-- An output while it is written: the part of its document in the file, the Cluster in the buffer, and the blocks that are left.
 use Rattle.std.specs.Prelude.{◌≡◌, ◌≤◌, ℕ, Bool, true, List, [], ◌∷◌, ◌++◌, Option, Some, None, Result, Ok, Err, length, nat_le, if◌then◌else◌, ◌+◌}
 use Rattle.mkv_io.specs.Faults.{counted}
 use Rattle.mkv_io.specs.Names.{Names}
@@ -17,7 +17,7 @@ use Rattle.output_model.specs.declared.TheConstants.{MAX_CUES}
 use Rattle.output_model.specs.declared.rule.CueRule.{CueRule}
 use Rattle.remuxer.specs.declared.counts.Counts.{Counts}
 
--- the Clusters that blocks make behind one that is held, or behind none
+-- the Clusters of the blocks `left`, after the one in the buffer, if any
 abbrev pub cut_on : ClusterLimits → Option OutputCluster → List OutputBlock → List OutputCluster
 cut_on limits None left = clusters limits left
 cut_on limits (Some c) left = cut_from limits c left
@@ -26,28 +26,28 @@ abbrev pub clusters_held : Option OutputCluster → List OutputCluster
 clusters_held None = []
 clusters_held (Some c) = c ∷ []
 
--- ---- what is counted
+-- ---- counts
 
--- with a cue point more, as far as an output may have one
+-- the number of cue points with one more, up to the limit
 abbrev pub with_point : ℕ → ℕ
 with_point n = if nat_le MAX_CUES n then n else n + 1
 
--- with a block, which begins a Cluster or doesn't, and gets a cue point or doesn't
+-- the counts with one more block, which may begin a Cluster or get a cue point
 abbrev pub counted_with : Bool → Bool → Counts → Counts
 counted_with begins cued n = record {
   clusters = if begins then counted n.clusters 1 else n.clusters;
   cues = if cued then with_point n.cues else n.cues;
 }
 
--- The counts are those of these Clusters, and of so many cue points.
+-- `n` has the numbers of these Clusters and cue points.
 pub record AreCounts (cs : List OutputCluster) (points : ℕ) (n : Counts) : Type 0 where
   pub clusters : n.clusters ≡ counted 0 (length cs)
   pub cues : n.cues ≡ points
 
--- ---- what stands
+-- ---- state of the output
 
--- Some Clusters of the document stand in the file, the buffer holds the one behind them, if there is one, and these
--- blocks are left; the cue points so far are those of these Clusters, and so are the counts.
+-- The file has the first Clusters of the document `d`, the buffer has the next one, if any, and the blocks `left` are left. The cue points and
+-- counts are those of these Clusters.
 pub record Stands {S : Type 0} (r : Ghosts S) (f : writing.Ghosts S) (before : Names) (name : List ℕ) (rules : List CueRule) (d : Document) (files : S) (o : OpenOutput) (g : Gathered) (n : Counts) (left : List OutputBlock) : Type 0 where
   pub done : List OutputCluster
   pub cluster : Option OutputCluster
@@ -57,34 +57,34 @@ pub record Stands {S : Type 0} (r : Ghosts S) (f : writing.Ghosts S) (before : N
   pub counts : AreCounts (done ++ clusters_held cluster) (length o.cues) n
   pub stands : StandsOpen r f before name d.front (joined (clusters_elements done)) files o
 
--- All Clusters of the document stand in the file, and its cue points and the counts are known.
+-- The file has all Clusters of the document `d`, and its cue points and counts are known.
 pub record HasAll {S : Type 0} (r : Ghosts S) (f : writing.Ghosts S) (before : Names) (name : List ℕ) (d : Document) (files : S) (o : OpenOutput) (n : Counts) : Type 0 where
   pub cues : d.cues ≡ o.cues
   pub counts : AreCounts d.clusters (length d.cues) n
   pub stands : StandsOpen r f before name d.front (joined (clusters_elements d.clusters)) files o
 
--- A block at this tick, whose Element has so many octets, joins the Cluster that is held, and no memory was given back.
+-- A block at this tick, with an element of `len` bytes, can join the Cluster in the buffer, and no capacity was lost.
 pub record JoinsHeld (tick len : ℕ) (old new : Gathered) : Type 0 where
   pub joins : has_place new tick len ≡ true
   pub spare : old.spare ≤ new.spare
 
--- ---- what a call makes of it; after a refusal the output stands as a draft
+-- ---- effect of a call; after an error the content is one of the draft
 
--- the next block is still left
+-- A call makes room, and the block `b` is still left.
 abbrev pub MakesRoom : {S T E : Type 0} → Ghosts S → writing.Ghosts S → OutputBlock → S → S → OpenOutput → OpenOutput → Gathered → Gathered → Result T E → Type 0
 MakesRoom r f b old new o o' g g' (Ok _) =
     (before : Names) (name : List ℕ) (rules : List CueRule) (d : Document) (n : Counts) (left : List OutputBlock) → Stands r f before name rules d old o g n (b ∷ left) → Stands r f before name rules d new o' g' n (b ∷ left)
 MakesRoom r f b old new o o' g g' (Err _) =
     (before : Names) (name : List ℕ) (rules : List CueRule) (d : Document) (n : Counts) (left : List OutputBlock) → Stands r f before name rules d old o g n (b ∷ left) → StandsDrafted before (f.names new) (draft_of name d)
 
--- the next block isn't left any more; it is answered whether it begins a Cluster
+-- A call adds the block `b`, which isn't left any more, and returns whether it begins a Cluster.
 abbrev pub Adds : {S E : Type 0} → Ghosts S → writing.Ghosts S → OutputBlock → Bool → S → S → OpenOutput → OpenOutput → Gathered → Gathered → Result Bool E → Type 0
 Adds r f b cued old new o o' g g' (Ok begins) =
     (before : Names) (name : List ℕ) (rules : List CueRule) (d : Document) (n : Counts) (left : List OutputBlock) → cued ≡ is_cue rules b → Stands r f before name rules d old o g n (b ∷ left) → Stands r f before name rules d new o' g' (counted_with begins cued n) left
 Adds r f b cued old new o o' g g' (Err _) =
     (before : Names) (name : List ℕ) (rules : List CueRule) (d : Document) (n : Counts) (left : List OutputBlock) → Stands r f before name rules d old o g n (b ∷ left) → StandsDrafted before (f.names new) (draft_of name d)
 
--- no block was left
+-- A call writes the last Cluster if no block is left.
 abbrev pub Ends : {S T E : Type 0} → Ghosts S → writing.Ghosts S → S → S → OpenOutput → OpenOutput → Gathered → Result T E → Type 0
 Ends r f old new o o' g (Ok _) =
     (before : Names) (name : List ℕ) (rules : List CueRule) (d : Document) (n : Counts) → Stands r f before name rules d old o g n [] → d.cues ≡ cues_for (is_cue rules) d.front d.clusters → HasAll r f before name d new o' n

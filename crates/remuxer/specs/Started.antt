@@ -1,4 +1,4 @@
--- The lanes of a plan, started.
+-- The started output tracks of a plan.
 use Rattle.std.specs.Prelude.{◌≡◌, ◌≤◌, ℕ, List, [], ◌∷◌, ◌++◌, All, length, map}
 use Rattle.std.specs.List.{AllZip}
 use Rattle.mkv_io.specs.LiveFiles.{LiveFiles}
@@ -10,17 +10,17 @@ use Rattle.remux_plan.specs.Plan.{rules_of}
 use Rattle.remux_plan.specs.declared.plan.PlannedLane.{PlannedLane}
 use Rattle.remuxer.specs.declared.planned.StartedLanes.{StartedLanes}
 
--- A lane can be started: it has at most 64 links, which keep the limits of what a lane lends.
+-- The output track can be started: it has at most 64 links within their limits.
 pub record CanStart (p : PlannedLane) : Type 0 where
   pub few : length p.spec.links ≤ MAX_LINKS
   pub small : All IsSmallLink p.spec.links
 
--- It was started over its links, and has given nothing.
+-- The output track was started over its links, and has returned no block.
 pub record IsStarted (scale : ℕ) (p : PlannedLane) (l : LaneSeen) : Type 0 where
   pub starts : (f : LiveFiles) → Starts f scale p.spec.links l
   pub begins : Begins scale p.spec.links l
 
--- One lane more was started.
+-- One more output track was started.
 pub record AddsLane (scale : ℕ) (p : PlannedLane) (old new : StartedLanes) : Type 0 where
   pub lane : LaneSeen
   pub started : IsStarted scale p lane
@@ -29,11 +29,11 @@ pub record AddsLane (scale : ℕ) (p : PlannedLane) (old new : StartedLanes) : T
   pub drives : new.drives ≡ old.drives ++ p.drives ∷ []
   pub inputs : new.inputs ≡ old.inputs ++ p.inputs ∷ []
 
--- the numbers of the inputs of the links of lanes
+-- the input numbers of the output tracks' links
 abbrev pub numbers_of : List PlannedLane → List (List ℕ)
 numbers_of planned = map (λ (p : PlannedLane). p.inputs) planned
 
--- All lanes were started, in their order.
+-- All output tracks were started, in their order.
 pub record AreStarted (scale : ℕ) (planned : List PlannedLane) (s : StartedLanes) : Type 0 where
   pub lanes : AllZip (IsStarted scale) planned s.lanes
   pub rules : s.rules ≡ rules_of planned

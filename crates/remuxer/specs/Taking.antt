@@ -1,4 +1,4 @@
--- An output that takes the blocks of a merge, and what a call makes of both.
+-- An output that takes the blocks of a merge, and the effect of a call on both.
 use Rattle.std.specs.Prelude.{◌≡◌, ◌≤◌, ℕ, ◌+◌, true, false, ◌&&◌, if◌then◌else◌, is_none, is_some, List, [], ◌∷◌, ◌++◌, length, map, Option, Some, None, Result, Ok, Err, OnOk}
 use Rattle.mkv_io.specs.Faults.{counted, last_count}
 use Rattle.mkv_io.specs.LiveFiles.{LiveFiles}
@@ -29,62 +29,61 @@ use Rattle.remuxer.specs.declared.placed.PlacedBlocks.{PlacedBlocks}
 use Rattle.remuxer.specs.declared.writer.BlockWriter.{BlockWriter}
 use Rattle.lanes.specs.Lane.{LaneSeen}
 
--- An output can take blocks: its file is open; they can be given; and no file of a link was opened under the output's name.
+-- The output in `w` can take blocks: its file is open, blocks can be taken, and no file of a link has its name.
 pub record CanTake {S : Type 0} (r : Ghosts S) (f : writing.Ghosts S) (files : S) (w : BlockWriter) (b : PlacedBlocks) : Type 0 where
   pub is_open : IsOpen r files w.out
   pub gives : CanGive (live_files r files) b
   pub apart : IsApart (f.holder files) (f.holder files w.out.file.n ∷ []) b.merge
 
--- ---- the output's file
+-- ---- file of the output
 
--- It is the same file, which is open still where the call isn't refused. No file of another name changes.
+-- The file is the same, and is still open unless the call failed. Files of other names are unchanged.
 pub record WritesInto {S T : Type 0} (r : Ghosts S) (f : writing.Ghosts S) (old new : S) (w w' : BlockWriter) (result : Result T RemuxEnd) : Type 0 where
   pub file : w'.out.file ≡ w.out.file
   pub is_open : OnOk result (IsOpen r new w'.out)
   pub kept : KeepsOthers r f (f.holder old w.out.file.n ∷ []) old new
 
--- ---- what it holds
+-- ---- contents of the buffer
 
--- No more than one small Cluster is held, but for a single block that is larger: where that is so before a call, it is so
--- behind it, too, if the call isn't refused.
+-- If the buffer was small before a call, it is small after it, unless the call failed: it has one small Cluster, or a single larger block.
 abbrev pub StaysSmall : {T : Type 0} → BlockWriter → BlockWriter → Result T RemuxEnd → Type 0
 StaysSmall w w' result = OnOk result (HoldsSmall w.buffer → HoldsSmall w'.buffer)
 
--- ---- its blocks
+-- ---- blocks of the output
 
--- An output on the way, of whose blocks these were left, is on the way then, and those are left.
+-- If the blocks `was` were left of an output, the blocks `left` are left afterwards.
 abbrev pub StaysOnTheWay : {S : Type 0} → Ghosts S → writing.Ghosts S → List CueRule → List OutputBlock → List OutputBlock → S → S → BlockWriter → BlockWriter → Type 0
 StaysOnTheWay r f rules was left old new w w' =
     (before : Names) (name : List ℕ) (d : Document) → Stands r f before name rules d old w.out w.buffer w.counts was → Stands r f before name rules d new w'.out w'.buffer w'.counts left
 
--- It has all its Clusters then.
+-- If the blocks `was` were left of an output, it has all its Clusters afterwards.
 abbrev pub GetsAll : {S : Type 0} → Ghosts S → writing.Ghosts S → List CueRule → List OutputBlock → S → S → BlockWriter → BlockWriter → Type 0
 GetsAll r f rules was old new w w' =
     (before : Names) (name : List ℕ) (d : Document) → d.cues ≡ cues_for (is_cue rules) d.front d.clusters → Stands r f before name rules d old w.out w.buffer w.counts was → HasAll r f before name d new w'.out w'.counts
 
--- It stands as a draft then.
+-- If the blocks `was` were left of an output, its content is one of the draft afterwards.
 abbrev pub StaysDraft : {S : Type 0} → Ghosts S → writing.Ghosts S → List CueRule → List OutputBlock → S → S → BlockWriter → Type 0
 StaysDraft r f rules was old new w =
     (before : Names) (name : List ℕ) (d : Document) → Stands r f before name rules d old w.out w.buffer w.counts was → StandsDrafted before (f.names new) (draft_of name d)
 
--- This block was the first of those that were left, and the others are left.
+-- The block `b` was the first that was left, and the others are left now.
 abbrev pub TakesNext : {S T : Type 0} → Ghosts S → writing.Ghosts S → List CueRule → OutputBlock → S → S → BlockWriter → BlockWriter → Result T RemuxEnd → Type 0
 TakesNext r f rules b old new w w' (Ok _) = (left : List OutputBlock) → StaysOnTheWay r f rules (b ∷ left) left old new w w'
 TakesNext r f rules b old new w w' (Err _) = (left : List OutputBlock) → StaysDraft r f rules (b ∷ left) old new w
 
--- The block that the k-th lane lends to a part that starts at this tick was the first of those that were left, and the others are left.
+-- The block of the output track `k`, in a part that starts at this tick, was the first that was left, and the others are left now.
 abbrev pub TakesLent : {S T : Type 0} → Ghosts S → writing.Ghosts S → List CueRule → ℕ → ℕ → LaneSeen → S → S → BlockWriter → BlockWriter → Result T RemuxEnd → Type 0
 TakesLent r f rules start k lane old new w w' result = TakesNext r f rules (lent_in start k lane) old new w w' result
 
--- So many blocks more were taken.
+-- The output has taken `n` more blocks, unless the call failed.
 abbrev pub TakesMore : {T : Type 0} → ℕ → BlockWriter → BlockWriter → Result T RemuxEnd → Type 0
 TakesMore n w w' result = OnOk result (w'.blocks ≡ counted w.blocks n)
 
--- the blocks that are left of a part that starts at this tick
+-- the blocks that are left of a part that starts at the tick `start`
 abbrev pub left_of_part : LiveFiles → ℕ → PlacedBlocks → List OutputBlock
 left_of_part f start b = map (in_part start) (rest_of_part f b)
 
--- Some of the blocks that were left of a part were taken, and the others are left; what stands behind it is the same.
+-- Some blocks of the part were taken, the others are left, and the blocks after the part are the same.
 pub record TakesSome {S : Type 0} (r : Ghosts S) (f : writing.Ghosts S) (rules : List CueRule) (start : ℕ) (old new : S) (w w' : BlockWriter) (b b' : PlacedBlocks) : Type 0 where
   pub stands : StaysOnTheWay r f rules (left_of_part (live_files r old) start b) (left_of_part (live_files r new) start b') old new w w'
   pub behind : behind_part (live_files r new) b' ≡ behind_part (live_files r old) b
@@ -92,24 +91,24 @@ pub record TakesSome {S : Type 0} (r : Ghosts S) (f : writing.Ghosts S) (rules :
   pub count : counted w'.blocks (length (rest_of_part (live_files r new) b')) ≡ counted w.blocks (length (rest_of_part (live_files r old) b))
   pub few : w.blocks ≤ last_count → w'.blocks ≤ last_count
 
--- After a refusal the output stands as a draft.
+-- Some blocks of the part were taken; after an error the content is one of the draft.
 abbrev pub TakesTold : {S T : Type 0} → Ghosts S → writing.Ghosts S → List CueRule → ℕ → S → S → BlockWriter → BlockWriter → PlacedBlocks → PlacedBlocks → Result T RemuxEnd → Type 0
 TakesTold r f rules start old new w w' b b' (Ok _) = TakesSome r f rules start old new w w' b b'
 TakesTold r f rules start old new w w' b b' (Err _) = StaysDraft r f rules (left_of_part (live_files r old) start b) old new w
 
--- So it is where the links' files are told.
+-- Some blocks of the part were taken, if the links' files are visible to the proof.
 abbrev pub TakesPart : {S T : Type 0} → Ghosts S → writing.Ghosts S → List CueRule → S → S → BlockWriter → BlockWriter → PlacedBlocks → PlacedBlocks → Result T RemuxEnd → Type 0
 TakesPart r f rules old new w w' b b' result = IsTold (live_files r old) b.merge → TakesTold r f rules (start_of b.cuts) old new w w' b b' result
 
--- ---- the merge
+-- ---- merge
 
--- The links' files are told still, and the same damages will have been told in the end.
+-- The links' files are still visible to the proof, and the same damaged places are reported at the end.
 pub record GoesOnTold (f h : LiveFiles) (m m' : MergeSeen) : Type 0 where
   pub told : IsTold h m'
   pub damages : damages h m' ≡ damages f m
 
--- Its lanes have the same links, and are cut as before; blocks can be given among the new files. What was read is taken from
--- what may be read, but for so many octets.
+-- The output tracks have the same links and cuts, and blocks can be taken among the new files. The bytes that were read were due, except at most
+-- `more`.
 pub record GoesOn {S : Type 0} (r : Ghosts S) (more : ℕ) (old new : S) (b b' : PlacedBlocks) : Type 0 where
   pub lanes : KeepsQueues b.merge.queues b'.merge.queues
   pub split : split_in b' ≡ split_in b
@@ -118,30 +117,31 @@ pub record GoesOn {S : Type 0} (r : Ghosts S) (more : ℕ) (old new : S) (b b' :
   pub paid : r.octets_read new + due (live_files r new) b'.merge ≤ r.octets_read old + due (live_files r old) b.merge + more
   pub told : IsTold (live_files r old) b.merge → GoesOnTold (live_files r old) (live_files r new) b.merge b'.merge
 
--- A call that is refused may read each of the links' files once more.
+-- The merge goes on; a call that fails may read each of the links' files once more.
 abbrev pub Goes : {S T E : Type 0} → Ghosts S → ℕ → S → S → PlacedBlocks → PlacedBlocks → Result T E → Type 0
 Goes r more old new b b' (Ok _) = GoesOn r more old new b b'
 Goes r more old new b b' (Err _) = r.octets_read new ≤ r.octets_read old + due (live_files r old) b.merge + files_length (live_files r old) b.merge + more
 
--- ---- the next block of the merge
+-- ---- next block of the merge
 
--- the block ahead begins no part
+-- The block ahead begins no part.
 abbrev pub BeginsNone : Option Ahead → Type 0
 BeginsNone None = ⊥
 BeginsNone (Some a) = start_in a.place ≡ None
 
--- Where the block ahead was of the part that was begun, the others of it are left, and the same behind it; where it began no part, the same
--- parts are left.
+-- If the block ahead was in the current part, the rest of the part and the blocks after it are left. If it began no part, the same parts are
+-- left.
 pub record Leaves (f h : LiveFiles) (b b' : PlacedBlocks) : Type 0 where
   pub rest : is_within b.ahead ≡ true → rest_of_part f b ≡ lent_ahead b ++ rest_of_part h b'
   pub behind : is_within b.ahead ≡ true → behind_part h b' ≡ behind_part f b
   pub parts : BeginsNone b.ahead → parts_left h b' ≡ parts_left f b
 
--- All parts are left where no block had been placed; without a block there is the one at the beginning, if it is written.
+-- If no block was placed, all parts are left; without a block this is the part at the start of the output, if it is written.
 abbrev pub LeavesAll : LiveFiles → LiveFiles → PlacedBlocks → PlacedBlocks → Type 0
 LeavesAll f h b b' = (if is_none b'.ahead && is_kept b'.cuts then part_in h b' ∷ [] else parts_left h b') ≡ parts (split_in b) (left f b.merge)
 
--- The next block of the merge is ahead, or all lanes have ended, and nothing was placed; no other part was begun; fewer turns are left.
+-- The next block of the merge is ahead, or all output tracks have ended and nothing was placed. No other part was begun, and fewer turns are
+-- left.
 pub record Advances (f h : LiveFiles) (b b' : PlacedBlocks) : Type 0 where
   pub stands : StandsAhead b'
   pub start : b'.start ≡ b.start
@@ -150,15 +150,15 @@ pub record Advances (f h : LiveFiles) (b b' : PlacedBlocks) : Type 0 where
   pub left : StandsAhead b → IsTold f b.merge → Leaves f h b b'
   pub all : IsFresh b → IsTold f b.merge → LeavesAll f h b b'
 
--- ---- behind the part
+-- ---- after the part
 
--- What is ahead is behind the part, of which it is known where it started; fewer turns are left, and none more where all lanes have ended.
+-- The block ahead is after the part with the known start, and fewer turns are left.
 pub record IsOver (b b' : PlacedBlocks) : Type 0 where
   pub stands : StandsAhead b'
   pub start : b'.start ≡ b.start
   pub behind : is_within b'.ahead ≡ false
   pub on : turns b' ≤ way b.merge
 
--- the damages that were told of each link of each lane
+-- the damaged places that were reported, for each link of each output track
 abbrev pub told_by : MergeSeen → List (List ToldDamages)
 told_by m = map (λ (q : Queue). q.lane.walk.told.items) m.queues

@@ -1,4 +1,4 @@
--- The damages of inputs, as the lanes of a merge have told them.
+-- The damaged places of inputs, as the output tracks of a merge have reported them.
 use Rattle.std.specs.Prelude.{◌≡◌, ◌++◌, ◌==◌, ℕ, List, [], ◌∷◌, Option, None}
 use Rattle.std.specs.List.{flat_map, position, slice_get}
 use Rattle.std.specs.Option.{option_and_then, option_or, unwrap_or}
@@ -6,27 +6,27 @@ use Rattle.cluster_reader.specs.ToldDamages.{ToldDamages, told_damages}
 use Rattle.remux_plan.specs.Summary.{first_damages, more_damages}
 use Rattle.remux_plan.specs.declared.summary.Summary.{Summary}
 
--- What a lane, whose links are of these inputs, has told of an input: that of the first link of its number.
+-- the damaged places of the input that an output track has reported, for its first link of this input
 abbrev pub told_at : List ℕ → List ToldDamages → ℕ → Option ToldDamages
 told_at inputs told input = option_and_then (slice_get told) (position (λ number. number == input) inputs)
 
--- of lanes the first counts that has a link of it
+-- the damaged places of the input, for the first output track with a link of it
 abbrev pub told_of : List (List ℕ) → List (List ToldDamages) → ℕ → Option ToldDamages
 told_of [] tolds input = None
 told_of (inputs ∷ lanes) [] input = None
 told_of (inputs ∷ lanes) (told ∷ tolds) input = option_or (told_at inputs told input) (told_of lanes tolds input)
 
--- an input that has no link has no damages
+-- the damaged places of the input, which are none without a link
 abbrev pub damages_told : List (List ℕ) → List (List ToldDamages) → ℕ → ToldDamages
 damages_told lanes tolds input = unwrap_or (told_of lanes tolds input) (told_damages [])
 
--- the damages of an input behind those of others
+-- `new` is `old` with the damaged places of the input added.
 pub record AddsDamages (input : ℕ) (told : ToldDamages) (old new : Summary) : Type 0 where
   pub outputs : new.outputs ≡ old.outputs
   pub damages : new.damages ≡ old.damages ++ first_damages input told
   pub more : new.more ≡ old.more ++ more_damages input told
 
--- These are the damages of all inputs.
+-- `s` has the damaged places of all inputs.
 pub record HasDamages (lanes : List (List ℕ)) (tolds : List (List ToldDamages)) (inputs : List ℕ) (s : Summary) : Type 0 where
   pub damages : s.damages ≡ flat_map (λ input. first_damages input (damages_told lanes tolds input)) inputs
   pub more : s.more ≡ flat_map (λ input. more_damages input (damages_told lanes tolds input)) inputs

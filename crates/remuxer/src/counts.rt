@@ -1,11 +1,11 @@
-//! What is counted of an output.
+//! Counts of an output
 
 ghost use Rattle.std.specs.Prelude.{◌≡◌};
 ghost use Rattle.remuxer.specs.Stands.{counted_with};
 
 use output_model::MAX_CUES;
 
-/// How many Clusters an output has, the one that is held among them, and how many cue points.
+/// Number of an output's Clusters, the one in the buffer included, and of its cue points
 #[derive(Clone, Copy, Debug, PartialEq, Eq)]
 pub struct Counts {
     pub clusters: u64,
@@ -13,8 +13,8 @@ pub struct Counts {
 }
 
 impl Counts {
-    /// Counts a block, which begins a Cluster or doesn't, and gets a cue point or doesn't. Of more points than an output may
-    /// have the first are kept.
+    /// Counts a block. `begins` is set if it begins a Cluster, and `cued` if it gets a cue point; points above the
+    /// limit aren't kept.
     pub(crate) fn add(&mut self, begins: bool, cued: bool)
         ensures { self.new ≡ counted_with begins cued self.old }
     {

@@ -1,4 +1,4 @@
-//! The Info of an output: RFC 9559, section 5.1.2 (Info Element).
+//! Info of an output: RFC 9559, section 5.1.2 (Info).
 
 ghost use Rattle.std.specs.Prelude.{◌≡◌, ◌<◌, IfOk, IsTrue, OnOk};
 ghost use Rattle.ebml_numbers.specs.Number.{is_id};
@@ -13,7 +13,7 @@ use mkv_schema::ids::{INFO, NEXT_UUID, PREV_UUID, SEGMENT_UUID};
 use remux_plan::PartUuids;
 use std::alloc::{AllocError, Global};
 
-// Adds copies of Elements behind the children.
+// Appends copies of elements to the children.
 fn add_copies(alloc: Global, info: &mut Tree, children: &[Tree]) -> Result<(), AllocError>
     requires master { IsMaster info.old }
     requires room { depth_all (nodes_of children.now) < deepest }
@@ -25,7 +25,7 @@ fn add_copies(alloc: Global, info: &mut Tree, children: &[Tree]) -> Result<(), A
     Ok(())
 }
 
-// Adds an identifier, the highest octet first, where it is given.
+// Appends an identifier, the highest byte first, if it is given.
 fn add_uuid(alloc: Global, info: &mut Tree, id: u32, uuid: Option<u128>) -> Result<(), AllocError>
     requires master { IsMaster info.old }
     requires id { IsTrue (is_id id) }
@@ -38,7 +38,7 @@ fn add_uuid(alloc: Global, info: &mut Tree, id: u32, uuid: Option<u128>) -> Resu
     info.push(Tree::leaf(alloc, id, &uuid.to_be_bytes())?)
 }
 
-// Adds the identifiers of an output.
+// Appends the identifiers of an output.
 fn add_uuids(alloc: Global, info: &mut Tree, uuids: PartUuids) -> Result<(), AllocError>
     requires { IsMaster info.old }
     ensures added { OnOk result (info.new ≡ with_more info.old (uuid_elements uuids)) }
@@ -49,7 +49,7 @@ fn add_uuids(alloc: Global, info: &mut Tree, uuids: PartUuids) -> Result<(), All
     add_uuid(alloc, info, NEXT_UUID, uuids.next)
 }
 
-/// An Info with these identifiers behind its first child.
+/// Returns an Info with these identifiers after its first child.
 pub(crate) fn info_with(alloc: Global, info: &Tree, uuids: PartUuids) -> Result<Tree, AllocError>
     requires id { id_of info.now ≡ INFO_ID }
     requires master { IsMaster info.now }

@@ -1,7 +1,7 @@
 #![tactic(auto)]
 
-//! Merges: the blocks of all lanes of a plan, in their order and each at its place, cut into Clusters of one output, or of
-//! one for each part, some of them with a cue point.
+//! Merges: the blocks of a plan's output tracks, in order and placed, are cut into Clusters of one output, or of one
+//! for each part. Some of them get a cue point.
 
 mod counts;
 mod info;

@@ -1,4 +1,4 @@
-//! A merge by its plan.
+//! Merge by its plan
 
 ghost use Rattle.std.specs.Prelude.{◌≡◌, ◌||◌, is_some};
 ghost use Rattle.mkv_io.specs.Ends.{HasRemuxCause};
@@ -17,7 +17,7 @@ use splitter::SplitSpec;
 use std::alloc::Global;
 use time_merge::Merge;
 
-/// Whether an output is written in parts.
+/// Checks whether an output is written in parts.
 fn is_split(split: &SplitSpec, size: Option<u64>) -> bool
     ensures { result ≡ (is_timed split.now || is_some size) }
 {
@@ -27,17 +27,17 @@ fn is_split(split: &SplitSpec, size: Option<u64>) -> bool
     }
 }
 
-/// Writes the outputs of a plan, each from its first octet to its last, and says what was written and what is wrong with the
-/// inputs. Blocks are written as they are read: no more than a Cluster of them is held.
+/// Writes the outputs of a plan, each from its first byte to its last, and returns a summary of them and of the
+/// inputs' damaged places. Blocks are written as they are read; at most one Cluster is held in memory.
 ///
-/// After a refusal some first outputs stand whole, and the next one may stand in part; nothing else was changed.
+/// After an error the first outputs are complete, and the next one may be incomplete. Nothing else was changed.
 pub fn remux<F: Files>(alloc: Global, plan: MergePlan, files: &mut F) -> Result<Summary, RemuxEnd>
     requires { IsPlan F.Reads F.Files.own files.old plan }
 
     ensures output { WritesPlan F.Reads F.Files.own files.old files.new plan result }
     ensures summary { SumsUp F.Reads files.old plan result }
 
-    // No file stays open, whatever the answer.
+    // No file stays open, also after an error.
     ensures kept { KeepsUnwritten F.Reads F.Files.own (is_split plan) plan.output files.old files.new }
     ensures cause { HasRemuxCause F.Reads F.Files.own files.old files.new result }
     ensures octets { ReadsFew F.Reads files.old files.new plan }

@@ -1,4 +1,4 @@
-//! Whole outputs.
+//! Whole outputs
 
 ghost use Rattle.std.specs.Prelude.{◌≡◌, ◌*◌, ◌<◌, ◌^◌, [], ◌∷◌, IfOk, IfSome, OnOk};
 ghost use Rattle.mkv_io.specs.Writing.{KeepsOthers};
@@ -22,14 +22,14 @@ use record_changes::cut;
 use remux_plan::OutputSpec;
 use std::alloc::{AllocError, Global};
 
-/// What became of a part: how many blocks it has, and what is counted of these.
+/// Number of blocks of a written part, and its counts
 #[derive(Clone, Copy)]
 pub(crate) struct WrittenPart {
     pub(crate) blocks: u64,
     pub(crate) counts: Counts,
 }
 
-// What of the chapters goes into a part from one tick to another, where the output is split.
+// Returns the chapters of a part from the tick `start` to the tick `end`, if the output is split.
 fn cut_chapters(
     alloc: Global,
     spec: &OutputSpec,
@@ -56,15 +56,15 @@ fn cut_chapters(
     cut(alloc, chapters, start * scale, to)
 }
 
-// The chapters of a part, for which these were cut out where the output is split.
+// Returns the chapters of a part: `part` if the output is split, otherwise all.
 fn chapters_in<'a>(spec: &'a OutputSpec, part: &'a Option<Tree>) -> &'a Option<Tree>
     ensures { result.now ≡ chapters_in spec.now part.now }
 {
     if spec.split { part } else { &spec.chapters }
 }
 
-// Adds all blocks of the part that was begun, and writes the last Cluster. Answers what was cut out of the chapters, where the
-// output is split.
+// Appends all blocks of the current part, and writes the last Cluster. Returns the part's chapters if the output is
+// split.
 fn fill<F: Files>(
     alloc: Global,
     files: &mut F,
@@ -86,7 +86,7 @@ fn fill<F: Files>(
     Ok(chapters)
 }
 
-/// Writes an output of this name that has the part which was begun. Whatever is answered, no file of it is open.
+/// Writes the output `name` with the current part. No file of it stays open, also after an error.
 pub(crate) fn write_output<F: Files>(
     alloc: Global,
     files: &mut F,

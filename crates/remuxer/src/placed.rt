@@ -1,4 +1,4 @@
-//! The blocks of a merge, one after the other, each at its place in the parts of an output.
+//! Blocks of a merge in sequence, with their places in the parts of an output
 
 ghost use Rattle.std.specs.Prelude.{◌≡◌, max, OnOk};
 ghost use Rattle.std.specs.Option.{option_map};
@@ -14,15 +14,15 @@ use mkv_io::{List, ReadEnd, Reads};
 use part_size::{PartCuts, Place};
 use time_merge::Merge;
 
-/// A block that a merge has given: the number of the lane that lends it, from 0, and its place.
+/// Block of a merge: the number of its output track, counted from 0, and its place
 #[derive(Clone, Copy)]
 pub(crate) struct Ahead {
     pub(crate) lane: usize,
     pub(crate) place: Place,
 }
 
-/// A merge, where it is cut, and of each of its lanes whether it drives; the block ahead: the last one that the merge has
-/// given, which isn't written; and the tick at which the part starts that was begun last.
+/// Merge with its cuts, and the marks of the output tracks that drive them. The block ahead is the last one of the
+/// merge, and not written yet. `start` is the tick at the start of the current part.
 #[derive(Drop)]
 pub(crate) struct PlacedBlocks {
     pub(crate) merge: Merge,
@@ -32,7 +32,7 @@ pub(crate) struct PlacedBlocks {
     pub(crate) start: u64,
 }
 
-// The tick at which the part starts that a block begins, if it begins one.
+// Returns the start tick of the part that a block begins, if any.
 fn start_in(place: Place) -> Option<u64>
     ensures { result ≡ start_in place }
 {
@@ -42,7 +42,7 @@ fn start_in(place: Place) -> Option<u64>
     }
 }
 
-// How many octets of the block that a lane lends count towards the load of a part.
+// Returns the bytes of the output track's block that count towards the load of a part.
 fn load_of(cuts: &PartCuts, lane: &Lane) -> u64
     requires { IsLent (lent lane.now) }
     ensures { result ≡ octets_counted cuts.now (lent_block (lent lane.now)) }
@@ -65,7 +65,7 @@ impl PlacedBlocks {
     ghost use Rattle.remuxer.specs.Taking.{Advances, Goes};
     ghost use Rattle.remuxer.specs.Output.{FindsBehind, FindsFirst};
 
-    /// The number of the lane that lends the block ahead, where that is of the part that was begun.
+    /// Returns the number of the output track of the block ahead, if this block is in the current part.
     pub(crate) fn lane_within(&self) -> Option<usize>
         ensures { result ≡ lane_within self.now.ahead }
     {
@@ -80,7 +80,7 @@ impl PlacedBlocks {
         }
     }
 
-    /// The tick at which the part ends that was begun last: that of the block ahead, or its own start where that is later.
+    /// Returns the end tick of the current part: the tick of the block ahead, or its own start if that is later.
     pub(crate) fn end_of_part(&self) -> Option<u64>
         requires { StandsAhead self.now }
         ensures { result ≡ option_map (max self.now.start) (first_tick (lent_ahead self.now)) }
@@ -91,7 +91,7 @@ impl PlacedBlocks {
         }
     }
 
-    /// Goes on to the next block of the merge, which is ahead then, if there is one.
+    /// Reads the next block of the merge, which is ahead afterwards, if there is one.
     pub(crate) fn advance<R: Reads>(&mut self, src: &mut R) -> Result<(), ReadEnd>
         requires { CanGive (live_files R.Reads src.old) self.old }
         ensures advances { OnOk result (Advances (live_files R.Reads src.old) (live_files R.Reads src.new) self.old self.new) }
@@ -111,7 +111,7 @@ impl PlacedBlocks {
         Ok(())
     }
 
-    /// Begins the next part, and answers whether there is one: blocks in no part are passed over.
+    /// Begins the next part, and returns whether there is one. It skips blocks that are in no part.
     pub(crate) fn next_part<R: Reads>(&mut self, src: &mut R) -> Result<bool, ReadEnd>
         requires gives { CanGive (live_files R.Reads src.old) self.old }
         requires stands { StandsAhead self.old }
@@ -134,8 +134,8 @@ impl PlacedBlocks {
         Ok(false)
     }
 
-    /// Begins the first part, and answers whether there is one. Where no block comes, the one at the beginning has none, if it
-    /// is written.
+    /// Begins the first part, and returns whether there is one. Without blocks, the part at the start of the output
+    /// is empty, if it is written.
     pub(crate) fn first_part<R: Reads>(&mut self, src: &mut R) -> Result<bool, ReadEnd>
         requires gives { CanGive (live_files R.Reads src.old) self.old }
         requires fresh { IsFresh self.old }

@@ -1,4 +1,4 @@
-//! The lanes of a plan.
+//! Output tracks of a plan
 
 ghost use Rattle.std.specs.Prelude.{◌≤◌, All, IfOk, OnOk};
 
@@ -8,8 +8,8 @@ use output_model::CueRule;
 use remux_plan::PlannedLane;
 use std::alloc::{AllocError, Global};
 
-/// The lanes of a plan, none of which has given a block: of each its rule of cue points, whether it drives, and for each of
-/// its links the number of the input.
+/// Output tracks of a plan at their start. Each has its rule for cue points, its mark for driving, and the input
+/// number of each of its links.
 #[derive(Drop)]
 pub(crate) struct StartedLanes {
     pub(crate) lanes: List<Lane>,
@@ -21,7 +21,7 @@ pub(crate) struct StartedLanes {
 impl StartedLanes {
     ghost use Rattle.remuxer.specs.Started.{AddsLane, AreStarted, CanStart};
 
-    /// Starts the lanes of an output of so many nanoseconds a tick. Nothing is read.
+    /// Starts the output tracks of an output with `scale` nanoseconds per tick. It reads nothing.
     pub(crate) fn start(
         alloc: Global,
         planned: List<PlannedLane>,
@@ -43,7 +43,7 @@ impl StartedLanes {
         Ok(started)
     }
 
-    // Starts one lane more.
+    // Starts one more output track.
     fn add(&mut self, alloc: Global, planned: PlannedLane, scale: u64) -> Result<(), AllocError>
         requires scale { 1 ≤ scale }
         requires lane { CanStart planned }

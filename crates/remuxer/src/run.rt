@@ -1,4 +1,4 @@
-//! Blocks, one after the other, into a buffer and an output.
+//! Blocks that are added to a Cluster buffer and an output, in sequence
 
 ghost use Rattle.std.specs.Prelude.{◌≡◌, [], ◌∷◌, OnOk};
 ghost use Rattle.mkv_io.specs.Writing.{WritesOnly};
@@ -13,8 +13,8 @@ use cluster_writer::{BlockRef, ClusterBuf};
 use cues_seekhead::OutFile;
 use mkv_io::{Files, Reads, RemuxEnd as OutEnd};
 
-// Makes sure that a block, whose Element has so many octets, joins the Cluster that is held: where it doesn't, that
-// is written, and the buffer holds none.
+// Makes room for a block with an element of `len` bytes in the Cluster in the buffer. If the block can't join it, the
+// Cluster is written, and the buffer is empty afterwards.
 fn make_room<F: Files>(
     files: &mut F,
     out: &mut OutFile,
@@ -39,8 +39,8 @@ fn make_room<F: Files>(
     Ok(())
 }
 
-/// Adds the next block of an output, and its cue point, where it gets one. A Cluster that it doesn't join is
-/// written first. Answers whether it begins a Cluster.
+/// Adds the next block of an output, with a cue point if `cued` is set. If it can't join the Cluster in the buffer,
+/// that Cluster is written first. Returns whether the block begins a Cluster.
 pub fn add_block<F: Files>(
     files: &mut F,
     out: &mut OutFile,
@@ -69,7 +69,7 @@ pub fn add_block<F: Files>(
     Ok(begins)
 }
 
-/// Writes the Cluster that is held, if there is one. All blocks have been added then.
+/// Writes the Cluster in the buffer, if there is one, after all blocks were added.
 pub fn add_rest<F: Files>(
     files: &mut F,
     out: &mut OutFile,

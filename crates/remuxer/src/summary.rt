@@ -1,4 +1,4 @@
-//! What is known of a merge whose output stands.
+//! Summary of a merge with complete outputs
 
 ghost use Rattle.std.specs.Prelude.{◌≡◌, length, IfOk, OnOk};
 ghost use Rattle.std.specs.List.{range_with_len};
@@ -14,7 +14,8 @@ use remux_plan::{InputDamage, MAX_INPUTS, MoreDamage, Summary, Written};
 use std::alloc::{AllocError, Global};
 use time_merge::Merge;
 
-// What a lane, whose links are of these inputs, has told of an input.
+// Returns the damaged places of an input that an output track has reported. `inputs` are the input numbers of its
+// links.
 fn told_at<'a>(inputs: &[usize], lane: &'a Lane, input: usize) -> Option<&'a Damages>
     ensures { option_copied result ≡ told_at inputs.now lane.now.walk.told.items input }
 {
@@ -22,7 +23,8 @@ fn told_at<'a>(inputs: &[usize], lane: &'a Lane, input: usize) -> Option<&'a Dam
     lane.damages(link)
 }
 
-// What a merge has told of an input. All its links tell the same, so the first of them counts.
+// Returns the damaged places of an input that a merge has reported. All its links have the same ones, so the first
+// link counts.
 fn told_of<'a>(inputs: &[List<usize>], merge: &'a Merge, input: usize) -> Option<&'a Damages>
     requires { length inputs.now ≡ length merge.now.queues }
     ensures { option_copied result ≡ told_of inputs.now (told_by merge.now) input }
@@ -36,7 +38,7 @@ fn told_of<'a>(inputs: &[List<usize>], merge: &'a Merge, input: usize) -> Option
     None
 }
 
-// Adds the damages of an input.
+// Appends the damaged places of an input.
 fn add_damages(summary: &mut Summary, input: usize, told: &Damages) -> Result<(), AllocError>
     ensures { OnOk result (AddsDamages input told.now summary.old summary.new) }
 {
@@ -53,8 +55,8 @@ fn add_damages(summary: &mut Summary, input: usize, told: &Damages) -> Result<()
     Ok(())
 }
 
-/// The summary of outputs that were written, with the damages that a merge has told, whose lanes have links of these
-/// inputs.
+/// Returns the summary of the written outputs, with the damaged places that a merge has reported. `inputs` are the
+/// input numbers of its links.
 pub(crate) fn summary_of(
     alloc: Global,
     outputs: List<Written>,

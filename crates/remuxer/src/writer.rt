@@ -1,4 +1,4 @@
-//! The blocks of a part, one after the other, into an output.
+//! Blocks of a part that are written to an output, in sequence
 
 ghost use Rattle.std.specs.Prelude.{◌≡◌, ◌+◌, ◌<◌, OnOk};
 ghost use Rattle.std.specs.List.{slice_get};
@@ -22,7 +22,7 @@ use lanes::Lane;
 use mkv_io::{Files, Reads, RemuxEnd as OutEnd};
 use output_model::CueRule;
 
-// Whether a block of the k-th lane, from 0, gets a cue point. A lane without a rule has none.
+// Checks whether a block of the output track `k`, counted from 0, gets a cue point. Without a rule it gets none.
 fn is_cued(rules: &[CueRule], k: usize, key: bool) -> bool
     ensures { result ≡ is_cue_by (unwrap_or (slice_get rules.now k) cue_rule.Never) key }
 {
@@ -32,7 +32,8 @@ fn is_cued(rules: &[CueRule], k: usize, key: bool) -> bool
     }
 }
 
-// The block that the k-th lane lends, from 0, in a part that starts at this tick. In the output lanes count from 1.
+// Returns the block of the output track `k`, counted from 0, in a part that starts at the tick `start`. In the
+// output, track numbers start at 1.
 fn lent_by(lane: &Lane, k: usize, start: u64) -> BlockRef<'_>
     requires lent { IsLent (lent lane.now) }
     requires number { k < MAX_LANES }
@@ -52,8 +53,8 @@ fn lent_by(lane: &Lane, k: usize, start: u64) -> BlockRef<'_>
     }
 }
 
-/// An output that takes blocks: its file, the Cluster that the next block may join, how many blocks it has taken, and what is
-/// counted of these.
+/// Output that takes blocks: its file, the Cluster that the next block may join, the number of its blocks, and its
+/// counts
 #[derive(Drop)]
 pub(crate) struct BlockWriter {
     pub(crate) out: OutFile,
@@ -67,7 +68,7 @@ impl BlockWriter {
     ghost use Rattle.remuxer.specs.Places.{IsPartBegun};
     ghost use Rattle.remuxer.specs.Taking.{CanTake, Goes, IsOver, StaysSmall, TakesLent, TakesMore, TakesPart, WritesInto};
 
-    // Adds the block that the k-th lane lends, from 0, to a part that starts at this tick.
+    // Adds the block of the output track `k`, counted from 0, to a part that starts at the tick `start`.
     fn add_lent<F: Files>(
         &mut self,
         files: &mut F,
@@ -94,7 +95,7 @@ impl BlockWriter {
         Ok(())
     }
 
-    /// Adds all blocks that are left of the part that was begun.
+    /// Adds all blocks that are left of the current part.
     pub(crate) fn add_part<F: Files>(
         &mut self,
         files: &mut F,

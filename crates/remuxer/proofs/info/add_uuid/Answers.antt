@@ -6,7 +6,7 @@ use Rattle.remuxer.specs.Info.{with_more}
 use Rattle.remuxer.proofs.InfoLemmas.{more-none, on-ok-then}
 use Rattle.remuxer.proofs.info.add_uuid.Goals as goal
 
--- none is given
+-- No identifier is given.
 pub returns-in_default-clause-added : goal.returns-in_default-clause-added
 returns-in_default-clause-added c =
     sym (more-none c.args.info.now) ∙ ap (λ (o : Option ℕ). with_more c.args.info.now (given (uuid_leaf c.args.id) o)) (sym c.in_default.is)

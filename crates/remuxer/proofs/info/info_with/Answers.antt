@@ -8,7 +8,7 @@ use Rattle.remuxer.proofs.info.info_with.Goals as goal
 pub empty-requires : goal.empty-requires
 empty-requires c = info-master
 
--- an Info without children
+-- The Info has no children.
 pub returns-in_default : goal.returns-in_default
 returns-in_default c =
     empty-info c.args.info.now c.in_ok-made.made c.args.uuids c.requires.master c.requires.id (subst (λ (at : ℕ). IsBuilt INFO at 0 [] c.in_ok-made.made) c.offset.ensures (c.in_ok-made.ensures 0))

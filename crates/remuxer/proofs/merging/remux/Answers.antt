@@ -24,12 +24,12 @@ write_parts-requires g c =
     let it = merged g.F.Reads c.args.plan c.in_ok-lanes.ensures (c.in_ok-merge.ensures.starts (live_files g.F.Reads c.args.files.now)) c.in_ok-merge.ensures.begins c.in_ok-merge.ensures.idle c.new-cuts.ensures c.is_split.ensures in
     plan-can c.requires it
 
--- nothing was written before
+-- Nothing was written before.
 pub returns-in_err-merge-clause-kept : goal.returns-in_err-merge-clause-kept
 returns-in_err-merge-clause-kept g c =
     rw c.in_err-merge.ensures.idle (keeps-none g.F.Reads g.F.Files (is_split c.args.plan) c.args.plan.output c.args.files.now)
 
--- ---- the outputs were refused
+-- ---- the outputs failed
 
 pub returns-in_err-written-clause-output : goal.returns-in_err-written-clause-output
 returns-in_err-written-clause-output g c =
@@ -54,7 +54,7 @@ summary_of-requires g c =
     let it = merged g.F.Reads c.args.plan c.in_ok-lanes.ensures (c.in_ok-merge.ensures.starts (live_files g.F.Reads c.args.files.now)) c.in_ok-merge.ensures.begins c.in_ok-merge.ensures.idle c.new-cuts.ensures c.is_split.ensures in
     ap (λ (ns : List (List ℕ)). length ns) c.as_slice.ensures ∙ plan-inputs c.requires it ∙ sym c.in_ok-written.ensures.ends.lanes
 
--- there is no memory for it; the outputs stand
+-- There is no memory for it, and all outputs are complete.
 pub returns-in_err-summary-clause-output : goal.returns-in_err-summary-clause-output
 returns-in_err-summary-clause-output g c = λ told.
     let p = err_from_is_err_and c.from_residual-in_err-summary.result c.from_residual-in_err-summary.ensures.1 in

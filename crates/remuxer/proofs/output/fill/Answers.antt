@@ -18,14 +18,14 @@ use Rattle.remuxer.proofs.output.fill.Given.{Over}
 use Rattle.remuxer.proofs.output.fill.Goals as goal
 use Rattle.remuxer.proofs.output.fill.Goals.{In_ok-add_part}
 
--- its blocks couldn't all be added
+-- Its blocks couldn't all be added.
 pub returns-in_err-add_part-clause-fills : goal.returns-in_err-add_part-clause-fills
 returns-in_err-add_part-clause-fills g c = λ told.
     let p = err_from_is_err_and c.from_residual.result c.from_residual.ensures.1 in
     let blocks = (part_in (live_files g.F.Reads c.args.files.now) c.args.blocks.now).blocks in
     rw p.1 (subst (λ (rules : List CueRule). StaysDraft g.F.Reads g.F.Files rules blocks c.args.files.now c.add_part.new.files c.args.writer.now) c.as_slice.ensures (c.in_err-add_part.ensures.takes told))
 
--- ---- they could
+-- ---- all blocks were added
 
 can : (g : Over) (c : In_ok-add_part g) → CanTake g.F.Reads g.F.Files c.add_part.new.files c.add_part.new.self c.add_part.new.blocks
 can g c =
@@ -54,13 +54,13 @@ cut_chapters-requires-clause-end g c =
     subst (λ (o : Option ℕ). IfSome o (IsEnd c.args.spec.now.limits.scale q.start)) (sym c.end_of_part.ensures)
     (subst (λ (n : ℕ). IfSome (option_map (max q.start) (first_tick (lent_ahead q))) (IsEnd n q.start)) scale (ahead-end q q.start early c.in_ok-add_part.ensures.over.stands))
 
--- the output stays a draft where something is refused then
+-- After a failure the content is one of the draft.
 drafted : (g : Over) (c : In_ok-add_part g) (now : g.row.F.Denot) → ((before : Names) (name : List ℕ) (d : Document) → Stands g.F.Reads g.F.Files before name c.args.spec.now.rules d c.add_part.new.files c.add_part.new.self.out c.add_part.new.self.buffer c.add_part.new.self.counts [] → StandsDrafted before (g.F.Files.names now) (draft_of name d))
     → IsTold (live_files g.F.Reads c.args.files.now) c.args.blocks.now.merge → StaysDraft g.F.Reads g.F.Files c.args.spec.now.rules (part_in (live_files g.F.Reads c.args.files.now) c.args.blocks.now).blocks c.args.files.now now c.args.writer.now
 drafted g c now is told =
     fills-none g.F.Reads g.F.Files c.args.spec.now c.as_slice.result.now c.args.files.now c.add_part.new.files c.args.writer.now c.add_part.new.self c.args.blocks.now c.add_part.new.blocks c.as_slice.ensures (c.in_ok-add_part.ensures.takes told) c.in_ok-add_part.ensures.over now is
 
--- its chapters couldn't be cut
+-- Its chapters couldn't be cut.
 pub returns-in_err-chapters-clause-fills : goal.returns-in_err-chapters-clause-fills
 returns-in_err-chapters-clause-fills g c = λ told.
     let p = err_from_is_err_and c.from_residual-in_err-chapters.result c.from_residual-in_err-chapters.ensures.1 in
@@ -68,7 +68,7 @@ returns-in_err-chapters-clause-fills g c = λ told.
     let v = c.add_part.new.self in
     rw p.1 (drafted g (goal.at.returns-in_err-chapters-clause-fills g c).In_ok-add_part x (λ before name d stands. stands-drafted g.F.Reads g.F.Files before name c.args.spec.now.rules d x v.out v.buffer v.counts [] stands) told)
 
--- the last Cluster couldn't be written
+-- The last Cluster couldn't be written.
 pub returns-in_err-add_rest-clause-fills : goal.returns-in_err-add_rest-clause-fills
 returns-in_err-add_rest-clause-fills g c = λ told.
     let p = err_from_is_err_and c.from_residual-in_err-add_rest.result c.from_residual-in_err-add_rest.ensures.1 in
@@ -81,7 +81,7 @@ returns-in_err-add_rest-clause-writes g c =
     rw p.1 (writes-then g.F.Reads g.F.Files c.args.files.now c.add_part.new.files c.add_rest.new.files c.args.writer.now v (record v { out = c.add_rest.new.out; buffer = c.add_rest.new.buffer }) (tt {0}) _ c.requires.can.is_open c.in_ok-add_part.ensures.writes
     (record { file = c.in_err-add_rest.ensures.file; is_open = tt; kept = c.in_err-add_rest.ensures.only.kept }))
 
--- all was written
+-- All was written.
 pub returns-clause-fills : goal.returns-clause-fills
 returns-clause-fills g c = λ told.
     let x = c.add_part.new.files in

@@ -20,15 +20,15 @@ use Rattle.remuxer.proofs.output.write_output.Given.{Over}
 use Rattle.remuxer.proofs.output.write_output.Goals as goal
 use Rattle.remuxer.proofs.output.write_output.Goals.{After-fill, Start}
 
--- what holds of all files
+-- Facts about all files.
 of_files : (g : Over) → HoldsOfFiles g.F.Reads g.F.Files
 of_files g = record { short = g.met.F.Reads.short; told_size = λ x. g.met.F.Reads.told_size (g.F.Reads.standing x); named = g.met.F.Files.named }
 
--- the output of the part
+-- the document of the part
 abbrev its : (g : Over) (c : Start g) → Document
 its g c = document_with (live_files g.F.Reads c.args.files.now) c.args.spec.now (part_in (live_files g.F.Reads c.args.files.now) c.args.blocks.now)
 
--- the output couldn't be begun
+-- The output couldn't be begun.
 pub returns-in_err-out-clause-writes : goal.returns-in_err-out-clause-writes
 returns-in_err-out-clause-writes g c = λ told.
     let p = err_from_is_err_and c.from_residual-in_err-out.result c.from_residual-in_err-out.ensures.1 in
@@ -64,7 +64,7 @@ stands : (g : Over) (c : After-fill g)
 stands g c =
     begun-stands g.F.Reads g.F.Files c.args.spec.now c.args.name.now c.args.files.now c.begin.new.files c.args.blocks.now (same-left g c) c.in_ok-out.out c.in_ok-buffer.buffer c.in_ok-out.ensures.ok c.in_ok-out.ensures.cues c.in_ok-buffer.ensures.empty c.in_ok-buffer.ensures.limits
 
--- it couldn't be finished
+-- It couldn't be finished.
 pub returns-in_err-finish_with-in-Ok-clause-writes : goal.returns-in_err-finish_with-in-Ok-clause-writes
 returns-in_err-finish_with-in-Ok-clause-writes g c = λ told.
     let end = err_from_is_err_and c.from_residual-in_err-finish_with-in-Ok.result c.from_residual-in_err-finish_with-in-Ok.ensures.1 in
@@ -85,7 +85,7 @@ returns-in_err-finish_with-in-Ok-clause-goes g c =
     let same : g.F.Reads.octets_read c.finish_with.new.files ≤ g.F.Reads.octets_read c.fill.new.files = omega (arith, ends.ended.octets, ends.written.octets) in
     rw end.1 (goes-refused {E = RemuxEnd} g.F.Reads (data_of c.args.spec.now) c.args.files.now c.begin.new.files c.fill.new.files c.finish_with.new.files c.args.blocks.now c.fill.new.blocks (Ok c.in-Ok.part) goes c.in-Ok.ensures.goes same)
 
--- it was finished
+-- It was finished.
 pub returns-in-Ok-clause-writes : goal.returns-in-Ok-clause-writes
 returns-in-Ok-clause-writes g c = λ told.
     let after = (goal.at.returns-in-Ok-clause-writes g c).After-fill in
@@ -120,7 +120,7 @@ returns-in-Ok-clause-kept g c =
     let a = c.args.files.now in
     finished-keeps g.F.Reads g.F.Files a c.begin.new.files c.fill.new.files c.finish_with.new.files c.args.name.now c.in_ok-out.out.file c.fill.new.writer.out.file (g.met.F.Files.numbered a) c.in_ok-out.ensures.made c.in-Ok.ensures.writes.kept c.in-Ok.ensures.writes.file c.in_ok-finish_with-in-Ok.ensures.ended
 
--- it was given up
+-- It was abandoned.
 pub returns-clause-writes : goal.returns-clause-writes
 returns-clause-writes g c = λ told.
     let after = (goal.at.returns-clause-writes g c).After-fill in

@@ -41,7 +41,7 @@ write_own-requires g c =
       records = subst (λ (n : ℕ). HasRecords g.F.Reads g.F.Files c.args.files.now (own_name spec n) spec.front spec.chapters spec.tags) (sym same) c.requires.records;
     }
 
--- the part in its output
+-- the document of the part
 abbrev its : (g : Over) (c : After-write_own g) (number : ℕ) → Document
 its g c number = document_with (live_files g.F.Reads c.args.files.now) (own_spec c.args.spec.now number) (part_in (live_files g.F.Reads c.args.files.now) c.args.blocks.now)
 
@@ -53,7 +53,7 @@ kept-one g c e =
     let few : number < 2 ^ 64 = omega arith in
     keeps-one g.F.Reads g.F.Files spec.split spec.name (own_name spec number) c.args.files.now e (named-so spec.split spec.name number few)
 
--- it was refused
+-- It failed.
 pub returns-in_err-done-clause-writes : goal.returns-in_err-done-clause-writes
 returns-in_err-done-clause-writes g c = λ told.
     let end = err_from_is_err_and c.from_residual.result c.from_residual.ensures.1 in
@@ -63,7 +63,7 @@ returns-in_err-done-clause-writes g c = λ told.
 pub returns-in_err-done-clause-kept : goal.returns-in_err-done-clause-kept
 returns-in_err-done-clause-kept g c = kept-one g (goal.at.returns-in_err-done-clause-kept g c).After-write_own c.write_own.new.files c.in_err-done.ensures.kept
 
--- it stands
+-- It is complete.
 stands : (g : Over) (c : After-write_own g) → WritesLayout (g.F.Files.names c.args.files.now) (g.F.Files.names c.write_own.new.files) (own_name c.args.spec.now (length c.as_slice.result.now + 1)) (its g c (length c.as_slice.result.now + 1))
     → WritesLayout (g.F.Files.names c.args.files.now) (g.F.Files.names c.write_own.new.files) (next_name c.args.spec.now c.args.written.now) (its g c (length c.args.written.now + 1))
 stands g c = subst (λ (n : ℕ). WritesLayout (g.F.Files.names c.args.files.now) (g.F.Files.names c.write_own.new.files) (own_name c.args.spec.now n) (its g c n)) (num g c)
@@ -73,7 +73,7 @@ whole : (g : Over) (c : After-write_own g) → WritesLayout (g.F.Files.names c.a
 whole g c wrote =
     whole-in_turn (g.F.Files.names c.args.files.now) (g.F.Files.names c.write_own.new.files) (next_name c.args.spec.now c.args.written.now) (its g c (length c.args.written.now + 1)) (stands g c wrote)
 
--- there is no memory to say so
+-- There is no memory for its summary.
 pub returns-in_err-push-clause-writes : goal.returns-in_err-push-clause-writes
 returns-in_err-push-clause-writes g c = λ told.
     let end = err_from_is_err_and c.from_residual-in_err-push.result c.from_residual-in_err-push.ensures.1 in
@@ -88,7 +88,7 @@ returns-in_err-push-clause-goes g c =
     let paid = c.in_ok-done.ensures.goes.paid in
     rw end.1 (omega (arith, paid))
 
--- ---- the part behind it
+-- ---- the next part
 
 pub next_part-requires-clause-gives : goal.next_part-requires-clause-gives
 next_part-requires-clause-gives g c = c.in_ok-done.ensures.goes.gives
@@ -96,7 +96,7 @@ next_part-requires-clause-gives g c = c.in_ok-done.ensures.goes.gives
 pub next_part-requires-clause-stands : goal.next_part-requires-clause-stands
 next_part-requires-clause-stands g c = c.in_ok-done.ensures.finds.over.stands
 
--- files that were only read behind it
+-- The files were only read.
 read : (g : Over) (a b : g.row.F.Denot) → g.F.Reads.standing b ≡ g.F.Reads.standing a → OnlyRead g.F.Reads g.F.Files a b
 read g a b standing = only-read g.F.Reads g.F.Files a b standing g.met.F.Files.names_stand g.met.F.Files.holders_stand g.met.F.Files.given_stands g.met.F.Files.asked_stands
 
@@ -106,7 +106,7 @@ kept-then g c h standing kept =
     let names = own_name c.args.spec.now (length c.as_slice.result.now + 1) ∷ [] in
     kept-one g c h (KeepsOthers-then g.F.Reads g.F.Files names c.args.files.now c.write_own.new.files h kept (read-keeps g.F.Reads g.F.Files c.write_own.new.files h (read g c.write_own.new.files h standing) names))
 
--- it couldn't be looked for
+-- It couldn't be read.
 pub returns-in_err-begun-clause-writes : goal.returns-in_err-begun-clause-writes
 returns-in_err-begun-clause-writes g c = λ told.
     let end = err_from_is_err_and c.from_residual-in_err-begun.result c.from_residual-in_err-begun.ensures.1 in
@@ -135,7 +135,7 @@ returns-in_err-begun-clause-cause g c =
     (HasRemuxCause-then g.F.Reads g.F.Files c.args.files.now e h _ c.in_ok-done.ensures.cause.reading c.in_ok-done.ensures.cause.writing
     (HasRemuxCause-read g.F.Reads g.F.Files e h c.in_err-begun.field-0.0 (g.met.F.Files.writing_stands h e c.in_err-begun.ensures.standing) c.in_err-begun.ensures.cause))
 
--- it was found
+-- It was found, or none is left.
 pub returns-clause-writes : goal.returns-clause-writes
 returns-clause-writes g c = λ told.
     let after = (goal.at.returns-clause-writes g c).After-write_own in

@@ -12,11 +12,11 @@ use Rattle.remuxer.proofs.TakingLemmas.{OnlyRead, merge-ends, only-read}
 use Rattle.remuxer.proofs.parts.write_parts.Given.{Over}
 use Rattle.remuxer.proofs.parts.write_parts.Goals as goal
 
--- files that were only read
+-- The files were only read.
 read : (g : Over) (a b : g.row.F.Denot) → g.F.Reads.standing b ≡ g.F.Reads.standing a → OnlyRead g.F.Reads g.F.Files a b
 read g a b standing = only-read g.F.Reads g.F.Files a b standing g.met.F.Files.names_stand g.met.F.Files.holders_stand g.met.F.Files.given_stands g.met.F.Files.asked_stands
 
--- the first part couldn't be looked for
+-- The first part couldn't be read.
 pub returns-in_err-begun-clause-writes : goal.returns-in_err-begun-clause-writes
 returns-in_err-begun-clause-writes g c = λ told.
     let end = err_from_is_err_and c.from_residual.result c.from_residual.ensures.1 in
@@ -71,7 +71,7 @@ write_next-requires g c =
       records = way-records r f o a p b o' p' written way c.requires.records;
     }
 
--- a part is next
+-- One more part is written.
 pub parts-preserved : goal.parts-preserved
 parts-preserved g c =
     let next = c.in_ok-begun-2.ensures in
@@ -87,7 +87,7 @@ parts-smaller g c =
     let on = c.in_ok-begun-2.ensures.finds.on in
     rw c.parts-test.true (omega (arith, on))
 
--- one was refused
+-- A part failed.
 pub returns-in_err-begun-2-clause-writes : goal.returns-in_err-begun-2-clause-writes
 returns-in_err-begun-2-clause-writes g c = λ told.
     let end = err_from_is_err_and c.from_residual-in_err-begun-2.result c.from_residual-in_err-begun-2.ensures.1 in
@@ -102,7 +102,7 @@ pub returns-in_err-begun-2-clause-octets : goal.returns-in_err-begun-2-clause-oc
 returns-in_err-begun-2-clause-octets g c =
     way-refused g.F.Reads g.F.Files c.args.spec c.args.files.now c.args.blocks.now c.parts.files c.parts.spec c.parts.blocks c.parts.written (way-at c.parts-test.true c.parts.invariant.way) c.write_next.new.files c.in_err-begun-2.ensures.goes
 
--- none is left
+-- No part is left.
 pub returns-clause-writes : goal.returns-clause-writes
 returns-clause-writes g c = λ told. all-written g.F.Reads g.F.Files c.args.spec c.args.files.now c.parts.files c.args.blocks.now c.parts.blocks c.parts.spec c.parts.written ((way-at c.parts-test.false c.parts.invariant.way).standing told)
 

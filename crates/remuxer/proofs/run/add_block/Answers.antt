@@ -20,7 +20,7 @@ returns-in_err-make_room-clause-adds g c =
     c.in_err-make_room.ensures.makes before name rules d n left
     (stands-room g.F.Reads g.F.Files before name rules d c.args.files.now c.args.out.now c.args.buffer.now c.reserve.new.self n (b ∷ left) c.reserve.ensures.holds (ap (λ (x : Gathered). x.limits) c.reserve.ensures.same) stands))
 
--- there is no memory for the point
+-- There is no memory for the point.
 pub returns-in_err-cue-clause-adds : goal.returns-in_err-cue-clause-adds
 returns-in_err-cue-clause-adds g c =
     let p = err_from_is_err_and c.from_residual-in_err-cue.result c.from_residual-in_err-cue.ensures.1 in
@@ -30,7 +30,7 @@ returns-in_err-cue-clause-adds g c =
     (c.in_ok-make_room.ensures.makes before name rules d n left
     (stands-room g.F.Reads g.F.Files before name rules d c.args.files.now c.args.out.now c.args.buffer.now c.reserve.new.self n (b ∷ left) c.reserve.ensures.holds (ap (λ (x : Gathered). x.limits) c.reserve.ensures.same) stands)))
 
--- the block is held, and its point is kept
+-- The block is in the buffer, and its point is kept.
 pub returns-in_ok-cue-clause-adds : goal.returns-in_ok-cue-clause-adds
 returns-in_ok-cue-clause-adds g c = λ before name rules d n left cued stands.
     let b = block_of c.args.block.now in
@@ -45,7 +45,7 @@ returns-in_ok-cue-clause-adds g c = λ before name rules d n left cued stands.
     c.put_measured-relative.ensures.holds c.put_measured-relative.ensures.added.limits (sym cued ∙ c.if-cued.true) c.put_measured-relative.ensures.place
     c.in_ok-cue.ensures.ok (λ most. (c.in_ok-cue.ensures.full most).1))
 
--- the block is held
+-- The block is in the buffer.
 pub returns-else-cued-clause-adds : goal.returns-else-cued-clause-adds
 returns-else-cued-clause-adds g c = λ before name rules d n left cued stands.
     let b = block_of c.args.block.now in

@@ -7,7 +7,7 @@ use Rattle.remuxer.specs.Stands.{Stands}
 use Rattle.remuxer.proofs.StandsLemmas.{broken-drafted, stands-broken}
 use Rattle.remuxer.proofs.run.make_room.Goals as goal
 
--- a first part of the Cluster was written
+-- A prefix of the Cluster was written.
 pub returns-in_err-cluster-clause-makes : goal.returns-in_err-cluster-clause-makes
 returns-in_err-cluster-clause-makes g c =
     let p = err_from_is_err_and c.from_residual.result c.from_residual.ensures.1 in
@@ -16,7 +16,7 @@ returns-in_err-cluster-clause-makes g c =
     broken-drafted g.F.Reads g.F.Files before name rules d c.args.files.now c.cluster.new.files c.args.out.now c.args.buffer.now c.args.buffer.now c.octets.result.now b n left stands
     (λ cl holds. sym (c.fits.ensures.joins cl b holds refl (sym c.requires.len)) ∙ c.if-not-fits.true) c.octets.ensures.cluster c.in_err-cluster.ensures.appended)
 
--- the Cluster was written
+-- The Cluster was written.
 pub returns-in_ok-cluster-clause-makes : goal.returns-in_ok-cluster-clause-makes
 returns-in_ok-cluster-clause-makes g c = λ before name rules d n left stands.
     let b = block_of c.args.block.now in

@@ -9,7 +9,7 @@ use Rattle.remuxer.proofs.placed.PlacedBlocks.advance.Given.{Over}
 use Rattle.remuxer.proofs.placed.PlacedBlocks.advance.Goals as goal
 use Rattle.remuxer.proofs.placed.PlacedBlocks.advance.Goals.{After-assign-place}
 
--- no block has come
+-- The merge has no more blocks.
 pub returns-in_default-clause-advances : goal.returns-in_default-clause-advances
 returns-in_default-clause-advances g c =
     let says = c.in_ok-lane.ensures in
@@ -20,7 +20,7 @@ returns-in_default-clause-goes g c =
     let says = c.in_ok-lane.ensures in
     goes-ended g.R.Reads c.args.src.now c.step.new.src c.args.self.now c.step.new.self c.args.self.now.cuts says.standing c.requires says.ready (rw c.in_default.is at says.moves) (rw c.in_default.is at says.gives) refl says.pays
 
--- one has
+-- The merge has a next block.
 pub lane-given-requires : goal.lane-given-requires
 lane-given-requires g c = let moves = rw c.in-Some.is at c.in_ok-lane.ensures.moves in slice_get_within c.step.new.self.queues c.in-Some.lane moves.steps.queue moves.steps.here
 
@@ -30,7 +30,7 @@ bounds-as_slice-lane g c =
     let inside : c.in-Some.lane < length c.step.new.self.queues = slice_get_within c.step.new.self.queues c.in-Some.lane moves.steps.queue moves.steps.here in
     omega (arith, inside, count-kept c.args.self.now.merge.queues c.step.new.self.queues moves.keeps, c.requires.drives, ap (λ (ds : List Bool). length ds) c.as_slice.ensures)
 
--- at its place
+-- the next block at its place
 abbrev next : (g : Over) (c : After-assign-place g) → Ahead
 next g c = record { lane = c.in-Some.lane; place = c.assign-place.result }
 

@@ -6,12 +6,12 @@ use Rattle.remuxer.proofs.TakingLemmas.{goes-result}
 use Rattle.remuxer.proofs.placed.PlacedBlocks.first_part.Goals as goal
 use Rattle.remuxer.proofs.placed.PlacedBlocks.first_part.Goals.{else-is_none-via-then-is_none+else-is_kept, else-is_none-via-else-is_none}
 
--- no block has come
+-- The merge has no blocks.
 pub returns-then-is_kept-clause-finds : goal.returns-then-is_kept-clause-finds
 returns-then-is_kept-clause-finds g c =
     first-none g.R.Reads c.args.src.now c.advance.new.src c.args.self.now c.advance.new.self c.requires.fresh c.in_ok-advance.ensures.advances c.in_ok-advance.ensures.goes c.if-is_none.ensures (sym c.if-is_kept.ensures)
 
--- one has, or the section at the beginning isn't written
+-- The merge has a block, or the section at the start isn't written.
 pub next_part-requires-clause-gives : goal.next_part-requires-clause-gives
 next_part-requires-clause-gives g c = c.in_ok-advance.ensures.goes.gives
 

@@ -7,7 +7,7 @@ use Rattle.remuxer.proofs.NextLemmas.{begun-parts, goes-idle, is-begun, none-lef
 use Rattle.remuxer.proofs.TakingLemmas.{goes-then}
 use Rattle.remuxer.proofs.placed.PlacedBlocks.next_part.Goals as goal
 
--- a block in no part is passed over
+-- A block in no part is skipped.
 pub passed-smaller : goal.passed-smaller
 passed-smaller g c =
     let less = c.in_ok-advance.ensures.advances.on in
@@ -33,7 +33,7 @@ passed-preserved g c =
           (next.advances.left inv.stands (inv.goes.told told).told).parts none ∙ inv.found told;
     }
 
--- one begins a part
+-- A block begins a part.
 pub returns-in-Some-start_in-clause-finds : goal.returns-in-Some-start_in-clause-finds
 returns-in-Some-start_in-clause-finds g c =
     let inv = c.passed.invariant in
@@ -55,7 +55,7 @@ returns-in-Some-start_in-clause-goes g c =
     let inv = c.passed.invariant in
     goes-then g.R.Reads 0 0 c.args.src.now c.passed.src c.passed.src c.args.self.now c.passed.self _ inv.goes (goes-idle g.R.Reads c.passed.src c.passed.self _ _ inv.goes.gives)
 
--- none is left
+-- No block is left.
 pub returns-clause-finds : goal.returns-clause-finds
 returns-clause-finds g c =
     let inv = c.passed.invariant in

@@ -66,7 +66,7 @@ add_lent-requires-clause-number g c =
     let inside : c.in-Some.lane < length c.steps.blocks.merge.queues = slice_get_within c.steps.blocks.merge.queues c.in-Some.lane it.lends.queue it.lends.here in
     omega (arith, inside, c.steps.invariant.goes.gives.few)
 
--- it couldn't be written
+-- It couldn't be written.
 pub returns-in_err-add_lent-clause-takes : goal.returns-in_err-add_lent-clause-takes
 returns-in_err-add_lent-clause-takes g c =
     let end = err_from_is_err_and c.from_residual.result c.from_residual.ensures.1 in
@@ -101,7 +101,7 @@ advance-requires g c =
     let wrote_it = c.in_ok-add_lent.ensures in
     (rest-goes g.F.Reads g.F.Files c.steps.files c.add_lent.new.files c.steps.self c.steps.blocks (can g (goal.at.advance-requires g c).After-lane) wrote_it.writes.kept wrote_it.octets).gives
 
--- files that were only read
+-- The files were only read.
 read : (g : Over) (a b : g.row.F.Denot) → g.F.Reads.standing b ≡ g.F.Reads.standing a → OnlyRead g.F.Reads g.F.Files a b
 read g a b same = only-read g.F.Reads g.F.Files a b same g.met.F.Files.names_stand g.met.F.Files.holders_stand g.met.F.Files.given_stands g.met.F.Files.asked_stands
 
@@ -110,7 +110,7 @@ then-read g c e same =
     writes-then g.F.Reads g.F.Files c.args.files.now c.add_lent.new.files e c.args.self.now c.add_lent.new.self c.add_lent.new.self (tt {0}) (Ok (tt {0})) c.requires.can.is_open (wrote g c)
     (read-writes g.F.Reads g.F.Files c.add_lent.new.files e (read g c.add_lent.new.files e same) c.add_lent.new.self (tt {0}) (wrote g c).is_open)
 
--- the next one couldn't be read
+-- The next one couldn't be read.
 pub returns-in_err-advance-clause-takes : goal.returns-in_err-advance-clause-takes
 returns-in_err-advance-clause-takes g c =
     let end = err_from_is_err_and c.from_residual-in_err-advance.result c.from_residual-in_err-advance.ensures.1 in
@@ -144,7 +144,7 @@ returns-in_err-advance-clause-cause g c =
     (HasRemuxCause-then g.F.Reads g.F.Files c.args.files.now c.add_lent.new.files c.advance.new.src _ (cause.reading ∙ inv.reading) (cause.writing ∙ inv.writing)
     (HasRemuxCause-read g.F.Reads g.F.Files c.add_lent.new.files c.advance.new.src c.in_err-advance.field-0.0 (g.met.F.Files.writing_stands c.advance.new.src c.add_lent.new.files c.in_err-advance.ensures.standing) c.in_err-advance.ensures.cause))
 
--- it was
+-- The next one was read.
 pub steps-preserved : goal.steps-preserved
 steps-preserved g c =
     let inv = c.steps.invariant in
@@ -182,7 +182,7 @@ steps-smaller g c =
     let here = within-turns (way c.steps.blocks.merge) c.steps.blocks.ahead (lends g (goal.at.steps-smaller g c).After-lane).in_it in
     omega (arith, less, here)
 
--- none is left of the part
+-- No block of the part is left.
 pub returns-clause-over : goal.returns-clause-over
 returns-clause-over g c =
     let isnt = ap (λ (o : Option ℕ). is_some o) (sym c.in_default.ensures) in
