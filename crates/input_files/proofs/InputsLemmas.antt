@@ -1,4 +1,4 @@
--- Input files that are opened one after the other, stand over what is written, and are closed.
+-- Input files that are opened in sequence, unaffected by writes, and closed.
 use Rattle.std.proofs.Common.{◌≡◌, ◌≢◌, ℕ, suc, zero, ◌<◌, ◌≤◌, Bool, true, false, ◌⊎◌, inl, inr, List, [], ◌∷◌, ◌++◌, length, get_or, refl, sym, ◌∙◌, ap, subst, arith}
 use Rattle.std.proofs.lemmas.List.Elements.{All-push}
 use Rattle.std.proofs.lemmas.List.Quantifiers.{all_pairs_push}
@@ -19,13 +19,13 @@ use Rattle.mkv_outputs.proofs.GivenLemmas.{holders_of-kept}
 use Rattle.input_files.specs.Inputs.{OpensInputs}
 use Rattle.input_files.specs.Laws.{EndAsBegun, AreUnaffectedByWrites}
 
--- The numbers of live files were given to them.
+-- Live files have numbers that were given out.
 abbrev pub AreNumbered : {S : Type 0} → Ghosts S → writing.Ghosts S → Type 0
 AreNumbered {S} r f = (files : S) (file : ℕ) → (live_files r files).live file ≡ true → file < f.given files
 
--- ---- opened one after the other
+-- ---- opening in sequence
 
--- A file was opened under a name.
+-- The file `file` was opened with the name `name`.
 pub record OpensOne {S : Type 0} (r : Ghosts S) (f : writing.Ghosts S) (name : List ℕ) (old new : S) (file : FileId) : Type 0 where
   pub least : f.given old ≤ file.n
   pub most : file.n < f.given new
@@ -36,7 +36,7 @@ pub record OpensOne {S : Type 0} (r : Ghosts S) (f : writing.Ghosts S) (name : L
   pub others : KeepsFiles (live_files r old) (live_files r new) (λ other. other < f.given old)
   pub asks : AsksOnly (name ∷ []) [] (f.asked old) (f.asked new)
 
--- a number that is none of some and one more is none of these
+-- A number outside a longer list is outside the shorter one.
 IsNoneOf-added : (list : List FileId) (f : FileId) (file : ℕ) → IsNoneOf file (list ++ f ∷ []) → IsNoneOf file list × (file ≢ f.n)
 IsNoneOf-added [] f file none = (λ k d below. absurd (omega arith), λ same. none 0 f (omega arith) (sym same))
 IsNoneOf-added (first ∷ list) f file none = behind (IsNoneOf-added list f file (λ k d below. none (suc k) d (omega arith)))
@@ -48,12 +48,12 @@ IsNoneOf-added (first ∷ list) f file none = behind (IsNoneOf-added list f file
         at rest zero d below = none 0 d (omega arith)
         at rest (suc k) d below = rest k d (omega arith)
 
--- the names of some and one more
+-- One more file adds its name.
 holders_of-added : (holder : ℕ → List ℕ) (list : List FileId) (f : FileId) → holders_of holder (list ++ f ∷ []) ≡ holders_of holder list ++ holder f.n ∷ []
 holders_of-added holder [] f = refl
 holders_of-added holder (first ∷ list) f = ap (λ (names : List (List ℕ)). holder first.n ∷ names) (holders_of-added holder list f)
 
--- one more
+-- One more file is opened.
 pub OpensInputs-more : {S : Type 0} (r : Ghosts S) (f : writing.Ghosts S) (names : List (List ℕ)) (name : List ℕ) (a b c : S) (ids : List FileId) (file : FileId) → AreNumbered r f → OpensInputs r f names a b ids → OpensOne r f name b c file → OpensInputs r f (names ++ name ∷ []) a c (ids ++ file ∷ [])
 OpensInputs-more r f names name a b c ids file numbered first next = record {
   inputs = record {
@@ -79,7 +79,7 @@ OpensInputs-more r f names name a b c ids file numbered first next = record {
     stays : (other : ℕ) → (live_files r a).live other ≡ true → (live_files r b).live other ≡ true
     stays other live = (first.others other live).alive ∙ live
 
--- a file that isn't opened leaves all that stands
+-- A file that isn't opened leaves everything unchanged.
 pub UsesOnly-unopened : {S : Type 0} (r : Ghosts S) (f : writing.Ghosts S) (name : List ℕ) (old new : S) → r.standing new ≡ r.standing old → f.given new ≡ f.given old → KeepsHolders (live_files r old).live (f.holder old) (f.holder new)
     → AsksOnly (name ∷ []) [] (f.asked old) (f.asked new) → UsesOnly r f (name ∷ []) [] old new
 UsesOnly-unopened r f name old new stands given holders asks = record {
@@ -94,7 +94,7 @@ UsesOnly-unopened r f name old new stands given holders asks = record {
   asks = asks;
 }
 
--- ---- they stand over what is written
+-- ---- writes to other files
 
 pub stand-over : {S : Type 0} (r : Ghosts S) (f : writing.Ghosts S) → AreUnaffectedByWrites r f
 stand-over r f names written old new ids are kept = record {
@@ -106,7 +106,7 @@ stand-over r f names written old new ids are kept = record {
   same = λ k d below other. kept.others (get_or ids k d).n other;
 }
 
--- ---- they are closed
+-- ---- closing
 
 pub end-as-begun : {S : Type 0} (r : Ghosts S) (f : writing.Ghosts S) → AreNumbered r f → EndAsBegun r f
 end-as-begun r f numbered names uses written start opened done end ids opens kept ends = record {
@@ -125,7 +125,7 @@ end-as-begun r f numbered names uses written start opened done end ids opens kep
       (asks-none (IsNotAmong (names ++ uses) written) (f.asked done) (f.asked end) ends.asked));
 }
   where
-    -- a file that was live before is none of them
+    -- A file that was live before isn't among the inputs.
     old : (file : ℕ) → (live_files r start).live file ≡ true → IsNoneOf file ids
     old file live = IsNoneOf-below ids (f.given start) file opens.newer (numbered start file live)
 
@@ -140,7 +140,7 @@ end-as-begun r f numbered names uses written start opened done end ids opens kep
         (kept.others file (subst P (sym (opens.holders file live)) other)))
         (ends.others file (old file live))
 
-    -- a number is that of an input, whose file has ended and wasn't live before, or it isn't
+    -- A file is an input, which is closed and wasn't live before, or another.
     at : (file : ℕ) (was : Bool) → (live_files r start).live file ≡ was → IsNoneOf file ids ⊎ ((live_files r end).live file ≡ false) → (live_files r end).live file ≡ was
     at file true is among = (ends.others file (old file is)).alive ∙ kept.live file ∙ stays file is
     at file false is (inl none) = (ends.others file none).alive ∙ kept.live file ∙ opens.besides file none ∙ is

@@ -1,4 +1,4 @@
--- The first of the inputs' names that passes a test, and the contents of those that are open.
+-- The first name of the inputs that passes a test, and the contents of open files.
 use Rattle.std.proofs.Common.{◌≡◌, ◌≢◌, ℕ, zero, suc, ◌+◌, ◌<◌, Bool, true, false, if◌then◌else◌, List, [], ◌∷◌, ◌++◌, length, take, drop, get_or, map, Option, Some, None, is_none, refl, sym, ◌∙◌, ap, arith}
 use Rattle.std.specs.List.{position_from}
 use Rattle.std.proofs.Math.Seq.{drop-cons, take-suc}
@@ -11,21 +11,21 @@ use Rattle.requests.specs.declared.merge.FileWords.{FileWords}
 use Rattle.mkv_outputs.specs.Sinks.{AreLive, holders_of}
 use Rattle.input_files.specs.Inputs.{contents_of, file_names}
 
--- ---- the first name that passes a test
+-- ---- first name that passes a test
 
--- the first of the names of these words, of which the first has this number
+-- the first name of these inputs that passes a test, with numbers from `k` on
 abbrev pub first_from : (List ℕ → Bool) → ℕ → List FileWords → Option ℕ
 first_from test k words = position_from test k (file_names words)
 
--- one that has no content
+-- the first name without a content
 abbrev pub missing_from : (List ℕ → Option (List ℕ)) → ℕ → List FileWords → Option ℕ
 missing_from world k words = first_from (λ name. is_none (world name)) k words
 
--- one of whose file an edit is pending
+-- the first name with a pending edit
 abbrev pub pending_from : (List ℕ → Option (List ℕ)) → ℕ → List FileWords → Option ℕ
 pending_from world k words = first_from (is_pending world) k words
 
--- the k-th is the first, or one behind it
+-- The name `k` is the first, or a later one is.
 pub first-next : (test : List ℕ → Bool) (words : List FileWords) (k : ℕ) (w : FileWords) (is : Bool) → k < length words → w ≡ get_or words k w → test w.name ≡ is → first_from test k (drop k words) ≡ (if is then Some k else first_from test (k + 1) (drop (k + 1) words))
 first-next test words k w is below at tested =
     ap (first_from test k) (drop-cons words k w below ∙ ap (λ (each : FileWords). each ∷ drop (suc k) words) (sym at))
@@ -35,7 +35,7 @@ first-next test words k w is below at tested =
     one_more : (n : ℕ) → suc n ≡ n + 1
     one_more n = omega arith
 
--- a name with a content is passed
+-- A name with a content is skipped.
 pub missing-passed : (world : List ℕ → Option (List ℕ)) (words : List FileWords) (k : ℕ) (w : FileWords) → k < length words → w ≡ get_or words k w → world w.name ≢ None → missing_from world k (drop k words) ≡ missing_from world (k + 1) (drop (k + 1) words)
 missing-passed world words k w below at there = first-next (λ name. is_none (world name)) words k w false below at (step (world w.name) refl)
   where
@@ -43,7 +43,7 @@ missing-passed world words k w below at there = first-next (λ name. is_none (wo
     step None none = absurd (there none)
     step (Some bytes) some = refl
 
--- the names of one more
+-- One more input adds its name.
 pub names-more : (words : List FileWords) (k : ℕ) (w : FileWords) (name : List ℕ) → k < length words → w ≡ get_or words k w → name ≡ w.name → file_names (take (k + 1) words) ≡ file_names (take k words) ++ name ∷ []
 names-more words k w name below is named =
     ap file_names (ap (λ (n : ℕ). take n words) (one_more k) ∙ take-suc words k w below ∙ ap (λ (each : FileWords). take k words ++ each ∷ []) (sym is))
@@ -53,24 +53,24 @@ names-more words k w name below is named =
     one_more : (n : ℕ) → n + 1 ≡ suc n
     one_more n = omega arith
 
--- ---- names that are others
+-- ---- different names
 
--- others than all of these are others than the first of them
+-- A name outside all is outside the first ones.
 pub others-first : (name : List ℕ) (words : List FileWords) (k : ℕ) → AreOthers name (file_names words) → AreOthers name (file_names (take k words))
 others-first name [] zero others = tt
 others-first name [] (suc k) others = tt
 others-first name (w ∷ ws) zero others = tt
 others-first name (w ∷ ws) (suc k) others = (others.0, others-first name ws k others.1)
 
--- others than all sidecars are others than each
+-- A name outside all journals differs from each.
 pub others-sidecar : (name : List ℕ) (words : List FileWords) (k : ℕ) (w : FileWords) → k < length words → w ≡ get_or words k w → AreOthers name (map sidecar_of (file_names words)) → sidecar_of w.name ≢ name
 others-sidecar name [] k w below is others = absurd (omega arith)
 others-sidecar name (x ∷ xs) zero w below is others = λ same. others.0 (ap (λ (each : FileWords). sidecar_of each.name) (sym is) ∙ same)
 others-sidecar name (x ∷ xs) (suc k) w below is others = others-sidecar name xs k w (omega arith) is others.1
 
--- ---- the contents
+-- ---- contents
 
--- live files have the contents of the names under which they were opened
+-- Live files have the contents of their names.
 pub contents-named : (live : ℕ → Bool) (content : ℕ → Option (List ℕ)) (holder : ℕ → List ℕ) (world : List ℕ → Option (List ℕ)) (ids : List FileId) → ((file : ℕ) → live file ≡ true → content file ≡ world (holder file)) → AreLive live ids → contents_of content ids ≡ map world (holders_of holder ids)
 contents-named live content holder world [] named are = refl
 contents-named live content holder world (f ∷ fs) named are =

@@ -1,4 +1,4 @@
--- What the entry of a text says of its track, and that nothing refuses it.
+-- The values in a text's entry, which is valid.
 use Rattle.std.proofs.Common.{◌≡◌, [], ◌∷◌, codes, Ok, None, refl, lit<}
 use Rattle.ebml_numbers.specs.Number.{uint_width}
 use Rattle.mkv_schema.specs.Schema.{entry_of}
@@ -12,7 +12,7 @@ use Rattle.file_format.specs.Tracks.{IsTrack}
 use Rattle.track_records.specs.Track.{track_of, tracks_of}
 use Rattle.input_files.specs.Track.{text_entry}
 
--- what it says
+-- The entry has these values.
 pub record SaysOfText : Type 0 where
   pub number : number_of text_entry ≡ 1
   pub uid : uid_of text_entry ≡ 0
@@ -34,7 +34,7 @@ pub is_track : IsTrack text_entry
 unfolding uint_width entry_of table
 is_track = record { number = lit< tt; type = refl; codec = refl; duration = tt }
 
--- a Tracks with it alone is read as its track
+-- A Tracks with only this entry is read as its track.
 pub is_read : tracks_of (master TRACKS 0 (nodes_of (text_entry ∷ []))) ≡ Ok (track_of text_entry ∷ [])
 unfolding uint_width entry_of table
 is_read = refl

@@ -1,4 +1,4 @@
--- The chapter file of a merge, and what is taken of it. The rule is this project's.
+-- The chapter file of a merge, and its Chapters. The rule is this project's.
 use Rattle.std.specs.Prelude.{⊤, ℕ, List, length, Option, Some, None, Result, Ok, Err}
 use Rattle.mkv_schema.specs.declared.ids.TheConstants.{CHAPTERS}
 use Rattle.tree_format.specs.Node.{Node}
@@ -9,22 +9,22 @@ use Rattle.input_files.specs.declared.refusal.TextRefusal.{TextRefusal}
 use Rattle.input_files.specs.declared.chapter_file.ChapterFile.{ChapterFile}
 use Rattle.input_files.specs.declared.chapter_file.ChapterFile.TheVariants.{Absent, Missing, Refused, Read}
 
--- what a file gives whose content means this
+-- the result of a chapter file with this meaning
 abbrev pub given_by : Result Node TextRefusal → ChapterFile
 given_by (Ok chapters) = Read chapters
 given_by (Err why) = Refused why
 
--- what the file of a name gives, by its content, if it has one
+-- the result of a chapter file by its content, if it has one
 abbrev pub file_with : Option (List ℕ) → ChapterFile
 file_with None = Missing
 file_with (Some bytes) = given_by (chapter_text bytes)
 
--- what the chapter file of a merge gives in a world of names, where one is named
+-- the result of the merge's chapter file, if one is named, given the contents of names
 abbrev pub chapter_file : (List ℕ → Option (List ℕ)) → Option (List ℕ) → ChapterFile
 chapter_file world None = Absent
 chapter_file world (Some name) = file_with (world name)
 
--- how many octets are read of it
+-- the number of bytes that are read of the file
 abbrev pub octets_with : Option (List ℕ) → ℕ
 octets_with None = 0
 octets_with (Some bytes) = octets_within MAX_CHAPTERS_LEN (length bytes)
@@ -33,7 +33,7 @@ abbrev pub chapter_octets : (List ℕ → Option (List ℕ)) → Option (List �
 chapter_octets world None = 0
 chapter_octets world (Some name) = octets_with (world name)
 
--- Chapters that were read of it can be written.
+-- Chapters that were read can be written.
 abbrev pub CanBeWritten : ChapterFile → Type 0
 CanBeWritten (Read chapters) = IsRead CHAPTERS chapters
 CanBeWritten _ = ⊤

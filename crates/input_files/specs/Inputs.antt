@@ -1,4 +1,4 @@
--- The input files of a merge, and how they are opened. The rule is this project's.
+-- The input files of a merge, and their opening. The rule is this project's.
 use Rattle.std.specs.Prelude.{◌≡◌, ◌≤◌, ⊤, ℕ, Bool, true, false, List, [], map, Option, Some, None, is_none, Result, Ok, Err}
 use Rattle.std.specs.List.{All, position_from}
 use Rattle.mkv_io.specs.declared.outside.FileId.{FileId}
@@ -17,24 +17,23 @@ use Rattle.input_files.specs.declared.inputs_end.InputsEnd.TheVariants as inputs
 use Rattle.mkv_io.specs.Told.{IfVisible}
 use Rattle.mkv_io.specs.Writing.{IfByNames}
 
--- the names of the inputs, in the order of the words
+-- the names of the inputs, in the order of the command line
 abbrev pub file_names : List FileWords → List (List ℕ)
 file_names words = map (λ (w : FileWords). w.name) words
 
--- the contents of these files
+-- the contents of the files `ids`
 abbrev pub contents_of : (ℕ → Option (List ℕ)) → List FileId → List (Option (List ℕ))
 contents_of content ids = map (λ (f : FileId). content f.n) ids
 
--- ---- the files
+-- ---- files
 
--- These files are live, in the order of their numbers, and were opened under these names.
+-- The files `ids` are live, have increasing numbers, and were opened with these names.
 pub record AreInputs {S : Type 0} (r : Ghosts S) (f : writing.Ghosts S) (names : List (List ℕ)) (files : S) (ids : List FileId) : Type 0 where
   pub live : AreLive (live_files r files).live ids
   pub rising : AreRising ids
   pub under : holders_of (f.holder files) ids ≡ names
 
--- Files were opened under these names, and got new numbers. Every other file is live as before, and each that was live
--- is the same under its name.
+-- The files `ids` were opened with these names, and have new numbers. Other files are live as before, and unchanged with their names.
 pub record OpensInputs {S : Type 0} (r : Ghosts S) (f : writing.Ghosts S) (names : List (List ℕ)) (old new : S) (ids : List FileId) : Type 0 where
   pub inputs : AreInputs r f names new ids
   pub newer : All (λ (s : FileId). f.given old ≤ s.n) ids
@@ -44,7 +43,7 @@ pub record OpensInputs {S : Type 0} (r : Ghosts S) (f : writing.Ghosts S) (names
   pub others : KeepsFiles (live_files r old) (live_files r new) (λ file. (live_files r old).live file ≡ true)
   pub asks : AsksOnly names [] (f.asked old) (f.asked new)
 
--- No name's content changes, nothing is written, and no octet is read.
+-- No name's content changed, nothing was written, and no byte was read.
 pub record LeavesContents {S : Type 0} (r : Ghosts S) (f : writing.Ghosts S) (old new : S) : Type 0 where
   pub names : f.names new ≡ f.names old
   pub writing : f.writing_faults new ≡ f.writing_faults old
@@ -52,37 +51,37 @@ pub record LeavesContents {S : Type 0} (r : Ghosts S) (f : writing.Ghosts S) (ol
 
 -- ---- refusals
 
--- the first of these names, from 0, that has no content
+-- the index of the first name without a content, if any
 abbrev pub first_missing : (List ℕ → Option (List ℕ)) → List (List ℕ) → Option ℕ
 first_missing world names = position_from (λ name. is_none (world name)) 0 names
 
--- The first input without a file is told; a call of the outside may fail before it, and there may be no memory.
+-- The result names the first input without a file, if any. A call may fail before it, or memory may run out.
 abbrev pub TellsMissing : (List ℕ → Option (List ℕ)) → List (List ℕ) → Result (List FileId) InputsEnd → Type 0
 TellsMissing world names (Ok ids) = first_missing world names ≡ None
 TellsMissing world names (Err (inputs_end.Missing input)) = first_missing world names ≡ Some input
 TellsMissing world names (Err inputs_end.Failed) = ⊤
 TellsMissing world names (Err inputs_end.Memory) = ⊤
 
--- why the inputs aren't opened, where the k-th, from 0, isn't
+-- the failure to open the input `k`, counted from 0
 abbrev pub end_of : ℕ → OpenFault → InputsEnd
 end_of k open_fault.Missing = inputs_end.Missing k
 end_of k open_fault.Failed = inputs_end.Failed
 end_of k open_fault.Memory = inputs_end.Memory
 
--- the first of these names, from 0, of whose file an edit is pending
+-- the index of the first name with a pending edit, if any
 abbrev pub first_pending : (List ℕ → Option (List ℕ)) → List (List ℕ) → Option ℕ
 first_pending world names = position_from (is_pending world) 0 names
 
--- This is the first input of a merge of which an edit is pending, where the names are told.
+-- The result is the first input with a pending edit, if names are visible to the proof.
 abbrev pub FindsPending : {S E : Type 0} → writing.Ghosts S → List FileWords → S → Result (Option ℕ) E → Type 0
 FindsPending f words old result = IfByNames f old result (λ world first. first ≡ first_pending world (file_names words))
 
--- the outside failed
+-- The failure is a failed system call.
 abbrev pub is_inputs_fault : InputsEnd → Bool
 is_inputs_fault (inputs_end.Missing input) = false
 is_inputs_fault inputs_end.Failed = true
 is_inputs_fault inputs_end.Memory = false
 
--- Where contents are told, these files have those of the inputs' names.
+-- The files `ids` have the contents of the inputs' names, if names are visible to the proof.
 abbrev pub HaveContents : {S : Type 0} → Ghosts S → writing.Ghosts S → List FileWords → S → S → List FileId → Type 0
 HaveContents r f words old new ids = IfVisible (f.names old) (λ world. contents_of (live_files r new).content ids ≡ map world (file_names words))

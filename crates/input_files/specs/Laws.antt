@@ -1,4 +1,4 @@
--- What holds of input files, whatever is written under other names.
+-- Laws about input files, whatever is written to other names.
 use Rattle.std.specs.Prelude.{ℕ, List, ◌++◌}
 use Rattle.std.specs.List.{All}
 use Rattle.mkv_io.specs.declared.outside.FileId.{FileId}
@@ -11,19 +11,18 @@ use Rattle.mkv_io.specs.declared.files.Files as writing
 use Rattle.mkv_outputs.specs.Sinks.{EndsOnly}
 use Rattle.input_files.specs.Inputs.{AreInputs, OpensInputs}
 
--- Input files are those of the same names after others were written, and each that was opened under none of the names
--- that were written is the same.
+-- The input files have the same names after others were written, and each whose name wasn't written is unchanged.
 pub record StandsOver {S : Type 0} (r : Ghosts S) (f : writing.Ghosts S) (names written : List (List ℕ)) (old new : S) (ids : List FileId) : Type 0 where
   pub inputs : AreInputs r f names new ids
   pub same : All (λ (s : FileId). AreOthers (f.holder old s.n) written → IsSameFile (live_files r old) (live_files r new) s.n) ids
 
--- Input files stand over what is written under other names.
+-- Writes to other names don't affect input files.
 abbrev pub AreUnaffectedByWrites : {S : Type 0} → Ghosts S → writing.Ghosts S → Type 0
 AreUnaffectedByWrites {S} r f = (names written : List (List ℕ)) (old new : S) (ids : List FileId)
     → AreInputs r f names old ids → KeepsOthers r f written old new → StandsOver r f names written old new ids
 
--- Where input files were opened, only names among these were then opened or written, and the input files were closed at
--- last, all is as where only these names and the inputs' were opened, and only these were written.
+-- If input files were opened, other names used and written, and the input files closed, only these names and the inputs' were used. Only the
+-- written ones changed.
 abbrev pub EndAsBegun : {S : Type 0} → Ghosts S → writing.Ghosts S → Type 0
 EndAsBegun {S} r f = (names uses written : List (List ℕ)) (start opened done end : S) (ids : List FileId)
     → OpensInputs r f names start opened ids → UsesOnly r f uses written opened done → EndsOnly r f done end ids

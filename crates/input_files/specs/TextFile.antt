@@ -12,48 +12,48 @@ use Rattle.input_files.specs.declared.refusal.TextFileEnd.TheVariants.{Refused, 
 use Rattle.input_files.specs.declared.refusal.TextRefusal.{TextRefusal}
 use Rattle.input_files.specs.declared.refusal.TextRefusal.TheVariants.{TooLarge, Bad}
 
--- ---- what a file means
+-- ---- meaning of a file
 
--- what a grammar makes of a content; its first bad line refuses the file
+-- the result of a grammar, with its first bad line as the refusal
 abbrev pub unless_bad : {A : Type 0} → Result A ℕ → Result A TextRefusal
 unless_bad (Ok x) = Ok x
 unless_bad (Err line) = Err (Bad line)
 
--- what a file of at most so many octets means by a grammar, or what refuses it
+-- the meaning of a file of at most `most` bytes by a grammar, or its refusal
 abbrev pub text_file : {A : Type 0} → ℕ → (List ℕ → Result A ℕ) → List ℕ → Result A TextRefusal
 text_file most grammar bytes = if nat_lt most (length bytes) then Err TooLarge else unless_bad (grammar bytes)
 
--- a file of SubRip, and one of simple chapters
+-- the meaning of a SubRip file; and of a simple chapter file
 abbrev pub srt_text : List ℕ → Result (List Entry) TextRefusal
 srt_text bytes = text_file MAX_SRT_LEN srt bytes
 
 abbrev pub chapter_text : List ℕ → Result Node TextRefusal
 chapter_text bytes = text_file MAX_CHAPTERS_LEN simple_chapters bytes
 
--- ---- what a reader answers
+-- ---- results of a reader
 
--- A file means what was read, or this refuses it; a read may fail, and there may be no memory.
+-- A reader's result is right for `meant`: the same value or refusal, unless a read failed or memory ran out.
 abbrev pub ReadsText : {A : Type 0} → Result A TextRefusal → Result A TextFileEnd → Type 0
 ReadsText meant (Ok x) = meant ≡ Ok x
 ReadsText meant (Err (Refused why)) = meant ≡ Err why
 ReadsText meant (Err ReadFault) = ⊤
 ReadsText meant (Err Memory) = ⊤
 
--- why a file isn't read of whose octets this is the end
+-- the failure to read a file, from the failure to parse its bytes
 abbrev pub end_of : TextEnd → TextFileEnd
 end_of (text_end.Bad line) = Refused (Bad line)
 end_of text_end.Memory = Memory
 
--- a read failed
+-- The failure is a failed read.
 abbrev pub is_text_fault : TextFileEnd → Bool
 is_text_fault (Refused why) = false
 is_text_fault ReadFault = true
 is_text_fault Memory = false
 
--- how many octets are read of a file of so many: all, or none where it is too long
+-- the number of bytes that are read of a file of `size` bytes: all, or none if it is too large
 abbrev pub octets_within : ℕ → ℕ → ℕ
 octets_within most size = if nat_lt most size then 0 else size
 
--- the end of a file that is too large
+-- the failure for a file that is too large
 abbrev pub too_large : TextFileEnd
 too_large = Refused TooLarge

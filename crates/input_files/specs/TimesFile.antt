@@ -1,4 +1,4 @@
--- The files of times that the words of a merge name. Their limits are this project's.
+-- The timestamp files of a merge's command line. Their limits are this project's.
 use Rattle.std.specs.Prelude.{ℕ, suc, ◌-◌, min, List, [], ◌∷◌, ◌++◌, length, map, sum_by, Option, Some, None, Result, Ok, Err}
 use Rattle.ext_times.specs.Listing.{Listing, listing}
 use Rattle.requests.specs.declared.merge.FileWords.{FileWords}
@@ -10,33 +10,33 @@ use Rattle.input_files.specs.declared.times_file.TimesGiven.{TimesGiven}
 use Rattle.input_files.specs.declared.times_file.TimesGiven.TheVariants.{Missing, Refused, Read}
 use Rattle.input_files.specs.declared.times_file.TimesName.{TimesName}
 
--- ---- which files
+-- ---- timestamp files
 
--- a file that the words name for a track of the input of this number
+-- the timestamp file of a track of the input with this number
 abbrev pub named_of : ℕ → ℕ × List ℕ → TimesName
 named_of input pair = record { input = input; id = pair.0; name = pair.1 }
 
--- those of inputs, the first of which has this number
+-- the timestamp files of inputs, with numbers from `input` on
 abbrev pub named_from : ℕ → List FileWords → List TimesName
 named_from input [] = []
 named_from input (w ∷ ws) = map (named_of input) w.times ++ named_from (suc input) ws
 
--- those that the words of a merge name, input after input
+-- the timestamp files of the command line, input after input
 abbrev pub times_named : List FileWords → List TimesName
 times_named words = named_from 0 words
 
--- their names
+-- the names of the timestamp files
 abbrev pub times_names : List TimesName → List (List ℕ)
 times_names times = map (λ (n : TimesName). n.name) times
 
--- ---- what they give
+-- ---- results
 
--- what a file gives whose content lists this
+-- the result of a timestamp file with these times
 abbrev pub given_by : Result Listing TextRefusal → TimesGiven
 given_by (Ok times) = Read times
 given_by (Err why) = Refused why
 
--- what the file of a name gives, by its content, if it has one, where the file and those behind it may have so many octets
+-- the result of a timestamp file of at most `room` bytes by its content, if it has one
 abbrev pub given_with : ℕ → Option (List ℕ) → TimesGiven
 given_with room None = Missing
 given_with room (Some bytes) = given_by (text_file (min room MAX_TIMES_LEN) listing bytes)
@@ -45,19 +45,19 @@ abbrev pub size_with : Option (List ℕ) → ℕ
 size_with None = 0
 size_with (Some bytes) = length bytes
 
--- what files give, one behind the other, where they may have so many octets together
+-- the results of timestamp files in sequence, of at most `room` bytes together
 abbrev pub times_from : (List ℕ → Option (List ℕ)) → ℕ → List TimesName → List TimesFile
 times_from world room [] = []
 times_from world room (n ∷ ns) =
     record { named = n; given = given_with room (world n.name) } ∷ times_from world (room - size_with (world n.name)) ns
 
--- what those give in a world of names that the words of a merge name
+-- the results of the command line's timestamp files, given the contents of names
 abbrev pub times_files : (List ℕ → Option (List ℕ)) → List FileWords → List TimesFile
 times_files world words = times_from world MAX_ALL_TIMES_LEN (times_named words)
 
--- ---- how much is read
+-- ---- bytes that are read
 
--- at most so many octets of a file
+-- an upper bound on the bytes that are read of a timestamp file
 abbrev pub octets_with : Option (List ℕ) → ℕ
 octets_with None = 0
 octets_with (Some bytes) = octets_within MAX_TIMES_LEN (length bytes)

@@ -1,4 +1,4 @@
-//! The chapter file of a merge, by its name.
+//! Chapter file of a merge, by its name
 
 ghost use Rattle.std.specs.Prelude.{◌≡◌, ◌+◌, ◌≤◌, [], ◌∷◌, IfOk};
 ghost use Rattle.std.specs.Option.{option_to_list};
@@ -14,20 +14,20 @@ use ebml_tree::Tree;
 use mkv_io::{Files, OpenFault, ReadEnd, Text};
 use std::alloc::Global;
 
-/// What the chapter file of a merge gives.
+/// Result of reading the chapter file of a merge
 #[derive(Drop)]
 pub enum ChapterFile {
-    /// None is named.
+    /// No chapter file is named
     Absent,
-    /// There is no file of its name.
+    /// No file has its name
     Missing,
-    /// It isn't taken.
+    /// Refused
     Refused(TextRefusal),
-    /// Its Chapters, whose identifiers are 0.
+    /// Its Chapters, with identifiers of 0
     Read(Tree),
 }
 
-// The same of the file of a name.
+// Reads the chapter file `name`.
 fn read_named<F: Files>(alloc: Global, name: &str, files: &mut F) -> Result<ChapterFile, ReadEnd>
     ensures exact { IfVisible (F.names files.old) (λ world. IfOk result (λ given. given ≡ file_with (world name.now))) }
     ensures written { IfOk result CanBeWritten }
@@ -51,7 +51,7 @@ fn read_named<F: Files>(alloc: Global, name: &str, files: &mut F) -> Result<Chap
     }
 }
 
-/// What the chapter file of a merge gives, where one is named. A file that can't be opened or read is a `ReadFault`.
+/// Reads the chapter file of a merge, if one is named. A file that can't be opened or read is a `ReadFault`.
 pub fn read_chapter_file<F: Files>(
     alloc: Global,
     name: &Option<Text>,
@@ -59,7 +59,7 @@ pub fn read_chapter_file<F: Files>(
 ) -> Result<ChapterFile, ReadEnd>
     ensures exact { IfVisible (F.names files.old) (λ world. IfOk result (λ given. given ≡ chapter_file world name.now)) }
 
-    // Whatever the names tell, Chapters that were read can be written.
+    // Chapters that were read can be written, even if names aren't visible to the proof.
     ensures written { IfOk result CanBeWritten }
     ensures looks { LooksOnly F.Reads F.Files.own (option_to_list name.now) files.old files.new }
     ensures cause { HasCause is_read_fault (F.reading_faults files.old) (F.reading_faults files.new) result }

@@ -1,4 +1,4 @@
-//! Files that are opened one after the other, and closed.
+//! Files that are opened in sequence, and closed
 
 ghost use Rattle.std.specs.Prelude.{◌≡◌, IfOk, OnErr, []};
 ghost use Rattle.mkv_io.specs.Faults.{HasCause};
@@ -13,7 +13,7 @@ use mkv_io::{FileId, Files, List, OpenFault};
 use requests::FileWords;
 use std::alloc::Global;
 
-/// Opens the files of a merge's inputs, in the order of the words. After a refusal none of them stays open.
+/// Opens the files of a merge's inputs, in the order of the command line. If it fails, none of them stays open.
 pub fn open_all<F: Files>(
     alloc: Global,
     words: &[FileWords],
@@ -23,7 +23,7 @@ pub fn open_all<F: Files>(
     ensures contents { IfOk result (HaveContents F.Reads F.Files.own words.now files.old files.new) }
     ensures missing { IfVisible (F.names files.old) (λ world. TellsMissing world (file_names words.now) result) }
 
-    // A refusal leaves which files are live, and each as it was.
+    // After an error the same files are live, and each is unchanged.
     ensures refused { OnErr result (UsesOnly F.Reads F.Files.own (file_names words.now) [] files.old files.new) }
     ensures same { LeavesContents F.Reads F.Files.own files.old files.new }
     ensures cause { HasCause is_inputs_fault (F.reading_faults files.old) (F.reading_faults files.new) result }
@@ -41,7 +41,7 @@ pub fn open_all<F: Files>(
     Ok(List::from_vec(ids))
 }
 
-/// Why inputs aren't opened, where the k-th, from 0, isn't.
+/// Returns the failure for the input `k`, counted from 0.
 fn end_of(fault: OpenFault, k: usize) -> InputsEnd
     ensures { result ≡ end_of k fault }
 {
@@ -52,7 +52,7 @@ fn end_of(fault: OpenFault, k: usize) -> InputsEnd
     }
 }
 
-/// Closes live files, whose numbers rise.
+/// Closes live files, whose numbers are increasing.
 pub fn close_all<F: Files>(files: &mut F, ids: &[FileId])
     requires live { AreLive (live_files F.Reads files.old).live ids.now }
     requires rising { AreRising ids.now }

@@ -1,18 +1,18 @@
-//! Why input files aren't opened.
+//! Failures to open input files
 
 ghost use Rattle.std.specs.Prelude.{◌≡◌};
 ghost use Rattle.input_files.specs.declared.inputs_end.InputsEnd.TheVariants as inputs_end;
 
 use std::alloc::AllocError;
 
-/// Why input files aren't opened.
+/// Failure to open input files
 #[derive(Clone, Copy, Debug, PartialEq, Eq)]
 pub enum InputsEnd {
-    /// This input, from 0, is the first of whose name there is no file.
+    /// Number of the first input without a file, counted from 0
     Missing { input: usize },
-    /// The outside failed.
+    /// Failed system call
     Failed,
-    /// There is no memory.
+    /// Out of memory
     Memory,
 }
 

@@ -1,8 +1,8 @@
 #![tactic(auto)]
 
-//! The input files of a merge: all of them are opened, or none, and they are closed together; the first of which an edit is
-//! pending; and the text files among them, read whole, SubRip as a track and entries, simple chapters as a Chapters Element
-//! (RFC 9559, sections 5.1.4, Tracks Element, and 5.1.7, Chapters Element), and times of frames.
+//! Input files of a merge, opened all or none, and closed together. It finds the first input with a pending edit. It
+//! reads text files whole: SubRip as a track and entries, simple chapters as Chapters, and timestamp files (RFC 9559,
+//! sections 5.1.4, Tracks, and 5.1.7, Chapters).
 
 mod chapter_file;
 mod files;

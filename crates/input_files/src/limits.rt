@@ -1,13 +1,13 @@
-//! How long a text file may be that is read.
+//! Size limits of text files
 
-/// The most octets of a SubRip file.
+/// Maximum size of a SubRip file in bytes
 pub const MAX_SRT_LEN: u64 = 16 << 20;
 
-/// The most octets of a file of chapters.
+/// Maximum size of a chapter file in bytes
 pub const MAX_CHAPTERS_LEN: u64 = 1 << 20;
 
-/// The most octets of a file of times.
+/// Maximum size of a timestamp file in bytes
 pub const MAX_TIMES_LEN: u64 = 16 << 20;
 
-/// The most octets of all files of times of a merge together.
+/// Maximum total size of a merge's timestamp files in bytes
 pub const MAX_ALL_TIMES_LEN: u64 = 64 << 20;

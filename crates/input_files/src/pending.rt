@@ -1,4 +1,4 @@
-//! Edits of inputs that are pending.
+//! Pending edits of inputs
 
 ghost use Rattle.std.specs.Prelude.{◌*◌, length, map, IfOk};
 ghost use Rattle.mkv_io.specs.Bounds.{ReadsUpTo};
@@ -14,7 +14,8 @@ use requests::FileWords;
 use sidecar_edit::is_pending;
 use std::alloc::Global;
 
-/// The first of a merge's inputs, from 0 in the order of the words, of which an edit is pending.
+/// Returns the number of the first input with a pending edit, if any, counted from 0 in the order of the command
+/// line.
 pub fn first_pending<F: Files>(
     alloc: Global,
     words: &[FileWords],

@@ -1,4 +1,4 @@
-//! Text files, read whole by one call.
+//! Text files, read whole by one call
 
 ghost use Rattle.std.specs.Prelude.{◌≡◌, ◌↔◌, ◌+◌, ◌<◌, ◌≤◌, length, IfOk, IsErrOf};
 ghost use Rattle.mkv_schema.specs.declared.ids.TheConstants.{CHAPTERS};
@@ -18,7 +18,7 @@ use mkv_io::{Bytes, FileId, List, Reads};
 use srt_chapters::{Entry, read_simple, read_srt};
 use std::alloc::Global;
 
-/// All octets of a file that has at most so many.
+/// Reads all bytes of a file with at most `most` bytes.
 fn read_whole<R: Reads>(
     alloc: Global,
     src: &mut R,
@@ -45,7 +45,8 @@ fn read_whole<R: Reads>(
     Ok(Bytes::from_vec(octets))
 }
 
-/// The entries of a SubRip file, sorted by start; or what refuses it. It is read by one call, unless it is too long.
+/// Reads the entries of a SubRip file, sorted by start, or returns the refusal. It reads the file by one call, unless
+/// it is too large.
 pub fn read_entries<R: Reads>(
     alloc: Global,
     src: &mut R,
@@ -54,7 +55,8 @@ pub fn read_entries<R: Reads>(
     requires { IsLive R.Reads src.old file }
     ensures exact { IfTold R.Reads src.old file (λ bytes. ReadsText (srt_text bytes) result) }
 
-    // Whatever the file tells, so many octets refuse it, and what is read keeps the limits of a lane.
+    // The size decides `TooLarge`, even if the file isn't visible to the proof, and the entries are within an output
+    // track's limits.
     ensures large { IsErrOf result too_large ↔ (MAX_SRT_LEN < file_size R.Reads src.old file) }
     ensures within { IfOk result (AreWithin MAX_SRT_LEN) }
     ensures only { OnlyReads R.Reads src.old src.new }
@@ -65,8 +67,8 @@ pub fn read_entries<R: Reads>(
     Ok(read_srt(alloc, octets.as_slice())?)
 }
 
-/// The Chapters Element of a file of simple chapters, whose identifiers are 0; or what refuses it. It is read by one call,
-/// unless it is too long.
+/// Reads the Chapters of a simple chapter file, with identifiers of 0, or returns the refusal. It reads the file by
+/// one call, unless it is too large.
 pub fn read_chapters<R: Reads>(
     alloc: Global,
     src: &mut R,
@@ -75,7 +77,7 @@ pub fn read_chapters<R: Reads>(
     requires { IsLive R.Reads src.old file }
     ensures exact { IfTold R.Reads src.old file (λ bytes. ReadsText (chapter_text bytes) result) }
 
-    // Whatever the file tells, so many octets refuse it, and what is read can be written.
+    // The size decides `TooLarge`, even if the file isn't visible to the proof, and the Chapters can be written.
     ensures large { IsErrOf result too_large ↔ (MAX_CHAPTERS_LEN < file_size R.Reads src.old file) }
     ensures read { IfOk result (IsRead CHAPTERS) }
     ensures only { OnlyReads R.Reads src.old src.new }
@@ -86,8 +88,8 @@ pub fn read_chapters<R: Reads>(
     Ok(read_simple(alloc, octets.as_slice())?)
 }
 
-/// The times of frames that a file of at most so many octets lists; or what refuses it. It is read by one call, unless it is too
-/// long.
+/// Reads the frame times of a timestamp file with at most `most` bytes, or returns the refusal. It reads the file by
+/// one call, unless it is too large.
 pub fn read_track_times<R: Reads>(
     alloc: Global,
     src: &mut R,

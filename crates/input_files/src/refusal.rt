@@ -1,4 +1,4 @@
-//! Why a text file isn't read.
+//! Failures to read text files
 
 ghost use Rattle.std.specs.Prelude.{◌≡◌};
 ghost use Rattle.input_files.specs.declared.refusal.TextFileEnd.TheVariants as file_end;
@@ -6,23 +6,23 @@ ghost use Rattle.input_files.specs.declared.refusal.TextFileEnd.TheVariants as f
 use std::alloc::AllocError;
 use text_formats::TextEnd;
 
-/// What refuses a text file.
+/// Refusal of a text file
 #[derive(Clone, Copy, Debug, PartialEq, Eq)]
 pub enum TextRefusal {
-    /// It is longer than a file of its kind may be.
+    /// Too large for its kind
     TooLarge,
-    /// This line, counted from 1, is the first that breaks the file's grammar.
+    /// First line that breaks the file's grammar, counted from 1
     Bad { line: u64 },
 }
 
-/// Why a text file isn't read.
+/// Failure to read a text file
 #[derive(Clone, Copy, Debug, PartialEq, Eq)]
 pub enum TextFileEnd {
-    /// It is refused.
+    /// Refused file
     Refused(TextRefusal),
-    /// A read failed.
+    /// Failed read
     ReadFault,
-    /// There is no memory.
+    /// Out of memory
     Memory,
 }
 

@@ -1,4 +1,4 @@
-//! The text files of a merge besides its inputs.
+//! Text files of a merge other than its inputs
 
 ghost use Rattle.std.specs.Prelude.{◌+◌, ◌≤◌, IfOk};
 ghost use Rattle.mkv_io.specs.Faults.{HasCause, is_read_fault};
@@ -13,16 +13,16 @@ use mkv_io::{Files, List, ReadEnd, Text};
 use requests::FileWords;
 use std::alloc::Global;
 
-/// What the text files of a merge give besides its inputs.
+/// Results of reading the text files of a merge other than its inputs
 #[derive(Drop)]
 pub struct TextFiles {
     pub chapters: ChapterFile,
-    /// The files of times, input after input.
+    /// Timestamp files, input after input
     pub times: List<TimesFile>,
 }
 
-/// What the chapter file of a merge gives, where one is named, and then its files of times. One that can't be opened or read is
-/// a `ReadFault`.
+/// Reads the chapter file of a merge, if one is named, and then its timestamp files. A file that can't be opened or
+/// read is a `ReadFault`.
 pub fn read_text_files<F: Files>(
     alloc: Global,
     chapters: &Option<Text>,
@@ -31,7 +31,7 @@ pub fn read_text_files<F: Files>(
 ) -> Result<TextFiles, ReadEnd>
     ensures exact { GivesTexts F.Files.own chapters.now words.now files.old result }
 
-    // Whatever the names tell, Chapters that were read can be written.
+    // Chapters that were read can be written, even if names aren't visible to the proof.
     ensures written { IfOk result (λ texts. CanBeWritten texts.chapters) }
     ensures looks { LooksOnly F.Reads F.Files.own (text_names chapters.now words.now) files.old files.new }
     ensures cause { HasCause is_read_fault (F.reading_faults files.old) (F.reading_faults files.new) result }

@@ -1,4 +1,4 @@
-//! The files of times that the words of a merge name, by their names.
+//! Timestamp files of a merge's command line, by their names
 
 ghost use Rattle.std.specs.Prelude.{◌≡◌, ◌++◌, ◌+◌, ◌≤◌, [], ◌∷◌, map, IfOk, OnOk};
 ghost use Rattle.mkv_io.specs.Faults.{HasCause, is_read_fault};
@@ -16,35 +16,35 @@ use mkv_io::{Files, List, OpenFault, ReadEnd, Text};
 use requests::FileWords;
 use std::alloc::{AllocError, Global};
 
-/// A file of times that the words of a merge name.
+/// Timestamp file of the command line
 #[derive(Debug, Drop)]
 pub struct TimesName {
-    /// The input whose track gets the times, from 0 in the order of the words.
+    /// Number of its input, counted from 0 in the order of the command line
     pub input: usize,
-    /// The track's place in Tracks, from 0.
+    /// Place of its track in Tracks, counted from 0
     pub id: u64,
     pub name: Text,
 }
 
-/// What a file of times gives.
+/// Result of reading a timestamp file
 #[derive(Debug, Drop)]
 pub enum TimesGiven {
-    /// There is no file of its name.
+    /// No file has its name
     Missing,
-    /// It isn't taken.
+    /// Refused
     Refused(TextRefusal),
-    /// The times of frames.
+    /// Times of frames
     Read(Times),
 }
 
-/// A file of times that the words of a merge name, and what it gives.
+/// Timestamp file of the command line, with its result
 #[derive(Debug, Drop)]
 pub struct TimesFile {
     pub named: TimesName,
     pub given: TimesGiven,
 }
 
-// Adds the files that the words of an input name.
+// Appends the timestamp files of an input.
 fn add_named(
     input: usize,
     times: &[(u64, Text)],
@@ -62,7 +62,7 @@ fn add_named(
     Ok(())
 }
 
-/// The files of times that the words of a merge name, input after input.
+/// Returns the timestamp files of the command line, input after input.
 pub fn times_named(alloc: Global, words: &[FileWords]) -> Result<List<TimesName>, AllocError>
     ensures { IfOk result (λ named. named ≡ times_named words.now) }
 {
@@ -73,14 +73,14 @@ pub fn times_named(alloc: Global, words: &[FileWords]) -> Result<List<TimesName>
     Ok(named)
 }
 
-/// What the file of a name gives, and how many octets it has.
+/// Result of reading a timestamp file, and its size in bytes
 #[derive(Drop)]
 struct ReadTimes {
     given: TimesGiven,
     size: u64,
 }
 
-// The same of a name, where so many octets may be read in all.
+// Reads the timestamp file `name`, if it has at most `room` bytes.
 fn read_named<F: Files>(
     alloc: Global,
     name: &str,
@@ -114,8 +114,8 @@ fn read_named<F: Files>(
     Ok(ReadTimes { given, size })
 }
 
-/// What the files of times give that the words of a merge name, input after input. Each is looked for and read, whatever becomes
-/// of its times. One that can't be opened or read is a `ReadFault`.
+/// Reads the timestamp files of the command line, input after input. Each is looked for and read, even if an earlier
+/// one is refused. A file that can't be opened or read is a `ReadFault`.
 pub fn read_times_files<F: Files>(
     alloc: Global,
     words: &[FileWords],

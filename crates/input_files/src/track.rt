@@ -1,4 +1,4 @@
-//! The track of a text.
+//! Track of a text
 
 ghost use Rattle.std.specs.Prelude.{◌≡◌, [], ◌∷◌, All, IfOk};
 ghost use Rattle.track_records.specs.Entry.{IsWholeEntry};
@@ -15,7 +15,7 @@ use mkv_schema::track_type::SUBTITLE_TRACK;
 use std::alloc::{AllocError, Global};
 use track_records::{Track, read_tracks};
 
-/// The TrackEntry of a text.
+/// Returns the TrackEntry of a text.
 fn text_entry(alloc: Global) -> Result<Tree, AllocError>
     ensures exact { IfOk result (λ entry. entry ≡ text_entry) }
     ensures whole { IfOk result IsWholeEntry }
@@ -30,7 +30,7 @@ fn text_entry(alloc: Global) -> Result<Tree, AllocError>
     Ok(entry)
 }
 
-/// The tracks of a text: one of subtitles, whose entry can be written.
+/// Returns the tracks of a text: one subtitle track, whose entry can be written.
 pub fn text_tracks(alloc: Global) -> Result<List<Track>, AllocError>
     ensures exact { IfOk result (λ list. list ≡ track_of text_entry ∷ []) }
     ensures whole { IfOk result (All (λ track. IsWholeEntry track.entry)) }

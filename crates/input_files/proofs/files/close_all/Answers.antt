@@ -5,7 +5,7 @@ use Rattle.mkv_io.proofs.WritingLemmas.{IsSameFile-twice}
 use Rattle.mkv_outputs.proofs.FilesLemmas.{closed-more, still-live}
 use Rattle.input_files.proofs.files.close_all.Goals as goal
 
--- one more file is closed
+-- One more file is closed.
 pub loop-id-preserved : goal.loop-id-preserved
 loop-id-preserved g c =
     let closed : FileId = get_or c.args.ids.now c.loop-id.id-index (record { n = 0 }) in

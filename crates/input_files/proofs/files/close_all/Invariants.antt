@@ -1,4 +1,4 @@
--- The first files have ended, and the others are live; nothing else was changed.
+-- The first files are closed, the others are live, and nothing else was changed.
 use Rattle.std.proofs.Common.{◌≡◌, length, true, false}
 use Rattle.std.specs.List.{AllWithin}
 use Rattle.mkv_io.specs.declared.outside.FileId.{FileId}

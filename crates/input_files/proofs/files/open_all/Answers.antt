@@ -10,7 +10,7 @@ use Rattle.input_files.proofs.InputsLemmas.{OpensInputs-more, UsesOnly-unopened,
 use Rattle.input_files.proofs.NamesLemmas.{contents-named, missing-passed, names-more, others-first}
 use Rattle.input_files.proofs.files.open_all.Goals as goal
 
--- those that are open are closed again
+-- The open files are closed again.
 pub returns-in-Err-clause-refused : goal.returns-in-Err-clause-refused
 returns-in-Err-clause-refused g c =
     let words = c.args.words.now in
@@ -28,7 +28,7 @@ returns-in-Err-clause-refused g c =
     (asks-opened name [] (g.F.Files.asked c.loop-k.files) (g.F.Files.asked c.open_file.new.self) c.open_file.result c.open_file.ensures.asks))
     (subst (EndsOnly g.F.Reads g.F.Files c.open_file.new.self c.close_all.new.files) c.as_slice.ensures.value c.close_all.ensures))
 
--- one more is open
+-- One more file is open.
 pub loop-k-preserved : goal.loop-k-preserved
 loop-k-preserved g c = record {
   opens =
@@ -60,7 +60,7 @@ loop-k-preserved g c = record {
   reading = c.in-Ok.ensures.cause ∙ c.loop-k.invariant.reading;
 }
 
--- the contents are those of the names
+-- The contents are the names'.
 pub returns-clause-contents : goal.returns-clause-contents
 returns-clause-contents g c = λ world told.
     let held = c.loop-k.invariant.opens.inputs in

@@ -4,19 +4,19 @@ use Rattle.input_files.proofs.LooksLemmas.{LooksOnly-sidecar}
 use Rattle.input_files.proofs.NamesLemmas.{first-next}
 use Rattle.input_files.proofs.pending.first_pending.Goals as goal
 
--- a sidecar couldn't be looked into
+-- A journal couldn't be read.
 pub returns-in_err-is_pending-clause-looks : goal.returns-in_err-is_pending-clause-looks
 returns-in_err-is_pending-clause-looks g c =
     LooksOnly-sidecar g.F.Reads g.F.Files c.args.words.now c.loop-k.k c.index-words-k.result c.as_str.result.now c.args.files.now c.loop-k.files c.is_pending.new.files
     c.loop-k-test.true c.index-words-k.is c.as_str.ensures.same c.loop-k.invariant.looks c.is_pending.ensures.looks
 
--- an edit is pending
+-- An edit is pending.
 pub returns-then-branch-clause-looks : goal.returns-then-branch-clause-looks
 returns-then-branch-clause-looks g c =
     LooksOnly-sidecar g.F.Reads g.F.Files c.args.words.now c.loop-k.k c.index-words-k.result c.as_str.result.now c.args.files.now c.loop-k.files c.is_pending.new.files
     c.loop-k-test.true c.index-words-k.is c.as_str.ensures.same c.loop-k.invariant.looks c.is_pending.ensures.looks
 
--- none is
+-- No edit is pending.
 pub loop-k-preserved : goal.loop-k-preserved
 loop-k-preserved g c =
     let words = c.args.words.now in

@@ -7,7 +7,7 @@ use Rattle.input_files.specs.declared.refusal.TextRefusal.TheVariants.{TooLarge}
 use Rattle.input_files.proofs.TextLemmas.{err-moves}
 use Rattle.input_files.proofs.reading.read_chapters.Goals as goal
 
--- the file wasn't read
+-- The file wasn't read.
 pub returns-in_err-octets-clause-large : goal.returns-in_err-octets-clause-large
 returns-in_err-octets-clause-large g c =
     let p = err_from_is_err_and c.from_residual.result c.from_residual.ensures.1 in

@@ -7,7 +7,7 @@ use Rattle.input_files.proofs.reading.read_whole.Goals as goal
 all-from : (bytes : List ℕ) → octets_from bytes 0 (length bytes) ≡ bytes
 all-from bytes = grind (arith, common_steps)
 
--- they are all that the file holds
+-- The bytes are the whole file.
 pub returns-clause-ok : goal.returns-clause-ok
 returns-clause-ok g c = λ bytes told.
     let len : length c.deref_mut.result.now ≡ c.in_ok-octets.octets.len = c.deref_mut.ensures.len in

@@ -1,4 +1,4 @@
--- The files so far stand behind those before.
+-- The previous files were appended.
 use Rattle.std.proofs.Common.{◌≡◌, ◌++◌, map, take}
 use Rattle.input_files.specs.TimesFile.{named_of}
 use Rattle.input_files.proofs.times_file.add_named.Given as goal

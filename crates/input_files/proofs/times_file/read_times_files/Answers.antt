@@ -10,7 +10,7 @@ use Rattle.input_files.proofs.LooksLemmas.{LooksOnly-times, among-rest}
 use Rattle.input_files.proofs.TimesLemmas.{given-more, octets-more, octets_of}
 use Rattle.input_files.proofs.times_file.read_times_files.Goals as goal
 
--- one file more
+-- One more file.
 pub loop-named-preserved : goal.loop-named-preserved
 loop-named-preserved g c =
     let inv = c.loop-named.invariant in
@@ -38,7 +38,7 @@ loop-named-preserved g c =
           omega (arith, inv.octets world told, c.read_named.ensures.octets world at, more, few);
     }
 
--- all of them
+-- All files.
 pub returns-clause-exact : goal.returns-clause-exact
 returns-clause-exact g c = λ world told.
     let left : List TimesName = c.loop-named.named-iterator.rest.items in
@@ -55,7 +55,7 @@ returns-clause-octets g c = λ world told.
     let same : octets_of world c.into_iter-named-iterator.result.rest.items ≡ times_octets world c.args.words.now = ap (octets_of world) (all ∙ c.in_ok-named.ensures) in
     omega (arith, c.loop-named.invariant.octets world told, same)
 
--- ---- one couldn't be read, or there was no memory for what it gives
+-- ---- one couldn't be read, or there was no memory for its result
 
 pub returns-in_err-found-clause-looks : goal.returns-in_err-found-clause-looks
 returns-in_err-found-clause-looks g c =

@@ -1,4 +1,4 @@
--- What the files so far give, and behind it what those give that are left.
+-- The results found and the rest make the whole.
 use Rattle.std.proofs.Common.{◌≡◌, ◌+◌, ◌≤◌, ◌++◌}
 use Rattle.mkv_io.specs.Told.{IfVisible}
 use Rattle.sidecar_edit.specs.Pending.{LooksOnly}

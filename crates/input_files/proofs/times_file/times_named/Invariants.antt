@@ -1,4 +1,4 @@
--- Those of the inputs so far, and behind them those of the inputs that are left.
+-- The files found and the rest make the whole.
 use Rattle.std.proofs.Common.{◌≡◌, ◌++◌, drop}
 use Rattle.input_files.specs.TimesFile.{named_from}
 use Rattle.input_files.proofs.times_file.times_named.Given as goal

@@ -1,4 +1,4 @@
--- The entry has each of its children behind the others.
+-- The children of the entry are appended in sequence.
 use Rattle.std.proofs.Common.{◌∷◌, [], codes}
 use Rattle.mkv_schema.specs.declared.ids.TheConstants.{TRACK_ENTRY, TRACK_NUMBER, TRACK_UID, TRACK_TYPE, FLAG_LACING, LANGUAGE, CODEC_ID}
 use Rattle.ebml_numbers.specs.Number.{uint_octets}

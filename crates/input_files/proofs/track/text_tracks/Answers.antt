@@ -1,4 +1,4 @@
--- The master of the Tracks has the one entry, and is read as it.
+-- The Tracks has the only entry, and is read as its track.
 use Rattle.std.proofs.Common.{◌≡◌, List, [], ◌∷◌, All, Ok, Err, sym, ◌∙◌, ap, subst}
 use Rattle.std.proofs.lemmas.List.Elements.{All-cons, All-nil, All-same}
 use Rattle.mkv_schema.specs.declared.ids.TheConstants.{TRACKS}
@@ -29,7 +29,7 @@ read_tracks-requires c =
     c.in_ok-push.ensures.sound (sound-built TRACKS 0 [] c.in_ok-tracks.tracks none)
     (stands-in c.in_ok-tracks.tracks c.in_ok-text_entry.field-0 (ap id_of none.is) c.in_ok-text_entry.ensures.whole)
 
--- it has the one entry
+-- It has the only entry.
 is-one : (t entry : Node) (list : List Track) → t ≡ master TRACKS 0 (nodes_of (entry ∷ [])) → entry ≡ text_entry → tracks_of t ≡ Ok list → list ≡ track_of text_entry ∷ []
 is-one t entry list tree same read =
     let whole : t ≡ master TRACKS 0 (nodes_of (text_entry ∷ [])) = tree ∙ ap (λ e. master TRACKS 0 (nodes_of (e ∷ []))) same in
@@ -39,7 +39,7 @@ is-one t entry list tree same read =
 listed : (c : goal.Joined-tracks-3) → c.in-Ok.list ≡ track_of text_entry ∷ []
 listed c = is-one _ _ _ (one-entry _ _ _ (c.in_ok-tracks.ensures 0) c.in_ok-push.ensures.ok) c.in_ok-text_entry.ensures.exact c.in-Ok.ensures.exact
 
--- what holds of the entry holds of all entries
+-- A fact about the entry holds for all entries.
 each : (P : Node → Type 0) (list : List Track) → list ≡ track_of text_entry ∷ [] → P text_entry → All (λ (t : Track). P t.entry) list
 each P list is one = All-same (λ (t : Track). P t.entry) list (track_of text_entry ∷ []) is (All-cons (λ (t : Track). P t.entry) (track_of text_entry) [] one (All-nil (λ (t : Track). P t.entry)))
 
@@ -54,7 +54,7 @@ returns-in-Ok-clause-whole c =
 pub returns-in-Ok-clause-tracks : goal.returns-in-Ok-clause-tracks
 returns-in-Ok-clause-tracks c = each IsTrack _ (listed c) is_track
 
--- nothing refuses it
+-- It isn't refused.
 never : (t entry : Node) (end : TreeEnd) (d : Harm) → t ≡ master TRACKS 0 (nodes_of (entry ∷ [])) → entry ≡ text_entry → end ≡ Damage d → Refuses end (tracks_of t) → ⊥
 never t entry end d tree same is refuses =
     let P : TreeEnd → Type 0 = λ e. Refuses e (tracks_of t) in
