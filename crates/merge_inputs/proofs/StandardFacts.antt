@@ -1,4 +1,4 @@
--- The words of small inputs, and what they take, computed, so that a wrong definition does not check.
+-- The options of small inputs, and the copied tracks. They are computed: a wrong definition doesn't check.
 use Rattle.std.proofs.Common.{◌≡◌, ℕ, Bool, true, false, [], ◌∷◌, Some, None, refl}
 use Rattle.std.specs.Prelude.{ℤ, pos, neg_ℤ}
 use Rattle.requests.specs.declared.track.Select.{Select}
@@ -8,9 +8,9 @@ use Rattle.requests.specs.declared.merge.FileWords.{FileWords}
 use Rattle.merge_inputs.specs.Select.{is_taken, keeps_attachments, keeps_chapters, keeps_tags}
 use Rattle.merge_inputs.specs.Taken.{value_for}
 
--- ---- the words of a file
+-- ---- options of a file
 
--- with these selections, and with what is kept besides tracks: attached files, chapters, tags of tracks, and other tags
+-- options with these selections and kept parts: attached files, chapters, tags of tracks, and other tags
 abbrev words_with : Select → Select → Select → Bool → Bool → Bool → Bool → FileWords
 words_with video audio subtitles attachments chapters track_tags global_tags = record (plain_file []) {
   video = video;
@@ -22,7 +22,7 @@ words_with video audio subtitles attachments chapters track_tags global_tags = r
   chapters = chapters;
 }
 
--- no word stands before the file
+-- no options
 abbrev plain : FileWords
 plain = plain_file []
 
@@ -30,17 +30,17 @@ plain = plain_file []
 abbrev chosen : FileWords
 chosen = words_with (These (0 ∷ [])) (AllBut (1 ∷ [])) Off true true true true
 
--- ---- which tracks are taken
+-- ---- copied tracks
 
 pub record AreTaken : Type 0 where
-  -- without words all tracks of three types
+  -- Without options all tracks of three types are copied.
   pub video : is_taken plain 0 1 ≡ true
   pub audio : is_taken plain 7 2 ≡ true
   pub subtitles : is_taken plain 2 17 ≡ true
   pub complex : is_taken plain 0 3 ≡ false
   pub buttons : is_taken plain 0 18 ≡ false
   pub metadata : is_taken plain 0 33 ≡ false
-  -- a selection is asked of its own type alone
+  -- A selection only applies to its own type.
   pub video_0 : is_taken chosen 0 1 ≡ true
   pub video_1 : is_taken chosen 1 1 ≡ false
   pub audio_0 : is_taken chosen 0 2 ≡ true
@@ -50,7 +50,7 @@ pub record AreTaken : Type 0 where
 pub taken : AreTaken
 taken = record { video = refl; audio = refl; subtitles = refl; complex = refl; buttons = refl; metadata = refl; video_0 = refl; video_1 = refl; audio_0 = refl; audio_1 = refl; no_subtitles = refl }
 
--- ---- what the words say of a track
+-- ---- options of a track
 
 pub record AreValues : Type 0 where
   pub own : value_for {T = ℕ} 2 ((1, 10) ∷ (2, 20) ∷ []) ≡ Some 20
@@ -61,7 +61,7 @@ pub record AreValues : Type 0 where
 pub values : AreValues
 values = record { own = refl; first = refl; none = refl; delay = refl }
 
--- ---- what is kept besides tracks
+-- ---- other kept parts
 
 pub record AreKept : Type 0 where
   pub attachments : keeps_attachments plain false ≡ true
@@ -69,10 +69,10 @@ pub record AreKept : Type 0 where
   -- `-M`, `--no-chapters`
   pub no_attachments : keeps_attachments (words_with All All All false true true true) false ≡ false
   pub no_chapters : keeps_chapters (words_with All All All true false true true) false ≡ false
-  -- WebM has neither attached files nor chapters
+  -- WebM has neither attached files nor chapters.
   pub webm_attachments : keeps_attachments plain true ≡ false
   pub webm_chapters : keeps_chapters plain true ≡ false
-  -- either kind of tags
+  -- Either kind of tags is kept.
   pub track_tags : keeps_tags (words_with All All All false false true false) ≡ true
   pub global_tags : keeps_tags (words_with All All All false false false true) ≡ true
   pub no_tags : keeps_tags (words_with All All All true true false false) ≡ false

@@ -1,4 +1,4 @@
--- The tracks that are taken: what holds of them, and which of them refuses the input.
+-- The copied tracks: facts about them, and the first one that refuses the input.
 use Rattle.std.proofs.Common.{◌≡◌, ◌<◌, ℕ, suc, ◌+◌, ◌^◌, ℤ, pos, nat_abs, ◌==◌, Bool, true, false, if◌then◌else◌, List, [], ◌∷◌, ◌++◌, length, drop, get_or, flat_map, Option, Some, None, unwrap_or, sym, ◌∙◌, ap, subst, arith}
 use Rattle.std.specs.List.{All}
 use Rattle.std.proofs.Math.Seq.{drop-cons}
@@ -19,11 +19,11 @@ use Rattle.merge_inputs.specs.Select.{is_taken}
 use Rattle.merge_inputs.specs.Taken.{IsTaken, first_unusable, taken_from, taken_one, taken_track, value_for}
 use Rattle.merge_inputs.specs.declared.taken.TakenTrack.{TakenTrack}
 
--- what keeps tracks from being used
+-- the possible damage of tracks
 abbrev causes_of : List TakenTrack → List (Option Damage)
 causes_of taken = flat_map (λ (t : TakenTrack). usable_causes t.track.entry) taken
 
--- ---- what holds of tracks holds of those that are taken
+-- ---- facts about all tracks hold for the copied ones
 
 taken_each : (P : TakenTrack → Type 0) (words : FileWords) (id : ℕ) (tracks : List Track) → ((k : ℕ) → All (λ (t : Track). P (taken_track words k t)) tracks) → All P (taken_from words id tracks)
 taken_each P words id [] each = All-nil P
@@ -35,11 +35,11 @@ taken_each P words id (t ∷ ts) each =
     one true = All-cons P (taken_track words id t) [] (All-head (λ (s : Track). P (taken_track words id s)) t ts (each id)) (All-nil P)
     one false = All-nil P
 
--- of the track itself
+-- A fact about the tracks holds for the copied tracks.
 pub taken-tracks : (P : Track → Type 0) (words : FileWords) (tracks : List Track) → All P tracks → All (λ (t : TakenTrack). P t.track) (taken_from words 0 tracks)
 taken-tracks P words tracks each = taken_each (λ (t : TakenTrack). P t.track) words 0 tracks (λ k. each)
 
--- ---- the delays
+-- ---- delays
 
 near_value : (id : ℕ) (syncs : List (ℕ × ℤ)) → All (λ (sync : ℕ × ℤ). nat_abs sync.1 < 2 ^ 55) syncs → nat_abs (unwrap_or (value_for id syncs) (pos 0)) < 2 ^ 55
 near_value id [] each = omega arith
@@ -52,9 +52,9 @@ near_value id (s ∷ ss) each = here (s.0 == id) (near_value id ss (All-tail (λ
 taken-near : (words : FileWords) (tracks : List Track) → IsSoundFile words → All (λ (t : TakenTrack). nat_abs t.delay < 2 ^ 55) (taken_from words 0 tracks)
 taken-near words tracks sound = taken_each (λ (t : TakenTrack). nat_abs t.delay < 2 ^ 55) words 0 tracks (λ k i d below. near_value k words.syncs sound.delays)
 
--- ---- the first that can't be used
+-- ---- first track that can't be used
 
--- what is left from a track on
+-- The rest begins with the next track.
 unusable-next : (taken : List TakenTrack) (k : ℕ) (t : TakenTrack) → k < length taken → t ≡ get_or taken k t → first_unusable (drop k taken) ≡ first_damage (usable_causes t.track.entry ++ causes_of (drop (k + 1) taken))
 unusable-next taken k t below is =
     ap first_unusable (drop-cons taken k t below ∙ ap (λ (each : TakenTrack). each ∷ drop (suc k) taken) (sym is))
@@ -63,11 +63,11 @@ unusable-next taken k t below is =
     one_more : (n : ℕ) → suc n ≡ n + 1
     one_more n = omega arith
 
--- one that can't is the first
+-- A track that can't be used is the first.
 pub unusable-here : (taken : List TakenTrack) (k : ℕ) (t : TakenTrack) (d : Damage) → k < length taken → t ≡ get_or taken k t → first_damage (usable_causes t.track.entry) ≡ Some d → first_unusable (drop k taken) ≡ Some d
 unusable-here taken k t d below is some = unusable-next taken k t below is ∙ first_damage-some (usable_causes t.track.entry) (causes_of (drop (k + 1) taken)) d some
 
--- where there is none, each can be used
+-- If there is none, each track can be used.
 taken-usable : (taken : List TakenTrack) → first_unusable taken ≡ None → All (λ (t : TakenTrack). first_damage (usable_causes t.track.entry) ≡ None) taken
 taken-usable [] none = All-nil (λ (t : TakenTrack). first_damage (usable_causes t.track.entry) ≡ None)
 taken-usable (t ∷ ts) none =
@@ -75,9 +75,9 @@ taken-usable (t ∷ ts) none =
     All-cons (λ (each : TakenTrack). first_damage (usable_causes each.track.entry) ≡ None) t ts own
     (taken-usable ts (sym (first_damage-behind (usable_causes t.track.entry) (causes_of ts) own) ∙ none))
 
--- ---- what was taken
+-- ---- copied tracks
 
--- the tracks that are taken of those that were read, where nothing refuses them
+-- The copied tracks are valid unless they are refused.
 pub AreTaken-read : (words : FileWords) (tracks : List Track) (taken : List TakenTrack) → taken ≡ taken_from words 0 tracks → AreRead tracks → IsSoundFile words → first_unusable taken ≡ None → All IsTaken taken
 AreTaken-read words tracks taken is read sound none =
     subst (All IsTaken) (sym is) (λ k d below. record {

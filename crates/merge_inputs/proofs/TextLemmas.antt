@@ -1,4 +1,4 @@
--- What is read of a text.
+-- A text that is read.
 use Rattle.std.proofs.Common.{◌≡◌, ℕ, min, ◌≤◌, Bool, true, false, if◌then◌else◌, List, [], ◌∷◌, ◌++◌, length, take, None, refl, sym, ◌∙◌, ap, arith, nat_eq}
 use Rattle.std.specs.Cmp.Lexicographic.{pointwise}
 use Rattle.std.specs.List.{All}
@@ -23,7 +23,7 @@ use Rattle.requests.specs.declared.merge.FileWords.{FileWords}
 use Rattle.merge_inputs.specs.Select.{is_taken}
 use Rattle.merge_inputs.specs.Taken.{first_unusable, taken_from, taken_track}
 
--- the first four octets of a file tell whether an EBML header begins it
+-- The first four bytes decide whether a file begins with an EBML header.
 pub first-four : (bytes into rest : List ℕ) (m known : ℕ) → known ≡ min (length bytes) 4 → m ≡ known → into ≡ octets_from bytes 0 m → begins_ebml (take known (into ++ rest)) ≡ begins_ebml bytes
 first-four bytes into rest m known few same is =
     let whole : into ≡ take known bytes = is ∙ ap (λ n. take n bytes) same in
@@ -33,7 +33,7 @@ first-four bytes into rest m known few same is =
     let four : take 4 (take known bytes) ≡ take 4 bytes = take-take_min 4 known bytes ∙ ap (λ n. take n bytes) fewer ∙ take_min 4 bytes in
     ap begins_ebml (front ∙ whole) ∙ ap (pointwise nat_eq (0x1A ∷ 0x45 ∷ 0xDF ∷ 0xA3 ∷ [])) four
 
--- its track is what its entry says, which nothing refuses
+-- Its track agrees with its entry, which is valid.
 pub text-read : (tracks : List Track) → tracks ≡ track_of text_entry ∷ [] → All (λ (t : Track). IsWholeEntry t.entry) tracks → All (λ (t : Track). IsTrack t.entry) tracks → AreRead tracks
 text-read tracks is whole each = record {
   said = All-same (λ (t : Track). t ≡ track_of t.entry) tracks (track_of text_entry ∷ []) is (All-cons (λ (t : Track). t ≡ track_of t.entry) (track_of text_entry) [] refl (All-nil (λ (t : Track). t ≡ track_of t.entry)));
@@ -42,7 +42,7 @@ text-read tracks is whole each = record {
   room = All-weaker (λ (t : Track). IsWholeEntry t.entry) (λ (t : Track). HasRoom t.entry) (λ t w. w.room) tracks whole;
 }
 
--- its frames can be used
+-- Its frames can be used.
 pub text-usable : (words : FileWords) → first_unusable (taken_from words 0 (track_of text_entry ∷ [])) ≡ None
 text-usable words = one (is_taken words 0 (track_of text_entry).kind)
   where

@@ -1,4 +1,4 @@
--- Why an input isn't read.
+-- Failures to read an input.
 use Rattle.std.specs.Prelude.{Bool, true, false}
 use Rattle.element_reader.specs.declared.outline_end.OutlineEnd.{OutlineEnd}
 use Rattle.element_reader.specs.declared.outline_end.OutlineEnd.TheVariants as outline_end
@@ -8,19 +8,19 @@ use Rattle.merge_inputs.specs.declared.input.InputEnd.{InputEnd}
 use Rattle.merge_inputs.specs.declared.input.InputEnd.TheVariants as input_end
 use Rattle.merge_inputs.specs.declared.input.InputRefusal.TheVariants.{Damaged, Text}
 
--- the same of a call that reads its outline or its records
+-- the failure for a failed read of the outline or records
 abbrev pub end_of : OutlineEnd → InputEnd
 end_of (outline_end.Refused d) = input_end.Refused (Damaged d)
 end_of outline_end.ReadFault = input_end.ReadFault
 end_of outline_end.Memory = input_end.Memory
 
--- the same of a call that reads a text
+-- the failure for a failed read of a text
 abbrev pub text_end_of : TextFileEnd → InputEnd
 text_end_of (text_end.Refused why) = input_end.Refused (Text why)
 text_end_of text_end.ReadFault = input_end.ReadFault
 text_end_of text_end.Memory = input_end.Memory
 
--- a read failed
+-- The failure is a failed read.
 abbrev pub is_input_fault : InputEnd → Bool
 is_input_fault (input_end.Refused why) = false
 is_input_fault input_end.ReadFault = true

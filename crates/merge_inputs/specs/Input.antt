@@ -1,4 +1,4 @@
--- What is read of an input of a merge before its blocks: RFC 9559, section 5.1 (Segment Element), or a text of this project's grammar.
+-- An input of a merge before its blocks: RFC 9559, section 5.1 (Segment), or a text of this project's grammar.
 use Rattle.std.specs.Prelude.{◌≡◌, ◌≤◌, ⊤, true, ℕ, Bool, if◌then◌else◌, List, [], ◌∷◌, length, map, Option, Some, None, IfSome, option_map, Result, Ok, Err}
 use Rattle.std.specs.List.{All}
 use Rattle.mkv_schema.specs.declared.ids.TheConstants.{CHAPTERS, TAGS}
@@ -40,14 +40,13 @@ use Rattle.merge_inputs.specs.declared.input.InputEnd.TheVariants as input_end
 use Rattle.merge_inputs.specs.declared.input.InputRefusal.{InputRefusal}
 use Rattle.merge_inputs.specs.declared.input.InputRefusal.TheVariants.{Damaged, Text}
 
--- What holds the blocks of an input: the Clusters in the Segment of a file, with nanoseconds a tick; or the entries of a text.
+-- the source of an input's blocks: the Clusters of a Segment with its nanoseconds per tick, or the entries of a text
 pub data BlocksRead : Type 0 where
   Clusters : Header → ℕ → BlocksRead
   Entries : List Entry → BlocksRead
 
--- What holds its blocks, and its title; the octets of every Info, Tracks, Chapters and Tags; how many
--- tracks it has, and those that are taken; what is kept of its attached files, Chapters and Tags; which of the Tags are; by how
--- many nanoseconds it is later, where it is appended to another; and the times of its tracks' frames that files list, by the tracks' IDs.
+-- the input's blocks, title, bytes of records, number of tracks, and copied tracks. It also has the kept attached files, Chapters and Tags, the
+-- append offset, if any, and frame times from timestamp files.
 pub record InputRead : Type 0 where
   pub blocks : BlocksRead
   pub title : List ℕ
@@ -61,23 +60,23 @@ pub record InputRead : Type 0 where
   pub shift : Option ℕ
   pub times : List (ℕ × Listing)
 
--- ---- what is read of a content
+-- ---- reading a content
 
--- what is made of what was found; a damage refuses the input
+-- the continuation with a value that was found; damage refuses the input
 abbrev pub found_then : {A B : Type 0} → Result A Damage → (A → Result B InputRefusal) → Result B InputRefusal
 found_then (Ok x) more = more x
 found_then (Err d) more = Err (Damaged d)
 
--- an input, unless something refuses it
+-- the input, or its refusal
 abbrev pub input_or_refusal : Option InputRefusal → InputRead → Result InputRead InputRefusal
 input_or_refusal None input = Ok input
 input_or_refusal (Some why) input = Err why
 
--- what refuses an input whose records are good: of the tracks that are taken the first that can't be used
+-- the refusal of an input with valid records: the first copied track that can't be used
 abbrev pub refusal_of : List TakenTrack → Option InputRefusal
 refusal_of taken = option_map Damaged (first_unusable taken)
 
--- what is read of a file with this outline and these records
+-- the input of a file with this outline and these records
 abbrev pub input_with : FileWords → Bool → Outlined → FileRecords → InputRead
 input_with words webm o r = record {
   blocks = Clusters o.segment (scale_of_info r.info);
@@ -93,15 +92,14 @@ input_with words webm o r = record {
   times = [];
 }
 
--- what is read of a file with Clusters, or the first thing that refuses it: its outline, where earlier inputs have held so many octets;
--- its records; and then what the words take of it
+-- the input of a file with Clusters, or the first refusal of its outline (after `held` bytes of earlier inputs), records or copied tracks
 abbrev pub file_read : FileWords → Bool → ℕ → List ℕ → Result InputRead InputRefusal
 file_read words webm held bytes =
     found_then (outline_of held bytes) (λ (o : Outlined).
     found_then (file_records bytes o.segment) (λ (r : FileRecords).
     input_or_refusal (refusal_of (taken_from words 0 r.tracks)) (input_with words webm o r)))
 
--- what is read of a text with these entries: one track, and nothing besides
+-- the input of a text with these entries: one track, and nothing else
 abbrev pub text_with : FileWords → List Entry → InputRead
 text_with words entries = record {
   blocks = Entries entries;
@@ -117,7 +115,7 @@ text_with words entries = record {
   times = [];
 }
 
--- what is made of entries; what refuses a text refuses the input
+-- the input with these entries; a refused text refuses the input
 abbrev pub text_then : Result (List Entry) TextRefusal → (List Entry → InputRead) → Result InputRead InputRefusal
 text_then (Ok entries) more = Ok (more entries)
 text_then (Err why) more = Err (Text why)
@@ -125,13 +123,13 @@ text_then (Err why) more = Err (Text why)
 abbrev pub text_read : FileWords → List ℕ → Result InputRead InputRefusal
 text_read words bytes = text_then (srt_text bytes) (text_with words)
 
--- what is read of a content, or what refuses it: of a text its entries, of any other file what stands before its Clusters
+-- the input with this content, or its refusal: a text, or a file with Clusters
 abbrev pub input_of : FileWords → Bool → ℕ → List ℕ → Result InputRead InputRefusal
 input_of words webm held bytes = if is_srt words.name bytes then text_read words bytes else file_read words webm held bytes
 
 -- ---- an input that was read
 
--- what holds its blocks, and the octets of what describes it
+-- the source of the blocks; and the bytes of its records
 abbrev pub blocks_in : Blocks → BlocksRead
 blocks_in (held_by.Clusters outline scale) = Clusters outline.value.segment scale
 blocks_in (held_by.Entries entries) = Entries entries
@@ -140,16 +138,16 @@ abbrev pub held_in : Blocks → ℕ
 held_in (held_by.Clusters outline scale) = outline.value.held
 held_in (held_by.Entries entries) = 0
 
--- how many octets its outline counts; a text has none
+-- the length of the file in its outline; 0 for a text
 abbrev pub total_in : Blocks → ℕ
 total_in (held_by.Clusters outline scale) = outline.value.total
 total_in (held_by.Entries entries) = 0
 
--- what the files list that its times are of
+-- the frame times from timestamp files, by track ID
 abbrev pub listings_in : List TrackTimes → List (ℕ × Listing)
 listings_in times = map (λ (t : TrackTimes). (t.id, t.times.value)) times
 
--- what was read of an input
+-- the input as it was read
 abbrev pub read_in : Input → InputRead
 read_in i = record {
   blocks = blocks_in i.blocks;
@@ -165,7 +163,7 @@ read_in i = record {
   times = listings_in i.times;
 }
 
--- the blocks and damages of an input whose file has this content; a text has neither Blocks nor damages
+-- the events of an input whose file has this content; none for a text
 abbrev pub events_by : BlocksRead → List ℕ → List Event
 events_by (Clusters segment scale) bytes = events_of (with_limits scale) bytes segment
 events_by (Entries entries) bytes = []
@@ -173,35 +171,35 @@ events_by (Entries entries) bytes = []
 abbrev pub events_in : InputRead → List ℕ → List Event
 events_in i bytes = events_by i.blocks bytes
 
--- A tick has as many nanoseconds as in the file's own blocks and damages.
+-- The events with this scale are the file's own.
 abbrev pub AreOwnEvents : Blocks → List ℕ → Type 0
 AreOwnEvents (held_by.Clusters outline scale) bytes = events_by (Clusters outline.value.segment scale) bytes ≡ file_events true bytes outline.value.segment
 AreOwnEvents (held_by.Entries entries) bytes = ⊤
 
--- An input was read so, or this refuses it; a read may fail, and there may be no memory.
+-- A reader's result is right for `found`: the same input or refusal, unless a read failed or memory ran out.
 abbrev pub ReadsInput : Result InputRead InputRefusal → Result Input InputEnd → Type 0
 ReadsInput found (Ok i) = found ≡ Ok (read_in i)
 ReadsInput found (Err (input_end.Refused why)) = found ≡ Err why
 ReadsInput found (Err input_end.ReadFault) = ⊤
 ReadsInput found (Err input_end.Memory) = ⊤
 
--- It was read of this file, and isn't later yet where the words append it.
+-- The input `i` was read from the file `id`, and its append offset isn't known yet.
 pub record IsReadOf (id : FileId) (words : FileWords) (i : Input) : Type 0 where
   pub file : i.file ≡ id
   pub unmoved : i.shift ≡ unmoved words
 
--- A file has the length of its outline, and a tick some length.
+-- The file has the length in its outline, and a tick has at least one nanosecond.
 pub record AreClusters (octets : ℕ) (outline : FileOutline) (nanoseconds : ℕ) : Type 0 where
   pub size : octets ≡ outline.total
   pub scale : 1 ≤ nanoseconds
 
--- Blocks stand in a file of this length; the entries of a text are those of one that isn't too long.
+-- The blocks are in a file of `size` bytes, or the entries are within the limits of a text.
 abbrev pub CanBeGiven : ℕ → Blocks → Type 0
 CanBeGiven size (held_by.Clusters outline scale) = AreClusters size outline.value scale
 CanBeGiven size (held_by.Entries entries) = AreWithin MAX_SRT_LEN entries
 
--- The file is live and its blocks can be given, and the tracks are such as can be taken; the
--- data of its attached files stand in it, and its Chapters and Tags can be read again.
+-- The input `i` is valid: its file is live, its blocks can be taken, and its tracks can be used. The data of its attached files are in it, and
+-- its Chapters and Tags can be read again.
 pub record IsInput (files : LiveFiles) (i : Input) : Type 0 where
   pub live : files.live i.file.n ≡ true
   pub blocks : CanBeGiven (files.size i.file.n) i.blocks

@@ -1,8 +1,8 @@
--- What holds of every input that was read.
+-- Laws about each input that was read.
 use Rattle.mkv_io.specs.LiveFiles.{LiveFiles, IsSameFile}
 use Rattle.merge_inputs.specs.Input.{IsInput}
 use Rattle.merge_inputs.specs.declared.input.Input.{Input}
 
--- An input stands among other files where its own is the same.
+-- An input stays valid if its own file is unchanged.
 abbrev pub InputsStay : Type 0
 InputsStay = (old new : LiveFiles) (i : Input) → IsSameFile old new i.file.n → IsInput old i → IsInput new i

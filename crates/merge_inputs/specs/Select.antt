@@ -1,4 +1,4 @@
--- Which tracks of a file the words of a merge take (RFC 9559, section 5.1.4, Tracks Element), and what they keep besides.
+-- The tracks of a file that the command line of a merge chooses (RFC 9559, section 5.1.4, Tracks), and the other kept parts.
 use Rattle.std.specs.Prelude.{ℕ, ◌==◌, Bool, true, false, not, ◌&&◌, ◌||◌, if◌then◌else◌, List, [], Option, Some, None}
 use Rattle.std.specs.List.{list_any}
 use Rattle.record_changes.specs.declared.uid_map.TagKeep.{TagKeep}
@@ -9,18 +9,18 @@ use Rattle.mkv_schema.specs.declared.track_type.TheConstants.{VIDEO_TRACK, AUDIO
 
 -- ---- tracks
 
--- the ID is one of these
+-- The ID is in the list.
 abbrev pub is_among : ℕ → List ℕ → Bool
 is_among id ids = list_any (λ k. k == id) ids
 
--- a selection takes the track of this ID
+-- The selection has the track with this ID.
 abbrev pub takes : Select → ℕ → Bool
 takes All id = true
 takes (These ids) id = is_among id ids
 takes (AllBut ids) id = not (is_among id ids)
 takes Off id = false
 
--- the words take a track of this ID and this TrackType; of other types than these three none is taken
+-- A track with this ID and TrackType is copied; only video, audio and subtitles can be.
 abbrev pub is_taken : FileWords → ℕ → ℕ → Bool
 is_taken words id type =
     if type == VIDEO_TRACK then takes words.video id else
@@ -28,27 +28,27 @@ is_taken words id type =
     if type == SUBTITLE_TRACK then takes words.subtitles id else
     false
 
--- ---- what is kept besides tracks
+-- ---- other kept parts
 
--- attached files and chapters, unless the words leave them out; WebM has neither
+-- Attached files are kept unless the command line leaves them out or the output is WebM; and chapters likewise.
 abbrev pub keeps_attachments : FileWords → Bool → Bool
 keeps_attachments words webm = words.attachments && not webm
 
 abbrev pub keeps_chapters : FileWords → Bool → Bool
 keeps_chapters words webm = words.chapters && not webm
 
--- tags of either kind, those of tracks and the others
+-- Tags are kept, of tracks or others.
 abbrev pub keeps_tags : FileWords → Bool
 keeps_tags words = words.track_tags || words.global_tags
 
 abbrev pub keep_of : FileWords → TagKeep
 keep_of words = record { tracks = words.track_tags; global = words.global_tags }
 
--- by how much a file is later, where it is appended: the ends of those in front of it aren't known yet
+-- the append offset of an appended file before it is known, which is 0
 abbrev pub unmoved : FileWords → Option ℕ
 unmoved words = if words.appended then Some 0 else None
 
--- a list that is kept or left out, and an Element
+-- the list if it is kept; and an element if it is kept
 abbrev pub kept_list : {T : Type 0} → Bool → List T → List T
 kept_list true list = list
 kept_list false list = []

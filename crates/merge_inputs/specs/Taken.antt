@@ -1,4 +1,4 @@
--- The tracks that the words of a merge take of a file, and what the words say of them: RFC 9559, section 5.1.4 (Tracks Element).
+-- The copied tracks of a file, with their options: RFC 9559, section 5.1.4 (Tracks).
 use Rattle.std.specs.Prelude.{◌≡◌, ◌<◌, ℕ, ◌+◌, ◌^◌, pos, nat_abs, ◌==◌, if◌then◌else◌, List, [], ◌∷◌, ◌++◌, flat_map, Option, Some, None, unwrap_or}
 use Rattle.mkv_io.specs.declared.damage.Damage.{Damage}
 use Rattle.mkv_schema.specs.Outline.{first_damage}
@@ -12,12 +12,12 @@ use Rattle.requests.specs.declared.merge.FileWords.{FileWords}
 use Rattle.merge_inputs.specs.Select.{is_taken}
 use Rattle.merge_inputs.specs.declared.taken.TakenTrack.{TakenTrack}
 
--- the first value that is given to an ID
+-- the first value for an ID
 abbrev pub value_for : {T : Type 0} → ℕ → List (ℕ × T) → Option T
 value_for id [] = None
 value_for id (pair ∷ pairs) = if pair.0 == id then Some pair.1 else value_for id pairs
 
--- a track, and what the words say of its ID; where they say nothing of a delay, there is none
+-- the track `t` with the options for its ID, and a delay of 0 by default
 abbrev pub taken_track : FileWords → ℕ → Track → TakenTrack
 taken_track words id t = record {
   id = id;
@@ -30,23 +30,23 @@ taken_track words id t = record {
   cues = value_for id words.cues;
 }
 
--- a track, if the words take it
+-- the track if it is copied
 abbrev pub taken_one : FileWords → ℕ → Track → List TakenTrack
 taken_one words id t = if is_taken words id t.kind then taken_track words id t ∷ [] else []
 
--- the tracks that the words take of these, of which the first has this ID
+-- the copied tracks, with IDs from `id` on
 abbrev pub taken_from : FileWords → ℕ → List Track → List TakenTrack
 taken_from words id [] = []
 taken_from words id (t ∷ ts) = taken_one words id t ++ taken_from words (id + 1) ts
 
--- what keeps the frames of a track from being used, of the first such track
+-- the first damage that keeps the frames of a copied track from being used
 abbrev pub first_unusable : List TakenTrack → Option Damage
 first_unusable taken = first_damage (flat_map (λ (t : TakenTrack). usable_causes t.track.entry) taken)
 
--- ---- what was taken
+-- ---- facts about copied tracks
 
--- A track that was taken is what its entry says, which nothing refuses, and which fits into a Tracks Element; its frames can
--- be used, and its delay is below 2^55 nanoseconds, in either direction.
+-- The track agrees with its entry, which is valid and fits in a Tracks element. Its frames can be used, and its delay is below 2^55 nanoseconds
+-- in either direction.
 pub record IsTaken (t : TakenTrack) : Type 0 where
   pub said : t.track ≡ track_of t.track.entry
   pub entry : IsEntry t.track.entry

@@ -1,4 +1,4 @@
--- The title of a file: RFC 9559, section 5.1.2 (Info Element), Title.
+-- The title of a file: RFC 9559, section 5.1.2 (Info), Title.
 use Rattle.std.specs.Prelude.{ℕ, List, [], Option}
 use Rattle.std.specs.Option.{option_map_or}
 use Rattle.mkv_schema.specs.declared.ids.TheConstants.{TITLE}
@@ -6,10 +6,10 @@ use Rattle.mkv_schema.specs.Value.{text_of}
 use Rattle.tree_format.specs.Node.{Node, body_of}
 use Rattle.tree_format.specs.Values.{first_child}
 
--- the text of the first Title of an Info, up to its first zero octet; empty where there is none
+-- the text of the first Title of an Info, up to its first zero byte, or empty if absent
 abbrev pub title_text : Node → List ℕ
 title_text info = option_map_or (λ n. text_of (body_of n)) (first_child TITLE info) []
 
--- the title of a file whose first Info this is
+-- the title of a file with this first Info
 abbrev pub title_of_info : Option Node → List ℕ
 title_of_info info = option_map_or title_text info []

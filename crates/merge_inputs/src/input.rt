@@ -1,4 +1,4 @@
-//! An input of a merge, or why it isn't read.
+//! Input of a merge, or the failure to read it
 
 ghost use Rattle.std.specs.Prelude.{◌≡◌};
 ghost use Rattle.merge_inputs.specs.declared.input.InputEnd.TheVariants as input_end;
@@ -14,66 +14,66 @@ use record_changes::TagKeep;
 use std::alloc::{AllocError, AllocFailed};
 use std::rc::Rc;
 
-/// What holds the blocks of an input.
+/// Source of an input's blocks
 #[derive(Drop)]
 pub enum Blocks {
-    /// The Clusters of a file with this outline, in ticks of so many nanoseconds.
+    /// Clusters of a file with this outline, with `scale` nanoseconds per tick
     Clusters { outline: Rc<Outline>, scale: u64 },
-    /// The entries of a text, sorted by start.
+    /// Entries of a text, sorted by start
     Entries { entries: List<Entry> },
 }
 
-/// A live file that is merged, and what was read of it before its blocks.
+/// Live file of a merge, and the facts that were read before its blocks
 #[derive(Drop)]
 pub struct Input {
     pub file: FileId,
     pub blocks: Blocks,
-    /// The title of the file, empty where it has none.
+    /// Title of the file, empty if absent
     pub title: Text,
-    /// How many tracks the file has.
+    /// Number of tracks in the file
     pub count: usize,
-    /// The tracks that are taken, in the order of the file's.
+    /// Copied tracks, in the file's order
     pub taken: List<TakenTrack>,
-    /// The attached files that are kept, whose data stay in the file.
+    /// Kept attached files, whose data stay in the file
     pub attachments: List<Attachment>,
-    /// Its first Chapters, if it has one that is kept.
+    /// First Chapters, if present and kept
     pub chapters: Option<Tree>,
-    /// Its first Tags, if it has one of which something is kept.
+    /// First Tags, if present and some are kept
     pub tags: Option<Tree>,
-    /// Which of the Tags are taken.
+    /// Choice of the kept Tags
     pub keep: TagKeep,
-    /// By how many nanoseconds it is later, where it goes on where the input before it ends: 0 as it is read, since that
-    /// end isn't known yet.
+    /// Append offset in nanoseconds, if the input is appended; 0 at first, since the end of the previous input isn't
+    /// known yet
     pub shift: Option<u64>,
-    /// The times of its tracks' frames, where they are those of files: none as it is read, since those files are read apart.
+    /// Frame times from timestamp files; empty at first, since they are read separately
     pub times: List<TrackTimes>,
 }
 
-/// The times of a track's frames from a file.
+/// Frame times of a track from a timestamp file
 #[derive(Drop)]
 pub struct TrackTimes {
-    /// The track's place in Tracks, from 0.
+    /// Place of the track in Tracks, counted from 0
     pub id: u64,
     pub times: Rc<Times>,
 }
 
-/// What refuses an input.
+/// Refusal of an input
 #[derive(Clone, Copy, Debug, PartialEq, Eq)]
 pub enum InputRefusal {
-    /// The file is damaged, passes a limit, or a track that is taken can't be used.
+    /// Damaged file, passed limit, or copied track that can't be used
     Damaged(Damage),
-    /// The text isn't taken.
+    /// Refused text
     Text(TextRefusal),
 }
 
-/// Why an input isn't read.
+/// Failure to read an input
 #[derive(Clone, Copy, Debug, PartialEq, Eq)]
 pub enum InputEnd {
-    /// The input is refused.
+    /// Refused input
     Refused(InputRefusal),
-    /// A read failed.
+    /// Failed read
     ReadFault,
-    /// There is no memory.
+    /// Out of memory
     Memory,
 }
 

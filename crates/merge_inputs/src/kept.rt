@@ -1,4 +1,4 @@
-//! What is kept of a file besides its tracks, or left out.
+//! Kept parts of a file other than its tracks
 
 ghost use Rattle.std.specs.Prelude.{◌≡◌};
 ghost use Rattle.merge_inputs.specs.Select.{kept_list, kept_one};
@@ -8,14 +8,14 @@ use mkv_io::List;
 use output_model::Attachment;
 use std::alloc::Global;
 
-/// Attached files, if they are kept.
+/// Returns the attached files if they are kept.
 pub fn kept_files(alloc: Global, is_kept: bool, files: List<Attachment>) -> List<Attachment>
     ensures { result ≡ kept_list is_kept files }
 {
     if is_kept { files } else { List::new(alloc) }
 }
 
-/// A Chapters or a Tags, if it is kept.
+/// Returns a Chapters or Tags if it is kept.
 pub fn kept_tree(is_kept: bool, tree: Option<Tree>) -> Option<Tree>
     ensures { result ≡ kept_one is_kept tree }
 {

@@ -1,8 +1,8 @@
-//! What holds of every input that was read.
+//! Laws about each input that was read
 
 ghost use Rattle.merge_inputs.specs.Laws.{InputsStay};
 
-/// What was read of an input is good while its file is the same, whatever becomes of others.
+/// An input stays valid while its file is unchanged, whatever happens to others.
 pub fn inputs_stay()
     ensures { InputsStay }
 {}

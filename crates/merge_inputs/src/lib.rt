@@ -1,7 +1,7 @@
 #![tactic(auto)]
 
-//! What is read of an input of a merge before its blocks: its outline and what describes it, or the entries of a text, and the
-//! tracks that the words take of it (RFC 9559, section 5.1.4, Tracks Element); or what refuses it.
+//! Inputs of a merge before their blocks: the outline and records of a file, or the entries of a text. The command line
+//! chooses their tracks (RFC 9559, section 5.1.4, Tracks). An input may be refused.
 
 mod input;
 mod kept;

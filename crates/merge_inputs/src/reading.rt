@@ -1,4 +1,4 @@
-//! What is read of an input before its blocks.
+//! Reading of an input before its blocks
 
 ghost use Rattle.std.specs.Prelude.{◌≡◌, ◌*◌, IfOk};
 ghost use Rattle.mkv_io.specs.Bounds.{ReadsUpTo};
@@ -22,9 +22,9 @@ use requests::FileWords;
 use std::alloc::Global;
 use std::rc::Rc;
 
-/// What is read of a live file with Clusters before these, or the first thing that refuses it: its outline, its records,
-/// and then the tracks that the words take, in their order. Earlier inputs have held so many octets of Info, Tracks,
-/// Chapters and Tags. A WebM output leaves attached files and chapters out.
+/// Reads a live file before its Clusters, or returns the first refusal: its outline, its records, and then the chosen
+/// tracks. Earlier inputs hold `held` bytes of Info, Tracks, Chapters and Tags. For WebM output, attached files and
+/// chapters are left out.
 fn read_file<R: Reads>(
     alloc: Global,
     words: &FileWords,
@@ -74,7 +74,7 @@ fn read_file<R: Reads>(
     })
 }
 
-/// What is read of a live text: its entries, and its one track, where the words take it.
+/// Reads a live text: its entries, and its only track if the command line chooses it.
 fn read_text<R: Reads>(
     alloc: Global,
     words: &FileWords,
@@ -108,7 +108,7 @@ fn read_text<R: Reads>(
     })
 }
 
-/// Whether a live file is read as SubRip. Its first octets are read only where its name is such a file's.
+/// Checks whether a live file is read as SubRip. It reads the first bytes only if the name ends in `.srt`.
 fn is_text<R: Reads>(words: &FileWords, src: &mut R, file: FileId) -> Result<bool, Failed>
     requires { IsLive R.Reads src.old file }
     ensures exact { IfTold R.Reads src.old file (λ bytes. IfOk result (λ is. is ≡ is_srt words.now.name bytes)) }
@@ -125,9 +125,9 @@ fn is_text<R: Reads>(words: &FileWords, src: &mut R, file: FileId) -> Result<boo
     Ok(!begins_ebml(&octets[..known]))
 }
 
-/// What is read of a live file before its blocks, or what refuses it: of a SubRip file its entries, of any other file what
-/// stands before its Clusters. Earlier inputs have held so many octets of Info, Tracks, Chapters and Tags. A WebM output leaves
-/// attached files and chapters out.
+/// Reads a live file before its blocks, or returns the refusal: the entries of a SubRip file, or the elements before
+/// the Clusters of another. Earlier inputs hold `held` bytes of Info, Tracks, Chapters and Tags. For WebM output,
+/// attached files and chapters are left out.
 pub fn read_input<R: Reads>(
     alloc: Global,
     words: &FileWords,

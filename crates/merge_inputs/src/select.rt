@@ -1,4 +1,4 @@
-//! Which tracks of a file the words take, and what they keep besides.
+//! Tracks of a file that the command line chooses, and the other kept parts
 
 ghost use Rattle.std.specs.Prelude.{◌≡◌};
 ghost use Rattle.merge_inputs.specs.Select.{is_taken, keep_of, keeps_attachments, keeps_chapters, keeps_tags, takes, unmoved};
@@ -7,7 +7,7 @@ use mkv_schema::track_type::{AUDIO_TRACK, SUBTITLE_TRACK, VIDEO_TRACK};
 use record_changes::TagKeep;
 use requests::{FileWords, Select};
 
-/// Whether the words take a track of this ID and this TrackType.
+/// Checks whether a track with this ID and TrackType is copied.
 pub fn is_taken(words: &FileWords, id: u64, kind: u64) -> bool
     ensures { result ≡ is_taken words.now id kind }
 {
@@ -19,7 +19,7 @@ pub fn is_taken(words: &FileWords, id: u64, kind: u64) -> bool
     }
 }
 
-/// Whether a selection takes the track of this ID.
+/// Checks whether a selection has the track with this ID.
 fn takes(select: &Select, id: u64) -> bool
     ensures { result ≡ takes select.now id }
 {
@@ -31,28 +31,28 @@ fn takes(select: &Select, id: u64) -> bool
     }
 }
 
-/// Whether attached files are kept. WebM has none.
+/// Checks whether attached files are kept; WebM has none.
 pub fn keeps_attachments(words: &FileWords, webm: bool) -> bool
     ensures { result ≡ keeps_attachments words.now webm }
 {
     words.attachments && !webm
 }
 
-/// Whether chapters are kept. WebM has none.
+/// Checks whether chapters are kept; WebM has none.
 pub fn keeps_chapters(words: &FileWords, webm: bool) -> bool
     ensures { result ≡ keeps_chapters words.now webm }
 {
     words.chapters && !webm
 }
 
-/// Whether tags of either kind are kept, those of tracks and the others.
+/// Checks whether tags are kept, of tracks or others.
 pub fn keeps_tags(words: &FileWords) -> bool
     ensures { result ≡ keeps_tags words.now }
 {
     words.track_tags || words.global_tags
 }
 
-/// Which tags are kept.
+/// Returns the choice of kept tags.
 pub fn keep_of(words: &FileWords) -> TagKeep
     ensures { result ≡ keep_of words.now }
 {
@@ -62,7 +62,7 @@ pub fn keep_of(words: &FileWords) -> TagKeep
     }
 }
 
-/// By how many nanoseconds a file is later, where it is appended, before the ends of those in front of it are known.
+/// Returns the append offset of an appended file before it is known, which is 0.
 pub fn unmoved(words: &FileWords) -> Option<u64>
     ensures { result ≡ unmoved words.now }
 {

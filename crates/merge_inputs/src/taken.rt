@@ -1,4 +1,4 @@
-//! The tracks that the words take of a file.
+//! Copied tracks of a file
 
 ghost use Rattle.std.specs.Prelude.{◌≡◌, ℕ, List, IfOk};
 ghost use Rattle.std.specs.List.{All};
@@ -12,22 +12,22 @@ use requests::{CueWord, FileWords};
 use std::alloc::{AllocError, Global};
 use track_records::{Track, usable};
 
-/// A track that is taken, and what the words say of it.
+/// Copied track, with its options
 #[derive(Drop)]
 pub struct TakenTrack {
-    /// Its place in Tracks, from 0.
+    /// Place in Tracks, counted from 0
     pub id: u64,
     pub track: Track,
     pub name: Option<Text>,
     pub language: Option<Text>,
     pub flag_default: Option<bool>,
     pub flag_forced: Option<bool>,
-    /// By how many nanoseconds it is delayed.
+    /// Delay in nanoseconds
     pub delay: i64,
     pub cues: Option<CueWord>,
 }
 
-/// The tracks that the words take, in their order. A track's ID is its place in Tracks, from 0.
+/// Returns the copied tracks in their order. The ID of a track is its place in Tracks, counted from 0.
 pub fn taken_of(
     alloc: Global,
     words: &FileWords,
@@ -45,7 +45,7 @@ pub fn taken_of(
     Ok(taken)
 }
 
-/// A track, and what the words say of its ID.
+/// Returns a copied track with the options for its ID.
 fn taken_track(
     alloc: Global,
     words: &FileWords,
@@ -66,7 +66,7 @@ fn taken_track(
     })
 }
 
-/// The first value that is given to an ID.
+/// Returns the first value for an ID.
 fn value_for<T>(id: u64, list: &[(u64, T)]) -> Option<&T>
     ensures { option_copied result ≡ value_for id list.now }
 {
@@ -78,7 +78,7 @@ fn value_for<T>(id: u64, list: &[(u64, T)]) -> Option<&T>
     None
 }
 
-/// The same of texts.
+/// Returns a copy of the first text for an ID.
 fn text_for(alloc: Global, id: u64, list: &[(u64, Text)]) -> Result<Option<Text>, AllocError>
     ensures { IfOk result (λ text. text ≡ value_for id list.now) }
 {
@@ -88,7 +88,7 @@ fn text_for(alloc: Global, id: u64, list: &[(u64, Text)]) -> Result<Option<Text>
     }
 }
 
-/// What keeps the frames of a track from being used: of the first such track.
+/// Returns the first damage that keeps the frames of a copied track from being used.
 pub fn first_unusable(taken: &[TakenTrack]) -> Option<Damage>
     requires { All (λ t. IsEntry t.track.entry) taken.now }
     ensures { result ≡ first_unusable taken.now }

@@ -1,4 +1,4 @@
-//! The title of a file: RFC 9559, section 5.1.2 (Info Element), Title.
+//! Title of a file: RFC 9559, section 5.1.2 (Info), Title.
 
 ghost use Rattle.std.specs.Prelude.{◌≡◌, IfOk, IfSome};
 ghost use Rattle.meta_records.specs.Records.{IsGoodInfo};
@@ -9,7 +9,7 @@ use mkv_io::Text;
 use mkv_schema::ids::TITLE;
 use std::alloc::{AllocError, Global};
 
-/// The title of a file whose first Info this is, empty where it has none.
+/// Returns the title of a file with the first Info `info`, empty if absent.
 pub fn title_of(alloc: Global, info: &Option<Tree>) -> Result<Text, AllocError>
     requires { IfSome info.now IsGoodInfo }
     ensures { IfOk result (λ title. title ≡ title_of_info info.now) }

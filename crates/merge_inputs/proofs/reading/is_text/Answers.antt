@@ -1,4 +1,4 @@
--- Four octets tell whether an EBML header begins a file.
+-- Four bytes decide whether a file begins with an EBML header.
 use Rattle.std.proofs.Common.{◌≡◌, ℕ, ◌≤◌, ◌&&◌, not, min, true, [], ◌∷◌, length, sym, ◌∙◌, ap, arith}
 use Rattle.std.proofs.lemmas.List.{length-take-le}
 use Rattle.input_files.specs.Names.{begins_ebml, is_srt_name}

@@ -23,13 +23,13 @@ use Rattle.merge_inputs.proofs.TakenLemmas.{AreTaken-read, taken-tracks}
 use Rattle.merge_inputs.specs.Input.{listings_in}
 use Rattle.merge_inputs.proofs.reading.read_file.Goals as goal
 
--- the tracks that are taken are entries
+-- The copied tracks are entries.
 pub first_unusable-requires : goal.first_unusable-requires
 first_unusable-requires g c =
     subst (All (λ (t : TakenTrack). IsEntry t.track.entry)) (sym (c.as_slice.ensures ∙ c.in_ok-taken.ensures))
     (taken-tracks (λ (t : Track). IsEntry t.entry) c.args.words.now c.in_ok-info.field-0.tracks c.in_ok-info.ensures.good.tracks.sound)
 
--- something refuses what is taken
+-- The copied tracks are refused.
 pub returns-in-Some-clause-exact : goal.returns-in-Some-clause-exact
 returns-in-Some-clause-exact g c = λ bytes told.
     let outline = c.in_ok-outline.ensures.exact bytes told in
@@ -38,7 +38,7 @@ returns-in-Some-clause-exact g c = λ bytes told.
     (c.in_ok-info.ensures.exact bytes now c.args.held outline)
     (ap refusal_of (sym (c.as_slice.ensures ∙ c.in_ok-taken.ensures)) ∙ ap (option_map Damaged) (sym c.first_unusable.ensures ∙ c.in-Some.is))
 
--- nothing does
+-- They aren't refused.
 pub returns-clause-exact : goal.returns-clause-exact
 returns-clause-exact g c = λ bytes told.
     let outline = c.in_ok-outline.ensures.exact bytes told in
@@ -53,7 +53,7 @@ returns-clause-exact g c = λ bytes told.
     (c.kept_tree-2.ensures ∙ ap (λ (is_kept : Bool). kept_one is_kept c.in_ok-info.field-0.tags) c.keeps_tags.ensures)
     c.keep_of.ensures c.unmoved.ensures (ap listings_in c.new-2.ensures))
 
--- the file is live as before, and the tracks can be used
+-- The file is live as before, and the tracks can be used.
 pub returns-clause-input : goal.returns-clause-input
 returns-clause-input g c =
     let stands = c.read_records.ensures.standing ∙ c.read_after.ensures.same.standing in
@@ -73,7 +73,7 @@ returns-clause-input g c =
       tags = subst (λ (tree : Option Node). IfSome tree (IsRead TAGS)) (sym c.kept_tree-2.ensures) (kept-some (IsRead TAGS) _ _ c.in_ok-info.ensures.good.tags);
     }
 
--- the Info that was read gives the length of a tick
+-- The Info that was read gives the scale.
 pub returns-clause-events : goal.returns-clause-events
 returns-clause-events g c = λ bytes told.
     let outline = c.in_ok-outline.ensures.exact bytes told in

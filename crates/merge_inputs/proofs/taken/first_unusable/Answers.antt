@@ -3,7 +3,7 @@ use Rattle.meta_records.proofs.CausesLemmas.{usable-some}
 use Rattle.merge_inputs.proofs.TakenLemmas.{unusable-here}
 use Rattle.merge_inputs.proofs.taken.first_unusable.Goals as goal
 
--- a track can't be used
+-- A track can't be used.
 pub returns-in-Err : goal.returns-in-Err
 returns-in-Err c =
     sym (c.loop-each.invariant

@@ -1,4 +1,4 @@
--- The tracks so far can be used.
+-- The previous tracks can be used.
 use Rattle.std.proofs.Common.{◌≡◌, drop}
 use Rattle.merge_inputs.specs.Taken.{first_unusable}
 use Rattle.merge_inputs.proofs.taken.first_unusable.Given as goal

@@ -1,4 +1,4 @@
--- The tracks so far are taken or passed, and those that are left come behind them.
+-- The previous tracks are copied or skipped, and the others follow.
 use Rattle.std.proofs.Common.{◌≡◌, ◌++◌}
 use Rattle.merge_inputs.specs.Taken.{taken_from}
 use Rattle.merge_inputs.proofs.taken.taken_of.Given as goal

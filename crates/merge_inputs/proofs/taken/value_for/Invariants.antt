@@ -1,4 +1,4 @@
--- The ID wasn't met so far.
+-- The ID wasn't found yet.
 use Rattle.std.proofs.Common.{◌≡◌, drop}
 use Rattle.merge_inputs.specs.Taken.{value_for}
 use Rattle.merge_inputs.proofs.taken.value_for.Given as goal
