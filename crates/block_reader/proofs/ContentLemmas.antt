@@ -100,7 +100,7 @@ HasHeader-from o h found = split (has_no_header o) refl found
         let whole = has_header o test in
         record { found = test; is = same; inside = omega arith }
 
--- Bytes without a header are no block.
+-- Bytes without a header aren't a block.
 pub content_in-none : (o : List ℕ) → None ≡ header_in o → content_in o ≡ Err ShortBlock
 unfolding content_in
 content_in-none o none = split (has_no_header o) refl none

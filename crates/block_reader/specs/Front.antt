@@ -17,7 +17,7 @@ use Rattle.block_reader.specs.Spelled.{header_in}
 
 -- ---- number of frames
 
--- the number of frames in a lace of `len` bytes, if its first bytes settle that the lace is valid; its first byte is the number minus one
+-- the number of frames in a lace of `len` bytes, if its first bytes settle that it is valid. The first byte is this number minus one
 abbrev pub laced_count : Lace → List ℕ → ℕ → Option ℕ
 laced_count kind [] len = None
 laced_count kind (less_one ∷ front) len = if is_settled kind (less_one + 1) front (len - 1) then Some (less_one + 1) else None
@@ -61,8 +61,7 @@ abbrev pub head_with : Block → Option ℕ → Option BlockPreview
 head_with b None = None
 head_with b (Some frames) = if has_too_large_time b then None else Some (record { head = head_of b; frames = frames })
 
--- the head and frame count of a SimpleBlock with the header `h` whose body begins with `front`; nothing if `front` doesn't settle that the block
--- is valid
+-- the head and frame count of a SimpleBlock with the header `h` whose body begins with `front`, if `front` settles that the block is valid
 abbrev pub front_head : ℕ → ℕ → Header → List ℕ → Option BlockPreview
 front_head scale timestamp h front =
     if has_no_header front then None else

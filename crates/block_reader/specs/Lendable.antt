@@ -34,7 +34,7 @@ pub record LendsFew (b : Buffered) : Type 0 where
   pub most_references : length b.references ≤ MAX_REFERENCES
   pub kept : length b.kept ≤ MAX_BLOCK_LEN
 
--- The buffer `b` has a block that can be written: it is within the limits, and its frames, one or more, suit its kind of lacing.
+-- The buffer `b` has a block that can be written. It is within the limits, and its frames, one or more, suit its kind of lacing.
 pub record IsLendable (b : Buffered) : Type 0 where
   pub few : LendsFew b
   pub some : 1 ≤ length b.sizes
@@ -77,7 +77,7 @@ pub record IsBlock (octets : List ℕ) (p : Parts) : Type 0 where
   pub within : IsWithin octets p
   pub lendable : IsLendable (lent octets p)
 
--- The parts `p` are no block in `octets`, or one that can be written. Their times and frame count are small in either case.
+-- The parts `p` make no block in `octets`, or one that can be written. Their times and frame count are small in either case.
 pub record AreParts (octets : List ℕ) (p : Parts) : Type 0 where
   pub within : IsWithin octets p
   pub times : HasSmallTimes p.head

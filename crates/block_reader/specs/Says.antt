@@ -24,7 +24,7 @@ use Rattle.block_reader.specs.Spelled.{IsFront, content_of}
 
 -- ---- head of a block
 
--- `result` is the head of the SimpleBlock with the header `h` and the content `s`, for all frames, or the damage that its time is too large.
+-- `result` is the head of the SimpleBlock with header `h` and content `s`, for all frames, or the damage of a too large time.
 abbrev pub MakesSimpleHead : ℕ → ℕ → Header → Spelled → Result BlockHead Damage → Type 0
 MakesSimpleHead scale timestamp h s result = (frames : List (List ℕ))
     → MakesHead frames [] [] (in_time (with_limits scale) h.id (simple_block_with scale timestamp h.offset (content_of s frames))) result

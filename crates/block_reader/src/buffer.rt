@@ -60,7 +60,7 @@ impl BlockBuffer {
         }
     }
 
-    /// Reads the body of a SimpleBlock or BlockGroup through `window`. The previous block is no longer available.
+    /// Reads the body of a SimpleBlock or BlockGroup through `window`. The previous block is lost.
     pub fn read<R: Reads>(
         &mut self,
         window: &mut Window,

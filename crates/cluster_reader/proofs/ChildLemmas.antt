@@ -36,7 +36,7 @@ pub block_found-refused : (r : Rules) (bytes : List ℕ) (timestamp : Option ℕ
 block_found-refused r bytes timestamp h d refused =
     either (h.id == SIMPLE_BLOCK) _ _ _ (simple_block-refused r bytes timestamp h d refused) (block_group-refused r bytes timestamp h d refused)
 
--- The Timestamp of a block is the one before it.
+-- The Timestamp of a block is the previous one.
 pub timestamp_for-is : (r : Rules) (timestamp : Option ℕ) (h : Header) (ticks : ℕ) → timestamp_for r timestamp h ≡ Ok ticks → timestamp ≡ Some ticks
 timestamp_for-is r timestamp h ticks is = split (too_long r h) timestamp is
   where

@@ -149,14 +149,14 @@ children-goes_on : (bytes : List ℕ) (at : ℕ) (c : OpenCluster) (h : Header) 
 unfolding at_place
 children-goes_on bytes at c h earlier is goes = children-step bytes at c (Ok h) earlier is ∙ cond-false (ends_children c.unknown h.id) _ _ goes
 
--- the events that are left, given those of a child
+-- the events that are left, given a child's events
 abbrev after_child : Rules → List ℕ → Place → OpenCluster → Header → List Found → List Event
 after_child r bytes p c h found =
     let run = children_from bytes (end_in c.end h) c in
     events_then c.closed ((found ++ found_among r bytes (timestamp_behind bytes c.timestamp h) run.list) ++ found_behind run.damage)
     (left_at_level_1 r bytes p.size (place_behind c run) p.end)
 
--- Only a Timestamp changes the Timestamp so far, and only the first one.
+-- Only the first Timestamp changes the Cluster's Timestamp.
 timestamp-same : (bytes : List ℕ) (timestamp : Option ℕ) (h : Header) → (h.id ≡ TIMESTAMP → ⊥) → timestamp_behind bytes timestamp h ≡ timestamp
 timestamp-same bytes (Some ticks) h other = refl
 timestamp-same bytes None h other =

@@ -43,7 +43,7 @@ front-of-body bytes front h is few =
 other-track : (track wanted : ℕ) → (track == wanted) ≡ false → track ≡ wanted → ⊥
 other-track track wanted other same = absurd (grind (arith, nat_tests))
 
--- Of a skipped block, which isn't wanted, its head and frame count are known.
+-- The head and frame count of a skipped block, which isn't wanted, are known.
 known-passed : (takes : BlockFilter) (front : BlockPreview) (given : AnyBlock) (lent : Buffered) → head_of given ≡ front.head → length given.frames ≡ front.frames → lent.head ≡ front.head → lent.frames ≡ front.frames → wants takes front.head.track ≡ false → IsKnown takes given lent
 known-passed All front given lent says count head frames other = absurd (cc)
 known-passed (Track wanted) front given lent says count head frames other =

@@ -63,6 +63,6 @@ turns_left p = 2 * (p.end - p.at) + turns_to_leave p.cluster
 abbrev pub at_end : Place → Place
 at_end p = record p { at = p.end; cluster = None }
 
--- the place after a child of the Cluster `c`, with the Timestamp so far
+-- the place after a child of the Cluster `c`, with the Timestamp that was read, if any
 abbrev pub behind_child : Place → OpenCluster → Header → Option ℕ → Place
 behind_child p c child timestamp = record p { at = end_in c.end child; cluster = Some (record c { timestamp = timestamp }) }

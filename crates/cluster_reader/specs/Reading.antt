@@ -24,8 +24,8 @@ use Rattle.cluster_reader.specs.declared.filter.BlockFilter.{BlockFilter}
 use Rattle.cluster_reader.specs.declared.filter.BlockFilter.TheVariants.{All, Track, Heads}
 use Rattle.cluster_reader.specs.declared.step.Step.TheVariants.{Block, Damaged, End}
 
--- the file and its scale, the place of the next element, the bytes read ahead, and the last block, if any; counts of blocks and damaged places,
--- and whether the last damage ends the reading
+-- the file and its scale, the place of the next element, the bytes read ahead, and the last block, if any. It also has counts of blocks and
+-- damaged places, and whether the last damage ends the reading
 pub record Reading : Type 0 where
   pub file : FileId
   pub scale : ℕ

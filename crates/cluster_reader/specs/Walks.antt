@@ -48,7 +48,7 @@ abbrev pub block_found : Rules → List ℕ → Option ℕ → Header → Found
 block_found r bytes timestamp h =
     if h.id == SIMPLE_BLOCK then simple_block r bytes timestamp h else block_group r bytes timestamp h
 
--- The result of reading a child is right: no event and the Timestamp so far, a block with its wanted part, or its damage.
+-- The result of reading a child is right: no event and the Timestamp that was read, a block with its wanted part, or its damage.
 abbrev pub Finds : BlockFilter → List ℕ → ℕ → Option ℕ → Header → Buffered → Child → Type 0
 Finds takes bytes scale timestamp h b (child.Passed behind) =
     (found_at (with_limits scale) bytes timestamp h ≡ []) × (behind ≡ timestamp_behind bytes timestamp h)
@@ -59,8 +59,7 @@ Finds takes bytes scale timestamp h b (child.Damaged d) = found_at (with_limits 
 abbrev pub FindsIn : {S : Type 0} → Ghosts S → S → Walk → Walk → Option ℕ → Header → BlockFilter → Child → Type 0
 FindsIn r src old new timestamp h takes found = IfTold r src old.file (λ bytes. Finds takes bytes old.scale timestamp h new.block found)
 
--- The result of reading a SimpleBlock or BlockGroup is right, if the walk's file is visible to the proof: a block with its wanted part, or its
--- damage.
+-- If the walk's file is visible to the proof, the result of reading a block is right: its wanted part, or its damage.
 abbrev pub MakesIn : {S T : Type 0} → Ghosts S → S → Walk → Walk → Option ℕ → Header → BlockFilter → Result T Damage → Type 0
 MakesIn r src old new timestamp h takes found =
     IfTold r src old.file (λ bytes. MakesWanted takes found new.block (block_found (with_limits old.scale) bytes timestamp h))

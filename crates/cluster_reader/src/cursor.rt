@@ -188,7 +188,7 @@ impl Cursor {
         self.walk.block.references()
     }
 
-    /// Returns the number of damaged places so far.
+    /// Returns the number of damaged places that were found.
     pub fn damages(&self) -> u64
         ensures { result ≡ self.now.damages }
     {

@@ -5,7 +5,7 @@
 pub enum BlockFilter {
     /// Each block
     All,
-    /// Blocks of the track with this TrackNumber; of other blocks only the track is known
+    /// Blocks of the track with this TrackNumber; only the track of other blocks is known
     Track(u64),
     /// No block; only each head and frame count is known
     Heads,

@@ -77,7 +77,7 @@ impl Place {
         }
     }
 
-    /// Returns the place after a child of `cluster`. `timestamp` is the Cluster's Timestamp so far.
+    /// Returns the place after a child of `cluster`. `timestamp` is the Cluster's Timestamp, if it was read.
     pub fn passed(self, cluster: OpenCluster, child: &Header, timestamp: Option<u64>) -> Place
         ensures { result ≡ behind_child self cluster child.now timestamp }
     {

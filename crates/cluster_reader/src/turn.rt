@@ -5,7 +5,7 @@ use mkv_io::Damage;
 /// Result of reading a child of a Cluster
 #[derive(Clone, Copy)]
 pub enum Child {
-    /// Not a block; the Cluster's Timestamp so far
+    /// Not a block; the Cluster's Timestamp, if it was read
     Passed(Option<u64>),
     /// Block, read into the buffer
     Block,

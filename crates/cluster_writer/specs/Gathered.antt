@@ -11,8 +11,7 @@ use Rattle.cluster_writer.specs.Lent.{block_put, lent}
 use Rattle.output_model.specs.declared.heads.OutHead.{OutHead}
 use Rattle.cluster_writer.specs.Lengths.{octets_taken}
 
--- the limits of a Cluster, the Timestamp if there is a block, the number of blocks and the bytes of their elements, and the free capacity in
--- bytes
+-- a Cluster's limits, its Timestamp if there is a block, the count and bytes of its block elements, and the free capacity in bytes
 pub record Gathered : Type 0 where
   pub limits : ClusterLimits
   pub timestamp : Option ℕ
@@ -92,7 +91,7 @@ timestamp_for g tick = unwrap_or g.timestamp tick
 abbrev pub place_in : Gathered → ℕ → ℕ
 place_in g tick = size_with (timestamp_for g tick) g.elements
 
--- A block can be put into the buffer `g`: it is within a block's limits, its output track number fits in one byte, it can join, and its element
+-- A block can be put into the buffer `g`. It is within a block's limits, its output track number fits in one byte, it can join, and its element
 -- fits in the capacity.
 pub record CanPut (g : Gathered) (lane tick : ℕ) (l : Lent) : Type 0 where
   pub lent : IsLent l

@@ -18,7 +18,7 @@ octets_taken b = length (octets_of (block_element b.tick b))
 abbrev pub prefixed_sizes : ℕ → List ℕ → List ℕ
 prefixed_sizes prefix sizes = map (λ size. prefix + size) sizes
 
--- the length of a Block with frames of these sizes
+-- the length of a Block with frames of the sizes `sizes`
 abbrev pub block_len : Lace → List ℕ → ℕ
 block_len kind sizes = 4 + length (lace_octets kind sizes) + sum sizes
 

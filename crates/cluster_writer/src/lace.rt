@@ -26,8 +26,8 @@ fn prefixed_sizes(prefix: u32, sizes: &[u32]) -> ArrayVec<u32, 256>
     all
 }
 
-/// Returns the number of bytes before the frames of a Block with frames of these sizes and prefixes: their number and
-/// the head of the lace.
+/// Returns the number of bytes that a lace has before its frames, for their number and sizes. `sizes` are the frames'
+/// sizes without their prefixes of `prefix` bytes.
 pub(crate) fn lace_octets_len(kind: Lace, prefix: u32, sizes: &[u32]) -> u64
     requires { CanLace kind (prefixed_sizes prefix sizes.now) }
     ensures exact { result ≡ length (lace_octets kind (prefixed_sizes prefix sizes.now)) }

@@ -60,7 +60,7 @@ pub record StandsOpen {S : Type 0} (r : Ghosts S) (f : writing.Ghosts S) (before
   pub names : f.names files ≡ with_content before name (opened_with front behind)
   pub known : Knows front behind o
 
--- The attached file `a` can be written to an output with this name: it is an AttachedFile, and its data are in a live file of another name.
+-- The attached file `a` can be written to an output with this name. It is an AttachedFile, and its data are in a live file of another name.
 pub record CanAttach {S : Type 0} (r : Ghosts S) (f : writing.Ghosts S) (files : S) (name : List ℕ) (a : Attachment) : Type 0 where
   pub id : id_of a.entry ≡ ATTACHED_FILE
   pub master : IsMaster a.entry

@@ -16,7 +16,7 @@ pub fn append<F: Files>(files: &mut F, file: FileId, octets: &[u8]) -> Result<()
     Ok(())
 }
 
-// Copies as many bytes as `chunk` holds from another file, from offset `at` on.
+// Fills `chunk` from the file `from`, from offset `at` on, and appends it to the file `to`.
 fn copy_chunk<F: Files>(
     files: &mut F,
     from: FileId,

@@ -83,7 +83,7 @@ fn put_points(out: &mut Bytes, points: &[CuePoint]) -> Result<(), AllocError>
     Ok(())
 }
 
-/// Appends the Cues of these points, or nothing if there are none.
+/// Appends the Cues with `points`, or nothing if there are none.
 #[tactic(auto, unfolding(ebml_numbers::specs::Number::is_id))]
 pub(crate) fn put_cues(out: &mut Bytes, points: &[CuePoint]) -> Result<(), AllocError>
     requires { length points.now ≤ 2 ^ 20 }

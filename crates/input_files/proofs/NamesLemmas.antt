@@ -13,7 +13,7 @@ use Rattle.input_files.specs.Inputs.{contents_of, file_names}
 
 -- ---- first name that passes a test
 
--- the first name of these inputs that passes a test, with numbers from `k` on
+-- the first name of the inputs `words` that passes a test, with numbers from `k` on
 abbrev pub first_from : (List ℕ → Bool) → ℕ → List FileWords → Option ℕ
 first_from test k words = position_from test k (file_names words)
 

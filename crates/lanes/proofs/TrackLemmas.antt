@@ -73,7 +73,7 @@ events_with f t segment = events_of (with_limits t.scale) (octets_in f t.file.n)
 pub content-at : (f : LiveFiles) (links : List Link) (k : ℕ) (t : TrackLink) → All (IsToldLink f) links → slice_get links k ≡ Some (Track t) → f.content t.file.n ≡ Some (octets_in f t.file.n)
 content-at f links k t all is = all-at (IsToldLink f) links k (Track t) all is
 
--- Bytes that were read are no longer due.
+-- Bytes that were read aren't due any more.
 sums : (before now total c d : ℕ) → now + c ≤ before + d → d ≤ total → now + (total - d) ≤ before + (total - c)
 sums before now total c d pays most = omega arith
 

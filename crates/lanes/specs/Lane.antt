@@ -142,11 +142,11 @@ due f l = walks.due f l.links l.walk
 abbrev pub files_length : LiveFiles → LaneSeen → ℕ
 files_length f l = walks.files_length f l.links
 
--- The bytes that a call reads are no longer due. A failed call may read the length of the files once more.
+-- The bytes that a call reads aren't due any more. A failed call may read the length of the files once more.
 abbrev pub Pays : {T : Type 0} → LiveFiles → LaneSeen → LaneSeen → ℕ → ℕ → Result T ReadEnd → Type 0
 Pays f old new before now (Ok answer) = now + due f new ≤ before + due f old
 Pays f old new before now (Err end) = now + due f new ≤ before + due f old + files_length f old
 
--- The bytes that a call reads through its source are no longer due, as `Pays`.
+-- The bytes that a call reads through its source aren't due any more, as `Pays`.
 abbrev pub PaysFor : {S T : Type 0} → Ghosts S → S → S → LaneSeen → LaneSeen → Result T ReadEnd → Type 0
 PaysFor r src src' old new result = Pays (live_files r src) old new (r.octets_read src) (r.octets_read src') result

@@ -3,7 +3,7 @@ use Rattle.std.specs.Prelude.{◌≡◌}
 use Rattle.mkv_io.specs.LiveFiles.{LiveFiles}
 use Rattle.lanes.specs.Lane.{IsEnded, IsReady, IsTold, KeepsLane, LaneSeen, due, files_length, left, told_in_all}
 
--- The output track `l` is the same among `new` as among `old`: it can be advanced, and the same blocks, damaged places and bytes are left.
+-- The output track `l` is the same among `new` as among `old`. It can be advanced, and the same blocks, damaged places and bytes are left.
 pub record StandsAmong (old new : LiveFiles) (l : LaneSeen) : Type 0 where
   pub ready : IsReady new l
   pub told : IsTold old l → IsTold new l

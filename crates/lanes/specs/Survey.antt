@@ -41,7 +41,7 @@ pub record IsSurvey (given : List Given) (s : Survey) : Type 0 where
   pub end : s.end ≡ file_end given
   pub stopped : s.stopped ≡ stops_any given
 
--- A survey of the file of these links is right, if the files are visible to the proof.
+-- A survey of the file of `links` is right, if the files are visible to the proof.
 abbrev pub Surveys : LiveFiles → List Link → Result Survey ReadEnd → Type 0
 Surveys f links result = All (IsToldLink f) links → IfOk result (IsSurvey (map (given_in f) links))
 

@@ -58,11 +58,11 @@ pub record Moves (scale : ℕ) (links : List Link) (old new : Walk) (turn : Opti
   pub on : GoesOn links old new turn
   pub lends : LendsFor scale links new turn
 
--- The bytes that a call reads are no longer due. A failed call may read the length of the files once more.
+-- The bytes that a call reads aren't due any more. A failed call may read the length of the files once more.
 abbrev pub Pays : {T : Type 0} → LiveFiles → List Link → Walk → Walk → ℕ → ℕ → Result T ReadEnd → Type 0
 Pays f links old new before now (Ok answer) = now + due f links new ≤ before + due f links old
 Pays f links old new before now (Err end) = now + due f links new ≤ before + due f links old + files_length f links
 
--- The bytes that a call reads through its source are no longer due, as `Pays`.
+-- The bytes that a call reads through its source aren't due any more, as `Pays`.
 abbrev pub PaysFor : {S T : Type 0} → Ghosts S → S → S → List Link → Walk → Walk → Result T ReadEnd → Type 0
 PaysFor r src src' links old new result = Pays (live_files r src) links old new (r.octets_read src) (r.octets_read src') result

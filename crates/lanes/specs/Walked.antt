@@ -9,7 +9,7 @@ use Rattle.merge_model.specs.declared.link.Link.{Link}
 use Rattle.lanes.specs.Ends.{end_of}
 use Rattle.lanes.specs.declared.survey_result.Survey.{Survey}
 
--- `s` has the greatest end of these events in the links, and whether damage ends the reading.
+-- `s` has the greatest end of `events` in the links, and whether damage ends the reading.
 pub record IsWalked (events : List Event) (links : List Link) (s : Survey) : Type 0 where
   pub end : s.end ≡ end_of events links
   pub stopped : s.stopped ≡ is_some (last_of events)

@@ -43,9 +43,9 @@ fn text_before(text: &TextLink, next: usize) -> &[u8]
     }
 }
 
-/// Block of an output track: its head, the prefix of each frame, the bytes of the frames in sequence and their sizes,
-/// the references in ticks relative to it, and the bytes of the kept children of its group. An entry of a text has no
-/// prefix and no kept children.
+/// Block of an output track: its head, the prefix of each frame, and the frames' bytes in sequence with their sizes.
+/// The references are in ticks relative to it, and `kept` has the bytes of its group's kept children. An entry of a
+/// text has no prefix and no kept children.
 #[derive(Clone, Copy)]
 pub struct LaneBlock<'a> {
     pub head: &'a OutHead,
@@ -131,8 +131,8 @@ impl Lane {
         }
     }
 
-    /// Returns the reached damaged place with the number `k`, counted from 0. Of each link the first hundred count,
-    /// link after link.
+    /// Returns the reached damaged place with the number `k`, counted from 0. Only the first hundred of each link
+    /// count, link after link.
     pub fn damage(&self, k: usize) -> Option<LinkDamage>
         ensures { result ≡ slice_get (link_damages self.now.walk.told.items) k }
     {

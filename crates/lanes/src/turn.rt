@@ -19,7 +19,7 @@ use merge_model::{Link, TextLink, TrackLink};
 use mkv_io::{ReadEnd, Reads};
 use std::alloc::Global;
 
-// Takes one turn in the file of a track. Returns `None` if something was skipped.
+// Takes one turn in the file of a track. Returns `None` if no block was placed.
 fn turn_track<R: Reads>(
     alloc: Global,
     links: &[Link],
@@ -74,7 +74,7 @@ fn turn_track<R: Reads>(
     }
 }
 
-// Takes one turn in a text. Returns `None` if an entry was dropped, or the text has ended.
+// Takes one turn in a text. Returns `None` if no entry was placed.
 fn turn_text(links: &[Link], text: &TextLink, scale: u64, walk: &mut Walk) -> Option<LaneStep>
     requires here { slice_get links.now walk.old.at ≡ Some (AText text.now) }
     requires scale { 1 ≤ scale }

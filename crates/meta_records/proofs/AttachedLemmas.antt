@@ -13,7 +13,7 @@ use Rattle.meta_records.specs.Attachments.{attached_in, attachment_of, attachmen
 use Rattle.meta_records.specs.Attached.{AttachedFile, file_at, files_at, first_attached, in_file}
 use Rattle.meta_records.proofs.RecordsLemmas.{first_same}
 
--- The attached files are those of the first Attachments in the outline.
+-- The attached files are in the first Attachments in the outline.
 pub first_attached-of : (before : ℕ) (bytes : List ℕ) (v : FileOutline) (h : Option Header) → outline_in before bytes ≡ Ok v → first_in ATTACHMENTS v ≡ h → first_attached bytes v.segment ≡ files_at bytes h
 first_attached-of before bytes v h outline found =
     ap (files_at bytes) (sym (first_same ATTACHMENTS before bytes v refl (Outlines-shown before bytes v outline)) ∙ found)

@@ -56,7 +56,7 @@ few-paid way a b x y one none octets nodes paid = omega (arith, paid.reads)
 pub few-spent : (way : ℕ) (a b : Counts) (x y : ℕ) → a.nodes ≡ 1 → a.octets ≡ 0 → b.octets ≤ MAX_ATTACHMENTS_LEN → b.nodes ≤ MAX_NODES → IsSpent way a b x y → y ≤ x + 2 * MAX_ATTACHMENTS_LEN
 few-spent way a b x y one none octets nodes spent = omega (arith, spent.reads)
 
--- The distance alone bounds the bytes read.
+-- The distance bounds the bytes read.
 pub way-paid : (way : ℕ) (a b : Counts) (x y : ℕ) → IsPaid way a b x y → y ≤ x + 16 * way
 way-paid way a b x y paid = omega (arith, paid.reads, paid.way)
 

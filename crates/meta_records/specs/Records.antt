@@ -60,7 +60,7 @@ abbrev pub good_tracks : Header → Option Node → Result (List Track) Damage
 good_tracks segment None = Err (damage NoTracks 0 segment.offset)
 good_tracks segment (Some tracks) = tracks_of tracks
 
--- the records of a file: its first Info, the tracks of its first Tracks, the attached files of its first Attachments, its first Chapters and Tags
+-- the records of a file: the first Info, Chapters and Tags, the tracks of the first Tracks, and the attached files of the first Attachments
 pub record FileRecords : Type 0 where
   pub info : Option Node
   pub tracks : List Track

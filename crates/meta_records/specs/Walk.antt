@@ -127,7 +127,7 @@ pub record ArePartsOf (bytes : List ℕ) (attached : Header) (parts : Parts) : T
   pub entry : parts.entry ≡ entry_of bytes attached
   pub first : parts.first ≡ data_in bytes attached
 
--- The fact `P` holds for all bytes in which `parts` are the parts of the AttachedFile `h`.
+-- The fact `P` holds for all bytes, if `parts` are the parts of the AttachedFile `h` in them.
 abbrev pub IfPartsOf : Header → Parts → (List ℕ → Type 0) → Type 0
 IfPartsOf h parts P = (bytes : List ℕ) → ArePartsOf bytes h parts → P bytes
 

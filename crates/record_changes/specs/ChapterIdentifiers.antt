@@ -5,7 +5,7 @@ use Rattle.tree_format.specs.Node.{Node, Nodes, leaf, master, none, node, nodes_
 use Rattle.tree_format.specs.Children.{uint_leaf, set_in}
 use Rattle.record_changes.specs.Atoms.{editions_of, atoms_at, atoms_inside}
 
--- a child of an edition with new identifiers: an atom gets the one at index `k`, the atoms inside it get the next ones, and others are unchanged
+-- a child of an edition with new identifiers. An atom gets the one at index `k`, the atoms inside it get the next ones, and others are unchanged
 abbrev mutual
   pub numbered : List ℕ → ℕ → Node → Node
   numbered uids k (leaf id at body) = leaf id at body

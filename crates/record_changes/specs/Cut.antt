@@ -47,7 +47,7 @@ times_within s atom = uint_leaf CHAPTER_TIME_START (within s (start_of atom)) �
 
 -- ---- all atoms
 
--- a child cut to the period `s`, if the next atom beside it starts at `next`; an atom in the period keeps its atoms in the period, and other
+-- a child cut to the period `s`, if the next atom beside it starts at `next`. An atom in the period keeps its atoms in the period, and other
 -- children are unchanged
 abbrev mutual
   pub cut_at : Stretch → Node → Option ℕ → List Node

@@ -2,7 +2,7 @@
 use Rattle.std.specs.Prelude.{◌≡◌, ◌<◌, ◌≤◌, ℕ, ◌+◌, true, false, List, length, All}
 use Rattle.record_changes.specs.Identifiers.{is_free, smallest_free, renumbered, AreSettled}
 
--- `smallest_free` is positive and not in the list; each smaller positive number is in the list, so it is at most one more than the length.
+-- `smallest_free` is positive and not in the list. Each smaller positive number is in the list, so it is at most one more than the length.
 pub record SmallestIsFree : Type 0 where
   pub positive : (taken : List ℕ) → 0 < smallest_free taken
   pub free : (taken : List ℕ) → is_free taken (smallest_free taken) ≡ true

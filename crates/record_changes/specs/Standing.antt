@@ -18,7 +18,7 @@ pub record HoldsAtoms (n : Node) : Type 0 where
   pub known : is_master (id_of n) ≡ true
   pub atoms : is_master_in (id_of n) CHAPTER_ATOM ≡ true
 
--- In each parent in which `old` is valid, `new` may replace it.
+-- If a parent allows `old`, `new` may replace it there.
 abbrev pub MayReplace : Node → Node → Type 0
 MayReplace old new = (parent : ℕ) → StandsIn parent old → IsInPlace parent old new
 

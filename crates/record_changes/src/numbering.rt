@@ -12,7 +12,7 @@ use ebml_tree::{Tree, empty, uint_leaf};
 use mkv_schema::ids::{CHAPTER_ATOM, CHAPTER_UID, CHAPTERS, EDITION_ENTRY, EDITION_UID};
 use std::alloc::{AllocError, Global};
 
-// Returns a child of an edition or atom with new identifiers: an atom gets the next one, and the atoms inside it get
+// Returns a child of an edition or atom with new identifiers. An atom gets the next one, and the atoms inside it get
 // the following ones.
 fn numbered(alloc: Global, child: &Tree, uids: &[u64], next: &mut usize) -> Result<Tree, AllocError>
     requires atom { IsReadIf ids.CHAPTER_ATOM child.now }

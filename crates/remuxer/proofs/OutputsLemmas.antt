@@ -60,7 +60,7 @@ count-outputs : (f : LiveFiles) (o : OutputSpec) (number : ℕ) (done : List Par
 count-outputs f o number [] = refl
 count-outputs f o number (p ∷ done) = ap suc (count-outputs f o (suc number) done)
 
--- the contents of names after each of these outputs was written
+-- the contents of names after each of the outputs was written
 abbrev pub world_with : (List ℕ → Option (List ℕ)) → List Output → List ℕ → Option (List ℕ)
 world_with world [] = world
 world_with world (o ∷ os) = world_with (changed_at o.name (λ _. Some o.content) world) os
@@ -177,7 +177,7 @@ module _ {S : Type 0} (r : Ghosts S) (f : writing.Ghosts S) (o : OutputSpec) (a 
     pub short : IfVisible (f.names a) (λ world. All (λ (each : PlannedOutput). IsShort each.document) (outputs_from (live_files r a) o 1 done))
     pub front : front_with (live_files r b) o'.front ≡ front_with (live_files r a) o'.front
 
-  -- The first outputs are complete if the links' files are visible to the proof, the next part can be begun, and `read` bytes of data were read.
+  -- If the links' files are visible to the proof, the first outputs are complete. The next part can be begun, and `read` bytes of data were read.
   pub record OnTheWay (b : S) (o' : OutputSpec) (p' : PlacedBlocks) (written : List Written) (begun : Bool) : Type 0 where
     pub read : ℕ
     pub data_left : read + data_of o' ≤ data_of o

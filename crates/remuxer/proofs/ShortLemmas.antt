@@ -10,7 +10,7 @@ use Rattle.mkv_io.specs.Told.{IfVisible}
 use Rattle.mkv_io.proofs.NamesLemmas.{changed_at-same}
 use Rattle.cues_seekhead.specs.Made.{WritesAndEnds}
 
--- Facts about all files: the length of a live file is limited, a visible content has this length, and is the content of the file's name.
+-- Facts about all files. The length of a live file is limited, and a visible content has this length, and is its name's.
 pub record HoldsOfFiles {S : Type 0} (r : Ghosts S) (f : writing.Ghosts S) : Type 0 where
   pub short : (x : S) (file : ℕ) → (live_files r x).live file ≡ true → (live_files r x).size file ≤ LONGEST_FILE
   pub told_size : (x : S) (file : ℕ) → IfVisible ((live_files r x).content file) (λ bytes. length bytes ≡ (live_files r x).size file)

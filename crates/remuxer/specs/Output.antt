@@ -62,8 +62,8 @@ IsUnwrittenLink holder split output (Entries e) = ⊤
 abbrev pub IsUnwritten : (ℕ → List ℕ) → Bool → List ℕ → MergeSeen → Type 0
 IsUnwritten holder split output m = All (λ (q : Queue). All (IsUnwrittenLink holder split output) q.lane.links) m.queues
 
--- An output with this name can be written for the current part: its blocks can be taken with the output's ticks, no file of a link has this name,
--- and the elements outside the Clusters can be written.
+-- An output with this name can be written for the current part. Its blocks can be taken with the output's ticks, and no file of a link has this
+-- name. The elements outside the Clusters can be written.
 pub record CanWrite {S : Type 0} (r : Ghosts S) (f : writing.Ghosts S) (files : S) (o : OutputSpec) (name : List ℕ) (b : PlacedBlocks) : Type 0 where
   pub gives : CanGive (live_files r files) b
   pub begun : IsPartBegun b
@@ -162,13 +162,14 @@ abbrev pub CanBeNext : PlacedBlocks → Bool → Type 0
 CanBeNext b true = IsPartBegun b
 CanBeNext b false = IsEnded b.merge
 
--- The next part was begun, or none is left, within `turns` turns, and these parts are left, if the links' files are visible to the proof.
+-- The next part was begun, or none is left, and at most `turns` turns are left. The parts `parts` are left, if the links' files are visible to
+-- the proof.
 pub record FindsPart (f h : LiveFiles) (turns : ℕ) (parts : List Part) (b b' : PlacedBlocks) (begun : Bool) : Type 0 where
   pub begins : CanBeNext b' begun
   pub on : turns_left b' begun ≤ turns
   pub found : IsTold f b.merge → parts_begun h b' begun ≡ parts
 
--- The next part of those that were left was begun, unless the call failed.
+-- The next remaining part was begun, if any, unless the call failed.
 abbrev pub FindsBehind : {S : Type 0} → Ghosts S → S → S → PlacedBlocks → PlacedBlocks → Result Bool ReadEnd → Type 0
 FindsBehind r old new b b' result = IfOk result (FindsPart (live_files r old) (live_files r new) (turns b) (parts_left (live_files r old) b) b b')
 
@@ -240,7 +241,7 @@ WritesTold r f old new o b b' written written' (Err _) =
 abbrev pub WritesNext : {S : Type 0} → Ghosts S → writing.Ghosts S → S → S → OutputSpec → PlacedBlocks → PlacedBlocks → List Written → List Written → Result Bool RemuxEnd → Type 0
 WritesNext r f old new o b b' written written' result = IsTold (live_files r old) b.merge → WritesTold r f old new o b b' written written' result
 
--- The next part was begun, or none is left; there are no attachments any more, and no more turns are left.
+-- The next part was begun, or none is left; there are no attachments any more, and no more turns are left than before.
 pub record FindsNext (o o' : OutputSpec) (b b' : PlacedBlocks) (written written' : List Written) (begun : Bool) : Type 0 where
   pub begins : CanBeNext b' begun
   pub spec : o' ≡ record o { front = record o.front { attachments = [] } }
@@ -261,7 +262,7 @@ pub record WritesAll (old new : Names) (outputs : List PlannedOutput) : Type 0 w
   pub become : outputs_of (drafts_of outputs) ≡ map laid_out outputs
   pub short : IfVisible old (λ world. All (λ (o : PlannedOutput). IsShort o.document) outputs)
 
--- All outputs were written; after an error the first ones are complete, the next one has a content of its draft, and other names are unchanged.
+-- All outputs were written. After an error the first ones are complete, the next one has a content of its draft, and other names are unchanged.
 abbrev pub WritesOutputs : {T : Type 0} → Names → Names → List PlannedOutput → Result T RemuxEnd → Type 0
 WritesOutputs old new outputs (Ok _) = WritesAll old new outputs
 WritesOutputs old new outputs (Err _) = AreWrittenInOrder old new (drafts_of outputs)

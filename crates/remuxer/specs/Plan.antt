@@ -31,7 +31,7 @@ pub record IsPlannedLane {S : Type 0} (r : Ghosts S) (f : writing.Ghosts S) (fil
   pub numbered : length l.inputs ≡ length l.spec.links
   pub inputs : All (λ input. input < MAX_INPUTS) l.inputs
 
--- The nanoseconds per tick are within their limits, there are at most 64 output tracks, the elements outside the Clusters can be written, and
+-- The nanoseconds per tick are within their limits, and there are at most 64 output tracks. The elements outside the Clusters can be written, and
 -- parts end at times or at a load.
 pub record IsPlan {S : Type 0} (r : Ghosts S) (f : writing.Ghosts S) (files : S) (p : MergePlan) : Type 0 where
   pub scale : 1 ≤ p.limits.scale
@@ -59,7 +59,7 @@ data_length p = sum_by (λ (a : Attachment). a.len) p.front.attachments
 abbrev pub ReadsFew : {S : Type 0} → Ghosts S → S → S → MergePlan → Type 0
 ReadsFew r old new p = r.octets_read new ≤ r.octets_read old + 2 * inputs_length (live_files r old) p + data_length p
 
--- The outputs are those of the plan, if the links' files are visible to the proof.
+-- `WritesOutputs` holds for the plan's outputs, if the links' files are visible to the proof.
 abbrev pub WritesPlan : {S T : Type 0} → Ghosts S → writing.Ghosts S → S → S → MergePlan → Result T RemuxEnd → Type 0
 WritesPlan r f old new p result = IsToldPlan (live_files r old) p → WritesOutputs (f.names old) (f.names new) (outputs_in (live_files r old) p) result
 

@@ -39,7 +39,7 @@ counted_with begins cued n = record {
   cues = if cued then with_point n.cues else n.cues;
 }
 
--- `n` has the numbers of these Clusters and cue points.
+-- `n` has the number of the Clusters `cs`, and the number `points` of cue points.
 pub record AreCounts (cs : List OutputCluster) (points : ℕ) (n : Counts) : Type 0 where
   pub clusters : n.clusters ≡ counted 0 (length cs)
   pub cues : n.cues ≡ points
@@ -47,7 +47,7 @@ pub record AreCounts (cs : List OutputCluster) (points : ℕ) (n : Counts) : Typ
 -- ---- state of the output
 
 -- The file has the first Clusters of the document `d`, the buffer has the next one, if any, and the blocks `left` are left. The cue points and
--- counts are those of these Clusters.
+-- counts belong to the Clusters of both.
 pub record Stands {S : Type 0} (r : Ghosts S) (f : writing.Ghosts S) (before : Names) (name : List ℕ) (rules : List CueRule) (d : Document) (files : S) (o : OpenOutput) (g : Gathered) (n : Counts) (left : List OutputBlock) : Type 0 where
   pub done : List OutputCluster
   pub cluster : Option OutputCluster

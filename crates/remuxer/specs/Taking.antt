@@ -45,7 +45,7 @@ pub record WritesInto {S T : Type 0} (r : Ghosts S) (f : writing.Ghosts S) (old 
 
 -- ---- contents of the buffer
 
--- If the buffer was small before a call, it is small after it, unless the call failed: it has one small Cluster, or a single larger block.
+-- If the buffer was small before a call, it is small after it, unless the call failed. It then has one small Cluster, or a single larger block.
 abbrev pub StaysSmall : {T : Type 0} → BlockWriter → BlockWriter → Result T RemuxEnd → Type 0
 StaysSmall w w' result = OnOk result (HoldsSmall w.buffer → HoldsSmall w'.buffer)
 
@@ -71,7 +71,7 @@ abbrev pub TakesNext : {S T : Type 0} → Ghosts S → writing.Ghosts S → List
 TakesNext r f rules b old new w w' (Ok _) = (left : List OutputBlock) → StaysOnTheWay r f rules (b ∷ left) left old new w w'
 TakesNext r f rules b old new w w' (Err _) = (left : List OutputBlock) → StaysDraft r f rules (b ∷ left) old new w
 
--- The block of the output track `k`, in a part that starts at this tick, was the first that was left, and the others are left now.
+-- The block of the output track `k`, in a part that starts at tick `start`, was the first that was left. Now the others are left.
 abbrev pub TakesLent : {S T : Type 0} → Ghosts S → writing.Ghosts S → List CueRule → ℕ → ℕ → LaneSeen → S → S → BlockWriter → BlockWriter → Result T RemuxEnd → Type 0
 TakesLent r f rules start k lane old new w w' result = TakesNext r f rules (lent_in start k lane) old new w w' result
 
@@ -136,7 +136,7 @@ pub record Leaves (f h : LiveFiles) (b b' : PlacedBlocks) : Type 0 where
   pub behind : is_within b.ahead ≡ true → behind_part h b' ≡ behind_part f b
   pub parts : BeginsNone b.ahead → parts_left h b' ≡ parts_left f b
 
--- If no block was placed, all parts are left; without a block this is the part at the start of the output, if it is written.
+-- If no block was placed, all parts are left. Without a block this is the part at the start of the output, if it is written.
 abbrev pub LeavesAll : LiveFiles → LiveFiles → PlacedBlocks → PlacedBlocks → Type 0
 LeavesAll f h b b' = (if is_none b'.ahead && is_kept b'.cuts then part_in h b' ∷ [] else parts_left h b') ≡ parts (split_in b) (left f b.merge)
 

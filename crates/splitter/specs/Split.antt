@@ -1,4 +1,4 @@
--- The cuts of a merged list, by this project's rules: the blocks before which it may be cut, and the times for it.
+-- The cuts of a merged list, by this project's rules: the blocks that may start a part, and the times for a cut.
 use Rattle.std.specs.Prelude.{ℕ, ◌+◌, ◌==◌, nat_lt, nat_le, Bool, true, false, ◌&&◌, ◌||◌, List, Option, Some, None}
 use Rattle.std.specs.List.{list_any, position}
 use Rattle.std.specs.Option.{option_map_or}

@@ -16,7 +16,7 @@ pub enum SplitSpec {
     Duration { by: u64 },
     /// Cuts at these times; 0 has no effect
     Times { at: List<u64> },
-    /// Cuts at the bounds of these spans; only sections that start in one of them are written
+    /// Cuts at the bounds of `spans`; only sections that start in a span are written
     Parts { spans: List<SpanWords> },
 }
 
@@ -34,7 +34,7 @@ fn sooner(end: Option<u128>, bound: u64, start: u128) -> Option<u128>
     }
 }
 
-// Returns the first of these times after `start`, if any.
+// Returns the first time after `start` in `at`, if any.
 fn first_time(at: &[u64], start: u128) -> Option<u128>
     ensures { (time : ℕ) → has_come result time ≡ list_any (is_within start time) at.now }
 {
@@ -45,7 +45,7 @@ fn first_time(at: &[u64], start: u128) -> Option<u128>
     end
 }
 
-// Returns the first bound of these spans after `start`, if any.
+// Returns the first bound after `start` in `spans`, if any.
 fn first_bound(spans: &[SpanWords], start: u128) -> Option<u128>
     ensures { (time : ℕ) → has_come result time ≡ list_any (passes start time) spans.now }
 {

@@ -33,8 +33,8 @@ impl Model for Merge {
 }
 
 impl Merge {
-    /// Returns a merge of these output tracks, which are at their start. It reads nothing: the first step reads the
-    /// first block of each output track.
+    /// Returns a merge of the output tracks `lanes`, which are at their start. It reads nothing: the first step reads
+    /// the first block of each output track.
     pub fn start<R: Reads>(alloc: Global, lanes: List<Lane>, _src: &mut R) -> Result<Merge, ReadEnd>
         requires { length lanes ≤ MAX_LANES }
         ensures starts { (f : LiveFiles) → IfOk result (Starts f lanes) }

@@ -23,7 +23,7 @@ are_alike None (Some q) = false
 are_alike (Some p) None = false
 are_alike (Some p) (Some q) = bytes_eq p q
 
--- the ID of the first of seven fields in which the entries `a` and `b` differ: TrackType, CodecID, CodecPrivate, PixelWidth, PixelHeight,
+-- the ID of the first field that differs between the entries `a` and `b`, of seven: TrackType, CodecID, CodecPrivate, PixelWidth, PixelHeight,
 -- Channels and SamplingFrequency
 abbrev pub first_difference : Node → Node → Option ℕ
 first_difference a b = option_map (λ f. f.id) (find (λ f. not (are_alike (octets_at f a) (octets_at f b))) FIELDS)

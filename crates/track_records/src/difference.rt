@@ -38,8 +38,8 @@ fn are_alike(p: Option<&[u8]>, q: Option<&[u8]>) -> bool
     }
 }
 
-/// Returns the ID of the first field in which `b` differs from `a`, or nothing if `b` may be appended to `a`. Only
-/// the first element of each field counts, compared by its bytes or its absence.
+/// Returns the ID of the first field of `b` that differs from `a`, or nothing if `b` may be appended to `a`. Only the
+/// first element of each field counts, compared by its bytes or its absence.
 pub fn differs(a: &Track, b: &Track) -> Option<u32>
     ensures { result ≡ first_difference a.now.entry b.now.entry }
 {

@@ -9,7 +9,7 @@ use mkv_schema::track_type::{AUDIO_TRACK, SUBTITLE_TRACK, VIDEO_TRACK};
 /// Track, from its TrackEntry (RFC 9559, section 5.1.4, Tracks)
 #[derive(Drop)]
 pub struct Track {
-    /// TrackNumber, by which Blocks name the track; not 0
+    /// TrackNumber, the track's number in Blocks; not 0
     pub number: u64,
     /// TrackUID, or 0 if it is absent
     pub uid: u64,
