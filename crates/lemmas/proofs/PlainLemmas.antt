@@ -31,7 +31,7 @@ pub or-true : (a : Bool) → (a || true) ≡ true
 or-true true = refl
 or-true false = refl
 
--- frames joined are as long as their sizes together
+-- The length of joined frames is the sum of their lengths.
 pub length-concat : (frames : List (List ℕ)) → length (concat frames) ≡ sum (map length frames)
 length-concat [] = refl
 length-concat (f ∷ fs) = length-append f (concat fs) ∙ ap (λ n. length f + n) (length-concat fs) ∙ sym (sum_by-cons (λ x. x) (length f) (map length fs))
@@ -56,13 +56,13 @@ abs-sub x y = omega (arith, ints)
 pub decimal-numeral : IsNumeralModel (λ ds. list_all is_ascii_digit ds ≡ true) (digits_value 10)
 decimal-numeral = numerals_by_value (λ ds. list_all is_ascii_digit ds ≡ true) (search rules)
 
--- a word that is there is the first of them
+-- If element `i` of `xs` exists, it is the first element of `drop i xs`.
 pub drop-some : {X : Type 0} (xs : List X) (i : ℕ) (x : X) → slice_get xs i ≡ Some x → drop i xs ≡ x ∷ drop (suc i) xs
 drop-some [] i x e = cc
 drop-some (y ∷ ys) zero x e = let same : y ≡ x = cc in rw same
 drop-some (y ∷ ys) (suc i) x e = drop-some ys i x e
 
--- what is left of a list in a walk over it
+-- `drop k xs` is element `k` and then `drop (k + 1) xs`.
 pub drop-get_or : {A : Type 0} (xs : List A) (k : ℕ) (x : A) → k < length xs → x ≡ get_or xs k x → drop k xs ≡ x ∷ drop (k + 1) xs
 drop-get_or xs k x below is = drop_more xs k x below ∙ ap (λ y. y ∷ drop (k + 1) xs) (sym is)
 
@@ -79,12 +79,12 @@ pub map-or : {A B : Type 0} (f : A → B) (o : Option A) (d : B) → option_map_
 map-or f None d = refl
 map-or f (Some x) d = refl
 
--- where an answer has a fact, it has what follows from it
+-- If a result satisfies `P`, and `P` implies `Q`, the result satisfies `Q`.
 pub IfOk-map : {T E : Type 0} (P Q : T → Type 0) (r : Result T E) → ((x : T) → P x → Q x) → IfOk r P → IfOk r Q
 IfOk-map P Q (Ok x) so has = so x has
 IfOk-map P Q (Err e) so has = tt
 
--- what follows from what an answer says
+-- The consequence of a successful result may be weakened.
 pub OnOk-map : {T E A B : Type 0} (result : Result T E) → (A → B) → OnOk result A → OnOk result B
 OnOk-map (Ok value) gives holds = gives holds
 OnOk-map (Err fault) gives holds = tt

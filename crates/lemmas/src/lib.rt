@@ -1,3 +1,3 @@
 #![tactic(auto)]
 
-//! Statements over plain data that the kit's libraries haven't: lemmas alone, which several crates cite.
+//! Lemmas over plain data that the toolchain's libraries don't have and that several crates cite.
