@@ -1,4 +1,4 @@
--- No text is longer than the lines that it is read from.
+-- A text is never longer than the lines that it is read from.
 use Rattle.std.proofs.Common.{◌≡◌, ℕ, ◌+◌, ◌-◌, ◌<◌, ◌≤◌, Bool, true, false, cond, List, [], ◌∷◌, length, take, drop, Some, None, refl, arith, All, length-append}
 use Rattle.std.proofs.lemmas.Grind.{common_steps}
 use Rattle.std.proofs.lemmas.List.Splits.{length-slice_split}
@@ -12,7 +12,7 @@ use Rattle.mkv_io.specs.declared.entry.Entry.{Entry}
 use Rattle.text_formats.specs.Lines.{behind_mark, lines_of}
 use Rattle.text_formats.specs.Srt.{head, before_head, trimmed, onto_lines, text_of, entries, onto_entries}
 
--- the octets of lines, each with an end
+-- the bytes of the lines, with one for each end
 abbrev size : List (List ℕ) → ℕ
 size [] = 0
 size (l ∷ ls) = length l + 1 + size ls
@@ -52,9 +52,9 @@ drop_size : (ls : List (List ℕ)) → size (drop 1 ls) ≤ size ls
 drop_size [] = omega arith
 drop_size (l ∷ ls) = omega arith
 
--- ---- the lines of octets
+-- ---- the lines of a file
 
--- what LF parts
+-- the parts of `text` between line feeds
 abbrev lines_in : List ℕ → List (List ℕ)
 lines_in text = slice_split (λ b. b == 10) text
 
@@ -127,6 +127,6 @@ each : (n : ℕ) (es : List Entry) → AreNoLonger n es → All (λ (e : Entry).
 each n [] all = All-nil (λ (e : Entry). length e.text ≤ n)
 each n (e ∷ es) all = All-cons (λ (f : Entry). length f.text ≤ n) e es all.0 (each n es all.1)
 
--- no text of a SubRip file is longer than the file
+-- The text of an entry isn't longer than its SubRip file.
 pub texts_short : (content : List ℕ) → All (λ (e : Entry). length e.text ≤ length content) (entries (lines_of content))
 texts_short content = each (length content) (entries (lines_of content)) (entries_short (lines_of content) (length content) (lines_size content))

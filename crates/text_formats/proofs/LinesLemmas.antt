@@ -1,4 +1,4 @@
--- Lines, taken off one by one.
+-- Lines taken off one by one.
 use Rattle.std.proofs.Common.{◌≡◌, ℕ, ◌+◌, ◌<◌, Bool, true, false, cond, nat_lt, List, [], ◌∷◌, length, take, drop, Some, None, refl, arith}
 use Rattle.std.proofs.lemmas.Grind.{common_steps}
 use Rattle.std.proofs.lemmas.Bool.Decides.{nat_tests}
@@ -27,7 +27,7 @@ first_cases w i true is e =
     rw same at h
 first_cases w i false is e = cc
 
--- where a line feed stands, the first line stands before it
+-- The first line ends at the first line feed.
 pub lines_first : (w : List ℕ) (i : ℕ) → position is_lf w ≡ Some i → lines w ≡ strip_carriage_return (take i w) ∷ lines (drop (i + 1) w)
 lines_first w i e = first_cases w i (nat_lt (position_or_len is_lf w) (length w)) refl e
 
@@ -53,7 +53,7 @@ last_cases : (w : List ℕ) (b : Bool) → nat_lt (position_or_len is_lf w) (len
 last_cases w true is e some = cc
 last_cases w false is e some = rw (split_none is_lf w is) (last_part w some)
 
--- a last line that no line feed ends
+-- Text without a line feed is one line.
 pub lines_last : (w : List ℕ) → position is_lf w ≡ None → 0 < length w → lines w ≡ w ∷ []
 lines_last w e some = last_cases w (nat_lt (position_or_len is_lf w) (length w)) refl e some
 

@@ -1,4 +1,4 @@
--- Pairs, one line at a time.
+-- Pairs read one line at a time.
 use Rattle.std.proofs.Common.{◌≡◌, ◌==◌, ℕ, ◌+◌, ◌<◌, false, not, List, [], ◌∷◌, ◌++◌, length, map, filter, Option, Some, None, Result, Ok, Err, refl, sym, arith, append_assoc}
 use Rattle.std.proofs.lemmas.Bool.Decides.{nat_tests}
 use Rattle.std.specs.List.{enumerate_from}
@@ -41,7 +41,7 @@ pub second_good : (l : List ℕ) (ls : List (List ℕ)) (n : ℕ) (due : Timed) 
     → pairs (l ∷ ls) n (Some due) ≡ onto_chapters (chapter due.start name) (pairs ls (n + 1) None)
 second_good l ls n due name some is = let e = second_is l ls n due some in rw is at e
 
--- a chapter more in front is one more behind those that were read
+-- A chapter put before the rest is a chapter appended to those that were read.
 pub in_front_of_more : (xs : List Chapter) (c : Chapter) (rest : Result (List Chapter) ℕ) → in_front_of xs (onto_chapters c rest) ≡ in_front_of (xs ++ c ∷ []) rest
 in_front_of_more xs c (Ok ys) = let e = append_assoc xs (c ∷ []) ys in cc
 in_front_of_more xs c (Err n) = refl
@@ -66,7 +66,7 @@ pairs_missing n due = refl
 in_front_of_bad : (xs : List Chapter) (rest whole : Result (List Chapter) ℕ) (n : ℕ) → in_front_of xs rest ≡ whole → rest ≡ Err n → whole ≡ Err n
 in_front_of_bad xs rest whole n is bad = let e = rw bad at is in sym e
 
--- a line that is bad behind the chapters that were read is bad
+-- A line that is bad after the chapters that were read is bad in the file.
 pub bad_whole : (end : TextEnd) (xs : List Chapter) (rest whole : Result (List Chapter) ℕ) → in_front_of xs rest ≡ whole
     → Reads {A = List Chapter} (Err end) rest → Reads {A = List Chapter} (Err end) whole
 bad_whole (text_end.Bad n) xs rest whole is bad = in_front_of_bad xs rest whole n is bad
@@ -74,7 +74,7 @@ bad_whole text_end.Memory xs rest whole is bad = tt
 
 -- ---- two by two
 
--- the lines that aren't empty, of which the first of all has this number, and the line of the number that comes last
+-- the lines that aren't empty, numbered from `n`, and the line `end`, which comes last
 abbrev filled_from : ℕ → List (List ℕ) → List Line
 filled_from n ls = filter (λ (l : Line). not (length l.words == 0)) (map (λ (p : ℕ × List ℕ). numbered p.0 p.1) (enumerate_from n ls))
 
@@ -89,7 +89,7 @@ onto_is : (c : Chapter) (rest : Result (List Chapter) ℕ) → onto_chapters c r
 onto_is c (Ok cs) = refl
 onto_is c (Err n) = refl
 
--- the walk comes to the chapters of these lines two by two, and where a first line was read, of it and them
+-- Reading `ls` line by line gives the chapters of its pairs, both at a first line and when a second line is due.
 abbrev Walks : ℕ → ℕ → List (List ℕ) → Type 0
 Walks end n ls =
     (pairs ls n None ≡ chapters_of (two_by_two (lines_to end n ls)))
@@ -126,7 +126,7 @@ walks end n [] last = (refl, λ a t first. missing n end a t first (omega arith)
 walks end n ([] ∷ ls) last = walks end (n + 1) ls (omega arith)
 walks end n ((b ∷ bs) ∷ ls) last = walks_line end n b bs ls (walks end (n + 1) ls (omega arith))
 
--- The walk finds the chapters of a file, or its first bad line.
+-- The reading line by line finds the chapters of a file, or its first bad line.
 pub simple_is : (content : List ℕ) → simple content ≡ pairs (lines_of content) 1 None
 unfolding simple
 simple_is content = sym (walks (length (lines_of content) + 1) 1 (lines_of content) (omega arith)).0

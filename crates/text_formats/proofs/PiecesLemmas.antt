@@ -1,4 +1,4 @@
--- Pieces that are written one after the other.
+-- Pieces written in sequence.
 use Rattle.std.proofs.Common.{◌≡◌, ℕ, ◌++◌, append_assoc}
 
 pub ruleset joins = (append_assoc)

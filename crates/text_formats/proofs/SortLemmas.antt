@@ -1,4 +1,4 @@
--- A list that is sorted stably is sorted in one way.
+-- A list can be sorted stably in only one way.
 use Rattle.std.proofs.Common.{◌≡◌, ℕ, suc, ◌<◌, ◌≤◌, Bool, true, false, not, ◌&&◌, cond, nat_lt, List, [], ◌∷◌, length, get_or, refl, sym, subst, arith, le_refl, inl, inr}
 use Rattle.std.proofs.lemmas.Bool.Decides.{nat_tests}
 use Rattle.std.proofs.lemmas.Bool.{cases_lt}
@@ -8,7 +8,7 @@ use Rattle.std.specs.List.Sorted.{ties, IsStableByKey, IsNonDecreasingBy}
 use Rattle.std.specs.Ordering.{is_lt, nat_cmp}
 use Rattle.mkv_io.specs.Sorted.{insert_by, sorted_by}
 
--- each key is at least that
+-- Each key in the list is at least `k`.
 abbrev pub Above : {X : Type 0} → (X → ℕ) → ℕ → List X → Type 0
 Above key k [] = Unit {0}
 Above key k (y ∷ ys) = (k ≤ key y) × Above key k ys
@@ -50,7 +50,7 @@ tie_is : (a b : ℕ) → tie_of a b ≡ (a == b)
 tie_is a b = elim (cases_lt a b) [ inl h ↦ below_nat a b h | inr h ↦ elim (cases_lt b a) [ inl g ↦ above_nat a b g | inr g ↦ same_nat a b (omega arith) ] ]
 
 module _ {X : Type 0} (key : X → ℕ) where
-  -- those with this key
+  -- the elements with key `k`
   abbrev with_key : ℕ → List X → List X
   with_key k [] = []
   with_key k (y ∷ ys) = cond (k == key y) (y ∷ with_key k ys) (with_key k ys)
@@ -61,7 +61,7 @@ module _ {X : Type 0} (key : X → ℕ) where
       let no_tie : (j == key y) ≡ false = grind (arith, nat_tests, above.0) in
       rw no_tie (with_none j k ys less above.1)
 
-  -- ---- inserting keeps those with each key
+  -- ---- inserting keeps the elements of each key
   insert_cases : (x y : X) (ys : List X) (j : ℕ) (b t u : Bool) → nat_lt (key y) (key x) ≡ b → (j == key x) ≡ t → (j == key y) ≡ u →
       with_key j (insert_by key x ys) ≡ with_key j (x ∷ ys) → with_key j (insert_by key x (y ∷ ys)) ≡ with_key j (x ∷ y ∷ ys)
   insert_cases x y ys j false t u e f g rest = rw e refl
@@ -84,7 +84,7 @@ module _ {X : Type 0} (key : X → ℕ) where
       let b = more_with x (sorted_by key xs) xs j (sorted_with xs j) in
       cc (a, b)
 
-  -- ---- and the order
+  -- ---- inserting keeps the order
   insert_above_cases : (k : ℕ) (x y : X) (ys : List X) (b : Bool) → nat_lt (key y) (key x) ≡ b → k ≤ key x → Above key k (y ∷ ys) →
       Above key k (insert_by key x ys) → Above key k (insert_by key x (y ∷ ys))
   insert_above_cases k x y ys true e le above rest = rw e (above.0, rest)
@@ -115,7 +115,7 @@ module _ {X : Type 0} (key : X → ℕ) where
   sorted_ascends [] = tt
   sorted_ascends (x ∷ xs) = insert_ascends x (sorted_by key xs) (sorted_ascends xs)
 
-  -- ---- there is one such list
+  -- ---- only one such list exists
   self : (y : X) (ys : List X) → with_key (key y) (y ∷ ys) ≡ y ∷ with_key (key y) ys
   self y ys = let e : (key y == key y) ≡ true = grind (arith, nat_tests) in rw e refl
 
@@ -152,7 +152,7 @@ module _ {X : Type 0} (key : X → ℕ) where
         ]
       ]
 
-  -- ---- what a sort ensures
+  -- ---- sorting
   filter_with : (x : X) (ys : List X) → filter (is_tie key x) ys ≡ with_key (key x) ys
   filter_with x [] = refl
   filter_with x (y ∷ ys) = rw (tie_is (key x) (key y), filter_with x ys) refl
@@ -168,7 +168,7 @@ module _ {X : Type 0} (key : X → ℕ) where
     ascends_index ys (λ i j d le less. h (suc i) (suc j) d (omega arith) (omega arith)),
   )
 
-  -- what is sorted stably is the sorted list
+  -- A list that is sorted stably is the sorted list.
   pub stable_sorted : ((j : ℕ) → (x : X) × (key x ≡ j)) → (xs ys : List X) → IsStableByKey key nat_cmp xs ys → IsNonDecreasingBy key ys → ys ≡ sorted_by key xs
   stable_sorted at xs ys stable rises =
       same_lists ys (sorted_by key xs) (ascends_index ys rises) (sorted_ascends xs)

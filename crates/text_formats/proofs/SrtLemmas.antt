@@ -36,7 +36,7 @@ second_cases : (t : List ℕ) (ls : List (List ℕ)) (x : Times) (b : Bool) → 
 second_cases t ls x true is e = let no = number_no_times t is in cc
 second_cases t ls x false is e = head_other t ls is
 
--- a head's second line begins none
+-- The second line of a head doesn't begin a head.
 pub head_second : (t : List ℕ) (ls : List (List ℕ)) (x : Times) → times t ≡ Some x → head (t ∷ ls) ≡ None
 head_second t ls x e = second_cases t ls x (is_number t) refl e
 
@@ -70,7 +70,7 @@ unfolding bad_from
 bad_here p n l ls bad = rw bad refl
 
 -- ---- texts
--- what these lines add to a text, so many line feeds being due
+-- the bytes that the lines add to a text, after `k` line feeds that are due
 abbrev pub adds : ℕ → List (List ℕ) → List ℕ
 adds k [] = []
 adds k ([] ∷ ls) = adds (k + 1) ls
@@ -102,7 +102,7 @@ from_none : (ts : List (List ℕ)) → joined_from 0 ts ≡ join_with_byte 10 ts
 from_none [] = refl
 from_none (t ∷ ts) = refl
 
--- read from the start on, with no line feed due, they add the text
+-- All lines of an entry together add its text.
 pub adds_text : (ls : List (List ℕ)) → adds 0 ls ≡ text_of ls
 adds_text ls = rw (adds_joined 0 ls) (from_none (trimmed ls))
 
@@ -135,7 +135,7 @@ pub bad_end : (p : Place) (n : ℕ) → bad_from p n [] ≡ None
 unfolding bad_from
 bad_end p n = refl
 
--- ---- what a line may be
+-- ---- allowed lines
 or_more : (u a x : Bool) → (u || a) ≡ true → (u || (a || x)) ≡ true
 or_more true a x e = refl
 or_more false true x e = refl
@@ -190,7 +190,7 @@ second_good n t ls x e text right =
     let is : nat_lt x.end x.start ≡ false = grind (arith, nat_tests) in
     bad_other (Second x) n t ls (head_second t ls x e) (both_good (is_utf8 t) (nat_lt x.end x.start) text is)
 
--- ---- what is left
+-- ---- the rest of the file
 pub left_less : (n : ℕ) (from : List ℕ) (o : Option Head) → IsWithin n from o → left o ≤ length from
 left_less n from None within = omega arith
 left_less n from (Some h) within = let less = within.1 in omega arith

@@ -1,4 +1,4 @@
--- Lines that have no times.
+-- Lines without times.
 use Rattle.std.proofs.Common.{◌≡◌, ℕ, ◌+◌, ◌<◌, Bool, true, false, ◌&&◌, cond, nat_lt, nat_le, List, [], ◌∷◌, length, take, drop, Option, Some, None, refl, arith}
 use Rattle.std.proofs.lemmas.Grind.{common_steps}
 use Rattle.std.proofs.lemmas.Bool.Decides.{nat_tests}
@@ -13,7 +13,7 @@ none_behind : (o : Option ℕ) (f : ℕ → Option ℕ) → ((n : ℕ) → f n �
 none_behind None f none = refl
 none_behind (Some n) f none = none n
 
--- three digits don't fit
+-- Three digits don't fit.
 digits_short : (word : List ℕ) → length word < 3 → digits 3 3 word ≡ None
 unfolding digits
 digits_short word short = let a : nat_le 3 (length word) ≡ false = grind (arith, nat_tests) in rw a refl
@@ -70,7 +70,7 @@ parts_true true true c e = e
 parts_true true false c e = absurd (cc)
 parts_true false b c e = absurd (cc)
 
--- a number line is no time line
+-- A number line isn't a time line.
 pub number_no_times : (line : List ℕ) → is_number line ≡ true → times line ≡ None
 unfolding is_number
 number_no_times line is =

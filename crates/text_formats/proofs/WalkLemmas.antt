@@ -10,7 +10,7 @@ use Rattle.text_formats.specs.declared.times.Times.{Times}
 use Rattle.text_formats.specs.Srt.{head, before_head, has_arrow, line_at, is_bad, first_bad}
 use Rattle.text_formats.specs.Walk.{Place, Front, Second, Behind, next, is_bad_at, bad_from}
 
--- ---- what is found among numbers in a row
+-- ---- search in consecutive numbers
 
 find_same : (f g : ℕ → Bool) (ks : List ℕ) → ((k : ℕ) → f k ≡ g k) → find f ks ≡ find g ks
 find_same f g [] same = refl
@@ -29,15 +29,15 @@ moved : (n : ℕ) (o : Option ℕ) → option_map (λ k. k + n) (option_map suc 
 moved n None = refl
 moved n (Some k) = let same : suc k + n ≡ k + (n + 1) = omega arith in ap Some same
 
--- ---- lines of which the first stands at a place
+-- ---- lines that start at a given place
 
--- no head begins before them
+-- The place is before the first head.
 abbrev is_early : Place → Bool
 is_early Front = true
 is_early (Second t) = false
 is_early Behind = false
 
--- the head whose second line is the first of them
+-- the times of the head whose second line is at this place
 abbrev head_before : Place → Option Times
 head_before Front = None
 head_before (Second t) = Some t
@@ -47,12 +47,12 @@ abbrev times_in : Option Times → List (List ℕ) → ℕ → Option Times
 times_in before ls zero = before
 times_in before ls (suc k) = head (drop k ls)
 
--- a line is bad, where it stands before the first head or doesn't, and is the second of this head
+-- Line `l` is bad. `stands` holds if it is before the first head; `before` is the head that it completes, if any.
 abbrev judged : Bool → Option Times → List ℕ → Bool
 judged stands before l =
     not (is_utf8 l) || (stands && not (length l == 0)) || option_map_or (λ (t : Times). nat_lt t.end t.start) before false || (is_none before && has_arrow l)
 
--- line k of them stands before the first head
+-- Line `k` of `ls` is before the first head.
 abbrev stands_early : Place → List (List ℕ) → ℕ → Bool
 stands_early p ls k = is_early p && nat_lt k (length (before_head ls))
 
@@ -63,7 +63,7 @@ in_front : (ls : List (List ℕ)) (k : ℕ) → is_bad ls k ≡ is_bad_in Front 
 in_front ls zero = refl
 in_front ls (suc k) = refl
 
--- ---- the first of them
+-- ---- the first line
 test_first : (u a e : Bool) → (u || (a || not e)) ≡ (((u || not e) || false) || a)
 test_first true a e = refl
 test_first false true true = refl
@@ -97,7 +97,7 @@ first_here p l ls = split p (head (l ∷ ls))
     split (Second t) h = test_second (not (is_utf8 l)) (nat_lt t.end t.start)
     split Behind h = test_behind (not (is_utf8 l)) (has_arrow l)
 
--- ---- those behind it
+-- ---- the next lines
 less_suc : (k m : ℕ) → nat_lt (suc k) (suc m) ≡ nat_lt k m
 less_suc k m = elim (cases_lt k m) [
   | inl less ↦ (let a : nat_lt (suc k) (suc m) ≡ true = grind (arith, nat_tests) in let b : nat_lt k m ≡ true = grind (arith, nat_tests) in cc)
@@ -129,7 +129,7 @@ times_next p l ls (suc k) = refl
 next_bad : (p : Place) (l : List ℕ) (ls : List (List ℕ)) (k : ℕ) → is_bad_in p (l ∷ ls) (suc k) ≡ is_bad_in (next p (head (l ∷ ls))) ls k
 next_bad p l ls k = ap₂ (λ (stands : Bool) (before : Option Times). judged stands before (line_at ls k)) (stands_next p l ls k) (times_next p l ls k)
 
--- so the walk from a place on finds the first that is bad
+-- The walk from place `p` finds the first bad line.
 found : (p : Place) (n : ℕ) (ls : List (List ℕ)) → option_map (λ k. k + n) (find (is_bad_in p ls) (range_with_len 0 (length ls))) ≡ bad_from p n ls
 unfolding bad_from
 found p n [] = refl
@@ -145,7 +145,7 @@ found p n (l ∷ ls) =
     split true some any rest = ap Some (omega arith)
     split false some any rest = rest
 
--- The walk from the front on finds the first bad line.
+-- The walk from the start finds the first bad line.
 pub bad_is : (ls : List (List ℕ)) → first_bad ls ≡ bad_from Front 1 ls
 unfolding first_bad
 bad_is ls = ap (option_map (λ (k : ℕ). k + 1)) (find_same (is_bad ls) (is_bad_in Front ls) (range_with_len 0 (length ls)) (in_front ls)) ∙ found Front 1 ls

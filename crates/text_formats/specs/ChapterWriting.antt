@@ -1,4 +1,4 @@
--- How simple chapters are written, in this project's grammar.
+-- Form in which simple chapters are written, in this project's grammar.
 use Rattle.std.specs.Prelude.{ℕ, ◌/◌, List, [], ◌∷◌, ◌++◌, codes}
 use Rattle.mkv_io.specs.Characters.{EQUALS, LINE_FEED, POINT}
 use Rattle.text_formats.specs.declared.pieces.Piece.{Piece}
@@ -8,7 +8,7 @@ use Rattle.text_formats.specs.Pieces.{two_or_more, stamp}
 abbrev pub time : ℕ → Piece
 time ms = Time POINT ms
 
--- the two lines of a chapter: its number and its time, in whole milliseconds, and its number and its name
+-- the two lines of chapter `number`: one with its time in whole milliseconds, and one with its name
 unfoldable pub put_pair : ℕ → ℕ → List ℕ → List ℕ
 put_pair number start name =
     codes "CHAPTER" ++ (two_or_more number ++ (EQUALS ∷ (stamp POINT (start / 1000000) ++ (LINE_FEED ∷

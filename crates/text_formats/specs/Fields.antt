@@ -6,11 +6,11 @@ use Rattle.std.specs.Char.{is_ascii_digit}
 use Rattle.std.specs.Str.Parse.{digits_value}
 use Rattle.mkv_io.specs.Optional.{◌>>=◌}
 
--- what stands behind a text, where it is in front
+-- the part of `word` after the prefix `front`, if it has this prefix
 abbrev pub behind : List ℕ → List ℕ → Option (List ℕ)
 behind front word = if bytes_eq (take (length front) word) front then Some (drop (length front) word) else None
 
--- a number of so many decimal digits
+-- the value of `word` if it consists of `least` to `most` decimal digits
 unfoldable pub digits : ℕ → ℕ → List ℕ → Option ℕ
 digits least most word =
     if nat_le least (length word) && nat_le (length word) most && list_all is_ascii_digit word

@@ -22,7 +22,7 @@ time_of word = do
   thousandths ← digits 3 3 s.1
   Some (((hours * 60 + minutes) * 60000 + (seconds * 1000 + thousandths)) * 1000000)
 
--- what the first line of a pair says: the digits of its number, and its time
+-- content of the first line of a pair: the digits of its number, and its time in nanoseconds
 pub record Timed : Type 0 where
   pub number : List ℕ
   pub start : ℕ
@@ -36,7 +36,7 @@ first_line line = do
   t ← time_of p.1
   Some (record { number = p.0; start = t })
 
--- `CHAPTERnnNAME=` and the name, a text, where nn is the digits of the line before
+-- the name in a line `CHAPTERnnNAME=` and the name, if nn is `number` and the name is UTF-8
 unfoldable pub second_line : List ℕ → List ℕ → Option (List ℕ)
 second_line number line = do
   rest ← behind (codes "CHAPTER") line
@@ -50,15 +50,15 @@ chapter start name = record { start = start; name = name }
 
 -- ---- the lines of a file
 
--- those that aren't empty
+-- the lines that aren't empty
 abbrev pub filled : List (List ℕ) → List Line
 filled ls = filter (λ (l : Line). not (length l.words == 0)) (all_lines ls)
 
--- and the line behind the last, where a name that is missing is told
+-- the lines that aren't empty, and the line after the last, which reports a name that is missing
 abbrev pub with_end : List (List ℕ) → List Line
 with_end ls = filled ls ++ numbered (length ls + 1) [] ∷ []
 
--- two by two; one that is left over is left out
+-- the elements in pairs; a last one without a partner is left out
 abbrev pub two_by_two : {X : Type 0} → List X → List (X × X)
 two_by_two [] = []
 two_by_two (x ∷ []) = []
@@ -66,13 +66,13 @@ two_by_two (x ∷ y ∷ xs) = (x, y) ∷ two_by_two xs
 
 -- ---- chapters
 
--- the chapter of two lines, or the number of the first that isn't what it has to be
+-- the chapter of the lines `a` and `b`, or the number of the first one that isn't as it must be
 abbrev pub chapter_of : Line → Line → Result Chapter ℕ
 chapter_of a b =
     and_then (ok_or (first_line a.words) a.number) (λ first.
     and_then (ok_or (second_line first.number b.words) b.number) (λ name. Ok (chapter first.start name)))
 
--- the chapters of all pairs, or the first refusal
+-- the chapters of all pairs, or the first error
 abbrev pub chapters_of : List (Line × Line) → Result (List Chapter) ℕ
 chapters_of [] = Ok []
 chapters_of (p ∷ ps) = and_then (chapter_of p.0 p.1) (λ c. and_then (chapters_of ps) (λ cs. Ok (c ∷ cs)))

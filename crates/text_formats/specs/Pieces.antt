@@ -1,4 +1,4 @@
--- Octets, numbers and times as they are written, in this project's grammar.
+-- Form in which bytes, numbers and times are written, in this project's grammar.
 use Rattle.std.specs.Prelude.{ℕ, ◌+◌, ◌/◌, ◌%◌, nat_lt, if◌then◌else◌, List, [], ◌∷◌, ◌++◌}
 use Rattle.std.specs.Fmt.{decimal}
 use Rattle.mkv_io.specs.Characters.{COLON, DIGIT_0}
@@ -15,7 +15,7 @@ two_digits n = digit (n / 10) ∷ digit n ∷ []
 abbrev pub three_digits : ℕ → List ℕ
 three_digits n = digit (n / 100) ∷ digit (n / 10) ∷ digit n ∷ []
 
--- at least two digits
+-- `n` in at least two decimal digits
 abbrev pub two_or_more : ℕ → List ℕ
 two_or_more n = if nat_lt n 100 then two_digits n else decimal n
 
@@ -24,7 +24,7 @@ unfoldable pub stamp : ℕ → ℕ → List ℕ
 stamp point ms =
     two_or_more (ms / 3600000) ++ (COLON ∷ (two_digits (ms / 60000 % 60) ++ (COLON ∷ (two_digits (ms / 1000 % 60) ++ (point ∷ three_digits (ms % 1000))))))
 
--- what a piece is written as
+-- the bytes of a piece
 abbrev pub octets_of : Piece → List ℕ
 octets_of (Octets octets) = octets.now
 octets_of (Number n) = decimal n

@@ -1,4 +1,4 @@
--- What is known while a SubRip file is read.
+-- Facts that hold while a SubRip file is read.
 use Rattle.std.specs.Prelude.{◌≡◌, ◌<◌, ◌≤◌, ⊤, All, ℕ, zero, suc, ◌+◌, List, [], ◌∷◌, length, Option, Some, None, Result, Ok, Err}
 use Rattle.std.specs.Str.Lines.{lines}
 use Rattle.mkv_io.specs.Characters.{LINE_FEED}
@@ -16,41 +16,41 @@ abbrev pub entries_at : Option Head → List Entry
 entries_at None = []
 entries_at (Some h) = entry h.times (before_head (lines h.rest.now)) ∷ entries (lines h.rest.now)
 
--- the first bad line behind a head
+-- the first bad line after a head
 abbrev pub bad_at : Option Head → Option ℕ
 bad_at None = None
 bad_at (Some h) = bad_from Behind (h.number + 1) (lines h.rest.now)
 
--- These lines, whose first bad line is this, have the entries from the head on, and the first bad line behind it.
+-- `ls`, whose first bad line is `bad`, has the entries from head `h` on, and `bad` is the first bad line after `h`.
 abbrev pub GoesOn : Option ℕ → List (List ℕ) → Option Head → Type 0
 GoesOn bad ls h = (entries ls ≡ entries_at h) × (bad ≡ bad_at h)
 
--- The head was read from these octets, before which so many lines stand: what is behind it is shorter, and its
--- times are in order and not too late.
+-- The head was read from `from`, which has `before` lines before it. The bytes after the head are fewer, and its times are in order and before
+-- `latest`.
 abbrev pub IsWithin : ℕ → List ℕ → Option Head → Type 0
 IsWithin before from None = ⊤
 IsWithin before from (Some h) =
     (h.number + length h.rest.now ≤ before + length from) × (length h.rest.now < length from) × (h.times.start ≤ h.times.end) × (h.times.end < latest)
 
--- how many octets are left where a head was read, the end of its lines counted
+-- the count of bytes after a head, with one for the end of its lines
 abbrev pub left : Option Head → ℕ
 left None = 0
 left (Some h) = 1 + length h.rest.now
 
--- An entry ends within 10,000 hours, and its text has at most so many octets.
+-- Entry `e` ends within 10,000 hours, and its text has at most `most` bytes.
 abbrev pub IsEntryWithin : ℕ → Entry → Type 0
 IsEntryWithin most e = (e.start + e.duration < latest) × (length e.text ≤ most)
 
--- At most so many entries, each with at most so many octets of text.
+-- `es` has at most `most` entries, each with at most `most` bytes of text.
 abbrev pub AreWithin : ℕ → List Entry → Type 0
 AreWithin most es = (length es ≤ most) × All (IsEntryWithin most) es
 
--- so many line feeds
+-- `n` line feeds
 abbrev pub breaks : ℕ → List ℕ
 breaks zero = []
 breaks (suc n) = LINE_FEED ∷ breaks n
 
--- what is known of a line, of those behind it, and of the head that may begin with it
+-- The result of reading line `l`, which is followed by `ls`, is the head that begins with `l`, if one does, or an error in its second line.
 abbrev pub HeadRead : List ℕ → List (List ℕ) → ℕ → Result (Option Head) TextEnd → Type 0
 HeadRead l ls n (Ok None) = head (l ∷ ls) ≡ None
 HeadRead l ls n (Ok (Some h)) =

@@ -10,7 +10,7 @@ use Rattle.text_formats.specs.Lines.{lines_of}
 use Rattle.text_formats.specs.Times.{times, is_number}
 use Rattle.mkv_io.specs.Sorted.{sorted_by}
 
--- the times of the head that begins these lines: a number line with a time line after it
+-- the times of the head that begins these lines: a number line followed by a time line
 unfoldable pub head : List (List ℕ) → Option Times
 head [] = None
 head (n ∷ []) = None
@@ -21,7 +21,7 @@ unfoldable pub before_head : List (List ℕ) → List (List ℕ)
 before_head [] = []
 before_head (l ∷ ls) = if is_some (head (l ∷ ls)) then [] else l ∷ before_head ls
 
--- a line in front; an empty one isn't the last
+-- `l` before the other lines; an empty line isn't added as the last
 abbrev pub onto_lines : List ℕ → List (List ℕ) → List (List ℕ)
 onto_lines [] [] = []
 onto_lines (b ∷ bs) [] = (b ∷ bs) ∷ []
@@ -36,7 +36,7 @@ trimmed (l ∷ ls) = onto_lines l (trimmed ls)
 abbrev pub text_of : List (List ℕ) → List ℕ
 text_of ls = join_with_byte LINE_FEED (trimmed ls)
 
--- the entry of a head
+-- the entry with times `t` and text lines `ls`
 abbrev pub entry : Times → List (List ℕ) → Entry
 entry t ls = record { start = t.start; duration = t.end - t.start; text = text_of ls }
 
@@ -65,19 +65,19 @@ abbrev pub times_at : List (List ℕ) → ℕ → Option Times
 times_at ls zero = None
 times_at ls (suc k) = head (drop k ls)
 
--- Line k stands before the first head, as each does where there is none, and isn't empty.
+-- Line `k` isn't empty and is before the first head; without a head, each line is.
 abbrev pub is_stray : List (List ℕ) → ℕ → Bool
 is_stray ls k = nat_lt k (length (before_head ls)) && not (length (line_at ls k) == 0)
 
--- Line k is the second of a head, whose end is before its start.
+-- Line `k` is the second line of a head whose end is before its start.
 abbrev pub is_backward : List (List ℕ) → ℕ → Bool
 is_backward ls k = option_map_or (λ (t : Times). nat_lt t.end t.start) (times_at ls k) false
 
--- Line k has `-->`, and is no head's second.
+-- Line `k` has `-->` and isn't the second line of a head.
 abbrev pub has_stray_arrow : List (List ℕ) → ℕ → Bool
 has_stray_arrow ls k = is_none (times_at ls k) && has_arrow (line_at ls k)
 
--- Line k is bad: it isn't UTF-8, or can't stand there.
+-- Line `k` is bad: it isn't UTF-8 or isn't allowed at its place.
 abbrev pub is_bad : List (List ℕ) → ℕ → Bool
 is_bad ls k = not (is_utf8 (line_at ls k)) || is_stray ls k || is_backward ls k || has_stray_arrow ls k
 

@@ -1,39 +1,38 @@
--- How a reader finds the first bad line of SubRip, line by line. No verdict stands on this but by the law that it is
--- `Srt.first_bad`, `bad_is` of proofs/WalkLemmas.
+-- Search for the first bad line of SubRip, line by line, as the reader does it. It equals `Srt.first_bad`, by `bad_is` of proofs/WalkLemmas.
 use Rattle.std.specs.Prelude.{ℕ, ◌+◌, Bool, not, ◌||◌, ◌==◌, nat_lt, if◌then◌else◌, List, [], ◌∷◌, length, Option, Some, None, ◌≡◌, false}
 use Rattle.std.specs.Option.{is_some}
 use Rattle.std.specs.Str.{is_utf8}
 use Rattle.text_formats.specs.declared.times.Times.{Times}
 use Rattle.text_formats.specs.Srt.{head, has_arrow}
 
--- where a line stands: before the first head, as the second line of one, or behind it
+-- place of a line: before the first head, as the second line of a head, or after one
 pub data Place : Type 0 where
   Front : Place
   Second : Times → Place
   Behind : Place
 
--- where the next line stands
+-- the place of the next line
 abbrev pub next : Place → Option Times → Place
 next place (Some t) = Second t
 next Front None = Front
 next (Second t) None = Behind
 next Behind None = Behind
 
--- the line can't stand there
+-- A line isn't allowed at its place.
 abbrev pub is_misplaced : Place → Bool → List ℕ → Bool
 is_misplaced Front begins l = has_arrow l || not (begins || length l == 0)
 is_misplaced (Second t) begins l = nat_lt t.end t.start
 is_misplaced Behind begins l = has_arrow l
 
--- it isn't UTF-8, or can't stand there
+-- The line isn't UTF-8 or isn't allowed at its place.
 abbrev pub is_bad_at : Place → Bool → List ℕ → Bool
 is_bad_at place begins l = not (is_utf8 l) || is_misplaced place begins l
 
--- The line may stand behind a head, and this is it as text.
+-- `line` is allowed after a head, and `text` is its text.
 abbrev pub IsTextLine : List ℕ → List ℕ → Type 0
 IsTextLine line text = (is_bad_at Behind false line ≡ false) × (text ≡ line)
 
--- the number of the first bad line, where the first of these lines has this number
+-- the number of the first bad line; the first line has number `n`
 unfoldable pub bad_from : Place → ℕ → List (List ℕ) → Option ℕ
 bad_from place n [] = None
 bad_from place n (l ∷ ls) =

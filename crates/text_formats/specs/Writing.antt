@@ -1,4 +1,4 @@
--- How an entry of SubRip is written, in this project's grammar.
+-- Form in which an entry of SubRip is written, in this project's grammar.
 use Rattle.std.specs.Prelude.{ℕ, ℤ, pos, negsuc, ◌+ℤ◌, ◌/◌, List, [], ◌∷◌, ◌++◌, codes}
 use Rattle.std.specs.Fmt.{decimal}
 use Rattle.mkv_io.specs.Characters.{COMMA, LINE_FEED}
@@ -6,7 +6,7 @@ use Rattle.text_formats.specs.declared.pieces.Piece.{Piece}
 use Rattle.text_formats.specs.declared.pieces.Piece.TheVariants.{Time}
 use Rattle.text_formats.specs.Pieces.{stamp}
 
--- whole milliseconds of a time in nanoseconds; one before 0 is 0
+-- a time in nanoseconds as whole milliseconds, and 0 for a time before 0
 abbrev pub milliseconds : ℤ → ℕ
 milliseconds (pos t) = t / 1000000
 milliseconds (negsuc t) = 0
@@ -14,7 +14,7 @@ milliseconds (negsuc t) = 0
 abbrev pub time : ℕ → Piece
 time ms = Time COMMA ms
 
--- the times of an entry's start and of its end
+-- the line with the start and the end of an entry
 abbrev pub time_line : ℤ → ℕ → List ℕ
 time_line start duration =
     stamp COMMA (milliseconds start) ++ (codes " --> " ++ stamp COMMA (milliseconds (start +ℤ pos duration)))

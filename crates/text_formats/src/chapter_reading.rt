@@ -1,4 +1,4 @@
-//! Simple chapters, read: each line once.
+//! Reader of simple chapters, in this project's grammar. It reads each line once.
 
 ghost use Rattle.std.specs.Prelude.{◌≡◌, ◌<◌, length, IfOk, option_map};
 ghost use Rattle.text_formats.specs.Ends.{Reads};
@@ -13,21 +13,21 @@ use std::alloc::{AllocError, Global};
 
 const MILLISECOND: u64 = 1_000_000;
 
-/// A chapter of a file: where it starts, in nanoseconds, and its name.
+/// Chapter of a file: its start in nanoseconds and its name.
 #[derive(Debug, Drop)]
 pub struct Chapter {
     pub start: u64,
     pub name: Text,
 }
 
-/// The first line of a pair: the digits of its number, and its time in nanoseconds.
+/// First line of a pair: the digits of its number, and its time in nanoseconds.
 #[derive(Clone, Copy)]
 struct FirstLine<'a> {
     number: &'a [u8],
     start: u64,
 }
 
-// `HH:MM:SS.mmm`, in nanoseconds.
+// Reads `word` as `HH:MM:SS.mmm`, in nanoseconds.
 #[tactic(auto, unfolding(crate::specs::Pairs::time_of))]
 fn time_of(word: &[u8]) -> Option<u64>
     ensures { result ≡ spec.time_of word.now }
@@ -42,7 +42,7 @@ fn time_of(word: &[u8]) -> Option<u64>
     Some(((hours * 60 + minutes) * 60_000 + (seconds * 1000 + thousandths)) * MILLISECOND)
 }
 
-// `CHAPTERnn=` and a time.
+// Reads `line` as `CHAPTERnn=` and a time.
 #[tactic(auto, unfolding(crate::specs::Pairs::first_line))]
 fn first_line(line: &[u8]) -> Option<FirstLine<'_>>
     ensures { option_map timed_of result ≡ spec.first_line line.now }
@@ -54,7 +54,7 @@ fn first_line(line: &[u8]) -> Option<FirstLine<'_>>
     Some(FirstLine { number, start })
 }
 
-// `CHAPTERnnNAME=` and a text: the text.
+// Returns the text of a line `CHAPTERnnNAME=`, if `number` is its nn.
 #[tactic(auto, unfolding(crate::specs::Pairs::second_line))]
 fn second_line<'a>(number: &[u8], line: &'a [u8]) -> Option<&'a str>
     ensures { option_map (λ s. s.now) result ≡ spec.second_line number.now line.now }
@@ -64,7 +64,7 @@ fn second_line<'a>(number: &[u8], line: &'a [u8]) -> Option<&'a str>
     text(behind(b"NAME=", rest)?)
 }
 
-// The chapter that starts at this time and has this name.
+// Makes the chapter that starts at `start` and has the name `words`.
 fn named(alloc: Global, start: u64, words: &str) -> Result<Chapter, AllocError>
     ensures { IfOk result (λ chapter. chapter ≡ spec.chapter start words.now) }
 {
@@ -73,7 +73,8 @@ fn named(alloc: Global, start: u64, words: &str) -> Result<Chapter, AllocError>
     Ok(Chapter { start, name })
 }
 
-// What a line that isn't empty gives: the first line of a pair, or a chapter whose first line was due.
+// Reads `line`, which isn't empty: a first line, or, if `due` is a first line, the second line that completes a
+// chapter.
 fn take_line<'a>(
     alloc: Global,
     list: &mut List<Chapter>,
@@ -98,8 +99,8 @@ fn take_line<'a>(
     Ok(None)
 }
 
-/// The chapters of a file of simple chapters, as they stand; or its first bad line: one that is neither empty
-/// nor the line that is due, or, where a name is missing, the line behind the last.
+/// Reads the chapters of a file of simple chapters, in the file's order. It fails with the first bad line: one that
+/// is neither empty nor the line that is due. If the last name is missing, that is the line after the last.
 pub fn read_pairs(alloc: Global, bytes: &[u8]) -> Result<List<Chapter>, TextEnd>
     ensures exact { Reads result (spec.simple bytes.now) }
 {

@@ -1,4 +1,4 @@
-//! Simple chapters, written.
+//! Writer of simple chapters, in this project's grammar.
 
 ghost use Rattle.std.specs.Prelude.{◌≡◌, ◌++◌, OnOk, OnErr};
 ghost use Rattle.text_formats.specs.ChapterWriting as spec;
@@ -7,7 +7,7 @@ use crate::pieces::{Piece, put_pieces};
 use mkv_io::Bytes;
 use std::alloc::AllocError;
 
-/// Adds the two lines of a chapter of this number, which starts at so many nanoseconds. On a refusal nothing is added.
+/// Appends the two lines of chapter `number`, which starts at `start` nanoseconds. On failure nothing is appended.
 #[tactic(auto, using(crate::proofs::ChapterWritingLemmas::pieces), unfolding(crate::specs::ChapterWriting::put_pair))]
 pub fn put_pair(number: u64, start: u64, name: &[u8], out: &mut Bytes) -> Result<(), AllocError>
     ensures ok { OnOk result (out.new ≡ out.old ++ spec.put_pair number start name.now) }

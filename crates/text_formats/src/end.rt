@@ -1,4 +1,4 @@
-//! Why a text file isn't read.
+//! Reasons why a text file isn't read.
 
 ghost use Rattle.std.specs.Prelude.{◌≡◌};
 ghost use Rattle.text_formats.specs.declared.end.TextEnd.TheVariants as text_end;
@@ -6,13 +6,13 @@ ghost use Rattle.text_formats.specs.declared.end.TextEnd.TheVariants as text_end
 use std::alloc::{AllocError, AllocFailed};
 use thiserror::Error;
 
-/// Why a text file isn't read.
+/// Reason why a text file isn't read.
 #[derive(Clone, Copy, Debug, PartialEq, Eq, Error)]
 pub enum TextEnd {
-    /// This line, counted from 1, is the first that breaks the file's grammar.
+    /// Number of the first line that breaks the file's grammar, counted from 1.
     #[error("bad line {line}")]
     Bad { line: u64 },
-    /// There is no memory.
+    /// Out of memory.
     #[error("Memory")]
     Memory,
 }

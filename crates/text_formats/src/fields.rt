@@ -1,4 +1,4 @@
-//! The fields of a line.
+//! Readers of the fields of a line.
 
 ghost use Rattle.std.specs.Prelude.{◌≡◌, ◌<◌, ◌≤◌, ◌^◌, true, false, IfSome, MatchOption, option_map};
 ghost use Rattle.std.specs.Str.{is_utf8};
@@ -8,7 +8,7 @@ ghost use Rattle.text_formats.specs.Fields as spec;
 use crate::lines::place_of;
 use std::str;
 
-/// What stands before and behind the first such octet.
+/// Splits `word` at the first byte that is `octet`; returns the parts before and after it.
 #[tactic(auto, unfolding(mkv_io::specs::Octets::cut))]
 pub fn cut(word: &[u8], octet: u8) -> Option<(&[u8], &[u8])>
     ensures { option_map (λ p. (p.0.now, p.1.now)) result ≡ octets.cut octet word.now }
@@ -17,14 +17,14 @@ pub fn cut(word: &[u8], octet: u8) -> Option<(&[u8], &[u8])>
     Some((&word[..at], &word[at + 1..]))
 }
 
-/// What stands behind these octets, where they are in front.
+/// Returns `word` without the prefix `front`, if it has this prefix.
 pub fn behind<'a>(front: &[u8], word: &'a [u8]) -> Option<&'a [u8]>
     ensures { option_map (λ p. p.now) result ≡ spec.behind front.now word.now }
 {
     word.strip_prefix(front)
 }
 
-/// The number that these decimal digits write, where there are so many of them.
+/// Returns the value of `word` if it consists of `least` to `most` decimal digits.
 #[tactic(auto, unfolding(crate::specs::Fields::digits))]
 pub fn digits(least: usize, most: usize, word: &[u8]) -> Option<u64>
     requires { most ≤ 18 }
@@ -44,7 +44,7 @@ pub fn digits(least: usize, most: usize, word: &[u8]) -> Option<u64>
     Some(value)
 }
 
-/// Minutes or seconds: two digits, below 60.
+/// Reads minutes or seconds: two digits, below 60.
 #[tactic(auto, unfolding(crate::specs::Fields::minutes_or_seconds))]
 pub fn minutes_or_seconds(word: &[u8]) -> Option<u64>
     ensures same { result ≡ spec.minutes_or_seconds word.now }
@@ -54,7 +54,7 @@ pub fn minutes_or_seconds(word: &[u8]) -> Option<u64>
     if value < 60 { Some(value) } else { None }
 }
 
-/// The octets as text, where they are UTF-8.
+/// Returns `octets` as text, if they are UTF-8.
 #[tactic(auto, using(crate::proofs::FieldsLemmas::texts))]
 pub fn text(octets: &[u8]) -> Option<&str>
     ensures { MatchOption result (is_utf8 octets.now ≡ false) (λ s. (is_utf8 octets.now ≡ true) × (s.now ≡ octets.now)) }

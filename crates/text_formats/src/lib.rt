@@ -1,7 +1,7 @@
 #![tactic(auto)]
 
-//! Texts, read and written: the lines and fields that text files are made of, SubRip, with the number, the times and the
-//! text of each entry, and simple chapters, with two lines for each.
+//! Readers and writers of text files: their lines and fields, SubRip, and simple chapters. An entry of SubRip has a
+//! number, its times and its text; a simple chapter has two lines.
 
 mod chapter_reading;
 mod chapter_writing;

@@ -1,14 +1,14 @@
-//! The lines of a text file, one after the other.
+//! Lines of a text file.
 
 ghost use Rattle.std.specs.Prelude.{◌≡◌, ◌<◌, ◌==◌, [], ◌∷◌, length, MatchOption};
 ghost use Rattle.std.specs.Str.Lines.{lines, strip_carriage_return};
 ghost use Rattle.std.specs.List.{position};
 ghost use Rattle.text_formats.specs.Lines as spec;
 
-/// The octets of UTF-8's mark, which a file may begin with.
+/// Byte order mark of UTF-8, which a file may begin with.
 const MARK: [u8; 3] = [0xEF, 0xBB, 0xBF];
 
-/// What stands behind UTF-8's mark, where a file begins with it; else all of it.
+/// Returns `content` without the byte order mark of UTF-8, if it begins with one.
 pub fn behind_mark(content: &[u8]) -> &[u8]
     ensures { result.now ≡ spec.behind_mark content.now }
 {
@@ -19,7 +19,7 @@ pub fn behind_mark(content: &[u8]) -> &[u8]
     }
 }
 
-/// The first line without its end, and what stands behind it.
+/// Returns the first line of `rest` without its end, and the bytes after it.
 pub fn next_line(rest: &[u8]) -> Option<(&[u8], &[u8])>
     ensures first { MatchOption result (lines rest.now ≡ []) (λ p. lines rest.now ≡ p.0.now ∷ lines p.1.now) }
     ensures less { MatchOption result (length rest.now ≡ 0) (λ p. length p.1.now < length rest.now) }
@@ -36,7 +36,7 @@ pub fn next_line(rest: &[u8]) -> Option<(&[u8], &[u8])>
     }
 }
 
-/// The line without a CR at its end.
+/// Returns `line` without a CR at its end.
 fn without_return(line: &[u8]) -> &[u8]
     ensures { result.now ≡ strip_carriage_return line.now }
 {
@@ -46,7 +46,7 @@ fn without_return(line: &[u8]) -> &[u8]
     }
 }
 
-/// Where the first such octet stands.
+/// Returns the offset of the first byte of `word` that is `octet`.
 pub(crate) fn place_of(word: &[u8], octet: u8) -> Option<usize>
     ensures { result ≡ position (λ b. b == octet) word.now }
 {

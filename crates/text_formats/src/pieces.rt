@@ -1,4 +1,4 @@
-//! Octets, numbers and times as they are written.
+//! Writer of bytes, numbers and times.
 
 ghost use Rattle.std.specs.Prelude.{◌≡◌, ◌++◌, length, take, flat_map, OnOk, OnErr};
 ghost use Rattle.std.specs.Fmt.{decimal};
@@ -14,20 +14,20 @@ const MINUTE: u64 = 60_000;
 
 const HOUR: u64 = 3_600_000;
 
-/// A piece of a text file that is written.
+/// Piece of a text file that is written.
 #[derive(Clone, Copy, Debug)]
 pub enum Piece<'a> {
-    /// These octets.
+    /// Bytes as they are.
     Octets(&'a [u8]),
-    /// A number in decimal digits.
+    /// Number in decimal digits.
     Number(u64),
-    /// A number in two decimal digits or more.
+    /// Number in two decimal digits or more.
     Padded(u64),
-    /// `HH:MM:SS`, this octet and three digits, of a time in milliseconds. Hours have two digits or more.
+    /// Time in milliseconds as `HH:MM:SS`, the byte `point` and three digits. Hours have two digits or more.
     Time { point: u8, milliseconds: u64 },
 }
 
-/// Adds pieces one behind the other. On a refusal nothing is added.
+/// Appends `pieces` in order. On failure nothing is appended.
 pub fn put_pieces(pieces: &[Piece<'_>], out: &mut Bytes) -> Result<(), AllocError>
     ensures ok { OnOk result (out.new ≡ out.old ++ flat_map spec.octets_of pieces.now) }
     ensures err { OnErr result (out.new ≡ out.old) }
@@ -42,7 +42,7 @@ pub fn put_pieces(pieces: &[Piece<'_>], out: &mut Bytes) -> Result<(), AllocErro
     Ok(())
 }
 
-// On a refusal, what was there before still stands in front.
+// Appends `piece`. On failure the bytes that `out` had before are still its first bytes.
 fn put_piece(piece: &Piece<'_>, out: &mut Bytes) -> Result<(), AllocError>
     ensures ok { OnOk result (out.new ≡ out.old ++ spec.octets_of piece.now) }
     ensures err { OnErr result (take (length out.old) out.new ≡ out.old) }
@@ -101,7 +101,7 @@ fn three_digits(n: u64) -> [u8; 3]
     [digit(n / 100), digit(n / 10), digit(n)]
 }
 
-// The last digit of a number.
+// Returns the last decimal digit of `n`.
 fn digit(n: u64) -> u8
     ensures { result ≡ spec.digit n }
 {

@@ -1,4 +1,5 @@
-//! SubRip, read. Its grammar picks heads in the list of lines; here each line is read once.
+//! Reader of SubRip, in this project's grammar. The grammar looks for heads in the list of lines; this reader reads
+//! each line once.
 
 ghost use Rattle.std.specs.Prelude.{◌≡◌, ◌+◌, ◌<◌, ◌^◌, ◌++◌, length, IfOk, IfErr, OnOk, None, false, true, MatchOption};
 ghost use Rattle.std.specs.Str.Lines.{lines};
@@ -16,7 +17,7 @@ use crate::times::{Times, is_number, times_of};
 use mkv_io::{Entry, List, Text};
 use std::alloc::{AllocError, Global};
 
-/// A head that was read: its times, what stands behind it, and the number of its second line.
+/// Head that was read: its times, the bytes after it, and the number of its second line.
 #[derive(Clone, Copy)]
 struct Head<'a> {
     times: Times,
@@ -35,7 +36,7 @@ fn has_arrow(line: &[u8]) -> bool
     false
 }
 
-// The line as text, where it may stand behind a head.
+// Returns `line` as text, if it may follow a head.
 fn plain(line: &[u8]) -> Option<&str>
     ensures { MatchOption result (is_bad_at Behind false line.now ≡ true) (λ text. IsTextLine line.now text.now) }
 {
@@ -45,7 +46,7 @@ fn plain(line: &[u8]) -> Option<&str>
     text(line)
 }
 
-// The head that begins with this line, of this number, where one does.
+// Returns the head that begins with `line`, whose number is `number`, if one does.
 fn read_head<'a>(line: &[u8], after: &'a [u8], number: u64) -> Result<Option<Head<'a>>, TextEnd>
     requires room { number + length after.now < 2 ^ 64 }
     ensures is { HeadRead line.now (lines after.now) number result }
@@ -100,7 +101,7 @@ fn skip_front(text: &[u8]) -> Result<Option<Head<'_>>, TextEnd>
     Ok(None)
 }
 
-// Adds line feeds and a line.
+// Appends `count` line feeds and `line`.
 fn add_line(text: &mut Text, count: u64, line: &str) -> Result<(), AllocError>
     ensures { OnOk result (text.new ≡ text.old ++ (breaks count ++ line.now)) }
 {
@@ -110,7 +111,7 @@ fn add_line(text: &mut Text, count: u64, line: &str) -> Result<(), AllocError>
     text.append(line)
 }
 
-// Reads the text of an entry, and the next head.
+// Reads the text of an entry and the next head.
 fn read_text<'a>(
     alloc: Global,
     from: &'a [u8],
@@ -147,7 +148,7 @@ fn read_text<'a>(
     Ok((text, None))
 }
 
-// The entries as they stand.
+// Reads the entries in the file's order.
 fn read_entries(alloc: Global, bytes: &[u8]) -> Result<Vec<Entry>, TextEnd>
     ensures ok { IfOk result (λ es. entries (lines_of bytes.now) ≡ es.items) }
     ensures good { OnOk result (first_bad (lines_of bytes.now) ≡ None) }
@@ -168,9 +169,9 @@ fn read_entries(alloc: Global, bytes: &[u8]) -> Result<Vec<Entry>, TextEnd>
     Ok(list)
 }
 
-/// The entries of a SubRip file, sorted by start, those of one start as they stand; or its first bad line:
-/// one that isn't UTF-8, that has `-->` where no time line is due, whose times end before they start, or
-/// that isn't empty before the first entry. Times are in nanoseconds.
+/// Reads the entries of a SubRip file, sorted by start; entries with the same start keep their order. Times are in
+/// nanoseconds. It fails with the first bad line. A line is bad if it isn't UTF-8, if it has `-->` but isn't the
+/// second line of a head, or if its end is before its start. A line before the first entry is bad if it isn't empty.
 pub fn read_srt(alloc: Global, bytes: &[u8]) -> Result<List<Entry>, TextEnd>
     ensures exact { Reads result (spec.srt bytes.now) }
     ensures within { IfOk result (AreWithin (length bytes.now)) }

@@ -1,4 +1,4 @@
-//! The two lines that begin an entry: its number and its times.
+//! Reader of the two lines that begin an entry: its number and its times.
 
 ghost use Rattle.std.specs.Prelude.{◌≡◌, ◌<◌, ◌≤◌, length, IfSome, option_map};
 ghost use Rattle.std.specs.Char.{is_ascii_digit};
@@ -9,14 +9,14 @@ use crate::fields::{behind, cut, digits, minutes_or_seconds};
 
 const MILLISECOND: u64 = 1_000_000;
 
-/// When an entry is shown, in nanoseconds.
+/// Start and end of an entry, in nanoseconds.
 #[derive(Clone, Copy, Debug)]
 pub(crate) struct Times {
     pub start: u64,
     pub end: u64,
 }
 
-/// `SS,mmm` or `SS.mmm` in front, in milliseconds.
+/// Reads `SS,mmm` or `SS.mmm` at the start of `word`, in milliseconds.
 #[tactic(auto, unfolding(crate::specs::Times::seconds))]
 fn seconds(word: &[u8]) -> Option<u64>
     ensures same { result ≡ spec.seconds word.now }
@@ -35,7 +35,7 @@ fn seconds(word: &[u8]) -> Option<u64>
     }
 }
 
-/// A time in front, in nanoseconds, and what stands behind it.
+/// Reads a time at the start of `word`; returns it in nanoseconds, with the bytes after it.
 #[tactic(auto, unfolding(crate::specs::Times::clock))]
 fn clock(word: &[u8]) -> Option<(u64, &[u8])>
     ensures same { option_map (λ p. (p.0, p.1.now)) result ≡ spec.clock word.now }
@@ -50,7 +50,7 @@ fn clock(word: &[u8]) -> Option<(u64, &[u8])>
     Some((time, &rest[6..]))
 }
 
-/// Two times with ` --> ` between them, and a tail.
+/// Reads two times with ` --> ` between them and a tail.
 #[tactic(auto, unfolding(crate::specs::Times::times))]
 pub(crate) fn times_of(line: &[u8]) -> Option<Times>
     ensures same { result ≡ spec.times line.now }
@@ -72,7 +72,7 @@ fn is_tail(word: &[u8]) -> bool
     word.is_empty() || word[0] == b' '
 }
 
-/// 1 to 9 digits, and spaces and tabs behind them.
+/// Checks whether `line` consists of 1 to 9 digits, followed by spaces and tabs.
 #[tactic(auto, unfolding(crate::specs::Times::is_number))]
 pub(crate) fn is_number(line: &[u8]) -> bool
     ensures { result ≡ spec.is_number line.now }

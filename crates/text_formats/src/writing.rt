@@ -1,4 +1,4 @@
-//! SubRip, written.
+//! Writer of SubRip, in this project's grammar.
 
 ghost use Rattle.std.specs.Prelude.{◌≡◌, ◌++◌, ◌<◌, ◌^◌, OnOk, OnErr};
 ghost use Rattle.text_formats.specs.Writing as spec;
@@ -7,8 +7,8 @@ use crate::pieces::{Piece, put_pieces};
 use mkv_io::Bytes;
 use std::alloc::AllocError;
 
-/// Adds an entry of SubRip: its number, its times, its text and an empty line. Start and duration are in
-/// nanoseconds; a time before 0 is written as 0. On a refusal nothing is added.
+/// Appends an entry of SubRip: its number, its times, its text and an empty line. `start` and `duration` are in
+/// nanoseconds; a time before 0 is written as 0. On failure nothing is appended.
 #[tactic(auto, using(crate::proofs::WritingLemmas::pieces), unfolding(crate::specs::Writing::put_srt))]
 pub fn put_srt(
     number: u64,
@@ -44,7 +44,7 @@ fn time(milliseconds: u64) -> Piece<'static>
     }
 }
 
-// Whole milliseconds; a time before 0 is 0.
+// Returns `time` in whole milliseconds, and 0 for a time before 0.
 fn milliseconds(time: i128) -> u64
     requires { spec.milliseconds time < 2 ^ 64 }
     ensures { result ≡ spec.milliseconds time }

@@ -1,4 +1,4 @@
--- The chapters that were read, and then those from the rest on, are all of them.
+-- All chapters are the chapters that were read and the chapters of the rest.
 use Rattle.std.proofs.Common.{◌≡◌, ◌+◌, ◌≤◌, length, None}
 use Rattle.std.specs.Str.Lines.{lines}
 use Rattle.text_formats.specs.Lines.{lines_of}

@@ -1,4 +1,4 @@
--- What the digits from here on write behind the number so far is what all of them write.
+-- The value of all digits is the value of those read, continued with the rest.
 use Rattle.std.proofs.Common.{◌≡◌, ◌^◌, ◌<◌, drop}
 use Rattle.text_formats.proofs.FieldsLemmas.{read_on}
 use Rattle.text_formats.specs.Fields as spec

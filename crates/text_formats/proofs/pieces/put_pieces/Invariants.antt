@@ -1,4 +1,4 @@
--- The pieces so far have been added.
+-- The pieces up to this one have been appended.
 use Rattle.std.proofs.Common.{◌≡◌, ◌++◌, take}
 use Rattle.std.specs.Prelude.{flat_map}
 use Rattle.text_formats.specs.Pieces.{octets_of}

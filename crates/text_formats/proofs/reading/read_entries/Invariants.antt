@@ -1,4 +1,4 @@
--- The entries that were read, and then those from the next head on, are all of them.
+-- All entries are the entries that were read and the entries from the next head on.
 use Rattle.std.proofs.Common.{◌≡◌, ◌+◌, ◌^◌, ◌<◌, ◌≤◌, ◌++◌, length, MatchOption, All}
 use Rattle.text_formats.specs.Lines.{lines_of}
 use Rattle.text_formats.specs.Srt.{entries, first_bad}

@@ -1,4 +1,4 @@
--- The entries and the first bad line are those of what is left, and what is left adds to the text what is missing.
+-- The rest has the same entries and first bad line, and adds what the text still lacks.
 use Rattle.std.proofs.Common.{◌≡◌, ◌+◌, ◌≤◌, ◌++◌, length}
 use Rattle.std.specs.Str.Lines.{lines}
 use Rattle.text_formats.specs.Srt.{entries, before_head, text_of}

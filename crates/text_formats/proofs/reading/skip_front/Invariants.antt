@@ -1,4 +1,4 @@
--- The entries and the first bad line are those of what is left.
+-- The rest has the same entries and the same first bad line.
 use Rattle.std.proofs.Common.{◌≡◌, ◌+◌, ◌≤◌, length}
 use Rattle.std.specs.Str.Lines.{lines}
 use Rattle.text_formats.specs.Srt.{entries, first_bad}
