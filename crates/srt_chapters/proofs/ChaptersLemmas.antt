@@ -11,7 +11,7 @@ use Rattle.tree_format.proofs.NodeLemmas.{list-nodes}
 use Rattle.text_formats.specs.declared.chapter_reading.Chapter.{Chapter}
 use Rattle.srt_chapters.specs.Chapters.{atom, edition}
 
--- ---- what the table has
+-- ---- entries of the table
 pub master_chapters : is_master CHAPTERS ≡ true
 unfolding entry_of table
 master_chapters = refl
@@ -50,7 +50,7 @@ id_language = refl
 
 pub ruleset known = (master_chapters, master_edition, master_atom, master_display, id_edition_uid, id_uid, id_start, id_string, id_language)
 
--- what is read of no octets has no children
+-- A master that is read from no bytes has no children.
 pub empty_tree : (id : ℕ) → tree_of id 0 [] 0 1 ≡ Ok (master id 0 none)
 unfolding grove grove_within
 empty_tree id = refl
@@ -58,14 +58,14 @@ empty_tree id = refl
 pub ruleset empty = (empty_tree)
 
 -- ---- an edition
--- with one atom more
+-- Appending an atom to an edition appends its chapter.
 pub edition_more : (cs : List Chapter) (c : Chapter) → with_children (edition cs) (children (edition cs) ++ atom c ∷ []) ≡ edition (cs ++ c ∷ [])
 edition_more cs c =
     let same = list-nodes (map atom cs) in
     let more = map_push atom cs c in
     rw (same, more) refl
 
--- atoms are two masters deep
+-- The depth of an atom is two masters.
 atoms_depth : (cs : List Chapter) → depth_all (nodes_of (map atom cs)) ≤ 2
 atoms_depth [] = omega arith
 atoms_depth (c ∷ cs) = let more = atoms_depth cs in omega arith

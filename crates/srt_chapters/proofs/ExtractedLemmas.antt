@@ -1,4 +1,4 @@
--- Atoms of a sound edition, one more behind the others.
+-- Atoms of a sound edition, appended one at a time.
 use Rattle.std.proofs.Common.{◌≡◌, ◌<◌, ℕ, suc, ◌+◌, ◌==◌, true, List, [], ◌∷◌, ◌++◌, length, take, get_or, refl, add-zero, sym, ◌∙◌, arith, append_assoc, append-nil}
 use Rattle.std.proofs.lemmas.List.Elements.{filter_more}
 use Rattle.mkv_schema.specs.Schema.{entry_of}
@@ -11,12 +11,12 @@ use Rattle.tree_format.proofs.ChildLemmas.{child-stands, stands-sound}
 use Rattle.text_formats.specs.ChapterWriting.{put_pair}
 use Rattle.srt_chapters.specs.Extracted.{put_atoms, atoms_in, start_of, name_of}
 
--- the table has a ChapterTimeStart in a ChapterAtom
+-- The table has a ChapterTimeStart in a ChapterAtom.
 pub start : HasUint CHAPTER_ATOM CHAPTER_TIME_START
 unfolding entry_of table
 start = record { stands = refl; kind = refl }
 
--- a child of a sound edition is sound
+-- A child of a sound edition is sound.
 pub child_sound : (tree n : Node) (ns : List Node) (i : ℕ) → IsSound tree → ns ≡ children tree → i < length ns → n ≡ get_or ns i n → id_of n ≡ CHAPTER_ATOM → IsSoundOf CHAPTER_ATOM n
 child_sound tree n ns i sound are inside is atom = record { id = atom; sound = stands-sound (id_of tree) n (child-stands tree n ns i sound are inside is) }
 

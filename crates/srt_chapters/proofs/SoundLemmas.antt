@@ -1,4 +1,4 @@
--- Chapters of a text stand where the table allows them.
+-- The table allows the elements of a text's chapters at their places.
 use Rattle.std.proofs.Common.{◌≡◌, ◌<◌, ◌≤◌, ◌^◌, ◌+◌, ℕ, zero, suc, Bool, true, false, not, ◌⊎◌, inl, inr, List, [], ◌∷◌, length, get_or, codes, refl, arith, lit<, eqb-true}
 use Rattle.std.proofs.lemmas.Bool.Decides.{nat_tests}
 use Rattle.std.proofs.lemmas.Str.{IsUtf8-from_ascii, IsUtf8-take, IsCharBoundary-before_ascii, is_utf8-from_IsUtf8}
@@ -20,11 +20,11 @@ use Rattle.tree_format.specs.Children.{uint_leaf}
 use Rattle.srt_chapters.specs.Chapters.{display, atom, edition, chapters_of}
 use Rattle.srt_chapters.proofs.ChaptersLemmas.{id_edition_uid, id_uid, id_start, id_string, id_language}
 
--- ---- a name up to its first zero octet
+-- ---- a name up to its first zero byte
 abbrev is_some_octet : ℕ → Bool
 is_some_octet octet = not (octet == 0)
 
--- it is the whole name, or ends before a zero octet
+-- The name is read whole or ends before a zero byte.
 cut_at : (w : List ℕ) → (prefix_len is_some_octet w ≡ length w) ⊎ ((prefix_len is_some_octet w < length w) × (get_or w (prefix_len is_some_octet w) 0 ≡ 0))
 cut_at [] = inl refl
 cut_at (b ∷ bs) = split (b == 0) refl (cut_at bs)
@@ -86,7 +86,7 @@ pub atom_stands : (c : Chapter) → c.start < 2 ^ 64 → IsUtf8 c.name → Stand
 unfolding entry_of table
 atom_stands c small utf8 = (refl, (chapter_uid, (chapter_start c.start small, (display_stands c.name utf8, tt))))
 
--- atoms that stand there, with one more
+-- The table still allows the atoms after one is appended.
 pub ruleset stands = (atom_stands)
 
 pub uid_stands : StandsIn EDITION_ENTRY (uint_leaf EDITION_UID 0)

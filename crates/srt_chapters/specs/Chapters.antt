@@ -6,15 +6,15 @@ use Rattle.tree_format.specs.Children.{uint_leaf}
 use Rattle.text_formats.specs.declared.chapter_reading.Chapter.{Chapter}
 use Rattle.text_formats.specs.Pairs.{simple}
 
--- a ChapterDisplay: the name, in a language that isn't known
+-- a ChapterDisplay: the name, in an undetermined language
 abbrev pub display : List ℕ → Node
 display name = master CHAPTER_DISPLAY 0 (nodes_of (leaf CHAP_STRING 0 name ∷ leaf CHAP_LANGUAGE 0 (codes "und") ∷ []))
 
--- a ChapterAtom: an identifier, which is still to be given, the start in nanoseconds, and the name
+-- a ChapterAtom: an identifier that isn't set yet, the start in nanoseconds, and the name
 abbrev pub atom : Chapter → Node
 atom c = master CHAPTER_ATOM 0 (nodes_of (uint_leaf CHAPTER_UID 0 ∷ uint_leaf CHAPTER_TIME_START c.start ∷ display c.name ∷ []))
 
--- an EditionEntry: an identifier, which is still to be given, and an atom for each chapter
+-- an EditionEntry: an identifier that isn't set yet, and an atom for each chapter
 abbrev pub edition : List Chapter → Node
 edition cs = master EDITION_ENTRY 0 (nodes_of (uint_leaf EDITION_UID 0 ∷ map atom cs))
 

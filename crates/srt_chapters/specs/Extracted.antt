@@ -7,11 +7,11 @@ use Rattle.tree_format.specs.Node.{Node, id_of, body_of, children}
 use Rattle.tree_format.specs.Values.{first_child, integer_of}
 use Rattle.text_formats.specs.ChapterWriting.{put_pair}
 
--- where an atom starts, in nanoseconds: at 0, where it doesn't say
+-- the start of `atom` in nanoseconds, or 0 if it is absent
 abbrev pub start_of : Node → ℕ
 start_of atom = option_map_or integer_of (first_child CHAPTER_TIME_START atom) 0
 
--- the name in a display, and the name of the first display: nothing where there is none
+-- the name in a display, or nothing if it is absent
 abbrev pub name_in : Node → List ℕ
 name_in display = option_map_or (λ s. text_of (body_of s)) (first_child CHAP_STRING display) []
 
@@ -25,7 +25,7 @@ atoms_in ns = filter (λ n. id_of n == CHAPTER_ATOM) ns
 abbrev pub top_atoms : Node → List Node
 top_atoms chapters = option_map_or (λ edition. atoms_in (children edition)) (first_child EDITION_ENTRY chapters) []
 
--- atoms as pairs of lines, of which the first has this number
+-- the atoms as pairs of lines, numbered from `k`
 abbrev pub put_atoms : ℕ → List Node → List ℕ
 put_atoms k [] = []
 put_atoms k (a ∷ as') = put_pair k (start_of a) (name_of a) ++ put_atoms (k + 1) as'

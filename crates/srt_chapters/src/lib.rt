@@ -1,7 +1,7 @@
 #![tactic(auto)]
 
-//! Text files of subtitles and chapters, read and written: SubRip as entries, simple chapters as a Chapters
-//! Element (RFC 9559, section 5.1.7, Chapters Element).
+//! Reader and writer of simple chapters as a Chapters Element (RFC 9559, section 5.1.7, Chapters Element), with the
+//! calls on text files under one name.
 
 mod reading;
 mod writing;

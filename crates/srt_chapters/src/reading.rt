@@ -1,4 +1,4 @@
-//! Simple chapters as a Chapters Element.
+//! Reader of simple chapters as a Chapters Element.
 
 ghost use Rattle.std.specs.Prelude.{◌≡◌, IfOk, IsTrue};
 ghost use Rattle.mkv_schema.specs.Schema.{is_master};
@@ -16,7 +16,7 @@ use mkv_schema::ids::{
 use std::alloc::{AllocError, Global};
 use text_formats::{Chapter, TextEnd, read_pairs};
 
-// A master without children.
+// Makes a master with this `id` and no children.
 #[tactic(auto, using(crate::proofs::ChaptersLemmas::empty), unfolding(tree_format::specs::Reading::grove, tree_format::specs::Reading::grove_within))]
 fn empty_master(alloc: Global, id: u32) -> Result<Tree, AllocError>
     requires { IsTrue (is_master id) }
@@ -63,8 +63,8 @@ fn edition(alloc: Global, chapters: &[Chapter]) -> Result<Tree, AllocError>
     Ok(edition)
 }
 
-/// A Chapters Element with one edition and an atom for each chapter (RFC 9559, section 5.1.7, Chapters Element).
-/// Its identifiers are 0.
+/// Makes a Chapters Element with one edition that has an atom for each of `chapters` (RFC 9559, section 5.1.7,
+/// Chapters Element). Its identifiers are 0.
 #[tactic(auto, using(crate::proofs::ChaptersLemmas::known, crate::proofs::SoundLemmas::chapters_sound))]
 pub fn chapters_tree(alloc: Global, chapters: &[Chapter]) -> Result<Tree, AllocError>
     ensures exact { IfOk result (λ tree. tree ≡ spec.chapters_of chapters.now) }
@@ -75,11 +75,12 @@ pub fn chapters_tree(alloc: Global, chapters: &[Chapter]) -> Result<Tree, AllocE
     Ok(tree)
 }
 
-/// The Chapters Element of a file of simple chapters; or the file's first bad line. Its identifiers are 0.
+/// Reads a file of simple chapters as a Chapters Element. It fails with the file's first bad line. The identifiers
+/// are 0.
 pub fn read_simple(alloc: Global, bytes: &[u8]) -> Result<Tree, TextEnd>
     ensures exact { Reads result (spec.simple_chapters bytes.now) }
 
-    // Its Elements stand where the table allows them, so what is written of it is read again.
+    // The table allows each element at its place, so the written tree can be read again.
     ensures sound { IfOk result (IsSoundOf CHAPTERS_ID) }
 {
     match read_pairs(alloc, bytes) {

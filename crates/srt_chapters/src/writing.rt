@@ -1,4 +1,4 @@
-//! A Chapters Element as simple chapters.
+//! Writer of a Chapters Element as simple chapters.
 
 ghost use Rattle.std.specs.Prelude.{◌≡◌, ◌++◌, OnOk, OnErr};
 ghost use Rattle.mkv_schema.specs.declared.ids.TheConstants as ids;
@@ -36,8 +36,8 @@ fn name_of(atom: &Tree) -> &[u8]
     }
 }
 
-/// Adds simple chapters: two lines for each top atom of the first edition, numbered from 1, with times in
-/// whole milliseconds and the name of the first display. On a refusal nothing is added.
+/// Appends simple chapters: two lines for each top atom of the first edition, numbered from 1. Times are in whole
+/// milliseconds, and the name is in the first display. On failure nothing is appended.
 pub fn put_simple(chapters: &Tree, out: &mut Bytes) -> Result<(), AllocError>
     requires { IsSoundOf ids.CHAPTERS chapters.now }
     ensures ok { OnOk result (out.new ≡ out.old ++ spec.put_simple chapters.now) }

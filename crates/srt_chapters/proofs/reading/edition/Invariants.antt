@@ -1,4 +1,4 @@
--- The edition has an atom for each chapter so far.
+-- The edition has an atom for each chapter that was passed.
 use Rattle.std.proofs.Common.{◌≡◌, take}
 use Rattle.tree_format.specs.Standing.{IsSound}
 use Rattle.srt_chapters.specs.Chapters as spec

@@ -1,4 +1,4 @@
--- The atoms among the children so far have been written.
+-- The atoms among the children that were passed have been written.
 use Rattle.std.proofs.Common.{◌≡◌, ◌+◌, ◌≤◌, ◌++◌, take, length}
 use Rattle.srt_chapters.specs.Extracted.{put_atoms, atoms_in}
 use Rattle.srt_chapters.proofs.writing.put_atoms.Given as goal

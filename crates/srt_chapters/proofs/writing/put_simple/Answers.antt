@@ -1,4 +1,4 @@
--- The edition stands in sound chapters.
+-- The edition is a child of sound chapters.
 use Rattle.std.proofs.Common.{sym}
 use Rattle.tree_format.proofs.ChildLemmas.{first_child-sound}
 use Rattle.srt_chapters.proofs.writing.put_simple.Goals as goal

@@ -1,4 +1,4 @@
--- The start stands in a sound atom.
+-- The start is a child of a sound atom.
 use Rattle.std.proofs.Common.{sym}
 use Rattle.tree_format.proofs.ChildLemmas.{first_child-short, HasUint-of}
 use Rattle.srt_chapters.proofs.ExtractedLemmas.{start}
