@@ -1,25 +1,25 @@
--- Lists of times, of stretches of time and of identifiers.
+-- Lists of times, of time spans and of identifiers.
 use Rattle.std.specs.Prelude.{ℕ, Bool, true, not, ◌&&◌, ◌==◌, nat_lt, nat_le, List, [], ◌∷◌, length, Option, Some, None}
 use Rattle.std.specs.List.{list_any}
 use Rattle.requests.specs.declared.split.SpanWords.{SpanWords}
 
--- each time is above the one before
+-- Each time is above the previous one.
 abbrev pub ascend : List ℕ → Bool
 ascend [] = true
 ascend (t ∷ []) = true
 ascend (t ∷ u ∷ us) = nat_lt t u && ascend (u ∷ us)
 
--- a stretch without an end is the last; an end is above its start, and the others follow it
+-- A span without an end is the last; an end is above its start, and `others` holds for it.
 abbrev pub ends_before : ℕ → Option ℕ → Bool → (ℕ → Bool) → Bool
 ends_before start None last others = last
 ends_before start (Some e) last others = nat_lt start e && others e
 
--- each stretch begins at the least or behind it, and the next at its end or behind that
+-- Each span begins at `least` or later, and the next one at its end or later.
 abbrev pub follow : ℕ → List SpanWords → Bool
 follow least [] = true
 follow least (s ∷ ss) = nat_le least s.start && ends_before s.start s.end (length ss == 0) (λ e. follow e ss)
 
--- no number stands twice
+-- No number occurs twice.
 abbrev pub differ : List ℕ → Bool
 differ [] = true
 differ (n ∷ ns) = not (list_any (λ m. m == n) ns) && differ ns

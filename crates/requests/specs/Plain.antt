@@ -1,11 +1,11 @@
--- The words of a merge without options, and with a split where one is given. They are this project's.
+-- The request of a merge without options, or with only a split. It is this project's.
 use Rattle.std.specs.Prelude.{ℕ, false, true, List, [], Option, None}
 use Rattle.requests.specs.declared.track.Select.TheVariants.{All}
 use Rattle.requests.specs.declared.split.SplitWords.{SplitWords}
 use Rattle.requests.specs.declared.merge.FileWords.{FileWords}
 use Rattle.requests.specs.declared.merge.MergeWords.{MergeWords}
 
--- one file by its name, of which all is taken
+-- the file `name`, with everything in it copied
 abbrev pub plain_file : List ℕ → FileWords
 plain_file name = record {
   name = name;
@@ -27,7 +27,7 @@ plain_file name = record {
   named = [];
 }
 
--- what `merge -o OUTPUT FILE ..` says, or with a split `merge -o OUTPUT --split SPLIT FILE ..`
+-- the request of `merge -o OUTPUT FILE ..`, or with a split of `merge -o OUTPUT --split SPLIT FILE ..`
 abbrev pub plain_words : List ℕ → Option SplitWords → List FileWords → MergeWords
 plain_words output split files = record {
   output = output;

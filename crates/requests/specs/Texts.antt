@@ -1,15 +1,15 @@
--- What the words of a merge give as texts.
+-- Texts in the request of a merge.
 use Rattle.std.specs.Prelude.{ℕ, List, All, IfSome}
 use Rattle.std.specs.Str.{IsUtf8}
 use Rattle.requests.specs.declared.merge.FileWords.{FileWords}
 use Rattle.requests.specs.declared.merge.MergeWords.{MergeWords}
 
--- The names and languages that are given to a file's tracks are texts.
+-- The names and languages that are set for a file's tracks are UTF-8.
 pub record HasTexts (file : FileWords) : Type 0 where
   pub names : All (λ (given : ℕ × List ℕ). IsUtf8 given.1) file.names
   pub languages : All (λ (given : ℕ × List ℕ). IsUtf8 given.1) file.languages
 
--- So is the title, where one is given.
+-- The title, if one is set, and the texts of each file are UTF-8.
 pub record AreTexts (words : MergeWords) : Type 0 where
   pub title : IfSome words.title IsUtf8
   pub files : All HasTexts words.files

@@ -1,4 +1,4 @@
-//! What is changed in a file.
+//! Changes of a file.
 
 use mkv_io::Text;
 
@@ -9,18 +9,19 @@ pub struct Edit {
     pub change: Change,
     /// The property's name.
     pub name: Text,
-    /// The property's new value, empty where it is deleted.
+    /// The property's new value, empty if it is deleted.
     pub value: Text,
 }
 
-/// Where the property stands: in Info, or in one TrackEntry.
+/// Place of a property: in Info, or in one TrackEntry.
 #[derive(Clone, Copy, Debug, PartialEq, Eq)]
 pub enum Selector {
     /// The Info Element.
     Info,
-    /// The n-th TrackEntry, from 1.
+    /// The TrackEntry number `n`, counted from 1.
     Nth { n: u64 },
-    /// The n-th TrackEntry, from 1, of those with this TrackType: 1 is video, 2 audio, 17 subtitle.
+    /// The TrackEntry number `n`, counted from 1, among the tracks with this TrackType: 1 is video, 2 audio, 17
+    /// subtitle.
     Typed { kind: u64, n: u64 },
     /// The first TrackEntry with this TrackUID.
     Uid { uid: u64 },
@@ -28,13 +29,13 @@ pub enum Selector {
     Number { number: u64 },
 }
 
-/// What becomes of the property.
+/// Kind of change of a property.
 #[derive(Clone, Copy, Debug, PartialEq, Eq)]
 pub enum Change {
-    /// It gets the value, in the place of all that stood there.
+    /// It gets the value, which replaces all values that it had.
     Set,
-    /// It is added, and refused where it is there.
+    /// It is added, and refused if it exists.
     Add,
-    /// All of it goes.
+    /// All its values are deleted.
     Delete,
 }

@@ -1,38 +1,39 @@
-//! What is taken out of a file.
+//! Extractions from a file.
 
 use mkv_io::{List, Text};
 
-/// What an extraction writes, and into which files.
+/// Content that an extraction writes, and its files.
 #[derive(Debug, Drop)]
 pub enum Job {
-    /// The frames of tracks, or their times.
+    /// Frames of tracks, or their timestamps.
     Tracks { form: Form, list: List<Target> },
-    /// The data of attached files.
+    /// Data of attached files.
     Attachments { list: List<Target> },
-    /// The cue points of tracks.
+    /// Cue points of tracks.
     Cues { list: List<Target> },
-    /// The chapters, as text, into the file of this name.
+    /// Chapters, as text, in the file `name`.
     Chapters { name: Text },
 }
 
-/// What is written of the frames of a track.
+/// Form of the written frames of a track.
 #[derive(Clone, Copy, Debug, PartialEq, Eq)]
 pub enum Form {
-    /// The frames, one after the other.
+    /// The frames in sequence.
     Raw,
-    /// The track's CodecPrivate, then the frames.
+    /// The track's CodecPrivate, and then the frames.
     Full,
-    /// The frames as the track's codec has them in a file of their own: a SubRip text, or a stream that players read.
+    /// The frames in the form that the track's codec has in a file of its own: a SubRip text, or a stream that
+    /// players read.
     ByCodec,
-    /// The times of the frames.
+    /// The timestamps of the frames.
     Times,
 }
 
-/// One thing that is taken out, and the file that it goes to.
+/// One item that is extracted, and its file.
 #[derive(Debug, Drop)]
 pub struct Target {
-    /// A track's place in Tracks, from 0, or an attached file's place in Attachments, from 1.
+    /// Index of a track in Tracks, from 0, or of an attached file in Attachments, from 1.
     pub id: u64,
-    /// The name of the file that is written.
+    /// Name of the file that is written.
     pub name: Text,
 }

@@ -1,7 +1,7 @@
 #![tactic(auto)]
 
-//! What a run is asked for, as plain values: what is taken out of a file or changed in one, and what is merged; what these values
-//! keep; and decimal numbers. The command line's words come to these values, and the engine starts from them.
+//! Requests to a run, as plain values: extractions, changes of a file and merges, with the limits that they keep, and
+//! decimal numbers. The command line is read as such a value, and the engine starts from it.
 
 mod decimal;
 mod edit;

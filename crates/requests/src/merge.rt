@@ -1,57 +1,57 @@
-//! What is merged, into what.
+//! Merges: inputs, options and output.
 
 use crate::split::SplitWords;
 use crate::track::{CueWord, Select};
 use mkv_io::{List, Text};
 
-/// What the words of a merge say of one file. A track is named by its place in Tracks, from 0.
+/// Options of one input file of a merge. A track is named by its index in Tracks, from 0.
 #[derive(Debug, Drop)]
 pub struct FileWords {
     pub name: Text,
-    /// Whether the file goes on where the one before it ends.
+    /// The file is appended to the previous file.
     pub appended: bool,
     pub video: Select,
     pub audio: Select,
     pub subtitles: Select,
-    /// Whether the attached files are kept.
+    /// The attached files are kept.
     pub attachments: bool,
-    /// Whether the tags of tracks are kept.
+    /// The tags of tracks are kept.
     pub track_tags: bool,
-    /// Whether tags that name no track are kept.
+    /// Tags that name no track are kept.
     pub global_tags: bool,
-    /// Whether the chapters are kept.
+    /// The chapters are kept.
     pub chapters: bool,
-    /// By how many nanoseconds a track is delayed.
+    /// Delays of tracks, in nanoseconds.
     pub syncs: List<(u64, i64)>,
     pub names: List<(u64, Text)>,
     pub languages: List<(u64, Text)>,
     pub defaults: List<(u64, bool)>,
     pub forced: List<(u64, bool)>,
     pub cues: List<(u64, CueWord)>,
-    /// The names of files with a track's times.
+    /// Names of timestamp files of tracks.
     pub times: List<(u64, Text)>,
-    /// The tracks that the words name, in their order, each once.
+    /// Tracks that the options name, in their order, each once.
     pub named: List<u64>,
 }
 
-/// What the words of a merge say of the whole output, and of each file.
+/// Options of a merge, and its input files.
 #[derive(Debug, Drop)]
 pub struct MergeWords {
     pub output: Text,
     pub webm: bool,
     pub title: Option<Text>,
-    /// The name of a file with chapters.
+    /// Name of a file with chapters.
     pub chapters: Option<Text>,
-    /// Nanoseconds in one tick of the output.
+    /// Duration of one tick of the output, in nanoseconds.
     pub scale: u64,
-    /// The most blocks in a Cluster.
+    /// Greatest number of blocks in a Cluster.
     pub blocks: u32,
-    /// The most nanoseconds from a Cluster's time to its last block's.
+    /// Greatest distance from a Cluster's timestamp to its last block's, in nanoseconds.
     pub span: u64,
     pub split: Option<SplitWords>,
     pub files: List<FileWords>,
-    /// The SegmentUUIDs of the parts, in order, read with the highest octet first.
+    /// SegmentUUIDs of the parts, in order, read with the highest byte first.
     pub uuids: List<u128>,
-    /// Whether each part names the SegmentUUIDs beside its own.
+    /// Each part names the SegmentUUIDs of the previous and the next part.
     pub link: bool,
 }

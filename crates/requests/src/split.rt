@@ -1,25 +1,25 @@
-//! Where an output is split.
+//! Rules for splitting an output.
 
 use mkv_io::List;
 
-/// Where an output is split. Times are in nanoseconds.
+/// Rule for splitting an output. Times are in nanoseconds.
 #[derive(Debug, Drop)]
 pub enum SplitWords {
-    /// After so much time.
+    /// After each duration of `by`.
     Duration { by: u64 },
-    /// At these times, which ascend.
+    /// At the times `at`, which ascend.
     Times { at: List<u64> },
-    /// Only these stretches are written, which ascend and don't overlap.
+    /// Only the time spans `spans` are written, which ascend and don't overlap.
     Parts { spans: List<SpanWords> },
     /// At the start of each chapter.
     AllChapters,
-    /// At the start of these chapters, the first being 1; a number that no chapter has is accepted here.
+    /// At the start of the chapters `numbers`, counted from 1; a number that no chapter has is accepted here.
     Chapters { numbers: List<u64> },
-    /// After so many octets of blocks.
+    /// After each `limit` bytes of blocks.
     Size { limit: u64 },
 }
 
-/// A stretch of time, in nanoseconds, which may have no end.
+/// Time span in nanoseconds, which may have no end.
 #[derive(Clone, Copy, Debug, PartialEq, Eq)]
 pub struct SpanWords {
     pub start: u64,

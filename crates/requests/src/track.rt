@@ -1,8 +1,8 @@
-//! Which tracks are taken, and which of their blocks get a cue point.
+//! Selections of tracks, and of the blocks that get a cue point.
 
 use mkv_io::List;
 
-/// Which tracks of one type are taken.
+/// Selection of tracks of one type.
 #[derive(Debug, Drop)]
 pub enum Select {
     All,
@@ -11,11 +11,11 @@ pub enum Select {
     Off,
 }
 
-/// Which blocks of a track get a cue point.
+/// Selection of a track's blocks that get a cue point.
 #[derive(Clone, Copy, Debug, PartialEq, Eq)]
 pub enum CueWord {
     Never,
-    /// Those that can be decoded by themselves.
+    /// Keyframes.
     Key,
     All,
 }

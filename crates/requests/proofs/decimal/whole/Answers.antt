@@ -5,7 +5,7 @@ use Rattle.std.specs.Char.{digit_value, is_ascii_digit}
 use Rattle.requests.proofs.DecimalLemmas.{read_too_large, read_end}
 use Rattle.requests.proofs.decimal.whole.Goals as goal
 
--- a number past its type stays past it, whatever digits follow
+-- A number that is too large for its type stays too large, whatever digits follow.
 pub returns-in_err-checked_mul : goal.returns-in_err-checked_mul
 returns-in_err-checked_mul c =
     let n = c.loop-octet.value in let i = c.loop-octet.octet-index in let w = c.args.word.now in
