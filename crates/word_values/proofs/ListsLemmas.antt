@@ -8,7 +8,7 @@ use Rattle.mkv_io.specs.Octets.{cut}
 use Rattle.word_values.specs.Lists.{pieces, each, onto}
 use Rattle.requests.specs.Lists.{ascend}
 
--- the parts before and behind the first that passes
+-- the parts before and after the first byte that passes the test
 module _ (p : ℕ → Bool) where
   abbrev parts_at : ℕ → List ℕ → List (List ℕ)
   parts_at i xs = take i xs ∷ slice_split p (drop (i + 1) xs)
@@ -49,7 +49,7 @@ module _ (p : ℕ → Bool) where
 abbrev some_pair : List ℕ → ℕ → Option (List ℕ × List ℕ)
 some_pair word k = Some (take k word, drop (k + 1) word)
 
--- where the word has a comma, the first piece stands before it
+-- If the word has a comma, its first piece is before it.
 cut_cases : (word first rest : List ℕ) (b : Bool) → nat_lt (position_or_len (λ x. x == 44) word) (length word) ≡ b →
     option_map {U = List ℕ × List ℕ} (λ i. (take i word, drop (i + 1) word)) (cond b (Some (position_or_len (λ x. x == 44) word)) None) ≡ Some (first, rest) →
     pieces word ≡ first ∷ pieces rest
@@ -72,12 +72,12 @@ last_cases : (word : List ℕ) (b : Bool) → nat_lt (position_or_len (λ x. x =
 last_cases word true is e = cc
 last_cases word false is e = split_none (λ x. x == 44) word is
 
--- without a comma the word is the only piece
+-- Without a comma the word is the only piece.
 pub pieces_last : (word : List ℕ) → cut 44 word ≡ None → pieces word ≡ word ∷ []
 unfolding cut
 pieces_last word e = last_cases word (nat_lt (position_or_len (λ x. x == 44) word) (length word)) refl e
 
--- what was read, and then what the others say
+-- the values that were read, and then the others
 abbrev pub joined : {X : Type 0} → List X → Option (List X) → Option (List X)
 joined xs None = None
 joined xs (Some ys) = Some (xs ++ ys)
@@ -86,18 +86,18 @@ joined_onto : {X : Type 0} (xs : List X) (x : X) (o : Option (List X)) → joine
 joined_onto xs x None = refl
 joined_onto xs x (Some ys) = ap Some (sym (append_assoc xs (x ∷ []) ys))
 
--- a piece of the form
+-- A piece has the form.
 pub joined_more : {X : Type 0} (read : List ℕ → Option X) (xs : List X) (x : X) (word first rest : List ℕ) →
     cut 44 word ≡ Some (first, rest) → read first ≡ Some x →
     joined xs (each read (pieces word)) ≡ joined (xs ++ x ∷ []) (each read (pieces rest))
 joined_more read xs x word first rest e is = rw (pieces_more word first rest e, is) (joined_onto xs x (each read (pieces rest)))
 
--- a piece that isn't of the form
+-- A piece doesn't have the form.
 pub joined_bad : {X : Type 0} (read : List ℕ → Option X) (xs : List X) (word first rest : List ℕ) →
     cut 44 word ≡ Some (first, rest) → read first ≡ None → joined xs (each read (pieces word)) ≡ None
 joined_bad read xs word first rest e is = rw (pieces_more word first rest e, is)
 
--- the last piece
+-- The piece is the last.
 pub joined_last : {X : Type 0} (read : List ℕ → Option X) (xs : List X) (x : X) (word : List ℕ) →
     cut 44 word ≡ None → read word ≡ Some x → joined xs (each read (pieces word)) ≡ Some (xs ++ x ∷ [])
 joined_last read xs x word e is = rw (pieces_last word e, is)
@@ -122,12 +122,12 @@ shorter_cases word first rest true is e =
     omega (arith, length-drop (k + 1) word, len)
 shorter_cases word first rest false is e = cc
 
--- what stands behind a comma is shorter
+-- The part after a comma is shorter than the word.
 pub cut_shorter : (word first rest : List ℕ) → cut 44 word ≡ Some (first, rest) → length rest < length word
 unfolding cut
 cut_shorter word first rest e = shorter_cases word first rest (nat_lt (position_or_len (λ x. x == 44) word) (length word)) refl e
 
--- a last time
+-- The last time ascends.
 pub ascend_last : (xs : List ℕ) (k : ℕ) → length xs ≤ k + 1 → ascend (drop k xs) ≡ true
 ascend_last xs k past = short (drop k xs) (omega (arith, length-drop k xs)) where
   short : (ys : List ℕ) → length ys ≤ 1 → ascend ys ≡ true

@@ -1,4 +1,4 @@
--- Digits that are read one by one.
+-- Digits read one by one.
 use Rattle.std.proofs.Common.{◌≡◌, ℕ, zero, suc, ◌+◌, ◌-◌, ◌*◌, ◌^◌, ◌<◌, ◌≤◌, true, false, cond, nat_lt, List, length, Option, Some, None, option_map, sym, ap, arith, le_refl}
 use Rattle.std.proofs.Math.Nat.{mul-lt-mul_of_pos_right, pow-le-pow_right}
 use Rattle.std.proofs.lemmas.Nat.{pow-add}
@@ -17,7 +17,7 @@ ten_positive : (k : ℕ) → 0 < 10 ^ k
 ten_positive zero = omega arith
 ten_positive (suc k) = let below : 0 < 10 ^ k = ten_positive k in omega arith
 
--- up to nine digits behind a point are less than one
+-- Up to nine digits after a point are less than one.
 pub fraction_small : (word : List ℕ) (v : ℕ) → whole word ≡ Some v → length word ≤ 9 → v * 10 ^ (9 - length word) < 1000000000
 fraction_small word v e short =
     let n = length word in
@@ -29,22 +29,22 @@ fraction_small word v e short =
     let power : 10 ^ (n + (9 - n)) ≡ 10 ^ 9 = ap (λ k. 10 ^ k) nine in
     omega (arith, scaled, joined, power)
 
--- what hexadecimal digits write behind those of a number
+-- the value of the hexadecimal digits `ds` after digits with value `n`
 abbrev pub hex_on : ℕ → List ℕ → Option ℕ
 hex_on n ds = cond (list_all is_hex ds) (Some (digits_value_after 16 n ds)) None
 
--- one more digit stays below the power of sixteen of their number
+-- The value of `i + 1` hexadecimal digits is below 16 ^ (`i` + 1).
 pub hex_more : (v i d : ℕ) → v < 16 ^ i → d < 16 → v * 16 + d < 16 ^ (i + 1)
 hex_more v i d small digit = let power : 16 ^ (i + 1) ≡ 16 ^ i * 16 ^ 1 = pow-add 16 i 1 in omega (arith, power)
 
--- 32 digits fit
+-- 32 hexadecimal digits fit 128 bits.
 pub hex_fits : (v i d : ℕ) → v < 16 ^ i → i < 32 → d < 16 → v * 16 + d < 2 ^ 128
 hex_fits v i d small within digit =
     let positive : 0 < 16 = omega arith in
     let most : 16 ^ (i + 1) ≤ 16 ^ 32 = pow-le-pow_right positive {i = i + 1} {j = 32} (omega arith) in
     omega (arith, hex_more v i d small digit, most)
 
--- where a text is split at a character
+-- The result of splitting a text at a character is the definition's.
 pub cut_split : (c : ℕ) (bs : List ℕ) (r : Option (Bor (List ℕ) × Bor (List ℕ))) → IsSplitOnceResult c bs r → c < 128 →
     option_map {U = List ℕ × List ℕ} (λ (p : Bor (List ℕ) × Bor (List ℕ)). (p.0.now, p.1.now)) r ≡ cut c bs
 unfolding cut

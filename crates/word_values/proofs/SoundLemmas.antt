@@ -1,4 +1,4 @@
--- What is read of a word keeps its limits.
+-- Every value that is read from an argument keeps its limits.
 use Rattle.std.proofs.Common.{◌≡◌, ◌<◌, ◌≤◌, ℕ, zero, suc, ◌+◌, ◌-◌, ◌*◌, ◌^◌, min, ℤ, pos, Bool, true, false, ◌&&◌, nat_lt, nat_le, if◌then◌else◌, List, [], ◌∷◌, length, take, drop, get_or, Option, Some, None, option_map, refl, subst, arith}
 use Rattle.std.specs.Prelude.{nat_abs, neg_ℤ, slice_index, ◌==◌, codes, All}
 use Rattle.std.specs.List.{list_any, position}
@@ -31,12 +31,12 @@ use Rattle.lemmas.proofs.PlainLemmas.{both-true as conj}
 
 -- ---- numbers
 
--- what was mapped
+-- A mapped value has its origin.
 pub mapped : {A B : Type 0} (P : B → Type 0) (f : A → B) (o : Option A) (y : B) → option_map f o ≡ Some y → ((x : A) → o ≡ Some x → P (f x)) → P y
 mapped P f None y is keeps = absurd (cc)
 mapped P f (Some x) y is keeps = let same : f x ≡ y = cc in subst P same (keeps x refl)
 
--- what follows a value that was read
+-- A value that follows another has its origin.
 pub read_then : {A B : Type 0} (P : Type 0) (o : Option A) (f : A → Option B) (y : B) → (o >>= f) ≡ Some y → ((x : A) → o ≡ Some x → f x ≡ Some y → P) → P
 read_then P None f y is keeps = absurd (cc)
 read_then P (Some x) f y is keeps = keeps x refl is
@@ -57,7 +57,7 @@ from-is least (Some k) n is = split (nat_le least k) refl is
     split true test found = let same : k ≡ n = cc in let P : ℕ → Type 0 = λ i. least ≤ i in (subst P same (grind (arith, nat_tests)), found)
     split false test found = absurd (cc)
 
--- a number from a least one on, below a limit
+-- A number from `least` on and below `limit` is within both.
 within : (least limit : ℕ) (o : Option ℕ) (n : ℕ) → below limit (from least o) ≡ Some n → IsWithin least (limit - 1) n
 within least limit o n is =
     let under = below-is limit (from least o) n is in
@@ -89,7 +89,7 @@ onto-is P None os ys is keeps = absurd (cc)
 onto-is P (Some x) None ys is keeps = absurd (cc)
 onto-is P (Some x) (Some xs) ys is keeps = let same : x ∷ xs ≡ ys = cc in subst P same (keeps x xs refl refl)
 
--- what each piece says keeps what one says
+-- If each piece satisfies `P`, the whole list does.
 each-all : {X : Type 0} (P : X → Type 0) (read : List ℕ → Option X) (ps : List (List ℕ)) (xs : List X) → ((p : List ℕ) (x : X) → read p ≡ Some x → P x) → each read ps ≡ Some xs → All P xs
 each-all P read [] xs keeps is = let none : [] ≡ xs = cc in subst (All P) none (All-nil P)
 each-all P read (p ∷ ps) xs keeps is =
@@ -140,7 +140,7 @@ uuids-sound word us is =
     let few = parts.0 in
     record { few = grind (arith, nat_tests); differ = parts.1 }
 
--- ---- where an output is split
+-- ---- splits
 
 amount-sound : (word : List ℕ) (n : ℕ) → amount word ≡ Some n → IsWithin 1 (10 ^ 12) n
 unfolding amount
@@ -210,7 +210,7 @@ language-same : (word t : List ℕ) → language word ≡ Some t → word ≡ t
 unfolding language
 language-same word t is = either (word ≡ t) (is_language word) _ _ _ is (λ found. cc) (λ never. absurd (cc))
 
--- what stands behind a colon is a text, where all of it is
+-- The part after a colon is UTF-8 if the whole word is.
 behind-colon : (word : List ℕ) (p : List ℕ × List ℕ) → IsUtf8 word → cut COLON word ≡ Some p → IsUtf8 p.1
 unfolding cut
 behind-colon word p utf8 is =
@@ -231,14 +231,14 @@ rest-text word p is utf8 =
 
 -- ---- the value of an option
 
--- a text that a value has is UTF-8 where this is given; one for the whole output has no zero octet
+-- A text in a value is UTF-8 if `given` holds; one for the whole output has no zero byte.
 abbrev pub IsTextIf : Type 0 → Value → Type 0
 IsTextIf given (Text t) = (text t ≡ Some t) × (given → IsUtf8 t)
 IsTextIf given (TrackText id t) = given → IsUtf8 t
 IsTextIf given (TrackLanguage id t) = given → IsUtf8 t
 IsTextIf given _ = Unit {0}
 
--- what a value keeps that was read of a word, which is UTF-8 where this is given
+-- The value keeps its limits, and its text is UTF-8 if `given` holds.
 abbrev pub IsRead : Type 0 → Value → Type 0
 IsRead given v = IsSoundValue v × IsTextIf given v
 
@@ -269,7 +269,7 @@ track_value-read given form.TrackCues id rest v utf8 is = mapped (IsRead given) 
 track_value-read given form.TrackFile id rest v utf8 is = let same : TrackFile id rest ≡ v = cc in subst (IsRead given) same (tt, tt)
 track_value-read given _ id rest v utf8 is = absurd (cc)
 
--- What an option says with its value keeps its limits, and is a text where its word is.
+-- A value that is read keeps its limits, and is UTF-8 if its argument is.
 pub value_of-read : (given : Type 0) (form : ValueForm) (word : List ℕ) (v : Value) → (given → IsUtf8 word) → value_of form word ≡ Some v → IsRead given v
 unfolding value_of track_flag scale
 value_of-read given form.Flag word v utf8 is = absurd (cc)
@@ -288,7 +288,7 @@ value_of-read given form.TrackFlag word v utf8 is = flag_in-read given word (tra
 value_of-read given form word v utf8 is =
     read_then (IsRead given v) (track_and_rest word) (λ p. track_value form p.0 p.1) v is (λ p here more. track_value-read given form p.0 p.1 v (λ all. rest-text word p here (utf8 all)) more)
 
--- What one says without a value is a flag, or that no track is taken.
+-- An option without an argument is a flag, or excludes a type of tracks.
 pub flag_of-is : (P : Value → Type 0) (f : ValueForm) (v : Value) → flag_of f ≡ Some v → P Flag → P (Tracks Off) → P v
 flag_of-is P form.Flag v is flag off = let same : Flag ≡ v = cc in subst P same flag
 flag_of-is P form.Exclusion v is flag off = let same : Tracks Off ≡ v = cc in subst P same off

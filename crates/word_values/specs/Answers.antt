@@ -1,4 +1,4 @@
--- What a function answers, beside what the words mean. Want of memory may come at any time.
+-- Relations of a function's result to the meaning of the command line. Running out of memory is possible at any time.
 use Rattle.std.specs.Prelude.{◌≡◌, ℕ, Option, Some, None, Result, Ok, Err}
 use Rattle.word_values.specs.declared.usage.Usage.{Usage}
 use Rattle.word_values.specs.declared.usage.Why.{Why}
@@ -7,13 +7,13 @@ use Rattle.word_values.specs.declared.usage.ArgsEnd.TheVariants as args_end
 use Rattle.word_values.specs.declared.usage.ValueEnd.{ValueEnd}
 use Rattle.word_values.specs.declared.usage.ValueEnd.TheVariants as value_end
 
--- the value is read exactly where the word is of its form
+-- The value is read exactly if the word has its form.
 abbrev pub ReadsValue : {X : Type 0} → Result X ValueEnd → Option X → Type 0
 ReadsValue (Ok x) meant = meant ≡ Some x
 ReadsValue (Err value_end.Bad) meant = meant ≡ None
 ReadsValue (Err value_end.Memory) meant = Unit {0}
 
--- the answer, seen by view, is what the words mean, or the word that is wrong and why
+-- The result, seen through `view`, is the meaning of the command line, or its first wrong argument with the reason.
 abbrev pub TellsOf : {X Y : Type 0} → (X → Y) → Result X ArgsEnd → Result Y Usage → Type 0
 TellsOf view (Ok x) meant = meant ≡ Ok (view x)
 TellsOf view (Err (args_end.Usage usage)) meant = meant ≡ Err usage
@@ -22,15 +22,15 @@ TellsOf view (Err args_end.Memory) meant = Unit {0}
 abbrev pub Tells : {X : Type 0} → Result X ArgsEnd → Result X Usage → Type 0
 Tells {X} result meant = TellsOf (λ (x : X). x) result meant
 
--- a word is wrong
+-- the refusal of argument number `word`, as a meaning
 abbrev pub wrong : {X : Type 0} → ℕ → Why → Result X Usage
 wrong word why = Err (record { word = word; why = why })
 
--- the answer that says so
+-- the refusal of argument number `word`, as a result
 abbrev pub refuses : {X : Type 0} → ℕ → Why → Result X ArgsEnd
 refuses word why = Err (args_end.Usage (record { word = word; why = why }))
 
--- what comes next, where nothing was wrong so far
+-- the next step, if nothing was wrong before
 infixl 10 ◌>>=◌
 abbrev pub ◌>>=◌ : {A B : Type 0} → Result A Usage → (A → Result B Usage) → Result B Usage
 (Ok x) >>= f = f x

@@ -14,22 +14,22 @@ use Rattle.word_values.specs.Numbers.{from, size, time, uuid}
 use Rattle.requests.specs.Decimal.{number}
 pub use Rattle.requests.specs.Lists.{ascend, ends_before, follow, differ}
 
--- what stands between the commas
+-- the parts between the commas
 abbrev pub pieces : List ℕ → List (List ℕ)
 pieces word = slice_split (λ b. b == COMMA) word
 
--- what is first, and what the others are, where all are of the form
+-- the first value and the others, if all have the form
 abbrev pub onto : {X : Type 0} → Option X → Option (List X) → Option (List X)
 onto None xs = None
 onto (Some x) None = None
 onto (Some x) (Some xs) = Some (x ∷ xs)
 
--- what each piece says, where all of them are of the form
+-- the values of all pieces, if all have the form
 abbrev pub each : {X : Type 0} → (List ℕ → Option X) → List (List ℕ) → Option (List X)
 each read [] = Some []
 each read (p ∷ ps) = onto (read p) (each read ps)
 
--- the value, where it passes the test
+-- the value, if it passes the test
 abbrev pub passing : {X : Type 0} → (X → Bool) → Option X → Option X
 passing test None = None
 passing test (Some x) = if test x then Some x else None
@@ -38,15 +38,15 @@ passing test (Some x) = if test x then Some x else None
 unfoldable pub numbers : List ℕ → Option (List ℕ)
 numbers word = each number (pieces word)
 
--- track IDs, or `!` and the IDs that aren't meant
+-- track IDs, or `!` and the IDs that are excluded
 unfoldable pub ids : List ℕ → Option Select
 ids word = if slice_index word 0 == char "!" then option_map AllBut (numbers (drop 1 word)) else option_map These (numbers word)
 
--- times, each above the one before
+-- times, each above the previous one
 unfoldable pub times : List ℕ → Option (List ℕ)
 times word = passing ascend (each time (pieces word))
 
--- `a-b`, or `a-` for a stretch without end
+-- `a-b`, or `a-` for a time span without end
 abbrev pub span_of : List ℕ × List ℕ → Option SpanWords
 span_of (start, []) = option_map (λ s. record { start = s; end = None }) (time start)
 span_of (start, e ∷ es) = do
@@ -57,7 +57,7 @@ span_of (start, e ∷ es) = do
 unfoldable pub span : List ℕ → Option SpanWords
 span word = cut DASH word >>= span_of
 
--- stretches of time, none of which begins before the end of the one before
+-- time spans, none with a start before the end of the previous one
 unfoldable pub spans : List ℕ → Option (List SpanWords)
 spans word = passing (follow 0) (each span (pieces word))
 
@@ -73,7 +73,7 @@ duration word = option_map Duration (from 1 (time word))
 unfoldable pub chapters : List ℕ → Option SplitWords
 chapters word = if bytes_eq word (codes "all") then Some AllChapters else option_map Chapters (numbers word)
 
--- what stands behind the kind of a split
+-- the split with this kind and the value `rest` after it
 unfoldable pub split_of : List ℕ → List ℕ → Option SplitWords
 split_of kind rest =
     if bytes_eq kind (codes "duration") then duration rest
@@ -83,6 +83,6 @@ split_of kind rest =
     else if bytes_eq kind (codes "size") then option_map Size (size rest)
     else None
 
--- where an output is split
+-- the value of `--split`
 unfoldable pub split : List ℕ → Option SplitWords
 split word = cut COLON word >>= (λ p. split_of p.0 p.1)

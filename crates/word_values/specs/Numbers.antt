@@ -1,4 +1,4 @@
--- Numbers, times and sizes, as they are spelled in words: this project's grammar.
+-- Numbers, times and sizes in arguments, in this project's grammar.
 use Rattle.std.specs.Prelude.{ℕ, ℤ, pos, neg_ℤ, ◌+◌, ◌-◌, ◌*◌, ◌^◌, min, Bool, ◌&&◌, ◌==◌, nat_lt, nat_le, if◌then◌else◌, List, length, take, drop, slice_index, Option, Some, None, option_map}
 use Rattle.std.specs.List.{list_all}
 use Rattle.std.specs.Char.{is_ascii_digit, is_digit}
@@ -8,7 +8,7 @@ use Rattle.mkv_io.specs.Octets.{cut}
 use Rattle.mkv_io.specs.Optional.{◌>>=◌}
 pub use Rattle.requests.specs.Decimal.{below, whole, number}
 
--- the number, where it is at least the least
+-- the number, if it is at least `least`
 abbrev pub from : ℕ → Option ℕ → Option ℕ
 from least None = None
 from least (Some n) = if nat_le least n then Some n else None
@@ -27,7 +27,7 @@ delay word =
 unfoldable pub minutes_or_seconds : List ℕ → Option ℕ
 minutes_or_seconds word = if length word == 2 then below 60 (whole word) else None
 
--- 1 to 9 digits behind a point, in billionths
+-- the 1 to 9 digits after a point, in billionths
 unfoldable pub fraction : List ℕ → Option ℕ
 fraction word = if nat_le (length word) 9 then option_map (λ n. n * 10 ^ (9 - length word)) (whole word) else None
 
@@ -52,11 +52,11 @@ clock word = do
   n ← seconds m.1
   Some ((hours * 3600 + minutes * 60) * 1000000000 + n)
 
--- the word ends with this octet
+-- The word ends with the byte `octet`.
 abbrev pub ends : List ℕ → ℕ → Bool
 ends word octet = nat_lt 0 (length word) && slice_index word (length word - 1) == octet
 
--- the word without its last octet
+-- the word without its last byte
 abbrev pub front : List ℕ → List ℕ
 front word = take (length word - 1) word
 
@@ -69,11 +69,11 @@ time word =
 unfoldable pub amount : List ℕ → Option ℕ
 amount word = if nat_le (length word) 12 then from 1 (whole word) else None
 
--- as many times the unit; a product past 2^64 - 1 is 2^64 - 1
+-- the product with `unit`; a product above 2^64 - 1 is 2^64 - 1
 abbrev pub times_unit : ℕ → Option ℕ → Option ℕ
 times_unit unit = option_map (λ n. min (n * unit) (2 ^ 64 - 1))
 
--- an amount, or one followed by `k`, `m` or `g` for 1024, its square or its cube
+-- an amount, or an amount followed by `k`, `m` or `g` for 1024, its square or its cube
 unfoldable pub size : List ℕ → Option ℕ
 size word =
     if ends word (char "k") then times_unit 1024 (amount (front word))
@@ -81,10 +81,10 @@ size word =
     else if ends word (char "g") then times_unit 1073741824 (amount (front word))
     else amount word
 
--- a hexadecimal digit
+-- `b` is a hexadecimal digit.
 abbrev pub is_hex : ℕ → Bool
 is_hex b = is_digit b 16
 
--- 32 hexadecimal digits, the highest first
+-- the value of 32 hexadecimal digits, the highest first
 unfoldable pub uuid : List ℕ → Option ℕ
 uuid word = if length word == 32 && list_all is_hex word then Some (digits_value 16 word) else None

@@ -1,4 +1,4 @@
--- The words by their numbers, counted from 0, and what is wrong where one is due or too many. The rule is this project's.
+-- Command-line arguments by number, counted from 0, and the refusal of a missing or surplus one. The rule is this project's.
 use Rattle.std.specs.Prelude.{ℕ, Bool, ◌&&◌, ◌==◌, nat_lt, nat_le, if◌then◌else◌, List, length, map, slice_get, slice_index, Option, Some, None, Result, Ok, ◌≡◌, ◌+◌, ◌∷◌, drop}
 use Rattle.std.specs.String.{string_bytes}
 use Rattle.std.specs.declared.string.String.{String}
@@ -8,33 +8,33 @@ use Rattle.word_values.specs.declared.usage.Why.TheVariants.{MissingValue, Extra
 use Rattle.mkv_io.specs.Characters.{DASH}
 use Rattle.word_values.specs.Answers.{wrong, ◌>>=◌}
 
--- the octets of each word
+-- the bytes of each argument
 abbrev pub texts : List (String Global) → List (List ℕ)
 texts words = map string_bytes words
 
--- This word stands at a number, and the words from there on are it and those behind.
+-- `word` is the argument with number `at`, and the arguments from there on are `word` and those after it.
 abbrev pub IsWordAt : List (List ℕ) → ℕ → List ℕ → Type 0
 IsWordAt words at word = drop at words ≡ word ∷ drop (at + 1) words
 
--- the word, where there is one; else the number of words is named
+-- the argument, if it is present; if not, the refusal names the number of arguments
 abbrev pub due : ℕ → Option (List ℕ) → Result (List ℕ) Usage
 due count None = wrong count MissingValue
 due count (Some word) = Ok word
 
--- the word that is due at a number
+-- the argument with number `at`, which must be present
 abbrev pub due_at : List (List ℕ) → ℕ → Result (List ℕ) Usage
 due_at words at = due (length words) (slice_get words at)
 
--- a word of two or more characters that begins with `-`
+-- The argument has two or more characters and begins with `-`.
 abbrev pub is_option : List ℕ → Bool
 is_option word = nat_le 2 (length word) && slice_index word 0 == DASH
 
--- the name of a file that is due at a number, which doesn't look like an option
+-- the argument with number `at`, the name of a file, which must not look like an option
 abbrev pub file_at : List (List ℕ) → ℕ → Result (List ℕ) Usage
 file_at words at = do
   file ← due_at words at
   if is_option file then wrong at UnknownOption else Ok file
 
--- no word stands at a number
+-- the refusal of an argument with number `at`, if there is one
 abbrev pub end_at : List (List ℕ) → ℕ → Result (Unit {0}) Usage
 end_at words at = if nat_lt at (length words) then wrong at ExtraWord else Ok tt

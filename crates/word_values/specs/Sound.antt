@@ -1,10 +1,10 @@
--- What the value of an option keeps, whatever its word was.
+-- Limits that every value of an option keeps.
 use Rattle.std.specs.Prelude.{◌<◌, ⊤, ◌^◌, nat_abs}
 use Rattle.word_values.specs.declared.values.Value.{Value}
 use Rattle.word_values.specs.declared.values.Value.TheVariants.{Scale, Blocks, Span, Split, Uuids, TrackDelay}
 pub use Rattle.requests.specs.Sound.{IsWithin, AreTimes, IsSpan, AreSpans, AreUuids, IsSoundSplit}
 
--- a tick, the blocks of a Cluster, its nanoseconds and a delay keep their limits, and so do lists
+-- A tick, a Cluster's blocks and duration, a delay, a split and the identifiers keep their limits.
 abbrev pub IsSoundValue : Value → Type 0
 IsSoundValue (Scale scale) = IsWithin 1000 10000000 scale
 IsSoundValue (Blocks blocks) = IsWithin 1 65535 blocks

@@ -1,4 +1,4 @@
--- What the value of an option says, by its form, in this project's grammar.
+-- Values of options by their form, in this project's grammar.
 use Rattle.std.specs.Prelude.{ℕ, ◌*◌, Bool, true, false, ◌&&◌, ◌==◌, if◌then◌else◌, List, length, codes, Option, Some, None, option_map}
 use Rattle.std.specs.List.{list_any, list_all}
 use Rattle.std.specs.Char.{is_ascii_lowercase}
@@ -17,17 +17,17 @@ use Rattle.word_values.specs.Numbers.{from, delay, ends, front}
 use Rattle.requests.specs.Decimal.{below, number}
 use Rattle.word_values.specs.Lists.{ids, split, uuids}
 
--- what an option without a value says; none where a value is due
+-- the value of an option that takes no argument; none if its form needs one
 abbrev pub flag_of : ValueForm → Option Value
 flag_of form.Flag = Some Flag
 flag_of form.Exclusion = Some (Tracks select.Off)
 flag_of _ = None
 
--- a word without a zero octet
+-- a word without a zero byte
 unfoldable pub text : List ℕ → Option (List ℕ)
 text word = if list_any (λ b. b == 0) word then None else Some word
 
--- three lower-case letters
+-- The word consists of three lower-case letters.
 abbrev pub is_language : List ℕ → Bool
 is_language word = length word == 3 && list_all is_ascii_lowercase word
 
@@ -46,36 +46,36 @@ cluster_length word =
     then option_map (λ n. Span (n * 1000000)) (below 32001 (from 100 (number (front (front word)))))
     else option_map Blocks (below 65536 (from 1 (number word)))
 
--- a number, and what stands behind the first `:`
+-- the number before the first `:`, and the part after it
 unfoldable pub track_and_rest : List ℕ → Option (ℕ × List ℕ)
 track_and_rest word = do
   p ← cut COLON word
   id ← number p.0
   Some (id, p.1)
 
--- 0 or 1
+-- the flag 0 or 1 of track `id`
 abbrev pub flag_digit : ℕ → List ℕ → Option Value
 flag_digit id word =
     if bytes_eq word (codes "0") then Some (TrackFlag id false)
     else if bytes_eq word (codes "1") then Some (TrackFlag id true) else None
 
--- a track and 0 or 1, or a track alone, which is 1
+-- a track and 0 or 1, or only a track, which means 1
 abbrev pub flag_in : List ℕ → Option (ℕ × List ℕ) → Option Value
 flag_in word None = option_map (λ id. TrackFlag id true) (number word)
 flag_in word (Some p) = flag_digit p.0 p.1
 
--- a track and 0 or 1, or a track alone, as an option's value
+-- a track and 0 or 1, or only a track, as an option's value
 unfoldable pub track_flag : List ℕ → Option Value
 track_flag word = flag_in word (track_and_rest word)
 
--- which blocks of a track get a cue point
+-- the selection of a track's blocks that get a cue point
 unfoldable pub cue_word : List ℕ → Option CueWord
 cue_word word =
     if bytes_eq word (codes "none") then Some cue.Never
     else if bytes_eq word (codes "iframes") then Some cue.Key
     else if bytes_eq word (codes "all") then Some cue.All else None
 
--- what an option says of a track
+-- the value of this form for track `id`, with `rest` after the track ID
 unfoldable pub track_value : ValueForm → ℕ → List ℕ → Option Value
 track_value form.TrackDelay id rest = option_map (λ t. TrackDelay id t) (delay rest)
 track_value form.TrackText id rest = option_map (λ t. TrackText id t) (text rest)
@@ -84,7 +84,7 @@ track_value form.TrackCues id rest = option_map (λ t. TrackCues id t) (cue_word
 track_value form.TrackFile id rest = Some (TrackFile id rest)
 track_value _ id rest = None
 
--- what an option says with this value
+-- the value of this form in `word`
 unfoldable pub value_of : ValueForm → List ℕ → Option Value
 value_of form.Flag word = None
 value_of form.Exclusion word = None

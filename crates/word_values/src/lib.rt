@@ -1,7 +1,6 @@
 #![tactic(auto)]
 
-//! The words of a command line by their numbers, what a value among them says by its form, what can be wrong with a word,
-//! and what a run is asked to take out of a file or to change in one, as plain values.
+//! Command-line arguments by number, values of options by their form, and reasons to refuse an argument.
 
 mod lists;
 mod numbers;

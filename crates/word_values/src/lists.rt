@@ -1,4 +1,4 @@
-//! Values with commas between them.
+//! Values that are lists with commas.
 
 ghost use Rattle.std.specs.Prelude.{◌≡◌, ℕ, List, Option};
 ghost use Rattle.word_values.specs.Answers.{ReadsValue};
@@ -12,17 +12,17 @@ use mkv_io::List;
 use requests::{Select, SpanWords, SplitWords, number};
 use std::alloc::Global;
 
-/// The most identifiers that the parts of an output are given.
+/// Greatest number of identifiers for the parts of an output.
 const MAX_UUIDS: usize = 1024;
 
-/// A form of the pieces of a list.
+/// Form of the pieces of a list.
 trait Piece {
-    /// What a piece of this form says.
+    /// Value of a piece of this form.
     type Value: Drop;
 
     ghost spelled: { List ℕ → Option Self.Value };
 
-    /// What the piece says, where it is of this form.
+    /// Returns the value of `word`, if it has this form.
     fn read(word: &[u8]) -> Option<Self::Value>
         ensures { result ≡ spelled word.now };
 }
@@ -75,7 +75,7 @@ impl Piece for SpanPiece {
     }
 }
 
-/// What the pieces say, at least one.
+/// Reads the pieces of `word`, at least one.
 fn list_of<P: Piece>(alloc: Global, word: &[u8]) -> Result<List<P::Value>, ValueEnd>
     ensures { ReadsValue result (each P.spelled (pieces word.now)) }
 {
@@ -95,7 +95,7 @@ fn list_of<P: Piece>(alloc: Global, word: &[u8]) -> Result<List<P::Value>, Value
     Ok(list)
 }
 
-/// Numbers, at least one.
+/// Reads numbers, at least one.
 #[tactic(auto, unfolding(crate::specs::Lists::numbers))]
 pub(crate) fn numbers(alloc: Global, word: &[u8]) -> Result<List<u64>, ValueEnd>
     ensures { ReadsValue result (spec.numbers word.now) }
@@ -103,7 +103,7 @@ pub(crate) fn numbers(alloc: Global, word: &[u8]) -> Result<List<u64>, ValueEnd>
     list_of::<NumberPiece>(alloc, word)
 }
 
-/// Track IDs, or `!` and the IDs that aren't meant.
+/// Reads track IDs, or `!` and the IDs that are excluded.
 #[tactic(auto, unfolding(crate::specs::Lists::ids))]
 pub(crate) fn ids(alloc: Global, word: &[u8]) -> Result<Select, ValueEnd>
     ensures { ReadsValue result (spec.ids word.now) }
@@ -118,7 +118,7 @@ pub(crate) fn ids(alloc: Global, word: &[u8]) -> Result<Select, ValueEnd>
     }
 }
 
-/// Times, at least one, each above the one before.
+/// Reads times, at least one, each above the previous one.
 #[tactic(auto, unfolding(crate::specs::Lists::times))]
 fn times(alloc: Global, word: &[u8]) -> Result<List<u64>, ValueEnd>
     ensures { ReadsValue result (spec.times word.now) }
@@ -131,7 +131,7 @@ fn times(alloc: Global, word: &[u8]) -> Result<List<u64>, ValueEnd>
     }
 }
 
-/// Whether each time is above the one before.
+/// Checks whether each time is above the previous one.
 fn ascend(times: &[u64]) -> bool
     ensures { result ≡ spec.ascend times.now }
 {
@@ -143,7 +143,7 @@ fn ascend(times: &[u64]) -> bool
     true
 }
 
-/// Stretches of time, at least one, none of which begins before the end of the one before.
+/// Reads time spans, at least one. No span begins before the end of the previous one.
 #[tactic(auto, unfolding(crate::specs::Lists::spans))]
 fn spans(alloc: Global, word: &[u8]) -> Result<List<SpanWords>, ValueEnd>
     ensures { ReadsValue result (spec.spans word.now) }
@@ -156,7 +156,7 @@ fn spans(alloc: Global, word: &[u8]) -> Result<List<SpanWords>, ValueEnd>
     }
 }
 
-/// `a-b`, or `a-` for a stretch without end.
+/// Reads `a-b`, or `a-` for a time span without end.
 #[tactic(auto, unfolding(crate::specs::Lists::span))]
 fn span(word: &[u8]) -> Option<SpanWords>
     ensures { result ≡ spec.span word.now }
@@ -173,8 +173,8 @@ fn span(word: &[u8]) -> Option<SpanWords>
     })
 }
 
-/// Whether each stretch begins before its end and not before the end of the one before it. Only
-/// the last may have no end.
+/// Checks whether each span begins before its end and not before the end of the previous span. Only the last may have
+/// no end.
 fn follow(spans: &[SpanWords]) -> bool
     ensures { result ≡ spec.follow 0 spans.now }
 {
@@ -196,7 +196,7 @@ fn follow(spans: &[SpanWords]) -> bool
     true
 }
 
-/// Identifiers, 1 to 1024, all different.
+/// Reads identifiers, 1 to 1024, all different.
 #[tactic(auto, unfolding(crate::specs::Lists::uuids))]
 pub(crate) fn uuids(alloc: Global, word: &[u8]) -> Result<List<u128>, ValueEnd>
     ensures { ReadsValue result (spec.uuids word.now) }
@@ -209,7 +209,7 @@ pub(crate) fn uuids(alloc: Global, word: &[u8]) -> Result<List<u128>, ValueEnd>
     }
 }
 
-/// Whether no number stands twice.
+/// Checks whether no number occurs twice.
 fn differ(numbers: &[u128]) -> bool
     ensures { result ≡ spec.differ numbers.now }
 {
@@ -221,7 +221,7 @@ fn differ(numbers: &[u128]) -> bool
     true
 }
 
-/// Where an output is split: `duration:`, `timestamps:`, `chapters:`, `parts:` or `size:`.
+/// Reads the value of `--split`: `duration:`, `timestamps:`, `chapters:`, `parts:` or `size:`, and their values.
 #[tactic(auto, unfolding(crate::specs::Lists::split, crate::specs::Lists::split_of))]
 pub(crate) fn split(alloc: Global, word: &str) -> Result<SplitWords, ValueEnd>
     ensures { ReadsValue result (spec.split word.now) }
@@ -249,7 +249,7 @@ pub(crate) fn split(alloc: Global, word: &str) -> Result<SplitWords, ValueEnd>
     }
 }
 
-/// A time above 0.
+/// Reads a time above 0.
 #[tactic(auto, unfolding(crate::specs::Lists::duration))]
 fn duration(word: &[u8]) -> Option<SplitWords>
     ensures { result ≡ spec.duration word.now }
@@ -262,7 +262,7 @@ fn duration(word: &[u8]) -> Option<SplitWords>
     }
 }
 
-/// `all`, or the numbers of chapters.
+/// Reads `all`, or the numbers of chapters.
 #[tactic(auto, unfolding(crate::specs::Lists::chapters))]
 fn chapters(alloc: Global, word: &[u8]) -> Result<SplitWords, ValueEnd>
     ensures { ReadsValue result (spec.chapters word.now) }

@@ -1,4 +1,4 @@
-//! Numbers, times and sizes, as they are spelled in words.
+//! Readers of numbers, times and sizes.
 
 ghost use Rattle.std.specs.Prelude.{◌≡◌, ◌==◌, ◌^◌, ◌<◌, IfSome, option_map};
 ghost use Rattle.std.specs.List.{position};
@@ -12,13 +12,13 @@ const SECOND: u64 = 1_000_000_000;
 
 const MILLISECOND: u64 = 1_000_000;
 
-/// The least time that is too long, in nanoseconds.
+/// Least time that is refused as too large, in nanoseconds.
 const TIME_LIMIT: u64 = 1 << 63;
 
-/// The least delay that is too long, in nanoseconds.
+/// Least delay that is refused as too large, in nanoseconds.
 const DELAY_LIMIT: u64 = 1 << 55;
 
-/// What stands before and behind the first such octet.
+/// Splits `word` at the first byte that is `octet`; returns the parts before and after it.
 #[tactic(auto, unfolding(mkv_io::specs::Octets::cut))]
 pub(crate) fn cut(word: &[u8], octet: u8) -> Option<(&[u8], &[u8])>
     ensures { option_map (λ p. (p.0.now, p.1.now)) result ≡ octets.cut octet word.now }
@@ -27,7 +27,7 @@ pub(crate) fn cut(word: &[u8], octet: u8) -> Option<(&[u8], &[u8])>
     Some((&word[..at], &word[at + 1..]))
 }
 
-/// The same of text, at an ASCII character.
+/// Splits text at the first `mark`, an ASCII character; returns the parts before and after it.
 pub fn cut_text(word: &str, mark: char) -> Option<(&str, &str)>
     requires { mark < 128 }
     ensures { option_map (λ p. (p.0.now, p.1.now)) result ≡ octets.cut mark word.now }
@@ -35,14 +35,14 @@ pub fn cut_text(word: &str, mark: char) -> Option<(&str, &str)>
     word.split_once(mark)
 }
 
-/// Where the first such octet stands.
+/// Returns the offset of the first byte of `word` that is `octet`.
 fn place_of(word: &[u8], octet: u8) -> Option<usize>
     ensures { result ≡ position (λ b. b == octet) word.now }
 {
     word.iter().position(|b| *b == octet)
 }
 
-/// Milliseconds with or without `-`, as nanoseconds.
+/// Reads milliseconds with or without `-`; returns nanoseconds.
 #[tactic(auto, unfolding(crate::specs::Numbers::delay))]
 pub(crate) fn delay(word: &[u8]) -> Option<i64>
     ensures { result ≡ spec.delay word.now }
@@ -62,7 +62,7 @@ fn delay_size(word: &[u8]) -> Option<u64>
     if time < DELAY_LIMIT { Some(time) } else { None }
 }
 
-/// `H:MM:SS`, with or without a fraction, or digits followed by `s`, in nanoseconds.
+/// Reads `H:MM:SS`, with or without a fraction, or digits followed by `s`; returns nanoseconds.
 #[tactic(auto, unfolding(crate::specs::Numbers::time))]
 pub(crate) fn time(word: &[u8]) -> Option<u64>
     ensures { result ≡ spec.time word.now }
@@ -90,7 +90,7 @@ fn clock(word: &[u8]) -> Option<u64>
         .checked_add(rest)
 }
 
-/// Two digits, below 60.
+/// Reads two digits, below 60.
 #[tactic(auto, unfolding(crate::specs::Numbers::minutes_or_seconds))]
 fn minutes_or_seconds(word: &[u8]) -> Option<u64>
     ensures same { result ≡ spec.minutes_or_seconds word.now }
@@ -103,7 +103,7 @@ fn minutes_or_seconds(word: &[u8]) -> Option<u64>
     if value < 60 { Some(value) } else { None }
 }
 
-/// `SS`, with or without a fraction, in nanoseconds.
+/// Reads `SS`, with or without a fraction; returns nanoseconds.
 #[tactic(auto, unfolding(crate::specs::Numbers::seconds))]
 fn seconds(word: &[u8]) -> Option<u64>
     ensures same { result ≡ spec.seconds word.now }
@@ -118,7 +118,7 @@ fn seconds(word: &[u8]) -> Option<u64>
     }
 }
 
-/// 1 to 9 digits behind a point, in billionths.
+/// Reads the 1 to 9 digits after a point, in billionths.
 #[tactic(auto, using(requests::proofs::DecimalLemmas::whole_short, crate::proofs::NumbersLemmas::fraction_small), unfolding(crate::specs::Numbers::fraction))]
 fn fraction(word: &[u8]) -> Option<u64>
     ensures same { result ≡ spec.fraction word.now }
@@ -131,7 +131,7 @@ fn fraction(word: &[u8]) -> Option<u64>
     Some(value * 10u64.pow(9 - word.len() as u32))
 }
 
-/// Octets, with or without a unit; a product past the greatest number is that number.
+/// Reads a size in bytes, with or without a unit. A product that is too large for 64 bits is 2^64 - 1.
 #[tactic(auto, unfolding(crate::specs::Numbers::size))]
 pub(crate) fn size(word: &[u8]) -> Option<u64>
     ensures { result ≡ spec.size word.now }
@@ -144,7 +144,7 @@ pub(crate) fn size(word: &[u8]) -> Option<u64>
     }
 }
 
-/// 1 to 12 digits, at least 1.
+/// Reads 1 to 12 digits, at least 1.
 #[tactic(auto, using(requests::proofs::DecimalLemmas::whole_short), unfolding(crate::specs::Numbers::amount))]
 fn amount(word: &[u8]) -> Option<u64>
     ensures { result ≡ spec.amount word.now }
@@ -156,7 +156,7 @@ fn amount(word: &[u8]) -> Option<u64>
     if value >= 1 { Some(value) } else { None }
 }
 
-/// An identifier of 32 hexadecimal digits.
+/// Reads an identifier of 32 hexadecimal digits.
 #[tactic(auto, using(crate::proofs::NumbersLemmas::hex_more), unfolding(crate::specs::Numbers::uuid))]
 pub(crate) fn uuid(word: &[u8]) -> Option<u128>
     ensures { result ≡ spec.uuid word.now }

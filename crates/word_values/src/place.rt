@@ -1,4 +1,4 @@
-//! The words by their numbers, counted from 0, and what is wrong where one is due or too many.
+//! Command-line arguments by number, counted from 0, and the refusal of a missing or surplus one.
 
 ghost use Rattle.std.specs.Prelude.{◌≡◌, ◌<◌, [], MatchOption, OnSome, drop, length, slice_get, option_map};
 ghost use Rattle.word_values.specs.Answers.{Tells, TellsOf, refuses};
@@ -7,7 +7,7 @@ ghost use Rattle.word_values.specs.Place.{texts, IsWordAt};
 
 use crate::usage::{ArgsEnd, Usage, Why};
 
-/// The word at a number, counted from 0.
+/// Returns the argument with number `at`, counted from 0.
 pub fn word_at(words: &[String], at: usize) -> Option<&str>
     ensures same { option_map (λ w. w.now) result ≡ slice_get (texts words.now) at }
     ensures rest { MatchOption result (drop at (texts words.now) ≡ []) (λ word. IsWordAt (texts words.now) at word.now) }
@@ -25,7 +25,7 @@ fn text_at(words: &[String], at: usize) -> Option<&str>
     Some(words.get(at)?.as_str())
 }
 
-/// The word that is due at a number.
+/// Returns the argument with number `at`, which must be present.
 pub fn due_at(words: &[String], at: usize) -> Result<&str, ArgsEnd>
     ensures { TellsOf (λ w. w.now) result (place.due_at (texts words.now) at) }
 {
@@ -35,7 +35,7 @@ pub fn due_at(words: &[String], at: usize) -> Result<&str, ArgsEnd>
     }
 }
 
-/// The name of a file that is due at a number, which doesn't look like an option.
+/// Returns the argument with number `at`, the name of a file. It must be present and not look like an option.
 pub fn file_at(words: &[String], at: usize) -> Result<&str, ArgsEnd>
     ensures { TellsOf (λ w. w.now) result (place.file_at (texts words.now) at) }
 {
@@ -46,7 +46,7 @@ pub fn file_at(words: &[String], at: usize) -> Result<&str, ArgsEnd>
     Ok(file)
 }
 
-/// Refuses a word where none may stand.
+/// Refuses an argument with number `at`, if there is one.
 pub fn end_at(words: &[String], at: usize) -> Result<(), ArgsEnd>
     ensures { Tells result (place.end_at (texts words.now) at) }
 {
@@ -56,14 +56,14 @@ pub fn end_at(words: &[String], at: usize) -> Result<(), ArgsEnd>
     Ok(())
 }
 
-/// Refuses a word.
+/// Refuses the argument with number `word`.
 pub fn refused<T>(word: usize, why: Why) -> Result<T, ArgsEnd>
     ensures { result ≡ refuses word why }
 {
     Err(ArgsEnd::Usage(Usage { word, why }))
 }
 
-/// Whether a word looks like an option. A lone `-` doesn't.
+/// Checks whether an argument looks like an option. A single `-` doesn't.
 pub fn is_option(word: &str) -> bool
     ensures { result ≡ place.is_option word.now }
 {

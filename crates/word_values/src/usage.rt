@@ -1,4 +1,4 @@
-//! Why words are no command.
+//! Reasons to refuse a command line.
 
 ghost use Rattle.std.specs.Prelude.{◌≡◌};
 ghost use Rattle.word_values.specs.declared.usage.ArgsEnd.TheVariants as args_end;
@@ -7,34 +7,34 @@ ghost use Rattle.word_values.specs.declared.usage.ValueEnd.TheVariants as value_
 use std::alloc::AllocError;
 use thiserror::Error;
 
-/// What is wrong with a word.
+/// Reason to refuse an argument.
 #[derive(Clone, Copy, Debug, PartialEq, Eq)]
 pub enum Why {
-    /// There are no words.
+    /// There are no arguments.
     NoCommand,
-    /// The first word is no command, or the mode of `extract` is none.
+    /// The first argument isn't a command, or the mode of `extract` is unknown.
     UnknownCommand,
-    /// A word that looks like an option is none here.
+    /// An argument looks like an option and isn't one of this command.
     UnknownOption,
-    /// The words end where a value, a file, a section or an edit is due.
+    /// A value, a file, a section or an edit is missing at the end.
     MissingValue,
-    /// A value isn't of its form or range.
+    /// A value doesn't have its form or is out of range.
     BadValue,
-    /// An option stands again where it may stand once, or a selection and an exclusion of one type.
+    /// An option is given twice that may be given once, or a type of tracks has both a selection and an exclusion.
     RepeatedOption,
-    /// A word stands behind a whole command, or where nothing more may stand.
+    /// An argument follows a complete command, or isn't allowed at its place.
     ExtraWord,
     /// A merge has no output.
     NoOutput,
     /// A merge has no file.
     NoInput,
-    /// An option for a file has no file behind it.
+    /// An option for a file isn't followed by a file.
     DanglingOption,
-    /// The first file can't be appended to one.
+    /// The first file can't be appended to another one.
     AppendFirst,
-    /// Two outputs have one name.
+    /// Two outputs have the same name.
     RepeatedOutput,
-    /// The file is one more than a merge takes.
+    /// There are more files than a merge may have.
     TooManyInputs,
     /// Parts can't be linked without identifiers.
     NeedsUuids,
@@ -43,7 +43,7 @@ pub enum Why {
 impl Why {
     ghost use Rattle.word_values.specs.Why.{why_name};
 
-    /// The reason's name, as it stands in a line.
+    /// Returns the name of the reason in a message.
     #[tactic(auto, unfolding(crate::specs::Why::why_name))]
     pub fn name(self) -> &'static str
         ensures { result.now ≡ why_name self }
@@ -67,20 +67,20 @@ impl Why {
     }
 }
 
-/// The first word that is wrong, counted from 0. Where a word is missing, it is the number of words.
+/// First argument that is wrong, counted from 0. If an argument is missing, `word` is the number of arguments.
 #[derive(Clone, Copy, Debug, PartialEq, Eq)]
 pub struct Usage {
     pub word: usize,
     pub why: Why,
 }
 
-/// Why words aren't read.
+/// Reason why a command line isn't read.
 #[derive(Debug, Drop, Error)]
 pub enum ArgsEnd {
-    /// They are no command.
+    /// The arguments aren't a command.
     #[error("Usage")]
     Usage(Usage),
-    /// There is no memory.
+    /// Out of memory.
     #[error("Memory")]
     Memory,
 }
@@ -101,12 +101,12 @@ impl From<AllocError> for ArgsEnd {
     }
 }
 
-/// Why a value isn't read.
+/// Reason why a value isn't read.
 #[derive(Clone, Copy)]
 pub enum ValueEnd {
-    /// It isn't of its form or range.
+    /// The value doesn't have its form or is out of range.
     Bad,
-    /// There is no memory.
+    /// Out of memory.
     Memory,
 }
 

@@ -1,4 +1,4 @@
-//! What the value of an option says.
+//! Values of options.
 
 ghost use Rattle.std.specs.Prelude.{◌≡◌, option_map, IfOk};
 ghost use Rattle.std.specs.Char.{is_ascii_lowercase};
@@ -13,22 +13,22 @@ use mkv_io::{List, Text};
 use requests::{CueWord, Select, SplitWords, number};
 use std::alloc::{AllocError, Global};
 
-/// The form of an option's value. Where a track is named, it is by its ID, with `:` behind it.
+/// Form of an option's value. A track is named by its ID, followed by `:`.
 #[derive(Clone, Copy, Debug, PartialEq, Eq)]
 pub enum ValueForm {
-    /// There is none.
+    /// No value.
     Flag,
-    /// There is none, and the type is left out.
+    /// No value; tracks of the type are excluded.
     Exclusion,
-    /// The name of a file.
+    /// Name of a file.
     Name,
-    /// Any text without a zero octet.
+    /// Any text without a zero byte.
     Text,
     /// Nanoseconds in a tick, 1000 to 10000000.
     Scale,
     /// Blocks, 1 to 65535, or milliseconds, 100 to 32000, followed by `ms`.
     Length,
-    /// Where to split.
+    /// Rule for splitting the output.
     Split,
     /// Segment identifiers of 32 hexadecimal digits.
     Uuids,
@@ -36,11 +36,11 @@ pub enum ValueForm {
     Ids,
     /// A track and milliseconds.
     TrackDelay,
-    /// A track and a text without a zero octet.
+    /// A track and a text without a zero byte.
     TrackText,
     /// A track and three lower-case letters.
     TrackLanguage,
-    /// A track alone, or a track and 0 or 1.
+    /// Only a track, or a track and 0 or 1.
     TrackFlag,
     /// A track and `none`, `iframes` or `all`.
     TrackCues,
@@ -48,17 +48,17 @@ pub enum ValueForm {
     TrackFile,
 }
 
-/// What an option says, with its value.
+/// Value of an option.
 #[derive(Drop)]
 pub enum Value {
-    /// That it stands there.
+    /// The option is given.
     Flag,
-    /// The name of a file.
+    /// Name of a file.
     File(Text),
     Text(Text),
     Scale(u64),
     Blocks(u32),
-    /// Nanoseconds.
+    /// Duration in nanoseconds.
     Span(u64),
     Split(SplitWords),
     Uuids(List<u128>),
@@ -73,7 +73,7 @@ pub enum Value {
     TrackFile(u64, Text),
 }
 
-/// What an option without a value says; none where a value is due.
+/// Returns the value of an option that takes no argument, or None if its form needs one.
 pub fn flag_of(form: ValueForm) -> Option<Value>
     ensures { result ≡ spec.flag_of form }
 {
@@ -84,7 +84,7 @@ pub fn flag_of(form: ValueForm) -> Option<Value>
     }
 }
 
-/// What an option says with this value.
+/// Reads `word` as a value of the form `form`.
 #[tactic(auto, unfolding(crate::specs::Values::value_of))]
 pub fn value_of(alloc: Global, form: ValueForm, word: &str) -> Result<Value, ValueEnd>
     ensures { ReadsValue result (spec.value_of form word.now) }
@@ -110,7 +110,7 @@ pub fn value_of(alloc: Global, form: ValueForm, word: &str) -> Result<Value, Val
     }
 }
 
-/// What an option says of a track.
+/// Reads `rest`, the part after the track ID, as a value of the form `form` for track `id`.
 #[tactic(auto, unfolding(crate::specs::Values::track_value))]
 fn track_value(alloc: Global, form: ValueForm, id: u64, rest: &str) -> Result<Value, ValueEnd>
     ensures { ReadsValue result (spec.track_value form id rest.now) }
@@ -131,7 +131,7 @@ fn track_value(alloc: Global, form: ValueForm, id: u64, rest: &str) -> Result<Va
     }
 }
 
-/// A number, and what stands behind the first `:`.
+/// Splits `word` at the first `:` into a number and the part after it.
 #[tactic(auto, unfolding(crate::specs::Values::track_and_rest))]
 pub fn track_and_rest(word: &str) -> Option<(u64, &str)>
     ensures { option_map (λ p. (p.0, p.1.now)) result ≡ spec.track_and_rest word.now }
@@ -141,7 +141,7 @@ pub fn track_and_rest(word: &str) -> Option<(u64, &str)>
     Some((id, rest))
 }
 
-/// Any word.
+/// Copies `word`, which may be any text.
 pub fn name(alloc: Global, word: &str) -> Result<Text, AllocError>
     ensures { IfOk result (λ name. name ≡ word.now) }
 {
@@ -150,7 +150,7 @@ pub fn name(alloc: Global, word: &str) -> Result<Text, AllocError>
     Ok(name)
 }
 
-/// A word without a zero octet.
+/// Copies `word`, if it has no zero byte.
 #[tactic(auto, unfolding(crate::specs::Values::text))]
 fn text(alloc: Global, word: &str) -> Result<Text, ValueEnd>
     ensures { ReadsValue result (spec.text word.now) }
@@ -161,7 +161,7 @@ fn text(alloc: Global, word: &str) -> Result<Text, ValueEnd>
     Ok(name(alloc, word)?)
 }
 
-/// Three lower-case letters.
+/// Reads three lower-case letters.
 #[tactic(auto, unfolding(crate::specs::Values::language))]
 fn language(alloc: Global, word: &str) -> Result<Text, ValueEnd>
     ensures { ReadsValue result (spec.language word.now) }
@@ -184,7 +184,7 @@ fn are_lowercase(word: &[u8]) -> bool
     word.iter().all(|b| b.is_ascii_lowercase())
 }
 
-/// Nanoseconds in a tick.
+/// Reads the nanoseconds in a tick.
 #[tactic(auto, unfolding(crate::specs::Values::scale))]
 fn scale(word: &[u8]) -> Option<Value>
     ensures { result ≡ spec.scale word.now }
@@ -197,7 +197,7 @@ fn scale(word: &[u8]) -> Option<Value>
     }
 }
 
-/// Blocks, or milliseconds followed by `ms`.
+/// Reads blocks, or milliseconds followed by `ms`.
 #[tactic(auto, unfolding(crate::specs::Values::cluster_length))]
 fn cluster_length(word: &[u8]) -> Option<Value>
     ensures { result ≡ spec.cluster_length word.now }
@@ -218,7 +218,7 @@ fn cluster_length(word: &[u8]) -> Option<Value>
     }
 }
 
-/// A track alone, or a track and 0 or 1.
+/// Reads only a track, which means 1, or a track and 0 or 1.
 #[tactic(auto, unfolding(crate::specs::Values::track_flag))]
 fn track_flag(word: &str) -> Option<Value>
     ensures { result ≡ spec.track_flag word.now }

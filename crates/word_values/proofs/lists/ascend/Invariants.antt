@@ -1,4 +1,4 @@
--- From the time before on it is as from the first on.
+-- All times ascend exactly if the times from the previous one on do.
 use Rattle.std.proofs.Common.{◌≡◌, ◌-◌, drop}
 use Rattle.requests.specs.Lists.{ascend}
 use Rattle.word_values.proofs.lists.ascend.Given as goal

@@ -1,4 +1,4 @@
--- From here on it is as from the first on.
+-- All numbers differ exactly if the rest do.
 use Rattle.std.proofs.Common.{◌≡◌, drop}
 use Rattle.requests.specs.Lists.{differ}
 use Rattle.word_values.proofs.lists.differ.Given as goal

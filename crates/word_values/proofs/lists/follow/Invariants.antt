@@ -1,4 +1,4 @@
--- From here on it is as from the first on.
+-- All spans follow exactly if the rest do.
 use Rattle.std.proofs.Common.{◌≡◌, drop}
 use Rattle.requests.specs.Lists.{follow}
 use Rattle.word_values.proofs.lists.follow.Given as goal

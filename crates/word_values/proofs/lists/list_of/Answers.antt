@@ -7,7 +7,7 @@ use Rattle.word_values.proofs.lists.list_of.Goals as goal
 pub loop-piece-smaller : goal.loop-piece-smaller
 loop-piece-smaller g c = cut_shorter c.loop-piece.rest.now c.in-Some.piece.now c.in-Some.after.now (sym c.in-Some.ensures)
 
--- a piece of the form joins what was read
+-- A piece of the form joins the values that were read.
 pub loop-piece-preserved : goal.loop-piece-preserved
 loop-piece-preserved g c =
     let l = c.loop-piece in
@@ -15,7 +15,7 @@ loop-piece-preserved g c =
     let is : g.P.Piece.spelled c.in-Some.piece.now ≡ Some c.in-Some-read.value = cc in
     cc (joined_more g.P.Piece.spelled l.list c.in-Some-read.value l.rest.now c.in-Some.piece.now c.in-Some.after.now e is, c.in_ok-push.ensures.ok)
 
--- a piece of another form ends the reading
+-- A piece without the form ends the reading.
 pub returns-in_default-read : goal.returns-in_default-read
 returns-in_default-read g c =
     let l = c.loop-piece in

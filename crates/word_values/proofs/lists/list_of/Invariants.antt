@@ -1,4 +1,4 @@
--- What is read, and then what the pieces from here on say, is what all of them say.
+-- All values are the values that were read and the values of the rest.
 use Rattle.std.proofs.Common.{◌≡◌, length}
 use Rattle.word_values.specs.Lists.{pieces, each}
 use Rattle.word_values.proofs.ListsLemmas.{joined}

@@ -1,4 +1,4 @@
--- What the digits from here on write behind the number so far is what all of them write.
+-- The value of all digits is the value of the digits already read, and then of the rest.
 use Rattle.std.proofs.Common.{◌≡◌, ◌^◌, ◌<◌, drop}
 use Rattle.word_values.proofs.NumbersLemmas.{hex_on}
 use Rattle.word_values.proofs.numbers.uuid.Given as goal
