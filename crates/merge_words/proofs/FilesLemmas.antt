@@ -1,4 +1,4 @@
--- Numbers that are added, and files with the items before them.
+-- Numbers that are appended, and files with the items before them.
 use Rattle.std.proofs.Common.{◌≡◌, ℕ, suc, ◌+◌, ◌-◌, ◌<◌, ◌≤◌, Bool, true, false, not, ◌||◌, ◌==◌, if◌then◌else◌, List, [], ◌∷◌, ◌++◌, length, map, take, drop, get_or, refl, sym, ap, ◌∙◌, arith, drop-cons, append_assoc, append-nil, add-one, length-drop}
 use Rattle.std.proofs.lemmas.Bool.Decides.{nat_tests}
 use Rattle.std.proofs.lemmas.Grind.{common_steps}
@@ -11,7 +11,7 @@ use Rattle.merge_words.specs.Files.{ids_of, once, with_new, without, file, files
 use Rattle.requests.specs.declared.merge.FileWords.{FileWords}
 use Rattle.std.proofs.Math.Seq.{take-suc}
 
--- ---- numbers that stand once
+-- ---- numbers that occur once
 without_same : (x id : ℕ) (ids : List ℕ) → (x == id) ≡ true → without x (ids ++ id ∷ []) ≡ without x ids
 without_same x id ids is =
     let out : (id == x) ≡ true = grind (arith, nat_tests) in
@@ -25,7 +25,7 @@ without_other x id ids is =
 stands_still : (x id : ℕ) (ids : List ℕ) → (x == id) ≡ false → list_any (λ k. k == id) (without x ids) ≡ list_any (λ k. k == id) ids
 stands_still x id ids is = any-filter_same (λ k. k == id) (λ k. not (k == x)) true (λ k same. let other : (k == x) ≡ false = grind (arith, nat_tests) in rw other refl) ids
 
--- a number joins those that it isn't among
+-- A number joins the others unless it is among them.
 once_more : (ids : List ℕ) (id : ℕ) → once (ids ++ id ∷ []) ≡ (if list_any (λ k. k == id) (once ids) then once ids else once ids ++ id ∷ [])
 once_more [] id = refl
 once_more (x ∷ xs) id = ap (λ l. x ∷ without x l) (once_more xs id) ∙ choose (x == id) (list_any (λ k. k == id) (once xs)) refl refl
@@ -41,11 +41,11 @@ onto_once : (xs ids : List ℕ) → with_new (once xs) ids ≡ once (xs ++ ids)
 onto_once xs [] = ap once (sym (append-nil xs))
 onto_once xs (id ∷ ids) = ap (λ l. with_new l ids) (sym (once_more xs id)) ∙ (onto_once (xs ++ id ∷ []) ids ∙ ap once (append_assoc xs (id ∷ []) ids))
 
--- numbers that are added one by one stand once
+-- Numbers that are appended one by one occur once.
 pub once_is : (ids : List ℕ) → with_new [] ids ≡ once ids
 once_is ids = onto_once [] ids
 
--- numbers are added in two steps
+-- Numbers may be appended in two steps.
 with_new_append : (list a b : List ℕ) → with_new list (a ++ b) ≡ with_new (with_new list a) b
 with_new_append list [] b = refl
 with_new_append list (id ∷ ids) b = with_new_append (if list_any (λ k. k == id) list then list else list ++ id ∷ []) ids b
@@ -55,13 +55,13 @@ here items k i within is =
     let first : drop k items ≡ get_or items k i ∷ drop (suc k) items = drop-cons items k i within in
     rw add-one (first ∙ ap (λ j. j ∷ drop (suc k) items) (sym is))
 
--- what an item names is added
+-- The numbers that an item names are appended.
 pub named_next : (list : List ℕ) (items : List Item) (k : ℕ) (i : Item) → k < length items → i ≡ get_or items k i →
     with_new (with_new list (ids_of i.value)) (flat_map (λ (j : Item). ids_of j.value) (drop (k + 1) items)) ≡ with_new list (flat_map (λ (j : Item). ids_of j.value) (drop k items))
 named_next list items k i within is = rw (here items k i within is) (sym (with_new_append list (ids_of i.value) (flat_map (λ (j : Item). ids_of j.value) (drop (k + 1) items))))
 
 -- ---- files
--- the files, read from the front behind a group of items
+-- the files of the items, after a group of items before the first
 abbrev pub files_from : List Item → List Item → List FileWords
 files_from group [] = []
 files_from group (i ∷ is) = if is_file i then file group i.value ∷ files_from [] is else files_from (group ++ i ∷ []) is
@@ -100,11 +100,11 @@ parted group (i ∷ is) = choose (is_file i) refl (ap (λ parts. with_groups par
     choose true named behind_it joined = rw named (rw (append-nil group) (ap (λ l. file group i.value ∷ l) behind_it))
     choose false other behind_it joined = rw other (rw (behind_more group i (slice_split is_file is)) joined)
 
--- both are the same
+-- Both definitions of the files agree.
 pub parted_files : (items : List Item) → files items ≡ files_from [] items
 parted_files items = ap (λ parts. with_groups parts (filter is_file items)) (sym (parts_behind items)) ∙ parted [] items
 
--- the group that an item joins
+-- An item joins the group.
 group_more : (items : List Item) (start k : ℕ) (i : Item) → start ≤ k → k < length items → i ≡ get_or items k i →
     take (k + 1 - start) (drop start items) ≡ take (k - start) (drop start items) ++ i ∷ []
 group_more items start k i low within is =
@@ -113,13 +113,13 @@ group_more items start k i low within is =
     let last : get_or (drop start items) (k - start) i ≡ i = grind (arith, common_steps) in
     rw (one_more, take-suc (drop start items) (k - start) i inside, last)
 
--- an item that names no file joins the group
+-- An item that names no file joins the group.
 pub files_join : (all : List FileWords) (items : List Item) (start k : ℕ) (i : Item) → start ≤ k → k < length items → i ≡ get_or items k i → is_file i ≡ false →
     all ++ files_from (take (k + 1 - start) (drop start items)) (drop (k + 1) items) ≡ all ++ files_from (take (k - start) (drop start items)) (drop k items)
 files_join all items start k i low within is other =
     rw (group_more items start k i low within is, here items k i within is, other)
 
--- a file takes the group
+-- A file takes the group.
 pub files_take : (all : List FileWords) (items : List Item) (start k : ℕ) (i : Item) → k < length items → i ≡ get_or items k i → is_file i ≡ true →
     (all ++ file (take (k - start) (drop start items)) i.value ∷ []) ++ files_from (take (k + 1 - (k + 1)) (drop (k + 1) items)) (drop (k + 1) items) ≡ all ++ files_from (take (k - start) (drop start items)) (drop k items)
 files_take all items start k i within is named =

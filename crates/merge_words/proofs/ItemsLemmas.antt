@@ -1,4 +1,4 @@
--- The items behind the last file, found from the front and from the end.
+-- The items after the last file, found from the start and from the end.
 use Rattle.std.proofs.Common.{◌≡◌, ℕ, suc, ◌+◌, ◌-◌, ◌<◌, Bool, true, false, not, cond, if◌then◌else◌, List, [], ◌∷◌, ◌++◌, length, length-append, take, drop, get_or, refl, sym, ap, ◌∙◌, subst, arith, append_assoc, append-nil, drop-cons}
 use Rattle.std.proofs.Math.Seq.{drop-length, take-suc}
 use Rattle.std.proofs.lemmas.List.{drop-append-le, reverse-append}
@@ -6,12 +6,12 @@ use Rattle.std.specs.List.{after_last, prefix_len, suffix_len}
 use Rattle.merge_words.specs.declared.item.Item.{Item}
 use Rattle.merge_words.specs.Items.{is_file, since_file}
 
--- the same from the front, behind a group of items
+-- the items after the last file, found from the start, after a group of items
 abbrev pub latest : List Item → List Item → List Item
 latest group [] = group
 latest group (i ∷ is) = if is_file i then latest [] is else latest (group ++ i ∷ []) is
 
--- a last item that names no file stands behind those before it
+-- An item that names no file and comes last is after the last file.
 pub latest_other : (group items : List Item) (i : Item) → is_file i ≡ false → latest group (items ++ i ∷ []) ≡ latest group items ++ i ∷ []
 latest_other group [] i other = rw other
 latest_other group (x ∷ xs) i other =
@@ -20,7 +20,7 @@ latest_other group (x ∷ xs) i other =
       | false ↦ latest_other (group ++ x ∷ []) xs i other
     ]
 
--- nothing stands behind a last item that names a file
+-- No item is after a file that comes last.
 pub latest_file : (group items : List Item) (i : Item) → is_file i ≡ true → latest group (items ++ i ∷ []) ≡ []
 latest_file group [] i file = rw file
 latest_file group (x ∷ xs) i file =
@@ -29,7 +29,7 @@ latest_file group (x ∷ xs) i file =
       | false ↦ latest_file (group ++ x ∷ []) xs i file
     ]
 
--- what holds of no items, and of some with one more at their end, holds of all
+-- A property of the empty list that each appended item keeps holds for every list.
 by_end : (P : List Item → Type 0) → P [] → ((front : List Item) (i : Item) → P front → P (front ++ i ∷ [])) → (items : List Item) → P items
 by_end P none more items = onto [] items none
   where
@@ -55,7 +55,7 @@ end_file front i named =
     let all : length (front ++ i ∷ []) - others_at_end (front ++ i ∷ []) ≡ length (front ++ i ∷ []) = omega (arith, counted) in
     rw all (drop-length (front ++ i ∷ []))
 
--- both are the same
+-- Both definitions of the last items agree.
 pub since_latest : (items : List Item) → since_file items ≡ latest [] items
 unfolding since_file
 since_latest items = by_end (λ l. after_last is_file l ≡ latest [] l) refl (λ front i same. choose front i (is_file i) refl same) items
@@ -70,13 +70,13 @@ one_more items k i within is = take-suc items k i within ∙ ap (λ j. take k it
 here : (items : List Item) (k : ℕ) (i : Item) → k < length items → i ≡ get_or items k i → drop k items ≡ i ∷ drop (suc k) items
 here items k i within is = drop-cons items k i within ∙ ap (λ j. j ∷ drop (suc k) items) (sym is)
 
--- one item more from the end, which names no file
+-- The walk from the end passes an item that names no file.
 pub latest_back : (items : List Item) (n k : ℕ) (i : Item) → suc k ≡ n → k < length items → i ≡ get_or items k i → is_file i ≡ false →
     latest [] (take k items) ++ drop k items ≡ latest [] (take n items) ++ drop n items
 latest_back items n k i next within is other =
     rw (← next) (rw (one_more items k i within is, latest_other [] (take k items) i other, here items k i within is) (sym (append_assoc (latest [] (take k items)) (i ∷ []) (drop (suc k) items))))
 
--- the last file is found
+-- The walk from the end finds the last file.
 pub latest_found : (items : List Item) (n k : ℕ) (i : Item) → suc k ≡ n → k < length items → i ≡ get_or items k i → is_file i ≡ true →
     latest [] (take n items) ++ drop n items ≡ drop n items
 latest_found items n k i next within is file = rw (← next) (rw (one_more items k i within is, latest_file [] (take k items) i file))

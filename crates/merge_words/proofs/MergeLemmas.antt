@@ -14,7 +14,7 @@ use Rattle.merge_words.specs.Items.{Start, item_at}
 use Rattle.merge_words.specs.Merge.{start, starts, read_all, takes_next}
 use Rattle.word_values.proofs.PlaceLemmas.{next_is}
 
--- how many words an item takes
+-- the number of arguments of an item
 abbrev pub width : Option Meaning → ℕ
 width means = if takes_next means then 2 else 1
 
@@ -24,7 +24,7 @@ starts_by false at w [] is = refl
 starts_by true at w (v ∷ vs) is = rw is refl
 starts_by false at w (v ∷ vs) is = rw is refl
 
--- an item takes its word, and the one behind where that is its value
+-- An item takes its argument, and the next one if that is its value.
 starts_more : (at : ℕ) (w : List ℕ) (rest : List (List ℕ)) → starts at (w ∷ rest) ≡ start at w (slice_get rest 0) ∷ starts (at + width (meaning_of w)) (drop (width (meaning_of w)) (w ∷ rest))
 starts_more at w rest = starts_by (takes_next (meaning_of w)) at w rest refl
 
@@ -34,7 +34,7 @@ on at k w ws here = rw (← here) (drop-drop k at ws)
 next_back : (at : ℕ) (ws : List (List ℕ)) → slice_get (drop (at + 1) ws) 0 ≡ slice_get ws (at + 1)
 next_back at ws = sym (next_is ws at)
 
--- an item that may stand
+-- The item is accepted.
 pub items_next : (count : ℕ) (before : List Item) (item : Item) (at : ℕ) (w : List ℕ) (ws : List (List ℕ)) →
     drop at ws ≡ w ∷ drop (at + 1) ws → item_at before (start at w (slice_get ws (at + 1))) count ≡ Ok item →
     read_all count before (starts at (drop at ws)) ≡ read_all count (before ++ item ∷ []) (starts (at + width (meaning_of w)) (drop (at + width (meaning_of w)) ws))
@@ -46,14 +46,14 @@ items_stop : (count : ℕ) (before : List Item) (at : ℕ) (w : List ℕ) (ws : 
     read_all count before (starts at (drop at ws)) ≡ Err usage
 items_stop count before at w ws usage here is = rw (here, starts_more at w (drop (at + 1) ws), next_back at ws, is) refl
 
--- an item that is wrong
+-- The item is refused.
 pub items_fail : (end : ArgsEnd) (count : ℕ) (before : List Item) (at : ℕ) (w : List ℕ) (ws : List (List ℕ)) →
     drop at ws ≡ w ∷ drop (at + 1) ws → Tells {X = Item} (Err end) (item_at before (start at w (slice_get ws (at + 1))) count) →
     Tells {X = List Item} (Err end) (read_all count before (starts at (drop at ws)))
 items_fail (args_end.Usage usage) count before at w ws here is = items_stop count before at w ws usage here is
 items_fail args_end.Memory count before at w ws here is = tt
 
--- what an item's first word means is what it means as an option, and its words keep what all words keep
+-- `s` has the meaning of its argument, and its arguments satisfy `Keeps`.
 pub record IsStart (Keeps : List ℕ → Type 0) (s : Start) : Type 0 where
   pub meant : meaning_of s.word ≡ s.means
   pub word : Keeps s.word

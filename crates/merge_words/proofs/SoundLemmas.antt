@@ -1,4 +1,4 @@
--- What is read of the words of a merge keeps its limits, and its texts are texts.
+-- Every request that is read keeps its limits, and its texts are UTF-8.
 use Rattle.std.proofs.Common.{◌≡◌, ◌<◌, ◌≤◌, ℕ, ◌+◌, ◌^◌, ℤ, Bool, true, false, not, ◌&&◌, ◌==◌, nat_le, cond, if◌then◌else◌, List, [], ◌∷◌, ◌++◌, length, length-append, Option, Some, None, IfSome, option_map, Ok, refl, sym, ap, ◌∙◌, subst, arith, unwrap_or, append-nil, drop}
 use Rattle.std.specs.Prelude.{nat_abs, slice_get, All, codes, option_and_then}
 use Rattle.std.specs.List.{find, cons_option, list_all}
@@ -40,7 +40,7 @@ use Rattle.merge_words.specs.Items.{Start, is_file, files_in, since_file, stands
 
 -- ---- options
 
--- no row of a table is about this
+-- No row of the table has this subject.
 row-other : (about : Subject) (word : List ℕ) (rows : List Row) (m : Meaning) → list_all (λ r. not (same r.subject about)) rows ≡ true → meaning_among rows word ≡ Some m → same m.subject about ≡ false
 row-other about word [] m all is = absurd (cc)
 row-other about word (r ∷ rs) m all is = split (same r.subject about) (spelled word r) refl all is (row-other about word rs m)
@@ -72,11 +72,11 @@ no-append = refl
 
 -- ---- one item
 
--- what an item's value keeps, where words are UTF-8 if this is given
+-- The item's value keeps its limits, and its texts are UTF-8 if `given` holds.
 abbrev IsReadItem : Type 0 → Item → Type 0
 IsReadItem given item = IsRead given item.value
 
--- An item keeps what its value does. Fewer than 64 files stand before one that names a file, and one before `+`.
+-- The item may follow `before`: its value keeps its limits. Fewer than 64 files precede one that names a file, and one precedes `+`.
 record Joins (given : Type 0) (before : List Item) (item : Item) : Type 0 where
   value : IsReadItem given item
   few : is_file item ≡ true → files_in before < 64
@@ -131,7 +131,7 @@ module _ (given : Type 0) (before : List Item) where
         behind = λ never. absurd (let both : true ≡ false = sym never ∙ append_not in cc);
       }))
 
-  -- what is read of a word behind other items joins them
+  -- An item that is read after others may follow them.
   item-joins : (s : Start) (count : ℕ) (item : Item) → IsStart (λ word. given → IsUtf8 word) s → item_at before s count ≡ Ok item → Joins given before item
   unfolding item_at
   item-joins s count item begins is = split (bytes_eq s.word (codes "+")) (is_option s.word) is
@@ -153,7 +153,7 @@ files_in-more items i = sum_by-append (λ x. cond (is_file x) 1 0) items (i ∷ 
 files_in-first : (i : Item) (items : List Item) → files_in (i ∷ items) ≡ cond (is_file i) 1 0 + files_in items
 files_in-first i items = let apart = sum_by-append (λ x. cond (is_file x) 1 0) (i ∷ []) items in apart ∙ omega arith
 
--- a last item that names a file takes those behind the file before it
+-- A file that comes last takes the items after the previous file.
 files-more : (group items : List Item) (i : Item) → files_from group (items ++ i ∷ []) ≡ files_from group items ++ cond (is_file i) (file (latest group items) i.value ∷ []) []
 files-more group [] i = refl
 files-more group (x ∷ xs) i = split (is_file x) (files-more [] xs i) (files-more (group ++ x ∷ []) xs i)
@@ -174,13 +174,13 @@ length-files group (x ∷ xs) = split (is_file x) (length-files [] xs) (length-f
     split true named other = omega arith
     split false named other = omega arith
 
--- ---- what items say
+-- ---- values of items
 
 one-said : {X : Type 0} (P : X → Type 0) (o : Option X) (rest : List X) → ((x : X) → o ≡ Some x → P x) → All P rest → All P (cons_option o rest)
 one-said P None rest keeps all = all
 one-said P (Some x) rest keeps all = All-cons P x rest (keeps x refl) all
 
--- what is said about something keeps what values do
+-- If values satisfy `P`, so do all values with this subject.
 all-said : {X : Type 0} (given : Type 0) (P : X → Type 0) (read : Value → Option X) (about : Subject) (items : List Item)
     → ((v : Value) (x : X) → IsRead given v → read v ≡ Some x → P x) → All (IsReadItem given) items → All P (said_about read about items)
 all-said given P read about [] keeps are = All-nil P
@@ -206,7 +206,7 @@ delay-small : (given : Type 0) (v : Value) (sync : ℕ × ℤ) → IsRead given 
 delay-small given (TrackDelay id d) sync own is = let same : (id, d) ≡ sync = cc in subst IsSmall same own.0
 delay-small given _ sync own is = absurd (cc)
 
--- the text of a pair
+-- The text of a pair is UTF-8.
 abbrev IsTextPair : ℕ × List ℕ → Type 0
 IsTextPair pair = IsUtf8 pair.1
 
@@ -218,7 +218,7 @@ language-text : (given : Type 0) → given → (v : Value) (language : ℕ × Li
 language-text given texts (TrackLanguage id t) language own is = let same : (id, t) ≡ language = cc in subst IsTextPair same (own.1 texts)
 language-text given texts _ language own is = absurd (cc)
 
--- what a file keeps, where words are UTF-8 if this is given
+-- The file's options keep their limits, and its texts are UTF-8 if `given` holds.
 abbrev IsReadFile : Type 0 → FileWords → Type 0
 IsReadFile given f = IsSoundFile f × (given → HasTexts f)
 
@@ -248,7 +248,7 @@ files-read given group (x ∷ xs) front are =
 
 -- ---- all items
 
--- What items keep that were read one behind the other.
+-- Items that were read in sequence keep their limits.
 record Kept (given : Type 0) (items : List Item) : Type 0 where
   values : All (IsReadItem given) items
   few : files_in items ≤ 64
@@ -312,7 +312,7 @@ read_all-kept given count before (s ∷ ss) items kept begin is =
     read_all-kept given count (before ++ item ∷ []) ss items
     (kept-more given before item kept (item-joins given before s count item (All-head (Begins given) s ss begin) here)) (All-tail (Begins given) s ss begin) more)
 
--- ---- what the items say of the whole output
+-- ---- options of the whole output
 
 default-scale : IsWithin 1000 10000000 1000000
 default-scale = record { least = omega arith; most = omega arith }
@@ -356,7 +356,7 @@ title-kept given P None keeps own = tt
 title-kept given P (Some (Text t)) keeps own = keeps t own.1
 title-kept given P (Some _) keeps own = tt
 
--- what a merge keeps, where words are UTF-8 if this is given
+-- The request keeps its limits, and its texts are UTF-8 if `given` holds.
 record IsReadMerge (given : Type 0) (words : MergeWords) : Type 0 where
   sound : IsSoundMerge words
   title : IfSome words.title (λ t. text t ≡ Some t)
@@ -411,14 +411,14 @@ merged-read words w is =
     ok-made (IsReadMerge given) (merge_words said) w last
     (merge_words-read given said (read_all-kept given (length words) [] (starts 1 (drop 1 words)) said (kept-none given) begin here) (complete-files (length words) said t whole))))
 
--- What the words of a merge say keeps its limits.
+-- A request that is read keeps its limits.
 pub merged-sound : (words : List (List ℕ)) (w : MergeWords) → merged words ≡ Ok w → IsSoundMerge w
 merged-sound words w is = (merged-read words w is).sound
 
--- Its title has no zero octet.
+-- Its title has no zero byte.
 pub merged-title : (words : List (List ℕ)) (w : MergeWords) → merged words ≡ Ok w → IfSome w.title (λ title. text title ≡ Some title)
 merged-title words w is = (merged-read words w is).title
 
--- What they give as texts are texts.
+-- Its texts are UTF-8 if the arguments are.
 pub merged-texts : (words : List (List ℕ)) (w : MergeWords) → All IsUtf8 words → merged words ≡ Ok w → AreTexts w
 merged-texts words w utf8 is = (merged-read words w is).texts utf8

@@ -1,4 +1,4 @@
--- What the items of a merge say of each file. All of it is this project's, after mkvmerge(1).
+-- Options of each input file of a merge, collected from its items. All of it is this project's, after mkvmerge(1).
 use Rattle.std.specs.Prelude.{ℕ, ℤ, Bool, not, ◌==◌, if◌then◌else◌, List, [], ◌∷◌, ◌++◌, map, Option, Some, None, unwrap_or, option_and_then}
 use Rattle.std.specs.List.{filter, flat_map, list_any, slice_split, zip}
 use Rattle.requests.specs.declared.track.Select.{Select}
@@ -16,14 +16,14 @@ use Rattle.merge_words.specs.declared.files.Texts.{Texts}
 use Rattle.merge_words.specs.Items.{is_file, stands, track_in}
 use Rattle.merge_words.specs.Said.{value_in, said_about, file_of, tracks_of, delay_of, track_text_of, track_language_of, track_flag_of, track_cues_of, track_file_of}
 
--- the tracks that a selection names, with `!` too
+-- the tracks that a selection or exclusion names
 abbrev pub ids_of_select : Select → List ℕ
 ids_of_select All = []
 ids_of_select (These ids) = ids
 ids_of_select (AllBut ids) = ids
 ids_of_select Off = []
 
--- the track, where there is one
+-- the track, if there is one
 abbrev pub one : Option ℕ → List ℕ
 one None = []
 one (Some id) = id ∷ []
@@ -33,35 +33,35 @@ abbrev pub ids_of : Value → List ℕ
 ids_of (Tracks select) = ids_of_select select
 ids_of value = one (track_in value)
 
--- the tracks of one type that the items take
+-- the selection of tracks of one type
 abbrev pub tracks_in : Subject → List Item → Select
 tracks_in subject items = unwrap_or (option_and_then tracks_of (value_in subject items)) All
 
--- by how much they delay tracks
+-- the delays of tracks
 abbrev pub delays_in : List Item → List (ℕ × ℤ)
 delays_in items = said_about delay_of subject.Sync items
 
--- how they call tracks
+-- the names of tracks
 abbrev pub names_in : List Item → List (ℕ × List ℕ)
 names_in items = said_about track_text_of subject.TrackName items
 
--- which languages they give to tracks
+-- the languages of tracks
 abbrev pub languages_in : List Item → List (ℕ × List ℕ)
 languages_in items = said_about track_language_of subject.Language items
 
--- how they set this flag of tracks
+-- the values of the flag `subject` of tracks
 abbrev pub flags_in : Subject → List Item → List (ℕ × Bool)
 flags_in subject items = said_about track_flag_of subject items
 
--- which blocks of tracks get a cue point
+-- the selections of blocks that get a cue point, by track
 abbrev pub cues_in : List Item → List (ℕ × CueWord)
 cues_in items = said_about track_cues_of subject.Cues items
 
--- the files with the times of tracks
+-- the timestamp files of tracks
 abbrev pub times_in : List Item → List (ℕ × List ℕ)
 times_in items = said_about track_file_of subject.Times items
 
--- which tracks of each type they take
+-- the selection of tracks of each type
 abbrev pub choice_in : List Item → Choice
 choice_in items = record {
   video = tracks_in subject.Video items;
@@ -69,11 +69,11 @@ choice_in items = record {
   subtitles = tracks_in subject.Subtitles items;
 }
 
--- what they call tracks, and where the times of these stand
+-- the names and languages of tracks, and their timestamp files
 abbrev pub texts_in : List Item → Texts
 texts_in items = record { names = names_in items; languages = languages_in items; times = times_in items }
 
--- the delays that they give to tracks, the flags and the cue points
+-- the delays, flags and cue points of tracks
 abbrev pub marks_in : List Item → Marks
 marks_in items = record {
   syncs = delays_in items;
@@ -82,7 +82,7 @@ marks_in items = record {
   cues = cues_in items;
 }
 
--- the numbers but one
+-- the numbers except `id`
 abbrev pub without : ℕ → List ℕ → List ℕ
 without id ids = filter (λ k. not (k == id)) ids
 
@@ -91,7 +91,7 @@ abbrev pub once : List ℕ → List ℕ
 once [] = []
 once (id ∷ ids) = id ∷ without id (once ids)
 
--- the numbers, and behind them those of others that don't stand there yet
+-- the numbers in `list`, followed by the other numbers that aren't in it yet
 abbrev pub with_new : List ℕ → List ℕ → List ℕ
 with_new list [] = list
 with_new list (id ∷ ids) = with_new (if list_any (λ k. k == id) list then list else list ++ id ∷ []) ids
@@ -100,11 +100,11 @@ with_new list (id ∷ ids) = with_new (if list_any (λ k. k == id) list then lis
 unfoldable pub named_in : List Item → List ℕ
 named_in items = once (flat_map (λ (i : Item). ids_of i.value) items)
 
--- the name that a file's item has
+-- the name in a file's item
 abbrev pub file_name : Value → List ℕ
 file_name value = unwrap_or (file_of value) []
 
--- a file, with what the items before it say
+-- the file `name` with the options in `items`, the items before it
 unfoldable pub file : List Item → Value → FileWords
 file items name = record {
   name = file_name name;
@@ -126,6 +126,6 @@ file items name = record {
   named = named_in items;
 }
 
--- each file, with what the items say that stand between the file before it and itself
+-- each file with the options of the items between the previous file and itself
 abbrev pub files : List Item → List FileWords
 files items = map (λ (f : List Item × Item). file f.0 f.1.value) (zip (slice_split is_file items) (filter is_file items))

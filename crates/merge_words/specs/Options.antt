@@ -14,7 +14,7 @@ use Rattle.word_values.specs.declared.values.ValueForm.TheVariants as f
 use Rattle.merge_words.specs.declared.options.Meaning.{Meaning}
 use Rattle.merge_words.specs.declared.options.OptionRow.{OptionRow}
 
--- an option: its short and its long spelling, what it is about, how often it may be given, and the form of its value
+-- an option: its short and its long spelling, its subject, its scope, and the form of its value
 pub record Row : Type 0 where
   pub short : List ℕ
   pub long : List ℕ
@@ -60,21 +60,21 @@ table =
 abbrev pub shown : OptionRow → Row
 shown r = record { short = r.0.now; long = r.1.now; subject = r.2; scope = r.3; form = r.4 }
 
--- either spelling is the word
+-- The word is one of the two spellings.
 abbrev pub spelled : List ℕ → Row → Bool
 spelled word r = bytes_eq r.short word || bytes_eq r.long word
 
 abbrev pub meaning : Row → Meaning
 meaning r = record { subject = r.subject; scope = r.scope; form = r.form }
 
--- what the first row with this spelling means
+-- the meaning of the first row with this spelling
 abbrev pub meaning_among : List Row → List ℕ → Option Meaning
 meaning_among rows word = option_map meaning (find (spelled word) rows)
 
--- what an option of `merge` means
+-- the meaning of an option of `merge`
 unfoldable pub meaning_of : List ℕ → Option Meaning
 meaning_of word = if is_option word then meaning_among table word else None
 
--- both are about the same
+-- Both subjects are the same.
 abbrev pub same : Subject → Subject → Bool
 same a b = sameb the_type a b

@@ -1,4 +1,4 @@
--- What the items of a merge say of the whole output. All of it is this project's, after mkvmerge(1).
+-- Options of the whole output of a merge, collected from its items. All of it is this project's, after mkvmerge(1).
 use Rattle.std.specs.Prelude.{ℕ, List, [], Option, unwrap_or, option_and_then}
 use Rattle.requests.specs.declared.split.SplitWords.{SplitWords}
 use Rattle.merge_words.specs.declared.options.Subject.TheVariants as subject
@@ -9,35 +9,35 @@ use Rattle.merge_words.specs.Items.{stands}
 use Rattle.merge_words.specs.Said.{value_in, file_in, text_of, scale_of, blocks_of, span_of, split_of, uuids_of}
 use Rattle.merge_words.specs.Files.{files}
 
--- the name of the output; empty where none is said
+-- the name of the output, or empty if it is missing
 abbrev pub output_in : List Item → List ℕ
 output_in items = unwrap_or (file_in subject.Output items) []
 
--- the title, where one is said
+-- the title, if one is given
 abbrev pub title_in : List Item → Option (List ℕ)
 title_in items = option_and_then text_of (value_in subject.Title items)
 
--- how many nanoseconds a tick has: what is said, else what is usual
+-- the nanoseconds in a tick, or the default
 abbrev pub scale_in : List Item → ℕ
 scale_in items = unwrap_or (option_and_then scale_of (value_in subject.Scale items)) DEFAULT_SCALE
 
--- how many blocks a Cluster has at most: what is said, else what is usual
+-- the greatest number of blocks in a Cluster, or the default
 abbrev pub blocks_in : List Item → ℕ
 blocks_in items = unwrap_or (option_and_then blocks_of (value_in subject.ClusterLength items)) DEFAULT_BLOCKS
 
--- how many nanoseconds the last block of a Cluster stands behind its time at most: what is said, else what is usual
+-- the greatest distance in nanoseconds of a Cluster's last block from its timestamp, or the default
 abbrev pub span_in : List Item → ℕ
 span_in items = unwrap_or (option_and_then span_of (value_in subject.ClusterLength items)) DEFAULT_SPAN
 
--- where the output is split, if it is
+-- the split of the output, if one is given
 abbrev pub split_in : List Item → Option SplitWords
 split_in items = option_and_then split_of (value_in subject.Split items)
 
--- the SegmentUUIDs of the parts; none where none are said
+-- the SegmentUUIDs of the parts; none if none are given
 abbrev pub uuids_in : List Item → List ℕ
 uuids_in items = unwrap_or (option_and_then uuids_of (value_in subject.Uuids items)) []
 
--- what the items say of the whole output
+-- the request of the items
 unfoldable pub merge_words : List Item → MergeWords
 merge_words items = record {
   output = output_in items;

@@ -1,4 +1,4 @@
--- The values of items that are about something. They are this project's, after mkvmerge(1).
+-- The values of items with a given subject. They are this project's, after mkvmerge(1).
 use Rattle.std.specs.Prelude.{ℕ, ℤ, Bool, if◌then◌else◌, List, Option, Some, None, option_map, option_and_then}
 use Rattle.std.specs.List.{filter_map, find}
 use Rattle.requests.specs.declared.split.SplitWords.{SplitWords}
@@ -10,11 +10,11 @@ use Rattle.merge_words.specs.declared.options.Subject.{Subject}
 use Rattle.merge_words.specs.declared.item.Item.{Item}
 use Rattle.merge_words.specs.Options.{same}
 
--- the value of the item that is about this
+-- the value of the first item with this subject
 abbrev pub value_in : Subject → List Item → Option Value
 value_in subject items = option_map (λ (i : Item). i.value) (find (λ i. same i.subject subject) items)
 
--- what a value says, where it is of this kind: the name of a file, a text, a tick, and so on
+-- the file name, text, tick and so on in a value, if it is of this kind
 abbrev pub file_of : Value → Option (List ℕ)
 file_of (File name) = Some name
 file_of _ = None
@@ -24,22 +24,22 @@ abbrev pub text_of : Value → Option (List ℕ)
 text_of (Text text) = Some text
 text_of _ = None
 
--- how many nanoseconds a tick has
+-- the nanoseconds in a tick
 abbrev pub scale_of : Value → Option ℕ
 scale_of (Scale scale) = Some scale
 scale_of _ = None
 
--- how many blocks a Cluster has at most
+-- the greatest number of blocks in a Cluster
 abbrev pub blocks_of : Value → Option ℕ
 blocks_of (Blocks blocks) = Some blocks
 blocks_of _ = None
 
--- how many nanoseconds the last block of a Cluster stands behind its time at most
+-- the greatest distance in nanoseconds of a Cluster's last block from its timestamp
 abbrev pub span_of : Value → Option ℕ
 span_of (Span span) = Some span
 span_of _ = None
 
--- where the output is split
+-- the split of the output
 abbrev pub split_of : Value → Option SplitWords
 split_of (Split split) = Some split
 split_of _ = None
@@ -49,49 +49,49 @@ abbrev pub uuids_of : Value → Option (List ℕ)
 uuids_of (Uuids uuids) = Some uuids
 uuids_of _ = None
 
--- which tracks are taken
+-- the selection of tracks
 abbrev pub tracks_of : Value → Option Select
 tracks_of (Tracks select) = Some select
 tracks_of _ = None
 
--- what a value says of a track, with the track: by how much it is delayed, and so on
+-- the track and its delay, name, language and so on in a value, if it is of this kind
 abbrev pub delay_of : Value → Option (ℕ × ℤ)
 delay_of (TrackDelay id delay) = Some (id, delay)
 delay_of _ = None
 
--- a name
+-- the track and its name
 abbrev pub track_text_of : Value → Option (ℕ × List ℕ)
 track_text_of (TrackText id text) = Some (id, text)
 track_text_of _ = None
 
--- a language
+-- the track and its language
 abbrev pub track_language_of : Value → Option (ℕ × List ℕ)
 track_language_of (TrackLanguage id language) = Some (id, language)
 track_language_of _ = None
 
--- whether a flag is set
+-- the track and its flag
 abbrev pub track_flag_of : Value → Option (ℕ × Bool)
 track_flag_of (TrackFlag id flag) = Some (id, flag)
 track_flag_of _ = None
 
--- which of its blocks get a cue point
+-- the track and the selection of its blocks that get a cue point
 abbrev pub track_cues_of : Value → Option (ℕ × CueWord)
 track_cues_of (TrackCues id cues) = Some (id, cues)
 track_cues_of _ = None
 
--- the name of the file with its times
+-- the track and the name of its timestamp file
 abbrev pub track_file_of : Value → Option (ℕ × List ℕ)
 track_file_of (TrackFile id name) = Some (id, name)
 track_file_of _ = None
 
--- the name of a file that the item about this has
+-- the file name in the first item with this subject
 abbrev pub file_in : Subject → List Item → Option (List ℕ)
 file_in subject items = option_and_then file_of (value_in subject items)
 
--- an item's value, where it is about this
+-- an item's value, if it has this subject
 abbrev pub value_about : Subject → Item → Option Value
 value_about subject i = if same i.subject subject then Some i.value else None
 
--- what the items say that are about this, in their order
+-- the values of all items with this subject, in their order
 abbrev pub said_about : {X : Type 0} → (Value → Option X) → Subject → List Item → List X
 said_about read subject items = filter_map (λ i. option_and_then read (value_about subject i)) items

@@ -1,4 +1,4 @@
-//! What the items of a merge say of each file.
+//! Options of each input file of a merge, collected from its items.
 
 ghost use Rattle.std.specs.Prelude.{◌≡◌, [], ◌∷◌, IfOk, OnOk};
 ghost use Rattle.merge_words.specs.Files as spec;
@@ -12,7 +12,7 @@ use requests::{CueWord, FileWords, Select};
 use std::alloc::{AllocError, Global};
 use word_values::{Value, name};
 
-/// Each file, with what the items say that stand between the file before it and itself.
+/// Returns each file with the options of the items between the previous file and itself.
 pub(crate) fn files(alloc: Global, items: &[Item]) -> Result<List<FileWords>, AllocError>
     ensures { IfOk result (λ files. files ≡ spec.files items.now) }
 {
@@ -27,7 +27,7 @@ pub(crate) fn files(alloc: Global, items: &[Item]) -> Result<List<FileWords>, Al
     Ok(files)
 }
 
-/// Which tracks of each type are taken.
+/// Selection of tracks of each type.
 #[derive(Drop)]
 struct Choice {
     video: Select,
@@ -35,7 +35,7 @@ struct Choice {
     subtitles: Select,
 }
 
-/// What tracks are called, and where their times stand.
+/// Names and languages of tracks, and their timestamp files.
 #[derive(Drop)]
 struct Texts {
     names: List<(u64, Text)>,
@@ -43,7 +43,7 @@ struct Texts {
     times: List<(u64, Text)>,
 }
 
-/// The delays of tracks, their flags and their cue points.
+/// Delays of tracks, their flags and their cue points.
 #[derive(Drop)]
 struct Marks {
     syncs: List<(u64, i64)>,
@@ -52,7 +52,7 @@ struct Marks {
     cues: List<(u64, CueWord)>,
 }
 
-/// A file, with what the items before it say.
+/// Returns the file `name` with the options in `items`, the items before it.
 #[tactic(auto, unfolding(crate::specs::Files::file))]
 fn file(alloc: Global, items: &[Item], name: &Value) -> Result<FileWords, AllocError>
     ensures { IfOk result (λ file. file ≡ spec.file items.now name.now) }
@@ -123,7 +123,7 @@ fn file_name(alloc: Global, value: &Value) -> Result<Text, AllocError>
     }
 }
 
-/// Which tracks of a type are taken.
+/// Returns the selection of tracks of one type.
 fn tracks_in(alloc: Global, subject: Subject, items: &[Item]) -> Result<Select, AllocError>
     ensures { IfOk result (λ select. select ≡ spec.tracks_in subject items.now) }
 {
@@ -236,7 +236,7 @@ fn cues_in(alloc: Global, items: &[Item]) -> Result<List<(u64, CueWord)>, AllocE
     Ok(list)
 }
 
-/// The tracks that the items name, in their order, each once.
+/// Returns the tracks that the items name, in their order, each once.
 fn named_in(alloc: Global, items: &[Item]) -> Result<List<u64>, AllocError>
     ensures { IfOk result (λ list. list ≡ spec.named_in items.now) }
 {
@@ -247,7 +247,7 @@ fn named_in(alloc: Global, items: &[Item]) -> Result<List<u64>, AllocError>
     Ok(List::from_vec(Vec::from_slice(alloc, named.as_slice())?))
 }
 
-/// Adds the tracks that a value names, unless they are there already.
+/// Appends the tracks that `value` names, unless they are in `named` already.
 fn add_ids(named: &mut IndexSet<u64>, value: &Value) -> Result<(), AllocError>
     ensures { OnOk result (named.new.keys ≡ spec.with_new named.old.keys (spec.ids_of value.now)) }
 {
@@ -260,7 +260,7 @@ fn add_ids(named: &mut IndexSet<u64>, value: &Value) -> Result<(), AllocError>
     }
 }
 
-/// Adds the tracks that a selection names, unless they are there already.
+/// Appends the tracks that `select` names, unless they are in `named` already.
 fn add_selected(named: &mut IndexSet<u64>, select: &Select) -> Result<(), AllocError>
     ensures { OnOk result (named.new.keys ≡ spec.with_new named.old.keys (spec.ids_of_select select.now)) }
 {
@@ -271,7 +271,7 @@ fn add_selected(named: &mut IndexSet<u64>, select: &Select) -> Result<(), AllocE
     }
 }
 
-/// Adds the numbers that aren't there yet.
+/// Appends the numbers of `ids` that aren't in `named` yet.
 fn add_all(named: &mut IndexSet<u64>, ids: &[u64]) -> Result<(), AllocError>
     ensures { OnOk result (named.new.keys ≡ spec.with_new named.old.keys ids.now) }
 {
@@ -281,7 +281,7 @@ fn add_all(named: &mut IndexSet<u64>, ids: &[u64]) -> Result<(), AllocError>
     Ok(())
 }
 
-/// Adds a number that isn't there yet.
+/// Appends `id`, unless it is in `named` already.
 fn add(named: &mut IndexSet<u64>, id: u64) -> Result<(), AllocError>
     ensures { OnOk result (named.new.keys ≡ spec.with_new named.old.keys (id ∷ [])) }
 {

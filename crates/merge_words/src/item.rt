@@ -1,4 +1,4 @@
-//! The items of a merge's words: an option with its value, `+`, or the name of a file.
+//! Items of a merge's command line: an option with its value, `+`, or the name of a file.
 
 ghost use Rattle.std.specs.Prelude.{◌≡◌, ◌+◌, ◌<◌, length, slice_get};
 ghost use Rattle.word_values.specs.Answers.{Tells};
@@ -11,20 +11,21 @@ use word_values::{
     ArgsEnd, Value, ValueEnd, ValueForm, Why, flag_of, is_option, name, refused, value_of, word_at,
 };
 
-/// The most files that a merge takes.
+/// Greatest number of files of a merge.
 const MAX_FILES: usize = 64;
 
-/// What one option, `+` or one file's name says.
+/// One option with its value, one `+`, or one file name.
 #[derive(Drop)]
 pub(crate) struct Item {
-    /// The number of its word.
+    /// Number of its first argument.
     pub(crate) at: usize,
     pub(crate) subject: Subject,
     pub(crate) scope: Scope,
     pub(crate) value: Value,
 }
 
-/// The item at a word that means this as an option, behind the items before it.
+/// Reads the item that begins with the argument `word`, number `at`, after the items before it. `means` is its
+/// meaning as an option, if any.
 #[tactic(auto, unfolding(crate::specs::Items::item_at))]
 pub(crate) fn item_at(
     alloc: Global,
@@ -49,7 +50,7 @@ pub(crate) fn item_at(
     }
 }
 
-/// The word `+`, which wants a file before it and may stand once before the next.
+/// Reads `+`, which needs a file before it and may be given once before the next file.
 #[tactic(auto, unfolding(crate::specs::Items::append_at))]
 fn append_at(at: usize, before: &[Item]) -> Result<Item, ArgsEnd>
     ensures { Tells result (spec.append_at before.now at) }
@@ -68,7 +69,7 @@ fn append_at(at: usize, before: &[Item]) -> Result<Item, ArgsEnd>
     })
 }
 
-/// The name of a file, of which there may be 64.
+/// Reads the name of a file. A merge has at most 64.
 #[tactic(auto, unfolding(crate::specs::Items::file_at))]
 fn file_at(alloc: Global, at: usize, word: &str, before: &[Item]) -> Result<Item, ArgsEnd>
     ensures { Tells result (spec.file_at before.now at word.now) }
@@ -84,7 +85,7 @@ fn file_at(alloc: Global, at: usize, word: &str, before: &[Item]) -> Result<Item
     })
 }
 
-/// An option with its value. One that may stand once is refused before its value is read.
+/// Reads an option with its value. If it may be given only once, a repetition is refused before its value is read.
 #[tactic(auto, unfolding(crate::specs::Items::option_at))]
 fn option_at(
     alloc: Global,
@@ -119,7 +120,7 @@ fn option_at(
     })
 }
 
-/// The value at a word.
+/// Reads the argument with number `at` as a value of the form `form`.
 fn value_at(alloc: Global, words: &[String], at: usize, form: ValueForm) -> Result<Value, ArgsEnd>
     ensures { Tells result (spec.value_at at form (slice_get (texts words.now) at) (length words.now)) }
 {
@@ -133,7 +134,7 @@ fn value_at(alloc: Global, words: &[String], at: usize, form: ValueForm) -> Resu
     }
 }
 
-/// Whether an option that may stand once stands again, whatever its value is.
+/// Checks whether an option that may be given only once is given again, whatever its value is.
 fn repeats(means: Meaning, before: &[Item]) -> bool
     ensures { result ≡ spec.repeats means before.now }
 {
@@ -144,21 +145,21 @@ fn repeats(means: Meaning, before: &[Item]) -> bool
     }
 }
 
-/// Whether an item is about this.
+/// Checks whether an item has this subject.
 pub(crate) fn stands(subject: Subject, items: &[Item]) -> bool
     ensures { result ≡ spec.stands subject items.now }
 {
     items.iter().any(|item| item.subject.is(subject))
 }
 
-/// Whether an item is about this for this track.
+/// Checks whether an item has this subject for the track `id`.
 fn stands_for(subject: Subject, id: u64, items: &[Item]) -> bool
     ensures { result ≡ spec.stands_for subject id items.now }
 {
     items.iter().any(|item| item.subject.is(subject) && track_in(&item.value) == Some(id))
 }
 
-/// The track that a value is for.
+/// Returns the track that `value` is for.
 pub(crate) fn track_in(value: &Value) -> Option<u64>
     ensures { result ≡ spec.track_in value.now }
 {
@@ -173,7 +174,7 @@ pub(crate) fn track_in(value: &Value) -> Option<u64>
     }
 }
 
-/// How many files the items name.
+/// Returns the number of files that the items name.
 pub(crate) fn files_in(items: &[Item]) -> usize
     ensures { result ≡ spec.files_in items.now }
 {
@@ -183,7 +184,7 @@ pub(crate) fn files_in(items: &[Item]) -> usize
         .count()
 }
 
-/// The items behind the last file. Only these are looked at.
+/// Returns the items after the last file. It looks at no others.
 #[tactic(auto, using(crate::proofs::ItemsLemmas::since_latest))]
 pub(crate) fn since_file(items: &[Item]) -> &[Item]
     ensures { result.now ≡ spec.since_file items.now }

@@ -1,6 +1,6 @@
 #![tactic(auto)]
 
-//! The words of a merge: its options, and what they say of the output and of each file.
+//! Command line of a merge: its options, and their values for the output and for each file.
 
 mod files;
 mod item;

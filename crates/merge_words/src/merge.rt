@@ -1,4 +1,4 @@
-//! The words of a merge: its items, what they lack, and what they say.
+//! Command line of a merge: its items, missing parts, and the request.
 
 ghost use Rattle.std.specs.Prelude.{◌≡◌, if◌then◌else◌};
 ghost use Rattle.merge_words.specs.Merge as spec;
@@ -13,8 +13,8 @@ use requests::MergeWords;
 use std::alloc::Global;
 use word_values::{ArgsEnd, Why, flag_of, refused, word_at};
 
-/// What the words behind `merge` say, or the first that is wrong. Words are counted from `merge`,
-/// which is word 0.
+/// Reads the arguments after `merge`. It fails with the first one that is wrong. Arguments are counted from `merge`,
+/// which has number 0.
 #[tactic(auto, unfolding(crate::specs::Merge::merged))]
 pub fn read_merge(alloc: Global, words: &[String]) -> Result<MergeWords, ArgsEnd>
     ensures { Tells result (spec.merged (texts words.now)) }
@@ -24,7 +24,7 @@ pub fn read_merge(alloc: Global, words: &[String]) -> Result<MergeWords, ArgsEnd
     Ok(merge_words(alloc, items.as_slice())?)
 }
 
-/// The items that the words behind `merge` say.
+/// Reads the items of the arguments after `merge`.
 #[tactic(auto, unfolding(crate::specs::Merge::items))]
 fn items(alloc: Global, words: &[String]) -> Result<List<Item>, ArgsEnd>
     ensures { Tells result (spec.items (texts words.now)) }
@@ -40,7 +40,7 @@ fn items(alloc: Global, words: &[String]) -> Result<List<Item>, ArgsEnd>
     Ok(items)
 }
 
-/// How many words an item takes: an option without a value of its own takes the next.
+/// Returns the number of arguments of an item: an option whose form needs a value takes the next one.
 fn width(means: Option<Meaning>) -> usize
     ensures { result ≡ (if spec.takes_next means then 2 else 1) }
 {
@@ -50,7 +50,7 @@ fn width(means: Option<Meaning>) -> usize
     }
 }
 
-/// Refuses items that are no whole merge.
+/// Refuses items that aren't a complete merge.
 #[tactic(auto, unfolding(crate::specs::Merge::complete))]
 fn complete(count: usize, items: &[Item]) -> Result<(), ArgsEnd>
     ensures { Tells result (spec.complete count items.now) }
@@ -63,7 +63,7 @@ fn complete(count: usize, items: &[Item]) -> Result<(), ArgsEnd>
     refuse_at(unlinked(items), Why::NeedsUuids)
 }
 
-/// Refuses a word where the test says so.
+/// Refuses the argument with number `word` if `test` holds.
 fn refuse_if(test: bool, word: usize, why: Why) -> Result<(), ArgsEnd>
     ensures { Tells result (spec.wrong_if test word why) }
 {
@@ -73,7 +73,7 @@ fn refuse_if(test: bool, word: usize, why: Why) -> Result<(), ArgsEnd>
     Ok(())
 }
 
-/// Refuses the word, where there is one.
+/// Refuses the argument with number `word`, if there is one.
 fn refuse_at(word: Option<usize>, why: Why) -> Result<(), ArgsEnd>
     ensures { Tells result (spec.wrong_at word why) }
 {
@@ -83,7 +83,7 @@ fn refuse_at(word: Option<usize>, why: Why) -> Result<(), ArgsEnd>
     }
 }
 
-/// The number of the first option for a file.
+/// Returns the number of the first option for a file.
 fn dangling(items: &[Item]) -> Option<usize>
     ensures { result ≡ spec.dangling items.now }
 {
@@ -91,7 +91,7 @@ fn dangling(items: &[Item]) -> Option<usize>
     Some(item.at)
 }
 
-/// The number of the option that links parts.
+/// Returns the number of the option that links parts.
 fn linking(items: &[Item]) -> Option<usize>
     ensures { result ≡ spec.linking items.now }
 {
@@ -99,7 +99,7 @@ fn linking(items: &[Item]) -> Option<usize>
     Some(item.at)
 }
 
-/// The number of the option that links parts, where they have no identifiers.
+/// Returns the number of the option that links parts, if they have no identifiers.
 fn unlinked(items: &[Item]) -> Option<usize>
     ensures { result ≡ spec.unlinked items.now }
 {

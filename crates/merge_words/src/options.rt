@@ -5,7 +5,7 @@ ghost use Rattle.merge_words.specs.Options as spec;
 
 use word_values::{ValueForm, is_option};
 
-/// What an option is about. A selection and an exclusion of one type are about the same.
+/// Subject of an option. A selection and an exclusion of one type have the same subject.
 #[derive(Clone, Copy, Debug, PartialEq, Eq)]
 pub enum Subject {
     Output,
@@ -32,24 +32,24 @@ pub enum Subject {
     ForcedFlag,
     Cues,
     Times,
-    /// The word `+`.
+    /// The argument `+`.
     Append,
-    /// The name of a file.
+    /// Name of a file.
     File,
 }
 
-/// How often an option may stand.
+/// Part of the command line that may have an option only once.
 #[derive(Clone, Copy, Debug, PartialEq, Eq)]
 pub enum Scope {
-    /// Once.
+    /// The whole command line.
     Output,
-    /// Once before each file.
+    /// The options of each file.
     File,
-    /// Once before each file for one track.
+    /// The options of each file, for each track.
     Track,
 }
 
-/// What an option means.
+/// Meaning of an option.
 #[derive(Clone, Copy, Debug, PartialEq, Eq)]
 pub struct Meaning {
     pub subject: Subject,
@@ -57,8 +57,8 @@ pub struct Meaning {
     pub form: ValueForm,
 }
 
-/// An option: its short spelling, its long one, what it is about, how often it may be given, and the form of its value. A
-/// missing spelling is empty.
+/// An option: its short spelling, its long one, its subject, its scope, and the form of its value. A missing spelling
+/// is empty.
 #[derive(Clone, Copy, Debug)]
 pub struct OptionRow(
     pub &'static str,
@@ -99,7 +99,7 @@ static MERGE_OPTIONS: [OptionRow; 27] = [
     OptionRow("", "--timestamps", Subject::Times, Scope::Track, ValueForm::TrackFile),
 ];
 
-/// The options of `merge`: those for the whole output, then those for the next file.
+/// Returns the options of `merge`: first those for the whole output, then those for the next file.
 #[tactic(auto, unfolding(crate::specs::Options::table))]
 pub fn merge_options() -> &'static [OptionRow]
     ensures { map spec.shown result.now ≡ spec.table }
@@ -107,7 +107,7 @@ pub fn merge_options() -> &'static [OptionRow]
     &MERGE_OPTIONS
 }
 
-/// What an option of `merge` means, by either spelling.
+/// Returns the meaning of an option of `merge`, by either spelling.
 #[tactic(auto, unfolding(crate::specs::Options::meaning_of))]
 pub fn meaning_of(word: &str) -> Option<Meaning>
     ensures { result ≡ spec.meaning_of word.now }
@@ -134,7 +134,7 @@ fn meaning_among(rows: &[OptionRow], word: &str) -> Option<Meaning>
 }
 
 impl Subject {
-    /// Whether two options are about the same.
+    /// Checks whether both subjects are the same.
     pub fn is(self, other: Subject) -> bool
         ensures { result ≡ spec.same self other }
     {

@@ -1,4 +1,4 @@
-//! What the items of a merge say of the whole output.
+//! Options of the whole output of a merge, collected from its items.
 
 ghost use Rattle.std.specs.Prelude.{◌≡◌, IfOk};
 ghost use Rattle.merge_words.specs.Output as spec;
@@ -18,7 +18,7 @@ const DEFAULT_BLOCKS: u32 = 65_535;
 
 const DEFAULT_SPAN: u64 = 5_000_000_000;
 
-/// What the items say.
+/// Returns the request of the items.
 #[tactic(auto, unfolding(crate::specs::Output::merge_words))]
 pub(crate) fn merge_words(alloc: Global, items: &[Item]) -> Result<MergeWords, AllocError>
     ensures { IfOk result (λ words. words ≡ spec.merge_words items.now) }

@@ -1,4 +1,4 @@
-//! The value of an item that is about something.
+//! Values of items with a given subject.
 
 ghost use Rattle.std.specs.Prelude.{◌≡◌, IfOk};
 ghost use Rattle.std.specs.Option.{option_copied};
@@ -10,7 +10,7 @@ use mkv_io::{List, Text};
 use std::alloc::{AllocError, Global};
 use word_values::{Value, name};
 
-/// The value of the item that is about this.
+/// Returns the value of the first item with this subject.
 pub(crate) fn value_in(subject: Subject, items: &[Item]) -> Option<&Value>
     ensures { option_copied result ≡ spec.value_in subject items.now }
 {
@@ -18,7 +18,7 @@ pub(crate) fn value_in(subject: Subject, items: &[Item]) -> Option<&Value>
     Some(&item.value)
 }
 
-/// The name of a file that the item about this has.
+/// Returns the file name in the first item with this subject.
 pub(crate) fn file_in(
     alloc: Global,
     subject: Subject,

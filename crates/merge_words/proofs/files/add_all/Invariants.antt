@@ -1,4 +1,4 @@
--- What is there, with the numbers from here on, is what was there with all of them.
+-- The list, with the numbers of the rest, is the old list with all numbers.
 use Rattle.std.proofs.Common.{◌≡◌, drop}
 use Rattle.merge_words.specs.Files.{with_new}
 use Rattle.merge_words.proofs.files.add_all.Given as goal

@@ -5,7 +5,7 @@ use Rattle.merge_words.proofs.FilesLemmas.{files_join, files_take, parted_files}
 use Rattle.merge_words.proofs.files.files.Goals as goal
 use Rattle.merge_words.proofs.files.files.Goals.{then-is+in_ok-file+in_ok-push, else-is}
 
--- an item joins the group, or a file takes it
+-- An item joins the group, or a file takes it.
 pub loop-k-preserved : goal.loop-k-preserved
 loop-k-preserved c =
     let l = c.loop-k in let items = c.args.items.now in let i = c.index-items-k.result in
@@ -24,7 +24,7 @@ loop-k-preserved c =
           }
     ]
 
--- behind the last item nothing is left
+-- After the last item nothing is left.
 pub returns : goal.returns
 returns c =
     let l = c.loop-k in let items = c.args.items.now in

@@ -1,4 +1,4 @@
--- The files so far, and then those that the items from here on name, are those of all items.
+-- All files are the files that were found and the files of the rest.
 use Rattle.std.proofs.Common.{◌≡◌, ◌-◌, ◌≤◌, ◌++◌, take, drop, []}
 use Rattle.merge_words.proofs.FilesLemmas.{files_from}
 use Rattle.merge_words.proofs.files.files.Given as goal

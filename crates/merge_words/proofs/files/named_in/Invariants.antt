@@ -1,4 +1,4 @@
--- What was named, with what the items from here on name, is what all of them name.
+-- All tracks are the tracks that were named and the tracks of the rest.
 use Rattle.std.proofs.Common.{◌≡◌, drop, []}
 use Rattle.std.specs.List.{flat_map}
 use Rattle.merge_words.specs.declared.item.Item.{Item}

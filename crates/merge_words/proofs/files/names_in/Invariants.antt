@@ -1,4 +1,4 @@
--- What was found, and then what the items from here on say, is what all of them say.
+-- All values are the values that were found and the values of the rest.
 use Rattle.std.proofs.Common.{◌≡◌, ◌++◌, drop}
 use Rattle.merge_words.specs.Files.{names_in}
 use Rattle.merge_words.proofs.files.names_in.Given as goal

@@ -5,7 +5,7 @@ use Rattle.merge_words.specs.Items.{is_file}
 use Rattle.merge_words.proofs.ItemsLemmas.{latest, since_latest, latest_back, latest_found}
 use Rattle.merge_words.proofs.item.since_file.Goals as goal
 
--- an item that names no file joins those behind it
+-- An item that names no file joins those after it.
 pub loop-start-preserved : goal.loop-start-preserved
 loop-start-preserved c =
     let items = c.args.items.now in let l = c.loop-start in let i = c.index-items-start.result in
@@ -16,7 +16,7 @@ loop-start-preserved c =
       left = latest_back items l.start (l.start - 1) i next (omega arith) c.index-items-start.is other ∙ l.invariant.left;
     }
 
--- the last file stands right before
+-- The last file is right before.
 pub returns-then-is : goal.returns-then-is
 returns-then-is c =
     let items = c.args.items.now in let l = c.loop-start in let i = c.index-items-start.result in

@@ -1,4 +1,4 @@
--- No file stands among the items from here on.
+-- No file is among the items from here on.
 use Rattle.std.proofs.Common.{◌≡◌, ◌≤◌, ◌++◌, take, drop, [], length}
 use Rattle.merge_words.proofs.ItemsLemmas.{latest}
 use Rattle.merge_words.proofs.item.since_file.Given as goal

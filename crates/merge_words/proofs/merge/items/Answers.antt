@@ -4,14 +4,14 @@ use Rattle.word_values.specs.Place.{texts}
 use Rattle.merge_words.proofs.MergeLemmas.{items_next, items_fail}
 use Rattle.merge_words.proofs.merge.items.Goals as goal
 
--- this item joins those before it
+-- This item joins those before it.
 pub loop-word-preserved : goal.loop-word-preserved
 loop-word-preserved c =
     let l = c.loop-word in let ws = c.args.words.now in
     let e = items_next (length ws) l.items c.in_ok-item.item l.at c.in-Some.word.now (texts ws) c.in-Some.ensures.rest (rw (c.as_slice.ensures, c.meaning_of-means.ensures) at c.in_ok-item.ensures) in
     sym (let joined : c.push.new.self ≡ l.items ++ c.in_ok-item.item ∷ [] = c.in_ok-push.ensures.ok in rw (joined, c.width-at.ensures, c.meaning_of-means.ensures) e) ∙ l.invariant
 
--- what is wrong with it is what is wrong first
+-- Its refusal is the first.
 pub returns-in_err-item : goal.returns-in_err-item
 returns-in_err-item c =
     let l = c.loop-word in let ws = c.args.words.now in

@@ -1,4 +1,4 @@
--- What the words from here on say behind the items so far is what all of them say.
+-- Reading the rest after the items that were read gives all items, or the first refusal.
 use Rattle.std.proofs.Common.{◌≡◌, ◌-◌, length, drop}
 use Rattle.word_values.specs.Place.{texts}
 use Rattle.merge_words.specs.Merge.{items, read_all, starts}

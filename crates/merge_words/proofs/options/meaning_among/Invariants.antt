@@ -1,4 +1,4 @@
--- The row is among those from here on.
+-- The row is among the rest.
 use Rattle.std.proofs.Common.{◌≡◌, map, drop}
 use Rattle.std.specs.List.{find}
 use Rattle.merge_words.specs.Options.{shown, spelled}
