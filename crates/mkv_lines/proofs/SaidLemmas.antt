@@ -1,27 +1,27 @@
--- Lines that are said one after the other.
+-- Lines printed in sequence.
 use Rattle.std.proofs.Common.{◌≡◌, ℕ, List, [], ◌++◌, append_assoc, append-nil, Some, None, Result, Ok, Err, refl, sym, ◌∙◌, ap}
 use Rattle.mkv_io.specs.Lines.{with_lines}
 use Rattle.mkv_lines.specs.Said.{ReportLines, Says, SaysPart, SaysUpTo}
 use Rattle.mkv_lines.specs.declared.status.CommandEnd.{CommandEnd}
 
--- no line adds nothing
+-- Printing no lines changes nothing.
 pub with_lines-none : (old : ReportLines) → with_lines old [] ≡ old
 with_lines-none None = refl
 with_lines-none (Some lines) = ap Some (append-nil lines)
 
--- lines that are added one part after the other
+-- Printing lines in two steps is printing all of them.
 pub with_lines-both : (old : ReportLines) (xs ys : List (List ℕ)) → with_lines (with_lines old xs) ys ≡ with_lines old (xs ++ ys)
 with_lines-both None xs ys = refl
 with_lines-both (Some lines) xs ys = ap Some (append_assoc lines xs ys)
 
--- a part of no lines, and of all of them
+-- A part of the lines may be none of them, or all.
 pub SaysPart-none : (old : ReportLines) (all : List (List ℕ)) → SaysPart old old all
 SaysPart-none old all = record { said = []; left = all; whole = refl; added = sym (with_lines-none old) }
 
 pub SaysPart-all : (old new : ReportLines) (all : List (List ℕ)) → new ≡ with_lines old all → SaysPart old new all
 SaysPart-all old new all added = record { said = all; left = []; whole = sym (append-nil all); added = added }
 
--- a part of the first lines is one of all
+-- A part of the first lines is a part of all lines.
 pub SaysPart-before : (old new : ReportLines) (xs ys : List (List ℕ)) → SaysPart old new xs → SaysPart old new (xs ++ ys)
 SaysPart-before old new xs ys part = record {
   said = part.said;
@@ -30,7 +30,7 @@ SaysPart-before old new xs ys part = record {
   added = part.added;
 }
 
--- all the first lines, and a part of those behind them
+-- The first lines and a part of the next ones are a part of all lines.
 pub SaysPart-behind : (old mid new : ReportLines) (xs ys : List (List ℕ)) → mid ≡ with_lines old xs → SaysPart mid new ys → SaysPart old new (xs ++ ys)
 SaysPart-behind old mid new xs ys first part = record {
   said = xs ++ part.said;
@@ -39,14 +39,14 @@ SaysPart-behind old mid new xs ys first part = record {
   added = part.added ∙ ap (λ (held : ReportLines). with_lines held part.said) first ∙ with_lines-both old xs part.said;
 }
 
--- ---- one call after the other
+-- ---- two calls in sequence
 
--- the first call has said its lines, and the second says its own
+-- The first call has printed its lines, and the second prints its own.
 pub Says-then : {T : Type 0} (old mid new : ReportLines) (xs ys : List (List ℕ)) (r : Result T CommandEnd) → mid ≡ with_lines old xs → Says mid new ys r → Says old new (xs ++ ys) r
 Says-then old mid new xs ys (Ok done) first second = second ∙ ap (λ (held : ReportLines). with_lines held ys) first ∙ with_lines-both old xs ys
 Says-then old mid new xs ys (Err why) first second = SaysPart-behind old mid new xs ys first second
 
--- ---- a list of lines, up to those that are left
+-- ---- a list of lines, up to the rest
 
 pub SaysUpTo-begins : (old : ReportLines) (all : List (List ℕ)) → SaysUpTo old old all all
 SaysUpTo-begins old all = record { said = []; whole = refl; added = sym (with_lines-none old) }

@@ -1,11 +1,11 @@
--- Control characters, as a line shows them.
+-- Control characters in a message.
 use Rattle.std.proofs.Common.{◌≡◌, ℕ, ◌+◌, ◌/◌, ◌%◌, ◌<◌, ◌≤◌, List, [], ◌∷◌, ◌++◌, flat_map, Bool, true, if◌then◌else◌, sym, ap, ◌∙◌, arith, append-nil, lt-ltb, le-ltb}
 use Rattle.std.proofs.lemmas.Bool.{cond-true, cond-false}
 use Rattle.std.proofs.lemmas.Bool.Decides.{nat_tests}
 use Rattle.std.specs.Char.{encode_utf8}
 use Rattle.mkv_lines.specs.Shown.{escaped, is_control, shown_char}
 
--- such a character has two octets, of which the first is C2 and the second its number
+-- A character from U+0080 to U+009F has two bytes: C2 and its number.
 encode-two : (c : ℕ) → 0x80 ≤ c → c < 0xA0 → encode_utf8 c ≡ 0xC2 ∷ (c ∷ [])
 unfolding encode_utf8
 encode-two c low high =

@@ -1,5 +1,4 @@
--- What lines read, computed, so that a wrong definition does not check: the name of each kind of damage, and lines that no
--- file of a test gives.
+-- Computed texts of messages, so that a wrong definition fails the check: the name of each kind of damage, and messages that no test file gives.
 use Rattle.std.proofs.Common.{◌≡◌, codes, refl}
 use Rattle.std.specs.Fmt.{digits}
 use Rattle.ebml_numbers.specs.declared.number.Size.TheVariants.{Unknown}
@@ -46,7 +45,7 @@ pub named : AreNamed
 unfolding kind_name digits
 named = record { not_ebml = refl; bad_id = refl; bad_size = refl; too_long = refl; truncated = refl; doc_type = refl; read_version = refl; max_lengths = refl; no_segment = refl; no_tracks = refl; bad_value = refl; missing_child = refl; repeated_track = refl; encoding = refl; track_scale = refl; header_too_large = refl; short_block = refl; bad_lacing = refl; block_too_large = refl; time_too_large = refl; no_timestamp = refl; too_many = refl; unknown_size = refl; bad_frame = refl }
 
--- an Element of the Segment that may not stand there, of a size that isn't known
+-- an Element that isn't allowed in the Segment, of unknown size
 pub stray : text_of (Level1 (record { id = 0xE7; offset = 40; body = 42; size = Unknown })) ≡ codes "  0xE7 at 40 size unknown"
 unfolding entry_of table digits
 stray = refl

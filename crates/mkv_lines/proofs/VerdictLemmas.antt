@@ -1,4 +1,4 @@
--- What a command or a run leaves that has this verdict.
+-- The state that a command or a run with a given result leaves.
 use Rattle.std.proofs.Common.{◌≡◌, ℕ, List, [], ◌++◌, Result, Ok, Err, IfOk, inl, inr, refl, sym, ◌∙◌, ap, subst}
 use Rattle.mkv_io.specs.Lines.{with_lines}
 use Rattle.mkv_io.specs.Names.{Names}
@@ -10,23 +10,23 @@ use Rattle.mkv_lines.specs.declared.status.Status.{Status}
 use Rattle.mkv_lines.specs.declared.status.CommandEnd.{CommandEnd}
 use Rattle.mkv_lines.proofs.SaidLemmas.{SaysPart-behind, SaysPart-none, Says-then}
 
--- nothing was written yet
+-- Nothing is written yet.
 pub Leaves-before : (names : Names) (outputs : WrittenOutputs) → Leaves names names outputs
 Leaves-before names (at_once all) = record { stand = []; begun = tt; names = refl }
 Leaves-before names (in_turn all) = record { stand = []; drafted = tt; names = refl }
 
--- the same of names that are equal
+-- Equal names hold the same outputs.
 pub Leaves-same : (old new : Names) (outputs : WrittenOutputs) → new ≡ old → Leaves old new outputs
 Leaves-same old new outputs same = subst (λ (names : Names). Leaves old names outputs) (sym same) (Leaves-before old outputs)
 
--- a command that was stopped before its first line
+-- A command that was stopped before its first line has stopped early.
 pub IsStopped-before : (old new : Seen) (v : Verdict) → new.lines ≡ old.lines → new.names ≡ old.names → IsStopped old new v
 IsStopped-before old new v lines names = inl (
   subst (λ (now : ReportLines). SaysPart old.lines now v.before) (sym lines) (SaysPart-none old.lines v.before),
   Leaves-same old.names new.names v.outputs names,
 )
 
--- a command whose outputs stand whole, and that says the lines behind them, reaches its verdict or stops there
+-- A command whose outputs are complete, and that prints the lines after them, has its result or stops there.
 pub Reaches-behind : (old new : Seen) (mid : ReportLines) (r : Result Status CommandEnd) (v : Verdict) (behind : List (List ℕ)) → v.lines ≡ v.before ++ behind → mid ≡ with_lines old.lines v.before → Says mid new.lines behind r → IfOk r (λ s. s ≡ v.status) → new.names ≡ with_outputs old.names (list_of v.outputs) → Reaches old new r v
 Reaches-behind old new mid (Ok s) v behind whole said says status names = (
   status,
@@ -35,7 +35,7 @@ Reaches-behind old new mid (Ok s) v behind whole said says status names = (
 Reaches-behind old new mid (Err why) v behind whole said says status names =
     inr (subst (SaysPart old.lines new.lines) (sym whole) (SaysPart-behind old.lines mid new.lines v.before behind said says), names)
 
--- a command that has said its verdict and writes nothing has reached it
+-- A command that has printed its lines and writes nothing has its result.
 pub Reaches-lines : (old new : Seen) (r : Result Status CommandEnd) (v : Verdict) → SaysVerdict old.lines new.lines r v → v.outputs ≡ nothing → new.names ≡ old.names → Reaches old new r v
 Reaches-lines old new (Ok s) v says none same =
     (says.0, record { lines = says.1; names = same ∙ sym (ap (λ (outputs : WrittenOutputs). with_outputs old.names (list_of outputs)) none) })

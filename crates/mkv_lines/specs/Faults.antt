@@ -1,10 +1,10 @@
--- The counts of faults of what a run is given, and which of them rose.
+-- The counts of faults of a run's files and report, and their increase.
 use Rattle.std.specs.Prelude.{◌≡◌, ℕ, ◌⊎◌, Result, Ok, Err}
 use Rattle.mkv_io.specs.Faults.{HasIncreased}
 use Rattle.mkv_lines.specs.declared.status.CommandEnd.{CommandEnd}
 use Rattle.mkv_lines.specs.declared.status.CommandEnd.TheVariants as stop
 
--- how often opening or reading failed, making or writing, and saying a line
+-- the counts of failures: of opening or reading, of creating or writing, and of printing a line
 pub record Counts : Type 0 where
   pub reading : ℕ
   pub writing : ℕ
@@ -18,7 +18,7 @@ FilesRose old new = HasIncreased old.reading new.reading ⊎ HasIncreased old.wr
 abbrev pub ReportRose : Counts → Counts → Type 0
 ReportRose old new = HasIncreased old.report new.report
 
--- why a command over the files stops: a fault is told only where its count rose, and no other count does
+-- The reason why a command over the files stops: a fault is reported only if its own count increased, and no other count did.
 abbrev pub HasStopCause : {T : Type 0} → Counts → Counts → Result T CommandEnd → Type 0
 HasStopCause old new (Ok _) = new ≡ old
 HasStopCause old new (Err stop.Memory) = new ≡ old
@@ -26,7 +26,7 @@ HasStopCause old new (Err stop.Files) = FilesRose old new × (new.report ≡ old
 HasStopCause old new (Err stop.Disk) = ⊥
 HasStopCause old new (Err stop.Report) = ReportRose old new × (new ≡ record old { report = new.report })
 
--- the same of a call that only reads and says lines, by the counts of reading and of the report
+-- The same for a call that only reads and prints lines, with the counts of reading and of the report.
 abbrev pub HasReadStop : {T : Type 0} → ℕ → ℕ → ℕ → ℕ → Result T CommandEnd → Type 0
 HasReadStop reading now report_was report (Ok _) = (now ≡ reading) × (report ≡ report_was)
 HasReadStop reading now report_was report (Err stop.Memory) = (now ≡ reading) × (report ≡ report_was)

@@ -1,4 +1,4 @@
--- The lines that a user is told, each without its line end. They are this project's.
+-- The messages for the user, each without its line end. They are this project's.
 use Rattle.std.specs.Prelude.{ℕ, ◌==◌, ◌++◌, if◌then◌else◌, List, [], ◌∷◌, map, codes}
 use Rattle.std.specs.Fmt.{decimal}
 use Rattle.mkv_io.specs.declared.damage.Damage.{Damage}
@@ -8,7 +8,7 @@ use Rattle.mkv_lines.specs.Shown.{damage_text, element_text, level_0_name, level
 use Rattle.mkv_lines.specs.declared.line.Line.{Line}
 use Rattle.mkv_lines.specs.declared.line.Line.TheVariants.{Level0, Level1, Track, Refused, Warned, MoreDamages, MoreBadFrames, NoTrack, NoAttachment, NoExtractor, BadConfig, Missing, BadText, TextTooLarge, PendingEdit, OutputIsInput, AppendDiffers, NoLane, TooManyLanes, NotWebm, TooLarge, Wrote, WroteBlocks, Generated, UuidCount, Edited, Reindexed, EditRefused, NoRoom, EditTooLarge, Recovered, NothingToRecover, BadSidecar, Foreign, Word, FilesFault}
 
--- an Element at the top of a file
+-- an Element at the top level of a file
 abbrev pub level_0_line : Header → List ℕ
 level_0_line h = level_0_name h.id ++ place_text h
 
@@ -18,172 +18,171 @@ level_1_line h = codes "  " ++ (level_1_name h.id ++ place_text h)
 
 -- ---- shapes of lines
 
--- a head, a file, and a damage
+-- a line with `head`, the name of a file, and its damage
 abbrev pub damaged_line : List ℕ → List ℕ → Damage → List ℕ
 damaged_line head name d = head ++ (shown_text name ++ (codes ": " ++ damage_text d))
 
--- a warning of a file, with how many there are of something
+-- a warning about a file with a count
 abbrev pub counted_line : List ℕ → ℕ → List ℕ → List ℕ
 counted_line name count what = codes "warning: " ++ (shown_text name ++ (codes ": " ++ (decimal count ++ what)))
 
--- a head, a file, and what is said of it, up to a number
+-- a line with `head`, the name of a file, `what`, and a number
 abbrev pub numbered_line : List ℕ → List ℕ → List ℕ → ℕ → List ℕ
 numbered_line head name what number = head ++ (shown_text name ++ (what ++ decimal number))
 
--- a file that isn't taken, with the Element for which it isn't
+-- a refusal of a file because of the Element `id`
 abbrev pub refused_element_line : List ℕ → List ℕ → ℕ → List ℕ
 refused_element_line name why id = codes "error: " ++ (shown_text name ++ (codes ": " ++ (why ++ element_text id)))
 
 -- ---- each line
 
--- a file that isn't taken
+-- the refusal of a file because of damage
 abbrev pub refusal_line : List ℕ → Damage → List ℕ
 refusal_line name d = damaged_line (codes "error: ") name d
 
--- a file that is damaged from a place on
+-- the warning of a damaged place
 abbrev pub warning_line : List ℕ → Damage → List ℕ
 warning_line name d = damaged_line (codes "warning: ") name d
 
--- more of a file's damages than are told one by one
+-- the number of a file's damaged places beyond those that are reported each
 abbrev pub more_damages_line : List ℕ → ℕ → List ℕ
 more_damages_line name more = codes "warning: " ++ (shown_text name ++ (codes ": " ++ (decimal more ++ codes " more damages")))
 
--- more frames of a file that aren't written than are told one by one
+-- the number of a file's frames that aren't written, beyond those that are reported each
 abbrev pub more_bad_frames_line : List ℕ → ℕ → List ℕ
 more_bad_frames_line name more = codes "warning: " ++ (shown_text name ++ (codes ": " ++ (decimal more ++ codes " more bad frames")))
 
--- the number of a file's damages that aren't told one by one, if there are any
+-- the line with the number of further damaged places, if there are any
 abbrev pub more_lines : List ℕ → ℕ → List (List ℕ)
 more_lines name more = if more == 0 then [] else more_damages_line name more ∷ []
 
--- a warning for each of a file's first damages, and the number of the others
+-- a warning for each of a file's first damaged places, and the number of the others
 abbrev pub damage_lines : List ℕ → List Damage → ℕ → List (List ℕ)
 damage_lines name first more = map (warning_line name) first ++ more_lines name more
 
--- the same of the frames of a file that aren't written
+-- the line with the number of further frames that aren't written, if there are any
 abbrev pub more_bad_lines : List ℕ → ℕ → List (List ℕ)
 more_bad_lines name more = if more == 0 then [] else more_bad_frames_line name more ∷ []
 
 abbrev pub bad_frame_lines : List ℕ → List Damage → ℕ → List (List ℕ)
 bad_frame_lines name first more = map (warning_line name) first ++ more_bad_lines name more
 
--- a file that hasn't the track of a number, counted from 0
+-- a file has no track with this index, counted from 0
 abbrev pub no_track_line : List ℕ → ℕ → List ℕ
 no_track_line name number = codes "warning: " ++ (shown_text name ++ (codes ": no track " ++ decimal number))
 
--- a file that hasn't the attached file of a number, counted from 1
+-- a file has no attached file with this number, counted from 1
 abbrev pub no_attachment_line : List ℕ → ℕ → List ℕ
 no_attachment_line name number = codes "warning: " ++ (shown_text name ++ (codes ": no attachment " ++ decimal number))
 
--- a track, by its number from 0, whose codec has no form of its own that is known
+-- the codec of a track, counted from 0, has no known form of its own
 abbrev pub no_extractor_line : List ℕ → ℕ → List ℕ
 no_extractor_line name number = codes "error: " ++ (shown_text name ++ (codes ": NoExtractor, track " ++ decimal number))
 
--- a track, by its number from 0, without a configuration that its codec's form needs, or with a bad one
+-- the configuration that a track's codec needs is missing or invalid; tracks are counted from 0
 abbrev pub bad_config_line : List ℕ → ℕ → List ℕ
 bad_config_line name number = codes "error: " ++ (shown_text name ++ (codes ": BadConfig, track " ++ decimal number))
 
--- a file that isn't there
+-- a file doesn't exist
 abbrev pub missing_line : List ℕ → List ℕ
 missing_line name = codes "error: " ++ (shown_text name ++ codes ": Missing")
 
--- a text file that breaks its grammar, in this line, or is too long
+-- a text file breaks its grammar in this line, or is too long
 abbrev pub bad_text_line : List ℕ → ℕ → List ℕ
 bad_text_line name line = codes "error: " ++ (shown_text name ++ (codes ": BadText, line " ++ decimal line))
 
 abbrev pub text_too_large_line : List ℕ → List ℕ
 text_too_large_line name = codes "error: " ++ (shown_text name ++ codes ": TextTooLarge")
 
--- a file of which an edit was begun and isn't done
+-- a file has a pending edit
 abbrev pub pending_edit_line : List ℕ → List ℕ
 pending_edit_line name = codes "error: " ++ (shown_text name ++ codes ": PendingEdit, run recover")
 
--- an output that has the name of the file that it would be made of
+-- an output has the name of its own input
 abbrev pub output_is_input_line : List ℕ → List ℕ
 output_is_input_line name = codes "error: " ++ (shown_text name ++ codes ": OutputIsInput")
 
--- an appended input whose tracks differ from those that began their lanes
+-- a track of an appended input differs from the first track of its output track
 abbrev pub append_differs_line : List ℕ → ℕ → List ℕ
 append_differs_line name id = codes "error: " ++ (shown_text name ++ (codes ": " ++ (codes "AppendDiffers" ++ element_text id)))
 
--- an output that would have no lane, or too many
+-- an output would have no track, or too many
 abbrev pub no_lane_line : List ℕ
 no_lane_line = codes "error: NoLane"
 
 abbrev pub too_many_lanes_line : List ℕ
 too_many_lanes_line = codes "error: TooManyLanes"
 
--- a codec that WebM doesn't have
+-- a codec isn't allowed in WebM
 abbrev pub not_webm_line : List ℕ → List ℕ
 not_webm_line codec = codes "error: NotWebm, " ++ shown_text codec
 
--- an output of which an Element would be too large
+-- an Element would be too large in an output
 abbrev pub too_large_line : List ℕ → ℕ → List ℕ
 too_large_line name id = codes "error: " ++ (shown_text name ++ (codes ": " ++ (codes "HeaderTooLarge" ++ element_text id)))
 
--- an output that stands whole
+-- an output is complete
 abbrev pub wrote_line : List ℕ → List ℕ
 wrote_line name = codes "wrote " ++ shown_text name
 
--- the same with the number of its blocks
+-- an output is complete and has this number of blocks
 abbrev pub wrote_blocks_line : List ℕ → ℕ → List ℕ
 wrote_blocks_line name blocks = wrote_line name ++ (codes ": " ++ (decimal blocks ++ codes " blocks"))
 
--- files that were made of a number: how many blocks, Clusters and cue points the one has that is merged of two, and in how many parts that
--- was split
+-- the files generated from `n`: counts of blocks, Clusters and cue points of the merge of two of them, and of the parts of its split
 abbrev pub generated_line : ℕ → ℕ → ℕ → ℕ → ℕ → List ℕ
 generated_line n blocks clusters cues parts =
     codes "generated "
     ++ (decimal n ++ (codes ": " ++ (decimal blocks ++ (codes " blocks, " ++ (decimal clusters ++ (codes " clusters, "
     ++ (decimal cues ++ (codes " cues, " ++ (decimal parts ++ codes " parts")))))))))
 
--- segment identifiers that are given, and not one for each output
+-- the number of segment identifiers isn't the number of outputs
 abbrev pub uuid_count_line : ℕ → ℕ → List ℕ
 uuid_count_line uuids outputs = codes "warning: " ++ (decimal uuids ++ (codes " segment identifiers, " ++ (decimal outputs ++ codes " parts")))
 
--- a file whose properties are edited
+-- the properties of a file are edited
 abbrev pub edited_line : List ℕ → List ℕ
 edited_line name = codes "edited " ++ shown_text name
 
--- a file whose index is written anew, with so many cue points
+-- the index of a file is rewritten, with `cues` cue points
 abbrev pub reindexed_line : List ℕ → ℕ → List ℕ
 reindexed_line name cues = codes "reindexed " ++ (shown_text name ++ (codes ": " ++ (decimal cues ++ codes " cues")))
 
--- a file of which one edit, counted from 1, is refused
+-- an edit of a file, counted from 1, is refused
 abbrev pub edit_refused_line : List ℕ → List ℕ → ℕ → List ℕ
 edit_refused_line name why edit = codes "error: " ++ (shown_text name ++ (codes ": " ++ (why ++ (codes ", edit " ++ decimal edit))))
 
--- a file whose edits have no room of a kind
+-- the edits of a file need more room of one kind than it has
 abbrev pub no_room_line : List ℕ → List ℕ → ℕ → ℕ → List ℕ
 no_room_line name why need have =
     codes "error: "
     ++ (shown_text name ++ (codes ": NoRoom, " ++ (why ++ (codes ", need " ++ (decimal need ++ (codes ", have " ++ decimal have))))))
 
--- a file whose edits would write too much
+-- the edits of a file would write too much
 abbrev pub edit_too_large_line : List ℕ → ℕ → ℕ → List ℕ
 edit_too_large_line name length nodes =
     codes "error: "
     ++ (shown_text name ++ (codes ": EditTooLarge, length " ++ (decimal length ++ (codes ", nodes " ++ decimal nodes))))
 
--- a file whose edit is made whole
+-- an interrupted edit of a file is completed
 abbrev pub recovered_line : List ℕ → List ℕ
 recovered_line name = codes "recovered " ++ shown_text name
 
--- a file of which no edit was begun
+-- a file has no pending edit
 abbrev pub nothing_line : List ℕ → List ℕ
 nothing_line name = codes "nothing to recover in " ++ shown_text name
 
--- a file whose sidecar is wrong from an octet on
+-- the journal of a file is invalid from a byte on
 abbrev pub bad_sidecar_line : List ℕ → ℕ → List ℕ
 bad_sidecar_line name offset = codes "error: " ++ (shown_text name ++ (codes ": BadSidecar, offset " ++ decimal offset))
 
--- a file whose sidecar was made for another
+-- the journal belongs to another file
 abbrev pub foreign_line : List ℕ → Mark → ℕ → ℕ → List ℕ
 foreign_line name mark kept found =
     codes "error: "
     ++ (shown_text name ++ (codes ": Foreign, " ++ (mark_text mark ++ (codes ", kept " ++ (decimal kept ++ (codes ", found " ++ decimal found))))))
 
--- words that aren't obeyed, from this one on
+-- an argument is refused
 abbrev pub word_line : ℕ → List ℕ → List ℕ
 word_line word why = codes "error: word " ++ (decimal word ++ (codes ": " ++ why))
 
@@ -195,7 +194,7 @@ files_fault_line = codes "fault: files"
 abbrev pub disk_fault_line : List ℕ
 disk_fault_line = codes "fault: disk"
 
--- what a line reads
+-- the text of a message
 abbrev pub text_of : Line → List ℕ
 text_of (Level0 header) = level_0_line header
 text_of (Level1 header) = level_1_line header

@@ -1,9 +1,9 @@
--- A command that wasn't stopped.
+-- Commands that weren't stopped.
 use Rattle.std.specs.Prelude.{⊤}
 use Rattle.mkv_lines.specs.declared.status.Status.{Status}
 use Rattle.mkv_lines.specs.declared.status.Status.TheVariants as status
 
--- The outside didn't fail, and there was memory.
+-- No call outside the program failed, and memory didn't run out.
 abbrev pub IsOrdinary : Status → Type 0
 IsOrdinary status.NoMemory = ⊥
 IsOrdinary status.Outside = ⊥

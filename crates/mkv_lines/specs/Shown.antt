@@ -1,4 +1,4 @@
--- How Elements, sizes and damages are shown in a line. It is this project's.
+-- Forms of Elements, sizes and damage in a message. They are this project's.
 use Rattle.std.specs.Prelude.{ℕ, ◌++◌, ◌==◌, ◌/◌, ◌%◌, nat_lt, nat_le, Bool, true, ◌&&◌, ◌||◌, if◌then◌else◌, List, ◌∷◌, flat_map, codes, unwrap_or}
 use Rattle.std.specs.Char.{encode_utf8}
 use Rattle.std.specs.Str.{chars}
@@ -13,21 +13,21 @@ use Rattle.mkv_schema.specs.declared.element.Header.{Header}
 use Rattle.sidecar_edit.specs.declared.outcome.Mark.{Mark}
 use Rattle.sidecar_edit.specs.declared.outcome.Mark.TheVariants.{Length, Octet}
 
--- ---- what isn't ours: names, and texts of files
+-- ---- names, and texts of files
 
--- a control character: U+0000 to U+001F, and U+007F to U+009F
+-- `c` is a control character: U+0000 to U+001F, or U+007F to U+009F.
 abbrev pub is_control : ℕ → Bool
 is_control c = nat_lt c 0x20 || (nat_le 0x7F c && nat_lt c 0xA0)
 
--- an octet as `\x` and two digits, in upper-case hexadecimal
+-- a byte as `\x` and two digits, in upper-case hexadecimal
 abbrev pub escaped : ℕ → List ℕ
 escaped octet = 0x5C ∷ (0x78 ∷ (digits 16 true (octet / 16) ++ digits 16 true (octet % 16)))
 
--- a character as the user sees it: of a control character the octets that it has in UTF-8
+-- a character in a message; a control character is shown as its bytes in UTF-8
 abbrev pub shown_char : ℕ → List ℕ
 shown_char c = if is_control c then flat_map escaped (encode_utf8 c) else encode_utf8 c
 
--- A name or a text of a file, as each line shows it: so no file forges a line, or drives a terminal.
+-- A name or a text of a file in a message: a file can't forge a message or control a terminal.
 abbrev pub shown_text : List ℕ → List ℕ
 shown_text text = flat_map shown_char (chars text)
 
@@ -37,23 +37,23 @@ shown_text text = flat_map shown_char (chars text)
 abbrev pub id_text : ℕ → List ℕ
 id_text id = digits 16 true id
 
--- the Element of which something is told, by its ID
+-- the Element that a message is about, by its ID
 abbrev pub element_text : ℕ → List ℕ
 element_text id = codes ", element " ++ id_text id
 
--- the ID at a place where something is wrong: none is told by 0
+-- the ID at a damaged place; 0 means that there is none
 abbrev pub damaged_id : ℕ → List ℕ
 damaged_id id = if id == 0 then codes "-" else id_text id
 
--- an Element whose name isn't known
+-- the name of an Element that the table doesn't have
 abbrev pub unknown_name : ℕ → List ℕ
 unknown_name id = codes "0x" ++ id_text id
 
--- an Element of level 0
+-- the name of an Element of level 0
 abbrev pub level_0_name : ℕ → List ℕ
 level_0_name id = unwrap_or (name_of id) (unknown_name id)
 
--- an Element of a Segment, which is unknown where the table doesn't have it there
+-- the name of an Element of level 1, unknown unless the table allows it in a Segment
 abbrev pub level_1_name : ℕ → List ℕ
 level_1_name id = if may_stand id SEGMENT then unwrap_or (name_of id) (unknown_name id) else unknown_name id
 
@@ -61,19 +61,19 @@ abbrev pub size_text : Size → List ℕ
 size_text (Known n) = decimal n
 size_text Unknown = codes "unknown"
 
--- an Element's place in the file, and the size of its body
+-- the offset of an Element in the file, and the size of its body
 abbrev pub place_text : Header → List ℕ
 place_text h = codes " at " ++ (decimal h.offset ++ (codes " size " ++ size_text h.size))
 
 abbrev pub damage_text : Damage → List ℕ
 damage_text d = kind_name d.kind ++ (codes ", element " ++ (damaged_id d.id ++ (codes ", offset " ++ decimal d.offset)))
 
--- by what a file is told from another
+-- the mark that distinguishes a file from another
 abbrev pub mark_text : Mark → List ℕ
 mark_text Length = codes "length"
 mark_text (Octet at) = codes "octet " ++ decimal at
 
--- a track, by its number from 0 in the file
+-- a track, by its index in the file, from 0
 abbrev pub track_text : ℕ → List ℕ → List ℕ → ℕ → ℕ → List ℕ → List ℕ
 track_text index type codec number uid language =
     codes "track " ++ (decimal index ++ (codes ": " ++ (type ++ (codes " " ++ (shown_text codec ++ (codes " number " ++ (decimal number ++ (codes " uid " ++ (decimal uid ++ (codes " language " ++ shown_text language))))))))))

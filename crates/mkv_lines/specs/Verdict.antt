@@ -1,4 +1,4 @@
--- What a command comes to: its status, the lines that it says, and the outputs that it writes. It is this project's.
+-- The result of a command: its status, the lines that it prints, and the outputs that it writes. It is this project's.
 use Rattle.std.specs.Prelude.{◌≡◌, ◌⊎◌, ℕ, Bool, true, false, List, [], ◌∷◌, Result, Ok, Err}
 use Rattle.mkv_io.specs.Lines.{with_lines}
 use Rattle.mkv_io.specs.Names.{Names}
@@ -12,7 +12,7 @@ use Rattle.mkv_lines.specs.declared.status.Status.{Status}
 use Rattle.mkv_lines.specs.declared.status.Status.TheVariants as status
 use Rattle.mkv_lines.specs.declared.status.CommandEnd.{CommandEnd}
 
--- Outputs are written side by side, as an extraction's, or one after the other, as a merge's parts.
+-- Outputs: written side by side, as by an extraction, or in sequence, as the parts of a merge.
 pub data WrittenOutputs : Type 0 where
   at_once : List Output → WrittenOutputs
   in_turn : List Draft → WrittenOutputs
@@ -24,57 +24,58 @@ list_of (in_turn all) = outputs_of all
 abbrev pub nothing : WrittenOutputs
 nothing = at_once []
 
--- Its lines begin with those that are said before an output is begun; the others are said when all outputs stand whole.
+-- The result of a command. The lines of `before`, the first of `lines`, are printed before an output is begun; the others, when all outputs are
+-- complete.
 pub record Verdict : Type 0 where
   pub status : Status
   pub lines : List (List ℕ)
   pub before : List (List ℕ)
   pub outputs : WrittenOutputs
 
--- nothing is written, and these lines are said
+-- the result that writes nothing and prints `lines`
 abbrev pub only_said : Status → List (List ℕ) → Verdict
 only_said s lines = record { status = s; lines = lines; before = []; outputs = nothing }
 
--- all is done, and these lines tell of it
+-- the result of a command that is done and prints `lines`
 abbrev pub done : List (List ℕ) → Verdict
 done lines = only_said status.Done lines
 
--- a refusal is told by one line
+-- the result of a refusal, which prints one line
 abbrev pub refused : List ℕ → Verdict
 refused line = only_said status.Refused (line ∷ [])
 
--- a file of which an edit is pending is refused
+-- the refusal of a file with a pending edit, or the result `v`
 abbrev pub unless_pending : List ℕ → Bool → Verdict → Verdict
 unless_pending name true v = refused (pending_edit_line name)
 unless_pending name false v = v
 
 -- ---- a command
 
--- A command that writes nothing has said the lines of its verdict, and then its status is the verdict's; or it
--- has stopped on the way.
+-- A command that writes nothing has printed the lines of its result `v` and has its status; or it stopped early, with a first part of the lines
+-- printed.
 abbrev pub SaysVerdict : ReportLines → ReportLines → Result Status CommandEnd → Verdict → Type 0
 SaysVerdict old new (Ok s) v = (s ≡ v.status) × (new ≡ with_lines old v.lines)
 SaysVerdict old new (Err e) v = SaysPart old new v.lines
 
--- All lines were said and all outputs written, and no other name has changed.
+-- All lines are printed, all outputs are written, and no other name has changed.
 pub record IsDone (old new : Seen) (v : Verdict) : Type 0 where
   pub lines : new.lines ≡ with_lines old.lines v.lines
   pub names : new.names ≡ with_outputs old.names (list_of v.outputs)
 
--- What stands of outputs that aren't whole.
+-- The outputs of a command that stopped early are prefixes, or complete up to the last one that was begun.
 abbrev pub Leaves : Names → Names → WrittenOutputs → Type 0
 Leaves old new (at_once all) = ArePrefixes old new all
 Leaves old new (in_turn all) = AreWrittenInOrder old new all
 
--- A command stops before its outputs stand whole, and has said so much of the lines before them; or behind, and so much of all its lines.
+-- A command stopped before its outputs were complete, and `says` holds of the lines before them; or after that, and it holds of all its lines.
 abbrev pub StopsSaying : (List (List ℕ) → Type 0) → Names → Names → Verdict → Type 0
 StopsSaying says old new v = (says v.before × Leaves old new v.outputs) ⊎ (says v.lines × (new ≡ with_outputs old (list_of v.outputs)))
 
--- It has said a first part of these.
+-- The command stopped early and has printed a first part of its lines.
 abbrev pub IsStopped : Seen → Seen → Verdict → Type 0
 IsStopped old new v = StopsSaying (SaysPart old.lines new.lines) old.names new.names v
 
--- A command has reached its verdict, or it has stopped on the way.
+-- The command has its result `v`, or it stopped early.
 abbrev pub Reaches : Seen → Seen → Result Status CommandEnd → Verdict → Type 0
 Reaches old new (Ok s) v = (s ≡ v.status) × IsDone old new v
 Reaches old new (Err e) v = IsStopped old new v

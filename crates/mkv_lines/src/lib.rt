@@ -1,6 +1,6 @@
 #![tactic(auto)]
 
-//! What a run tells: the lines that a user reads, and the status with which it ends.
+//! Messages that a run prints, and its exit status.
 
 mod line;
 mod saying;

@@ -1,4 +1,4 @@
-//! The lines that a user is told.
+//! Messages for the user.
 
 ghost use Rattle.std.specs.Prelude.{◌++◌};
 ghost use Rattle.std.specs.Fmt.{WritesOnOk};
@@ -14,104 +14,105 @@ use mkv_schema::Header;
 use sidecar_edit::Mark;
 use std::fmt;
 
-/// A line that a user is told. Its text, by `Display`, has no line end.
+/// Message for the user. Its text, by `Display`, has no line end.
 #[derive(Clone, Copy)]
 pub enum Line<'a> {
-    /// An Element at the top of a file.
+    /// Element at the top level of a file.
     Level0(Header),
-    /// An Element of the Segment.
+    /// Element of the Segment.
     Level1(Header),
-    /// A track, by its number from 0 in the file (RFC 9559, section 5.1.4, Tracks Element).
+    /// Track, by its index in the file, from 0 (RFC 9559, section 5.1.4, Tracks Element).
     Track(ShownTrack<'a>),
-    /// A file isn't taken.
+    /// Refusal of a file because of damage.
     Refused {
         name: &'a str,
         damage: Damage,
     },
-    /// A file is damaged from a place on.
+    /// Warning of a damaged place in a file.
     Warned {
         name: &'a str,
         damage: Damage,
     },
-    /// More of a file's damages than are told one by one.
+    /// Number of a file's damaged places beyond those that are reported each.
     MoreDamages {
         name: &'a str,
         more: u64,
     },
-    /// More frames of a file that aren't written than are told one by one.
+    /// Number of a file's frames that aren't written, beyond those that are reported each.
     MoreBadFrames {
         name: &'a str,
         more: u64,
     },
-    /// A file hasn't the track of a number, counted from 0.
+    /// The file has no track with this index, counted from 0.
     NoTrack {
         name: &'a str,
         number: u64,
     },
-    /// A file hasn't the attached file of a number, counted from 1.
+    /// The file has no attached file with this number, counted from 1.
     NoAttachment {
         name: &'a str,
         number: u64,
     },
-    /// The track of a number, counted from 0, has a codec for which no form of its own is known.
+    /// The codec of the track with this index, counted from 0, has no known form of its own.
     NoExtractor {
         name: &'a str,
         number: u64,
     },
-    /// The track of a number, counted from 0, has no configuration that its codec's form needs, or a bad one.
+    /// The configuration that the track's codec needs is missing or invalid; tracks are counted from 0.
     BadConfig {
         name: &'a str,
         number: u64,
     },
-    /// A file isn't there.
+    /// The file doesn't exist.
     Missing {
         name: &'a str,
     },
-    /// This line of a text file, counted from 1, breaks the file's grammar.
+    /// A line of a text file, counted from 1, breaks the file's grammar.
     BadText {
         name: &'a str,
         line: u64,
     },
-    /// A text file is longer than one of its kind may be.
+    /// A text file is longer than its kind may be.
     TextTooLarge {
         name: &'a str,
     },
-    /// An edit of a file was begun and isn't done.
+    /// The file has a pending edit.
     PendingEdit {
         name: &'a str,
     },
-    /// An output has the name of the file that it would be made of.
+    /// An output has the name of its own input.
     OutputIsInput {
         name: &'a str,
     },
-    /// The tracks of an appended input differ in the Element of this ID from those that began their lanes.
+    /// A track of an appended input differs from the first track of its output track in the Element with this ID.
     AppendDiffers {
         name: &'a str,
         id: u32,
     },
-    /// No track is taken.
+    /// No track is selected.
     NoLane,
-    /// More tracks are taken than an output may have.
+    /// More tracks are selected than an output may have.
     TooManyLanes,
-    /// A track is taken whose codec WebM doesn't have.
+    /// The codec of a selected track isn't allowed in WebM.
     NotWebm {
         codec: &'a str,
     },
-    /// The Element of this ID of an output would be too large.
+    /// The Element with this ID would be too large in an output.
     TooLarge {
         name: &'a str,
         id: u32,
     },
-    /// An output stands whole under its name.
+    /// An output is complete.
     Wrote {
         name: &'a str,
     },
-    /// The same, with the number of its blocks.
+    /// An output is complete and has this number of blocks.
     WroteBlocks {
         name: &'a str,
         blocks: u64,
     },
-    /// Files were made of a number: what one of them has that is merged of two, and in how many parts that was split.
+    /// Files were generated from `n`: counts of blocks, Clusters and cue points of the merge of two of them, and of
+    /// the parts of its split.
     Generated {
         n: u32,
         blocks: u64,
@@ -119,65 +120,65 @@ pub enum Line<'a> {
         cues: u64,
         parts: usize,
     },
-    /// Segment identifiers are given, and not one for each output.
+    /// The number of segment identifiers isn't the number of outputs.
     UuidCount {
         uuids: u64,
         outputs: u64,
     },
-    /// A file's properties are edited.
+    /// The properties of a file are edited.
     Edited {
         name: &'a str,
     },
-    /// A file's index is written anew, with so many cue points.
+    /// The index of a file is rewritten, with `cues` cue points.
     Reindexed {
         name: &'a str,
         cues: u64,
     },
-    /// One of the edits of a file, counted from 1, is refused.
+    /// An edit of a file, counted from 1, is refused.
     EditRefused {
         name: &'a str,
         why: &'a str,
         edit: u64,
     },
-    /// Edits of a file have no room of a kind: so much is needed, and so much is there.
+    /// The edits of a file need more room of one kind than it has.
     NoRoom {
         name: &'a str,
         why: &'a str,
         need: u64,
         have: u64,
     },
-    /// Edits of a file write more octets, or more Elements into one, than they may.
+    /// The edits of a file write more bytes, or more Elements into one, than they may.
     EditTooLarge {
         name: &'a str,
         length: u64,
         nodes: u64,
     },
-    /// An edit of a file that was stopped is made whole.
+    /// An interrupted edit of a file is completed.
     Recovered {
         name: &'a str,
     },
-    /// No edit of a file was begun.
+    /// The file has no pending edit.
     NothingToRecover {
         name: &'a str,
     },
-    /// A file's sidecar is wrong from an octet on, counted from its start.
+    /// The journal of a file is invalid from the byte at `offset` on.
     BadSidecar {
         name: &'a str,
         offset: u64,
     },
-    /// A file's sidecar was made for another file: its length, or an octet of it, was another.
+    /// The journal belongs to another file: the length, or a byte, differs from the one that it kept.
     Foreign {
         name: &'a str,
         mark: Mark,
         kept: u64,
         found: u64,
     },
-    /// The words aren't obeyed, from this one on, counted from 0.
+    /// An argument is refused; arguments are counted from 0.
     Word {
         word: usize,
         why: &'a str,
     },
-    /// The files failed.
+    /// Reading or writing of files failed.
     FilesFault,
 }
 

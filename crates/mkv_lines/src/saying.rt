@@ -1,4 +1,4 @@
-//! Lines are said.
+//! Printing of messages.
 
 ghost use Rattle.std.specs.Prelude.{◌≡◌, ◌∷◌, [], IfOk};
 ghost use Rattle.mkv_lines.specs.Line.{disk_fault_line, files_fault_line, text_of};
@@ -11,7 +11,7 @@ use crate::status::{CommandEnd, Status};
 use mkv_io::{Failed, Report};
 use std::alloc::Global;
 
-/// Says a line. Where the report fails it is there or not.
+/// Prints `line`. If the report fails, the line may be in it or not.
 pub fn say<R: Report>(alloc: Global, report: &mut R, line: &Line) -> Result<(), CommandEnd>
     ensures said { Says (R.lines report.old) (R.lines report.new) (text_of line.now ∷ []) result }
     ensures cause { HasSayCause (R.faults report.old) (R.faults report.new) result }
@@ -26,7 +26,7 @@ pub fn say<R: Report>(alloc: Global, report: &mut R, line: &Line) -> Result<(), 
     }
 }
 
-/// Says a text as a line, which takes no memory.
+/// Prints `text` as a line. It takes no memory.
 pub fn say_text<R: Report>(report: &mut R, text: &str) -> Result<(), CommandEnd>
     ensures said { Says (R.lines report.old) (R.lines report.new) (text.now ∷ []) result }
     ensures memory { result ≡ Err CommandEnd.Memory → ⊥ }
@@ -38,7 +38,7 @@ pub fn say_text<R: Report>(report: &mut R, text: &str) -> Result<(), CommandEnd>
     }
 }
 
-/// Says why a command does nothing.
+/// Prints `why` and returns the status of a refusal.
 pub fn refuse<R: Report>(alloc: Global, why: &Line, report: &mut R) -> Result<Status, CommandEnd>
     ensures verdict { SaysVerdict (R.lines report.old) (R.lines report.new) result (refused (text_of why.now)) }
     ensures ordinary { IfOk result IsOrdinary }
@@ -49,7 +49,7 @@ pub fn refuse<R: Report>(alloc: Global, why: &Line, report: &mut R) -> Result<St
     Ok(Status::Refused)
 }
 
-/// Says that the files failed, which takes no memory.
+/// Prints that the files failed. It takes no memory.
 pub fn say_files_fault<R: Report>(report: &mut R) -> Result<(), CommandEnd>
     ensures said { Says (R.lines report.old) (R.lines report.new) (files_fault_line ∷ []) result }
     ensures memory { result ≡ Err CommandEnd.Memory → ⊥ }
@@ -58,7 +58,7 @@ pub fn say_files_fault<R: Report>(report: &mut R) -> Result<(), CommandEnd>
     say_text(report, "fault: files")
 }
 
-/// Says that the disk failed, which takes no memory.
+/// Prints that the disk failed. It takes no memory.
 pub fn say_disk_fault<R: Report>(report: &mut R) -> Result<(), CommandEnd>
     ensures said { Says (R.lines report.old) (R.lines report.new) (disk_fault_line ∷ []) result }
     ensures memory { result ≡ Err CommandEnd.Memory → ⊥ }

@@ -1,4 +1,4 @@
-//! How Elements, sizes and damages are shown in a line.
+//! Forms of Elements, sizes and damage in a message.
 
 use crate::shown_text::ShownText;
 use ebml_numbers::Size;
@@ -8,7 +8,7 @@ use mkv_schema::{Header, may_stand, row};
 use sidecar_edit::Mark;
 use std::fmt;
 
-/// The Element of which something is told, by its ID.
+/// ID of the Element that a message is about.
 #[derive(Clone, Copy)]
 pub struct ShownElement(pub u32);
 
@@ -24,7 +24,7 @@ impl fmt::Display for ShownElement {
     }
 }
 
-/// The ID at a place where something is wrong, `-` where there is none.
+/// ID at a damaged place, or `-` if there is none.
 #[derive(Clone, Copy)]
 pub struct DamagedId(pub u32);
 
@@ -43,7 +43,7 @@ impl fmt::Display for DamagedId {
     }
 }
 
-/// The name of an Element of level 0.
+/// Name of an Element of level 0.
 #[derive(Clone, Copy)]
 pub struct Level0Name(pub u32);
 
@@ -62,7 +62,7 @@ impl fmt::Display for Level0Name {
     }
 }
 
-/// The name of an Element of level 1.
+/// Name of an Element of level 1.
 #[derive(Clone, Copy)]
 pub struct Level1Name(pub u32);
 
@@ -81,7 +81,7 @@ impl fmt::Display for Level1Name {
     }
 }
 
-/// A size, in octets.
+/// Size in bytes.
 #[derive(Clone, Copy)]
 pub struct ShownSize(pub Size);
 
@@ -99,7 +99,7 @@ impl fmt::Display for ShownSize {
     }
 }
 
-/// An Element's place in the file, and its size.
+/// Offset of an Element in the file, and its size.
 #[derive(Clone, Copy)]
 pub struct ShownPlace(pub Header);
 
@@ -116,7 +116,7 @@ impl fmt::Display for ShownPlace {
     }
 }
 
-/// What is wrong with a file, and where.
+/// Kind and place of damage in a file.
 #[derive(Clone, Copy)]
 pub struct ShownDamage(pub Damage);
 
@@ -134,7 +134,7 @@ impl fmt::Display for ShownDamage {
     }
 }
 
-/// By what a file is told from another.
+/// Mark that distinguishes a file from another.
 #[derive(Clone, Copy)]
 pub struct ShownMark(pub Mark);
 
@@ -152,7 +152,7 @@ impl fmt::Display for ShownMark {
     }
 }
 
-/// A track, by its number from 0 in the file.
+/// Track, by its index in the file, from 0.
 #[derive(Clone, Copy)]
 pub struct ShownTrack<'a> {
     pub index: usize,

@@ -1,11 +1,11 @@
-//! Names and texts of files, as a line shows them.
+//! Names and texts of files in a message.
 
 ghost use Rattle.std.specs.Fmt.{WritesOnOk};
 ghost use Rattle.mkv_lines.specs.Shown.{shown_text};
 
 use std::fmt;
 
-/// A name or a text of a file. A control character is shown by the octets that it has in UTF-8.
+/// Name or text of a file. A control character is shown as its bytes in UTF-8.
 #[derive(Clone, Copy)]
 pub struct ShownText<'a>(pub &'a str);
 
@@ -20,7 +20,7 @@ impl fmt::Display for ShownText<'_> {
     }
 }
 
-// Writes a text as a line shows it.
+// Writes `text` in the form that a message has.
 fn write_shown<W: fmt::Write>(text: &str, f: &mut fmt::Formatter<W>) -> fmt::Result
     ensures { WritesOnOk W.write_str_gives f.old result (shown_text text.now) f.new }
 {
@@ -31,7 +31,7 @@ fn write_shown<W: fmt::Write>(text: &str, f: &mut fmt::Formatter<W>) -> fmt::Res
     Ok(())
 }
 
-// A character of a text that isn't ours.
+// Character of a text that comes from a file.
 #[derive(Clone, Copy)]
 struct ShownChar(char);
 
@@ -57,7 +57,7 @@ impl fmt::Display for ShownChar {
     }
 }
 
-// An octet of a control character.
+// Byte of a control character.
 #[derive(Clone, Copy)]
 struct Escaped(u8);
 

@@ -1,27 +1,27 @@
-//! How a run ends.
+//! Exit statuses of a run.
 
 ghost use Rattle.std.specs.Prelude.{◌≡◌};
 ghost use Rattle.mkv_lines.specs.Code.{code_of, stop_of};
 
 use mkv_io::{ReadEnd, RemuxEnd};
 
-/// How a run ends.
+/// Exit status of a run.
 #[derive(Clone, Copy, Debug, PartialEq, Eq)]
 pub enum Status {
-    /// All is done.
+    /// Everything is done.
     Done,
-    /// All is done, and a line warns of what was found on the way.
+    /// Everything is done, and a message warns of a problem.
     Warned,
-    /// Nothing is done, and a line says why, but where a word can't be read.
+    /// Nothing is done, and a message gives the reason, except for an argument that can't be read.
     Refused,
-    /// There was no memory.
+    /// Memory ran out.
     NoMemory,
     /// The files, the disk or the report failed.
     Outside,
 }
 
 impl Status {
-    /// The exit status of the program.
+    /// Returns the exit status of the program.
     pub fn code(self) -> u8
         ensures { result ≡ code_of self }
     {
@@ -35,10 +35,10 @@ impl Status {
     }
 }
 
-/// Why a command stops before its end.
+/// Reason why a command stops early.
 #[derive(Clone, Copy, Debug, PartialEq, Eq)]
 pub enum CommandEnd {
-    /// There is no memory.
+    /// Out of memory.
     Memory,
     /// The files failed.
     Files,
@@ -61,7 +61,7 @@ impl From<ReadEnd> for CommandEnd {
     }
 }
 
-/// Why a command stops where a call that reads and writes files ended early.
+/// Returns the reason why a command stops if a call that reads and writes files ended early.
 pub fn stop_of(end: RemuxEnd) -> CommandEnd
     ensures { result ≡ stop_of end }
 {

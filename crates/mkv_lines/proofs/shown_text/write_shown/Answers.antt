@@ -6,7 +6,7 @@ use Rattle.std.proofs.lemmas.Iterator.Consumers.{YieldsList-end}
 use Rattle.mkv_lines.specs.Shown.{shown_char}
 use Rattle.mkv_lines.proofs.shown_text.write_shown.Goals as goal
 
--- all characters were given
+-- All characters are written.
 pub returns : goal.returns
 returns g c = λ plain ok.
     let t = YieldsList-end (YieldsList-from_chars c.args.text.now c.utf8.text cc) c.loop-c.yielded _ c.loop-c.yielded_by _ _ c.in-None.is c.next.ensures.steps in

@@ -4,7 +4,7 @@ use Rattle.mkv_lines.specs.Shown.{shown_char}
 use Rattle.mkv_lines.proofs.ShownLemmas.{shown_char-two}
 use Rattle.mkv_lines.proofs.shown_text.ShownCharDisplay.fmt.Goals as goal
 
--- the octets of a control character from U+0080 on
+-- These are the bytes of a control character from U+0080 on.
 pub returns-in-128-to-159-clause-writes : goal.returns-in-128-to-159-clause-writes
 returns-in-128-to-159-clause-writes g c = λ plain ok.
     let low : 0x80 ≤ c.from.result = omega arith in
