@@ -1,4 +1,4 @@
--- A master that is changed keeps its ID.
+-- A changed master keeps its ID.
 use Rattle.std.proofs.Common.{◌≡◌, List, refl, ◌∙◌, ap}
 use Rattle.tree_format.specs.Node.{Node, leaf, master, id_of, with_children}
 

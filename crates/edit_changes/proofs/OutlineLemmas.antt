@@ -1,4 +1,4 @@
--- The Elements of level 1, one after the other.
+-- The Elements of level 1 in sequence.
 use Rattle.std.proofs.Common.{◌≡◌, ℕ, zero, suc, ◌+◌, ◌==◌, Bool, true, false, ◌&&◌, if◌then◌else◌, List, [], ◌∷◌, drop, Some, slice_get, refl, sym, ◌∙◌, ap, add-one}
 use Rattle.std.proofs.lemmas.List.Sums.{sum_by-cons}
 use Rattle.mkv_schema.specs.declared.ids.TheConstants.{VOID}
@@ -18,7 +18,7 @@ drop-at list k h at =
     let next : drop (k + 1) list ≡ drop (suc k) list = rw add-one refl in
     drop-suc list k h at ∙ ap (λ l. h ∷ l) (sym next)
 
--- the next Element leads on, where it is a Void that stands there
+-- A Void at the current offset advances it.
 pub void-step : (p k : ℕ) (list : List Header) (h : Header) → slice_get list k ≡ Some h
     → behind_voids p (drop k list) ≡ behind_voids (behind_void p h) (drop (k + 1) list)
 void-step p k list h at = ap (behind_voids p) (drop-at list k h at) ∙ split (h.id == VOID && h.offset == p)
@@ -30,7 +30,7 @@ void-step p k list h at = ap (behind_voids p) (drop-at list k h at) ∙ split (h
 
 pub ruleset spans = void-step
 
--- one of the ID counts, and no other
+-- The count grows by one for an Element with this ID.
 pub number-step : (id k : ℕ) (list : List Header) (h : Header) → slice_get list k ≡ Some h
     → number_of id (drop k list) ≡ (if h.id == id then 1 else 0) + number_of id (drop (k + 1) list)
 number-step id k list h at =

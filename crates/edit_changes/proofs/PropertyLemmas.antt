@@ -1,4 +1,4 @@
--- The Elements of properties stand where the table of Elements has them.
+-- The table of Elements allows the Elements of properties at their places.
 use Rattle.std.proofs.Common.{◌≡◌, inl, inr, ℕ, Bool, true, false, List, [], ◌∷◌, find, if◌then◌else◌, Some, IfSome, refl}
 use Rattle.std.specs.Bool.{⊤}
 use Rattle.std.specs.Option.{option_map}
@@ -13,12 +13,12 @@ use Rattle.edit_changes.specs.declared.property.Property.{Property}
 use Rattle.edit_changes.specs.Property.{Row, in_table, info_table, track_table, property_of}
 use Rattle.edit_changes.specs.Properties.{IsPropertyOf, section_of}
 
--- each row's property has this
+-- Each row's property satisfies `P`.
 abbrev Each : (Property → Type 0) → List Row → Type 0
 Each P [] = ⊤
 Each P (r ∷ rs) = P r.property × Each P rs
 
--- what is found in a table has what all of its rows have
+-- A property that is found satisfies `P` if all rows do.
 in_table-all : (P : Property → Type 0) (name : List ℕ) (rows : List Row) → Each P rows → IfSome (in_table name rows) P
 in_table-all P name [] all = tt
 in_table-all P name (r ∷ rs) all = split (bytes_eq name r.name) (in_table-all P name rs all.1)

@@ -1,4 +1,4 @@
--- A TrackEntry that stands in Tracks: what is read of it, and that it is changed.
+-- A TrackEntry in Tracks: its fields, and its edits.
 use Rattle.std.proofs.Common.{◌≡◌, ◌==◌, ℕ, suc, ◌+◌, ◌-◌, Bool, true, false, List, [], ◌∷◌, Some, slice_get, refl, sym, ◌∙◌, ap, arith}
 use Rattle.std.proofs.lemmas.Bool.Decides.{nat_tests}
 use Rattle.requests.specs.declared.edit.Selector.{Selector}
@@ -39,14 +39,14 @@ entry-master (leaf id at body) stands is =
     absurd (cc (none, is-master))
 entry-master (master id at kids) stands is = refl
 
--- an entry whose children stand in it stands in Tracks
+-- The table allows a sound TrackEntry in Tracks.
 pub entry-stands : (n : Node) → IsMaster n → id_of n ≡ TRACK_ENTRY → IsSound n → StandsIn TRACKS n
 entry-stands (leaf id at body) is own sound = absurd (cc is)
 entry-stands (master id at kids) is own sound = (ap (is_master_in TRACKS) own ∙ is-master, sound)
 
 pub ruleset entries = (number, uid, type, entry-sound)
 
--- what a selector fits is a TrackEntry
+-- A node that a selector matches is a TrackEntry.
 fits-entry : (selector : Selector) (n : Node) → fits selector n ≡ true → id_of n ≡ TRACK_ENTRY
 fits-entry Info n fit = absurd (cc fit)
 fits-entry (Nth k) n fit = grind (arith, fit, nat_tests)
@@ -54,7 +54,7 @@ fits-entry (Typed kind k) n fit = grind (arith, fit, nat_tests)
 fits-entry (Uid uid) n fit = grind (arith, fit, nat_tests)
 fits-entry (Number k) n fit = grind (arith, fit, nat_tests)
 
--- the place that is found is that of one that passes, behind the others
+-- The index that is found belongs to a node that passes.
 record Found (passes : Node → Bool) (before p : ℕ) (ns : List Node) : Type 0 where
   inside : ℕ
   is : p ≡ before + inside

@@ -1,4 +1,4 @@
--- What is written into a span.
+-- The bytes that are written into a span.
 use Rattle.std.proofs.Common.{pow_mono, ◌≡◌, ◌<◌, ◌≤◌, ℕ, ◌+◌, ◌-◌, ◌*◌, ◌^◌, ◌==◌, nat_lt, nat_le, Bool, true, false, if◌then◌else◌, List, ◌++◌, length, replicate, Some, None, refl, sym, ◌∙◌, ap, arith}
 use Rattle.std.proofs.lemmas.List.{length-append, length-replicate}
 use Rattle.std.proofs.lemmas.Bool.Decides.{nat_tests}
@@ -8,7 +8,7 @@ use Rattle.mkv_schema.specs.declared.ids.TheConstants.{VOID}
 use Rattle.output_model.specs.Element.{Element, element, octets_of, header_of}
 use Rattle.edit_changes.specs.Span.{fitted, void_header, wider}
 
--- seven octets are enough for a size that a file can have
+-- Seven bytes are enough for the size of any Element in a file.
 pub width-most : (len w : ℕ) → len ≤ 2 ^ 48 → IsLeastWidth (λ k. len < all_ones k) w → w ≤ 7
 width-most len w short least = least.least 7 (omega arith) (omega arith)
 
@@ -26,7 +26,7 @@ length-element id body =
 
 pub ruleset lengths = (length-element, is_id-bounds)
 
--- the header of a Void, whose body is let alone
+-- This is the header of a Void; its body isn't written.
 pub short-void : (total : ℕ) → total ≤ 128 → id_octets VOID ++ size_octets (total - 2) 1 ≡ void_header total
 short-void total short =
     let test : nat_le total 128 ≡ true = grind (arith, nat_tests) in

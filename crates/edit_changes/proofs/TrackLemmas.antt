@@ -1,4 +1,4 @@
--- The children of Tracks, of which one is edited.
+-- The children of Tracks, after an edit of one.
 use Rattle.std.proofs.Common.{◌≡◌, ℕ, zero, suc, List, [], ◌∷◌, Option, Some, IfSome, Result, Ok, Err, slice_get, slice_set, slice_index_or, sym, ◌∙◌, ap, subst}
 use Rattle.std.specs.List.{All}
 use Rattle.std.proofs.lemmas.List.Elements.{All-set}
@@ -30,14 +30,14 @@ own-get (m ∷ ns) (suc k) n at = own-get ns k n at
 stands-at : (ns : List Node) (k : ℕ) (n : Node) → All (StandsIn TRACKS) ns → slice_get ns k ≡ Some n → StandsIn TRACKS n
 stands-at ns k n all at = subst (StandsIn TRACKS) (own-get ns k n at) (all k n (slice_get_within ns k n at))
 
--- the TrackEntry at a place is one that was read
+-- The TrackEntry at index `k` was read as one.
 pub entry-read : (ns : List Node) (k : ℕ) → All (StandsIn TRACKS) ns → IsEntryAt ns k → IfSome (slice_get ns k) (IsRead TRACK_ENTRY)
 entry-read ns k all here =
     let stands = stands-at ns k here.entry all here.at in
     let P : Option Node → Type 0 = λ m. IfSome m (IsRead TRACK_ENTRY) in
     subst P (sym here.at) (record { id = here.id; master = entry-master here.entry stands here.id; sound = (entry-sound here.entry stands here.id).sound })
 
--- once it is edited, all still stand in Tracks
+-- After the edit, the table still allows all children in Tracks.
 pub tracks-stand : {A : Type 0} (result : Result A EditEnd) (old new : List Node) (k : ℕ) (e : Edit) → All (StandsIn TRACKS) old → IsEntryAt old k
     → MakesEntry result old new k e → All (StandsIn TRACKS) new
 tracks-stand result old new k e all here made =
@@ -56,7 +56,7 @@ made-at (Err (Refused why)) old new k before after made was becomes makes =
     (ap (λ r. and_then r (λ m. Ok (slice_set old k m))) makes.0, becomes ∙ ap (slice_set old k) makes.1 ∙ own-set old k before was)
 made-at (Err Memory) old new k before after made was becomes makes = becomes ∙ ap (slice_set old k) makes ∙ own-set old k before was
 
--- it is the edit of the TrackEntry that is meant
+-- The edit changes the TrackEntry that it selects.
 pub tracks-made : {A : Type 0} (result : Result A EditEnd) (old new : List Node) (k : ℕ) (e : Edit) → place_of e.place old ≡ Some k
     → MakesEntry result old new k e → BecomesOrStays result old new (tracks_edited e old)
 tracks-made result old new k e meant made =

@@ -1,4 +1,4 @@
--- What edits make of Info and Tracks: RFC 9559, sections 5.1.2 (Info Element) and 5.1.4 (Tracks Element). What refuses an edit is this project's.
+-- Edits of Info and Tracks: RFC 9559, sections 5.1.2 (Info Element) and 5.1.4 (Tracks Element). The reasons to refuse an edit are this project's.
 use Rattle.std.specs.Prelude.{ℕ, ◌+◌, ◌-◌, ◌==◌, Bool, false, ◌&&◌, not, if◌then◌else◌, List, [], ◌∷◌, ◌++◌, slice_get, slice_set, Option, Some, None, Result, Ok, Err}
 use Rattle.std.specs.List.{list_any}
 use Rattle.std.specs.Option.{is_some}
@@ -21,9 +21,9 @@ use Rattle.edit_changes.specs.declared.trees.Trees.{Trees}
 use Rattle.edit_changes.specs.Property.{is_info, property_of, value_of}
 use Rattle.mkv_io.specs.Results.{and_then}
 
--- ---- which TrackEntry is meant
+-- ---- selection of a TrackEntry
 
--- an Element of Tracks is a TrackEntry that a selector fits, its turn let alone
+-- A child of Tracks is a TrackEntry that the selector matches, apart from its position.
 abbrev pub fits : Selector → Node → Bool
 fits Info n = false
 fits (Nth k) n = id_of n == TRACK_ENTRY
@@ -31,7 +31,7 @@ fits (Typed kind k) n = id_of n == TRACK_ENTRY && type_of n == kind
 fits (Uid uid) n = id_of n == TRACK_ENTRY && uid_of n == uid
 fits (Number number) n = id_of n == TRACK_ENTRY && number_of n == number
 
--- which of those is meant, counted from 1
+-- the position among the matching TrackEntries, counted from 1
 abbrev pub turn_of : Selector → ℕ
 turn_of Info = 0
 turn_of (Nth k) = k
@@ -39,27 +39,27 @@ turn_of (Typed kind k) = k
 turn_of (Uid uid) = 1
 turn_of (Number number) = 1
 
--- the place of the k-th that passes, counted from 1, behind so many others
+-- the index of the `k`-th node that passes, counted from 1, after `before` other nodes
 abbrev pub nth_place : (Node → Bool) → ℕ → ℕ → List Node → Option ℕ
 nth_place passes k before [] = None
 nth_place passes k before (n ∷ ns) =
     if passes n then (if k == 1 then Some before else nth_place passes (k - 1) (before + 1) ns)
     else nth_place passes k (before + 1) ns
 
--- the place of the one that is meant among the children of Tracks
+-- the index of the selected TrackEntry among the children of Tracks
 abbrev pub place_of : Selector → List Node → Option ℕ
 place_of selector tracks = nth_place (fits selector) (turn_of selector) 0 tracks
 
 -- ---- one change of an Info or a TrackEntry
 
--- with a leaf of these octets behind the other children
+-- node `n` with a leaf of the bytes `value` after its other children
 abbrev pub added_to : ℕ → List ℕ → Node → Node
 added_to id value n = with_children n (children n ++ leaf id 0 value ∷ [])
 
 abbrev pub has : ℕ → Node → Bool
 has id n = is_some (first_child id n)
 
--- the property with these octets, which are asked first
+-- node `n` with the property set to the bytes `value`; a bad value is refused first
 abbrev pub set : ℕ → Node → Option (List ℕ) → Result Node EditRefusal
 set id n None = Err BadPropertyValue
 set id n (Some value) = Ok (set_in (leaf id 0 value) n)
@@ -68,7 +68,7 @@ abbrev pub added : ℕ → Node → Option (List ℕ) → Result Node EditRefusa
 added id n None = Err BadPropertyValue
 added id n (Some value) = if has id n then Err AlreadyThere else Ok (added_to id value n)
 
--- a property that may go does so whether it stands there or not
+-- node `n` without property `p`, if it may be deleted, even if it doesn't exist
 abbrev pub deleted : Property → Node → Result Node EditRefusal
 deleted p n = if p.deletable then Ok (removed_in p.id n) else Err Mandatory
 
@@ -77,16 +77,16 @@ changed Set value n p = set p.id n (value_of p.kind value)
 changed Add value n p = added p.id n (value_of p.kind value)
 changed Delete value n p = deleted p n
 
--- a change of a property, if the section has it
+-- node `n` with one change of a property, if the section has the property
 abbrev pub named : Change → List ℕ → Node → Option Property → Result Node EditRefusal
 named change value n None = Err NoSuchProperty
 named change value n (Some p) = changed change value n p
 
--- what an edit makes of its Info or TrackEntry
+-- the Info or TrackEntry `n` after edit `e`
 abbrev pub edited_node : Edit → Node → Result Node EditRefusal
 edited_node e n = named e.change e.value n (property_of (is_info e.place) e.name)
 
--- ---- the edits of a file, one after the other
+-- ---- the edits of a file in sequence
 
 abbrev pub in_info : Edit → Trees → Option Node → Result Trees EditRefusal
 in_info e t None = Err NoInfo
@@ -100,7 +100,7 @@ abbrev pub in_tracks : Edit → Trees → Option ℕ → Result Trees EditRefusa
 in_tracks e t None = Err NoSuchTrack
 in_tracks e t (Some k) = in_entry e t k (slice_get t.tracks k)
 
--- one edit
+-- the trees after one edit
 abbrev pub edited_once : Edit → Trees → Result Trees EditRefusal
 edited_once e t = if is_info e.place then in_info e t t.info else in_tracks e t (place_of e.place t.tracks)
 
@@ -108,7 +108,7 @@ abbrev pub numbered : {A : Type 0} → ℕ → Result A EditRefusal → Result A
 numbered k (Ok x) = Ok x
 numbered k (Err why) = Err (refusal.Edit k why)
 
--- each edit is asked of what the edits before it leave, of which there are k
+-- the trees after the edits from number `k + 1` on, each made on the result of the previous one
 abbrev pub edited_from : ℕ → List Edit → Trees → Result Trees Refusal
 edited_from k [] t = Ok t
 edited_from k (e ∷ es) t = and_then (numbered (k + 1) (edited_once e t)) (edited_from (k + 1) es)
@@ -116,7 +116,7 @@ edited_from k (e ∷ es) t = and_then (numbered (k + 1) (edited_once e t)) (edit
 abbrev pub edited_trees : List Edit → Trees → Result Trees Refusal
 edited_trees edits t = edited_from 0 edits t
 
--- An edit is about Info, and one is about Tracks: what edits are about is written anew, even where it doesn't change.
+-- An edit is about Info (or about Tracks). Such an Element is rewritten even if it doesn't change.
 abbrev pub are_of_info : List Edit → Bool
 are_of_info edits = list_any (λ (e : Edit). is_info e.place) edits
 

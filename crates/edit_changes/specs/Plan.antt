@@ -1,4 +1,5 @@
--- What is written where Elements of level 1 are rewritten, as edits do with Info and Tracks; where it goes, and what has no room: RFC 9559, sections 5.1 (Segment Element) and 16 (Segment Position). What stays and what moves is this project's.
+-- The writes that replace Elements of level 1, for edits of Info and Tracks: their places, and the room that may be missing. RFC 9559, sections
+-- 5.1 (Segment Element) and 16 (Segment Position). The choice between staying and moving is this project's.
 use Rattle.std.specs.Prelude.{ℕ, ◌+◌, ◌-◌, ◌==◌, nat_lt, nat_le, max, Bool, false, not, ◌&&◌, ◌||◌, if◌then◌else◌, List, [], ◌∷◌, ◌++◌, length, take, map, filter, filter_map, find, flat_map, sum_by, count_by, Option, Some, None, unwrap_or, Result, Ok, Err}
 use Rattle.std.specs.List.{list_any}
 use Rattle.std.specs.Option.{is_some, option_and_then, option_map, option_map_or, option_or}
@@ -33,11 +34,10 @@ use Rattle.edit_changes.specs.Records.{editable}
 use Rattle.edit_changes.specs.Span.{span_of, void_header, fitted}
 use Rattle.edit_changes.specs.SeekHead.{SeekHeadAt, seek_head_of, seek_head_with}
 
--- ---- the Elements of level 1 that are written anew
+-- ---- the Elements of level 1 that are rewritten
 
--- An Element of level 1 that is written anew: its ID; where the old one stands, and how many octets that one and the Voids
--- behind it have, none where it stands nowhere yet; how many Elements are written of it, itself counted; and the new one,
--- in its normal form, or none where it goes.
+-- An Element of level 1 that is rewritten. `place` is the offset of the old one, and `room` its length with the Voids after it, 0 if there is no
+-- old one. `nodes` counts the Elements that are written, itself included. `element` is the new one in its normal form, or none if it is removed.
 pub record Part : Type 0 where
   pub id : ℕ
   pub place : ℕ
@@ -45,7 +45,7 @@ pub record Part : Type 0 where
   pub nodes : ℕ
   pub element : Option Element
 
--- one that stands in a list, with new children
+-- the Element with header `h` of `list`, rewritten with the children `nodes`
 abbrev pub part : List Header → List Node → Header → Part
 part list nodes h = record {
   id = h.id;
@@ -55,87 +55,87 @@ part list nodes h = record {
   element = Some (element h.id (flat_map octets nodes));
 }
 
--- the first of an ID, with new children, if it is to be written
+-- the first Element with this ID, rewritten with the children `nodes`, if `written` holds
 abbrev pub part_of : Bool → ℕ → List Header → List Node → List Part
 part_of written id list nodes = if written then option_map_or (λ h. part list nodes h ∷ []) (first_of id list) [] else []
 
 abbrev pub info_nodes : Option Node → List Node
 info_nodes info = option_map_or children info []
 
--- Info before Tracks, each where an edit is about it
+-- Info and Tracks, in this order, each if an edit is about it
 abbrev pub parts : List Header → List Edit → Trees → List Part
 parts list edits t =
     part_of (are_of_info edits) INFO list (info_nodes t.info) ++ part_of (are_of_tracks edits) TRACKS list t.tracks
 
--- The new one is longer than its room, so it goes to the end of the file.
+-- The new Element is longer than its room, so it moves to the end of the file.
 abbrev pub moves : Part → Bool
 moves p = option_map_or (λ e. nat_lt p.room (length (octets_of e))) p.element false
 
--- There is an old one.
+-- An old Element exists.
 abbrev pub stands : Part → Bool
 stands p = nat_lt 0 p.room
 
 abbrev pub moving : List Part → List Part
 moving ps = filter moves ps
 
--- what is written where the old one stands: the new one, or the header of a Void where it moves or goes
+-- the bytes that replace the old Element: the new one, or the header of a Void if it moves or is removed
 abbrev pub overwrite_or_void : Part → List ℕ
 overwrite_or_void p = unwrap_or (option_and_then (λ e. fitted e p.room) p.element) (void_header p.room)
 
 abbrev pub elements_moving : List Part → List Element
 elements_moving ps = filter_map (λ p. p.element) (moving ps)
 
--- what goes to the end of the file, one behind the other
+-- the bytes that are appended to the file: the Elements that move, in sequence
 abbrev pub appended : List Part → List ℕ
 appended ps = flat_map octets_of (elements_moving ps)
 
 -- ---- the new SeekHead, and the Segment's size
 
--- An Element of this ID goes.
+-- An Element with this ID is removed.
 abbrev pub goes : List Part → ℕ → Bool
 goes ps id = list_any (λ (p : Part). p.id == id && not (is_some p.element)) ps
 
--- the Seek of an Element that stands in a Segment whose body begins at a place
+-- the Seek of the Element with header `h` in a Segment whose body begins at `base`
 abbrev pub seek_to : ℕ → Header → Seek
 seek_to base h = record { id = h.id; position = h.offset - base }
 
--- the Seek of the first Element of an ID that stands there, unless it goes
+-- the Seek of the first existing Element with this ID, unless it is removed
 abbrev pub standing_seek : FileOutline → List Part → ℕ → Option Seek
 standing_seek o ps id = if goes ps id then None else option_map (seek_to o.segment.body) (first_of id o.others)
 
--- the Seek of an ID: that of the Element that is appended, else of the first that stands there, unless it goes
+-- the Seek of an ID: of the appended Element, or else of the first existing one, unless it is removed
 abbrev pub seek_for : List Seek → FileOutline → List Part → ℕ → Option Seek
 seek_for moved o ps id = option_or (find (λ s. s.id == id) moved) (standing_seek o ps id)
 
--- the Seeks of these IDs, each where there is one, beside those of the Elements that are appended
+-- the Seeks of `ids`, as far as they exist; `moved` has the Seeks of the appended Elements
 abbrev pub seeks_beside : List Seek → FileOutline → List Part → List ℕ → List Seek
 seeks_beside moved o ps ids = filter_map (seek_for moved o ps) ids
 
--- the Seeks of these IDs, each where there is one
+-- the Seeks of `ids`, as far as they exist
 abbrev pub seeks : List ℕ → FileOutline → List Part → List Seek
 seeks ids o ps = seeks_beside (seeks_from (o.total - o.segment.body) (elements_moving ps)) o ps ids
 
--- the octets of a SeekHead and the Voids behind it, none where there is no SeekHead
+-- the bytes of a SeekHead and the Voids after it, or 0 if there is no SeekHead
 abbrev pub room_of : Option SeekHeadAt → List Header → ℕ
 room_of head list = option_map_or (λ s. span_of s.header list) head 0
 
 abbrev pub place_of : Option SeekHeadAt → ℕ
 place_of head = option_map_or (λ s. s.header.offset) head 0
 
--- the new SeekHead, which tells of these IDs
+-- the new SeekHead, with the Seeks of `ids`
 abbrev pub seek_head : List ℕ → FileOutline → List Part → Option SeekHeadAt → Element
 seek_head ids o ps head = seek_head_with ids (seeks ids o ps) (option_map_or (λ s. s.seeks) head [])
 
--- how many octets the Segment's size takes, and how many it needs where the Segment ends at a place
+-- the number of bytes of the Segment's size
 abbrev pub size_width : Header → ℕ
 size_width segment = segment.body - segment.offset - length (id_octets SEGMENT)
 
 abbrev pub size_need : Header → ℕ → ℕ
 size_need segment end = least_size_width (end - segment.body)
 
--- ---- what has no room
+-- ---- missing room
 
--- an end that a header states, where it isn't the end of the file
+-- the end that a header states, unless it is `total`, the end of the file
 abbrev pub other_end : ℕ → Header → Option ℕ
 other_end total h = if is_unknown h.size || stated_end h == total then None else Some (stated_end h)
 
@@ -143,8 +143,8 @@ abbrev pub cluster_end : ℕ → Option Header → Option ℕ
 cluster_end total None = None
 cluster_end total (Some h) = if h.id == CLUSTER then other_end total h else None
 
--- The end that keeps anything from being added to the file: the one that the Segment states; the one that the Cluster
--- states that is the last Element of level 1; and the one of a Segment of unknown size with octets behind it.
+-- The end that prevents appending to the file. It is the end that the Segment states; or the end that the last Element of level 1 states, if it
+-- is a Cluster; or the end of a Segment of unknown size that isn't the file's.
 abbrev pub wrong_end : FileOutline → Option ℕ
 wrong_end o =
     option_or (other_end o.total o.segment)
@@ -154,18 +154,18 @@ wrong_end o =
 abbrev pub number_of : ℕ → List Header → ℕ
 number_of id list = count_by (λ h. h.id == id) list
 
--- no room of this kind, where more is needed than there is
+-- the refusal for this kind of room, if `need` is more than `have`
 abbrev pub lacks : Room → ℕ → ℕ → Option Refusal
 lacks why need have = if nat_lt have need then Some (NoRoom why need have) else None
 
 abbrev pub tail_refusal : FileOutline → Option Refusal
 tail_refusal o = option_map (λ end. NoRoom Tail end o.total) (wrong_end o)
 
--- an Element of an ID that moves isn't the only one
+-- the refusal, if an Element that moves isn't the only one with its ID
 abbrev pub twin_of : List Header → ℕ → Option Refusal
 twin_of list id = if nat_lt 1 (number_of id list) then Some (NoRoom Twin 1 (number_of id list)) else None
 
--- the first that isn't
+-- the first refusal of an Element that isn't the only one with its ID
 abbrev pub twin_refusal : List Header → List Part → Option Refusal
 twin_refusal list [] = None
 twin_refusal list (p ∷ ps) = option_or (twin_of list p.id) (twin_refusal list ps)
@@ -174,12 +174,12 @@ abbrev pub size_refusal : Header → ℕ → Option Refusal
 size_refusal segment end =
     if is_unknown segment.size then None else lacks SegmentSize (size_need segment end) (size_width segment)
 
--- ---- what is written
+-- ---- the writes
 
 abbrev pub write : ℕ → List ℕ → Write
 write place octets = record { at = place; bytes = octets }
 
--- by their places
+-- `w` inserted into writes in order of their places
 abbrev pub inserted : Write → List Write → List Write
 inserted w [] = w ∷ []
 inserted w (v ∷ vs) = if nat_le w.at v.at then w ∷ v ∷ vs else v ∷ inserted w vs
@@ -188,57 +188,57 @@ abbrev pub ascending : List Write → List Write
 ascending [] = []
 ascending (w ∷ ws) = inserted w (ascending ws)
 
--- where the old ones stand
+-- the writes at the places of the old Elements
 abbrev pub part_writes : List Part → List Write
 part_writes ps = map (λ p. write p.place (overwrite_or_void p)) (filter stands ps)
 
--- the Segment's size, where it is known and the Segment then ends at a place
+-- the write of the Segment's size, if it is known, for a Segment that ends at `end`
 abbrev pub size_writes : Header → ℕ → List Write
 size_writes segment end =
     if is_unknown segment.size then []
     else write (segment.offset + length (id_octets SEGMENT)) (size_octets (end - segment.body) (size_width segment)) ∷ []
 
--- how many octets are written of the Segment's size
+-- the number of bytes written for the Segment's size
 abbrev pub size_length : Header → ℕ
 size_length segment = if is_unknown segment.size then 0 else size_width segment
 
--- the most Elements of one that is written anew
+-- the greatest number of Elements in one that is rewritten
 abbrev pub most_nodes : List Part → ℕ
 most_nodes [] = 0
 most_nodes (p ∷ ps) = max p.nodes (most_nodes ps)
 
--- how many octets are written there
+-- the number of bytes written at the places of the old Elements
 abbrev pub length_in_place : List Part → ℕ
 length_in_place ps = sum_by (λ p. length (overwrite_or_void p)) (filter stands ps)
 
--- too many octets to write, or too many Elements in one
+-- the refusal for too many bytes to write, or too many Elements in one
 abbrev pub too_large : ℕ → List Part → Option Refusal
 too_large length ps =
     if nat_lt MAX_NODES (most_nodes ps) || nat_lt MAX_WRITTEN length then Some (EditTooLarge length (most_nodes ps)) else None
 
--- the parts alone, each where it stands
+-- the writes of parts that all stay at their places
 abbrev pub writes_in_place : List Part → Result (List Write) Refusal
 writes_in_place ps = unless (too_large (length_in_place ps) ps) (ascending (part_writes ps))
 
--- the first of these that refuses
+-- the first refusal in the list
 abbrev pub first_refusal : List (Option Refusal) → Option Refusal
 first_refusal [] = None
 first_refusal (None ∷ rs) = first_refusal rs
 first_refusal (Some r ∷ rs) = Some r
 
--- the octets of the writes, a new SeekHead among them: one that isn't there or has no room counts as it is without Voids
+-- the bytes of the writes, with the new SeekHead; a SeekHead without room counts without Voids
 abbrev pub length_moving : FileOutline → List Part → Element → ℕ → ℕ
 length_moving o ps seeks room =
     length_in_place ps + length (appended ps) + length (unwrap_or (fitted seeks room) (octets_of seeks))
     + (if list_any moves ps then size_length o.segment else 0)
 
--- where the file ends once what moves is appended
+-- the end of the file after the Elements that move are appended
 abbrev pub new_end : FileOutline → List Part → ℕ
 new_end o ps = o.total + length (appended ps)
 
--- What refuses that parts move, in the order in which it is asked: there is too much to write (EditTooLarge); an Element ends elsewhere
--- than the file does (Tail); one that moves isn't the only one of its ID (Twin); there is no room for the SeekHead (SeekHead); the
--- Segment's size has too few octets for the new end (SegmentSize). Where nothing is appended, the ends may be what they are.
+-- The reasons to refuse that parts move, in the order of the checks. Too much is written (EditTooLarge). An Element states another end than the
+-- file's (Tail). An Element that moves isn't the only one with its ID (Twin). The SeekHead has no room (SeekHead). The Segment's size has too few
+-- bytes for the new end (SegmentSize). If nothing is appended, the ends aren't checked.
 abbrev pub moving_refusals : FileOutline → List Part → Element → ℕ → List (Option Refusal)
 moving_refusals o ps seeks room =
     too_large (length_moving o ps seeks room) ps
@@ -247,28 +247,28 @@ moving_refusals o ps seeks room =
     ∷ lacks SeekHead (length (octets_of seeks)) room
     ∷ (if list_any moves ps then size_refusal o.segment (new_end o ps) else None) ∷ []
 
--- The SeekHead, and the parts where they stand, by their places; and where something is appended, the Segment's size in
--- front of them and what goes to the end of the file behind them.
+-- The writes, by their places: the SeekHead and the parts at their old places. If something is appended, the Segment's size comes first and the
+-- appended Elements come last.
 abbrev pub moving_writes : FileOutline → List Part → Element → ℕ → ℕ → List Write
 moving_writes o ps seeks place room =
     let middle = ascending (write place (unwrap_or (fitted seeks room) []) ∷ part_writes ps) in
     if list_any moves ps then size_writes o.segment (new_end o ps) ++ middle ++ write o.total (appended ps) ∷ [] else middle
 
--- the parts, and the SeekHead that tells where these IDs are
+-- the writes of the parts and of the SeekHead with the Seeks of `ids`
 abbrev pub writes_moving : List ℕ → FileOutline → List Part → Option SeekHeadAt → Result (List Write) Refusal
 writes_moving ids o ps head =
     let seeks = seek_head ids o ps head in
     let room = room_of head o.others in
     unless (first_refusal (moving_refusals o ps seeks room)) (moving_writes o ps seeks (place_of head) room)
 
--- What is written of parts: with the SeekHead where something moves, or always.
+-- The writes of parts: with the SeekHead if something moves or if `always` holds.
 abbrev pub writes_of_parts : List ℕ → Bool → List ℕ → FileOutline → List Part → Result (List Write) Refusal
 writes_of_parts ids always bytes o ps =
     if always || list_any moves ps then writes_moving ids o ps (seek_head_of bytes o) else writes_in_place ps
 
--- ---- what edits write
+-- ---- the writes of edits
 
--- Info and Tracks, of which the SeekHead tells once one of them has moved
+-- Info and Tracks; the SeekHead gets their Seeks when one of them moves
 abbrev pub edit_ids : List ℕ
 edit_ids = INFO ∷ TRACKS ∷ []
 
@@ -276,7 +276,7 @@ abbrev pub if_editable : {A : Type 0} → Result A Damage → Result A Refusal
 if_editable (Ok x) = Ok x
 if_editable (Err d) = Err (Damaged d)
 
--- What edits write to a file of this content, by ascending places, or the first that refuses them.
+-- The writes of `edits` to a file with the content `bytes`, by ascending places, or the first refusal.
 unfoldable pub plan_of : List ℕ → List Edit → Result (List Write) Refusal
 plan_of bytes edits =
     and_then (if_editable (editable bytes)) (λ f.
@@ -285,14 +285,14 @@ plan_of bytes edits =
 
 -- ---- the edited file, and the record of the edit
 
--- The edited content, or what refuses the edits.
+-- The edited content, or the refusal of the edits.
 abbrev pub edited : List ℕ → List Edit → Result (List ℕ) Refusal
 edited bytes edits = and_then (plan_of bytes edits) (λ ws. Ok (applied bytes ws))
 
 abbrev pub place : Write → Place
 place w = record { at = w.at; len = length w.bytes }
 
--- The record of some writes to a file of this content.
+-- The journal's record of the writes `ws` to a file with the content `bytes`.
 abbrev pub recorded : List ℕ → List Write → Planned
 recorded bytes ws = record {
   head = record { old_len = length bytes; new_len = extent (length bytes) ws; first = take KEPT bytes; places = map place ws };

@@ -1,4 +1,4 @@
--- The table of properties, as the code has it, and where its Elements stand. Which there are is this project's, after mkvpropedit(1).
+-- The table of properties in the code, and the places of their Elements. The choice of properties is this project's, after mkvpropedit(1).
 use Rattle.std.specs.Prelude.{◌≡◌, ℕ, Bool, true, if◌then◌else◌}
 use Rattle.ebml_numbers.specs.Number.{is_id}
 use Rattle.mkv_schema.specs.declared.ids.TheConstants.{INFO, TRACK_ENTRY}
@@ -13,11 +13,11 @@ use Rattle.edit_changes.specs.declared.table.Row.{Row}
 abbrev pub shown : Row → spec.Row
 shown r = record { name = r.0.now; property = r.1 }
 
--- the master in which the properties of a section stand
+-- the master that contains the properties of a section
 abbrev pub section_of : Bool → ℕ
 section_of info = if info then INFO else TRACK_ENTRY
 
--- the table of Elements has it there as what its values are
+-- The table of Elements allows `id` in `parent`, with values of this kind.
 abbrev pub IsOfKind : ℕ → ℕ → ValueKind → Type 0
 IsOfKind parent id Words = IsTextIn parent id
 IsOfKind parent id Language = IsTextIn parent id
@@ -26,7 +26,7 @@ IsOfKind parent id Codec = IsTextIn parent id
 IsOfKind parent id Duration = IsUintIn parent id
 IsOfKind parent id Flag = IsUintIn parent id
 
--- A property's Element stands in this master, with values of its kind.
+-- The table allows the property's Element in `parent`, with values of its kind.
 pub record IsPropertyOf (parent : ℕ) (p : Property) : Type 0 where
   pub valid : is_id p.id ≡ true
   pub kind : IsOfKind parent p.id p.kind

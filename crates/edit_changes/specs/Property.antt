@@ -14,7 +14,7 @@ use Rattle.edit_changes.specs.declared.property.ValueKind.TheVariants.{Words, La
 
 -- ---- the table
 
--- a property under its name
+-- a property with its name
 pub record Row : Type 0 where
   pub name : List ℕ
   pub property : Property
@@ -45,7 +45,7 @@ track_table =
     row (codes "flag-original") FLAG_ORIGINAL Flag true ∷
     row (codes "flag-commentary") FLAG_COMMENTARY Flag true ∷ []
 
--- the section is Info
+-- The section is Info.
 abbrev pub is_info : Selector → Bool
 is_info Info = true
 is_info (Nth n) = false
@@ -56,7 +56,7 @@ is_info (Number number) = false
 abbrev pub table_of : Bool → List Row
 table_of info = if info then info_table else track_table
 
--- the property of a name in a section
+-- the property with this name in a section
 abbrev pub in_table : List ℕ → List Row → Option Property
 in_table name rows = option_map (λ r. r.property) (find (λ r. bytes_eq name r.name) rows)
 
@@ -80,34 +80,34 @@ is_in_tag c = is_letter c || is_between 0x30 0x39 c || c == 0x2D
 abbrev pub is_printable : ℕ → Bool
 is_printable c = is_between 0x20 0x7E c
 
--- 1 to 63 octets that all pass a test
+-- The value has 1 to 63 bytes, which all pass the test.
 abbrev pub is_short : (ℕ → Bool) → List ℕ → Bool
 is_short passes octets = is_between 1 63 (length octets) && list_all passes octets
 
 abbrev pub where_text : Bool → List ℕ → Option (List ℕ)
 where_text test octets = if test then Some octets else None
 
--- a number in its fewest octets
+-- a number from `least` to `most` in its fewest bytes
 abbrev pub where_number : ℕ → ℕ → Option ℕ → Option (List ℕ)
 where_number least most None = None
 where_number least most (Some n) = if is_between least most n then Some (uint_octets n) else None
 
--- a number that is spelled so, where it is one from the least to the most
+-- a decimal number from `least` to `most`, in its fewest bytes
 abbrev pub number_in : ℕ → ℕ → List ℕ → Option (List ℕ)
 number_in least most octets = where_number least most (number octets)
 
 abbrev pub is_not_zero : ℕ → Bool
 is_not_zero c = not (c == 0)
 
--- text without a zero octet
+-- The value is UTF-8 without a zero byte.
 abbrev pub is_words : List ℕ → Bool
 is_words value = is_utf8 value && list_all is_not_zero value
 
--- three lower-case letters
+-- The value consists of three lower-case letters.
 abbrev pub is_language : List ℕ → Bool
 is_language value = length value == 3 && list_all is_lower value
 
--- the octets of a value, where it is one of this kind
+-- the bytes of a value, if it has this kind
 abbrev pub value_of : ValueKind → List ℕ → Option (List ℕ)
 value_of Words value = where_text (is_words value) value
 value_of Language value = where_text (is_language value) value

@@ -1,4 +1,5 @@
--- A file whose properties can be edited: RFC 9559, sections 5.1.2 (Info Element), 5.1.4 (Tracks Element), 5.1.6 (Attachments Element), 5.1.7 (Chapters Element) and 5.1.8 (Tags Element). What refuses it, and the order, are this project's.
+-- A file whose properties can be edited: RFC 9559, sections 5.1.2 (Info Element), 5.1.4 (Tracks Element), 5.1.6 (Attachments Element), 5.1.7
+-- (Chapters Element) and 5.1.8 (Tags Element). The reasons to refuse it, and their order, are this project's.
 use Rattle.std.specs.Prelude.{ℕ, List, Option, Some, None, Result, Ok, Err}
 use Rattle.mkv_schema.specs.declared.ids.TheConstants.{INFO, TRACKS, CHAPTERS, TAGS}
 use Rattle.mkv_io.specs.declared.damage.Damage.{Damage}
@@ -13,13 +14,13 @@ use Rattle.meta_records.specs.Attached.{first_attached}
 use Rattle.meta_records.specs.Records.{first_tree, good_info}
 use Rattle.edit_changes.specs.declared.trees.Trees.{Trees}
 
--- A Tracks, unless something in it refuses it. Without one the file is refused, at its Segment.
+-- A Tracks, unless something in it is refused. A file without Tracks is refused at its Segment.
 abbrev pub good_tracks : Header → Option Node → Result Node Damage
 good_tracks segment None = Err (damage NoTracks 0 segment.offset)
 good_tracks segment (Some n) = unless (refusal_of n) n
 
--- What can be edited in a file with this Segment, or what refuses the file: Info and Tracks, and then Attachments,
--- Chapters and Tags, which only have to be sound, each the first of its ID.
+-- The editable parts of a file with this Segment, or the refusal of the file. Info and Tracks are read first. Then Attachments, Chapters and Tags
+-- must be sound. Each is the first with its ID.
 abbrev pub trees_of : List ℕ → Header → Result Trees Damage
 trees_of bytes segment =
     and_then (and_then (first_tree INFO bytes segment) good_info) (λ info.
@@ -29,13 +30,12 @@ trees_of bytes segment =
     and_then (first_tree TAGS bytes segment) (λ tags.
     Ok (record { info = info; tracks = children tracks }))))))
 
--- A file that can be edited: its outline, and what in it can be.
+-- A file that can be edited: its outline and its editable parts.
 pub record EditableFile : Type 0 where
   pub outline : FileOutline
   pub trees : Trees
 
--- The file of a content, or what refuses it: what refuses its outline, the damage of level 1, and then what refuses
--- what describes it.
+-- The file with this content, or its refusal: first for its outline, then for damage of level 1, then for the Elements that describe it.
 abbrev pub editable : List ℕ → Result EditableFile Damage
 editable bytes =
     and_then (outline_in 0 bytes) (λ o.

@@ -1,4 +1,4 @@
--- The SeekHead of a file, and the one that is written anew: RFC 9559, sections 5.1.1 (SeekHead Element) and 16 (Segment Position).
+-- The SeekHead of a file, and its replacement: RFC 9559, sections 5.1.1 (SeekHead Element) and 16 (Segment Position).
 use Rattle.std.specs.Prelude.{ℕ, ◌==◌, nat_lt, Bool, true, false, not, ◌&&◌, if◌then◌else◌, List, ◌++◌, map, filter, flat_map, Option, Some, None, Result, Ok, Err}
 use Rattle.std.specs.List.{list_any}
 use Rattle.std.specs.Option.{option_map_or, option_and_then}
@@ -21,7 +21,7 @@ use Rattle.output_model.specs.Element.{Element, element, joined}
 use Rattle.output_model.specs.declared.places.Seek.{Seek}
 use Rattle.output_model.specs.SeekHead.{seek_element}
 
--- A SeekHead: its header, and what stands in it.
+-- A SeekHead: its header and its children.
 pub record SeekHeadAt : Type 0 where
   pub header : Header
   pub seeks : List Node
@@ -35,28 +35,28 @@ if_sound bytes h =
     if nat_lt MAX_MASTER_LEN (known h.size) then None
     else if_read h (tree_of h.id h.offset (body_of bytes h) h.body MAX_NODES)
 
--- an Element, where it stands in front of the first Cluster
+-- the Element with header `h`, if it is before the first Cluster
 abbrev pub before_clusters : Option Header → Header → Option Header
 before_clusters cluster h = if option_map_or (λ c. nat_lt h.offset c.offset) cluster true then Some h else None
 
--- the first SeekHead of level 1, where it stands so
+-- the first SeekHead of level 1, if it is before the first Cluster
 abbrev pub seek_head_in : FileOutline → Option Header
 seek_head_in o = option_and_then (before_clusters o.cluster) (first_of SEEK_HEAD o.others)
 
--- The first SeekHead, in front of the first Cluster. Where that one is too long or damaged, there is none.
+-- The first SeekHead, before the first Cluster. If it is too long or damaged, there is none.
 abbrev pub seek_head_of : List ℕ → FileOutline → Option SeekHeadAt
 seek_head_of bytes o = option_and_then (if_sound bytes) (seek_head_in o)
 
--- a Seek whose first SeekID is exactly the octets of an ID
+-- Node `n` is a Seek whose first SeekID is exactly the bytes of `id`.
 abbrev pub is_seek_of : ℕ → Node → Bool
 is_seek_of id n =
     id_of n == SEEK && option_map_or (λ c. bytes_eq (tree.body_of c) (id_octets id)) (first_child SEEK_ID n) false
 
--- not a Seek of one of these IDs
+-- Node `n` isn't a Seek of one of `ids`.
 abbrev pub stays : List ℕ → Node → Bool
 stays ids n = not (list_any (λ id. is_seek_of id n) ids)
 
--- what is inside the SeekHead with these Seeks of these IDs, and then what stays of the old one, in its normal form
+-- the body of a SeekHead with `seeks`, the Seeks of `ids`, and the children of the old one that stay, in their normal form
 abbrev pub seek_head_body : List ℕ → List Seek → List Node → List ℕ
 seek_head_body ids seeks old = joined (map seek_element seeks) ++ flat_map octets (filter (stays ids) old)
 

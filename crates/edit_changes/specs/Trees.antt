@@ -1,4 +1,4 @@
--- The trees of a file, edited.
+-- Edits of the trees of a file.
 use Rattle.std.specs.Prelude.{◌≡◌, ⊤, ℕ, ◌+◌, List, Option, Some, None, slice_get, slice_set, IfSome, Result, Ok, Err}
 use Rattle.std.specs.List.{All}
 use Rattle.mkv_schema.specs.declared.ids.TheConstants.{INFO, TRACKS, TRACK_ENTRY}
@@ -19,23 +19,23 @@ use Rattle.edit_changes.specs.declared.editing.EditsEnd.{EditsEnd}
 use Rattle.edit_changes.specs.declared.editing.EditsEnd.TheVariants.{Refused, Memory}
 use Rattle.edit_changes.specs.Made.{BecomesOrStays, Sounds}
 
--- An Info is one, and what stands in Tracks may stand there.
+-- The Info was read as one, and the table allows the children of Tracks there.
 pub record AreSound (t : Trees) : Type 0 where
   pub info : IfSome t.info (IsRead INFO)
   pub tracks : All (StandsIn TRACKS) t.tracks
 
--- There is a TrackEntry at a place.
+-- Child `k` is a TrackEntry.
 pub record IsEntryAt (ns : List Node) (k : ℕ) : Type 0 where
   pub entry : Node
   pub at : slice_get ns k ≡ Some entry
   pub id : id_of entry ≡ TRACK_ENTRY
 
--- an edit of the Info
+-- the Info after edit `e`
 abbrev pub info_edited : Edit → Option Node → Result (Option Node) EditRefusal
 info_edited e None = Err NoInfo
 info_edited e (Some n) = and_then (edited_node e n) (λ m. Ok (Some m))
 
--- an edit of the TrackEntry at a place
+-- the children of Tracks after edit `e` of child `k`
 abbrev pub entry_edited : Edit → List Node → ℕ → Option Node → Result (List Node) EditRefusal
 entry_edited e ns k None = Err NoSuchTrack
 entry_edited e ns k (Some n) = and_then (edited_node e n) (λ m. Ok (slice_set ns k m))
@@ -44,11 +44,11 @@ abbrev pub tracks_edited_at : Edit → List Node → Option ℕ → Result (List
 tracks_edited_at e ns None = Err NoSuchTrack
 tracks_edited_at e ns (Some k) = entry_edited e ns k (slice_get ns k)
 
--- an edit of the TrackEntry that is meant
+-- the children of Tracks after edit `e` of the TrackEntry that it selects
 abbrev pub tracks_edited : Edit → List Node → Result (List Node) EditRefusal
 tracks_edited e ns = tracks_edited_at e ns (place_of e.place ns)
 
--- The TrackEntry at a place is edited, and the others stay.
+-- TrackEntry `k` is edited, and the other children stay.
 pub record MakesEntry {A : Type 0} (result : Result A EditEnd) (old new : List Node) (k : ℕ) (e : Edit) : Type 0 where
   pub before : Node
   pub after : Node
@@ -57,12 +57,12 @@ pub record MakesEntry {A : Type 0} (result : Result A EditEnd) (old new : List N
   pub makes : BecomesOrStays result before after (edited_node e before)
   pub sounds : Sounds before after
 
--- an edit that isn't made, behind so many others
+-- the reason of edit `k + 1`, which isn't made
 abbrev pub numbered : ℕ → EditEnd → EditsEnd
 numbered k (end.Refused why) = Refused (k + 1) why
 numbered k end.Memory = Memory
 
--- What edits make of the trees, or the first that is refused; or there is no memory.
+-- The result is the trees after all edits, or the first refusal; or memory ran out.
 abbrev pub MakesAll : Result Trees EditsEnd → Result Trees Refusal → Type 0
 MakesAll (Ok t) made = made ≡ Ok t
 MakesAll (Err (Refused edit why)) made = made ≡ Err (RefusedEdit edit why)

@@ -18,12 +18,12 @@ use mkv_io::Text;
 use requests::{Change, Edit, Selector};
 use std::alloc::{AllocError, Global};
 
-/// Why an edit isn't made.
+/// Reason why an edit isn't made.
 #[derive(Clone, Copy, Debug, PartialEq, Eq)]
 pub enum EditEnd {
     /// The edit is refused.
     Refused(EditRefusal),
-    /// There is no memory.
+    /// Out of memory.
     Memory,
 }
 
@@ -35,7 +35,7 @@ impl From<AllocError> for EditEnd {
     }
 }
 
-/// Puts a value in the place of the first child of the property.
+/// Replaces the first child of `property` by one with this value.
 #[tactic(auto, using(crate::proofs::ChangeLemmas::changes))]
 fn set(alloc: Global, tree: &mut Tree, property: Property, value: &Text) -> Result<(), EditEnd>
     requires master { IsMaster tree.old }
@@ -50,7 +50,7 @@ fn set(alloc: Global, tree: &mut Tree, property: Property, value: &Text) -> Resu
     Ok(())
 }
 
-/// Adds a value where the property isn't there.
+/// Appends a value, unless the property exists.
 #[tactic(auto, using(crate::proofs::ChangeLemmas::changes))]
 fn add(alloc: Global, tree: &mut Tree, property: Property, value: &Text) -> Result<(), EditEnd>
     requires master { IsMaster tree.old }
@@ -68,7 +68,7 @@ fn add(alloc: Global, tree: &mut Tree, property: Property, value: &Text) -> Resu
     Ok(())
 }
 
-/// Takes every child of the property, if it may go.
+/// Removes every child of `property`, if it may be deleted.
 #[tactic(auto, using(crate::proofs::ChangeLemmas::changes))]
 fn delete(tree: &mut Tree, property: Property) -> Result<(), EditEnd>
     requires { IsMaster tree.old }
@@ -82,14 +82,14 @@ fn delete(tree: &mut Tree, property: Property) -> Result<(), EditEnd>
     Ok(())
 }
 
-/// The edit is one of Info.
+/// Checks whether the selector means Info.
 pub fn is_info(place: Selector) -> bool
     ensures { result ≡ is_info place }
 {
     matches!(place, Selector::Info)
 }
 
-/// Makes one change of an Info, or of a TrackEntry. A refused one leaves it as it was.
+/// Makes one change of an Info or of a TrackEntry. A refused change leaves it as it was.
 pub fn apply(alloc: Global, tree: &mut Tree, edit: &Edit) -> Result<(), EditEnd>
     requires master { IsMaster tree.old }
     requires section { id_of tree.old ≡ section_of (is_info edit.now.place) }

@@ -1,4 +1,4 @@
-//! What can be edited in a file, and the edits.
+//! Edits of a file's Info and Tracks.
 
 ghost use Rattle.std.specs.Prelude.{◌≡◌, ◌<◌, ◌+◌, ◌^◌, false, true, length, List, Some, slice_get, IfOk, IfSome};
 ghost use Rattle.std.specs.List.{All};
@@ -20,12 +20,12 @@ use mkv_io::List;
 use requests::Edit;
 use std::alloc::Global;
 
-/// Why edits aren't made.
+/// Reason why edits aren't made.
 #[derive(Clone, Copy, Debug, PartialEq, Eq)]
 pub enum EditsEnd {
     /// An edit, counted from 1, is refused.
     Refused { edit: u64, why: EditRefusal },
-    /// There is no memory.
+    /// Out of memory.
     Memory,
 }
 
@@ -42,7 +42,7 @@ fn edit_info(alloc: Global, info: &mut Option<Tree>, edit: &Edit) -> Result<(), 
     }
 }
 
-/// Makes an edit of the TrackEntry at a place.
+/// Makes an edit of child `k` of Tracks, a TrackEntry.
 fn edit_entry(alloc: Global, tracks: &mut Vec<Tree>, k: usize, edit: &Edit) -> Result<(), EditEnd>
     requires section { is_info edit.now.place ≡ false }
     requires inside { k < length tracks.old.items }
@@ -52,7 +52,7 @@ fn edit_entry(alloc: Global, tracks: &mut Vec<Tree>, k: usize, edit: &Edit) -> R
     apply(alloc, &mut tracks[k], edit)
 }
 
-/// Makes an edit of the TrackEntry that is meant.
+/// Makes an edit of the TrackEntry that it selects.
 #[tactic(auto, using(crate::proofs::TrackLemmas::tracks))]
 fn edit_track(alloc: Global, tracks: &mut Vec<Tree>, edit: &Edit) -> Result<(), EditEnd>
     requires section { is_info edit.now.place ≡ false }
@@ -66,7 +66,7 @@ fn edit_track(alloc: Global, tracks: &mut Vec<Tree>, edit: &Edit) -> Result<(), 
     edit_entry(alloc, tracks, k, edit)
 }
 
-/// An edit that isn't made, behind so many others.
+/// Returns the reason of edit `k + 1`, which isn't made.
 fn numbered(end: EditEnd, k: usize) -> EditsEnd
     requires { k + 1 < 2 ^ 64 }
     ensures { result ≡ numbered k end }
@@ -80,8 +80,7 @@ fn numbered(end: EditEnd, k: usize) -> EditsEnd
     }
 }
 
-/// What edits leave of what can be edited in a file, each made on what the ones before it leave; or the first that
-/// is refused.
+/// Makes `edits` in sequence, each on the result of the previous one. It fails with the first edit that is refused.
 pub fn edited(alloc: Global, trees: Trees, edits: &List<Edit>) -> Result<Trees, EditsEnd>
     requires { AreSound trees }
     ensures exact { MakesAll result (spec.edited_trees edits.now trees) }

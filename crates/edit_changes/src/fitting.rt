@@ -1,4 +1,4 @@
-//! What is written into a span.
+//! Bytes that are written into a span.
 
 ghost use Rattle.std.specs.Prelude.{◌≡◌, ◌≤◌, ◌<◌, ◌+◌, ◌++◌, ◌^◌, IfOk, IsTrue, ℕ, List, length, option_map};
 ghost use Rattle.ebml_numbers.specs.Number.{is_id, id_octets, size_octets, least_size_width, all_ones};
@@ -10,7 +10,7 @@ use ebml_numbers::{put_id, put_size, size_width};
 use mkv_schema::ids::VOID;
 use std::alloc::{AllocError, Global};
 
-/// The header of a Void of so many octets in all: a size of one octet, where that is enough, else one of eight.
+/// Returns the header of a Void of `total` bytes in all. Its size takes one byte if that is enough, and eight if not.
 #[tactic(auto, unfolding(ebml_numbers::specs::Number::is_id), using(crate::proofs::SpanLemmas::voids))]
 pub fn void_header(alloc: Global, total: u64) -> Result<Vec<u8>, AllocError>
     requires { total ≤ 2 ^ 48 }
@@ -25,7 +25,7 @@ pub fn void_header(alloc: Global, total: u64) -> Result<Vec<u8>, AllocError>
     Ok(out)
 }
 
-/// An Element whose size takes so many octets.
+/// Returns an Element whose size takes `width` bytes.
 fn element(alloc: Global, id: u32, body: &[u8], width: u8) -> Result<Vec<u8>, AllocError>
     requires id { IsTrue (is_id id) }
     requires some { 1 ≤ width }
@@ -39,7 +39,7 @@ fn element(alloc: Global, id: u32, body: &[u8], width: u8) -> Result<Vec<u8>, Al
     Ok(out)
 }
 
-/// The fewest octets that a size takes; one more is enough too.
+/// Returns the least number of bytes for the size `len`; one byte more is enough too.
 fn width_of(len: u64) -> u8
     requires { len ≤ 2 ^ 48 }
     ensures exact { result ≡ least_size_width len }
@@ -51,7 +51,7 @@ fn width_of(len: u64) -> u8
     size_width(len)
 }
 
-/// How many octets an Element takes at least.
+/// Returns the least length in bytes of an Element with a body of `len` bytes.
 #[tactic(auto, using(crate::proofs::SpanLemmas::lengths))]
 pub fn shortest(id: u32, len: u64) -> u64
     requires id { IsTrue (is_id id) }
@@ -62,7 +62,7 @@ pub fn shortest(id: u32, len: u64) -> u64
     u64::from(put_id(id).len) + u64::from(width_of(len)) + len
 }
 
-/// An Element with this body, in as few octets as it takes.
+/// Returns the Element with this body in its fewest bytes.
 pub fn whole(alloc: Global, id: u32, body: &[u8]) -> Result<Vec<u8>, AllocError>
     requires id { IsTrue (is_id id) }
     requires short { length body.now ≤ 2 ^ 48 }
@@ -71,7 +71,7 @@ pub fn whole(alloc: Global, id: u32, body: &[u8]) -> Result<Vec<u8>, AllocError>
     element(alloc, id, body, width_of(body.len() as u64))
 }
 
-/// What is written into a span of so many octets of an Element with this body; none where it is longer.
+/// Returns the bytes of an Element with this body for a span of `room` bytes, or None if it is longer.
 #[tactic(auto, using(crate::proofs::SpanLemmas::fits))]
 pub fn fit(alloc: Global, id: u32, body: &[u8], room: u64) -> Result<Option<Vec<u8>>, AllocError>
     requires id { IsTrue (is_id id) }
@@ -96,8 +96,8 @@ pub fn fit(alloc: Global, id: u32, body: &[u8], room: u64) -> Result<Option<Vec<
     Ok(Some(out))
 }
 
-/// What is written in the place of an Element with this body: itself, or the header of a Void where it is longer than
-/// its room.
+/// Returns the bytes that replace an Element by one with this body: the Element, or the header of a Void if it is
+/// longer than `room`.
 pub fn overwrite_or_void(
     alloc: Global,
     id: u32,

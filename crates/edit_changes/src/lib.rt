@@ -1,8 +1,8 @@
 #![tactic(auto)]
 
-//! Edits of a file's properties: what they come to, or what refuses them; the edits, made on its Info and the children of its
-//! Tracks; and the room that its Elements have (RFC 8794, section 11.3.2, Void Element, and RFC 9559, sections 5.1.1, SeekHead
-//! Element, 5.1.2, Info Element, and 5.1.4, Tracks Element).
+//! Edits of a file's properties: the reasons to refuse them, and the edits of its Info and of the children of its
+//! Tracks. The crate also has the room of Elements (RFC 8794, section 11.3.2, Void Element; RFC 9559, sections 5.1.1,
+//! SeekHead Element, 5.1.2, Info Element, and 5.1.4, Tracks Element).
 
 mod change;
 mod editing;

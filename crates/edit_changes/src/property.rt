@@ -1,15 +1,15 @@
 //! The properties that can be edited.
 
-/// What the values of a property are, and how they are spelled.
+/// Kind of values of a property, with their spelling.
 #[derive(Clone, Copy, Debug, PartialEq, Eq)]
 pub enum ValueKind {
-    /// Text in UTF-8 without a zero octet.
+    /// Text in UTF-8 without a zero byte.
     Words,
     /// Three lower-case letters.
     Language,
     /// 1 to 63 letters, digits and hyphens.
     LanguageTag,
-    /// 1 to 63 octets of printable ASCII.
+    /// 1 to 63 bytes of printable ASCII.
     Codec,
     /// A number of nanoseconds, from 1 to 2^48 - 1.
     Duration,
@@ -17,11 +17,11 @@ pub enum ValueKind {
     Flag,
 }
 
-/// The Element that holds a property, and what may become of it.
+/// Element of a property, kind of its values, and whether it may be deleted.
 #[derive(Clone, Copy, Debug, PartialEq, Eq)]
 pub struct Property {
     pub id: u32,
     pub kind: ValueKind,
-    /// It may go.
+    /// The property may be deleted.
     pub deletable: bool,
 }

@@ -1,49 +1,49 @@
-//! What refuses edits.
+//! Reasons to refuse edits.
 
 use mkv_io::Damage;
 
-/// The writes of an edit have at most so many octets together: 16 MiB.
+/// Greatest total length of an edit's writes, in bytes: 16 MiB.
 pub const MAX_WRITTEN: u64 = 16 << 20;
 
-/// What refuses one edit, in the order in which it is asked.
+/// Reason to refuse one edit, in the order of the checks.
 #[derive(Clone, Copy, Debug, PartialEq, Eq)]
 pub enum EditRefusal {
     /// The file has no Info.
     NoInfo,
-    /// The selector fits no TrackEntry.
+    /// No TrackEntry matches the selector.
     NoSuchTrack,
     /// The section has no property of this name.
     NoSuchProperty,
     /// The value isn't one of this property.
     BadPropertyValue,
-    /// The property stands there, and was to be added.
+    /// The property exists, and was to be added.
     AlreadyThere,
-    /// The property has to stand, and was to be deleted.
+    /// The property must exist, and was to be deleted.
     Mandatory,
 }
 
-/// What has no room where an Info or a Tracks moves to the end of the file, in the order in which it is asked.
+/// Kind of room that is missing for moving an Info or a Tracks to the end of the file, in the order of the checks.
 #[derive(Clone, Copy, Debug, PartialEq, Eq)]
 pub enum Room {
-    /// Nothing may be added at the end of the file: an end needed is not the end it has.
+    /// Nothing may be appended to the file: an Element states another end (`need`) than the file has (`have`).
     Tail,
-    /// The Element that moves isn't the only one of its ID: one is needed, and it has so many.
+    /// The Element that moves must be the only one with its ID: 1 is needed, and `have` exist.
     Twin,
-    /// The new SeekHead needs more octets than the old one and the Voids behind it have.
+    /// The new SeekHead needs more bytes than the old one and the Voids after it have.
     SeekHead,
-    /// The Segment's new size needs more octets than the old one has.
+    /// The Segment's new size needs more bytes than the old one has.
     SegmentSize,
 }
 
-/// What refuses edits, in the order in which it is asked.
+/// Reason to refuse edits, in the order of the checks.
 #[derive(Clone, Copy, Debug, PartialEq, Eq)]
 pub enum Refusal {
-    /// The file can't be read up to what describes it.
+    /// The file can't be read up to the Elements that describe it.
     Damaged(Damage),
-    /// The first edit, counted from 1, that is refused, and why.
+    /// The first refused edit, counted from 1, with the reason.
     Edit { edit: u64, why: EditRefusal },
-    /// There are too many octets to write, or too many Elements in a new Info or Tracks.
+    /// Too many bytes to write, or too many Elements in a new Info or Tracks.
     EditTooLarge { length: u64, nodes: u64 },
-    /// What moves has no room.
+    /// The Elements that move have no room.
     NoRoom { why: Room, need: u64, have: u64 },
 }

@@ -1,4 +1,4 @@
-//! What has no room, where an Info or a Tracks moves to the end of the file.
+//! Missing room for moving an Info or a Tracks to the end of the file.
 
 ghost use Rattle.std.specs.Prelude.{◌≡◌, ◌≤◌, ◌<◌, ◌^◌, IfSome};
 ghost use Rattle.mkv_schema.specs.Element.{stated_end};
@@ -12,7 +12,7 @@ use ebml_numbers::{Size, put_id, size_width as least_width};
 use element_reader::{Header, Outline};
 use mkv_schema::ids::{CLUSTER, SEGMENT};
 
-/// An end that a header states, where it isn't the end of the file.
+/// Returns the end that `header` states, unless it is `total`, the end of the file.
 fn other_end(total: u64, header: &Header) -> Option<u64>
     ensures { stated_end header.now < 2 ^ 64 → result ≡ plan.other_end total header.now }
 {
@@ -26,7 +26,7 @@ fn other_end(total: u64, header: &Header) -> Option<u64>
     Some(end)
 }
 
-/// The same of the last Element of level 1, where it is a Cluster.
+/// Returns the end that the last Element of level 1 states, if it is a Cluster and the end isn't `total`.
 fn cluster_end(total: u64, last: Option<Header>) -> Option<u64>
     ensures { IfSome last (λ h. stated_end h < 2 ^ 64) → result ≡ plan.cluster_end total last }
 {
@@ -37,7 +37,7 @@ fn cluster_end(total: u64, last: Option<Header>) -> Option<u64>
     other_end(total, &last)
 }
 
-/// The end that keeps anything from being added to the file.
+/// Returns the end that prevents appending to the file.
 fn wrong_end(outline: &Outline) -> Option<u64>
     ensures { EndsFit outline.now → result ≡ plan.wrong_end outline.now }
 {
@@ -54,7 +54,7 @@ fn wrong_end(outline: &Outline) -> Option<u64>
     Some(outline.end())
 }
 
-/// Nothing may be added at the end of the file.
+/// Returns the refusal if nothing may be appended to the file.
 pub fn tail_refusal(outline: &Outline) -> Option<Refusal>
     ensures { EndsFit outline.now → result ≡ plan.tail_refusal outline.now }
 {
@@ -66,7 +66,7 @@ pub fn tail_refusal(outline: &Outline) -> Option<Refusal>
     })
 }
 
-/// More is needed than there is.
+/// Returns the refusal if `need` is more than `have`.
 pub fn lacks(why: Room, need: u64, have: u64) -> Option<Refusal>
     ensures { result ≡ plan.lacks why need have }
 {
@@ -76,7 +76,7 @@ pub fn lacks(why: Room, need: u64, have: u64) -> Option<Refusal>
     None
 }
 
-/// An Element of an ID that moves isn't the only one.
+/// Returns the refusal if an Element that moves isn't the only one with its ID.
 pub fn twin_refusal(outline: &Outline, id: u32) -> Option<Refusal>
     ensures { result ≡ plan.twin_of outline.now.others id }
 {
@@ -91,7 +91,7 @@ pub fn twin_refusal(outline: &Outline, id: u32) -> Option<Refusal>
     None
 }
 
-/// How many octets the Segment's size takes.
+/// Returns the number of bytes of the Segment's size.
 #[tactic(auto, unfolding(ebml_numbers::specs::Number::is_id), using(crate::proofs::SpanLemmas::ids))]
 pub fn size_width(segment: &Header) -> u64
     ensures { result ≡ plan.size_width segment.now }
@@ -102,7 +102,7 @@ pub fn size_width(segment: &Header) -> u64
         .saturating_sub(u64::from(put_id(SEGMENT).len))
 }
 
-/// The Segment's new size, where it ends at a place, needs more octets than the old one has.
+/// Returns the refusal if the size of a Segment that ends at `end` needs more bytes than the old size has.
 pub fn size_refusal(segment: &Header, end: u64) -> Option<Refusal>
     requires { end ≤ 2 ^ 50 }
     ensures { result ≡ plan.size_refusal segment.now end }

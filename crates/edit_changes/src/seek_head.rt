@@ -1,4 +1,4 @@
-//! The SeekHead that is written anew.
+//! The SeekHead that replaces the old one.
 
 ghost use Rattle.std.specs.Prelude.{◌≡◌, ◌++◌, IfOk, IsTrue, OnOk, filter, flat_map};
 ghost use Rattle.std.specs.List.{AllPass};
@@ -15,7 +15,7 @@ use mkv_schema::ids::{SEEK, SEEK_ID};
 use output_model::Seek;
 use std::alloc::{AllocError, Global};
 
-/// A Seek whose first SeekID is exactly the octets of an ID.
+/// Checks whether `tree` is a Seek whose first SeekID is exactly the bytes of `id`.
 fn is_seek_of(id: u32, tree: &Tree) -> bool
     requires { IsTrue (is_id id) }
     ensures { result ≡ spec.is_seek_of id tree.now }
@@ -29,7 +29,7 @@ fn is_seek_of(id: u32, tree: &Tree) -> bool
     }
 }
 
-/// Not a Seek of one of these IDs.
+/// Checks whether `tree` isn't a Seek of one of `ids`.
 fn stays(ids: &[u32], tree: &Tree) -> bool
     requires { AllPass is_id ids.now }
     ensures { result ≡ spec.stays ids.now tree.now }
@@ -42,7 +42,7 @@ fn stays(ids: &[u32], tree: &Tree) -> bool
     true
 }
 
-/// Adds what stays of a SeekHead that is to tell of these IDs.
+/// Appends the children of the old SeekHead that stay in a SeekHead with new Seeks for `ids`.
 fn put_staying(out: &mut Bytes, ids: &[u32], old: &[Tree]) -> Result<(), AllocError>
     requires { AllPass is_id ids.now }
     ensures { OnOk result (out.new ≡ out.old ++ flat_map octets (filter (spec.stays ids.now) old.now)) }
@@ -55,7 +55,7 @@ fn put_staying(out: &mut Bytes, ids: &[u32], old: &[Tree]) -> Result<(), AllocEr
     Ok(())
 }
 
-/// The body of a SeekHead with these Seeks, which tell of these IDs, and then what stays of the old one.
+/// Returns the body of a SeekHead with `seeks`, the Seeks of `ids`, and the children of the old one that stay.
 pub fn seek_head_body(
     alloc: Global,
     ids: &[u32],

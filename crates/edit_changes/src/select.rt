@@ -1,4 +1,4 @@
-//! Which TrackEntry a selector means.
+//! Selection of a TrackEntry.
 
 ghost use Rattle.std.specs.Prelude.{◌≡◌, IfSome};
 ghost use Rattle.std.specs.List.{All};
@@ -13,7 +13,7 @@ use mkv_schema::ids::{TRACK_ENTRY, TRACK_NUMBER, TRACK_TYPE, TRACK_UID};
 use mkv_schema::uint_default;
 use requests::Selector;
 
-/// The unsigned integer of an ID in a TrackEntry, or the table's default, or 0.
+/// Returns the unsigned integer with this `id` in a TrackEntry, or the table's default, or 0.
 fn uint_in(entry: &Tree, id: u32) -> u64
     requires entry { IsSoundOf ENTRY_ID entry.now }
     requires uint { HasUint ENTRY_ID id }
@@ -25,7 +25,7 @@ fn uint_in(entry: &Tree, id: u32) -> u64
     }
 }
 
-/// An Element of Tracks is a TrackEntry that the selector fits, its turn let alone.
+/// Checks whether a child of Tracks is a TrackEntry that the selector matches, apart from its position.
 #[tactic(auto, using(crate::proofs::SelectLemmas::entries))]
 fn fits(selector: Selector, tree: &Tree) -> bool
     requires { StandsIn TRACKS tree.now }
@@ -43,7 +43,7 @@ fn fits(selector: Selector, tree: &Tree) -> bool
     }
 }
 
-/// Which of those that fit is meant, counted from 1.
+/// Returns the position among the matching TrackEntries, counted from 1.
 fn turn_of(selector: Selector) -> u64
     ensures { result ≡ spec.turn_of selector }
 {
@@ -56,7 +56,7 @@ fn turn_of(selector: Selector) -> u64
     }
 }
 
-/// The place of the TrackEntry that is meant among the children of Tracks.
+/// Returns the index of the selected TrackEntry among the children of Tracks.
 #[tactic(auto, using(crate::proofs::SelectLemmas::places))]
 pub fn place_of(selector: Selector, tracks: &[Tree]) -> Option<usize>
     requires { All (StandsIn TRACKS) tracks.now }

@@ -11,7 +11,7 @@ use element_reader::{Header, Outline};
 use elements::known;
 use mkv_schema::ids::VOID;
 
-/// The place behind the last octet of an Element, as its header states it.
+/// Returns the offset after an Element, as its header states it.
 fn end_of(total: u64, header: &Header) -> u64
     requires inside { stated_end header.now ≤ total }
     ensures exact { result ≡ stated_end header.now }
@@ -19,7 +19,7 @@ fn end_of(total: u64, header: &Header) -> u64
     header.body + known(header.size)
 }
 
-/// The place behind the Voids up to this Element, where those before it end at a place.
+/// Returns the offset after `next` if it is a Void at `end`, and `end` if not.
 fn end_behind(total: u64, end: u64, next: &Header) -> u64
     requires next { stated_end next.now ≤ total }
     requires end { end ≤ total }
@@ -32,7 +32,7 @@ fn end_behind(total: u64, end: u64, next: &Header) -> u64
     end
 }
 
-/// The octets of an Element of level 1 and of the Voids that follow it directly.
+/// Returns the number of bytes of an Element of level 1 with the Voids that follow it directly.
 #[tactic(auto, using(crate::proofs::OutlineLemmas::spans))]
 pub fn span_of(outline: &Outline, header: &Header) -> u64
     requires { IsInFile outline.now.total header.now }
@@ -47,7 +47,7 @@ pub fn span_of(outline: &Outline, header: &Header) -> u64
     end.saturating_sub(header.offset)
 }
 
-/// 1 for an Element of an ID, else 0.
+/// Returns 1 for an Element with this `id`, and 0 for another.
 fn one_of(id: u32, header: &Header) -> u64
     ensures exact { result ≡ if header.now.id == id then 1 else 0 }
     ensures most { result ≤ 1 }
@@ -55,7 +55,7 @@ fn one_of(id: u32, header: &Header) -> u64
     if header.id == id { 1 } else { 0 }
 }
 
-/// How many Elements of level 1, other than Clusters, have an ID.
+/// Returns the number of Elements of level 1 with this `id`, other than Clusters.
 #[tactic(auto, using(crate::proofs::OutlineLemmas::numbers))]
 pub fn number_of(outline: &Outline, id: u32) -> u64
     ensures { result ≡ plan.number_of id outline.now.others }

@@ -11,7 +11,7 @@ use mkv_schema::ids::{
     LANGUAGE_BCP47, MUXING_APP, NAME, SEGMENT_FILENAME, TITLE, WRITING_APP,
 };
 
-/// A property under its name.
+/// Property with its name.
 #[derive(Clone, Copy)]
 pub struct Row(pub &'static str, pub Property);
 
@@ -157,14 +157,14 @@ const TRACK_TABLE: [Row; 13] = [
     ),
 ];
 
-/// The properties of Info, or of a track.
+/// Returns the properties of Info if `info` holds, or of a track.
 fn table(info: bool) -> &'static [Row]
     ensures { map shown result.now ≡ spec.table_of info }
 {
     if info { &INFO_TABLE } else { &TRACK_TABLE }
 }
 
-/// The property of a name.
+/// Returns the property with this name.
 fn row_of(rows: &[Row], name: &str) -> Option<Property>
     ensures { result ≡ spec.in_table name.now (map shown rows.now) }
 {
@@ -176,7 +176,7 @@ fn row_of(rows: &[Row], name: &str) -> Option<Property>
     None
 }
 
-/// The property of a name, of Info or of a track.
+/// Returns the property with this name, of Info if `info` holds, or of a track.
 #[tactic(auto, unfolding(crate::specs::Property::property_of), using(crate::proofs::PropertyLemmas::properties))]
 pub fn property_of(info: bool, name: &str) -> Option<Property>
     ensures exact { result ≡ spec.property_of info name.now }

@@ -87,7 +87,7 @@ fn is_codec(octets: &[u8]) -> bool
     is_between(1, 63, octets.len() as u64) && are_printable(octets)
 }
 
-/// A text, where it passes.
+/// Makes a text leaf, if `passes` holds.
 fn text_where(alloc: Global, id: u32, passes: bool, text: &str) -> Result<Option<Tree>, AllocError>
     requires { IsTrue (is_id id) }
     ensures exact { IfOk result (λ tree. tree ≡ option_map (leaf id 0) (spec.where_text passes text.now)) }
@@ -99,7 +99,7 @@ fn text_where(alloc: Global, id: u32, passes: bool, text: &str) -> Result<Option
     Ok(Some(text_leaf(alloc, id, text)?))
 }
 
-/// A number that is spelled, where it is one from `least` to `most`.
+/// Reads a decimal number and makes a leaf of it, if it is from `least` to `most`.
 fn number_where(
     alloc: Global,
     id: u32,
@@ -117,7 +117,7 @@ fn number_where(
     }
 }
 
-/// The property with this value, where it is one of its kind.
+/// Makes the property's leaf with this value, if the value has the property's kind.
 pub fn leaf_of(alloc: Global, property: Property, value: &Text) -> Result<Option<Tree>, AllocError>
     requires { IsTrue (is_id property.id) }
     ensures exact { IfOk result (λ tree. tree ≡ option_map (leaf property.id 0) (spec.value_of property.kind value.now)) }

@@ -1,4 +1,4 @@
--- The new child stands in the master.
+-- The table allows the new child in the master.
 use Rattle.tree_format.specs.Node.{id_of}
 use Rattle.edit_changes.proofs.ChangeLemmas.{kept-id}
 use Rattle.edit_changes.proofs.change.add.Goals as goal

@@ -1,4 +1,4 @@
--- The TrackEntry that is meant is the one that is edited.
+-- The TrackEntry that is selected is the one that is edited.
 use Rattle.std.proofs.Common.{sym}
 use Rattle.edit_changes.proofs.TrackLemmas.{tracks-made, tracks-stand}
 use Rattle.edit_changes.proofs.editing.edit_track.Goals as goal

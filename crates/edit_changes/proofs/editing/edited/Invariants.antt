@@ -6,7 +6,7 @@ use Rattle.ebml_tree.specs.Building.{IsRead}
 use Rattle.edit_changes.specs.Change.{edited_trees, edited_from}
 use Rattle.edit_changes.proofs.editing.edited.Given as goal
 
--- the edits that are left make of the trees what all edits make of the first ones
+-- The trees after the remaining edits are the trees after all edits.
 abbrev pub invariant-loop-k : goal.invariant-loop-k
 invariant-loop-k l = record {
   info : IfSome l.info (IsRead INFO);

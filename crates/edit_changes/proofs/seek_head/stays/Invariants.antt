@@ -1,4 +1,4 @@
--- It is none of those so far.
+-- The tree isn't a Seek of an ID that was passed.
 use Rattle.std.proofs.Common.{◌≡◌, drop}
 use Rattle.edit_changes.specs.SeekHead as spec
 use Rattle.edit_changes.proofs.seek_head.stays.Given as goal

@@ -3,7 +3,7 @@ use Rattle.mkv_schema.specs.Element.{stated_end}
 use Rattle.edit_changes.specs.Span.{behind_voids}
 use Rattle.edit_changes.proofs.span.span_of.Given as goal
 
--- the Voids that are left lead on from here
+-- The remaining Voids continue from the current offset.
 abbrev pub invariant-loop-k : goal.invariant-loop-k
 invariant-loop-k l = record {
   inside : l.end ≤ l.outline.total;

@@ -5,7 +5,7 @@ use Rattle.std.proofs.lemmas.Str.{is_utf8-from_IsUtf8}
 use Rattle.edit_changes.specs.Property as spec
 use Rattle.edit_changes.proofs.value.is_words.Goals as goal
 
--- every text is UTF-8
+-- Every text is UTF-8.
 pub returns : goal.returns
 returns c =
     let utf8 : is_utf8 c.args.value.now ≡ true = is_utf8-from_IsUtf8 c.args.value.now c.utf8.value in
