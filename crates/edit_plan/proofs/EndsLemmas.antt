@@ -27,7 +27,7 @@ use Rattle.edit_plan.specs.Moving.{CanMove}
 use Rattle.edit_plan.proofs.LevelLemmas.{HasHeader, element_at-header, header-at}
 use Rattle.edit_plan.proofs.PlanLemmas.{bound-most}
 
--- a header that stands in front of a place, and a body that a size can tell
+-- The header is before offset `e`, and its body has a size that a header can state.
 pub record IsShort (e : ℕ) (h : Header) : Type 0 where
   pub body : h.body ≤ e
   pub size : known h.size < 2 ^ 56
@@ -96,7 +96,7 @@ segment-width : uint_width SEGMENT ≡ 4
 unfolding uint_width count_leading_zeros
 segment-width = refl
 
--- an outline that was read
+-- The stated ends of an outline that was read have 64 bits.
 pub outlined-ends : (held : ℕ) (bytes : List ℕ) (o : Outlined) → outline_of held bytes ≡ Ok o → length bytes ≤ LONGEST_FILE
     → (stated_end o.segment < 2 ^ 64) × (size_width o.segment ≤ 8)
 unfolding outline_of

@@ -1,4 +1,4 @@
--- What is written into a room is no longer than it.
+-- The bytes written into a room aren't longer than it.
 use Rattle.std.proofs.Common.{◌≡◌, ◌≢◌, ℕ, ◌+◌, ◌-◌, ◌<◌, ◌≤◌, ◌==◌, nat_lt, nat_le, Bool, true, false, if◌then◌else◌, List, [], ◌++◌, length, replicate, Option, Some, None, refl, arith}
 use Rattle.std.specs.Option.{unwrap_or}
 use Rattle.std.specs.Int.Count.{count_leading_zeros}
@@ -36,7 +36,7 @@ wider-length e =
     let two = length-octets_of e in let old = length-header_of e in
     omega arith
 
--- what is written has octets, and no more than there are
+-- There is at least one byte, and at most `room`.
 pub record Fills (room : ℕ) (octets : List ℕ) : Type 0 where
   pub some : 1 ≤ length octets
   pub most : length octets ≤ room
@@ -71,18 +71,18 @@ module _ (P : Option (List ℕ) → Type 0) (e : Element) (room : ℕ) (none : r
           let another : room ≢ length (octets_of e) + 1 = grind (arith, nat_tests) in
           fills _ (fills-more e room (omega arith))
 
--- in the place of an Element, itself or a Void's header
+-- The Element or a Void's header fills its place.
 pub fills-place : (e : Element) (room : ℕ) → 2 ≤ room → 1 ≤ length (octets_of e) → Fills room (unwrap_or (fitted e room) (void_header room))
 fills-place e room least some =
     fitted-cases (λ found. Fills room (unwrap_or found (void_header room))) e room (λ long. fills-void room least) (λ octets fills. fills) some
 
--- where it isn't longer than the room, itself
+-- An Element that isn't longer than the room fills it.
 pub fills-fitted : (e : Element) (room : ℕ) → length (octets_of e) ≤ room → 1 ≤ length (octets_of e)
     → Fills room (unwrap_or (fitted e room) [])
 fills-fitted e room reaches some =
     fitted-cases (λ found. Fills room (unwrap_or found [])) e room (λ long. absurd (omega arith)) (λ octets fills. fills) some
 
--- the octets are the same, whatever were written where there is no room
+-- If there is room, the bytes don't depend on the alternative.
 pub fitted-same : (e : Element) (room : ℕ) (one two : List ℕ) → length (octets_of e) ≤ room → 1 ≤ length (octets_of e)
     → unwrap_or (fitted e room) one ≡ unwrap_or (fitted e room) two
 fitted-same e room one two reaches some =

@@ -27,7 +27,7 @@ found-own id (m ∷ ms) s is = of (found-own id ms s) (m.id == id) refl is
         ap (λ (x : Seek). x.id) (sym same) ∙ own
     of later false test is = later is
 
--- the Seek of an ID has it
+-- The Seek for an ID has this ID.
 seek-own : (moved : List Seek) (o : FileOutline) (ps : List Part) (id : ℕ) (s : Seek) → seek_for moved o ps id ≡ Some s → s.id ≡ id
 seek-own moved o ps id s is = of (find (λ (x : Seek). x.id == id) moved) refl is
   where
@@ -55,7 +55,7 @@ all-valid seek (id ∷ ids) own valid = of (all-valid seek ids own (All-tail (λ
 pub seeks-valid : (ids : List ℕ) (o : FileOutline) (ps : List Part) → AreSought ids → AreIds (seeks ids o ps)
 seeks-valid ids o ps sought = all-valid _ ids (seek-own _ o ps) sought.valid
 
--- Info and Tracks are
+-- Info and Tracks are valid IDs of level 1.
 pub edits-sought : AreSought edit_ids
 edits-sought = record {
   valid = All-cons (λ (n : ℕ). is_id n ≡ true) INFO (TRACKS ∷ []) info-valid (All-cons (λ (n : ℕ). is_id n ≡ true) TRACKS [] tracks-valid (All-nil (λ (n : ℕ). is_id n ≡ true)));

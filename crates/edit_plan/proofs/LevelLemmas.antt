@@ -1,4 +1,4 @@
--- The Elements of level 1 other than Clusters stand one behind the other.
+-- The Elements of level 1 other than Clusters are in sequence.
 use Rattle.std.proofs.Common.{inl, inr, ◌≡◌, ℕ, zero, suc, ◌+◌, ◌-◌, ◌<◌, ◌≤◌, ◌==◌, ◌^◌, ◌&&◌, slice_index, not, Bool, true, false, if◌then◌else◌, List, [], ◌∷◌, length, Option, Some, None, Result, Ok, Err, refl, sym, ap, ◌∙◌, subst, arith}
 use Rattle.std.specs.Bool.{⊤}
 use Rattle.std.proofs.lemmas.Bool.{cases_lt}
@@ -20,9 +20,9 @@ use Rattle.mkv_schema.proofs.ElementLemmas.{element_at-placed, element_in-whole}
 use Rattle.mkv_schema.proofs.ElementsLemmas.{Advances, Advances-segment, elements-end, elements-more}
 use Rattle.element_reader.specs.Collected.{others_of}
 
--- ---- a header has two octets at least
+-- ---- a header has at least two bytes
 
--- its ID and its size have at most so many octets, and two at least
+-- The header with offset `p` has at least two bytes, and at most the bytes of the longest ID and size.
 pub record HasHeader (p : ℕ) (h : Header) : Type 0 where
   pub least : p + 2 ≤ h.body
   pub most : h.body ≤ p + 12
@@ -69,9 +69,9 @@ header-at s bytes p e h plain found =
 pub element_at-header : (bytes : List ℕ) (p e : ℕ) (h : Header) → element_at in_segment bytes p e ≡ Ok h → HasHeader p h
 element_at-header bytes p e h found = header-at in_segment bytes p e h refl found
 
--- ---- one behind the other
+-- ---- in sequence
 
--- each begins where the one before it ends, or behind, and ends up to a place
+-- Each Element begins at the end of the previous one or after it; all are between `p` and `e`.
 abbrev pub Stand : ℕ → ℕ → List Header → Type 0
 Stand p e [] = ⊤
 Stand p e (h ∷ hs) = (p ≤ h.offset) × (h.offset + 2 ≤ h.body) × (stated_end h ≤ e) × Stand (stated_end h) e hs

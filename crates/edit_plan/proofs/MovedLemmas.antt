@@ -1,4 +1,4 @@
--- What is written of parts and of the SeekHead.
+-- The writes of parts and of the SeekHead.
 use Rattle.std.proofs.Common.{◌≡◌, ℕ, ◌+◌, ◌≤◌, Bool, true, false, if◌then◌else◌, List, [], ◌∷◌, ◌++◌, length, map, Option, Some, None, Ok, Err, sym, ◌∙◌, ap, arith}
 use Rattle.std.specs.List.{list_any}
 use Rattle.std.specs.Option.{unwrap_or}
@@ -20,8 +20,8 @@ use Rattle.edit_plan.proofs.OrderLemmas.{bytes_in}
 use Rattle.edit_plan.proofs.PartLemmas.{seek_head-valid}
 use Rattle.edit_plan.proofs.SitsLemmas.{element-some, parts-bytes}
 
--- How the octets of the writes are counted: what is inside the new SeekHead and what its room is; what is written of it, where the old ones
--- stand and at the end of the file; and how many octets the Segment's size has of that.
+-- The bytes of the writes are counted, in the SeekHead, at the old places and at the end, and in the Segment's size. `body` is the body of the
+-- new SeekHead.
 pub record IsCounted (ids : List ℕ) (o : FileOutline) (ps : List Part) (head : Option SeekHeadAt) (body octets moved : List ℕ) (places : List disk.Write) (room size len : ℕ) : Type 0 where
   pub body_is : element SEEK_HEAD body ≡ seek_head ids o ps head
   pub room_is : room ≡ room_of head o.others
@@ -62,7 +62,7 @@ module _ (ids : List ℕ) (o : FileOutline) (ps : List Part) (head : Option Seek
     unless-are : (r : Option Refusal) → r ≡ refused o ps p.length (length p.moved.items) p.need p.room → writes_moving ids o ps head ≡ unless r (moving_writes o ps new (place_of head) space)
     unless-are r found = ap (λ x. unless x (moving_writes o ps new (place_of head) space)) (sym refusals-are ∙ sym found)
 
-    -- it is refused
+    -- The writes are refused.
     pub prepared-refused : (r : Refusal) → Some r ≡ refused o ps p.length (length p.moved.items) p.need p.room → writes_moving ids o ps head ≡ Err r
     prepared-refused r found = unless-are (Some r) found
 
@@ -76,7 +76,7 @@ module _ (ids : List ℕ) (o : FileOutline) (ps : List Part) (head : Option Seek
           ap (λ (w : List ℕ). ascending (write (place_of head) w ∷ map written p.places.items)) whole
           ∙ ap (λ (ws : List disk.Write). ascending (write (place_of head) (unwrap_or (fitted new space) []) ∷ ws)) is.places
 
-      -- it is written, and nothing is appended
+      -- The writes are made, and nothing is appended.
       pub prepared-stays : list_any moves ps ≡ false → (all : List disk.Write) → all ≡ ascending (write (place_of head) p.head.items ∷ map written p.places.items) → writes_moving ids o ps head ≡ Ok all
       prepared-stays still all made =
           let others : List disk.Write = size_writes o.segment (new_end o ps) ++ ascending (write (place_of head) (unwrap_or (fitted new space) []) ∷ part_writes ps) ++ write o.total (appended ps) ∷ [] in
@@ -84,7 +84,7 @@ module _ (ids : List ℕ) (o : FileOutline) (ps : List Part) (head : Option Seek
           ∙ ap (λ (b : Bool). Ok (if b then others else ascending (write (place_of head) (unwrap_or (fitted new space) []) ∷ part_writes ps))) still
           ∙ ap (λ (ws : List disk.Write). Ok ws) (sym (made ∙ middle-is))
 
-      -- it is written, and something is appended
+      -- The writes are made, and something is appended.
       pub prepared-moves : list_any moves ps ≡ true → (all : List disk.Write)
           → all ≡ size_writes o.segment (o.total + length p.moved.items) ++ ascending (write (place_of head) p.head.items ∷ map written p.places.items) ++ write o.total p.moved.items ∷ []
           → writes_moving ids o ps head ≡ Ok all

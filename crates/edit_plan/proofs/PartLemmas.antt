@@ -1,4 +1,4 @@
--- The first Element of an ID, written anew.
+-- The first Element with an ID, rewritten.
 use Rattle.std.proofs.Common.{◌≡◌, ℕ, ◌==◌, Bool, true, false, if◌then◌else◌, List, [], ◌∷◌, Option, Some, None, refl, sym, ◌∙◌, ap, arith}
 use Rattle.std.specs.Option.{option_map_or}
 use Rattle.std.proofs.lemmas.Bool.Decides.{nat_tests}
@@ -24,9 +24,9 @@ pub seek_head-valid : is_id SEEK_HEAD ≡ true
 unfolding is_id
 seek_head-valid = refl
 
--- ---- the first of an ID
+-- ---- the first with an ID
 
--- the first of an ID has it
+-- The first Element with an ID has this ID.
 pub first-own : (id : ℕ) (list : List Header) (h : Header) → first_of id list ≡ Some h → h.id ≡ id
 first-own id [] h found = absurd (cc)
 first-own id (k ∷ ks) h found = here (first-own id ks h) (k.id == id) refl found
@@ -38,7 +38,7 @@ first-own id (k ∷ ks) h found = here (first-own id ks h) (k.id == id) refl fou
         ap (λ (x : Header). x.id) (sym same) ∙ named
     here later false is some = later some
 
--- the one that an outline shows is the first of its list
+-- The Element that an outline shows is the first in its list.
 pub first-in : (id : ℕ) (o : FileOutline) (h : Option Header) → (id == CLUSTER) ≡ false → first_in id o ≡ h → first_of id o.others ≡ h
 first-in id o h other is = of (id == CLUSTER) other is
   where
@@ -46,7 +46,7 @@ first-in id o h other is = of (id == CLUSTER) other is
     of true other is = absurd (cc)
     of false other is = is
 
--- it has a valid ID
+-- Its ID is valid.
 pub first-valid : (id : ℕ) (o : FileOutline) (h : Header) → (id == CLUSTER) ≡ false → is_id id ≡ true → first_in id o ≡ Some h → is_id h.id ≡ true
 first-valid id o h other valid is = ap is_id (first-own id o.others h (first-in id o (Some h) other is)) ∙ valid
 

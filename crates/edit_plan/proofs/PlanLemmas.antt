@@ -1,4 +1,4 @@
--- What edits write is the plan of an edit.
+-- The writes of edits are the plan of an edit.
 use Rattle.std.proofs.Common.{◌≡◌, ℕ, ◌+◌, ◌-◌, ◌<◌, ◌≤◌, nat_lt, Bool, true, false, ◌||◌, if◌then◌else◌, List, [], ◌∷◌, ◌++◌, length, map, flat_map, Option, Some, None, Result, Ok, Err, refl, sym, ◌∙◌, ap, subst, arith}
 use Rattle.std.specs.List.{cons_option, list_any}
 use Rattle.std.specs.Prelude.{filter_map}
@@ -53,7 +53,7 @@ Stand-wider : (p e f : ℕ) (hs : List Header) → e ≤ f → Stand p e hs → 
 Stand-wider p e f [] wider stand = tt
 Stand-wider p e f (h ∷ hs) wider stand = (stand.0, stand.1, omega (arith, stand.2), Stand-wider (stated_end h) e f hs wider stand.3)
 
--- The Elements of level 1 besides Clusters stand one behind the other, up to the end of the file.
+-- The Elements of level 1 other than Clusters are in sequence, up to the end of the file.
 pub record IsLevel (o : FileOutline) : Type 0 where
   pub stand : Stand o.segment.body o.total o.others
 
@@ -74,7 +74,7 @@ IsLevel-shown held bytes o is =
     let P : FileOutline → Type 0 = λ v. Stand v.segment.body v.total v.others in
     record { stand = subst P (sym of.shows) listed }
 
--- ---- what isn't refused
+-- ---- no refusal
 
 pub unless-none : {A : Type 0} (r : Option Refusal) (x y : A) → unless r x ≡ Ok y → (r ≡ None) × (x ≡ y)
 unless-none None x y is = (refl, cc)
@@ -106,16 +106,16 @@ size-none segment end known is = of (is_unknown segment.size) known is
     of true known is = absurd (cc)
     of false known is = lacks-none _ _ _ is
 
--- ---- what moves
+-- ---- Elements that move
 
 flat_map-next : {X : Type 0} (f : X → List ℕ) (x : X) (xs : List X) → flat_map f (x ∷ xs) ≡ f x ++ flat_map f xs
 flat_map-next f x xs = refl
 
--- the first of two, where the test is known to be true
+-- A conditional with a true test is its first branch.
 pub if-true : {A : Type 0} (b : Bool) (x y z : A) → b ≡ true → (if b then x else y) ≡ z → x ≡ z
 if-true b x y z is found = sym (ap (λ (c : Bool). if c then x else y) is) ∙ found
 
--- where something moves there is something to append
+-- If something moves, there are bytes to append.
 pub appended-some : (ps : List Part) → list_any moves ps ≡ true → 1 ≤ length (appended ps)
 appended-some [] any = absurd (cc)
 appended-some (p ∷ ps) any = of (appended-some ps) (moves p) refl any
@@ -133,7 +133,7 @@ appended-some (p ∷ ps) any = of (appended-some ps) (moves p) refl any
     of later true is any = own p.element is
     of later false is any = later any
 
--- ---- the SeekHead that is there
+-- ---- the existing SeekHead
 
 pub head-first : (bytes : List ℕ) (o : FileOutline) (s : SeekHeadAt) → seek_head_of bytes o ≡ Some s → first_of SEEK_HEAD o.others ≡ Some s.header
 head-first bytes o s is = of (first_of SEEK_HEAD o.others) is
@@ -159,7 +159,7 @@ head-first bytes o s is = of (first_of SEEK_HEAD o.others) is
 bytes_in-append : (xs ys : List Write) → bytes_in (xs ++ ys) ≡ bytes_in xs + bytes_in ys
 bytes_in-append xs ys = sum_by-append (λ (w : Write). length w.bytes) xs ys
 
--- few writes in order, of few octets, are the plan of an edit
+-- A few ordered writes of few bytes are the plan of an edit.
 planned : (bytes : List ℕ) (ws : List Write) → length bytes ≤ LONGEST_FILE → length ws ≤ MAX_WRITES → bytes_in ws ≤ MAX_OCTETS → AreInOrder (length bytes) 0 (map place ws) → IsPlan (recorded bytes ws)
 planned bytes ws short few small order = record {
   sound = record {
@@ -186,7 +186,7 @@ module _ (bytes : List ℕ) (o : FileOutline) (ids : List ℕ) (ps : List Part) 
   head-some : (head : Option SeekHeadAt) → 1 ≤ length (octets_of (seek_head ids o ps head))
   head-some head = element-some SEEK_HEAD _ (is_id-bounds SEEK_HEAD seek_head-valid).0
 
-  -- the parts alone
+  -- Parts that stay are the plan of an edit.
   in-place-planned : (ws : List Write) → writes_in_place ps ≡ Ok ws → IsPlan (recorded bytes ws)
   in-place-planned ws is =
       let split = unless-none (too_large (length_in_place ps) ps) (ascending (part_writes ps)) ws is in
@@ -226,7 +226,7 @@ module _ (bytes : List ℕ) (o : FileOutline) (ids : List ℕ) (ps : List Part) 
         let same = ap length (fitted-same seeks space [] (octets_of seeks) reaches some) in
         omega (arith, ascending-bytes middle, bytes_in-cons (write s.header.offset (unwrap_or (fitted seeks space) [])) (part_writes ps), parts-bytes ps, same)
 
-    -- the Segment's size, in front of its body
+    -- The Segment's size is before its body.
     size-between : (unknown : Bool) (end : ℕ) → (unknown ≡ false → 1 ≤ size_width o.segment)
         → Between 0 o.segment.body (if unknown then [] else write (o.segment.offset + length (id_octets SEGMENT)) (size_octets (end - o.segment.body) (size_width o.segment)) ∷ [])
     size-between true end wide = omega arith
@@ -247,7 +247,7 @@ module _ (bytes : List ℕ) (o : FileOutline) (ids : List ℕ) (ps : List Part) 
         bytes_in-cons (write (o.segment.offset + length (id_octets SEGMENT)) (size_octets (end - o.segment.body) (size_width o.segment))) []
         ∙ (let long = length-size_octets (end - o.segment.body) (size_width o.segment) in omega arith)
 
-    -- its size has space for one octet
+    -- The Segment's size has at least one byte.
     size-wide : too_large (length_moving o ps seeks space) ps ≡ None → size_refusal o.segment (new_end o ps) ≡ None → is_unknown o.segment.size ≡ false → 1 ≤ size_width o.segment
     size-wide large fits known =
         let small = large-none (length_moving o ps seeks space) ps large in
@@ -255,7 +255,7 @@ module _ (bytes : List ℕ) (o : FileOutline) (ids : List ℕ) (ps : List Part) 
         let least = (least_size_width-IsLeast (new_end o ps - o.segment.body) (omega (arith, total))).some in
         omega arith
 
-    -- the SeekHead and the parts, where nothing is appended
+    -- If nothing is appended, the SeekHead and the parts are the plan of an edit.
     stays-planned : list_any moves ps ≡ false → (ws : List Write) → ascending middle ≡ ws → length (octets_of seeks) ≤ space → length_moving o ps seeks space ≤ MAX_WRITTEN → IsPlan (recorded bytes ws)
     stays-planned still ws is reaches small =
         let before = between-append 0 o.segment.body o.total [] (ascending middle) (omega arith) (middle-between reaches) in
@@ -266,7 +266,7 @@ module _ (bytes : List ℕ) (o : FileOutline) (ids : List ℕ) (ps : List Part) 
         (omega (arith, middle-bytes reaches, small))
         (subst (λ n. AreInOrder n 0 (map place (ascending middle))) total order))
 
-    -- where something is
+    -- If something is appended, the writes are the plan of an edit.
     moves-planned : list_any moves ps ≡ true → (ws : List Write) → size_writes o.segment (new_end o ps) ++ ascending middle ++ write o.total (appended ps) ∷ [] ≡ ws → length (octets_of seeks) ≤ space
         → too_large (length_moving o ps seeks space) ps ≡ None → size_refusal o.segment (new_end o ps) ≡ None → IsPlan (recorded bytes ws)
     moves-planned any ws is reaches large fits =
@@ -320,7 +320,7 @@ module _ (bytes : List ℕ) (o : FileOutline) (ids : List ℕ) (ps : List Part) 
       absurd (omega arith)
   moving-found ws (Some s) is made = moving-planned s (head-first bytes o s is) (seek_head ids o ps (Some s)) (head-some (Some s)) ws made
 
-  -- What is written of parts is the plan of an edit.
+  -- The writes of parts are the plan of an edit.
   pub parts-planned : (always : Bool) (ws : List Write) → writes_of_parts ids always bytes o ps ≡ Ok ws → IsPlan (recorded bytes ws)
   parts-planned always ws made = of (always || list_any moves ps) made
     where
@@ -328,7 +328,7 @@ module _ (bytes : List ℕ) (o : FileOutline) (ids : List ℕ) (ps : List Part) 
       of true is = moving-found ws (seek_head_of bytes o) refl is
       of false is = in-place-planned ws is
 
--- the total of an outline is the file's
+-- The total of an outline is the file's length.
 total-is : (held : ℕ) (bytes : List ℕ) (o : FileOutline) → outline_in held bytes ≡ Ok o → o.total ≡ length bytes
 total-is held bytes o is = let shows = (Outlines-shown held bytes o is).shows in ap (λ (v : FileOutline). v.total) shows
 
@@ -336,7 +336,7 @@ pub parts-in-order : PartsAreInOrder
 parts-in-order bytes held o ids always ps ws short outline are made =
     parts-planned bytes o ids ps (IsLevel-shown held bytes o outline) are (total-is held bytes o outline) short always ws made
 
--- the outline of a file that can be edited is the file's
+-- The outline of an editable file is the file's.
 pub editable-outline : (bytes : List ℕ) (f : EditableFile) → editable bytes ≡ Ok f → outline_in 0 bytes ≡ Ok f.outline
 editable-outline bytes f is =
     let first = and_then-ok (outline_in 0 bytes) _ f is in

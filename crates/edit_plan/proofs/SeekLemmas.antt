@@ -23,7 +23,7 @@ pub seek_head-master : is_master SEEK_HEAD ≡ true
 unfolding entry_of table
 seek_head-master = refl
 
--- the SeekHead in front of the Clusters
+-- `head` is the first SeekHead, before the Clusters.
 abbrev pub IsHead : FileOutline → Option Header → Type 0
 IsHead o head = head ≡ option_and_then (before_clusters o.cluster) (first_of SEEK_HEAD o.others)
 
@@ -38,7 +38,7 @@ head-own o h is = of (first_of SEEK_HEAD o.others) refl is
     of None found is = absurd (cc)
     of (Some k) found is = ap (λ (x : Header). x.id) (before k _ is) ∙ first-own SEEK_HEAD o.others k found
 
--- there is none
+-- There is no SeekHead.
 pub head-none : (bytes : List ℕ) (o : FileOutline) → IsHead o None → seek_head_of bytes o ≡ None
 head-none bytes o is = ap (option_and_then (if_sound bytes)) (sym is)
 
@@ -48,7 +48,7 @@ head-some bytes o h is = ap (option_and_then (if_sound bytes)) (sym is)
 large-is : (h : Header) → h.id ≡ SEEK_HEAD → too_large h ≡ over MAX_MASTER_LEN h
 large-is h own = ap (λ id. option_map_or (λ limit. over limit h) (limit_of id) None) own
 
--- it is longer than is read
+-- The SeekHead is too long to be read.
 pub head-large : (bytes : List ℕ) (o : FileOutline) (h : Header) (d : Damage) → IsHead o (Some h) → too_large h ≡ Some d → seek_head_of bytes o ≡ None
 head-large bytes o h d is large = head-some bytes o h is ∙ of (nat_lt MAX_MASTER_LEN (known h.size)) refl
   where
@@ -59,7 +59,7 @@ head-large bytes o h d is large = head-some bytes o h is ∙ of (nat_lt MAX_MAST
         let both : Some d ≡ None = sym large ∙ large-is h (head-own o h is) ∙ none in
         absurd (cc)
 
--- it is read
+-- The SeekHead is read.
 pub head-read : (bytes : List ℕ) (o : FileOutline) (h : Header) (body : List ℕ) (tree : Result Node Damage) → IsHead o (Some h) → ((d : Damage) → too_large h ≡ Some d → ⊥)
     → body ≡ body_of bytes h → tree ≡ tree_of SEEK_HEAD h.offset body h.body MAX_NODES → seek_head_of bytes o ≡ if_read h tree
 head-read bytes o h body tree is small same read = head-some bytes o h is ∙ of (nat_lt MAX_MASTER_LEN (known h.size)) refl

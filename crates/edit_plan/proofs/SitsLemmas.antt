@@ -1,4 +1,4 @@
--- Writes that sit in the rooms of Elements don't meet.
+-- Writes into the rooms of Elements don't overlap.
 use Rattle.std.proofs.Common.{inl, inr, ◌≡◌, ℕ, suc, ◌+◌, ◌≤◌, ◌==◌, Bool, true, false, if◌then◌else◌, List, [], ◌∷◌, ◌++◌, length, map, filter, Option, Some, None, refl, sym, ◌∙◌, ap, ap₂, subst, arith}
 use Rattle.std.specs.Bool.{⊤}
 use Rattle.std.specs.Prelude.{IfSome, sum_by}
@@ -29,7 +29,7 @@ use Rattle.edit_plan.proofs.VoidLemmas.{first-room, rooms-apart}
 use Rattle.edit_plan.proofs.OrderLemmas.{IsApart, IsApartFrom, AreApart, bytes_in, bytes_in-cons}
 use Rattle.edit_plan.proofs.FitLemmas.{Fills, fills-place, fills-void}
 
--- A write sits in the room of the first Element of an ID.
+-- Write `w` is in the room of the first Element with this ID.
 pub record SitsAt (list : List Header) (id : ℕ) (w : Write) : Type 0 where
   pub header : Header
   pub first : first_of id list ≡ Some header
@@ -37,7 +37,7 @@ pub record SitsAt (list : List Header) (id : ℕ) (w : Write) : Type 0 where
   pub some : 1 ≤ length w.bytes
   pub most : length w.bytes ≤ span_of header list
 
--- an Element has octets
+-- An Element has at least one byte.
 octets-some : (e : Element) → 1 ≤ uint_width e.id → 1 ≤ length (octets_of e)
 octets-some e some = let all = length-octets_of e in let head = length-header_of e in omega arith
 
@@ -53,14 +53,14 @@ module _ (q e : ℕ) (list : List Header) (stand : Stand q e list) where
         | inr behind ↦ inr (omega arith)
       ]
 
-  -- it sits between the first of them and their end
+  -- The write is between the first Element and the end of the last.
   pub sits-begins : (a : ℕ) (w : Write) → SitsAt list a w → (q ≤ w.at) × (end_of w ≤ e)
   sits-begins a w one =
       let room = first-room a q e list one.header stand one.first in
       let from = room.from in let inside = room.inside in let at = one.at in let most = one.most in
       (omega arith, omega arith)
 
-  -- what is written where an old one stands is no longer than its room
+  -- The bytes that replace an old Element aren't longer than its room.
   place-fills : (id room : ℕ) (new : Option Element) → 1 ≤ uint_width id → 2 ≤ room → IfSome new (λ e. e.id ≡ id) → Fills room (unwrap_or (option_and_then (λ e. fitted e room) new) (void_header room))
   place-fills id room None valid least own = fills-void room least
   place-fills id room (Some e) valid least own = fills-place e room least (octets-some e (subst (λ n. 1 ≤ uint_width n) (sym own) valid))
@@ -86,7 +86,7 @@ module _ (q e : ℕ) (list : List Header) (stand : Stand q e list) where
       of true test rest = (sits-apart a p.id w _ sits (part-sits p own test) other own.void (All-head (λ (r : Part). (a == r.id) ≡ false) p ps differ), rest)
       of false test rest = rest
 
-  -- writes of parts
+  -- The writes of parts don't overlap.
   pub parts-apart : (ps : List Part) → q ≤ e → All (IsPartOf list) ps → AllPairs (λ p r. (p.id == r.id) ≡ false) ps → AreApart q e (part_writes ps)
   parts-apart [] before are distinct = before
   parts-apart (p ∷ ps) before are distinct =
@@ -105,7 +105,7 @@ module _ (q e : ℕ) (list : List Header) (stand : Stand q e list) where
           (sits.some, is.0, is.1, apart-from p.id _ ps sits own.void (All-tail (IsPartOf list) p ps are) differ, rest)
       of false test rest = rest
 
-  -- and of the SeekHead
+  -- The write of the SeekHead doesn't overlap them.
   pub head-apart : (w : Write) (ps : List Part) → q ≤ e → SitsAt list SEEK_HEAD w → All (IsPartOf list) ps → AllPairs (λ p r. (p.id == r.id) ≡ false) ps → AreApart q e (w ∷ part_writes ps)
   head-apart w ps before head are distinct =
       let is = sits-begins SEEK_HEAD w head in
@@ -115,7 +115,7 @@ module _ (q e : ℕ) (list : List Header) (stand : Stand q e list) where
 -- ---- Info and Tracks
 
 module _ (list : List Header) where
-  -- the first of an ID, with new children
+  -- The first Element with an ID and new children is a part.
   part-is : (id : ℕ) (nodes : List Node) (h : Header) → is_id id ≡ true → (id == VOID) ≡ false → (SEEK_HEAD == id) ≡ false → first_of id list ≡ Some h → IsPartOf list (part list nodes h)
   part-is id nodes h valid void seek_head first =
       let own = first-own id list h first in
@@ -127,7 +127,7 @@ module _ (list : List Header) where
         old = λ stood. record { header = h; first = ap (λ n. first_of n list) own ∙ first; place = refl; room = refl };
       }
 
-  -- no part, or one of an ID
+  -- The list is empty or has one part, with this ID.
   abbrev MayBe : ℕ → List Part → Type 0
   MayBe id [] = ⊤
   MayBe id (p ∷ []) = IsPartOf list p × (p.id ≡ id)
@@ -162,7 +162,7 @@ module _ (list : List Header) where
       (part-maybe (are_of_info edits) INFO (info_nodes t.info) info-valid refl refl)
       (part-maybe (are_of_tracks edits) TRACKS t.tracks tracks-valid refl refl)
 
--- ---- how many there are, and how many octets they write
+-- ---- the number of parts and of their bytes
 
 pub parts-bytes : (ps : List Part) → bytes_in (part_writes ps) ≡ length_in_place ps
 parts-bytes ps = of (filter stands ps)

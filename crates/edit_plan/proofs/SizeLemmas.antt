@@ -9,7 +9,7 @@ use Rattle.mkv_schema.specs.Element.{is_unknown}
 use Rattle.edit_changes.specs.Plan.{size_refusal, size_width}
 use Rattle.edit_plan.proofs.PlanLemmas.{size-none}
 
--- what is known of a size that is written anew
+-- The Segment has a field for its size, which can hold the new one.
 pub record HasSize (segment : Header) (end : ℕ) : Type 0 where
   pub some : 1 ≤ min (size_width segment) 8
   pub fits : end - segment.body < all_ones (min (size_width segment) 8)

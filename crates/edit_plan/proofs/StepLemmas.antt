@@ -1,4 +1,4 @@
--- What edits write, one step after the other.
+-- The writes of edits, step by step.
 use Rattle.std.proofs.Common.{◌≡◌, ℕ, false, List, Option, Some, None, Result, Ok, Err, refl, sym, ap, ◌∙◌}
 use Rattle.mkv_io.specs.declared.damage.Damage.{Damage}
 use Rattle.requests.specs.declared.edit.Edit.{Edit}
@@ -27,7 +27,7 @@ open-damaged bytes o d is damaged = ap (λ x. if_editable (and_then x (λ (v : F
 pub open-whole : (bytes : List ℕ) (o : FileOutline) → outline_in 0 bytes ≡ Ok o → None ≡ o.damage → if_editable (opening bytes) ≡ Ok o
 open-whole bytes o is whole = ap (λ x. if_editable (and_then x (λ (v : FileOutline). unless v.damage v))) is ∙ ap (λ x. if_editable (unless x o)) (sym whole)
 
--- ---- what can be edited
+-- ---- the editable parts
 
 pub trees-refused : (bytes : List ℕ) (o : FileOutline) (d : Damage) → trees_of bytes o.segment ≡ Err d → if_editable (trees_of bytes o.segment) ≡ Err (Damaged d)
 trees-refused bytes o d is = ap if_editable is
@@ -39,7 +39,7 @@ pub ruleset opens = (open-refused, open-damaged, open-whole, trees-refused, tree
 
 -- ---- the plan
 
--- what is written of what the edits leave
+-- the writes of the edited trees
 abbrev pub behind_edits : List ℕ → List Edit → FileOutline → Trees → Result (List Write) Refusal
 behind_edits bytes edits o t = writes_of_parts edit_ids false bytes o (parts o.others edits t)
 
@@ -73,7 +73,7 @@ plan-steps bytes edits = outline (outline_in 0 bytes)
     outline (Ok o) = damaged o o.damage
     outline (Err d) = refl
 
--- the outline refuses it
+-- The outline is refused.
 pub plan-outline_refused : (bytes : List ℕ) (edits : List Edit) (r : Refusal) → if_editable (opening bytes) ≡ Err r → plan_of bytes edits ≡ Err r
 plan-outline_refused bytes edits r is = plan-steps bytes edits ∙ ap (λ x. edits_then x (behind_outline bytes edits)) is
 
@@ -92,7 +92,7 @@ plan-edits_refused bytes edits o t r is read refused = plan-trees bytes edits o 
 pub plan-edits : (bytes : List ℕ) (edits : List Edit) (o : FileOutline) (t u : Trees) → if_editable (opening bytes) ≡ Ok o → if_editable (trees_of bytes o.segment) ≡ Ok t → edited_trees edits t ≡ Ok u → plan_of bytes edits ≡ writes_of_parts edit_ids false bytes o (parts o.others edits u)
 plan-edits bytes edits o t u is read done = plan-trees bytes edits o t is read ∙ ap (λ x. edits_then x (behind_edits bytes edits o)) done
 
--- the outline that was opened is the file's
+-- The outline that was read is the file's.
 pub opening-outline : (bytes : List ℕ) (o : FileOutline) → if_editable (opening bytes) ≡ Ok o → outline_in 0 bytes ≡ Ok o
 opening-outline bytes o is = outline (outline_in 0 bytes) is
   where
@@ -104,7 +104,7 @@ opening-outline bytes o is = outline (outline_in 0 bytes) is
     outline (Ok v) is = ap (λ (x : FileOutline). Ok x) (damaged v v.damage is)
     outline (Err d) is = absurd (cc)
 
--- ---- what refuses them
+-- ---- refusals
 
 pub outline-answers : (bytes : List ℕ) (edits : List Edit) (e : PlanEnd) → Gives (if_editable (opening bytes)) (Err e) → Answers (plan_of bytes edits) (Err e)
 outline-answers bytes edits (Refused r) is = plan-outline_refused bytes edits r is

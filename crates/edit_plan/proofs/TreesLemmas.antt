@@ -1,4 +1,4 @@
--- What stands in a Tracks that was read.
+-- The children of a Tracks that was read.
 use Rattle.std.proofs.Common.{◌≡◌, ℕ, zero, suc, ◌∷◌, map, Option, Some, None, IfSome, Ok, Err, ap, subst, arith}
 use Rattle.std.specs.List.{All}
 use Rattle.mkv_schema.specs.declared.ids.TheConstants.{CHAPTERS, INFO, TAGS, TRACKS}
@@ -40,7 +40,7 @@ children-stand (master id at kids) is =
     let P : ℕ → Type 0 = λ p. All (StandsIn p) (list_of kids) in
     subst P is.id (all-stand id kids is.sound)
 
--- an Info that nothing refuses is the one that was read
+-- An Info that isn't refused is the one that was read.
 pub good-read : (info same : Option Node) → good_info info ≡ Ok same → IfSome info (IsRead INFO) → IfSome same (IsRead INFO)
 good-read None same is read = let one : None ≡ same = cc in let P : Option Node → Type 0 = λ x. IfSome x (IsRead INFO) in subst P one tt
 good-read (Some n) same is read = of (info_refusal n) is
@@ -49,7 +49,7 @@ good-read (Some n) same is read = of (info_refusal n) is
     of None made = let one : Some n ≡ same = cc in let P : Option Node → Type 0 = λ x. IfSome x (IsRead INFO) in subst P one read
     of (Some d) made = absurd (cc)
 
--- what refuses the tracks of a Tracks refuses it
+-- A refusal of the tracks refuses their Tracks.
 pub tracks-refused : (tracks : Node) (d : Damage) → tracks_of tracks ≡ Err d → unless (refusal_of tracks) tracks ≡ Err d
 tracks-refused tracks d is = split (refusal_of tracks) is
   where

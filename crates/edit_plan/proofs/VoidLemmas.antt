@@ -1,4 +1,4 @@
--- The rooms of Elements that stand one behind the other.
+-- The rooms of Elements in sequence.
 use Rattle.std.proofs.Common.{◌≡◌, ◌⊎◌, inl, inr, ℕ, ◌+◌, ◌<◌, ◌≤◌, ◌==◌, Bool, true, false, if◌then◌else◌, ◌&&◌, List, [], ◌∷◌, Some, refl, ◌∙◌, ap, subst, arith}
 use Rattle.std.proofs.lemmas.Bool.Decides.{nat_tests}
 use Rattle.mkv_schema.specs.declared.ids.TheConstants.{VOID}
@@ -8,7 +8,7 @@ use Rattle.mkv_schema.specs.Value.{first_of}
 use Rattle.edit_changes.specs.Span.{behind_voids, span_of}
 use Rattle.edit_plan.proofs.LevelLemmas.{Stand}
 
--- no Void stands in front of all of them
+-- No Void precedes all of them.
 voids-none : (p q e : ℕ) (hs : List Header) → p < q → Stand q e hs → behind_voids p hs ≡ p
 voids-none p q e [] less stand = refl
 voids-none p q e (h ∷ hs) less stand =
@@ -20,7 +20,7 @@ voids-none p q e (h ∷ hs) less stand =
     split rest true false is = rest
     split rest false here is = rest
 
--- a room has all that the Element has
+-- A room contains its Element.
 pub voids-least : (p q e : ℕ) (hs : List Header) → Stand q e hs → p ≤ behind_voids p hs
 voids-least p q e [] stand = omega arith
 voids-least p q e (h ∷ hs) stand =
@@ -34,7 +34,7 @@ voids-least p q e (h ∷ hs) stand =
     split further rest true false is = rest
     split further rest false here is = rest
 
--- and ends where they all do, or before
+-- A room ends at the end of all or before.
 pub voids-most : (p q e : ℕ) (hs : List Header) → p ≤ e → Stand q e hs → behind_voids p hs ≤ e
 voids-most p q e [] inside stand = inside
 voids-most p q e (h ∷ hs) inside stand =
@@ -45,9 +45,9 @@ voids-most p q e (h ∷ hs) inside stand =
     split further rest true false = rest
     split further rest false here = rest
 
--- ---- an Element that is found among them
+-- ---- an Element in the list
 
--- the first of an ID stands so, and has it
+-- Header `h`, the first with this ID, is between `q` and `e` and has the ID.
 pub record IsFound (id q e : ℕ) (h : Header) : Type 0 where
   pub own : h.id ≡ id
   pub from : q ≤ h.offset
@@ -68,7 +68,7 @@ first-found id q e (k ∷ ks) h stand found = here (first-found id (stated_end k
         subst P same (record { own = grind (arith, nat_tests); from = stand.0; some = stand.1; inside = stand.2 })
     here later false is some = let from = stand.0 in let more = stand.1 in found-later id q (stated_end k) e h (omega arith) (later some)
 
--- no room reaches into one that is no Void
+-- No room overlaps an Element other than a Void.
 pub voids-before : (p q id e : ℕ) (hs : List Header) (h : Header) → Stand q e hs → first_of id hs ≡ Some h → (id == VOID) ≡ false → p ≤ h.offset → behind_voids p hs ≤ h.offset
 voids-before p q id e [] h stand found other before = absurd (cc)
 voids-before p q id e (k ∷ ks) h stand found other before =
@@ -93,7 +93,7 @@ voids-before p q id e (k ∷ ks) h stand found other before =
         split true false = rest some
         split false at = rest some
 
--- two of them stand one behind the other
+-- Two Elements with different IDs are in sequence.
 pub first-apart : (a b q e : ℕ) (hs : List Header) (g h : Header) → Stand q e hs → first_of a hs ≡ Some g → first_of b hs ≡ Some h → (a == b) ≡ false
     → (stated_end g ≤ h.offset) ⊎ (stated_end h ≤ g.offset)
 first-apart a b q e [] g h stand first second other = absurd (cc)
@@ -118,9 +118,9 @@ first-apart a b q e (k ∷ ks) g h stand first second other = here (λ one two. 
         inr (subst P same later.from)
     here rest false false is_one is_two first second = rest first second
 
--- ---- so do their rooms
+-- ---- the same for their rooms
 
--- where a room ends
+-- The room ends at the end of the Voids after the Element.
 pub span-end : (id q e : ℕ) (hs : List Header) (h : Header) → Stand q e hs → first_of id hs ≡ Some h → h.offset + span_of h hs ≡ behind_voids (stated_end h) hs
 span-end id q e hs h stand found =
     let is = first-found id q e hs h stand found in
@@ -128,7 +128,7 @@ span-end id q e hs h stand found =
     let least = voids-least (stated_end h) q e hs stand in
     omega arith
 
--- a room: two octets at least, up to the end
+-- The room has at least two bytes and is between `q` and `e`.
 pub record IsRoom (q e : ℕ) (hs : List Header) (h : Header) : Type 0 where
   pub from : q ≤ h.offset
   pub least : 2 ≤ span_of h hs

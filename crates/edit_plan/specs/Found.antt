@@ -1,4 +1,4 @@
--- A SeekHead as the definitions of edits have it.
+-- A SeekHead in the form of the definitions of edits.
 use Rattle.edit_changes.specs.SeekHead as spec
 use Rattle.edit_plan.specs.declared.found.SeekHead.{SeekHead}
 use Rattle.std.specs.Prelude.{◌≡◌, Option, option_map, Result, IfOk}
@@ -10,7 +10,7 @@ use Rattle.element_reader.specs.Outline.{FileOutline}
 abbrev pub found : SeekHead → spec.SeekHeadAt
 found s = record { header = s.header; seeks = s.seeks }
 
--- This is the first SeekHead of a file with this outline, where its content is told.
+-- The result is the first SeekHead of a file with this outline, if the content is visible to the proof.
 abbrev pub FindsSeekHead : {S E : Type 0} → Ghosts S → S → FileId → FileOutline → Result (Option SeekHead) E → Type 0
 FindsSeekHead r src file outline result =
     IfTold r src file (λ bytes. IfOk result (λ head. option_map found head ≡ spec.seek_head_of bytes outline))

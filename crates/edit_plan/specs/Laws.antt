@@ -1,4 +1,4 @@
--- What holds of every plan.
+-- Laws that hold for every plan.
 use Rattle.std.specs.Prelude.{◌≡◌, ◌≤◌, ℕ, ◌==◌, Bool, true, false, List, length, Some, Ok, IfSome}
 use Rattle.std.specs.List.{All, AllPairs}
 use Rattle.ebml_numbers.specs.Number.{is_id}
@@ -13,20 +13,21 @@ use Rattle.sidecar_edit.specs.Writes.{Write}
 use Rattle.edit_changes.specs.Span.{span_of}
 use Rattle.edit_changes.specs.Plan.{Part, plan_of, recorded, stands, writes_of_parts}
 
--- What edits write to a file that isn't too long is in order, and its record is the plan of an edit: at most eight writes of at
--- most 16 MiB together, each with octets and behind the one before it, none beginning past the file's end.
+-- The writes of edits to a file that isn't too long are in order, and their record is the plan of an edit. There are at most eight writes, of at
+-- most 16 MiB together. Each has bytes and follows the previous one, and none begins past the file's end.
 abbrev pub PlansAreInOrder : Type 0
 PlansAreInOrder =
     (bytes : List ℕ) (edits : List Edit) (ws : List Write) → length bytes ≤ LONGEST_FILE → plan_of bytes edits ≡ Ok ws → IsPlan (recorded bytes ws)
 
--- An old one stands where the first of its ID does, and has its room.
+-- The old Element of part `p` is the first with its ID in `list`, and has its room.
 pub record IsFirst (list : List Header) (p : Part) : Type 0 where
   pub header : Header
   pub first : first_of p.id list ≡ Some header
   pub place : p.place ≡ header.offset
   pub room : p.room ≡ span_of header list
 
--- A part of these Elements of level 1, neither a Void nor a SeekHead; the new one has its ID, and the old one is the first of it.
+-- Part `p` rewrites an Element of `list`, the Elements of level 1. It is neither a Void nor a SeekHead. The new Element has its ID, and the old
+-- one is the first with this ID.
 pub record IsPartOf (list : List Header) (p : Part) : Type 0 where
   pub valid : is_id p.id ≡ true
   pub void : (p.id == VOID) ≡ false
@@ -34,13 +35,13 @@ pub record IsPartOf (list : List Header) (p : Part) : Type 0 where
   pub new : IfSome p.element (λ e. e.id ≡ p.id)
   pub old : stands p ≡ true → IsFirst list p
 
--- Five parts of them at most, each of an ID of its own.
+-- `ps` are at most five parts, with different IDs.
 pub record ArePartsOf (list : List Header) (ps : List Part) : Type 0 where
   pub few : length ps ≤ 5
   pub parts : All (IsPartOf list) ps
   pub distinct : AllPairs (λ p q. (p.id == q.id) ≡ false) ps
 
--- The same of parts of any IDs, whatever the SeekHead tells of, and whether it is always written or not.
+-- The writes of any parts are in order, whatever the Seeks of the SeekHead are, and whether or not it is always written.
 abbrev pub PartsAreInOrder : Type 0
 PartsAreInOrder =
     (bytes : List ℕ) (held : ℕ) (o : FileOutline) (ids : List ℕ) (always : Bool) (ps : List Part) (ws : List Write)

@@ -1,4 +1,4 @@
--- The record of what edits write.
+-- The journal's record of the writes of edits.
 use Rattle.std.specs.Prelude.{◌≡◌, ℕ, List, map, flat_map, Result, Ok}
 use Rattle.requests.specs.declared.edit.Edit.{Edit}
 use Rattle.sidecar_edit.specs.Fields.{AreInOrder, Planned, last_end}
@@ -9,14 +9,14 @@ use Rattle.mkv_io.specs.Results.{and_then}
 use Rattle.edit_changes.specs.Plan.{place, plan_of, recorded}
 use Rattle.sidecar_edit.specs.declared.place.Place.{Place}
 
--- of some writes over a file of so many octets that begins with these
+-- the record of the writes `ws` over a file of `old_len` bytes that begins with `first`
 abbrev pub record_over : ℕ → List ℕ → List Write → Planned
 record_over old_len first ws = planned old_len (extent old_len ws) first (map place ws) (flat_map (λ (w : Write). w.bytes) ws)
 
--- of what edits write to a file of this content, or the first that refuses them
+-- the record of the writes of `edits` to a file with the content `bytes`, or the first refusal
 abbrev pub record_of : List ℕ → List Edit → Result Planned Refusal
 record_of bytes edits = and_then (plan_of bytes edits) (λ ws. Ok (recorded bytes ws))
 
--- The places are in order, and this is the end of the last.
+-- The places are in order, and `end` is the end of the last.
 abbrev pub EndsInOrder : ℕ → ℕ → List Place → ℕ → Type 0
 EndsInOrder old_len from places end = AreInOrder old_len from places × (end ≡ last_end from places)

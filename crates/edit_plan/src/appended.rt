@@ -1,4 +1,4 @@
-//! What goes to the end of the file.
+//! The Elements that move to the end of the file.
 
 ghost use Rattle.std.specs.Prelude.{◌≡◌, false, IfOk, MatchOption, map};
 ghost use Rattle.std.specs.List.{list_any};
@@ -14,7 +14,8 @@ use element_reader::Outline;
 use output_model::Seek;
 use std::alloc::{AllocError, Global};
 
-/// The body of the new Element, if that one is longer than its room: so it goes to the end of the file.
+/// Returns the body of the new Element, if the Element is longer than its room. Such an Element moves to the end of
+/// the file.
 fn moving_body(part: &Part) -> Option<&[u8]>
     ensures { MatchOption result (spec.moves (shown part.now) ≡ false) (λ body. MovesWith part.now body.now) }
 {
@@ -25,14 +26,14 @@ fn moving_body(part: &Part) -> Option<&[u8]>
     Some(body)
 }
 
-/// The new one goes to the end of the file.
+/// Checks whether the new Element moves to the end of the file.
 fn moves(part: &Part) -> bool
     ensures { result ≡ spec.moves (shown part.now) }
 {
     moving_body(part).is_some()
 }
 
-/// One of them moves.
+/// Checks whether one of the parts moves.
 pub fn any_moves(parts: &[Part]) -> bool
     ensures { result ≡ list_any spec.moves (map shown parts.now) }
 {
@@ -44,7 +45,8 @@ pub fn any_moves(parts: &[Part]) -> bool
     false
 }
 
-/// Where those that move go, the first of them so many octets inside the Segment. A place that can't be told has no room.
+/// Returns the Seeks of the parts that move; the first of them is at offset `from` inside the Segment. An offset that
+/// exceeds 64 bits fails as out of memory.
 pub fn moving_seeks(alloc: Global, from: u64, parts: &[Part]) -> Result<Vec<Seek>, AllocError>
     ensures { IfOk result (λ seeks. seeks.items ≡ seeks_from from (spec.elements_moving (map shown parts.now))) }
 {
@@ -62,7 +64,7 @@ pub fn moving_seeks(alloc: Global, from: u64, parts: &[Part]) -> Result<Vec<Seek
     Ok(seeks)
 }
 
-/// What goes to the end of the file, one behind the other.
+/// Returns the bytes that are appended to the file: the Elements that move, in sequence.
 pub fn appended(alloc: Global, parts: &[Part]) -> Result<Vec<u8>, AllocError>
     ensures { IfOk result (λ octets. octets.items ≡ spec.appended (map shown parts.now)) }
 {
@@ -76,7 +78,7 @@ pub fn appended(alloc: Global, parts: &[Part]) -> Result<Vec<u8>, AllocError>
     Ok(out)
 }
 
-/// The first that moves and isn't the only one of its ID.
+/// Returns the refusal of the first part that moves and isn't the only Element with its ID.
 pub fn duplicates(outline: &Outline, parts: &[Part]) -> Option<Refusal>
     ensures { result ≡ spec.twin_refusal outline.now.others (spec.moving (map shown parts.now)) }
 {
@@ -90,7 +92,7 @@ pub fn duplicates(outline: &Outline, parts: &[Part]) -> Option<Refusal>
     None
 }
 
-/// The most Elements of one.
+/// Returns the greatest number of Elements in one part.
 pub fn most_nodes(parts: &[Part]) -> u64
     ensures { result ≡ spec.most_nodes (map shown parts.now) }
 {

@@ -1,4 +1,4 @@
-//! What is written where the SeekHead is.
+//! The writes of parts that are rewritten, with or without the SeekHead.
 
 ghost use Rattle.std.specs.Prelude.{◌≡◌, ◌≤◌, ◌+◌, ◌++◌, ◌^◌, [], ◌∷◌, None, false, IfErr, IfOk, IfSome, length, map, option_map, sum_by};
 ghost use Rattle.element_reader.specs.Collected.{IsInFile};
@@ -27,7 +27,7 @@ use element_reader::{Header, Outline};
 use mkv_schema::ids::SEEK_HEAD;
 use std::alloc::{AllocError, Global};
 
-/// What is written of parts alone, each where the old one stands.
+/// Returns the writes of parts that all stay at their places.
 pub fn place_writes(alloc: Global, parts: &[Part]) -> Result<Vec<Write>, PlanEnd>
     ensures exact { Answers (spec.writes_in_place (map shown parts.now)) result }
     ensures cause { IfErr result (λ end. is_plan_fault end ≡ false) }
@@ -40,8 +40,8 @@ pub fn place_writes(alloc: Global, parts: &[Part]) -> Result<Vec<Write>, PlanEnd
     Ok(ascending(alloc, writes)?)
 }
 
-/// How many octets are written: where the old ones stand, at the end of the file, of the SeekHead and of the Segment's
-/// size.
+/// Returns the number of bytes written: at the old places, at the end of the file, in the SeekHead and in the
+/// Segment's size.
 fn moving_len(places: &[Write], added: u64, head: u64, size: u64) -> Result<u64, AllocError>
     ensures exact { IfOk result (λ n. n ≡ sum_by (λ w. length w.bytes) (map written places.now) + added + head + size) }
 {
@@ -50,7 +50,7 @@ fn moving_len(places: &[Write], added: u64, head: u64, size: u64) -> Result<u64,
     sum(length, size)
 }
 
-/// What is written of parts and of the SeekHead that tells of these IDs, whether it is refused or not.
+/// Prepares the writes of `parts` and of the SeekHead with the Seeks of `ids`, before any check.
 fn prepared(
     alloc: Global,
     ids: &[u32],
@@ -84,7 +84,7 @@ fn prepared(
     })
 }
 
-/// The writes of one list behind those of another.
+/// Appends the writes of `second` to `first`.
 fn joined(mut first: Vec<Write>, second: Vec<Write>) -> Result<Vec<Write>, AllocError>
     ensures { IfOk result (λ all. map written all.items ≡ map written first.items ++ map written second.items) }
 {
@@ -94,7 +94,7 @@ fn joined(mut first: Vec<Write>, second: Vec<Write>) -> Result<Vec<Write>, Alloc
     Ok(first)
 }
 
-/// A write in front of others, all by their places.
+/// Sorts `first` and `writes` by their places.
 fn sorted(alloc: Global, first: Write, mut writes: Vec<Write>) -> Result<Vec<Write>, AllocError>
     ensures { IfOk result (λ all. map written all.items ≡ spec.ascending (written first ∷ map written writes.items)) }
 {
@@ -102,7 +102,7 @@ fn sorted(alloc: Global, first: Write, mut writes: Vec<Write>) -> Result<Vec<Wri
     ascending(alloc, writes)
 }
 
-/// The Segment's size, where it then ends at a place, in front of some writes, and the last behind them.
+/// Puts the write of the Segment's size before `writes`, and `last` after them. The Segment then ends at `end`.
 fn assembled(
     alloc: Global,
     segment: &Header,
@@ -120,7 +120,7 @@ fn assembled(
     Ok(all)
 }
 
-/// What is written of parts and of the SeekHead that tells of these IDs.
+/// Returns the writes of `parts` and of the SeekHead with the Seeks of `ids`.
 pub fn moving_writes(
     alloc: Global,
     ids: &[u32],

@@ -1,4 +1,4 @@
-//! What is written anew.
+//! The Elements of level 1 that are rewritten.
 
 ghost use Rattle.std.specs.Prelude.{◌≡◌, ◌≤◌, ◌<◌, ◌^◌, ◌++◌, true, false, ◌==◌, IfOk, OnOk, IsTrue, length, map, flat_map};
 ghost use Rattle.ebml_numbers.specs.Number.{is_id};
@@ -20,7 +20,7 @@ use mkv_schema::ids::{INFO, TRACKS};
 use requests::Edit;
 use std::alloc::{AllocError, Global};
 
-/// What is written of these Elements, one behind the other. More than a file can have can't be held.
+/// Returns the bytes of `nodes`, in sequence. More bytes than a file can have fail as out of memory.
 fn body_of(alloc: Global, nodes: &[Tree]) -> Result<Bytes, AllocError>
     ensures exact { IfOk result (λ body. body ≡ flat_map octets nodes.now) }
     ensures short { IfOk result (λ body. length body ≤ 2 ^ 48) }
@@ -35,7 +35,7 @@ fn body_of(alloc: Global, nodes: &[Tree]) -> Result<Bytes, AllocError>
     Ok(body)
 }
 
-/// An Element of level 1 with new children.
+/// Makes an Element of level 1 with new children.
 fn part(
     alloc: Global,
     outline: &Outline,
@@ -58,7 +58,7 @@ fn part(
     })
 }
 
-/// Adds the first Element of an ID with new children, if there is one.
+/// Appends the first Element with this `id` and new children, if there is one.
 #[tactic(auto, using(crate::proofs::PartLemmas::firsts))]
 fn add_part(
     alloc: Global,
@@ -78,7 +78,7 @@ fn add_part(
     Ok(())
 }
 
-/// What stands in the Info.
+/// Returns the children of Info.
 fn info_nodes(trees: &Trees) -> &[Tree]
     ensures { result.now ≡ spec.info_nodes trees.now.info }
 {
@@ -88,21 +88,21 @@ fn info_nodes(trees: &Trees) -> &[Tree]
     }
 }
 
-/// An edit is about Info.
+/// Checks whether an edit is about Info.
 fn are_of_info(edits: &List<Edit>) -> bool
     ensures { result ≡ change.are_of_info edits.now }
 {
     edits.as_slice().iter().any(|edit| is_info(edit.place))
 }
 
-/// An edit is about Tracks.
+/// Checks whether an edit is about Tracks.
 fn are_of_tracks(edits: &List<Edit>) -> bool
     ensures { result ≡ change.are_of_tracks edits.now }
 {
     edits.as_slice().iter().any(|edit| !is_info(edit.place))
 }
 
-/// The Info and the Tracks that edits are about, with what the edits make of them.
+/// Returns the Info and the Tracks that edits are about, with their edited children.
 #[tactic(auto, unfolding(ebml_numbers::specs::Number::is_id))]
 pub fn parts(
     alloc: Global,

@@ -1,4 +1,4 @@
-//! How many Elements are written.
+//! Counts of the Elements that are written.
 
 ghost use Rattle.std.specs.Prelude.{◌≡◌, ◌+◌, IfOk};
 ghost use Rattle.tree_format.specs.Node.{nodes_of};
@@ -7,14 +7,15 @@ ghost use Rattle.tree_format.specs.Standing.{kept, kept_all};
 use ebml_tree::Tree;
 use std::alloc::AllocError;
 
-/// A sum, where 64 bits can tell it: more can't be held in memory.
+/// Adds two numbers. A sum above 64 bits fails as out of memory.
 pub(crate) fn sum(a: u64, b: u64) -> Result<u64, AllocError>
     ensures { IfOk result (λ n. n ≡ a + b) }
 {
     a.checked_add(b).ok_or(AllocError)
 }
 
-/// How many Elements are written of a tree, itself counted. What isn't written, as Void, has no octets.
+/// Returns the number of Elements written for `tree`, itself included. An Element that isn't written, such as Void,
+/// has no bytes.
 fn kept(tree: &Tree) -> Result<u64, AllocError>
     ensures { IfOk result (λ n. n ≡ kept tree.now) }
 {
@@ -27,7 +28,7 @@ fn kept(tree: &Tree) -> Result<u64, AllocError>
     Ok(count)
 }
 
-/// How many Elements are written of some that stand in one master.
+/// Returns the number of Elements written for `trees`, the children of one master.
 pub(crate) fn kept_all(trees: &[Tree]) -> Result<u64, AllocError>
     ensures { IfOk result (λ n. n ≡ kept_all (nodes_of trees.now)) }
 {

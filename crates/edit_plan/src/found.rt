@@ -4,7 +4,7 @@ use ebml_tree::Tree;
 use element_reader::Header;
 use mkv_io::List;
 
-/// A SeekHead, RFC 9559, section 5.1.1 (SeekHead Element): its header, and what stands in it.
+/// SeekHead of a file, RFC 9559, section 5.1.1 (SeekHead Element): its header and its children.
 #[derive(Drop)]
 pub struct SeekHead {
     pub header: Header,

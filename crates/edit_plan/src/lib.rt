@@ -1,7 +1,7 @@
 #![tactic(auto)]
 
-//! The plan of edits of a file's properties: what can be edited is read, and what is written over the file is made of
-//! it (RFC 9559, sections 5.1.1, SeekHead Element, 5.1.2, Info Element, and 5.1.4, Tracks Element).
+//! The plan of edits of a file's properties: the editable parts are read, and the writes over the file are made (RFC
+//! 9559, sections 5.1.1, SeekHead Element, 5.1.2, Info Element, and 5.1.4, Tracks Element).
 
 mod appended;
 mod at_seek_head;

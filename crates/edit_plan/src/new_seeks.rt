@@ -1,4 +1,4 @@
-//! What the new SeekHead tells.
+//! The Seeks of the new SeekHead.
 
 ghost use Rattle.std.specs.Prelude.{◌≡◌, ◌==◌, false, IfOk, find, map};
 ghost use Rattle.mkv_schema.specs.declared.ids.TheConstants.{CLUSTER};
@@ -12,7 +12,7 @@ use element_reader::Outline;
 use output_model::Seek;
 use std::alloc::{AllocError, Global};
 
-/// An Element of this ID goes.
+/// Checks whether an Element with this `id` is removed.
 fn goes(parts: &[Part], id: u32) -> bool
     ensures { result ≡ spec.goes (map shown parts.now) id }
 {
@@ -24,7 +24,7 @@ fn goes(parts: &[Part], id: u32) -> bool
     false
 }
 
-/// The Seek of the Element of an ID that is appended.
+/// Returns the Seek of the appended Element with this `id`.
 fn appended_seek(moved: &[Seek], id: u32) -> Option<Seek>
     ensures { result ≡ find (λ s. s.id == id) moved.now }
 {
@@ -36,7 +36,7 @@ fn appended_seek(moved: &[Seek], id: u32) -> Option<Seek>
     None
 }
 
-/// The Seek of the first Element of an ID, unless it goes.
+/// Returns the Seek of the first existing Element with this `id`, unless it is removed.
 fn standing_seek(outline: &Outline, parts: &[Part], id: u32) -> Option<Seek>
     requires { (id == CLUSTER) ≡ false }
     ensures { result ≡ spec.standing_seek outline.now (map shown parts.now) id }
@@ -51,7 +51,7 @@ fn standing_seek(outline: &Outline, parts: &[Part], id: u32) -> Option<Seek>
     })
 }
 
-/// The Seek of an ID, if there is one: of the Element that is appended, else of the first that stands there.
+/// Returns the Seek for `id`, if there is one: to the appended Element, or else to the first existing one.
 fn seek_for(outline: &Outline, parts: &[Part], moved: &[Seek], id: u32) -> Option<Seek>
     requires { (id == CLUSTER) ≡ false }
     ensures { result ≡ spec.seek_for moved.now outline.now (map shown parts.now) id }
@@ -62,7 +62,7 @@ fn seek_for(outline: &Outline, parts: &[Part], moved: &[Seek], id: u32) -> Optio
     }
 }
 
-/// The same of each of some IDs.
+/// Returns the Seeks of `ids`, as far as they exist; `moved` has the Seeks of the appended Elements.
 fn seeks_for(
     alloc: Global,
     ids: &[u32],
@@ -82,7 +82,7 @@ fn seeks_for(
     Ok(seeks)
 }
 
-/// The Seeks of these IDs, each where there is one.
+/// Returns the Seeks of `ids`, as far as they exist.
 pub fn seeks(
     alloc: Global,
     ids: &[u32],

@@ -15,7 +15,7 @@ use mkv_io::{FileId, List, ReadEnd, Reads};
 use mkv_schema::ids::SEEK_HEAD;
 use std::alloc::Global;
 
-/// The first SeekHead of level 1, where it stands in front of the first Cluster.
+/// Returns the first SeekHead of level 1, if it is before the first Cluster.
 fn seek_head_in(outline: &Outline) -> Option<Header>
     ensures exact { result ≡ spec.seek_head_in outline.now }
     ensures inside { IfSome result (IsInFile outline.now.total) }
@@ -27,7 +27,7 @@ fn seek_head_in(outline: &Outline) -> Option<Header>
     }
 }
 
-/// The first SeekHead, in front of the first Cluster. Where it is longer than 16 MiB or damaged, there is none.
+/// Reads the first SeekHead, before the first Cluster. If it is longer than 16 MiB or damaged, there is none.
 pub fn first_seek_head<R: Reads>(
     alloc: Global,
     outline: &Outline,

@@ -1,4 +1,4 @@
-//! What is written of parts.
+//! The writes of parts.
 
 ghost use Rattle.std.specs.Prelude.{◌≡◌, ◌≤◌, ◌^◌};
 ghost use Rattle.mkv_io.specs.Bounds.{ReadsUpTo};
@@ -20,8 +20,8 @@ use element_reader::Outline;
 use mkv_io::{FileId, ReadEnd, Reads};
 use std::alloc::Global;
 
-/// What is written of parts, by ascending places, or the first that refuses it. Where the SeekHead is written, the first
-/// one is read.
+/// Returns the writes of `parts`, by ascending places, or the first refusal. If the SeekHead is written, the first
+/// SeekHead is read.
 pub fn parts_writes<R: Reads>(
     alloc: Global,
     rewriting: &Rewriting,

@@ -1,4 +1,4 @@
-//! Why there is no plan.
+//! Reasons why there is no plan.
 
 ghost use Rattle.std.specs.Prelude.{◌≡◌};
 ghost use Rattle.edit_plan.specs.declared.plan_end.PlanEnd.TheVariants as end;
@@ -7,14 +7,14 @@ use edit_changes::Refusal;
 use mkv_io::Failed;
 use std::alloc::AllocError;
 
-/// Why edits have no plan.
+/// Reason why edits have no plan.
 #[derive(Clone, Copy, Debug, PartialEq, Eq)]
 pub enum PlanEnd {
-    /// They are refused.
+    /// The edits are refused.
     Refused(Refusal),
     /// A read failed.
     ReadFault,
-    /// There is no memory.
+    /// Out of memory.
     Memory,
 }
 

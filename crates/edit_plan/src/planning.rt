@@ -1,4 +1,4 @@
-//! What edits write to a file.
+//! The writes of edits.
 
 ghost use Rattle.std.specs.Prelude.{◌≡◌, ◌*◌, ◌^◌, Ok, false, IfErr, IfOk};
 ghost use Rattle.mkv_io.specs.Bounds.{ReadsUpTo};
@@ -24,10 +24,10 @@ use mkv_schema::ids::{INFO, TRACKS};
 use requests::Edit;
 use std::alloc::Global;
 
-/// What edits rewrite, and a SeekHead then tells of.
+/// IDs of the Elements that edits rewrite; the SeekHead gets their Seeks.
 const EDITED: [u32; 2] = [INFO, TRACKS];
 
-/// The outline of a file without damage at level 1.
+/// Reads the outline of a file without damage at level 1.
 #[tactic(auto, using(crate::proofs::StepLemmas::opens))]
 fn open_outline<R: Reads>(alloc: Global, src: &mut R, file: FileId) -> Result<Outline, PlanEnd>
     requires { IsLive R.Reads src.old file }
@@ -51,7 +51,7 @@ fn open_outline<R: Reads>(alloc: Global, src: &mut R, file: FileId) -> Result<Ou
     Ok(outline)
 }
 
-/// What can be edited in a file with this outline.
+/// Reads the editable parts of a file with this outline.
 #[tactic(auto, using(crate::proofs::StepLemmas::opens))]
 fn open_trees<R: Reads>(
     alloc: Global,
@@ -75,7 +75,7 @@ fn open_trees<R: Reads>(
     }
 }
 
-/// What the edits leave of it.
+/// Makes the edits.
 fn edit_trees(alloc: Global, trees: Trees, edits: &List<Edit>) -> Result<Trees, PlanEnd>
     requires { AreSound trees }
     ensures exact { Gives (change.edited_trees edits.now trees) result }
@@ -88,8 +88,8 @@ fn edit_trees(alloc: Global, trees: Trees, edits: &List<Edit>) -> Result<Trees, 
     }
 }
 
-/// What edits write to a file, by ascending places, or the first thing that refuses them: of the file, of each edit on
-/// what the ones before it leave, or of what is written. Nothing is written.
+/// Returns the writes of `edits` to a file, by ascending places, or the first refusal: for the file, for an edit, or
+/// for the writes. Each edit is made on the result of the previous one. Nothing is written.
 pub fn edit_writes<R: Reads>(
     alloc: Global,
     src: &mut R,

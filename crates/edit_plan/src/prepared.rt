@@ -1,20 +1,20 @@
-//! What is to be written, before it is asked whether there is room.
+//! The writes before the check for room.
 
 use crate::write::Write;
 
-/// What is written of parts and of the SeekHead, whether it is refused or not.
+/// Writes of parts and of the SeekHead, before any check.
 #[derive(Drop)]
 pub struct Prepared {
-    /// The new SeekHead, as long as its room; where it is longer, or there is none, as short as it can be.
+    /// New SeekHead, as long as its room; if it is longer, or there is no room, in its shortest form.
     pub head: Vec<u8>,
-    /// The octets that the new SeekHead takes at least.
+    /// Least length of the new SeekHead in bytes.
     pub need: u64,
-    /// The octets of the old one and the Voids behind it; 0 where there is none.
+    /// Length in bytes of the old SeekHead and the Voids after it; 0 if there is none.
     pub room: u64,
-    /// What is written where the old ones stand.
+    /// Writes at the places of the old Elements.
     pub places: Vec<Write>,
-    /// What goes to the end of the file.
+    /// Bytes that are appended to the file.
     pub moved: Vec<u8>,
-    /// How many octets are written in all.
+    /// Number of bytes written in all.
     pub length: u64,
 }

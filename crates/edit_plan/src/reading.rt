@@ -1,4 +1,4 @@
-//! What can be edited in a file.
+//! The editable parts of a file.
 
 ghost use Rattle.std.specs.Prelude.{◌≡◌, ◌+◌, ◌*◌, false, List, Ok, IfErr, IfOk, IfSome};
 ghost use Rattle.mkv_schema.specs.declared.ids.TheConstants.{TRACKS as TRACKS_ID};
@@ -22,7 +22,7 @@ use mkv_schema::ids::{CHAPTERS, INFO, TAGS, TRACKS};
 use std::alloc::Global;
 use track_records::read_tracks;
 
-/// A Tracks, unless something refuses it. Without one the file is refused.
+/// Checks a Tracks. A file without Tracks is refused.
 fn good_tracks(alloc: Global, segment: &Header, tracks: Option<Tree>) -> Result<Tree, OutlineEnd>
     requires { IfSome tracks (IsRead TRACKS_ID) }
     ensures exact { ReadsAs (spec.good_tracks segment.now tracks) result }
@@ -43,9 +43,9 @@ fn good_tracks(alloc: Global, segment: &Header, tracks: Option<Tree>) -> Result<
     }
 }
 
-/// What can be edited in a file with this outline, or the first thing that refuses the file: of Info and then of
-/// Tracks, first what is wrong inside, and then a value that is refused; and what is wrong inside Attachments, Chapters
-/// and Tags.
+/// Reads the editable parts of a file with this outline, or returns the first refusal. Info and then Tracks are
+/// checked first for damage inside, and then for a refused value. Then Attachments, Chapters and Tags are checked for
+/// damage inside.
 #[tactic(auto, using(crate::proofs::TreesLemmas::reads))]
 pub fn read_trees<R: Reads>(
     alloc: Global,
@@ -60,7 +60,7 @@ pub fn read_trees<R: Reads>(
     ensures standing { R.standing src.new ≡ R.standing src.old }
     ensures cause { HasCause is_outline_fault (R.reading_faults src.old) (R.reading_faults src.new) result }
 
-    // Info, Tracks, Chapters and Tags are each read once, and of Attachments no data.
+    // Info, Tracks, Chapters and Tags are each read once, and no data of Attachments.
     ensures octets { ReadsUpTo R.Reads src.old src.new (20 * file_size R.Reads src.old file) }
     ensures few { ReadsOf R.Reads src.old src.new file (λ size. 4 * size + 2 * MAX_ATTACHMENTS_LEN) }
 {

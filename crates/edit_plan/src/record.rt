@@ -1,4 +1,4 @@
-//! The record of what edits write.
+//! The journal's record of the writes of edits.
 
 ghost use Rattle.std.specs.Prelude.{◌≡◌, ◌≤◌, ◌+◌, ◌*◌, min, IfOk, MatchOption, length, map, flat_map};
 ghost use Rattle.mkv_io.specs.Faults.{HasCause};
@@ -23,7 +23,7 @@ use requests::Edit;
 use sidecar_edit::{KEPT, MAX_OCTETS, MAX_WRITES, Place, Plan, read_first};
 use std::alloc::{AllocError, Global};
 
-/// Where the writes go.
+/// Returns the places of the writes.
 fn places_of(alloc: Global, writes: &[Write]) -> Result<Vec<Place>, AllocError>
     ensures { IfOk result (λ places. places.items ≡ map spec.place (map written writes.now)) }
 {
@@ -37,7 +37,7 @@ fn places_of(alloc: Global, writes: &[Write]) -> Result<Vec<Place>, AllocError>
     Ok(places)
 }
 
-/// What they write, one's octets behind the other's.
+/// Returns the bytes of the writes, in sequence.
 fn payload_of(alloc: Global, writes: &[Write]) -> Result<Bytes, AllocError>
     ensures { IfOk result (λ payload. payload ≡ flat_map (λ (w : disk.Write). w.bytes) (map written writes.now)) }
 {
@@ -48,7 +48,7 @@ fn payload_of(alloc: Global, writes: &[Write]) -> Result<Bytes, AllocError>
     Ok(payload)
 }
 
-/// Where the last of some places ends, if they are in order behind one that ends at `from`, in a file of so many octets.
+/// Returns the end of the last place, if the places are in order after `from`, in a file of `old_len` bytes.
 fn end_behind(old_len: u64, from: u64, places: &[Place]) -> Option<u64>
     requires short { old_len ≤ LONGEST }
     requires small { sum_of places.now ≤ MOST }
@@ -64,8 +64,8 @@ fn end_behind(old_len: u64, from: u64, places: &[Place]) -> Option<u64>
     end_behind(old_len, place.at + place.len, rest)
 }
 
-/// The record of some writes over a file of so many octets that begins with these. Writes that can't be recorded, as no
-/// edits come to, can't be held.
+/// Makes the record of `writes` over a file of `old_len` bytes that begins with `first`. Writes that can't be
+/// recorded fail as out of memory; the writes of edits can.
 pub fn recorded(
     alloc: Global,
     old_len: u64,
@@ -99,9 +99,9 @@ pub fn recorded(
     )
 }
 
-/// The plan of edits of a medium: the record of what they write, or the first thing that refuses them. All memory of an
-/// edit is taken here, and nothing is written. `Memory` is also the answer where what was read comes to writes that no
-/// content comes to, as it may where others write to the file.
+/// Plans `edits` of the file on `disk`: returns the record of their writes, or the first refusal. All memory of an
+/// edit is taken here, and nothing is written. If others write to the file meanwhile, the writes may be ones that no
+/// content has; the call then fails with `Memory`.
 pub fn plan<D: Disk>(alloc: Global, disk: &mut D, edits: &List<Edit>) -> Result<Plan, PlanEnd>
     requires { IsLive D.Reads disk.old MEDIA }
     ensures exact { OfReads D.Disk.own disk.old (λ M S. Gives (record_of M edits.now) result) }

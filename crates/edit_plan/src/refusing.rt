@@ -1,4 +1,4 @@
-//! What refuses what is rewritten.
+//! Reasons to refuse writes.
 
 ghost use Rattle.std.specs.Prelude.{◌≡◌, ◌≤◌, ◌+◌, ◌^◌, None, if◌then◌else◌, map};
 ghost use Rattle.edit_changes.specs.Plan as spec;
@@ -14,7 +14,7 @@ use ebml_tree::MAX_NODES;
 use edit_changes::{MAX_WRITTEN, Refusal, Room, lacks, size_refusal, tail_refusal};
 use element_reader::Outline;
 
-/// There are too many octets to write, or too many Elements in one.
+/// Returns the refusal if there are too many bytes to write, or too many Elements in one.
 pub fn too_large(length: u64, parts: &[Part]) -> Option<Refusal>
     ensures exact { result ≡ spec.too_large length (map shown parts.now) }
     ensures small { result ≡ None → length ≤ MOST }
@@ -26,7 +26,7 @@ pub fn too_large(length: u64, parts: &[Part]) -> Option<Refusal>
     None
 }
 
-/// Nothing may be added at the end of the file, and something is appended.
+/// Returns the refusal if something is appended and nothing may be.
 fn end_refusal(outline: &Outline, parts: &[Part]) -> Option<Refusal>
     ensures { EndsFit outline.now → result ≡ tail_refused outline.now (map shown parts.now) }
 {
@@ -36,7 +36,8 @@ fn end_refusal(outline: &Outline, parts: &[Part]) -> Option<Refusal>
     None
 }
 
-/// Something is appended, and the Segment's size, where it then ends so many octets later, needs more than it has.
+/// Returns the refusal if something is appended and the Segment's new size needs more bytes than the old one has. The
+/// Segment grows by `added` bytes.
 fn growth_refusal(outline: &Outline, parts: &[Part], added: u64) -> Option<Refusal>
     requires { outline.now.total + added ≤ 2 ^ 50 }
     ensures { result ≡ size_refused outline.now (map shown parts.now) added }
@@ -47,8 +48,8 @@ fn growth_refusal(outline: &Outline, parts: &[Part], added: u64) -> Option<Refus
     None
 }
 
-/// The first that refuses parts, where so many octets are written, so many are added to the file, and the SeekHead needs
-/// and has so many.
+/// Returns the first refusal of `parts`: `length` bytes are written and `added` bytes are appended. The SeekHead
+/// needs `need` bytes and has `room`.
 pub fn moving_refusal(
     outline: &Outline,
     parts: &[Part],

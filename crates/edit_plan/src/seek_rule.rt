@@ -1,10 +1,10 @@
-//! When and of what a SeekHead tells.
+//! Rule for writing a SeekHead.
 
-/// What the SeekHead has to do with parts that are rewritten: RFC 9559, section 5.1.1 (SeekHead Element).
+/// Rule for the SeekHead of rewritten parts: RFC 9559, section 5.1.1 (SeekHead Element).
 #[derive(Clone, Copy)]
 pub struct Rewriting<'a> {
-    /// The IDs that it tells of once it is written, and whose old Seeks go.
+    /// IDs whose Seeks are rewritten and whose old Seeks are dropped.
     pub ids: &'a [u32],
-    /// It is written also where nothing moves.
+    /// The SeekHead is written even if nothing moves.
     pub always: bool,
 }

@@ -27,7 +27,7 @@ use mkv_io::{Bytes, LONGEST_FILE};
 use mkv_schema::ids::SEGMENT;
 use std::alloc::{AllocError, Global};
 
-/// What stands in the old one.
+/// Returns the children of the old SeekHead.
 fn old_seeks(head: &Option<SeekHead>) -> &[Tree]
     ensures { result.now ≡ option_map_or (λ s. s.seeks) (option_map found head.now) [] }
 {
@@ -37,7 +37,7 @@ fn old_seeks(head: &Option<SeekHead>) -> &[Tree]
     }
 }
 
-/// What is inside the new SeekHead, which tells of these IDs.
+/// Returns the body of the new SeekHead, with the Seeks of `ids`.
 #[tactic(auto, using(crate::proofs::HeadLemmas::heads))]
 pub fn new_seek_head(
     alloc: Global,
@@ -58,7 +58,7 @@ pub fn new_seek_head(
     Ok(body)
 }
 
-/// The octets of the old SeekHead and the Voids behind it, none where there is none.
+/// Returns the number of bytes of the old SeekHead and the Voids after it, or 0 if there is none.
 pub fn room_of(outline: &Outline, head: &Option<SeekHead>) -> u64
     requires { IfSome head.now (λ s. IsInFile outline.now.total s.header) }
     ensures exact { result ≡ spec.room_of (option_map found head.now) outline.now.others }
@@ -70,7 +70,7 @@ pub fn room_of(outline: &Outline, head: &Option<SeekHead>) -> u64
     }
 }
 
-/// Where the old SeekHead stands.
+/// Returns the offset of the old SeekHead.
 pub fn place_of(head: &Option<SeekHead>) -> u64
     ensures { result ≡ spec.place_of (option_map found head.now) }
 {
@@ -80,7 +80,7 @@ pub fn place_of(head: &Option<SeekHead>) -> u64
     }
 }
 
-/// An Element as it is written into so many octets; where it is longer, as short as it can be.
+/// Returns the bytes of an Element for a span of `room` bytes; if it is longer, its shortest form.
 pub fn fitted_or_whole(
     alloc: Global,
     id: u32,
@@ -98,7 +98,7 @@ pub fn fitted_or_whole(
     }
 }
 
-/// How many octets are written of the Segment's size.
+/// Returns the number of bytes written for the Segment's size.
 fn size_len(segment: &Header) -> u64
     ensures { result ≡ spec.size_length segment.now }
 {
@@ -108,7 +108,7 @@ fn size_len(segment: &Header) -> u64
     }
 }
 
-/// The same, where nothing of it is written unless something is appended.
+/// Returns the number of bytes written for the Segment's size, or 0 unless something is appended.
 pub fn size_added(outline: &Outline, parts: &[Part]) -> u64
     ensures { result ≡ if list_any spec.moves (map shown parts.now) then spec.size_length outline.now.segment else 0 }
 {
@@ -118,7 +118,7 @@ pub fn size_added(outline: &Outline, parts: &[Part]) -> u64
     0
 }
 
-/// The Segment's size, where it is known and the Segment then ends at a place.
+/// Returns the write of the Segment's size, if it is known, for a Segment that ends at `end`.
 #[tactic(auto, unfolding(ebml_numbers::specs::Number::is_id), using(crate::proofs::SizeLemmas::sizes))]
 pub fn size_write(alloc: Global, segment: &Header, end: u64) -> Result<Vec<Write>, AllocError>
     requires end { end ≤ 2 ^ 50 }

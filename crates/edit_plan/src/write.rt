@@ -1,9 +1,9 @@
-//! What is written, and where.
+//! A write over a file.
 
-/// Octets that are written over a file.
+/// Bytes that are written over a file.
 #[derive(Drop)]
 pub struct Write {
-    /// Octets from the start of the file to the first of them.
+    /// Offset of the first byte in the file.
     pub at: u64,
     pub octets: Vec<u8>,
 }

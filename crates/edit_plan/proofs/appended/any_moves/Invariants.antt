@@ -1,4 +1,4 @@
--- None of those so far moves.
+-- No part that was passed moves.
 use Rattle.std.proofs.Common.{◌≡◌, drop, map}
 use Rattle.std.specs.List.{list_any}
 use Rattle.edit_changes.specs.Plan as spec

@@ -1,4 +1,4 @@
--- What was added, with what is left, is the whole.
+-- The bytes that were appended and the bytes of the rest are the whole.
 use Rattle.std.proofs.Common.{◌≡◌, ◌++◌, drop, map}
 use Rattle.edit_changes.specs.Plan.{appended}
 use Rattle.edit_plan.specs.Shown.{shown}

@@ -1,4 +1,4 @@
--- Each that moves is asked.
+-- Each part that moves is checked.
 use Rattle.std.proofs.Common.{◌∙◌, sym}
 use Rattle.edit_plan.proofs.TwinLemmas.{twin-found, twin-passed, twin-stays}
 use Rattle.edit_plan.proofs.appended.duplicates.Goals as goal

@@ -1,4 +1,4 @@
--- None of those so far is refused.
+-- No part that was passed is refused.
 use Rattle.std.proofs.Common.{◌≡◌, drop, map}
 use Rattle.edit_changes.specs.Plan.{moving, twin_refusal}
 use Rattle.edit_plan.specs.Shown.{shown}

@@ -1,4 +1,4 @@
--- The most so far, with the most of those that are left.
+-- The greatest count is the greatest of the parts passed and of the rest.
 use Rattle.std.proofs.Common.{◌≡◌, drop, map, max}
 use Rattle.edit_changes.specs.Plan.{most_nodes}
 use Rattle.edit_plan.specs.Shown.{shown}

@@ -1,4 +1,4 @@
--- The Seeks so far, with those of what is left from here on.
+-- All Seeks are the Seeks that were made and the Seeks of the rest.
 use Rattle.std.proofs.Common.{◌≡◌, ◌++◌, drop, map}
 use Rattle.output_model.specs.SeekHead.{seeks_from}
 use Rattle.edit_changes.specs.Plan.{elements_moving}

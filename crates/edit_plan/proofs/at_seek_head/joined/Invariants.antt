@@ -1,4 +1,4 @@
--- Those so far stand behind the first.
+-- The writes that were passed follow the first ones.
 use Rattle.std.proofs.Common.{◌≡◌, ◌++◌}
 use Rattle.edit_plan.proofs.at_seek_head.joined.Given as goal
 

@@ -1,4 +1,4 @@
--- It is what is refused, or written.
+-- The result is the refusal or the writes.
 use Rattle.std.proofs.Common.{◌≡◌, length, map, option_map, ◌∙◌, ap, arith}
 use Rattle.edit_plan.specs.Found.{found}
 use Rattle.edit_plan.specs.Moving.{refused}

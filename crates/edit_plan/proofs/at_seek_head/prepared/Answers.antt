@@ -1,4 +1,4 @@
--- What is written is what is to be.
+-- The prepared writes are the definition's.
 use Rattle.std.proofs.Common.{◌≡◌, ℕ, List, length, map, option_map, sym, ◌∙◌, ap, arith}
 use Rattle.std.specs.Option.{unwrap_or}
 use Rattle.mkv_schema.specs.declared.ids.TheConstants.{SEEK_HEAD}

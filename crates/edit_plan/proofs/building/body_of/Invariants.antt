@@ -1,4 +1,4 @@
--- What was added, with what is left, is the whole.
+-- The bytes that were appended and the bytes of the rest are the whole.
 use Rattle.std.proofs.Common.{◌≡◌, ◌++◌, drop, flat_map}
 use Rattle.tree_format.specs.NormalForm.{octets}
 use Rattle.edit_plan.proofs.building.body_of.Given as goal

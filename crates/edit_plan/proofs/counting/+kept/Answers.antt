@@ -1,4 +1,4 @@
--- Each child that is written counts, with what is inside.
+-- Each child that is written counts, with its children.
 use Rattle.std.proofs.Common.{ap, arith}
 use Rattle.tree_format.specs.Node.{nodes_of}
 use Rattle.tree_format.specs.Standing.{kept_all}

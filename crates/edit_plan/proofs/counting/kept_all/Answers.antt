@@ -1,4 +1,4 @@
--- Each that is written counts.
+-- Each tree that is written counts.
 use Rattle.std.proofs.Common.{arith}
 use Rattle.output_records.proofs.KeptLemmas.{next-written, next-unwritten}
 use Rattle.edit_plan.proofs.counting.kept_all.Goals as goal

@@ -1,4 +1,4 @@
--- Those that were counted, with those that are left.
+-- The count is the count of the trees passed and of the rest.
 use Rattle.std.proofs.Common.{◌≡◌, ◌+◌, drop}
 use Rattle.tree_format.specs.Node.{nodes_of}
 use Rattle.tree_format.specs.Standing.{kept_all}

@@ -1,4 +1,4 @@
--- It is among those from here on.
+-- The Seek is among the rest.
 use Rattle.std.proofs.Common.{◌≡◌, ◌==◌, drop}
 use Rattle.std.specs.Prelude.{find}
 use Rattle.output_model.specs.declared.places.Seek.{Seek}

@@ -1,4 +1,4 @@
--- None of those so far is of the ID and goes.
+-- No part that was passed has the ID and is removed.
 use Rattle.std.proofs.Common.{◌≡◌, drop, map}
 use Rattle.edit_changes.specs.Plan as spec
 use Rattle.edit_plan.specs.Shown.{shown}

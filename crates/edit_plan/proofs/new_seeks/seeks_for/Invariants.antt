@@ -1,4 +1,4 @@
--- The Seeks so far, with those of the IDs that are left.
+-- All Seeks are the Seeks that were found and the Seeks of the remaining IDs.
 use Rattle.std.proofs.Common.{◌≡◌, ◌++◌, drop, map}
 use Rattle.std.specs.Prelude.{filter_map}
 use Rattle.edit_changes.specs.Plan as spec

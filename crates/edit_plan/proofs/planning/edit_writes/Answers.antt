@@ -1,4 +1,4 @@
--- One step after the other.
+-- The steps follow one another.
 use Rattle.std.proofs.Common.{◌≤◌, false, Result, List, length, map, sym, ◌∙◌, ap, subst, arith}
 use Rattle.std.proofs.lemmas.Result.{err_from_is_err_and}
 use Rattle.mkv_io.specs.declared.outside.TheConstants.{LONGEST_FILE}

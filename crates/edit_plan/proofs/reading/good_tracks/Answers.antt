@@ -1,4 +1,4 @@
--- what refuses the tracks refuses the Tracks
+-- A refusal of the tracks refuses their Tracks.
 use Rattle.std.proofs.Common.{◌∙◌, ap}
 use Rattle.edit_changes.specs.Records as spec
 use Rattle.edit_plan.proofs.TreesLemmas.{tracks-refused}

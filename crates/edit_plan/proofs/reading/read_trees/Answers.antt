@@ -1,4 +1,4 @@
--- The Info is the one that was read, and what stands in Tracks stands there.
+-- The Info is the one that was read, and the table allows the children of Tracks there.
 use Rattle.std.proofs.Common.{List, sym, ◌∙◌, subst}
 use Rattle.std.specs.List.{All}
 use Rattle.mkv_schema.specs.declared.ids.TheConstants.{TRACKS}

@@ -1,4 +1,4 @@
--- What was added, with what is left.
+-- The bytes are the bytes of the writes passed and of the rest.
 use Rattle.std.proofs.Common.{◌≡◌, ◌++◌, drop, map, flat_map}
 use Rattle.sidecar_edit.specs.Writes.{Write}
 use Rattle.edit_plan.specs.Shown.{written}

@@ -1,4 +1,4 @@
--- Those so far, with those that are left.
+-- The places are the places of the writes passed and of the rest.
 use Rattle.std.proofs.Common.{◌≡◌, ◌++◌, drop, map}
 use Rattle.edit_changes.specs.Plan.{place}
 use Rattle.edit_plan.specs.Shown.{written}

@@ -1,4 +1,4 @@
--- What was read comes to the record.
+-- The record is made of the file that was read.
 use Rattle.std.proofs.Common.{◌∙◌, List, ap, sym, take, map}
 use Rattle.std.proofs.lemmas.Result.{err_from_is_err_and}
 use Rattle.edit_plan.specs.Record.{record_over}

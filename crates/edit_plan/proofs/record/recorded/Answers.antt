@@ -1,4 +1,4 @@
--- What stands in the record is in order.
+-- The places of the record are in order.
 use Rattle.std.proofs.Common.{◌≡◌, ◌∙◌, max, length, map, ap, sym, subst, arith}
 use Rattle.std.specs.Prelude.{IfOk}
 use Rattle.sidecar_edit.specs.Fields.{AreInOrder, Planned, last_end}
