@@ -1,4 +1,4 @@
--- A new index, one step after the other.
+-- A new index, step by step.
 use Rattle.std.proofs.Common.{◌≡◌, ℕ, ◌==◌, true, false, List, [], ◌∷◌, length, take, Option, Some, None, Result, Ok, Err, refl, sym, ◌∙◌, ap, ap₂}
 use Rattle.std.specs.List.{All}
 use Rattle.std.proofs.lemmas.List.Elements.{All-cons, All-nil}
@@ -30,7 +30,7 @@ use Rattle.reindex.specs.Plan.{Index, cues_parts, index_ids, index_of, index_wit
 use Rattle.reindex.specs.Points.{index_points}
 use Rattle.reindex.specs.declared.indexed.Indexed.{Indexed}
 
--- ---- what was read
+-- ---- reading the file
 
 abbrev behind_points : FileOutline → List CuePoint → Result Pointed Damage
 behind_points o points = Ok (record { outline = o; points = points })
@@ -47,7 +47,7 @@ found-points bytes o t is read = ap (λ x. and_then x (behind_outline bytes)) is
 pub found-whole : (bytes : List ℕ) (o : FileOutline) (t : Trees) (points : List CuePoint) → outline_in 0 bytes ≡ Ok o → trees_of bytes o.segment ≡ Ok t → points_of bytes o.segment t.tracks ≡ Ok points → pointed bytes ≡ behind_points o points
 found-whole bytes o t points is read has = found-points bytes o t is read ∙ ap (λ x. and_then x (behind_points o)) has
 
--- the outline that was read is the file's
+-- The outline that was read is the file's.
 pub pointed-outline : (bytes : List ℕ) (p : Pointed) → pointed bytes ≡ Ok p → outline_in 0 bytes ≡ Ok p.outline
 pointed-outline bytes p is = outline (outline_in 0 bytes) is
   where
@@ -65,9 +65,9 @@ pointed-outline bytes p is = outline (outline_in 0 bytes) is
     outline (Ok o) is = ap (λ (v : FileOutline). Ok v) (trees o (trees_of bytes o.segment) is)
     outline (Err d) is = absurd (cc)
 
--- ---- the index of it
+-- ---- the index of the file
 
--- the index of what was read
+-- the index of the file that was read
 abbrev index_found : List ℕ → Pointed → Result Index Refusal
 index_found bytes p = index_with bytes p.outline p.points
 
@@ -95,7 +95,7 @@ index-pointed bytes = outline (outline_in 0 bytes)
     outline (Ok o) = trees o (trees_of bytes o.segment)
     outline (Err d) = refl
 
--- ---- what is written
+-- ---- the writes
 
 abbrev writes_behind : List ℕ → FileOutline → List CuePoint → Option Refusal → Result (List Write) Refusal
 writes_behind bytes o points refusal = edits_then (unless_refused refusal (cues_parts o.others (first_of CUES o.others) (new_cues points))) (writes_of_parts index_ids true bytes o)
@@ -103,12 +103,12 @@ writes_behind bytes o points refusal = edits_then (unless_refused refusal (cues_
 pub writes-parts : (bytes : List ℕ) (o : FileOutline) (points : List CuePoint) → None ≡ twin_of o.others CUES → index_writes bytes o points ≡ writes_of_parts index_ids true bytes o (cues_parts o.others (first_of CUES o.others) (new_cues points))
 writes-parts bytes o points is = ap (writes_behind bytes o points) (sym is)
 
--- ---- what is answered
+-- ---- results
 
 abbrev record_behind : List ℕ → Result Index Refusal → Result Indexed Refusal
 record_behind bytes x = edits_then x (λ (y : Index). Ok (indexed bytes y))
 
--- the file can't be indexed
+-- The file can't be indexed.
 pub indexed-unread : (bytes : List ℕ) (e : OutlineEnd) → IsFound bytes (Err e) → Gives (indexed_of bytes) (Err (ends_as e))
 indexed-unread bytes (outline_end.Refused d) is =
     ap (record_behind bytes) (index-pointed bytes ∙ ap (λ (x : Result Pointed Damage). edits_then (if_editable x) (index_found bytes)) is)
@@ -118,21 +118,21 @@ indexed-unread bytes outline_end.Memory is = tt
 indexed-found : (bytes : List ℕ) (p : Pointed) → pointed bytes ≡ Ok p → indexed_of bytes ≡ record_behind bytes (index_found bytes p)
 indexed-found bytes p is = ap (record_behind bytes) (index-pointed bytes ∙ ap (λ (x : Result Pointed Damage). edits_then (if_editable x) (index_found bytes)) is)
 
--- what is written is refused
+-- The writes are refused.
 pub indexed-refused : (bytes : List ℕ) (p : Pointed) (e : PlanEnd) → pointed bytes ≡ Ok p → Answers (index_writes bytes p.outline p.points) (Err e) → Gives (indexed_of bytes) (Err e)
 indexed-refused bytes p (end.Refused r) is refused =
     indexed-found bytes p is ∙ ap (λ (x : Result (List Write) Refusal). record_behind bytes (edits_then x (λ ws. Ok (record { writes = ws; points = p.points })))) refused
 indexed-refused bytes p end.ReadFault is refused = tt
 indexed-refused bytes p end.Memory is refused = tt
 
--- the record of what is written
+-- The result is the record of the writes.
 pub indexed-is : (bytes : List ℕ) (p : Pointed) (ws : List Write) (plan : Planned) (cues : ℕ) → pointed bytes ≡ Ok p → index_writes bytes p.outline p.points ≡ Ok ws → plan ≡ recorded bytes ws → cues ≡ length p.points
     → indexed_of bytes ≡ Ok (record { plan = plan; cues = cues })
 indexed-is bytes p ws plan cues is found made count =
     indexed-found bytes p is ∙ ap (λ (x : Result (List Write) Refusal). record_behind bytes (edits_then x (λ vs. Ok (record { writes = vs; points = p.points })))) found
     ∙ ap₂ (λ (q : Planned) (n : ℕ). Ok (record { plan = q; cues = n })) (sym made) (sym count)
 
--- the record of its parts is that of what is written
+-- The record made of the parts is the record of the writes.
 pub recorded-is : (bytes : List ℕ) (ws : List Write) (len : ℕ) (first : List ℕ) (p : Planned) → len ≡ length bytes → first ≡ take KEPT bytes → p ≡ record_over len first ws → Gives (Ok (recorded bytes ws)) (Ok p)
 recorded-is bytes ws len first p size begins is =
     ap (λ (q : Planned). Ok q) (sym (is ∙ ap₂ (λ (n : ℕ) (xs : List ℕ). record_over n xs ws) size begins))
@@ -140,7 +140,7 @@ recorded-is bytes ws len first p size begins is =
 pub recorded-was : (bytes : List ℕ) (ws : List Write) (p : Planned) → Gives (Ok (recorded bytes ws)) (Ok p) → p ≡ recorded bytes ws
 recorded-was bytes ws p is = cc
 
--- ---- the IDs that a SeekHead then tells of
+-- ---- the IDs with Seeks
 
 abbrev IsOther : ℕ → Type 0
 IsOther id = (id == CLUSTER) ≡ false

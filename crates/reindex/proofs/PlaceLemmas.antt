@@ -1,4 +1,4 @@
--- Where the blocks of a file stand: RFC 9559, section 5.1.3 (Cluster Element).
+-- The offsets of a file's blocks: RFC 9559, section 5.1.3 (Cluster Element).
 use Rattle.std.proofs.Common.{◌≡◌, ◌==◌, ◌≤◌, ◌<◌, ℕ, zero, suc, ◌+◌, ◌-◌, nat_lt, Bool, true, false, if◌then◌else◌, List, [], ◌∷◌, ◌++◌, length, Option, Some, None, Result, Ok, Err, inl, inr, refl, sym, ap, subst, append_assoc, arith}
 use Rattle.std.proofs.lemmas.Bool.{cases_lt}
 use Rattle.ebml_numbers.specs.declared.number.Size.{Size}
@@ -21,9 +21,9 @@ use Rattle.block_format.specs.Elements.{Rules, timestamp_for, at_place, in_time,
 use Rattle.block_format.specs.Events.{Found, Event, stopped, found_in_timestamp, found_at, timestamp_behind, found_among, found_behind, found_in_run, found_in, is_closed, events_then, events_in_run, events_of, blocks_of}
 use Rattle.reindex.specs.Reading.{BlocksAscend}
 
--- ---- lists that ascend up to a place
+-- ---- lists that ascend up to an offset
 
--- the places of Elements ascend from p on, and stand before q
+-- The offsets of the Elements ascend from `p` on and are before `q`.
 abbrev pub StandBetween : ℕ → ℕ → List Header → Type 0
 StandBetween p q [] = p ≤ q
 StandBetween p q (h ∷ hs) = (p ≤ h.offset) × StandBetween (h.offset + 1) q hs
@@ -32,7 +32,7 @@ pub StandBetween-wider : (p q r s : ℕ) (list : List Header) → p ≤ q → r 
 StandBetween-wider p q r s [] before behind stands = omega arith
 StandBetween-wider p q r s (h ∷ hs) before behind stands = (omega (arith, stands.0), StandBetween-wider (h.offset + 1) (h.offset + 1) r s hs (omega arith) behind stands.1)
 
--- the places of the blocks that are found ascend so, as far as no damage is found
+-- The offsets of the found blocks ascend between `p` and `q`, up to a damage.
 abbrev pub FoundBetween : ℕ → ℕ → List Found → Type 0
 FoundBetween p q [] = p ≤ q
 FoundBetween p q (Ok b ∷ found) = (p ≤ b.offset) × FoundBetween (b.offset + 1) q found
@@ -43,7 +43,7 @@ FoundBetween-wider p q r s [] before behind stands = omega arith
 FoundBetween-wider p q r s (Ok b ∷ list) before behind stands = (omega (arith, stands.0), FoundBetween-wider (b.offset + 1) (b.offset + 1) r s list (omega arith) behind stands.1)
 FoundBetween-wider p q r s (Err d ∷ list) before behind stands = omega arith
 
--- ---- the children of a master stand one behind the other, and before the place where they end
+-- ---- the children of a master are in sequence, before its end
 
 record StandInRun (p e : ℕ) (run : Run) : Type 0 where
   between : StandBetween p run.end run.list
@@ -86,7 +86,7 @@ stand-within (suc n) stops bytes p e few =
 run-stands : (stops : ℕ → Bool) (bytes : List ℕ) (p e : ℕ) → StandInRun p e (elements in_master stops (λ h. Ok (end_in e h)) bytes p e)
 run-stands stops bytes p e = stand-within (e - p) stops bytes p e (omega arith)
 
--- ---- a block stands where its Element stands
+-- ---- a block has the offset of its Element
 
 in_time-same : (r : Rules) (id : ℕ) (b c : Block) → in_time r id b ≡ Ok c → b ≡ c
 in_time-same r id b c is = (unless-ok _ b c is).1
@@ -112,7 +112,7 @@ group-offset r bytes ts h b is =
     let first = and_then-ok (block_or h (first_of BLOCK kids.0)) (group_among r bytes time.0 h.offset kids.0) b kids.1.1 in
     among-offset r bytes time.0 h.offset kids.0 first.0 b first.1.1
 
--- ---- what children give stands where they stand
+-- ---- the blocks of children have the children's offsets
 
 pub between-ends : (p q : ℕ) (found : List Found) → FoundBetween p q found → p ≤ q
 between-ends p q [] stands = stands
@@ -152,7 +152,7 @@ behind-between : (q : ℕ) (wrong : Option Damage) → FoundBetween q q (found_b
 behind-between q None = omega arith
 behind-between q (Some d) = omega arith
 
--- What a Cluster gives stands in its body, and before what stands behind it.
+-- The blocks of a Cluster are in its body, before the next Element.
 pub found-between : (r : Rules) (bytes : List ℕ) (e : ℕ) (h : Header) → h.body ≤ e → (q : ℕ) → behind_in_segment bytes e h ≡ Ok q → FoundBetween h.body q (found_in r bytes e h)
 found-between r bytes e h inside q goes = split (is_unknown h.size) goes
   where
@@ -177,7 +177,7 @@ found-between r bytes e h inside q goes = split (is_unknown h.size) goes
         let within = stands.within body in
         of (children_in in_master bytes h.body (end_in e h)) stands.between (omega arith)
 
--- so it does where a damage ends the Elements
+-- The same holds if damage ends the Elements.
 pub found-somewhere : (r : Rules) (bytes : List ℕ) (e : ℕ) (h : Header) → (q : ℕ) × FoundBetween h.body q (found_in r bytes e h)
 found-somewhere r bytes e h = split (is_unknown h.size)
   where
@@ -246,7 +246,7 @@ level-ascend (suc n) r bytes size p e few =
     stopped inside further true = tt
     stopped inside further false = goes_on inside further (element_at in_segment bytes p e) refl
 
--- The places of the blocks of a file ascend.
+-- The offsets of the blocks of a file ascend.
 pub events-ascend : (r : Rules) (bytes : List ℕ) (segment : Header) → BlocksAscend 0 (blocks_of (events_of r bytes segment))
 unfolding events_of
 events-ascend r bytes segment =

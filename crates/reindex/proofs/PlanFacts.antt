@@ -1,4 +1,4 @@
--- New indexes of small files, computed, so that a wrong definition does not check: what is written was worked out by hand.
+-- Computed new indexes of small files, so that a wrong definition fails the check; the writes were worked out by hand.
 use Rattle.std.proofs.Common.{◌≡◌, ℕ, List, [], ◌∷◌, ◌++◌, map, slice_set, take, Result, Ok, Err, refl}
 use Rattle.std.specs.Int.Count.{count_leading_zeros}
 use Rattle.std.specs.Str.{chars, is_utf8}
@@ -26,25 +26,25 @@ use Rattle.edit_changes.specs.declared.refusal.Room.TheVariants.{SeekHead, Twin}
 use Rattle.reindex.specs.Plan.{index_of}
 use Rattle.reindex.proofs.StandardFacts.{cues, merged_body, merged_head, video}
 
--- where a new index is written, or what refuses it
+-- the places of the writes of a new index, or its refusal
 abbrev places : List ℕ → Result (List Place) Refusal
 places bytes = and_then (index_of bytes) (λ x. Ok (map place x.writes))
 
--- the file with it
+-- the file with its new index
 abbrev reindexed : List ℕ → Result (List ℕ) Refusal
 reindexed bytes = and_then (index_of bytes) (λ x. Ok (applied bytes x.writes))
 
 abbrev at : ℕ → ℕ → Place
 at from len = record { at = from; len = len }
 
--- a file as a merge writes it, and the same without its Cues
+-- a file that a merge wrote, and the same without its Cues
 abbrev merged : List ℕ
 merged = merged_head 0x6A ++ merged_body ++ cues
 
 abbrev unindexed : List ℕ
 unindexed = merged_head 0x54 ++ merged_body
 
--- A file as a merge writes it is written as it was; without its Cues it becomes that file.
+-- A file that a merge wrote is rewritten as it was; without its Cues it becomes that file.
 pub record AreIndexed : Type 0 where
   pub places_again : places merged ≡ Ok (at 52 77 ∷ at 392 22 ∷ [])
   pub same : reindexed merged ≡ Ok merged
@@ -55,7 +55,7 @@ pub are_indexed : AreIndexed
 unfolding is_utf8 chars encode file_scale outline_of ebml_header segment_of elements elements_within element_in id_at size_at is_id least_size_width uint_width entry_of table count_leading_zeros grove grove_within content_in lace_in sizes_in size_in simple_block block_group events_of
 are_indexed = record { places_again = refl; same = refl; places_anew = refl; whole = refl }
 
--- What refuses an index, each before the next: a damage, a second Cues, and no SeekHead.
+-- The refusals of an index, each before the next: damage, a second Cues, and no SeekHead.
 pub record AreRefused : Type 0 where
   pub damaged : index_of (take 66 video) ≡ Err (Damaged (damage Truncated 0xA3 60))
   pub twin : index_of (merged_head 0x80 ++ merged_body ++ cues ++ cues) ≡ Err (NoRoom Twin 1 2)

@@ -1,4 +1,4 @@
--- The points of blocks, one after the other.
+-- The points of blocks in sequence.
 use Rattle.std.proofs.Common.{◌≡◌, ◌≤◌, ◌<◌, ℕ, ◌+◌, Bool, true, false, if◌then◌else◌, List, [], ◌∷◌, ◌++◌, length, filter, take, Some, None, Ok, refl, sym, ◌∙◌, ap, subst, append_assoc, append-nil, length-append, inl, inr, max, arith}
 use Rattle.std.specs.Prelude.{slice_get}
 use Rattle.std.specs.List.{flat_map}
@@ -36,7 +36,7 @@ use Rattle.reindex.specs.declared.indexing.Indexing.{Indexing}
 use Rattle.reindex.specs.declared.point.Point.{Point}
 use Rattle.reindex.proofs.PlaceLemmas.{BlocksAscend-later}
 
--- ---- the points of one block more
+-- ---- the points with one more block
 
 -- the points of one block
 points-one : (i : Indexing) (list : List Header) (b : Block) → points_among i.scale i.base list i.tracks (b ∷ []) ≡ points_for i list b
@@ -46,14 +46,14 @@ points-one i list b = split (is_indexed i.tracks b)
     split true = append-nil (points_to i.scale i.base list b)
     split false = refl
 
--- the points of blocks and of one more
+-- The points with one more block are the points before and its point.
 pub points-more : (i : Indexing) (list : List Header) (passed : List Block) (b : Block) → points_among i.scale i.base list i.tracks (passed ++ b ∷ []) ≡ points_among i.scale i.base list i.tracks passed ++ points_for i list b
 points-more i list passed b =
     ap (flat_map (points_to i.scale i.base list)) (filter-append (is_indexed i.tracks) passed (b ∷ []))
     ∙ flat_map-append (points_to i.scale i.base list) (filter (is_indexed i.tracks) passed) (filter (is_indexed i.tracks) (b ∷ []))
     ∙ ap (λ ps. points_among i.scale i.base list i.tracks passed ++ ps) (points-one i list b)
 
--- of a list that was cut already no more is cut
+-- Cutting a list twice is cutting it once.
 take-front : {A : Type 0} (n : ℕ) (xs ys : List A) → take n (take n xs ++ ys) ≡ take n (xs ++ ys)
 take-front n xs ys =
     elim (cases_lt (length xs) n) [
@@ -66,20 +66,20 @@ take-front n xs ys =
 
 -- ---- the points that are kept
 
--- a block without a point adds none
+-- A block without a point adds none.
 pub adds-none : (old : List Point) (more : List CuePoint) → more ≡ [] → length old ≤ MAX_CUES → cues_of old ≡ take MAX_CUES (cues_of old ++ more)
 adds-none old more none few =
     sym (ap (λ ps. take MAX_CUES (cues_of old ++ ps)) none
     ∙ ap (take MAX_CUES) (append-nil (cues_of old))
     ∙ take_all MAX_CUES (cues_of old) (let is = length-map old cue_of in omega arith))
 
--- where there is no room a point is left out
+-- Without room a point is left out.
 pub adds-full : (old : List Point) (more : List CuePoint) → MAX_CUES ≤ length old → length old ≤ MAX_CUES → cues_of old ≡ take MAX_CUES (cues_of old ++ more)
 adds-full old more full few =
     let is = length-map old cue_of in
     sym (take-append-le MAX_CUES (cues_of old) more (omega arith) ∙ take_all MAX_CUES (cues_of old) (omega arith))
 
--- a point is behind the others
+-- A point is appended.
 pub adds-one : (old : List Point) (p : Point) (more : List CuePoint) → more ≡ cue_of p ∷ [] → length old < MAX_CUES → cues_of (old ++ p ∷ []) ≡ take MAX_CUES (cues_of old ++ more)
 adds-one old p more one room =
     let is = length-map old cue_of in
@@ -87,7 +87,7 @@ adds-one old p more one room =
     map-append cue_of old (p ∷ [])
     ∙ sym (ap (λ ps. take MAX_CUES (cues_of old ++ ps)) one ∙ take_all MAX_CUES (cues_of old ++ cue_of p ∷ []) (omega arith))
 
--- a block that gets no point, one in no Cluster, and one in a Cluster
+-- A block that isn't selected has no point.
 pub points_for-none : (i : Indexing) (list : List Header) (b : Block) → is_indexed i.tracks b ≡ false → points_for i list b ≡ []
 points_for-none i list b is = ap (λ t. if t then points_to i.scale i.base list b else []) is
 
@@ -101,13 +101,13 @@ points_for-one i list b h p is some own =
     ∙ ap (λ c. option_map_or (λ h. point_in i.scale i.base b h ∷ []) c []) some
     ∙ ap (λ q. q ∷ []) (sym own)
 
--- the Cluster that is kept where the place of a block was reached
+-- When the walk has reached the block, it keeps the block's Cluster.
 pub kept-before : (list : List Header) (c : Clusters) (before at : ℕ) → c.last ≡ cluster_before c.reached list → c.reached ≡ max before at → before ≤ at → cluster_before at list ≡ c.last
 kept-before list c before at last reached on =
     let is : c.reached ≡ at = omega arith in
     sym (last ∙ ap (λ n. cluster_before n list) is)
 
--- the points of the blocks that were passed, and of one more
+-- The points are the points of the blocks that were passed and of one more.
 pub cues-more : (i : Indexing) (list : List Header) (passed : List Block) (b : Block) (old new : List Point) → cues_of old ≡ take MAX_CUES (points_among i.scale i.base list i.tracks passed) → cues_of new ≡ take MAX_CUES (cues_of old ++ points_for i list b)
     → cues_of new ≡ take MAX_CUES (points_among i.scale i.base list i.tracks (passed ++ b ∷ []))
 cues-more i list passed b old new so is =
@@ -116,9 +116,9 @@ cues-more i list passed b old new so is =
     ∙ take-front MAX_CUES (points_among i.scale i.base list i.tracks passed) (points_for i list b)
     ∙ ap (take MAX_CUES) (sym (points-more i list passed b))
 
--- ---- what is met of a file
+-- ---- the events of a file
 
--- These are the events up to a place: the blocks that were passed, and no damage.
+-- The blocks in the events that were passed are `passed`, and there was no damage.
 pub record HavePassed (all rest : List Event) (passed : List Block) : Type 0 where
   pub blocks : blocks_of all ≡ passed ++ blocks_of rest
   pub damages : damages_of all ≡ damages_of rest
@@ -132,15 +132,15 @@ HavePassed-more all rest next passed b so is = record {
   damages = so.damages ∙ ap damages_of is;
 }
 
--- without one the points are those of all blocks
+-- Without damage the points are the points of all blocks.
 pub points-whole : (i : Indexing) (list : List Header) (all rest : List Event) (passed : List Block) → HavePassed all rest passed → rest ≡ [] → points_in i list all ≡ Ok (take MAX_CUES (points_among i.scale i.base list i.tracks passed))
 points-whole i list all rest passed so is =
     ap (λ (ds : List Damage). unless (slice_get ds 0) (take MAX_CUES (points_among i.scale i.base list i.tracks (blocks_of all)))) (so.damages ∙ ap damages_of is)
     ∙ ap (λ (bs : List Block). Ok (take MAX_CUES (points_among i.scale i.base list i.tracks bs))) (so.blocks ∙ ap (λ es. passed ++ blocks_of es) is ∙ append-nil passed)
 
--- ---- the places of the blocks that are left
+-- ---- the offsets of the remaining blocks
 
--- the first stands behind a place, and the others behind it
+-- The first remaining block is after `p`, and the others are after it.
 pub BlocksAscend-first : (p : ℕ) (rest next : List Event) (b : Block) → BlocksAscend p (blocks_of rest) → rest ≡ block b ∷ next → (p ≤ b.offset) × BlocksAscend b.offset (blocks_of next)
 BlocksAscend-first p rest next b ascends is =
     let P : List Event → Type 0 = λ es. BlocksAscend p (blocks_of es) in
@@ -153,13 +153,13 @@ BlocksAscend-first p rest next b ascends is =
 
 -- ---- the walk
 
--- The points are those of the blocks that were passed, and the Clusters before the next block are to be passed yet.
+-- The points are the points of the blocks passed, and the walk hasn't passed the Clusters before the next block.
 pub record Come (i : Indexing) (list : List Header) (bytes : List ℕ) (clusters : Clusters) (rest : List Event) (found : List Point) (passed : List Block) : Type 0 where
   pub come : HasComeTo bytes list clusters
   pub ascend : BlocksAscend clusters.reached (blocks_of rest)
   pub points : cues_of found ≡ take MAX_CUES (points_among i.scale i.base list i.tracks passed)
 
--- so it is, where it began so
+-- `Come` holds if it did at the start.
 pub HaveCome : Indexing → List Header → List ℕ → Clusters → Clusters → List Event → List Event → List Point → List Block → Type 0
 HaveCome i list bytes old new all rest points passed = HasComeTo bytes list old → BlocksAscend old.reached (blocks_of all) → Come i list bytes new rest points passed
 
@@ -167,7 +167,7 @@ pub HaveCome-begins : (i : Indexing) (list : List Header) (bytes : List ℕ) (c 
 unfolding HaveCome
 HaveCome-begins i list bytes c all points none = λ come ascend. record { come = come; ascend = ascend; points = ap cues_of none }
 
--- a block was passed
+-- A block was passed.
 pub HaveCome-more : (i : Indexing) (list : List Header) (bytes : List ℕ) (old mid new : Clusters) (all rest next : List Event) (points more : List Point) (passed : List Block) (b : Block)
     → HaveCome i list bytes old mid all rest points passed → rest ≡ block b ∷ next → new.reached ≤ max mid.reached b.offset
     → (HasComeTo bytes list mid → mid.reached ≤ b.offset → AddsPoint i list bytes b points more new)
@@ -184,7 +184,7 @@ HaveCome-more i list bytes old mid new all rest next points more passed b so is 
       points = cues-more i list passed b points more here.points add.points;
     }
 
--- without a damage that is what is asked
+-- Without damage the result is the definition's.
 pub HaveCome-whole : (i : Indexing) (list : List Header) (bytes : List ℕ) (old new : Clusters) (all rest : List Event) (points : List Point) (passed : List Block)
     → HaveCome i list bytes old new all rest points passed → HavePassed all rest passed → rest ≡ [] → HasComeTo bytes list old → BlocksAscend old.reached (blocks_of all) → points_in i list all ≡ Ok (cues_of points)
 unfolding HaveCome
@@ -193,11 +193,11 @@ HaveCome-whole i list bytes old new all rest points passed so passes none come a
 
 -- ---- a block that is known by its head
 
--- a point hangs on what a block says of itself alone
+-- A point depends only on the head of its block.
 points-by_head : (i : Indexing) (list : List Header) (b : Block) (lent : Buffered) → head_of b ≡ lent.head → points_for i list b ≡ points_for i list (block_of lent)
 points-by_head i list b lent says = ap (λ (h : BlockHead). points_for i list (block_with h [] [] [])) says
 
--- The blocks up to a place were passed, and the points are theirs.
+-- A number of blocks were passed, and the points are their points.
 pub record HaveRead (i : Indexing) (bytes : List ℕ) (old new : Clusters) (all rest : List Event) (points : List Point) : Type 0 where
   pub passed : List Block
   pub met : HavePassed all rest passed
@@ -210,7 +210,7 @@ HaveRead-begins i bytes c all points none = record {
   come = λ list. HaveCome-begins i list bytes c all points none;
 }
 
--- a block was passed, of which its head is known
+-- A block with a known head was passed.
 pub HaveRead-more : (i : Indexing) (bytes : List ℕ) (old mid new : Clusters) (all rest next : List Event) (points more : List Point) (b : Block) (lent : Buffered)
     → HaveRead i bytes old mid all rest points → rest ≡ block b ∷ next → head_of b ≡ lent.head → new.reached ≤ max mid.reached lent.head.offset
     → ((list : List Header) → HasComeTo bytes list mid → mid.reached ≤ lent.head.offset → AddsPoint i list bytes (block_of lent) points more new)
@@ -234,7 +234,7 @@ outline-total held bytes o is =
     let made : shown bytes found.0 ≡ o = cc (found.1.1) in
     sym (ap (λ (v : FileOutline). v.total) made)
 
--- the points of a file are those of its events
+-- The points of a file are the points of its events.
 pub points_in-file : (i : Indexing) (bytes : List ℕ) (segment : Header) (tracks : List Node) (events : List Event) → i.tracks ≡ indexed_tracks tracks → i.scale ≡ file_scale bytes segment → i.base ≡ segment.body → events ≡ events_of (with_limits i.scale) bytes segment
     → points_in i (segment_run bytes segment).list events ≡ points_of bytes segment tracks
 points_in-file i bytes segment tracks events numbers scale base all =
@@ -244,14 +244,14 @@ points_in-file i bytes segment tracks events numbers scale base all =
     ∙ ap (λ n. unless (file_damage bytes segment) (take MAX_CUES (points_among (file_scale bytes segment) n (segment_run bytes segment).list i.tracks (blocks_of (file_events true bytes segment))))) base
     ∙ ap (λ ns. unless (file_damage bytes segment) (take MAX_CUES (points_among (file_scale bytes segment) segment.body (segment_run bytes segment).list ns (blocks_of (file_events true bytes segment))))) numbers
 
--- ---- what was read
+-- ---- the bytes that were read
 
--- Both ways have paid for what was read.
+-- The distances of both walks account for the bytes that were read.
 pub record HavePaid (size : ℕ) (first cursor : Reading) (list ahead : ReadAhead) (at before now : ℕ) : Type 0 where
   pub place : HasNotPassed ahead at size
   pub pays : now + read_to first + end_ahead list ≤ before + read_to cursor + end_ahead ahead
 
--- a block more was read, and then the Clusters up to it
+-- One more block was read, and then the Clusters up to it.
 pub pays-both : (size there before mid between now : ℕ) (first old new : Reading) (list mid_ahead ahead : ReadAhead) (p q : ℕ) → there ≡ size
     → mid + read_to first + end_ahead list ≤ before + read_to old + end_ahead mid_ahead
     → between + read_to old ≤ mid + read_to new

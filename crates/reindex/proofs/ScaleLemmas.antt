@@ -1,4 +1,4 @@
--- Nanoseconds a tick of a file that can be indexed: RFC 9559, section 5.1.2 (Info Element).
+-- The duration of a tick of a file that can be indexed: RFC 9559, section 5.1.2 (Info Element).
 use Rattle.std.proofs.Common.{◌≡◌, ◌≤◌, ℕ, List, Option, Some, None, Ok, refl, sym, ◌∙◌, ap, subst, arith}
 use Rattle.mkv_schema.specs.declared.ids.TheConstants.{INFO, TRACKS, CHAPTERS, TAGS}
 use Rattle.mkv_schema.specs.declared.element.Header.{Header}
@@ -12,7 +12,7 @@ use Rattle.meta_records.specs.Records.{first_tree, good_info, scale_of_info, tre
 use Rattle.edit_changes.specs.Records.{good_tracks, trees_of}
 use Rattle.edit_changes.specs.declared.trees.Trees.{Trees}
 
--- An Info that was read and that nothing refuses: its scale is the file's, and at least 1.
+-- An Info that was read and isn't refused: its scale is the file's, and at least 1.
 pub record IsScaleOf (bytes : List ℕ) (segment : Header) (info : Option Node) : Type 0 where
   pub good : good_info info ≡ Ok info
   pub file : scale_of_info info ≡ file_scale bytes segment
@@ -21,7 +21,7 @@ pub record IsScaleOf (bytes : List ℕ) (segment : Header) (info : Option Node) 
 good-again : (info : Node) (found : Option Node) → good_info (Some info) ≡ Ok found → (info_refusal info ≡ None) × (Some info ≡ found)
 good-again info found is = unless-ok (info_refusal info) (Some info) found is
 
--- of what was read of the first Info, if there is one
+-- The Info that was read is the first Info, if there is one.
 of_first : (bytes : List ℕ) (segment : Header) (first : Option Header) (info : Option Node) → first_info bytes segment ≡ first → and_then (tree_at bytes first) good_info ≡ Ok info → IsScaleOf bytes segment info
 unfolding file_scale
 of_first bytes segment None info none is =
@@ -43,7 +43,7 @@ of_first bytes segment (Some h) info some is =
       some = omega arith;
     })
 
--- The scale of what can be edited in a file.
+-- The scale in the editable parts is the file's.
 pub trees-scale : (bytes : List ℕ) (segment : Header) (t : Trees) → trees_of bytes segment ≡ Ok t → IsScaleOf bytes segment t.info
 trees-scale bytes segment t is =
     let info = and_then-ok (and_then (first_tree INFO bytes segment) good_info) _ t is in

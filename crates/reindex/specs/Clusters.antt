@@ -1,4 +1,4 @@
--- A walk over the Elements of level 1 that keeps the last Cluster before a place.
+-- A walk over the Elements of level 1 that keeps the last Cluster before an offset.
 use Rattle.std.specs.Prelude.{◌≡◌, ◌≤◌, ℕ, ◌+◌, ◌*◌, ◌-◌, List, [], ◌∷◌, Option, Some, None, Result, length, ◌==◌, if◌then◌else◌}
 use Rattle.std.specs.Option.{option_or}
 use Rattle.mkv_io.specs.LiveFiles.{LiveFiles}
@@ -16,7 +16,7 @@ use Rattle.mkv_schema.specs.declared.ids.TheConstants.{CLUSTER}
 use Rattle.mkv_io.specs.declared.outside.FileId.{FileId}
 use Rattle.elements.specs.Window.{HasNotPassed}
 
--- an Element that was looked at stands in front of those that are left
+-- the Element that was read, if any, and the remaining ones
 abbrev pub in_front : Option Header → List Header → List Header
 in_front None rest = rest
 in_front (Some h) rest = h ∷ rest
@@ -25,69 +25,69 @@ in_front (Some h) rest = h ∷ rest
 abbrev pub due : List ℕ → Clusters → List Header
 due bytes c = in_front c.next (left bytes c.level)
 
--- ---- how far it can go on
+-- ---- the remaining steps
 
 abbrev pub looked_at : Option Header → ℕ
 looked_at None = 0
 looked_at (Some h) = 1
 
--- a bound on the Elements that it can still pass
+-- a bound on the number of Elements that the walk can still pass
 abbrev pub steps_left : Clusters → ℕ
 steps_left c = 2 * (c.level.end - c.level.at) + looked_at c.next
 
--- ---- what is known of it
+-- ---- facts of the walk
 
--- Among the Elements of a list the last Cluster before the place that was reached, and before each later one, is the
--- last such among those that aren't passed, or else the one that is kept.
+-- For each offset that was reached or comes later: the last Cluster of `list` before it is the last one among the Elements that aren't passed, or
+-- else the one that is kept.
 pub record HasComeTo (bytes : List ℕ) (list : List Header) (c : Clusters) : Type 0 where
   pub ascends : AscendFrom 0 (due bytes c)
   pub before : (at : ℕ) → c.reached ≤ at → cluster_before at list ≡ option_or (cluster_before at (due bytes c)) c.last
 
--- No Element of level 1 was passed yet, in any content as long as this outline says.
+-- No Element of level 1 is passed yet, in any content with the length of this outline.
 abbrev pub StandsAtStart : FileOutline → Clusters → Type 0
 StandsAtStart outline c = (bytes : List ℕ) → outline.total ≡ length bytes → HasComeTo bytes (segment_run bytes outline.segment).list c
 
--- Every Cluster before the place that was reached is passed, and the last of them is kept.
+-- Every Cluster before the offset that was reached is passed, and the last of them is kept.
 pub record HasReached (bytes : List ℕ) (list : List Header) (c : Clusters) : Type 0 where
   pub come : HasComeTo bytes list c
   pub last : c.last ≡ cluster_before c.reached list
 
--- It has reached its place in the file, where that is told.
+-- The walk has reached its offset in the file, if the content is visible to the proof.
 abbrev pub HasReachedIn : {S : Type 0} → Ghosts S → S → Clusters → Clusters → Type 0
 HasReachedIn r src old new = IfTold r src old.level.file (λ bytes. (list : List Header) → HasComeTo bytes list old → HasReached bytes list new)
 
--- The next Element was looked at, if there is one.
+-- The next Element was read, if there is one.
 pub record LooksAt (bytes : List ℕ) (old new : Clusters) (found : Option Header) : Type 0 where
   pub same : due bytes new ≡ due bytes old
   pub none : found ≡ None → due bytes new ≡ []
 
--- The same of the file in which the Clusters are looked for, where it is told.
+-- The next Element of the walk's file was read, if the content is visible to the proof.
 abbrev pub LooksAtIn : {S : Type 0} → Ghosts S → S → Clusters → Clusters → Option Header → Type 0
 LooksAtIn r src old new found = IfTold r src old.level.file (λ bytes. LooksAt bytes old new found)
 
--- An Element that was looked at is passed; a Cluster is kept as the last.
+-- the walk after it passed the Element that was read; a Cluster is kept as the last
 abbrev pub passed : Header → Clusters → Clusters
 passed header c = record c { next = None; last = if header.id == CLUSTER then Some header else c.last }
 
--- It is held until it is passed, and no more are left than before.
+-- The Element that was read is held until it is passed, and no more steps remain than before.
 pub record HoldsNext (old new : Clusters) (found : Option Header) : Type 0 where
   pub next : new.next ≡ found
   pub further : steps_left new ≤ steps_left old
 
--- It has gone on from its place, and the way pays for what was read.
+-- The walk advanced from its offset, and the distance accounts for the bytes that were read.
 abbrev pub PaysOn : {S T E : Type 0} → Ghosts S → S → S → Clusters → Clusters → Result T E → Type 0
 PaysOn r src src' old new result = Goes r old.level.file old.level.at (λ _. new.level.at) old.level.ahead new.level.ahead src src' result
 
--- The walk can go on: it stands in its Segment, and in a live file.
+-- The walk can continue: it is in its Segment, and its file is live.
 pub record IsReady (files : LiveFiles) (c : Clusters) : Type 0 where
   pub inside : c.level.at ≤ c.level.end
   pub reads : CanRead files c.level
 
--- Its window begins at its place or before it, and ends with this file or before.
+-- The walk's window begins at its offset or before, and ends at the end of the file or before.
 abbrev pub IsWindowIn : {S : Type 0} → Ghosts S → S → FileId → Clusters → Type 0
 IsWindowIn r src file c = HasNotPassed c.level.ahead c.level.at (file_size r src file)
 
--- It has gone on in the same Segment, and can go on still.
+-- The walk advanced in the same Segment, and can continue.
 pub record StaysReady (files : LiveFiles) (old new : Clusters) : Type 0 where
   pub file : new.level.file ≡ old.level.file
   pub end : new.level.end ≡ old.level.end

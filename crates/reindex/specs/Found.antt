@@ -1,4 +1,4 @@
--- What a reading of a file that is to be indexed came to.
+-- Results of reading a file for a new index.
 use Rattle.std.specs.Prelude.{◌≡◌, ⊤, ℕ, List, Result, Ok, Err}
 use Rattle.mkv_io.specs.declared.damage.Damage.{Damage}
 use Rattle.mkv_io.specs.Results.{and_then}
@@ -22,12 +22,12 @@ use Rattle.edit_plan.specs.Opening.{IfOutline}
 use Rattle.edit_plan.specs.declared.write.Write.{Write}
 use Rattle.reindex.specs.Plan.{index_writes}
 
--- A file that can be indexed: its outline, and the points of its Cues to be.
+-- A file that can be indexed: its outline, and the points of its new Cues.
 pub record Pointed : Type 0 where
   pub outline : FileOutline
   pub points : List CuePoint
 
--- the file of a content, or what refuses it
+-- the file with this content, or its refusal
 abbrev pub pointed : List ℕ → Result Pointed Damage
 pointed bytes =
     and_then (outline_in 0 bytes) (λ o.
@@ -37,19 +37,19 @@ pointed bytes =
 abbrev pub shown : IndexableFile → Pointed
 shown f = record { outline = f.outline; points = cues_of f.points }
 
--- This is the file, or this damage refuses it; a read may fail, and there may be no memory.
+-- The result is the file or its refusal; or a read failed, or memory ran out.
 abbrev pub IsFound : List ℕ → Result IndexableFile OutlineEnd → Type 0
 IsFound bytes (Ok f) = pointed bytes ≡ Ok (shown f)
 IsFound bytes (Err (outline_end.Refused d)) = pointed bytes ≡ Err d
 IsFound bytes (Err outline_end.ReadFault) = ⊤
 IsFound bytes (Err outline_end.Memory) = ⊤
 
--- This is written of the new index of a file that was found so, or what refuses it, where its content is told.
+-- The result is the writes of the new index of `found`, or their refusal, if the content is visible to the proof.
 abbrev pub WritesFound : {S : Type 0} → Ghosts S → S → FileId → IndexableFile → Result (Vec Write Global) PlanEnd → Type 0
 WritesFound r src file found result =
     IfOutline r src file found.outline (λ bytes. Answers (index_writes bytes found.outline (cues_of found.points)) result)
 
--- why there is no plan, where a file can't be read
+-- the reason why there is no plan, if a file can't be read
 abbrev pub ends_as : OutlineEnd → PlanEnd
 ends_as (outline_end.Refused d) = end.Refused (Damaged d)
 ends_as outline_end.ReadFault = end.ReadFault

@@ -1,4 +1,4 @@
--- A file that can be indexed: RFC 9559, section 5.1.5 (Cues Element). What refuses it, and the order, are this project's.
+-- A file that can be indexed: RFC 9559, section 5.1.5 (Cues Element). The reasons to refuse it, and their order, are this project's.
 use Rattle.std.specs.Prelude.{ℕ, true, List, slice_get, Option, Result}
 use Rattle.mkv_io.specs.declared.damage.Damage.{Damage}
 use Rattle.mkv_schema.specs.declared.element.Header.{Header}
@@ -11,18 +11,17 @@ use Rattle.edit_changes.specs.Records.{EditableFile, trees_of}
 use Rattle.output_model.specs.declared.places.CuePoint.{CuePoint}
 use Rattle.reindex.specs.Points.{index_points}
 
--- the first of the damages of a file with this Segment, in Clusters and at level 1
+-- the first damage of a file with this Segment, in Clusters and at level 1
 abbrev pub file_damage : List ℕ → Header → Option Damage
 file_damage bytes segment = slice_get (damages_of (file_events true bytes segment)) 0
 
--- The file of a content, or what refuses it: what refuses its outline, then what refuses what describes it, and then the
--- first of its damages.
+-- The file with this content, or its refusal: first for its outline, then for the Elements that describe it, and then for its first damage.
 abbrev pub indexable : List ℕ → Result EditableFile Damage
 indexable bytes =
     and_then (outline_in 0 bytes) (λ o.
     and_then (trees_of bytes o.segment) (λ trees.
     unless (file_damage bytes o.segment) (record { outline = o; trees = trees })))
 
--- The points of a file with this Segment and this in its Tracks, or the first of its damages.
+-- The points of a file with this Segment and these children of Tracks, or its first damage.
 abbrev pub points_of : List ℕ → Header → List Node → Result (List CuePoint) Damage
 points_of bytes segment tracks = unless (file_damage bytes segment) (index_points bytes segment tracks)

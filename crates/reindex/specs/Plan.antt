@@ -1,4 +1,5 @@
--- What is written of a new index: RFC 9559, sections 5.1.1 (SeekHead Element) and 5.1.5 (Cues Element). Where it goes, and what refuses it, are this project's.
+-- The writes of a new index: RFC 9559, sections 5.1.1 (SeekHead Element) and 5.1.5 (Cues Element). Its place, and the reasons to refuse it, are
+-- this project's.
 use Rattle.std.specs.Prelude.{ℕ, true, List, [], ◌∷◌, length, slice_get, Option, Some, None, Result, Ok}
 use Rattle.mkv_schema.specs.declared.ids.TheConstants.{ATTACHMENTS, CHAPTERS, CUES, INFO, TAGS, TRACKS}
 use Rattle.mkv_schema.specs.declared.element.Header.{Header}
@@ -19,47 +20,47 @@ use Rattle.reindex.specs.Points.{index_points}
 
 -- ---- the Cues
 
--- the Cues of these points, none where there are none
+-- the Cues with `points`, or none without points
 abbrev pub new_cues : List CuePoint → Option Element
 new_cues points = slice_get (cues_elements points) 0
 
--- a Cues that is written, or goes, where an old one has so much room
+-- the part for a Cues that is written or removed, if an old one at `place` has `room` bytes
 abbrev pub cues_part : ℕ → ℕ → Option Element → Part
 cues_part place room new = record { id = CUES; place = place; room = room; nodes = 0; element = new }
 
--- What becomes of the Cues: a new one stands where the old one does, or goes to the end of the file where that has no room or there is
--- none; without a new one the old one goes.
+-- The part of the Cues. A new Cues takes the place of the old one. It moves to the end of the file if there is no old one, or its room is too
+-- small. Without a new Cues the old one is removed.
 abbrev pub cues_parts : List Header → Option Header → Option Element → List Part
 cues_parts list None None = []
 cues_parts list None (Some e) = cues_part 0 0 (Some e) ∷ []
 cues_parts list (Some old) new = cues_part old.offset (span_of old list) new ∷ []
 
--- the Cues of these points among the Elements of a file with this outline
+-- the Cues with `points` among the Elements of a file with this outline
 abbrev pub index_parts : FileOutline → List CuePoint → List Part
 index_parts o points = cues_parts o.others (first_of CUES o.others) (new_cues points)
 
--- ---- what is written
+-- ---- the writes
 
--- all that a SeekHead then tells of
+-- the IDs that then have Seeks in the SeekHead
 abbrev pub index_ids : List ℕ
 index_ids = INFO ∷ TRACKS ∷ ATTACHMENTS ∷ CUES ∷ CHAPTERS ∷ TAGS ∷ []
 
--- The Cues of these points and the SeekHead, by ascending places, or what refuses them: a second Cues, or what has no room.
+-- The writes of the Cues with `points` and of the SeekHead, by ascending places; or their refusal, for a second Cues or missing room.
 abbrev pub index_writes : List ℕ → FileOutline → List CuePoint → Result (List Write) Refusal
 index_writes bytes o points =
     and_then (unless (twin_of o.others CUES) (index_parts o points))
     (writes_of_parts index_ids true bytes o)
 
--- What is written of a new index, and the points that it then has.
+-- The writes of a new index, and the points that it then has.
 pub record Index : Type 0 where
   pub writes : List Write
   pub points : List CuePoint
 
--- the new index of a file with this outline, which has these points
+-- the new index of a file with this outline and these points
 abbrev pub index_with : List ℕ → FileOutline → List CuePoint → Result Index Refusal
 index_with bytes o points = and_then (index_writes bytes o points) (λ ws. Ok (record { writes = ws; points = points }))
 
--- The new index of a file of this content, or the first that refuses it.
+-- The new index of a file with this content, or its first refusal.
 abbrev pub index_of : List ℕ → Result Index Refusal
 index_of bytes =
     and_then (if_editable (indexable bytes)) (λ (f : EditableFile).
@@ -67,7 +68,7 @@ index_of bytes =
 
 -- ---- its record
 
--- the record of what is written, and the number of the points
+-- the record of the writes, and the number of points
 abbrev pub indexed : List ℕ → Index → Indexed
 indexed bytes x = record { plan = recorded bytes x.writes; cues = length x.points }
 

@@ -1,4 +1,5 @@
--- The cue points of a file: RFC 9559, sections 5.1.5 (Cues Element) and 16 (Segment Position). Which blocks get one, and how many there are, is this project's.
+-- The cue points of a file: RFC 9559, sections 5.1.5 (Cues Element) and 16 (Segment Position). The selection of blocks, and the greatest number
+-- of points, are this project's.
 use Rattle.std.specs.Prelude.{ℕ, ◌-◌, ◌/◌, ◌==◌, nat_lt, true, Bool, ◌&&◌, ◌||◌, if◌then◌else◌, is_some, List, [], ◌∷◌, filter, map, take, Option, Some, None, unwrap_or}
 use Rattle.std.specs.List.{flat_map, list_any}
 use Rattle.std.specs.Option.{option_map_or, option_or}
@@ -16,28 +17,28 @@ use Rattle.output_model.specs.declared.TheConstants.{MAX_CUES}
 use Rattle.output_model.specs.declared.places.CuePoint.{CuePoint}
 use Rattle.mkv_schema.specs.declared.track_type.TheConstants.{VIDEO_TRACK, SUBTITLE_TRACK}
 
--- ---- which blocks get a point
+-- ---- the blocks that get a point
 
--- the TrackEntry of a video or a subtitle track
+-- The node is the TrackEntry of a video or a subtitle track.
 abbrev pub is_indexed_track : Node → Bool
 is_indexed_track n = id_of n == TRACK_ENTRY && (type_of n == VIDEO_TRACK || type_of n == SUBTITLE_TRACK)
 
--- the numbers of these tracks, among what stands in Tracks
+-- the numbers of the video and subtitle tracks among the children of Tracks
 abbrev pub indexed_tracks : List Node → List ℕ
 indexed_tracks tracks = map number_of (filter is_indexed_track tracks)
 
--- A block of a track of these numbers that can be decoded without another one, and doesn't stand before the start.
+-- Block `b` is a keyframe of a track with one of `numbers`, and isn't before the start.
 abbrev pub is_indexed : List ℕ → Block → Bool
 is_indexed numbers b = b.key && is_some (since_start b.time) && list_any (λ n. n == b.track) numbers
 
--- ---- where they stand
+-- ---- their places
 
--- the last Cluster of a list that begins before a place
+-- the last Cluster of a list that begins before offset `at`
 abbrev pub cluster_before : ℕ → List Header → Option Header
 cluster_before at [] = None
 cluster_before at (h ∷ hs) = option_or (cluster_before at hs) (if h.id == CLUSTER && nat_lt h.offset at then Some h else None)
 
--- The point of a block of this Cluster, in ticks of so many nanoseconds, in a Segment whose body begins there.
+-- The point of block `b` in the Cluster with header `h`. A tick has `scale` nanoseconds, and the Segment's body begins at `base`.
 abbrev pub point_in : ℕ → ℕ → Block → Header → CuePoint
 point_in scale base b h = record {
   tick = unwrap_or (since_start b.time) 0 / scale;
@@ -46,17 +47,17 @@ point_in scale base b h = record {
   relative = b.offset - h.body;
 }
 
--- the point of a block that stands in one of the Clusters of a list
+-- the point of a block, if it is in one of the Clusters of a list
 abbrev pub points_to : ℕ → ℕ → List Header → Block → List CuePoint
 points_to scale base list b = option_map_or (λ h. point_in scale base b h ∷ []) (cluster_before b.offset list) []
 
 -- ---- the points of a file
 
--- the points of blocks, each where it gets one
+-- the points of the blocks that get one
 abbrev pub points_among : ℕ → ℕ → List Header → List ℕ → List Block → List CuePoint
 points_among scale base list numbers blocks = flat_map (points_to scale base list) (filter (is_indexed numbers) blocks)
 
--- The points of a file with this Segment and this in its Tracks, in the order of its blocks. There are so many at most.
+-- The points of a file with this Segment and these children of Tracks, in the order of its blocks, up to MAX_CUES.
 abbrev pub index_points : List ℕ → Header → List Node → List CuePoint
 index_points bytes segment tracks = take MAX_CUES
     (points_among (file_scale bytes segment) segment.body (segment_run bytes segment).list (indexed_tracks tracks)

@@ -1,4 +1,4 @@
--- The points of a file as they are read.
+-- The points of a file, as the code reads them.
 use Rattle.std.specs.Prelude.{◌≡◌, ◌≤◌, ⊤, ℕ, ◌+◌, if◌then◌else◌, List, [], ◌∷◌, ◌++◌, map, take, slice_get, Option, Some, None, Result, Ok, Err, OnOk}
 use Rattle.mkv_io.specs.Sources.{IfTold}
 use Rattle.mkv_io.specs.declared.damage.Damage.{Damage}
@@ -26,22 +26,22 @@ use Rattle.reindex.specs.declared.clusters.Clusters.{Clusters}
 use Rattle.reindex.specs.declared.indexing.Indexing.{Indexing}
 use Rattle.reindex.specs.declared.point.Point.{Point}
 
--- a point as it is written
+-- a point in the form that is written
 abbrev pub cue_of : Point → CuePoint
 cue_of p = record { tick = p.tick; lane = p.track; cluster = p.cluster; relative = p.relative }
 
 abbrev pub cues_of : List Point → List CuePoint
 cues_of points = map cue_of points
 
--- the number of a track whose blocks get points; of another Element of Tracks none
+-- the number of a track whose blocks get points, or None for another Element
 abbrev pub indexed_number : Node → Option ℕ
 indexed_number n = if is_indexed_track n then Some (number_of n) else None
 
--- the point of a block, where it gets one and stands in one of the Clusters of a list
+-- the point of a block, if it gets one and is in one of the Clusters of a list
 abbrev pub points_for : Indexing → List Header → Block → List CuePoint
 points_for i list b = if is_indexed i.tracks b then points_to i.scale i.base list b else []
 
--- These are the points, or this damage refuses the file; a read may fail, and there may be no memory.
+-- The result is the points or the file's refusal; or a read failed, or memory ran out.
 abbrev pub ReadsPoints : Result (List CuePoint) Damage → Result (List Point) OutlineEnd → Type 0
 ReadsPoints found (Ok points) = found ≡ Ok (cues_of points)
 ReadsPoints found (Err (outline_end.Refused d)) = found ≡ Err d
@@ -53,32 +53,32 @@ abbrev pub points_in : Indexing → List Header → List Event → Result (List 
 points_in i list events =
     unless (slice_get (damages_of events) 0) (take MAX_CUES (points_among i.scale i.base list i.tracks (blocks_of events)))
 
--- The places of these blocks ascend: the first stands at a place or behind it, each other behind the one before it.
+-- The offsets of the blocks ascend, from `p` on.
 abbrev pub BlocksAscend : ℕ → List Block → Type 0
 BlocksAscend p [] = ⊤
 BlocksAscend p (b ∷ bs) = (p ≤ b.offset) × BlocksAscend (b.offset + 1) bs
 
--- The point of a block is behind the others, where there is room for it.
+-- The point of block `b` is appended, if it has one and there is room.
 pub record AddsPoint (i : Indexing) (list : List Header) (bytes : List ℕ) (b : Block) (old new : List Point) (clusters : Clusters) : Type 0 where
   pub come : HasComeTo bytes list clusters
   pub points : cues_of new ≡ take MAX_CUES (cues_of old ++ points_for i list b)
 
--- the same of the file in which the Clusters are looked for, where it is told
+-- The point of a block is appended, if the content of the walk's file is visible to the proof.
 abbrev pub AddsPointIn : {S : Type 0} → Ghosts S → S → Indexing → Buffered → List Point → List Point → Clusters → Clusters → Type 0
 AddsPointIn r src i given old new before clusters = IfTold r src before.level.file (λ bytes. (list : List Header)
     → HasComeTo bytes list before → before.reached ≤ given.head.offset → AddsPoint i list bytes (block_of given) old new clusters)
 
--- the same of the block that a cursor lends, where the call isn't refused
+-- The point of the cursor's block is appended, unless the call failed.
 abbrev pub AddsPointOf : {S T E : Type 0} → Ghosts S → S → Indexing → Reading → List Point → List Point → Clusters → Clusters → Result T E → Type 0
 AddsPointOf r src i cursor old new before clusters result = OnOk result (AddsPointIn r src i cursor.block old new before clusters)
 
--- The points of the blocks that a cursor has left are these, where its file is told.
+-- The result is the points of the remaining blocks of a cursor, if the content of its file is visible to the proof.
 abbrev pub ReadsLeft : {S : Type 0} → Ghosts S → S → Indexing → Clusters → Reading → Result (List Point) OutlineEnd → Type 0
 ReadsLeft r src i clusters cursor result = IfTold r src cursor.file (λ bytes. (list : List Header)
     → HasComeTo bytes list clusters → BlocksAscend clusters.reached (blocks_of (left_of bytes cursor))
     → ReadsPoints (points_in i list (left_of bytes cursor)) result)
 
--- The points of a file with this outline and these trees are these, where it is told.
+-- The result is the points of a file with this outline and these trees, if the content is visible to the proof.
 abbrev pub ReadsAll : {S : Type 0} → Ghosts S → S → FileId → FileOutline → Trees → Result (List Point) OutlineEnd → Type 0
 ReadsAll r src file outline trees result = IfTold r src file (λ bytes. (held : ℕ) → outline_in held bytes ≡ Ok outline
     → trees_of bytes outline.segment ≡ Ok trees → ReadsPoints (points_of bytes outline.segment trees.tracks) result)

@@ -1,4 +1,4 @@
-//! The Cluster in which a block stands: RFC 9559, section 5.1.3 (Cluster Element).
+//! The Cluster that contains a block: RFC 9559, section 5.1.3 (Cluster Element).
 
 ghost use Rattle.std.specs.Prelude.{◌≡◌, max, IfOk, OnOk};
 ghost use Rattle.mkv_io.specs.Faults.{HasCause, is_failure};
@@ -10,20 +10,20 @@ use element_reader::{Header, LevelOne, Outline};
 use mkv_io::{Failed, FileId, Reads};
 use mkv_schema::ids::CLUSTER;
 
-/// A walk over the Elements of level 1, up to a place.
+/// Walk over the Elements of level 1, up to an offset.
 #[derive(Drop)]
 pub struct Clusters {
     pub level: LevelOne,
-    /// The last Cluster that was passed.
+    /// Last Cluster that was passed.
     pub last: Option<Header>,
-    /// An Element that was looked at and isn't passed yet.
+    /// Element that was read and isn't passed yet.
     pub next: Option<Header>,
-    /// Octets from the start of the file to the place: every Cluster before it is to be passed.
+    /// Offset in the file, in bytes, that the walk has reached: it must pass every Cluster before it.
     pub reached: u64,
 }
 
 impl Clusters {
-    /// None is passed yet.
+    /// Starts a walk, with no Element passed.
     pub fn start(outline: &Outline, file: FileId) -> Clusters
         ensures place { result.level ≡ first_place outline.now.segment outline.now.total file }
         ensures reached { result.reached ≡ 0 }
@@ -37,7 +37,7 @@ impl Clusters {
         }
     }
 
-    // The next Element, which isn't passed yet. After `Failed` the same one is looked for again.
+    // Reads the next Element, which isn't passed yet. After `Failed` the next call reads the same one.
     fn look<R: Reads>(&mut self, src: &mut R) -> Result<Option<Header>, Failed>
         requires { IsReady (live_files R.Reads src.old) self.old }
         ensures exact { IfOk result (LooksAtIn R.Reads src.old self.old self.new) }
@@ -54,7 +54,7 @@ impl Clusters {
         Ok(self.next)
     }
 
-    // Passes the Element that was looked at.
+    // Passes the Element that was read.
     fn pass(&mut self, header: Header)
         ensures { self.new ≡ passed header self.old }
     {
@@ -64,7 +64,7 @@ impl Clusters {
         }
     }
 
-    /// Goes on to a place, or stays where it is already behind it. After `Failed` the walk can be gone on with.
+    /// Advances to offset `at`, or stays if it is already after it. After `Failed` the walk may continue.
     pub fn go_to<R: Reads>(&mut self, src: &mut R, at: u64) -> Result<(), Failed>
         requires { IsReady (live_files R.Reads src.old) self.old }
         ensures exact { OnOk result (HasReachedIn R.Reads src.old self.old self.new) }

@@ -1,4 +1,4 @@
-//! The Cues, RFC 9559, section 5.1.5 (Cues Element), of tracks whose numbers may have 56 bits.
+//! The Cues, RFC 9559, section 5.1.5 (Cues Element), of tracks with numbers of up to 56 bits.
 
 ghost use Rattle.std.specs.Prelude.{◌≡◌, ◌≤◌, ◌^◌, ◌++◌, length, map, option_map, IfOk, IfSome, IsTrue, OnOk};
 ghost use Rattle.mkv_schema.specs.declared.ids.TheConstants.{CUES as CUES_ID};
@@ -17,7 +17,7 @@ use mkv_schema::ids::{
 };
 use std::alloc::{AllocError, Global};
 
-// Adds an Element in as few octets as it takes. More than a file can have can't be held.
+// Appends an Element in its fewest bytes. A body that is too long for a file fails as out of memory.
 fn put_element(out: &mut Bytes, id: u32, body: &[u8]) -> Result<(), AllocError>
     requires { IsTrue (is_id id) }
     ensures { OnOk result (out.new ≡ out.old ++ octets_of (element id body.now)) }
@@ -39,7 +39,7 @@ fn put_uint_element(out: &mut Bytes, id: u32, value: u64) -> Result<(), AllocErr
     put_element(out, id, put_uint(value).as_slice())
 }
 
-// What stands in the CueTrackPositions of a point.
+// Returns the body of the CueTrackPositions of `point`.
 #[tactic(auto, unfolding(ebml_numbers::specs::Number::is_id))]
 fn positions_body(alloc: Global, point: &Point) -> Result<Bytes, AllocError>
     ensures { IfOk result (λ body. body ≡ (positions_element (cue_of point.now)).body) }
@@ -51,7 +51,7 @@ fn positions_body(alloc: Global, point: &Point) -> Result<Bytes, AllocError>
     Ok(body)
 }
 
-// What stands in its CuePoint.
+// Returns the body of the CuePoint of `point`.
 #[tactic(auto, unfolding(ebml_numbers::specs::Number::is_id))]
 fn point_body(alloc: Global, point: &Point) -> Result<Bytes, AllocError>
     ensures { IfOk result (λ body. body ≡ (point_element (cue_of point.now)).body) }
@@ -81,7 +81,8 @@ fn points_body(alloc: Global, points: &[Point]) -> Result<Bytes, AllocError>
     Ok(body)
 }
 
-/// What stands in the Cues of these points; without points there is none. More than a file can have can't be held.
+/// Returns the body of a Cues with `points`, or None without points. A body that is too long for a file fails as out
+/// of memory.
 pub fn cues_body(alloc: Global, points: &[Point]) -> Result<Option<Bytes>, AllocError>
     ensures exact { IfOk result (λ body. option_map (element CUES_ID) body ≡ new_cues (cues_of points.now)) }
     ensures short { IfOk result (λ body. IfSome body (λ octets. length octets ≤ 2 ^ 48)) }

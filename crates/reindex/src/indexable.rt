@@ -1,13 +1,13 @@
-//! What was read of a file that can be indexed.
+//! A file that can be indexed, as it was read.
 
 use crate::point::Point;
 use element_reader::Outline;
 use mkv_io::List;
 
-/// A file that can be indexed.
+/// File that can be indexed.
 #[derive(Drop)]
 pub struct IndexableFile {
     pub outline: Outline,
-    /// The points of its Cues to be.
+    /// Points of its new Cues.
     pub points: List<Point>,
 }

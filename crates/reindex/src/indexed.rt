@@ -1,4 +1,4 @@
-//! A new index that is planned.
+//! The plan of a new index.
 
 use sidecar_edit::Plan;
 
@@ -6,6 +6,6 @@ use sidecar_edit::Plan;
 #[derive(Drop)]
 pub struct Indexed {
     pub plan: Plan,
-    /// How many points its Cues has.
+    /// Number of points of its Cues.
     pub cues: u64,
 }

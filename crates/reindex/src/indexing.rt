@@ -1,4 +1,4 @@
-//! Which blocks get a point, and which.
+//! Selection of the blocks that get a point, and their points.
 
 ghost use Rattle.std.specs.Prelude.{◌≡◌, ◌≤◌, ◌==◌, is_some, not, unwrap_or};
 ghost use Rattle.std.specs.List.{list_any};
@@ -12,18 +12,18 @@ use cluster_reader::Cursor;
 use element_reader::Header;
 use mkv_io::List;
 
-/// By what the points of a file are made.
+/// Data of a file that determine its points.
 #[derive(Drop)]
 pub struct Indexing {
-    /// The numbers of the tracks whose blocks get points.
+    /// Numbers of the tracks whose blocks get points.
     pub tracks: List<u64>,
-    /// Nanoseconds a tick.
+    /// Duration of a tick in nanoseconds.
     pub scale: u64,
-    /// Octets from the start of the file to the Segment's body.
+    /// Offset of the Segment's body in the file, in bytes.
     pub base: u64,
 }
 
-// Nanoseconds from the start on, 0 where a time stands before it.
+// Returns `time` in nanoseconds, or 0 if it is before the start.
 fn since_start(time: i64) -> u64
     ensures { result ≡ unwrap_or (since_start time) 0 }
 {
@@ -37,14 +37,14 @@ fn is_before_start(time: i64) -> bool
 }
 
 impl Indexing {
-    // Whether the blocks of the track of a number get points.
+    // Checks whether the blocks of the track with this number get points.
     fn has(&self, number: u64) -> bool
         ensures { result ≡ list_any (λ n. n == number) self.now.tracks }
     {
         self.tracks.as_slice().iter().any(|n| *n == number)
     }
 
-    /// Whether the block that a cursor gave gets a point.
+    /// Checks whether the current block of `cursor` gets a point.
     pub fn is_indexed(&self, cursor: &Cursor) -> bool
         ensures { result ≡ spec.is_indexed self.now.tracks (block_of cursor.now.block) }
     {
@@ -52,7 +52,7 @@ impl Indexing {
         head.key && !is_before_start(head.time) && self.has(head.track)
     }
 
-    /// The point of the block that a cursor gave, in this Cluster.
+    /// Makes the point of the current block of `cursor`, which is in `cluster`.
     pub fn point(&self, cursor: &Cursor, cluster: &Header) -> Point
         requires { 1 ≤ self.now.scale }
         ensures { cue_of result ≡ spec.point_in self.now.scale self.now.base (block_of cursor.now.block) cluster.now }

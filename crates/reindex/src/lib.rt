@@ -1,7 +1,7 @@
 #![tactic(auto)]
 
-//! The index of a file that stands already: which of its blocks get a cue point, and where each stands (RFC 9559,
-//! sections 5.1.5, Cues Element, and 16, Segment Position).
+//! The index of an existing file: the blocks that get a cue point, and their places (RFC 9559, sections 5.1.5, Cues
+//! Element, and 16, Segment Position).
 
 mod clusters;
 mod cues;

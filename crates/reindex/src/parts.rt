@@ -16,7 +16,7 @@ use mkv_io::Bytes;
 use mkv_schema::ids::CUES;
 use std::alloc::{AllocError, Global};
 
-// A Cues with this body, or none, where an old one has so much room.
+// Makes the part for a Cues with this body, or without one, if an old Cues has `room` bytes.
 #[tactic(auto, unfolding(ebml_numbers::specs::Number::is_id))]
 fn cues_part(place: u64, room: u64, body: Option<Bytes>) -> Part
     requires short { IfSome body (λ octets. length octets ≤ 2 ^ 48) }
@@ -32,7 +32,8 @@ fn cues_part(place: u64, room: u64, body: Option<Bytes>) -> Part
     }
 }
 
-/// The Cues of these points, where the old one stands or nowhere yet. Without points the old one goes.
+/// Returns the Cues with `points`, at the place of the old Cues if there is one. Without points the old Cues is
+/// removed.
 pub fn cues_parts(
     alloc: Global,
     outline: &Outline,

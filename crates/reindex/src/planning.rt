@@ -1,4 +1,4 @@
-//! What a new index writes to a file.
+//! The writes of a new index.
 
 ghost use Rattle.std.specs.Prelude.{◌≡◌, ◌≤◌, ◌+◌, ◌*◌, length, map, IfOk, Ok};
 ghost use Rattle.mkv_io.specs.Faults.{HasCause};
@@ -27,10 +27,10 @@ use mkv_schema::ids::{ATTACHMENTS, CHAPTERS, CUES, INFO, TAGS, TRACKS};
 use sidecar_edit::{KEPT, Plan, read_first};
 use std::alloc::Global;
 
-/// All that a SeekHead tells of once the index is new.
+/// IDs that have Seeks in the SeekHead of a new index.
 const INDEXED: [u32; 6] = [INFO, TRACKS, ATTACHMENTS, CUES, CHAPTERS, TAGS];
 
-// Why there is no plan, where a file can't be read.
+// Returns the reason why there is no plan, if a file can't be read.
 fn plan_end(end: OutlineEnd) -> PlanEnd
     ensures exact { result ≡ ends_as end }
     ensures cause { is_plan_fault result ≡ is_outline_fault end }
@@ -42,7 +42,7 @@ fn plan_end(end: OutlineEnd) -> PlanEnd
     }
 }
 
-// The outline of a file that can be indexed, and its points.
+// Reads the outline of a file that can be indexed, and its points.
 fn find<R: Reads>(alloc: Global, src: &mut R, file: FileId) -> Result<IndexableFile, OutlineEnd>
     requires { IsLive R.Reads src.old file }
     ensures exact { IfTold R.Reads src.old file (λ bytes. IsFound bytes result) }
@@ -57,7 +57,7 @@ fn find<R: Reads>(alloc: Global, src: &mut R, file: FileId) -> Result<IndexableF
     Ok(IndexableFile { outline, points })
 }
 
-// The Cues of its points and the SeekHead, by ascending places, or what refuses them.
+// Returns the writes of the Cues and the SeekHead, by ascending places, or their refusal.
 fn writes_of<R: Reads>(
     alloc: Global,
     found: &IndexableFile,
@@ -83,7 +83,7 @@ fn writes_of<R: Reads>(
     parts_writes(alloc, &rewriting, outline, parts.as_slice(), src, file)
 }
 
-// The record of some writes over a medium.
+// Returns the record of `writes` over the file on `disk`.
 fn plan_of<D: Disk>(alloc: Global, disk: &mut D, writes: &[Write]) -> Result<Plan, PlanEnd>
     requires { IsLive D.Reads disk.old MEDIA }
     ensures exact { OfReads D.Disk.own disk.old (λ M S. Gives (Ok (spec.recorded M (map written writes.now))) result) }
@@ -100,10 +100,9 @@ fn plan_of<D: Disk>(alloc: Global, disk: &mut D, writes: &[Write]) -> Result<Pla
     Ok(plan)
 }
 
-/// The plan of a new index of a medium: the record of its Cues, one point for each key block of a video or subtitle track,
-/// and of the SeekHead, or the first thing that refuses them. All memory of it is taken here, and nothing is written.
-/// `Memory` is also the answer where what was read comes to writes that no content comes to, as it may where others write
-/// to the file.
+/// Plans a new index of the file on `disk`: returns the record of its Cues and SeekHead, or the first refusal. Each
+/// keyframe of a video or subtitle track gets a point. All memory is taken here, and nothing is written. If others
+/// write to the file meanwhile, the writes may be ones that no content has; the call then fails with `Memory`.
 pub fn plan_index<D: Disk>(alloc: Global, disk: &mut D) -> Result<Indexed, PlanEnd>
     requires { IsLive D.Reads disk.old MEDIA }
     ensures exact { OfReads D.Disk.own disk.old (λ M S. Gives (indexed_of M) result) }

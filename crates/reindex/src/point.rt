@@ -1,14 +1,14 @@
 //! A cue point of a file.
 
-/// Where a block stands: RFC 9559, section 5.1.5 (Cues Element).
+/// Place of a block: RFC 9559, section 5.1.5 (Cues Element).
 #[derive(Clone, Copy, Debug, PartialEq, Eq)]
 pub struct Point {
-    /// Its time in ticks of the file.
+    /// Timestamp of the block in ticks of the file.
     pub tick: u64,
-    /// The TrackNumber of its track, which has up to 56 bits.
+    /// TrackNumber of its track, with up to 56 bits.
     pub track: u64,
-    /// Octets from the Segment's first body octet to its Cluster.
+    /// Bytes from the start of the Segment's body to the block's Cluster.
     pub cluster: u64,
-    /// Octets from the Cluster's first body octet to its SimpleBlock or BlockGroup.
+    /// Bytes from the start of the Cluster's body to the block's SimpleBlock or BlockGroup.
     pub relative: u64,
 }

@@ -1,4 +1,4 @@
-//! The points of a file are read.
+//! Reader of a file's points.
 
 ghost use Rattle.std.specs.Prelude.{◌≡◌, ◌≤◌, ◌*◌, max, length, IfOk};
 ghost use Rattle.mkv_io.specs.Bounds.{ReadsUpTo};
@@ -22,7 +22,7 @@ use mkv_io::{FileId, List, ReadEnd, Reads};
 use output_model::MAX_CUES;
 use std::alloc::Global;
 
-// Adds the point of the block that a cursor gave, where it gets one and there is room.
+// Appends the point of the current block of `cursor`, if it gets one and there is room.
 fn add_point<R: Reads>(
     points: &mut List<Point>,
     by: &Indexing,
@@ -51,7 +51,7 @@ fn add_point<R: Reads>(
     Ok(())
 }
 
-// The points of the blocks that a cursor has left, or the first damage that it has.
+// Collects the points of the remaining blocks of `cursor`, or fails with the first damage.
 fn collect<R: Reads>(
     alloc: Global,
     by: &Indexing,
@@ -80,8 +80,8 @@ fn collect<R: Reads>(
     }
 }
 
-/// The points of a file with this outline and these trees, in the order of its blocks, or the first of its damages.
-/// There are 1,048,576 at most; behind them only damages count.
+/// Reads the points of a file with this outline and these trees, in the order of its blocks. It fails with the first
+/// damage. After 1,048,576 points it only checks for damage.
 pub fn read_points<R: Reads>(
     alloc: Global,
     outline: &Outline,

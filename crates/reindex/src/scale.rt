@@ -1,4 +1,4 @@
-//! The scale of a file that is indexed.
+//! The TimestampScale of a file that is indexed.
 
 ghost use Rattle.std.specs.Prelude.{◌≡◌, ◌≤◌, IfSome, Ok};
 ghost use Rattle.mkv_schema.specs.declared.ids.TheConstants.{INFO};
@@ -8,7 +8,7 @@ ghost use Rattle.meta_records.specs.Records.{good_info, scale_of_info};
 use ebml_tree::Tree;
 use meta_records::{DEFAULT_SCALE, read_info};
 
-/// Nanoseconds a tick of a file whose first Info this is, which nothing refuses.
+/// Returns the nanoseconds of a tick of a file with this first Info, which isn't refused.
 pub fn scale_of(info: &Option<Tree>) -> u64
     requires { IfSome info.now (IsRead INFO) }
     ensures value { good_info info.now ≡ Ok info.now → result ≡ scale_of_info info.now }

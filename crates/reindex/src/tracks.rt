@@ -31,7 +31,7 @@ fn number_of(track: &Tree) -> u64
     uint_in(track, TRACK_NUMBER)
 }
 
-// Whether an Element of Tracks is the TrackEntry of a track whose blocks get points.
+// Checks whether an Element of Tracks is the TrackEntry of a track whose blocks get points.
 #[tactic(auto, using(edit_changes::proofs::SelectLemmas::entries))]
 fn is_indexed_track(tree: &Tree) -> bool
     requires { StandsIn TRACKS_ID tree.now }
@@ -44,7 +44,7 @@ fn is_indexed_track(tree: &Tree) -> bool
     kind == VIDEO_TRACK || kind == SUBTITLE_TRACK
 }
 
-// The number of such a track; of another Element of Tracks none.
+// Returns the number of a track whose blocks get points, or None for another Element.
 #[tactic(auto, using(edit_changes::proofs::SelectLemmas::entries))]
 fn indexed_number(tree: &Tree) -> Option<u64>
     requires { StandsIn TRACKS_ID tree.now }
@@ -57,7 +57,7 @@ fn indexed_number(tree: &Tree) -> Option<u64>
     }
 }
 
-/// The numbers of the tracks whose blocks get points, among what stands in Tracks.
+/// Returns the numbers of the tracks whose blocks get points, among the children of Tracks.
 pub fn indexed_tracks(alloc: Global, tracks: &[Tree]) -> Result<List<u64>, AllocError>
     requires { All (StandsIn TRACKS_ID) tracks.now }
     ensures { IfOk result (λ numbers. numbers ≡ spec.indexed_tracks tracks.now) }

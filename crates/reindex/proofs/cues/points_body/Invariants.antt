@@ -1,4 +1,4 @@
--- What was added, with what is left, is the whole.
+-- The bytes that were appended and the bytes of the rest are the whole.
 use Rattle.std.proofs.Common.{◌≡◌, ◌++◌, map, drop}
 use Rattle.output_model.specs.Cues.{point_element}
 use Rattle.output_model.specs.Element.{joined}

@@ -1,4 +1,4 @@
--- What was read comes to the index.
+-- The result is the index of the file that was read.
 use Rattle.std.proofs.Common.{◌∙◌, Err, List, ap, map, subst, sym}
 use Rattle.std.proofs.lemmas.List.{length-map}
 use Rattle.std.proofs.lemmas.Result.{err_from_is_err_and}

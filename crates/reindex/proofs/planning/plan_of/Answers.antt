@@ -1,4 +1,4 @@
--- What was read of the medium is its mark.
+-- The bytes that were read are the mark of the file.
 use Rattle.std.proofs.Common.{◌∙◌, ap, sym, take, map}
 use Rattle.edit_plan.specs.Shown.{written}
 use Rattle.reindex.proofs.IndexLemmas.{recorded-is}

@@ -1,4 +1,4 @@
--- The parts are those of the points, and the outline is one of a file.
+-- The part is the Cues with the points, and the outline is a file's.
 use Rattle.std.proofs.Common.{◌≡◌, ◌≤◌, true, List, length, map, None, Result, sym, ◌∙◌, ap, subst, arith}
 use Rattle.mkv_io.specs.declared.outside.TheConstants.{LONGEST_FILE}
 use Rattle.mkv_schema.specs.Value.{first_of}

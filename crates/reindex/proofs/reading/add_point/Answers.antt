@@ -1,4 +1,4 @@
--- A point is added, or none.
+-- A point is appended, or none.
 use Rattle.std.proofs.Common.{◌≡◌, max, true, false, ◌∙◌, ap, arith}
 use Rattle.block_reader.specs.Buffered.{block_of}
 use Rattle.block_reader.specs.declared.head.BlockHead.{BlockHead}
@@ -8,7 +8,7 @@ use Rattle.reindex.proofs.PointsLemmas.{adds-full, adds-none, adds-one, kept-bef
 use Rattle.reindex.proofs.reading.add_point.Goals as goal
 use Rattle.reindex.proofs.reading.add_point.Goals.{then-len-ge-MAX_CUES-via-then-len-ge-MAX_CUES, then-len-ge-MAX_CUES-via-else-len-ge-MAX_CUES+then-not-is_indexed}
 
--- there is no room, or the block gets none
+-- There is no room, or the block has no point.
 pub returns-then-len-ge-MAX_CUES-clause-adds : goal.returns-then-len-ge-MAX_CUES-clause-adds
 returns-then-len-ge-MAX_CUES-clause-adds g c = λ bytes told list come before.
     let b = block_of c.args.cursor.now.block in
@@ -43,7 +43,7 @@ returns-in_ok-push-clause-adds g c = λ bytes told list come before.
           (points_for-one c.args.by.now list b c.in-Some.cluster c.point.result is (kept-before list c.go_to.new.self c.args.clusters.now.reached b.offset gone.last reached before ∙ c.in-Some.is) c.point.ensures) (omega arith);
     }
 
--- it stands in no Cluster
+-- The block is in no Cluster.
 pub returns-in_default-clause-adds : goal.returns-in_default-clause-adds
 returns-in_default-clause-adds g c = λ bytes told list come before.
     let b = block_of c.args.cursor.now.block in

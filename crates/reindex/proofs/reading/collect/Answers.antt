@@ -1,4 +1,4 @@
--- The points of the blocks that were passed, one after the other.
+-- The points of the blocks that were passed, in sequence.
 use Rattle.std.proofs.Common.{length, refl, sym, ◌∙◌, ap, subst, arith}
 use Rattle.mkv_io.specs.declared.outside.FileId.{FileId}
 use Rattle.mkv_io.specs.LiveFiles.{LiveFiles}
@@ -22,7 +22,7 @@ steps-init g c =
       pays = omega arith;
     }
 
--- a block was given
+-- A block was read.
 pub steps-preserved : goal.steps-preserved
 steps-preserved g c =
     let so = c.steps.invariant in
@@ -49,7 +49,7 @@ steps-preserved g c =
       pays = paid_both.pays;
     }
 
--- none is left
+-- No block is left.
 pub returns-in-End-clause-exact : goal.returns-in-End-clause-exact
 returns-in-End-clause-exact g c = λ bytes told list come ascend.
     let so = c.steps.invariant in

@@ -1,4 +1,4 @@
--- The points are those of the blocks that were passed, and what was read is paid by both ways.
+-- The points are the points of the blocks passed, and both walks account for the bytes that were read.
 use Rattle.std.proofs.Common.{◌≡◌, ◌≤◌, ◌+◌, ◌-◌, length}
 use Rattle.mkv_io.specs.Told.{IfVisible}
 use Rattle.elements.specs.Window.{HasNotPassed, end_ahead}

@@ -1,4 +1,4 @@
--- What is left of a file at its start is the file, whose blocks ascend.
+-- The rest of a file at its start is the file, and its blocks ascend.
 use Rattle.std.proofs.Common.{ℕ, List, sym, ◌∙◌, ap, subst}
 use Rattle.mkv_io.specs.declared.outside.FileId.{FileId}
 use Rattle.mkv_schema.specs.Outline.{segment_run}

@@ -1,4 +1,4 @@
--- The numbers so far, with those of what is left, are those of all.
+-- All numbers are the numbers that were found and the numbers of the rest.
 use Rattle.std.proofs.Common.{◌≡◌, ◌++◌, drop}
 use Rattle.reindex.specs.Points.{indexed_tracks}
 use Rattle.reindex.proofs.tracks.indexed_tracks.Given as goal

@@ -1,4 +1,4 @@
--- The walk goes on, and stops where the next Element doesn't stand before the place.
+-- The walk advances, and stops if the next Element isn't before the offset.
 use Rattle.std.proofs.Common.{◌≡◌, refl, sym, ◌∙◌, ap, subst, arith}
 use Rattle.mkv_io.specs.declared.outside.FileId.{FileId}
 use Rattle.elements.specs.Window.{MovesTo}
@@ -31,7 +31,7 @@ passing-preserved g c =
           subst P (sym level) (MovesTo-then _ _ c.passing.self.level.at c.look.new.self.level.at c.args.self.now.level.ahead c.passing.self.level.ahead c.look.new.self.level.ahead _ _ _ size (so.moves place) look.goes);
     }
 
--- the next Element stands at the place or behind it
+-- The next Element is at the offset or after it.
 pub returns-then-header-self-clause-exact : goal.returns-then-header-self-clause-exact
 returns-then-header-self-clause-exact g c = λ bytes told list come.
     let so = c.passing.invariant in
@@ -43,7 +43,7 @@ returns-then-header-self-clause-exact g c = λ bytes told list come.
     (so.come bytes told list (HasComeTo-later bytes list c.args.self.now _ come refl refl refl (omega arith))) (look.exact bytes (same ∙ told)) look.kept)
     (look.next.next ∙ c.in-Some.is) c.if-header-self.true
 
--- none is left
+-- No Element is left.
 pub returns-in_default-clause-exact : goal.returns-in_default-clause-exact
 returns-in_default-clause-exact g c = λ bytes told list come.
     let so = c.passing.invariant in

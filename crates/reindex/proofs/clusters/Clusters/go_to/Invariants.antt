@@ -1,4 +1,4 @@
--- The Elements that were passed stand before the place, and what was read is paid by the way.
+-- The Elements that were passed are before the offset, and the distance accounts for the bytes that were read.
 use Rattle.std.proofs.Common.{◌≡◌, ◌≤◌, List}
 use Rattle.mkv_io.specs.Told.{IfVisible}
 use Rattle.mkv_schema.specs.declared.element.Header.{Header}

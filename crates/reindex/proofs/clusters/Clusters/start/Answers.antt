@@ -1,4 +1,4 @@
--- None is passed yet.
+-- No Element is passed yet.
 use Rattle.std.proofs.Common.{refl}
 use Rattle.mkv_schema.specs.Outline.{segment_bound, segment_run}
 use Rattle.mkv_schema.proofs.ElementsLemmas.{level_1-ascends}
