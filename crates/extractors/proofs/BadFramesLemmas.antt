@@ -1,4 +1,4 @@
--- The frames that aren't written, told one after the other.
+-- The frames that aren't written, reported in sequence.
 use Rattle.std.proofs.Common.{◌≡◌, ◌==◌, ℕ, suc, ◌+◌, ◌<◌, ◌≤◌, is_none, Bool, true, false, if◌then◌else◌, List, [], ◌∷◌, ◌++◌, length, take, drop, get_or, map, Some, None, Result, Ok, Err, OnOk, refl, sym, ◌∙◌, ap, subst, arith, append_assoc, append-nil}
 use Rattle.std.specs.List.{All, filter, find}
 use Rattle.std.proofs.Math.Seq.{drop-cons}
@@ -20,16 +20,16 @@ use Rattle.extractors.specs.declared.extracted.Extracted.{Extracted}
 use Rattle.extractors.specs.declared.track_output.TrackOutput.{TrackOutput}
 pub use Rattle.lemmas.proofs.PlainLemmas.{OnOk-map as OnOk-then}
 
--- what holds is so after a call, whatever it answers
+-- A fact holds after a call, whatever its result.
 pub OnOk-holds : {T E X : Type 0} (result : Result T E) → X → OnOk result X
 OnOk-holds (Ok done) holds = holds
 OnOk-holds (Err end) holds = tt
 
--- what is told is told of a file
+-- A report with the damage and the bad frames of a file is its report.
 pub told_of-is : (list : List TrackOutput) (events : List Event) (told : Extracted) → told.damages ≡ told_damages (damages_of events) → told.bad_frames ≡ told_damages (bad_frames list (blocks_of events)) → told ≡ told_of list events
 told_of-is list events told damages bad = λ i. record { damages = damages i; bad_frames = bad i }
 
--- an output that is found is one of them
+-- An output that is found is in the list.
 pub found-holds : (P : TrackOutput → Type 0) (list : List TrackOutput) (test : TrackOutput → Bool) (o : TrackOutput) → find test list ≡ Some o → All P list → P o
 found-holds P [] test o found each = absurd (cc)
 found-holds P (x ∷ xs) test o found each = split (test x) (λ is. found-holds P xs test o is (λ k d below. each (suc k) d (omega arith))) found
@@ -38,7 +38,7 @@ found-holds P (x ∷ xs) test o found each = split (test x) (λ is. found-holds 
     split true behind is = let same : x ≡ o = cc in subst P same (each 0 x (omega arith))
     split false behind is = behind is
 
--- and passes the test
+-- An output that is found passes the test.
 pub found-passes : (list : List TrackOutput) (test : TrackOutput → Bool) (o : TrackOutput) → find test list ≡ Some o → test o ≡ true
 found-passes [] test o found = absurd (cc)
 found-passes (x ∷ xs) test o found = split (test x) refl (found-passes xs test o) found
@@ -47,13 +47,13 @@ found-passes (x ∷ xs) test o found = split (test x) refl (found-passes xs test
     split true passes behind is = let same : x ≡ o = cc in ap test (sym same) ∙ passes
     split false passes behind is = behind is
 
--- ---- what is known of a block
+-- ---- the known part of a block
 
--- the bad frames of a block in a form, where so much was taken from their front
+-- the bad frames of a block in a form, with the bytes `prefix` removed from their start
 abbrev bad_as : FrameForm → List ℕ → Block → List Damage
 bad_as kind prefix b = map (λ (octets : List ℕ). bad_frame b) (filter (λ (octets : List ℕ). is_none (written_of kind 1 (untimed octets) (prefix ++ octets))) b.frames)
 
--- where times are written none is bad
+-- In the form of timestamps no frame is bad.
 none-bad : (d : Damage) (prefix : List ℕ) (frames : List (List ℕ)) → map (λ (octets : List ℕ). d) (filter (λ (octets : List ℕ). is_none (written_of form.Time 1 (untimed octets) (prefix ++ octets))) frames) ≡ []
 none-bad d prefix [] = refl
 none-bad d prefix (f ∷ fs) = none-bad d prefix fs
@@ -65,7 +65,7 @@ bad-same (form.AnnexB w) prefix b lent is = ap (bad_as (form.AnnexB w) prefix) (
 bad-same (form.Adts aac) prefix b lent is = ap (bad_as (form.Adts aac) prefix) (sym is)
 bad-same form.Time prefix b lent known = none-bad (bad_frame (block_of lent)) prefix (block_of lent).frames ∙ sym (none-bad (bad_frame b) prefix b.frames)
 
--- the bad frames of the block are those of what is lent, for the output that takes it
+-- The bad frames of a block are the bad frames of its buffered part, for the output that takes it.
 pub bad_in-lent : (list : List TrackOutput) (o : TrackOutput) (b : Block) (lent : Buffered) → find (λ (x : TrackOutput). x.track == lent.head.track) list ≡ Some o → IsEnoughForAll list b lent → bad_for (block_of lent) (Some o) ≡ bad_in list b
 bad_in-lent list o b lent found enough =
     let is : lent.head.track ≡ o.track = sym (eqb-true _ _ (found-passes list (λ (x : TrackOutput). x.track == lent.head.track) o found)) in
@@ -73,11 +73,11 @@ bad_in-lent list o b lent found enough =
     bad-same o.form o.prefix b lent own
     ∙ ap (bad_for b) (sym (ap (λ (track : ℕ). find (λ (x : TrackOutput). x.track == track) list) enough.track ∙ found))
 
--- there are none where no output takes it
+-- If no output takes the block, it has no bad frames.
 pub bad_in-none : (list : List TrackOutput) (b : Block) (lent : Buffered) → find (λ (x : TrackOutput). x.track == lent.head.track) list ≡ None → IsEnoughForAll list b lent → [] ≡ bad_in list b
 bad_in-none list b lent found enough = ap (bad_for b) (sym (ap (λ (track : ℕ). find (λ (x : TrackOutput). x.track == track) list) enough.track ∙ found))
 
--- ---- one after the other
+-- ---- one report after another
 
 pub TellsMore-none : (told : ToldDamages) → TellsMore told told []
 TellsMore-none told = λ list is. is ∙ ap told_damages (sym (append-nil list))
@@ -88,9 +88,9 @@ TellsMore-one old new d adds = λ list is. adds ∙ ap (λ (t : ToldDamages). wi
 pub TellsMore-then : (a b c : ToldDamages) (first next : List Damage) → TellsMore a b first → TellsMore b c next → TellsMore a c (first ++ next)
 TellsMore-then a b c first next one two = λ list is. two (list ++ first) (one list is) ∙ ap told_damages (append_assoc list first next)
 
--- ---- in a loop
+-- ---- reports in a loop
 
--- Of all that is told that was told which stands before what is left.
+-- The first part of `all` was reported; `left` remains.
 pub record ToldUpTo (old now : ToldDamages) (all left : List Damage) : Type 0 where
   pub done : List Damage
   pub whole : all ≡ done ++ left
@@ -103,18 +103,18 @@ pub ToldUpTo-ends : (old now : ToldDamages) (all left : List Damage) → ToldUpT
 ToldUpTo-ends old now all left upto none = λ list is.
     upto.told list is ∙ ap (λ (ds : List Damage). told_damages (list ++ ds)) (sym (upto.whole ∙ ap (λ (ds : List Damage). upto.done ++ ds) none ∙ append-nil upto.done))
 
--- the bad frames that are left of a block, from the i-th frame on
+-- the remaining bad frames of a block, from frame `i` on
 pub bad_left : TrackOutput → Damage → List ℕ → List ℕ → ℕ → ℕ → List Damage
 bad_left o d sizes body i at = map (λ (octets : List ℕ). d) (filter (is_bad o) (frames_cut (drop i sizes) (drop at body)))
 
--- at first those of the whole block
+-- At first all bad frames of the block remain.
 pub bad_left-block : (o : TrackOutput) (sizes body : List ℕ) (b : Buffered) → sizes ≡ b.sizes → body ≡ b.body → bad_left o (bad_frame (block_of b)) sizes body 0 0 ≡ bad_for (block_of b) (Some o)
 unfolding bad_left
 bad_left-block o sizes body b cut octets =
     ap (λ (ss : List ℕ). map (λ (octets : List ℕ). bad_frame (block_of b)) (filter (is_bad o) (frames_cut ss body))) cut
     ∙ ap (λ (os : List ℕ). map (λ (octets : List ℕ). bad_frame (block_of b)) (filter (is_bad o) (frames_cut b.sizes os))) octets
 
--- and at last none
+-- At the end no bad frames remain.
 pub bad_left-none : (o : TrackOutput) (d : Damage) (sizes body : List ℕ) (i at : ℕ) → length sizes ≤ i → bad_left o d sizes body i at ≡ []
 unfolding bad_left
 bad_left-none o d sizes body i at all = ap (λ (ss : List ℕ). map (λ (octets : List ℕ). d) (filter (is_bad o) (frames_cut ss (drop at body)))) (drop_all i sizes all)
@@ -137,7 +137,7 @@ bad_left-step o d sizes body i at size below is =
     one_more : (k : ℕ) → suc k ≡ k + 1
     one_more k = omega arith
 
--- a bad frame is told
+-- A bad frame is reported.
 ToldUpTo-bad : (old now new : ToldDamages) (all : List Damage) (o : TrackOutput) (d : Damage) (sizes body : List ℕ) (i at size : ℕ) → i < length sizes → size ≡ get_or sizes i 0 → is_bad o (take size (drop at body)) ≡ true → ToldUpTo old now all (bad_left o d sizes body i at) → new ≡ with_damage now d → ToldUpTo old new all (bad_left o d sizes body (i + 1) (at + size))
 ToldUpTo-bad old now new all o d sizes body i at size below is bad upto adds = record {
   done = upto.done ++ d ∷ [];
@@ -150,7 +150,7 @@ ToldUpTo-bad old now new all o d sizes body i at size below is bad upto adds = r
   told = TellsMore-then old now new upto.done (d ∷ []) upto.told (TellsMore-one now new d adds);
 }
 
--- another is passed
+-- Another frame is passed.
 ToldUpTo-good : (old now : ToldDamages) (all : List Damage) (o : TrackOutput) (d : Damage) (sizes body : List ℕ) (i at size : ℕ) → i < length sizes → size ≡ get_or sizes i 0 → is_bad o (take size (drop at body)) ≡ false → ToldUpTo old now all (bad_left o d sizes body i at) → ToldUpTo old now all (bad_left o d sizes body (i + 1) (at + size))
 ToldUpTo-good old now all o d sizes body i at size below is good upto = record {
   done = upto.done;
@@ -162,7 +162,7 @@ ToldUpTo-good old now all o d sizes body i at size below is good upto = record {
   told = upto.told;
 }
 
--- either way the next frame is seen
+-- In both cases the next frame was checked.
 pub ToldUpTo-next : (old now new : ToldDamages) (all : List Damage) (o : TrackOutput) (d : Damage) (sizes body : List ℕ) (i at size : ℕ) (bad : Bool) → i < length sizes → size ≡ get_or sizes i 0 → bad ≡ is_bad o (take size (drop at body)) → ToldUpTo old now all (bad_left o d sizes body i at) → new ≡ (if bad then with_damage now d else now) → ToldUpTo old new all (bad_left o d sizes body (i + 1) (at + size))
 ToldUpTo-next old now new all o d sizes body i at size true below is seen upto adds = ToldUpTo-bad old now new all o d sizes body i at size below is (sym seen) upto adds
 ToldUpTo-next old now new all o d sizes body i at size false below is seen upto adds =

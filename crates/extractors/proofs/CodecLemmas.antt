@@ -1,4 +1,4 @@
--- What is read of a track can be written, and bad frames are named block by block.
+-- The coding of a track can be written, and bad frames are reported block by block.
 use Rattle.std.proofs.Common.{◌≡◌, ℕ, ◌+◌, ◌<◌, ◌≤◌, nat_le, length, unwrap_or, arith, length-append, true, false, List, [], ◌∷◌, ◌++◌, append-nil, Option, None, Some, Result, Ok, Err, inl, inr, refl, sym, ◌∙◌, ap, subst}
 use Rattle.std.specs.Str.{bytes_eq}
 use Rattle.std.proofs.lemmas.Bool.{cases_Bool, cond-true, cond-false}
@@ -23,7 +23,7 @@ use Rattle.requests.specs.declared.job.Form.{Form}
 use Rattle.requests.specs.declared.job.Form.TheVariants as asked
 use Rattle.extractors.specs.declared.track_output.TrackOutput.{TrackOutput}
 
--- a coding that is another
+-- Equal codings have the same form.
 same-form : (a b : Coding) → ◌≡◌ {A = Result Coding UnsupportedTrack} (Ok a) (Ok b) → CanWrite a.form → CanWrite b.form
 same-form a b is can =
     let same : a ≡ b = cc in
@@ -56,14 +56,14 @@ codec-can codec private coding is =
       ]
     ]
 
--- what is taken of a track can be written
+-- The coding of a track can be written.
 pub coding_of-can : (kind : Form) (entry : Node) (coding : Coding) → coding_of kind entry ≡ Ok coding → CanWrite coding.form
 coding_of-can asked.Raw entry coding is = same-form _ coding is tt
 coding_of-can asked.Full entry coding is = same-form _ coding is tt
 coding_of-can asked.ByCodec entry coding is = codec-can (codec_of entry) (private_of entry) coding is
 coding_of-can asked.Times entry coding is = same-form _ coding is tt
 
--- a frame that isn't too long is written behind its header
+-- A frame that isn't too long is written after its header.
 pub adts-good : (aac : Aac) (prefix octets : List ℕ) (n : ℕ) → n ≡ length prefix + length octets → n ≤ longest_frame → unwrap_or (adts aac (prefix ++ octets)) [] ≡ adts_header aac (7 + n) ++ (prefix ++ octets)
 adts-good aac prefix octets n is few =
     let long : length (prefix ++ octets) ≡ n = length-append prefix octets ∙ sym is in
@@ -71,14 +71,14 @@ adts-good aac prefix octets n is few =
     ap (λ (written : Option (List ℕ)). unwrap_or written []) (cond-true (nat_le (length (prefix ++ octets)) longest_frame) _ _ test)
     ∙ ap (λ (k : ℕ). adts_header aac (7 + k) ++ (prefix ++ octets)) long
 
--- and nothing of one that is
+-- A frame that is too long writes nothing.
 pub adts-bad : (aac : Aac) (prefix octets : List ℕ) → longest_frame < length prefix + length octets → unwrap_or (adts aac (prefix ++ octets)) [] ≡ []
 adts-bad aac prefix octets long =
     let len = length-append prefix octets in
     let test : nat_le (length (prefix ++ octets)) longest_frame ≡ false = grind (arith, nat_tests, len, long) in
     ap (λ (written : Option (List ℕ)). unwrap_or written []) (cond-false (nat_le (length (prefix ++ octets)) longest_frame) _ _ test)
 
--- the bad frames of a further block stand behind the others
+-- The bad frames of a further block come after the others.
 pub bad_frames-more : (list : List TrackOutput) (blocks : List Block) (b : Block) → bad_frames list (blocks ++ b ∷ []) ≡ bad_frames list blocks ++ bad_in list b
 bad_frames-more list blocks b =
     flat_map-append (bad_in list) blocks (b ∷ []) ∙ ap (λ (x : List Damage). bad_frames list blocks ++ x) (append-nil (bad_in list b))

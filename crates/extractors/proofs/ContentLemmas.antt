@@ -1,4 +1,4 @@
--- What outputs have of blocks, one part after the other.
+-- The content of outputs, one part after another.
 use Rattle.std.proofs.Common.{◌≡◌, ℕ, suc, ◌+◌, List, [], ◌∷◌, ◌++◌, length, Option, Some, unwrap_or, refl, sym, ◌∙◌, ap, arith, append_assoc, append-nil}
 use Rattle.std.proofs.lemmas.Grind.{flat_map-append}
 use Rattle.block_format.specs.Block.{Block}
@@ -11,7 +11,7 @@ use Rattle.text_formats.specs.Writing.{put_srt}
 use Rattle.extractors.specs.Frames.{Frame, frames_for, frames_of}
 use Rattle.extractors.specs.declared.track_output.TrackOutput.{TrackOutput}
 
--- the numbers of further frames go on behind those of the first
+-- The numbers of further frames continue after the first frames.
 pub entries_from-behind : (o : TrackOutput) (n : ℕ) (first more : List Frame) → entries_from o n (first ++ more) ≡ entries_from o n first ++ entries_from o (n + length first) more
 entries_from-behind o n [] more = ap (λ (k : ℕ). entries_from o k more) (plus_none n)
   where
@@ -24,7 +24,7 @@ entries_from-behind o n (f ∷ fs) more =
     one_further : (k j : ℕ) → (k + 1) + j ≡ k + suc j
     one_further k j = omega arith
 
--- a number that stands still is written as itself
+-- A number that has stopped is written as itself.
 written_of-counted : (kind : FrameForm) (n m : ℕ) (f : Frame) (octets : List ℕ) → counted n ≡ counted m → written_of kind n f octets ≡ written_of kind m f octets
 written_of-counted form.Plain n m f octets same = refl
 written_of-counted form.SubRip n m f octets same = ap (λ (k : ℕ). Some (put_srt k f.time f.duration octets)) same
@@ -44,14 +44,14 @@ entries_from-counted o n m (f ∷ fs) same =
     ap (λ (octets : List ℕ). octets ++ entries_from o (n + 1) fs) (entry_of-counted o n m f same)
     ∙ ap (λ (octets : List ℕ). entry_of o m f ++ octets) (entries_from-counted o (n + 1) (m + 1) fs (counted-next n m same))
 
--- what an output has of blocks and of others behind them
+-- The content of blocks and of further blocks.
 pub content_of-behind : (o : TrackOutput) (blocks more : List Block) → content_of o (blocks ++ more) ≡ content_of o blocks ++ entries_from o (1 + length (frames_of o.step o.track blocks)) (frames_of o.step o.track more)
 content_of-behind o blocks more =
     ap (λ (frames : List Frame). o.head ++ entries_of o frames) (flat_map-append (λ (b : Block). frames_for o.step o.track b) blocks more)
     ∙ ap (λ (octets : List ℕ). o.head ++ octets) (entries_from-behind o 1 (frames_of o.step o.track blocks) (frames_of o.step o.track more))
     ∙ sym (append_assoc (o.head) (entries_of o (frames_of o.step o.track blocks)) (entries_from o (1 + length (frames_of o.step o.track blocks)) (frames_of o.step o.track more)))
 
--- an output that is given a further block, where its next frame has this number
+-- A further block is added to an output whose next frame has this number.
 pub output_of-more : (o : TrackOutput) (blocks : List Block) (b : Block) (n : ℕ) → n ≡ counted (1 + length (frames_of o.step o.track blocks)) → with_end (entries_from o n (frames_for o.step o.track b)) (output_of o blocks) ≡ output_of o (blocks ++ b ∷ [])
 output_of-more o blocks b n is =
     ap (λ (content : List ℕ). record { name = o.name; content = content })
@@ -63,7 +63,7 @@ output_of-more o blocks b n is =
     stands : (m : ℕ) → n ≡ counted m → counted n ≡ counted m
     stands m same = omega (arith, same)
 
--- an output of these blocks is a first part of that of these and more
+-- An output of some blocks is a first part of the output with more blocks.
 pub output_of-begun : (o : TrackOutput) (blocks more : List Block) → IsBegun (output_of o blocks) (output_of o (blocks ++ more))
 output_of-begun o blocks more = record {
   name = refl;
@@ -74,11 +74,11 @@ pub outputs_of-begun : (list : List TrackOutput) (blocks more : List Block) → 
 outputs_of-begun [] blocks more = tt
 outputs_of-begun (o ∷ os) blocks more = (output_of-begun o blocks more, outputs_of-begun os blocks more)
 
--- outputs keep their names
+-- Outputs keep their names.
 pub names_of-outputs : (list : List TrackOutput) (blocks : List Block) → names_of (outputs_of list blocks) ≡ names_in list
 names_of-outputs [] blocks = refl
 names_of-outputs (o ∷ os) blocks = ap (λ (names : List (List ℕ)). o.name ∷ names) (names_of-outputs os blocks)
 
--- of no blocks an output has what stands before the first frame
+-- Without blocks an output has the bytes before the first frame.
 pub output_of-none : (o : TrackOutput) → output_of o [] ≡ with_end (o.head) (record { name = o.name; content = [] })
 output_of-none o = ap (λ (content : List ℕ). record { name = o.name; content = content }) (append-nil (o.head))

@@ -1,4 +1,4 @@
--- Octets that are given to one output, one after the other.
+-- Bytes that are added to one output in sequence.
 use Rattle.std.proofs.Common.{◌≡◌, ℕ, zero, suc, ◌+◌, ◌-◌, ◌<◌, ◌≤◌, ◌*◌, ℤ, pos, ◌+ℤ◌, List, [], ◌∷◌, ◌++◌, length, take, drop, get_or, sum, unwrap_or, Result, Ok, Err, IsErr, refl, sym, ◌∙◌, ap, subst, arith, append_assoc, append-nil, w64, to_z, of_z, SFits}
 use Rattle.std.proofs.lemmas.Int.{to_z-of_z}
 use Rattle.std.proofs.Math.Seq.{drop-cons}
@@ -27,43 +27,43 @@ use Rattle.extractors.specs.declared.frame_form.FrameForm.TheVariants as form
 use Rattle.extractors.specs.declared.track_output.TrackOutput.{TrackOutput}
 use Rattle.extractors.proofs.ContentLemmas.{entry_of-counted}
 
--- a frame of these octets, this time and this duration
+-- a frame with these bytes, time and duration
 abbrev pub framed : List ℕ → ℤ → ℕ → Frame
 framed octets time duration = record { octets = octets; time = time; duration = duration }
 
--- whatever was given before, that and these octets were given
+-- The bytes `octets` were added to output `k`.
 abbrev pub HasGiven : {S : Type 0} → Ghosts S → S → S → List Sink → List Sink → ℕ → List ℕ → Type 0
 HasGiven f old new sinks later k octets = (since : Names) (given : List Output) → HaveBeenGiven since (f.names old) (f.holder old) sinks given → HaveBeenGiven since (f.names new) (f.holder new) later (with_more k octets given)
 
--- or they stand in part
+-- A part of the bytes `octets` was added to output `k`.
 abbrev pub HasPart : {S : Type 0} → Ghosts S → S → S → List Sink → ℕ → List ℕ → Type 0
 HasPart f old new sinks k octets = (since : Names) (given : List Output) → HaveBeenGiven since (f.names old) (f.holder old) sinks given → ArePrefixes since (f.names new) (with_more k octets given)
 
--- a refusal leaves a part
+-- A failure leaves a first part.
 pub Gives-err : {S T E : Type 0} (f : Ghosts S) (old new : S) (sinks later : List Sink) (k : ℕ) (octets : List ℕ) (result : Result T E) → IsErr result → HasPart f old new sinks k octets → Gives f old new sinks later (with_more k octets) result
 Gives-err f old new sinks later k octets (Ok done) is part = absurd (cc)
 Gives-err f old new sinks later k octets (Err fault) is part = part
 
--- the first of two calls was refused
+-- The first of two calls failed.
 pub HasPart-first : {S : Type 0} (f : Ghosts S) (old new : S) (sinks : List Sink) (k : ℕ) (first next : List ℕ) → HasPart f old new sinks k first → HasPart f old new sinks k (first ++ next)
 HasPart-first f old new sinks k first next part = λ since given has.
     subst (ArePrefixes since (f.names new)) (with_more-twice k first next given) (ArePrefixes-more since (f.names new) k next (with_more k first given) (part since given has))
 
--- nothing was written
+-- Nothing was written.
 pub HasPart-none : {S : Type 0} (f : Ghosts S) (files : S) (sinks : List Sink) (k : ℕ) (octets : List ℕ) → HasPart f files files sinks k octets
 HasPart-none f files sinks k octets = λ since given has.
     ArePrefixes-more since (f.names files) k octets given (HaveBeenGiven-part since (f.names files) (f.holder files) sinks given has)
 
--- the second was answered
+-- The second call returned.
 pub Gives-then : {S T E : Type 0} (f : Ghosts S) (old mid new : S) (sinks between later : List Sink) (k : ℕ) (first next : List ℕ) (result : Result T E) → HasGiven f old mid sinks between k first → Gives f mid new between later (with_more k next) result → Gives f old new sinks later (with_more k (first ++ next)) result
 Gives-then f old mid new sinks between later k first next (Ok done) has gives = λ since given had.
     subst (HaveBeenGiven since (f.names new) (f.holder new) later) (with_more-twice k first next given) (gives since (with_more k first given) (has since given had))
 Gives-then f old mid new sinks between later k first next (Err fault) has gives = λ since given had.
     subst (ArePrefixes since (f.names new)) (with_more-twice k first next given) (gives since (with_more k first given) (has since given had))
 
--- ---- in a loop
+-- ---- bytes in a loop
 
--- Of all the octets that an output is to be given those up to what is left were given.
+-- The first part of `all` was added to output `k`; `left` remains.
 pub record GivesUpTo {S : Type 0} (f : Ghosts S) (old new : S) (sinks later : List Sink) (k : ℕ) (all left : List ℕ) : Type 0 where
   pub done : List ℕ
   pub whole : all ≡ done ++ left
@@ -77,7 +77,7 @@ GivesUpTo-begins f files sinks k all left is = record {
 }
 
 module _ {S : Type 0} {f : Ghosts S} {old mid : S} {sinks between : List Sink} {k : ℕ} {all before : List ℕ} (so : GivesUpTo f old mid sinks between k all before) (new : S) (later : List Sink) (more left : List ℕ) (is : before ≡ more ++ left) where
-  -- some more of them were given
+  -- More bytes were added.
   pub GivesUpTo-more : HasGiven f mid new between later k more → GivesUpTo f old new sinks later k all left
   GivesUpTo-more gives = record {
     done = so.done ++ more;
@@ -85,29 +85,29 @@ module _ {S : Type 0} {f : Ghosts S} {old mid : S} {sinks between : List Sink} {
     has = λ since given has. subst (HaveBeenGiven since (f.names new) (f.holder new) later) (with_more-twice k so.done more given) (gives since (with_more k so.done given) (so.has since given has));
   }
 
-  -- some more of them were given in part
+  -- More bytes were added in part.
   pub GivesUpTo-stops : {T E : Type 0} (result : Result T E) → IsErr result → HasPart f mid new between k more → Gives f old new sinks later (with_more k all) result
   GivesUpTo-stops result stopped part = Gives-err f old new sinks later k all result stopped (λ since given has.
       subst (ArePrefixes since (f.names new))
       (with_more-twice k more left (with_more k so.done given) ∙ ap (λ (rest : List ℕ). with_more k rest (with_more k so.done given)) (sym is) ∙ with_more-twice k so.done before given ∙ ap (λ (octets : List ℕ). with_more k octets given) (sym so.whole))
       (ArePrefixes-more since (f.names new) k left (with_more k more (with_more k so.done given)) (part since (with_more k so.done given) (so.has since given has))))
 
--- all of them were given
+-- All bytes were added.
 pub GivesUpTo-ends : {S : Type 0} {f : Ghosts S} {old new : S} {sinks later : List Sink} {k : ℕ} {all left : List ℕ} → GivesUpTo f old new sinks later k all left → left ≡ [] → HasGiven f old new sinks later k all
 GivesUpTo-ends {f = f} {new = new} {later = later} {k = k} so none = λ since given has.
     subst (λ (octets : List ℕ). HaveBeenGiven since (f.names new) (f.holder new) later (with_more k octets given)) (sym (so.whole ∙ ap (λ (rest : List ℕ). so.done ++ rest) none ∙ append-nil so.done)) (so.has since given has)
 
--- nothing was to be given
+-- No bytes were to be added.
 pub HasGiven-none : {S : Type 0} (f : Ghosts S) (files : S) (sinks : List Sink) (k : ℕ) (octets : List ℕ) → octets ≡ [] → HasGiven f files files sinks sinks k octets
 HasGiven-none f files sinks k octets none = GivesUpTo-ends (GivesUpTo-begins f files sinks k octets octets refl) none
 
 -- ---- the frames of a block
 
--- what is written of those that are left, from the i-th on, where the first has this number
+-- the written forms of the remaining frames, from frame `i` on; the first frame of the block has number `number`
 pub entries_left : TrackOutput → ℕ → ℕ → ℤ → ℕ → List ℕ → List ℕ → ℕ → ℕ → List ℕ
 entries_left o number step time duration sizes body i at = entries_from o (number + i) (frames_from step time duration i (frames_cut (drop i sizes) (drop at body)))
 
--- the next frame is the first of them
+-- The next frame is the first of the rest.
 entries_left-next : (o : TrackOutput) (number step : ℕ) (time : ℤ) (duration : ℕ) (sizes body : List ℕ) (i at size n : ℕ) (f : Frame) → i < length sizes → size ≡ get_or sizes i 0 → n ≡ counted (number + i) → f ≡ framed (take size (drop at body)) (time +ℤ pos (i * step)) duration → entries_left o number step time duration sizes body i at ≡ entry_of o n f ++ entries_left o number step time duration sizes body (i + 1) (at + size)
 unfolding entries_left
 entries_left-next o number step time duration sizes body i at size n f below is named cut =
@@ -127,7 +127,7 @@ entries_left-next o number step time duration sizes body i at size n f below is 
     stands : (m : ℕ) → n ≡ counted m → counted m ≡ counted n
     stands m same = omega (arith, same)
 
--- as a loop finds it, that cuts it and reckons its time
+-- The same holds for the frame and the time that a loop computes.
 pub entries_left-found : (o : TrackOutput) (number : ℕ) (time : ℤ) (duration : ℕ) (sizes body : List ℕ) (i at n : ℕ) (found : ℤ) → i < length sizes → n ≡ counted (number + i) → SFits w64 found → found ≡ time +ℤ pos (i * o.step) → entries_left o number o.step time duration sizes body i at ≡ entry_of o n (framed (take ((at + get_or sizes i 0) - at) (drop at body)) (to_z w64 (of_z w64 found)) duration) ++ entries_left o number o.step time duration sizes body (i + 1) (at + get_or sizes i 0)
 entries_left-found o number time duration sizes body i at n found below named fits is =
     entries_left-next o number o.step time duration sizes body i at (get_or sizes i 0) n (framed (take ((at + get_or sizes i 0) - at) (drop at body)) (to_z w64 (of_z w64 found)) duration) below refl named
@@ -136,7 +136,7 @@ entries_left-found o number time duration sizes body i at n found below named fi
     less : (a b : ℕ) → (a + b) - a ≡ b
     less a b = omega arith
 
--- at first those of the whole block are left
+-- At first all frames of the block remain.
 pub entries_left-block : (o : TrackOutput) (number step : ℕ) (sizes body : List ℕ) (head : BlockHead) (duration : ℕ) (b : Buffered) → head ≡ b.head → sizes ≡ b.sizes → body ≡ b.body → duration ≡ unwrap_or head.duration 0 → entries_left o number step head.time duration sizes body 0 0 ≡ entries_from o number (frames_of_block step (block_of b))
 unfolding entries_left
 entries_left-block o number step sizes body head duration b heads cut octets lasts =
@@ -149,12 +149,12 @@ entries_left-block o number step sizes body head duration b heads cut octets las
     plus_none : (k : ℕ) → k + 0 ≡ k
     plus_none k = omega arith
 
--- and at last none
+-- At the end no frames remain.
 pub entries_left-none : (o : TrackOutput) (number step : ℕ) (time : ℤ) (duration : ℕ) (sizes body : List ℕ) (i at : ℕ) → length sizes ≤ i → entries_left o number step time duration sizes body i at ≡ []
 unfolding entries_left
 entries_left-none o number step time duration sizes body i at all = ap (λ (ss : List ℕ). entries_from o (number + i) (frames_from step time duration i (frames_cut ss (drop at body)))) (drop_all i sizes all)
 
--- a block has as many frames as sizes
+-- A block has one frame for each size.
 length-frames_from : (step : ℕ) (time : ℤ) (duration i : ℕ) (frames : List (List ℕ)) → length (frames_from step time duration i frames) ≡ length frames
 length-frames_from step time duration i [] = refl
 length-frames_from step time duration i (octets ∷ rest) = ap suc (length-frames_from step time duration (i + 1) rest)
@@ -163,7 +163,7 @@ pub length-frames_in : (step : ℕ) (b : Buffered) (sizes : List ℕ) → sizes 
 length-frames_in step b sizes same =
     length-frames_from step b.head.time (unwrap_or b.head.duration 0) 0 (frames_cut b.sizes b.body) ∙ length-frames_cut b.sizes b.body ∙ ap length (sym same)
 
--- the sizes that are left add up to the octets that are left
+-- The remaining sizes add up to the remaining bytes.
 pub rest-next : (sizes : List ℕ) (i at size total : ℕ) → i < length sizes → size ≡ get_or sizes i 0 → at + sum (drop i sizes) ≡ total → (at + size) + sum (drop (i + 1) sizes) ≡ total
 rest-next sizes i at size total below is whole =
     let next : drop i sizes ≡ size ∷ drop (suc i) sizes = drop-cons sizes i 0 below ∙ ap (λ (s : ℕ). s ∷ drop (suc i) sizes) (sym is) in
@@ -175,12 +175,12 @@ rest-next sizes i at size total below is whole =
 
 -- ---- the times of the frames of a block
 
--- the lines of so many frames from the i-th on
+-- the lines of `n` frames from frame `i` on
 pub times_left : ℕ → ℤ → ℕ → ℕ → List ℕ
 times_left step time i zero = []
 times_left step time i (suc n) = time_line (time +ℤ pos (i * step)) ++ times_left step time (i + 1) n
 
--- the next line is the first of them
+-- The next line is the first of the rest.
 times_left-next : (step : ℕ) (time : ℤ) (i n : ℕ) → i < n → times_left step time i (n - i) ≡ time_line (time +ℤ pos (i * step)) ++ times_left step time (i + 1) (n - (i + 1))
 unfolding times_left
 times_left-next step time i n below = ap (times_left step time i) (one n i below)
@@ -188,12 +188,12 @@ times_left-next step time i n below = ap (times_left step time i) (one n i below
     one : (n i : ℕ) → i < n → n - i ≡ suc (n - (i + 1))
     one n i below = omega (arith, below)
 
--- as a loop reckons it
+-- The same holds for the time that a loop computes.
 pub times_left-found : (step : ℕ) (time : ℤ) (i n : ℕ) (found : ℤ) → i < n → SFits w64 found → found ≡ time +ℤ pos (i * step) → times_left step time i (n - i) ≡ time_line (to_z w64 (of_z w64 found)) ++ times_left step time (i + 1) (n - (i + 1))
 times_left-found step time i n found below fits is =
     times_left-next step time i n below ∙ ap (λ (t : ℤ). time_line t ++ times_left step time (i + 1) (n - (i + 1))) (sym (to_z-of_z w64 found fits ∙ is))
 
--- and at last there is none
+-- At the end no line remains.
 pub times_left-none : (step : ℕ) (time : ℤ) (i n : ℕ) → n ≤ i → times_left step time i (n - i) ≡ []
 unfolding times_left
 times_left-none step time i n all = ap (times_left step time i) (none n i all)
@@ -201,11 +201,11 @@ times_left-none step time i n all = ap (times_left step time i) (none n i all)
     none : (n i : ℕ) → n ≤ i → n - i ≡ 0
     none n i all = omega (arith, all)
 
--- a time is all that is written of a frame
+-- In the form of timestamps a frame is written as its time.
 entry-time : (o : TrackOutput) (n : ℕ) (f : Frame) → o.form ≡ form.Time → entry_of o n f ≡ time_line f.time
 entry-time o n f is = ap (λ (kind : FrameForm). unwrap_or (written_of kind n f (whole o.prefix f)) []) is
 
--- what is written of frames hangs on how many there are
+-- The lines of timestamps depend only on the number of frames.
 times-from : (o : TrackOutput) (number step : ℕ) (time : ℤ) (duration i : ℕ) (frames : List (List ℕ)) → o.form ≡ form.Time → times_left step time i (length frames) ≡ entries_from o number (frames_from step time duration i frames)
 unfolding times_left
 times-from o number step time duration i [] is = refl
@@ -213,7 +213,7 @@ times-from o number step time duration i (octets ∷ rest) is =
     ap (λ (lines : List ℕ). time_line (time +ℤ pos (i * step)) ++ lines) (times-from o (number + 1) step time duration (i + 1) rest is)
     ∙ ap (λ (line : List ℕ). line ++ entries_from o (number + 1) (frames_from step time duration (i + 1) rest)) (sym (entry-time o number (framed octets (time +ℤ pos (i * step)) duration) is))
 
--- of a block of which this is known
+-- The lines are the timestamps of a block with a known head.
 pub times-block : (o : TrackOutput) (number : ℕ) (head : BlockHead) (n : ℕ) (b : Block) (lent : Buffered) → o.form ≡ form.Time → head ≡ lent.head → n ≡ lent.frames → IsKnownByHead b lent → times_left o.step head.time 0 (n - 0) ≡ entries_from o number (frames_of_block o.step b)
 times-block o number head n b lent is heads count known =
     ap (λ (h : BlockHead). times_left o.step h.time 0 (n - 0)) (heads ∙ sym known.head)
@@ -223,6 +223,6 @@ times-block o number head n b lent is heads count known =
     less_none : (n : ℕ) → n - 0 ≡ n
     less_none n = omega arith
 
--- as many as it has
+-- The number of frames is the block's.
 pub length-times : (step n : ℕ) (b : Block) (lent : Buffered) → n ≡ lent.frames → IsKnownByHead b lent → length (frames_of_block step b) ≡ n
 length-times step n b lent count known = length-frames_from step b.time (unwrap_or b.duration 0) 0 b.frames ∙ known.frames ∙ sym count

@@ -26,15 +26,15 @@ use Rattle.extractors.specs.declared.track_output.TrackOutput.{TrackOutput}
 use Rattle.extractors.specs.Source.{AreUsableOf, IsUsable, entry_in}
 use Rattle.extractors.specs.Walks.{IsReady}
 
--- ---- one target after the other
+-- ---- one target after another
 
--- the entry of a track by its place
+-- The entry of a track has the track's index.
 pub entry-at : (tracks : List Track) (k : ℕ) → slice_get (map entry_in tracks) k ≡ option_map entry_in (slice_get tracks k)
 entry-at [] k = refl
 entry-at (t ∷ ts) zero = refl
 entry-at (t ∷ ts) (suc k) = entry-at ts k
 
--- the outputs of one more target
+-- The outputs of one more target.
 outputs_for-next : (kind : Form) (targets : List Target) (entries : List Node) (k : ℕ) (t : Target) → k < length targets → t ≡ get_or targets k t → outputs_for kind (take (k + 1) targets) entries ≡ outputs_for kind (take k targets) entries ++ output_for kind t (slice_get entries t.id)
 outputs_for-next kind targets entries k t below is =
     ap (λ (n : ℕ). outputs_for kind (take n targets) entries) (one_more k)
@@ -45,28 +45,28 @@ outputs_for-next kind targets entries k t below is =
     one_more : (n : ℕ) → n + 1 ≡ suc n
     one_more n = omega arith
 
--- its track is there
+-- The target's track exists.
 pub outputs_for-found : (kind : Form) (targets : List Target) (tracks : List Track) (k : ℕ) (t : Target) (track : Track) → k < length targets → t ≡ get_or targets k t → slice_get tracks t.id ≡ Some track → outputs_for kind (take (k + 1) targets) (map entry_in tracks) ≡ outputs_for kind (take k targets) (map entry_in tracks) ++ track_output t.name track.entry (coding_of kind track.entry)
 outputs_for-found kind targets tracks k t track below is found =
     outputs_for-next kind targets (map entry_in tracks) k t below is
     ∙ ap (λ (entry : Option Node). outputs_for kind (take k targets) (map entry_in tracks) ++ output_for kind t entry) (entry-at tracks t.id ∙ ap (option_map entry_in) found)
 
--- or it isn't
+-- The target's track doesn't exist.
 pub outputs_for-none : (kind : Form) (targets : List Target) (tracks : List Track) (k : ℕ) (t : Target) → k < length targets → t ≡ get_or targets k t → slice_get tracks t.id ≡ None → outputs_for kind (take (k + 1) targets) (map entry_in tracks) ≡ outputs_for kind (take k targets) (map entry_in tracks)
 outputs_for-none kind targets tracks k t below is found =
     outputs_for-next kind targets (map entry_in tracks) k t below is
     ∙ ap (λ (entry : Option Node). outputs_for kind (take k targets) (map entry_in tracks) ++ output_for kind t entry) (entry-at tracks t.id ∙ ap (option_map entry_in) found)
     ∙ append-nil (outputs_for kind (take k targets) (map entry_in tracks))
 
--- the frames of its track can be used
+-- The frames of the target's track can be used.
 pub usable-at : (targets : List Target) (tracks : List Track) (k : ℕ) (t : Target) (track : Track) → AreUsableOf (map entry_in tracks) targets → k < length targets → t ≡ get_or targets k t → slice_get tracks t.id ≡ Some track → IsUsable track.entry
 usable-at targets tracks k t track usable below is found =
     subst (λ (o : Option Node). IfSome o IsUsable) (entry-at tracks t.id ∙ ap (option_map entry_in) found)
     (subst (λ (each : Target). IfSome (slice_get (map entry_in tracks) each.id) IsUsable) (sym is) (usable k t below))
 
--- ---- targets of whose tracks something can't be written
+-- ---- targets whose tracks can't be extracted
 
--- What is left of targets to be looked at: no codec without a form was met, and this is the first bad configuration.
+-- The targets from `k` on remain: no codec without a form was found before, and `bad_config` is the first bad configuration.
 pub record AreLeft (kind : Form) (targets : List Target) (entries : List Node) (k : ℕ) (bad_config : Option ℕ) : Type 0 where
   pub codec : first_unfit NoExtractor kind targets entries ≡ first_unfit NoExtractor kind (drop k targets) entries
   pub config : first_unfit BadConfig kind targets entries ≡ option_or bad_config (first_unfit BadConfig kind (drop k targets) entries)
@@ -85,7 +85,7 @@ outputs_for-others kind (t ∷ ts) entries name others = step (slice_get entries
     step None rest = rest
     step (Some e) rest = coded e (coding_of kind e) rest
 
--- those of a job are among the names of its files
+-- The names of a job's outputs are among the names of its files.
 pub job_outputs-others : (job : Job) (entries : List Node) (name : List ℕ) → AreOthers name (names_for job) → AreOthers name (names_in (job_outputs job entries))
 job_outputs-others (jobs.Tracks form list) entries name others = outputs_for-others form list entries name others
 job_outputs-others (jobs.Attachments list) entries name others = tt
@@ -106,7 +106,7 @@ outputs_for-apart kind (t ∷ ts) entries apart = step (slice_get entries t.id) 
 
 -- ---- their steps
 
--- an entry by its place is a track
+-- The entry at an index is a track's.
 track-at : (entries : List Node) (k : ℕ) → All IsTrack entries → IfSome (slice_get entries k) IsTrack
 track-at [] k each = tt
 track-at (e ∷ es) zero each = each 0 e (omega arith)
@@ -134,7 +134,7 @@ outputs_for-steps kind (t ∷ ts) entries each = step (slice_get entries t.id) (
     step None track rest = rest
     step (Some e) track rest = coded e (coding_of kind e) track refl rest
 
--- the entries of tracks that were read are such
+-- The entries of tracks that were read are tracks' entries.
 pub each-entry : (tracks : List Track) → AreRead tracks → All IsTrack (map entry_in tracks)
 each-entry tracks read = mapped tracks read.each
   where
@@ -146,8 +146,8 @@ each-entry tracks read = mapped tracks read.each
         at rest zero d below = each 0 t (omega arith)
         at rest (suc k) d below = rest k d (omega arith)
 
--- ---- of a job
+-- ---- the outputs of a job
 
--- the outputs that a job comes to
+-- The outputs of a job are the outputs of its targets in its form.
 pub job_outputs-taken : (job : Job) (kind : Form) (entries : List Node) → form_of job ≡ Some kind → outputs_for kind (targets_of job) entries ≡ job_outputs job entries
 job_outputs-taken job kind entries is = sym (ap (λ (form : Option Form). outputs_taken form (targets_of job) entries) is)

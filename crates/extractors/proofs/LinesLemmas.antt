@@ -1,4 +1,4 @@
--- What stands in a Cues: RFC 9559, section 5.1.5 (Cues Element).
+-- The children of a Cues: RFC 9559, section 5.1.5 (Cues Element).
 use Rattle.std.proofs.Common.{◌≡◌, ℕ, suc, ◌+◌, ◌<◌, ◌==◌, eq-eqb, eqb-true, Bool, true, false, if◌then◌else◌, is_ok, List, ◌∷◌, ◌++◌, length, drop, flat_map, get_or, Result, Ok, Err, OnOk, refl, sym, ◌∙◌, ap, append_assoc, arith}
 use Rattle.std.proofs.Math.Seq.{drop-cons}
 use Rattle.mkv_schema.specs.Schema.{entry_of}
@@ -10,7 +10,7 @@ use Rattle.tree_format.specs.Standing.{IsSoundOf}
 use Rattle.tree_format.specs.Values.{HasUint}
 use Rattle.tree_format.proofs.ChildLemmas.{HasUint-of, child-stands, stands-sound}
 
--- the table has these integers
+-- The table has the integers of a Cues.
 time : HasUint CUE_POINT CUE_TIME
 unfolding entry_of table
 time = record { stands = refl; kind = refl }
@@ -27,7 +27,7 @@ relative : HasUint CUE_TRACK_POSITIONS CUE_RELATIVE_POSITION
 unfolding entry_of table
 relative = record { stands = refl; kind = refl }
 
--- where they stand
+-- The table has them in their masters.
 pub has_time : (n : Node) → IsSoundOf CUE_POINT n → HasUint (id_of n) CUE_TIME
 has_time n is = HasUint-of CUE_POINT CUE_TIME n is time
 
@@ -45,16 +45,16 @@ pub child-sound : (parent id : ℕ) (tree n : Node) (ns : List Node) (i own : �
 child-sound parent id tree n ns i own sound are inside at of same =
     record { id = cc; sound = stands-sound (id_of tree) n (child-stands tree n ns i sound.sound are inside at) }
 
--- pieces that were added one after the other
+-- Pieces that were appended in sequence.
 pub joined : {E : Type 0} (r : Result (Unit {0}) E) (old first next last new a b c d : List ℕ) → first ≡ old ++ a → next ≡ first ++ b → last ≡ next ++ c → new ≡ (if is_ok r then last ++ d else last) → OnOk r (new ≡ old ++ (a ++ (b ++ (c ++ d))))
 joined (Err e) old first next last new a b c d one two three four = tt
 joined (Ok done) old first next last new a b c d one two three four =
     four ∙ ap (λ (bytes : List ℕ). bytes ++ d) (three ∙ ap (λ (bytes : List ℕ). bytes ++ c) (two ∙ ap (λ (bytes : List ℕ). bytes ++ b) one))
     ∙ simp append_assoc
 
--- ---- what is added of the children of an ID
+-- ---- the bytes appended for the children with an ID
 
--- what is left from one of them on
+-- The rest of the children with an ID, from child `i` on.
 part-at : (id : ℕ) (ns : List Node) (i : ℕ) (n : Node) → i < length ns → n ≡ get_or ns i n → part id (drop i ns) ≡ (if id_of n == id then n ∷ part id (drop (i + 1) ns) else part id (drop (i + 1) ns))
 part-at id ns i n inside at =
     ap (part id) (drop-cons ns i n inside ∙ ap (λ (m : Node). m ∷ drop (suc i) ns) (sym at))
@@ -63,7 +63,7 @@ part-at id ns i n inside at =
     one_more : (k : ℕ) → suc k ≡ k + 1
     one_more k = omega arith
 
--- it is added
+-- The child's bytes are appended.
 pub part-added : (f : Node → List ℕ) (id own : ℕ) (ns : List Node) (i : ℕ) (n : Node) (out next whole : List ℕ) → i < length ns → n ≡ get_or ns i n → own ≡ id_of n → own ≡ id → next ≡ out ++ f n → out ++ flat_map f (part id (drop i ns)) ≡ whole → next ++ flat_map f (part id (drop (i + 1) ns)) ≡ whole
 part-added f id own ns i n out next whole inside at of same more so =
     ap (λ (bytes : List ℕ). bytes ++ flat_map f (part id (drop (i + 1) ns))) more
@@ -74,7 +74,7 @@ part-added f id own ns i n out next whole inside at of same more so =
     is : (id_of n == id) ≡ true
     is = eq-eqb (id_of n) id (sym of ∙ same)
 
--- or passed
+-- The child is passed.
 pub part-passed : (f : Node → List ℕ) (id own : ℕ) (ns : List Node) (i : ℕ) (n : Node) (out whole : List ℕ) → i < length ns → n ≡ get_or ns i n → own ≡ id_of n → (own ≡ id → ⊥) → out ++ flat_map f (part id (drop i ns)) ≡ whole → out ++ flat_map f (part id (drop (i + 1) ns)) ≡ whole
 part-passed f id own ns i n out whole inside at of other so =
     ap (λ (ms : List Node). out ++ flat_map f ms) (sym (part-at id ns i n inside at ∙ ap (λ (a : Bool). if a then n ∷ part id (drop (i + 1) ns) else part id (drop (i + 1) ns)) (is (id_of n == id) refl)))

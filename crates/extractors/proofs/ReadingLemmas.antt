@@ -19,12 +19,12 @@ use Rattle.meta_records.proofs.RecordsLemmas.{first_same}
 use Rattle.extractors.specs.Reading.{cues_at, first_cues}
 use Rattle.extractors.specs.declared.limits.TheConstants.{MAX_CUE_NODES}
 
--- the table has a Cues as a master
+-- The table has a Cues as a master.
 pub cues-master : is_master CUES ≡ true
 unfolding entry_of table
 cues-master = refl
 
--- what is found has the ID
+-- The header that is found has the ID.
 first_of-own : (id : ℕ) (list : List Header) (h : Header) → first_of id list ≡ Some h → h.id ≡ id
 first_of-own id [] h found = absurd (cc)
 first_of-own id (k ∷ ks) h found = split (first_of-own id ks h) (k.id == id) refl found
@@ -33,7 +33,7 @@ first_of-own id (k ∷ ks) h found = split (first_of-own id ks h) (k.id == id) r
     split rest true is some = let same : k ≡ h = cc in ap (λ (e : Header). e.id) (sym same) ∙ eqb-true k.id id is
     split rest false is some = rest some
 
--- The first Cues of a file whose outline was read so.
+-- Header `h` is the first Cues of a file whose outline was read.
 pub record IsFirstCues (bytes : List ℕ) (v : FileOutline) (h : Header) : Type 0 where
   pub first : first_of CUES (segment_run bytes v.segment).list ≡ Some h
   pub limit : too_large h ≡ over MAX_CUES_LEN h
@@ -46,17 +46,17 @@ IsFirstCues-shown before bytes v h outline found =
       limit = ap (λ (id : ℕ). option_map_or (λ (most : ℕ). over most h) (limit_of id) None) (first_of-own CUES (segment_run bytes v.segment).list h first);
     }
 
--- there is none
+-- There is no Cues.
 pub first_cues-none : (before : ℕ) (bytes : List ℕ) (v : FileOutline) → outline_in before bytes ≡ Ok v → first_in CUES v ≡ None → first_cues bytes v.segment ≡ Ok None
 first_cues-none before bytes v outline found = ap (cues_at bytes) (sym (first_same CUES before bytes v refl (Outlines-shown before bytes v outline)) ∙ found)
 
--- one that is too large
+-- The Cues is too large.
 pub first_cues-large : (bytes : List ℕ) (v : FileOutline) (h : Header) (d : Damage) → IsFirstCues bytes v h → too_large h ≡ Some d → first_cues bytes v.segment ≡ Err d
 first_cues-large bytes v h d is large =
     ap (cues_at bytes) is.first
     ∙ ap (λ (o : Option Damage). and_then (unless o (body_of bytes h)) (λ (body : List ℕ). and_then (tree_of CUES h.offset body h.body MAX_CUE_NODES) (λ (tree : Node). Ok (Some tree)))) (sym is.limit ∙ large)
 
--- or one that is read as a tree
+-- The Cues is read as a tree.
 pub first_cues-some : (bytes : List ℕ) (v : FileOutline) (h : Header) (body : List ℕ) → IsFirstCues bytes v h → ((d : Damage) → too_large h ≡ Some d → ⊥) → body ≡ body_of bytes h → first_cues bytes v.segment ≡ and_then (tree_of CUES h.offset body h.body MAX_CUE_NODES) (λ (tree : Node). Ok (Some tree))
 first_cues-some bytes v h body is small same =
     ap (cues_at bytes) is.first

@@ -15,7 +15,7 @@ use Rattle.extractors.specs.declared.frame_form.FrameForm.{FrameForm}
 use Rattle.extractors.specs.declared.frame_form.FrameForm.TheVariants as form
 use Rattle.extractors.specs.declared.track_output.TrackOutput.{TrackOutput}
 
--- a form that takes a frame's octets alone
+-- A form that depends only on a frame's bytes writes each frame by them.
 entries-written : (o : TrackOutput) (entry : List ℕ → Option (List ℕ)) (n : ℕ) (frames : List Frame) → ((k : ℕ) (f : Frame) (octets : List ℕ) → written_of o.form k f octets ≡ entry octets) → entries_from o n frames ≡ written entry (map (λ (f : Frame). whole o.prefix f) frames)
 entries-written o entry n [] is = refl
 entries-written o entry n (f ∷ fs) is =

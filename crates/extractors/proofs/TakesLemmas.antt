@@ -1,4 +1,4 @@
--- What is known of a block is enough for the outputs by which it was taken.
+-- The known part of a block is enough for the outputs that selected it.
 use Rattle.std.proofs.Common.{◌≡◌, ◌==◌, ◌<◌, ℕ, zero, suc, Bool, true, false, if◌then◌else◌, List, [], ◌∷◌, length, get_or, refl, sym, ◌∙◌, ap, subst, arith}
 use Rattle.std.specs.List.{All, list_all}
 use Rattle.std.proofs.lemmas.Bool.{eqb-true}
@@ -18,9 +18,9 @@ use Rattle.extractors.specs.declared.frame_form.FrameForm.{FrameForm}
 use Rattle.extractors.specs.declared.frame_form.FrameForm.TheVariants as form
 use Rattle.extractors.specs.declared.track_output.TrackOutput.{TrackOutput}
 
--- ---- what one output takes
+-- ---- the blocks of one output
 
--- of a block that can be written all is known
+-- A block that is known whole is enough for each form.
 pub enough-whole : (f : FrameForm) (b : Block) (lent : Buffered) → b ≡ block_of lent → IsLendable lent → IsEnough f b lent
 enough-whole form.Plain b lent is lends = is
 enough-whole form.SubRip b lent is lends = is
@@ -28,7 +28,7 @@ enough-whole (form.AnnexB w) b lent is lends = is
 enough-whole (form.Adts aac) b lent is lends = is
 enough-whole form.Time b lent is lends = subst (λ (x : Block). IsKnownByHead x lent) (sym is) (record { head = refl; frames = length-frames_cut lent.sizes lent.body ∙ sym lends.count })
 
--- for times what it says of itself is enough
+-- The head of a block is enough for timestamps.
 pub enough-times : (f : FrameForm) (b : Block) (lent : Buffered) → is_of_times f ≡ true → IsKnownByHead b lent → IsEnough f b lent
 enough-times form.Plain b lent is known = absurd (cc)
 enough-times form.SubRip b lent is known = absurd (cc)
@@ -36,7 +36,7 @@ enough-times (form.AnnexB w) b lent is known = absurd (cc)
 enough-times (form.Adts aac) b lent is known = absurd (cc)
 enough-times form.Time b lent is known = known
 
--- and an output that has octets takes the block that is lent
+-- An output that takes bytes takes the buffered block.
 pub enough-octets : (f : FrameForm) (b : Block) (lent : Buffered) → (f ≡ form.Time → ⊥) → IsEnough f b lent → b ≡ block_of lent
 enough-octets form.Plain b lent other enough = enough
 enough-octets form.SubRip b lent other enough = enough
@@ -46,17 +46,17 @@ enough-octets form.Time b lent other enough = absurd (other refl)
 
 -- ---- all outputs
 
--- what is enough for each is enough for the k-th
+-- Enough for all outputs is enough for output `k`.
 pub enough-at : (list : List TrackOutput) (k : ℕ) (o : TrackOutput) (b : Block) (lent : Buffered) → k < length list → o ≡ get_or list k o → All (λ (each : TrackOutput). IsEnoughFor each b lent) list → IsEnoughFor o b lent
 enough-at list k o b lent below is each = subst (λ (x : TrackOutput). IsEnoughFor x b lent) (sym is) (each k o below)
 
--- where all is known
+-- All of the block is known.
 enough-all : (list : List TrackOutput) (b : Block) (lent : Buffered) → b ≡ block_of lent → IsLendable lent → IsEnoughForAll list b lent
 enough-all list b lent is lends =
     let track : b.track ≡ lent.head.track = ap (λ (x : Block). x.track) is in
     record { track = track; each = λ k d below. record { track = track; own = λ same. enough-whole (get_or list k d).form b lent is lends } }
 
--- where all is known of the blocks of the track that all take
+-- All is known of the blocks of the track that all outputs take.
 enough-track : (list : List TrackOutput) (track : ℕ) (b : Block) (lent : Buffered) → All (λ (o : TrackOutput). o.track ≡ track) list → IsKnownFor track b lent → (lent.head.track ≡ track → IsLendable lent) → IsEnoughForAll list b lent
 enough-track list track b lent all known lends = record {
   track = known.track;
@@ -66,7 +66,7 @@ enough-track list track b lent all known lends = record {
   };
 }
 
--- where all take times alone
+-- All outputs take only timestamps.
 enough-heads : (list : List TrackOutput) (b : Block) (lent : Buffered) → list_all (λ (o : TrackOutput). is_of_times o.form) list ≡ true → IsKnownByHead b lent → IsEnoughForAll list b lent
 enough-heads list b lent all known =
     let track : b.track ≡ lent.head.track = ap (λ (h : BlockHead). h.track) known.head in
@@ -78,7 +78,7 @@ enough-heads list b lent all known =
       };
     }
 
--- those of the first's track
+-- All outputs take the track of the first.
 all-same : (o : TrackOutput) (others : List TrackOutput) → list_all (λ (other : TrackOutput). other.track == o.track) others ≡ true → All (λ (other : TrackOutput). other.track ≡ o.track) (o ∷ others)
 all-same o others all zero d below = refl
 all-same o others all (suc k) d below = eqb-true _ _ (AllPass-from_list_all (λ (other : TrackOutput). other.track == o.track) others all k d (omega arith))
@@ -91,7 +91,7 @@ enough-one (o ∷ others) b lent known lends = split (list_all (λ (other : Trac
     split true is known lends = enough-track (o ∷ others) o.track b lent (all-same o others is) known lends
     split false is known lends = enough-all (o ∷ others) b lent known lends
 
--- what is known of a block that is taken so is enough for all
+-- The known part of a block that is selected by the filter is enough for all outputs.
 enough-of : (list : List TrackOutput) (b : Block) (lent : Buffered) → IsKnown (takes_of list) b lent → LendsWanted (takes_of list) StepOf.Block lent → IsEnoughForAll list b lent
 enough-of list b lent = split (list_all (λ (o : TrackOutput). is_of_times o.form) list) refl
   where

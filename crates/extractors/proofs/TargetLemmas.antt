@@ -1,4 +1,4 @@
--- The files of targets, which are written one after the other.
+-- The files of targets, written in sequence.
 use Rattle.std.proofs.Common.{◌≡◌, ◌≢◌, ℕ, zero, suc, ◌+◌, ◌<◌, List, [], ◌∷◌, ◌++◌, length, take, drop, get_or, Result, Ok, Err, IsErr, refl, sym, ◌∙◌, ap, subst, arith, append-nil}
 use Rattle.std.specs.List.{flat_map}
 use Rattle.std.proofs.Math.Seq.{take-suc}
@@ -30,7 +30,7 @@ pub KeepsOthers-target : {S : Type 0} (r : Ghosts S) (f : writing.Ghosts S) (old
 KeepsOthers-target r f old new targets k t below is kept =
     KeepsOthers-more r f (t.name ∷ []) (names_of targets) old new (λ name others. AreOthers-target name targets k t others below is) kept
 
--- ---- outputs behind others
+-- ---- outputs after others
 
 with_outputs-both : (names : Names) (first next : List Output) → with_outputs names (first ++ next) ≡ with_outputs (with_outputs names first) next
 with_outputs-both names [] next = refl
@@ -40,7 +40,7 @@ AreBegun-behind : (done some all : List Output) → AreBegun some all → AreBeg
 AreBegun-behind [] some all begun = begun
 AreBegun-behind (o ∷ os) some all begun = (IsBegun-whole o, AreBegun-behind os some all begun)
 
--- some were written, and another in part
+-- Some outputs were written, and a further one in part.
 ArePrefixes-behind : (old mid new : Names) (done next : List Output) → mid ≡ with_outputs old done → ArePrefixes mid new next → ArePrefixes old new (done ++ next)
 ArePrefixes-behind old mid new done next whole part = record {
   stand = done ++ part.stand;
@@ -48,7 +48,7 @@ ArePrefixes-behind old mid new done next whole part = record {
   names = part.names ∙ ap (λ (names : Names). with_outputs names part.stand) whole ∙ sym (with_outputs-both old done part.stand);
 }
 
--- ---- one target after the other
+-- ---- one target after another
 
 -- the outputs of one more target
 outputs-next : (outputs : Target → List Output) (targets : List Target) (k : ℕ) (t : Target) → k < length targets → t ≡ get_or targets k t → flat_map outputs (take (k + 1) targets) ≡ flat_map outputs (take k targets) ++ outputs t
@@ -61,14 +61,14 @@ outputs-next outputs targets k t below is =
     one_more : (n : ℕ) → n + 1 ≡ suc n
     one_more n = omega arith
 
--- they were written
+-- The outputs were written.
 pub written-more : (outputs : Target → List Output) (targets : List Target) (k : ℕ) (t : Target) (old mid new : Names) → k < length targets → t ≡ get_or targets k t → mid ≡ with_outputs old (flat_map outputs (take k targets)) → new ≡ with_outputs mid (outputs t) → new ≡ with_outputs old (flat_map outputs (take (k + 1) targets))
 written-more outputs targets k t old mid new below is so more =
     more ∙ ap (λ (names : Names). with_outputs names (outputs t)) so
     ∙ sym (with_outputs-both old (flat_map outputs (take k targets)) (outputs t))
     ∙ ap (with_outputs old) (sym (outputs-next outputs targets k t below is))
 
--- they were written in part
+-- The outputs were written in part.
 pub written-part : {T E : Type 0} (outputs : Target → List Output) (targets : List Target) (k : ℕ) (t : Target) (old mid new : Names) (result : Result T E) → IsErr result → k < length targets → t ≡ get_or targets k t → mid ≡ with_outputs old (flat_map outputs (take k targets)) → ArePrefixes mid new (outputs t) → AreWritten old new (flat_map outputs targets) result
 written-part outputs targets k t old mid new (Ok done) fails below is so part = absurd (cc)
 written-part outputs targets k t old mid new (Err fault) fails below is so part =

@@ -1,4 +1,4 @@
--- The units of a frame, which are written one after the other.
+-- The units of a frame, written in sequence.
 use Rattle.std.proofs.Common.{◌≡◌, ℕ, true, false, List, [], ◌∷◌, ◌++◌, Option, None, Some, is_some, unwrap_or, refl, sym, ◌∙◌, ap, arith}
 use Rattle.std.specs.Option.{option_map}
 use Rattle.elementary.specs.Units.{unit_at, units_of}
@@ -9,7 +9,7 @@ no_join : (units : Option (List (List ℕ))) → is_some units ≡ false → unw
 no_join None is = refl
 no_join (Some units) is = absurd (cc)
 
--- nothing is written of a frame that is no join of units
+-- A frame that isn't a join of units writes nothing.
 pub units-bad : (w : ℕ) (frame : List ℕ) → is_some (units_of w frame) ≡ false → unwrap_or (annex_b w frame) [] ≡ []
 units-bad w frame bad = no_join (units_of w frame) bad
 
@@ -17,13 +17,13 @@ first : (unit : List ℕ) (units : Option (List (List ℕ))) → is_some units �
 first unit None is = absurd (cc)
 first unit (Some units) is = refl
 
--- the unit at the front is written behind a start code, and then those behind it
+-- The first unit is written after a start code, and then the units after it.
 pub units-next : (w : ℕ) (frame unit behind : List ℕ) → unit_at w frame ≡ Some (unit, behind) → is_some (units_of w frame) ≡ true → unwrap_or (annex_b w frame) [] ≡ start_coded unit ++ unwrap_or (annex_b w behind) []
 units-next w frame unit behind found join =
     ap (λ (units : Option (List (List ℕ))). unwrap_or (option_map byte_stream units) []) (units_of-step w frame unit behind found)
     ∙ first unit (units_of w behind) (sym (join-step w frame unit behind found) ∙ join)
 
--- with no unit at the front nothing more is written
+-- Without a first unit nothing more is written.
 pub units-none : (w : ℕ) (frame : List ℕ) → unit_at w frame ≡ None → unwrap_or (annex_b w frame) [] ≡ []
 units-none w [] none = ap (λ (units : Option (List (List ℕ))). unwrap_or (option_map byte_stream units) []) (units_of-nil w)
 units-none w (octet ∷ octets) none = ap (λ (units : Option (List (List ℕ))). unwrap_or (option_map byte_stream units) []) (units_of-stop w (octet ∷ octets) (omega arith) none)

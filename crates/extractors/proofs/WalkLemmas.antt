@@ -31,7 +31,7 @@ use Rattle.extractors.specs.Walks.{HaveBlocks, ReadsFew, WritesAndReads, numbers
 
 -- ---- the events of a file
 
--- what was met of the events of a file, and what is left
+-- Of the events `all` the first were read, and `left` remains; `passed` has the blocks, and `damages` the damage.
 pub record MetUpTo (all left : List Event) (passed : List Block) (damages : ToldDamages) : Type 0 where
   pub blocks : blocks_of all ≡ passed ++ blocks_of left
   pub met : List Damage
@@ -65,7 +65,7 @@ MetUpTo-damage all left later passed before damages last d met is adds = record 
     one_damage true = refl
     one_damage false = refl
 
--- at the end all was met
+-- At the end all events were read.
 pub MetUpTo-blocks : (all left : List Event) (passed : List Block) (damages : ToldDamages) → MetUpTo all left passed damages → left ≡ [] → passed ≡ blocks_of all
 MetUpTo-blocks all left passed damages met none = sym (met.blocks ∙ ap (λ (es : List Event). passed ++ blocks_of es) none ∙ append-nil passed)
 
@@ -73,27 +73,27 @@ pub MetUpTo-damages : (all left : List Event) (passed : List Block) (damages : T
 MetUpTo-damages all left passed damages met none =
     met.kept ∙ ap told_damages (sym (met.split ∙ ap (λ (es : List Event). met.met ++ damages_of es) none ∙ append-nil met.met))
 
--- the outputs of what was met are first parts of all
+-- The outputs of the events that were read are first parts of the outputs of all.
 pub MetUpTo-begun : (list : List TrackOutput) (all left : List Event) (passed : List Block) (damages : ToldDamages) → MetUpTo all left passed damages → AreBegun (outputs_of list passed) (outputs_of list (blocks_of all))
 MetUpTo-begun list all left passed damages met =
     subst (λ (bs : List Block). AreBegun (outputs_of list passed) (outputs_of list bs)) (sym met.blocks)
     (outputs_of-begun list passed (blocks_of left))
 
--- ---- what was given
+-- ---- the content of the outputs
 
--- what was given stands so where names and holders are the same
+-- The outputs have the same content if names and holders are the same.
 pub HaveBeenGiven-moved : (since old new : Names) (holder later : ℕ → List ℕ) (sinks : List Sink) (given : List Output) → HaveBeenGiven since old holder sinks given → new ≡ old → ((file : ℕ) → later file ≡ holder file) → HaveBeenGiven since new later sinks given
 HaveBeenGiven-moved since old new holder later sinks given has names holders =
     subst (λ (n : Names). HaveBeenGiven since n later sinks given) (sym names)
     (subst (λ (h : ℕ → List ℕ). HaveBeenGiven since old h sinks given) (sym (λ i file. holders file i)) has)
 
--- outputs that were given no block yet have these, and these are the numbers of their next frames
+-- Outputs that had no block have `passed`, and `numbers` are the numbers of their next frames.
 abbrev pub Given : {S : Type 0} → writing.Ghosts S → List TrackOutput → S → S → List Sink → List Sink → List ℕ → List Block → Type 0
 Given f list old new sinks later numbers passed = (since : Names) → HaveBeenGiven since (f.names old) (f.holder old) sinks (outputs_of list []) → HaveBlocks f since list new later numbers passed
 
--- ---- what was met, given and told
+-- ---- the events that were read, written and reported
 
--- What was met of a file was given to outputs, and its damages and bad frames were told; this is left.
+-- The events that were read are in the outputs, and their damage and bad frames are reported; `left` remains.
 pub record MetSoFar {S : Type 0} (f : writing.Ghosts S) (list : List TrackOutput) (old new : S) (sinks later : List Sink) (numbers : List ℕ) (all left : List Event) (damages bad : ToldDamages) : Type 0 where
   pub passed : List Block
   pub has : Given f list old new sinks later numbers passed
@@ -108,7 +108,7 @@ MetSoFar-begins f list files sinks numbers all damages bad ones none good =
     each [] = refl
     each (o ∷ os) = ap (λ (rest : List ℕ). 1 ∷ rest) (each os)
 
--- the cursor went on
+-- The cursor advanced.
 pub MetSoFar-read : {S : Type 0} (f : writing.Ghosts S) (list : List TrackOutput) (a b c : S) (sinks now : List Sink) (numbers : List ℕ) (all left : List Event) (damages bad : ToldDamages) → MetSoFar f list a b sinks now numbers all left damages bad → f.names c ≡ f.names b → ((file : ℕ) → f.holder c file ≡ f.holder b file) → MetSoFar f list a c sinks now numbers all left damages bad
 MetSoFar-read f list a b c sinks now numbers all left damages bad so names holders = record {
   passed = so.passed;
@@ -119,7 +119,7 @@ MetSoFar-read f list a b c sinks now numbers all left damages bad so names holde
   told = so.told;
 }
 
--- it gave a block, which the outputs were given
+-- The cursor returned a block, which was added to the outputs.
 pub MetSoFar-block : {S : Type 0} (f : writing.Ghosts S) (list : List TrackOutput) (a b c : S) (sinks now later : List Sink) (numbers next : List ℕ) (all left behind : List Event) (damages bad more : ToldDamages) (given : Block) → MetSoFar f list a b sinks now numbers all left damages bad → left ≡ block given ∷ behind → ((since : Names) (blocks : List Block) → HaveBlocks f since list b now numbers blocks → HaveBlocks f since list c later next (blocks ++ given ∷ [])) → TellsMore bad more (bad_in list given) → MetSoFar f list a c sinks later next all behind damages more
 MetSoFar-block f list a b c sinks now later numbers next all left behind damages bad more given so is gives tells = record {
   passed = so.passed ++ given ∷ [];
@@ -128,30 +128,30 @@ MetSoFar-block f list a b c sinks now later numbers next all left behind damages
   told = tells (bad_frames list so.passed) so.told ∙ ap told_damages (sym (bad_frames-more list so.passed given));
 }
 
--- or a damage
+-- The cursor returned damage.
 pub MetSoFar-damage : {S : Type 0} (f : writing.Ghosts S) (list : List TrackOutput) (a b : S) (sinks now : List Sink) (numbers : List ℕ) (all left behind : List Event) (damages bad more : ToldDamages) (last : Bool) (d : Damage) → MetSoFar f list a b sinks now numbers all left damages bad → left ≡ damage_event last d ∷ behind → more ≡ with_damage damages d → MetSoFar f list a b sinks now numbers all behind more bad
 MetSoFar-damage f list a b sinks now numbers all left behind damages bad more last d so is adds =
     record { passed = so.passed; has = so.has; met = MetUpTo-damage all left behind so.passed damages more last d so.met is adds; told = so.told }
 
--- what was given so far stands in part of all
+-- The content up to here is a first part of the whole.
 pub MetSoFar-begun : {S : Type 0} (f : writing.Ghosts S) (list : List TrackOutput) (a b : S) (sinks now : List Sink) (numbers : List ℕ) (all left : List Event) (damages bad : ToldDamages) → MetSoFar f list a b sinks now numbers all left damages bad → (since : Names) → HaveBeenGiven since (f.names a) (f.holder a) sinks (outputs_of list []) → ArePrefixes since (f.names b) (outputs_of list (blocks_of all))
 MetSoFar-begun f list a b sinks now numbers all left damages bad so = λ since has.
     ArePrefixes-then since (f.names b) (outputs_of list so.passed) (outputs_of list (blocks_of all))
     (HaveBeenGiven-part since (f.names b) (f.holder b) now (outputs_of list so.passed) (so.has since has).given)
     (MetUpTo-begun list all left so.passed damages so.met)
 
--- and so does a block that was refused
+-- After a block that failed, it still is.
 pub MetSoFar-part : {S : Type 0} (f : writing.Ghosts S) (list : List TrackOutput) (a b c : S) (sinks now : List Sink) (numbers : List ℕ) (all left behind : List Event) (damages bad : ToldDamages) (given : Block) → MetSoFar f list a b sinks now numbers all left damages bad → left ≡ block given ∷ behind → ((since : Names) (blocks : List Block) → HaveBlocks f since list b now numbers blocks → ArePrefixes since (f.names c) (outputs_of list (blocks ++ given ∷ []))) → (since : Names) → HaveBeenGiven since (f.names a) (f.holder a) sinks (outputs_of list []) → ArePrefixes since (f.names c) (outputs_of list (blocks_of all))
 MetSoFar-part f list a b c sinks now numbers all left behind damages bad given so is part = λ since has.
     ArePrefixes-then since (f.names c) (outputs_of list (so.passed ++ given ∷ [])) (outputs_of list (blocks_of all)) (part since so.passed (so.has since has))
     (MetUpTo-begun list all behind (so.passed ++ given ∷ []) damages (MetUpTo-block all left behind so.passed damages given so.met is))
 
--- at the end all was given
+-- At the end all blocks are in the outputs.
 pub MetSoFar-ends : {S : Type 0} (f : writing.Ghosts S) (list : List TrackOutput) (a b : S) (sinks now : List Sink) (numbers : List ℕ) (all left : List Event) (damages bad : ToldDamages) → MetSoFar f list a b sinks now numbers all left damages bad → left ≡ [] → (since : Names) → HaveBeenGiven since (f.names a) (f.holder a) sinks (outputs_of list []) → HaveBeenGiven since (f.names b) (f.holder b) now (outputs_of list (blocks_of all))
 MetSoFar-ends f list a b sinks now numbers all left damages bad so none = λ since has.
     subst (λ (bs : List Block). HaveBeenGiven since (f.names b) (f.holder b) now (outputs_of list bs)) (MetUpTo-blocks all left so.passed damages so.met none) (so.has since has).given
 
--- and told
+-- At the end everything is reported.
 pub MetSoFar-told : {S : Type 0} (f : writing.Ghosts S) (list : List TrackOutput) (a b : S) (sinks now : List Sink) (numbers : List ℕ) (all left : List Event) (told : Extracted) → MetSoFar f list a b sinks now numbers all left told.damages told.bad_frames → left ≡ [] → told ≡ told_of list all
 MetSoFar-told f list a b sinks now numbers all left told so none =
     told_of-is list all told (MetUpTo-damages all left so.passed told.damages so.met none)
@@ -159,11 +159,11 @@ MetSoFar-told f list a b sinks now numbers all left told so none =
 
 -- ---- the files
 
--- nothing was done yet
+-- Nothing is done yet.
 pub WritesAndReads-none : {S : Type 0} (r : Ghosts S) (f : writing.Ghosts S) (files : S) (sinks : List Sink) → AreOpen r files sinks → WritesAndReads r f files files sinks sinks
 WritesAndReads-none r f files sinks outputs = record { same = refl; outputs = outputs; kept = KeepsOthers-none r f (names_under f files sinks) files }
 
--- a file was read
+-- A file was read.
 pub WritesAndReads-read : {S : Type 0} (r : Ghosts S) (f : writing.Ghosts S) (a b c : S) (sinks now : List Sink) → WritesAndReads r f a b sinks now → r.standing c ≡ r.standing b → f.given c ≡ f.given b → ((file : ℕ) → f.holder c file ≡ f.holder b file) → f.asked c ≡ f.asked b → WritesAndReads r f a c sinks now
 WritesAndReads-read r f a b c sinks now walks same given holders asked = record {
   same = walks.same;
@@ -171,19 +171,19 @@ WritesAndReads-read r f a b c sinks now walks same given holders asked = record 
   kept = KeepsOthers-then r f (names_under f a sinks) a b c walks.kept (UsesOnly-standing r f [] (names_under f a sinks) b c same given (λ file live. holders file) asked);
 }
 
--- the outputs keep their names
+-- The outputs keep their names.
 names_kept : {S : Type 0} (r : Ghosts S) (f : writing.Ghosts S) (a b : S) (sinks now : List Sink) → AreOpen r a sinks → WritesAndReads r f a b sinks now → names_under f b now ≡ names_under f a sinks
 names_kept r f a b sinks now open_before walks =
     ap (holders_of (f.holder b)) walks.same ∙ holders_of-kept (live_files r a).live (f.holder a) (f.holder b) (ids_of sinks) open_before.live walks.kept.holders
 
--- a file that isn't an output is none later
+-- A file that isn't an output doesn't become one.
 pub input-other : {S : Type 0} (r : Ghosts S) (f : writing.Ghosts S) (a b : S) (sinks now : List Sink) (file : ℕ) → AreOpen r a sinks → WritesAndReads r f a b sinks now → (live_files r a).live file ≡ true → AreOthers (f.holder a file) (names_under f a sinks) → AreOthers (f.holder b file) (names_under f b now)
 input-other r f a b sinks now file open_before walks live others =
     let P : List (List ℕ) → Type 0 = λ names. AreOthers (f.holder b file) names in
     subst P (sym (names_kept r f a b sinks now open_before walks))
     (let Q : List ℕ → Type 0 = λ name. AreOthers name (names_under f a sinks) in subst Q (sym (walks.kept.holders file live)) others)
 
--- outputs were written
+-- Outputs were written.
 pub WritesAndReads-write : {S : Type 0} (r : Ghosts S) (f : writing.Ghosts S) (a b c : S) (sinks now later : List Sink) → AreOpen r a sinks → WritesAndReads r f a b sinks now → WritesOutputs r f b c now later → WritesAndReads r f a c sinks later
 WritesAndReads-write r f a b c sinks now later open_before walks wrote = record {
   same = wrote.same ∙ walks.same;
@@ -192,9 +192,9 @@ WritesAndReads-write r f a b c sinks now later open_before walks wrote = record 
       (subst (λ (names : List (List ℕ)). KeepsOthers r f names b c) (names_kept r f a b sinks now open_before walks) wrote.only.kept);
 }
 
--- ---- how much is read
+-- ---- the bytes that are read
 
--- the file's length pays for all that was read, and once more for a call that failed
+-- The file's length bounds all that was read, and twice its length bounds a call that failed.
 pub ReadsFew-all : {T E : Type 0} (size before now : ℕ) (result : Result T E) → now ≤ before + size → ReadsFew size before now result
 ReadsFew-all size before now (Ok done) few = few
 ReadsFew-all size before now (Err end) few = omega (arith, few)

@@ -1,4 +1,4 @@
--- A file that is made, written and closed.
+-- A file that is created, written and closed.
 use Rattle.std.proofs.Common.{◌≡◌, ◌<◌, ℕ, List, [], ◌∷◌, true, Result, Ok, Err, ◌⊎◌, sym, ◌∙◌, ap, subst, arith}
 use Rattle.mkv_io.specs.declared.outside.FileId.{FileId}
 use Rattle.mkv_io.specs.declared.outside.MakeFault.{MakeFault}
@@ -24,7 +24,7 @@ use Rattle.cues_seekhead.proofs.FinishLemmas.{cause-closed}
 use Rattle.cues_seekhead.proofs.MadeLemmas.{MakesFile-ended, MakesFile-kept}
 use Rattle.extractors.specs.Whole.{AreWritten, WritesFile, output}
 
--- the octets that were appended are all that the name has
+-- The bytes that were appended are all of the content.
 written : {T E : Type 0} (result : Result T E) (before made now : Names) (holder name octets : List ℕ) → made ≡ with_content before name [] → holder ≡ name → IsAppended made now holder octets result → AreWritten before now (output name octets ∷ []) result
 written (Ok done) before made now holder name octets is same all = appended-to before made now name [] octets is (all ∙ ap (λ (h : List ℕ). with_change made h (with_appended octets)) same)
 written (Err end) before made now holder name octets is same some = begun-part before made now holder name octets is same some
@@ -33,7 +33,7 @@ written-closed : {T E : Type 0} (result : Result T E) (before now later : Names)
 written-closed (Ok done) before now later name octets same all = same ∙ all
 written-closed (Err end) before now later name octets same some = subst (λ (names : Names). ArePrefixes before names (output name octets ∷ [])) (sym same) some
 
--- it was made, written and closed
+-- The file was created, written and closed.
 pub WritesFile-closed : {S T : Type 0} (r : Ghosts S) (f : writing.Ghosts S) (file : FileId) (name octets : List ℕ) (most : ℕ) (old made wrote new : S) (result : Result T RemuxEnd) → ((other : ℕ) → (live_files r old).live other ≡ true → other < f.given old) → MakesFile r f name file old made → f.names made ≡ with_content (f.names old) name [] → r.reading_faults made ≡ r.reading_faults old → f.writing_faults made ≡ f.writing_faults old → r.octets_read made ≡ r.octets_read old
     → AppendsOnly r f file octets most made wrote result → EndsOnly r f wrote new (file ∷ []) → WritesFile r f name octets most old new result
 WritesFile-closed r f file name octets most old made wrote new result numbered makes names reading writing read appends ends = record {
@@ -45,7 +45,7 @@ WritesFile-closed r f file name octets most old made wrote new result numbered m
   reads = omega (arith, ends.octets, appends.reads, read);
 }
 
--- it wasn't made
+-- The file wasn't created.
 pub WritesFile-unmade : {S T : Type 0} (U : Type 0) (r : Ghosts S) (f : writing.Ghosts S) (name octets : List ℕ) (most : ℕ) (old new : S) (fault : MakeFault) → (f.names new ≡ f.names old) ⊎ (f.names new ≡ with_content (f.names old) name []) → KeepsOthers r f (name ∷ []) old new → r.reading_faults new ≡ r.reading_faults old → r.octets_read new ≡ r.octets_read old
     → HasCause {T = U} is_make_failure (f.writing_faults old) (f.writing_faults new) (Err fault) → WritesFile {T = T} r f name octets most old new (Err (end_of_make fault))
 WritesFile-unmade U r f name octets most old new fault names kept reading read cause = record {

@@ -1,4 +1,4 @@
--- The forms in which codecs have their frames written: RFC 9559, section 5.1.4 (Tracks Element), CodecID and CodecPrivate.
+-- The forms of frames by codec: RFC 9559, section 5.1.4 (Tracks Element), CodecID and CodecPrivate.
 use Rattle.std.specs.Prelude.{⊤, ℕ, if◌then◌else◌, List, [], codes, Option, Some, None, Result, Ok, Err}
 use Rattle.std.specs.Option.{option_map_or}
 use Rattle.std.specs.Str.{bytes_eq}
@@ -18,7 +18,7 @@ use Rattle.extractors.specs.declared.frame_form.UnsupportedTrack.TheVariants.{No
 use Rattle.requests.specs.declared.job.Form.{Form}
 use Rattle.requests.specs.declared.job.Form.TheVariants as asked
 
--- the first line of a file of times
+-- the first line of a timestamp file
 abbrev pub times_head : List ℕ
 times_head = codes "# timestamp format v2\n"
 
@@ -38,12 +38,12 @@ abbrev pub avc_coding : Option Avc → Result Coding UnsupportedTrack
 avc_coding None = Err BadConfig
 avc_coding (Some avc) = Ok (record { head = byte_stream avc.sets; form = form.AnnexB avc.length_size })
 
--- each frame behind its header
+-- each frame after its header
 abbrev pub aac_coding : Option Aac → Result Coding UnsupportedTrack
 aac_coding None = Err BadConfig
 aac_coding (Some aac) = Ok (record { head = []; form = form.Adts aac })
 
--- by the CodecID and the CodecPrivate of a track
+-- the coding of a track by its CodecID and CodecPrivate
 abbrev pub codec_coding : List ℕ → List ℕ → Result Coding UnsupportedTrack
 codec_coding codec private =
     if bytes_eq codec subrip_codec then Ok (record { head = []; form = form.SubRip })
@@ -51,18 +51,18 @@ codec_coding codec private =
     else if bytes_eq codec aac_codec then aac_coding (aac_of private)
     else Err NoExtractor
 
--- the CodecPrivate of a track, empty where it has none
+-- the CodecPrivate of a track, or no bytes if it is absent
 abbrev pub private_of : Node → List ℕ
 private_of entry = option_map_or body_of (first_child CODEC_PRIVATE entry) []
 
--- what is taken of a track
+-- the coding of a track in the form that the job asks for
 abbrev pub coding_of : Form → Node → Result Coding UnsupportedTrack
 coding_of asked.Raw entry = Ok (record { head = []; form = form.Plain })
 coding_of asked.Full entry = Ok (record { head = private_of entry; form = form.Plain })
 coding_of asked.ByCodec entry = codec_coding (codec_of entry) (private_of entry)
 coding_of asked.Times entry = Ok (record { head = times_head; form = form.Time })
 
--- what a form that was read of a track says can be written
+-- The parameters of a form allow its frames to be written.
 abbrev pub CanWrite : FrameForm → Type 0
 CanWrite form.Plain = ⊤
 CanWrite form.SubRip = ⊤

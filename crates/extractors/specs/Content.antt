@@ -1,5 +1,5 @@
--- What an output has of the blocks of a file, whose track it takes: RFC 9559, section 10 (Cluster Blocks). The forms of codecs are those of
--- their own standards.
+-- The content of an output, made of the blocks of its track: RFC 9559, section 10 (Cluster Blocks). The forms of codecs are defined by their own
+-- standards.
 use Rattle.std.specs.Prelude.{ℕ, ◌+◌, min, List, [], ◌∷◌, ◌++◌, map, Option, Some, unwrap_or}
 use Rattle.mkv_io.specs.Faults.{last_count}
 use Rattle.text_formats.specs.Writing.{put_srt}
@@ -13,15 +13,15 @@ use Rattle.extractors.specs.declared.frame_form.FrameForm.{FrameForm}
 use Rattle.extractors.specs.declared.frame_form.FrameForm.TheVariants as form
 use Rattle.extractors.specs.declared.track_output.TrackOutput.{TrackOutput}
 
--- a frame's number among those of its track, which stands still at the last that there is
+-- a frame's number in its track, which stops at the greatest number
 abbrev pub counted : ℕ → ℕ
 counted n = min n last_count
 
--- a frame with what was taken from its front
+-- a frame with the bytes that were removed from its start
 abbrev pub whole : List ℕ → Frame → List ℕ
 whole prefix f = prefix ++ f.octets
 
--- what is written of a frame of this number in a form; nothing, where the frame is bad
+-- the written form of frame number `n`; nothing if the frame is bad
 abbrev pub written_of : FrameForm → ℕ → Frame → List ℕ → Option (List ℕ)
 written_of form.Plain n f octets = Some octets
 written_of form.SubRip n f octets = Some (put_srt (counted n) f.time f.duration octets)
@@ -29,28 +29,28 @@ written_of (form.AnnexB w) n f octets = annex_b w octets
 written_of (form.Adts aac) n f octets = adts aac octets
 written_of form.Time n f octets = Some (time_line f.time)
 
--- what an output has of a frame of this number; a bad one is left out
+-- the bytes of an output for frame number `n`; a bad frame is left out
 abbrev pub entry_of : TrackOutput → ℕ → Frame → List ℕ
 entry_of o n f = unwrap_or (written_of o.form n f (whole o.prefix f)) []
 
--- of frames, one after the other, of which the first has this number
+-- the bytes of an output for frames in sequence, numbered from `n`
 abbrev pub entries_from : TrackOutput → ℕ → List Frame → List ℕ
 entries_from o n [] = []
 entries_from o n (f ∷ fs) = entry_of o n f ++ entries_from o (n + 1) fs
 
--- of all frames of a track, numbered from 1
+-- the bytes of an output for all frames of a track, numbered from 1
 abbrev pub entries_of : TrackOutput → List Frame → List ℕ
 entries_of o frames = entries_from o 1 frames
 
--- what an output has of blocks: what stands before the first frame, and the frames of its track
+-- the content of an output: the bytes before the first frame, and the frames of its track
 abbrev pub content_of : TrackOutput → List Block → List ℕ
 content_of o blocks = o.head ++ entries_of o (frames_of o.step o.track blocks)
 
--- the output whole
+-- the complete output
 abbrev pub output_of : TrackOutput → List Block → Output
 output_of o blocks = record { name = o.name; content = content_of o blocks }
 
--- all of them
+-- the complete outputs
 abbrev pub outputs_of : List TrackOutput → List Block → List Output
 outputs_of list blocks = map (λ (o : TrackOutput). output_of o blocks) list
 

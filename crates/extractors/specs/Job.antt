@@ -1,4 +1,4 @@
--- What a job takes of the tracks of a file: RFC 9559, section 5.1.4 (Tracks Element).
+-- The outputs of a job for the tracks of a file: RFC 9559, section 5.1.4 (Tracks Element).
 use Rattle.std.specs.Prelude.{◌≤◌, ⊤, ℕ, Bool, true, false, List, [], ◌∷◌, map, Option, Some, None, Result, Ok, Err, option_map, slice_get, unwrap_or}
 use Rattle.std.specs.List.{All, find, flat_map}
 use Rattle.std.specs.Option.{option_map_or}
@@ -18,14 +18,14 @@ use Rattle.extractors.specs.declared.frame_form.UnsupportedTrack.{UnsupportedTra
 use Rattle.extractors.specs.declared.frame_form.UnsupportedTrack.TheVariants.{NoExtractor, BadConfig}
 use Rattle.extractors.specs.declared.track_output.TrackOutput.{TrackOutput}
 
--- what a job writes of the frames of tracks; the other jobs take something else
+-- the form of the frames of tracks in a job; the other jobs extract something else
 abbrev pub form_of : Job → Option Form
 form_of (jobs.Tracks form list) = Some form
 form_of (jobs.Attachments list) = None
 form_of (jobs.Cues list) = None
 form_of (jobs.Chapters name) = None
 
--- the tracks that a job names, and where what it takes of each goes
+-- the tracks that a job names, with their outputs
 abbrev pub targets_of : Job → List Target
 targets_of (jobs.Tracks form list) = list
 targets_of (jobs.Attachments list) = []
@@ -50,12 +50,12 @@ AreNumbered (jobs.Attachments list) = All (λ (t : Target). 1 ≤ t.id) list
 AreNumbered (jobs.Cues list) = ⊤
 AreNumbered (jobs.Chapters name) = ⊤
 
--- A job whose files have different names, and whose numbers are such as are counted.
+-- The files of a job have different names, and its attached files are counted from 1.
 pub record CanBeDone (job : Job) : Type 0 where
   pub apart : AreApart (names_for job)
   pub numbers : AreNumbered job
 
--- a track isn't taken so, for this reason
+-- A track isn't extracted in this form, for the reason `why`.
 abbrev pub is_unfit : UnsupportedTrack → Result Coding UnsupportedTrack → Bool
 is_unfit why (Ok coding) = false
 is_unfit NoExtractor (Err NoExtractor) = true
@@ -63,25 +63,25 @@ is_unfit NoExtractor (Err BadConfig) = false
 is_unfit BadConfig (Err NoExtractor) = false
 is_unfit BadConfig (Err BadConfig) = true
 
--- a target names such a track
+-- The track of a target isn't extracted in this form, for the reason `why`.
 abbrev pub names_unfit : UnsupportedTrack → Form → List Node → Target → Bool
 names_unfit why kind entries t = option_map_or (λ entry. is_unfit why (coding_of kind entry)) (slice_get entries t.id) false
 
--- why the track of a target isn't taken so, if it isn't; one that isn't there is passed
+-- the reason why the track of a target isn't extracted in this form, if any; a missing track has none
 abbrev pub unfit_of : Form → List Node → Target → Option UnsupportedTrack
 unfit_of kind entries t = option_map_or (λ entry. result_err (coding_of kind entry)) (slice_get entries t.id) None
 
--- the number, from 0, of the track of the first target, in the order of the words, that isn't taken so, for this reason
+-- the index, from 0, of the first target's track that isn't extracted in this form, for the reason `why`
 abbrev pub first_unfit : UnsupportedTrack → Form → List Target → List Node → Option ℕ
 first_unfit why kind targets entries = option_map (λ (t : Target). t.id) (find (names_unfit why kind entries) targets)
 
--- A codec without a form is told before a bad configuration.
+-- The refusal of a job: a codec without a form comes before a bad configuration.
 abbrev pub refusal_of : Option ℕ → Option ℕ → Option Refusal
 refusal_of (Some track) bad_config = Some (record { why = NoExtractor; track = track })
 refusal_of None (Some track) = Some (record { why = BadConfig; track = track })
 refusal_of None None = None
 
--- the output of a name, which takes the frames of the track of this entry so
+-- the output `name` for the frames of the track with this entry and coding
 abbrev pub output_with : List ℕ → Node → Coding → TrackOutput
 output_with name entry coding = record {
   name = name;
@@ -92,12 +92,12 @@ output_with name entry coding = record {
   form = coding.form;
 }
 
--- it, if the track is taken so
+-- the output for a track, if the track is extracted in this form
 abbrev pub track_output : List ℕ → Node → Result Coding UnsupportedTrack → List TrackOutput
 track_output name entry (Err why) = []
 track_output name entry (Ok coding) = output_with name entry coding ∷ []
 
--- the output of a target, if the file has the track: by its place in Tracks, from 0
+-- the output of a target, if the file has the track, by its index in Tracks
 abbrev pub output_for : Form → Target → Option Node → List TrackOutput
 output_for kind t None = []
 output_for kind t (Some entry) = track_output t.name entry (coding_of kind entry)
@@ -110,11 +110,11 @@ abbrev pub outputs_taken : Option Form → List Target → List Node → List Tr
 outputs_taken None targets entries = []
 outputs_taken (Some kind) targets entries = outputs_for kind targets entries
 
--- the outputs that a job comes to, where these are the entries of the tracks
+-- the outputs of `job` for a file with the track entries `entries`
 abbrev pub job_outputs : Job → List Node → List TrackOutput
 job_outputs job entries = outputs_taken (form_of job) (targets_of job) entries
 
--- why a job is refused for one of these tracks
+-- the refusal of a job for one of the tracks
 abbrev pub refusal_taken : Option Form → List Target → List Node → Option Refusal
 refusal_taken None targets entries = None
 refusal_taken (Some kind) targets entries = refusal_of (first_unfit NoExtractor kind targets entries) (first_unfit BadConfig kind targets entries)

@@ -7,27 +7,27 @@ use Rattle.tree_format.specs.Changes.{part}
 use Rattle.tree_format.specs.Node.{Node, children}
 use Rattle.tree_format.specs.Values.{integer_in}
 
--- a number in decimal, or `-` where there is none
+-- a number in decimal, or `-` if it is absent
 abbrev pub number_or_dash : Option ℕ → List ℕ
 number_or_dash None = codes "-"
 number_or_dash (Some n) = decimal n
 
--- a name, and a number behind it
+-- a name, followed by a number
 abbrev pub labelled : List ℕ → Option ℕ → List ℕ
 labelled name number = name ++ number_or_dash number
 
--- the time of a cue point in nanoseconds, where it says one
+-- the time of a cue point in nanoseconds, if it has one
 abbrev pub point_time : ℕ → Node → Option ℕ
 point_time scale point = option_map (λ ticks. ticks * scale) (integer_in CUE_TIME point)
 
--- a line of a time and of the positions in a CueTrackPositions, as they stand there
+-- the line with a time and the positions in a CueTrackPositions, as they are there
 abbrev pub cue_line : Option ℕ → Node → List ℕ
 cue_line time place =
     codes "timestamp=" ++ (number_or_dash time
     ++ (codes " cluster_position=" ++ (number_or_dash (integer_in CUE_CLUSTER_POSITION place)
     ++ (codes " relative_position=" ++ (number_or_dash (integer_in CUE_RELATIVE_POSITION place) ++ codes "\n")))))
 
--- the line of a CueTrackPositions, if it bears this TrackNumber
+-- the line of a CueTrackPositions, if it has this TrackNumber
 abbrev pub place_lines : Option ℕ → ℕ → Node → List ℕ
 place_lines time track place = if option_map_or (λ own. own == track) (integer_in CUE_TRACK place) false then cue_line time place else []
 

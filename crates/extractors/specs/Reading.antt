@@ -14,7 +14,7 @@ use Rattle.meta_records.specs.Records.{ReadsAs}
 use Rattle.tree_format.specs.Reading.{tree_of}
 use Rattle.extractors.specs.declared.limits.TheConstants.{MAX_CUE_NODES}
 
--- a Cues as a tree, if there is one; or that it is too large, or what is wrong inside
+-- a Cues as a tree, if there is one, or its damage: too large, or damaged inside
 abbrev pub cues_at : List ℕ → Option Header → Result (Option Node) Damage
 cues_at bytes None = Ok None
 cues_at bytes (Some h) =
@@ -25,6 +25,6 @@ cues_at bytes (Some h) =
 abbrev pub first_cues : List ℕ → Header → Result (Option Node) Damage
 first_cues bytes segment = cues_at bytes (first_of CUES (segment_run bytes segment).list)
 
--- The first Cues was read so, where this is the outline of the content.
+-- The first Cues was read, if `outline` is the outline of the content.
 abbrev pub ReadsFirstCues : FileOutline → Result (Option Node) OutlineEnd → List ℕ → Type 0
 ReadsFirstCues outline result bytes = (held : ℕ) → outline_in held bytes ≡ Ok outline → ReadsAs (first_cues bytes outline.segment) result

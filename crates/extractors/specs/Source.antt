@@ -1,4 +1,4 @@
--- A file of which something is taken, and what is taken of it. What that is, is this project's.
+-- A file to extract from, and the outputs of a job for it. The choice is this project's.
 use Rattle.std.specs.Prelude.{◌≡◌, ℕ, List, map, None, IfSome, slice_get}
 use Rattle.std.specs.List.{All}
 use Rattle.mkv_io.specs.Sources.{IsLive, file_size}
@@ -27,17 +27,17 @@ entry_in t = t.entry
 abbrev pub entries_in : Source → List Node
 entries_in s = map entry_in s.tracks
 
--- the blocks and damages of a source whose file has this content
+-- the blocks and the damage of a source whose file has this content
 abbrev pub events_in : Source → List ℕ → List Event
 events_in s bytes = events_of (with_limits (scale_of_info s.info)) bytes s.outline.segment
 
--- the outputs that a job comes to
+-- the outputs of a job for a source
 abbrev pub outputs_in : Source → Job → List TrackOutput
 outputs_in s job = job_outputs job (entries_in s)
 
--- ---- what is asked of a source
+-- ---- requirements of a source
 
--- The file is live and has the length of its outline, and its records are such as nothing refuses.
+-- The file is live and has the length of its outline, and none of its records is refused.
 pub record IsSource {S : Type 0} (r : Ghosts S) (files : S) (s : Source) : Type 0 where
   pub live : IsLive r files s.file
   pub whole : s.outline.total ≡ file_size r files s.file
@@ -47,11 +47,11 @@ pub record IsSource {S : Type 0} (r : Ghosts S) (files : S) (s : Source) : Type 
   pub chapters : IfSome s.chapters (IsSoundOf CHAPTERS)
   pub cues : IfSome s.cues (IsSoundOf CUES)
 
--- Nothing keeps the frames of a track from being used.
+-- Nothing prevents the use of the frames of a track.
 abbrev pub IsUsable : Node → Type 0
 IsUsable entry = first_damage (usable_causes entry) ≡ None
 
--- The frames of the tracks that targets name can be used.
+-- The frames of the targets' tracks can be used.
 abbrev pub AreUsableOf : List Node → List Target → Type 0
 AreUsableOf entries targets = All (λ (t : Target). IfSome (slice_get entries t.id) IsUsable) targets
 

@@ -1,4 +1,4 @@
--- Which blocks of a file outputs take, and what is known of a block that is enough for them.
+-- The blocks of a file that outputs take, and the known part of a block that is enough for them.
 use Rattle.std.specs.Prelude.{◌≡◌, ◌==◌, Bool, true, false, if◌then◌else◌, List, [], ◌∷◌}
 use Rattle.std.specs.List.{All, list_all}
 use Rattle.block_format.specs.Block.{Block}
@@ -10,9 +10,9 @@ use Rattle.extractors.specs.declared.frame_form.FrameForm.{FrameForm}
 use Rattle.extractors.specs.declared.frame_form.FrameForm.TheVariants as form
 use Rattle.extractors.specs.declared.track_output.TrackOutput.{TrackOutput}
 
--- ---- which blocks are taken
+-- ---- the blocks that are taken
 
--- times alone are written of frames, and not their octets
+-- Only timestamps are written for frames, and not their bytes.
 abbrev pub is_of_times : FrameForm → Bool
 is_of_times form.Plain = false
 is_of_times form.SubRip = false
@@ -20,18 +20,18 @@ is_of_times (form.AnnexB w) = false
 is_of_times (form.Adts aac) = false
 is_of_times form.Time = true
 
--- the blocks of the track that all outputs take; where they take more than one all blocks
+-- the filter for the track of all outputs, or for all blocks if they take more than one track
 abbrev pub of_one_track : List TrackOutput → BlockFilter
 of_one_track [] = takes.All
 of_one_track (o ∷ others) = if list_all (λ (other : TrackOutput). other.track == o.track) others then takes.Track o.track else takes.All
 
--- the blocks that outputs take: no frames, where each output has times alone
+-- the filter for the blocks that outputs take: no frames, if each output takes only timestamps
 abbrev pub takes_of : List TrackOutput → BlockFilter
 takes_of list = if list_all (λ (o : TrackOutput). is_of_times o.form) list then takes.Heads else of_one_track list
 
--- ---- what is known of a block
+-- ---- the known part of a block
 
--- For times it is known what the block says of itself and how many frames it has, for each other form all.
+-- The buffered block `lent` is enough of block `b`: for timestamps, its head and count of frames; for each other form, all of it.
 abbrev pub IsEnough : FrameForm → Block → Buffered → Type 0
 IsEnough form.Plain b lent = b ≡ block_of lent
 IsEnough form.SubRip b lent = b ≡ block_of lent
@@ -39,12 +39,12 @@ IsEnough (form.AnnexB w) b lent = b ≡ block_of lent
 IsEnough (form.Adts aac) b lent = b ≡ block_of lent
 IsEnough form.Time b lent = IsKnownByHead b lent
 
--- It is known of which track a block is, and where that is the output's track, what the output takes of it.
+-- The track of block `b` is known, and if it is the output's track, enough of the block for the output is known.
 pub record IsEnoughFor (o : TrackOutput) (b : Block) (lent : Buffered) : Type 0 where
   pub track : b.track ≡ lent.head.track
   pub own : lent.head.track ≡ o.track → IsEnough o.form b lent
 
--- The same for each of these outputs.
+-- The same holds for each output of the list.
 pub record IsEnoughForAll (list : List TrackOutput) (b : Block) (lent : Buffered) : Type 0 where
   pub track : b.track ≡ lent.head.track
   pub each : All (λ (o : TrackOutput). IsEnoughFor o b lent) list

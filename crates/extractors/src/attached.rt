@@ -1,4 +1,4 @@
-//! Attached files are written, each into a file of its own.
+//! Extraction of attached files, each to its own file.
 
 ghost use Rattle.std.specs.Prelude.{◌≡◌, ◌≤◌, ◌∷◌, [], length, option_map};
 ghost use Rattle.mkv_io.specs.Bounds.{ReadsUpTo};
@@ -16,10 +16,10 @@ use output_model::Attachment;
 use requests::Target;
 use std::alloc::Global;
 
-/// So many octets of data are copied at once.
+/// Number of bytes of data that are copied at once.
 const CHUNK: usize = 65_536;
 
-/// An attached file by its number, from 1.
+/// Returns attached file `number`, counted from 1.
 fn attached_at(list: &List<Attachment>, number: u64) -> Option<&Attachment>
     ensures { option_map (λ a. a.now) result ≡ attached_at list.now number }
 {
@@ -29,7 +29,7 @@ fn attached_at(list: &List<Attachment>, number: u64) -> Option<&Attachment>
     list.get((number - 1) as usize)
 }
 
-/// Makes the file of a target, whatever it was, with the data of the attached file that it names, if the source has that.
+/// Creates or replaces the file of `target` with the data of its attached file, if the source has it.
 fn write_attachment<F: Files>(
     files: &mut F,
     source: &Source,
@@ -58,7 +58,7 @@ fn write_attachment<F: Files>(
     )
 }
 
-/// Makes the files of targets in their order, as many octets at a time as the buffer holds.
+/// Writes the files of `targets` in order, with `buffer` for the data.
 fn write_each<F: Files>(
     files: &mut F,
     source: &Source,
@@ -80,8 +80,9 @@ fn write_each<F: Files>(
     Ok(())
 }
 
-/// Makes a file for each target whose attached file the source has, in their order, with its data, of which 64 KiB are in
-/// memory at once. Each is closed before the next is made. After a refusal first files stand, each with a first part.
+/// Extracts the attached file of each target that the source has, in order, to its own file. At most 64 KiB of data
+/// are in memory at once. Each file is closed before the next is created. On failure the first files exist, the last
+/// of them with a first part.
 pub fn write_attachments<F: Files>(
     alloc: Global,
     files: &mut F,

@@ -1,4 +1,4 @@
-//! The frames of one block that their codec has no form for.
+//! Frames of one block that their codec has no form for.
 
 ghost use Rattle.std.specs.Prelude.{◌≡◌, ◌++◌, ◌==◌, if◌then◌else◌, IfOk, OnOk, Some, is_none};
 ghost use Rattle.std.specs.List.{All, find};
@@ -20,7 +20,8 @@ use mkv_io::{Damage, Kind};
 use mkv_schema::ids::{BLOCK, SIMPLE_BLOCK};
 use std::alloc::{AllocError, Global};
 
-/// Tells the bad frames of a block, each once: as many outputs as take the track, they take it in one form.
+/// Reports the bad frames of the cursor's block, each once even if several outputs take the track: all take it in one
+/// form.
 pub fn add_bad_frames(
     list: &[TrackOutput],
     cursor: &Cursor,
@@ -36,14 +37,14 @@ pub fn add_bad_frames(
     }
 }
 
-/// The first output of a track.
+/// Returns the first output of track `track`.
 fn first_of(list: &[TrackOutput], track: u64) -> Option<&TrackOutput>
     ensures { option_copied result ≡ find (λ (o : OutputSeen). o.track == track) list.now }
 {
     list.iter().find(|output| output.track == track)
 }
 
-/// Tells the bad frames of a block, for the output that takes them.
+/// Reports the bad frames of the cursor's block for `output`, which takes them.
 fn add_bad_of(
     output: &TrackOutput,
     cursor: &Cursor,
@@ -64,7 +65,7 @@ fn add_bad_of(
     Ok(())
 }
 
-/// Tells a damage, if it is one.
+/// Reports `damage`, if `is_one` holds.
 fn add_if(is_one: bool, damage: Damage, told: &mut Damages)
     ensures { told.new ≡ (if is_one then with_damage told.old damage else told.old) }
 {
@@ -73,7 +74,7 @@ fn add_if(is_one: bool, damage: Damage, told: &mut Damages)
     }
 }
 
-/// The bad frame of the block that a buffer holds.
+/// Makes the report of a bad frame of the cursor's block.
 fn bad_frame(cursor: &Cursor) -> Damage
     ensures { result ≡ bad_frame (block_of cursor.now.block) }
 {
@@ -85,7 +86,7 @@ fn bad_frame(cursor: &Cursor) -> Damage
     }
 }
 
-/// Whether nothing can be written of a frame of these octets.
+/// Checks whether a frame with the bytes `octets` can't be written.
 fn is_bad(output: &TrackOutput, octets: &[u8], scratch: &mut Scratch) -> Result<bool, AllocError>
     requires { CanWrite output.now.form }
     ensures { IfOk result (λ bad. bad ≡ is_bad output.now octets.now) }

@@ -1,4 +1,4 @@
-//! The blocks of a file are written into the outputs.
+//! Writer of a file's blocks into the outputs.
 
 ghost use Rattle.std.specs.Prelude.{◌≡◌, ◌<◌, ◌+◌, length, OnOk};
 ghost use Rattle.std.specs.List.{All};
@@ -21,9 +21,9 @@ use mkv_io::{Files, MakeFault, RemuxEnd};
 use mkv_outputs::Outputs;
 use std::alloc::Global;
 
-/// Gives a block to the k-th output, whose next frame has this number, and answers the number of the one behind. It takes
-/// the frames of its track, or their times. Of a block of another track, and of one whose times are taken, the frames needn't
-/// be there.
+/// Writes the cursor's block to output `k`, whose next frame has number `number`; returns the number of the frame
+/// after the block. The output takes the frames of its track, or their timestamps. The frames of a block of another
+/// track, or of one with only timestamps taken, may be missing.
 fn give_to<F: Files>(
     outputs: &mut Outputs,
     files: &mut F,
@@ -50,7 +50,7 @@ fn give_to<F: Files>(
     }
 }
 
-/// Gives a block to the outputs of its track. The numbers are those of their next frames.
+/// Writes the cursor's block to the outputs of its track. `numbers` has the numbers of their next frames.
 fn give_block<F: Files>(
     list: &[TrackOutput],
     outputs: &mut Outputs,
@@ -74,7 +74,7 @@ fn give_block<F: Files>(
     Ok(())
 }
 
-/// Tells the bad frames of a block, and gives the others to the outputs of its track.
+/// Reports the bad frames of the cursor's block, and writes the others to the outputs of its track.
 fn take_block<F: Files>(
     list: &[TrackOutput],
     outputs: &mut Outputs,
@@ -98,8 +98,8 @@ fn take_block<F: Files>(
     give_block(list, outputs, files, numbers, cursor, scratch)
 }
 
-/// Gives all blocks that a cursor has left to the outputs of their tracks, which have none yet, and answers what is wrong
-/// with the file. The frames of blocks that no output takes needn't be read.
+/// Writes all remaining blocks of `cursor` to the outputs of their tracks, which have none yet. Returns the damage of
+/// the file and the bad frames. The frames of blocks that no output takes needn't be read.
 pub fn write_blocks<F: Files>(
     alloc: Global,
     list: &[TrackOutput],

@@ -1,4 +1,4 @@
-//! The chapters of a file are written as text.
+//! Extraction of chapters as text.
 
 ghost use Rattle.std.specs.Prelude.{IfSome};
 ghost use Rattle.mkv_schema.specs.declared.ids.TheConstants.{CHAPTERS as CHAPTERS_ID};
@@ -12,8 +12,8 @@ use mkv_io::{Bytes, Files, RemuxEnd};
 use srt_chapters::put_simple;
 use std::alloc::Global;
 
-/// Makes the file of a name, whatever it was, with a file's first Chapters as simple chapters; without one it is empty. It
-/// is closed, whatever the answer.
+/// Creates or replaces the file `name` with the first Chapters as simple chapters; without a Chapters it is empty.
+/// The file is closed in any case.
 pub fn write_chapters<F: Files>(
     alloc: Global,
     files: &mut F,

@@ -1,4 +1,4 @@
-//! How the frames of a track are written: RFC 9559, section 5.1.4 (Tracks Element), CodecID and CodecPrivate.
+//! Forms of the frames of a track: RFC 9559, section 5.1.4 (Tracks Element), CodecID and CodecPrivate.
 
 ghost use Rattle.std.specs.Prelude.{◌≡◌, IfOk};
 ghost use Rattle.track_records.specs.Track.{track_of};
@@ -15,10 +15,11 @@ use requests::Form;
 use std::alloc::{AllocError, Global};
 use track_records::Track;
 
-/// The first line of a file of times.
+/// First line of a timestamp file.
 const TIMES_HEAD: &[u8] = b"# timestamp format v2\n";
 
-/// What stands before the frames of a track, and how each is written; or why it isn't taken so.
+/// Returns the bytes before the frames of a track and the form of each frame; or the reason why the track isn't
+/// extracted in this form.
 pub fn coding_of(
     alloc: Global,
     form: Form,
@@ -36,7 +37,7 @@ pub fn coding_of(
     Ok(Ok(Coding { head, form }))
 }
 
-/// What its codec has.
+/// Returns the coding of the track's codec.
 fn codec_coding(
     alloc: Global,
     track: &Track,
@@ -60,7 +61,7 @@ fn codec_coding(
     }
 }
 
-/// The parameter sets, and then the units of the frames.
+/// Returns the coding of AVC: the parameter sets, and then the units of the frames.
 fn avc_coding(alloc: Global, private: &[u8]) -> Result<Result<Coding, UnsupportedTrack>, AllocError>
     ensures { IfOk result (λ read. read ≡ avc_coding (avc_of private.now)) }
 {
@@ -79,7 +80,7 @@ fn avc_coding(alloc: Global, private: &[u8]) -> Result<Result<Coding, Unsupporte
     }))
 }
 
-/// Each frame behind its header.
+/// Returns the coding of AAC: each frame after its header.
 fn aac_coding(alloc: Global, private: &[u8]) -> Result<Coding, UnsupportedTrack>
     ensures { result ≡ aac_coding (aac_of private.now) }
 {
@@ -92,7 +93,7 @@ fn aac_coding(alloc: Global, private: &[u8]) -> Result<Coding, UnsupportedTrack>
     }
 }
 
-/// The CodecPrivate of a track, empty where it has none.
+/// Returns the CodecPrivate of a track, or no bytes if it is absent.
 fn private_of(track: &Track) -> &[u8]
     ensures { result.now ≡ private_of track.now.entry }
 {
@@ -102,7 +103,7 @@ fn private_of(track: &Track) -> &[u8]
     }
 }
 
-/// The same octets.
+/// Copies `octets`.
 pub fn bytes_of(alloc: Global, octets: &[u8]) -> Result<Bytes, AllocError>
     ensures { IfOk result (λ bytes. bytes ≡ octets.now) }
 {

@@ -1,4 +1,4 @@
-//! Cue points are written as lines of text, each track's into a file of its own.
+//! Extraction of cue points as lines of text, each track's to its own file.
 
 ghost use Rattle.std.specs.Prelude.{◌≡◌, ◌≤◌, ◌∷◌, [], IfOk, IfSome};
 ghost use Rattle.std.specs.String.{string_bytes};
@@ -19,7 +19,7 @@ use mkv_io::{Files, RemuxEnd};
 use requests::Target;
 use std::alloc::{AllocError, Global};
 
-/// The lines of a track in a file's first Cues, if it has one.
+/// Returns the lines of a track in a file's first Cues, if it has one.
 fn cues_text(
     alloc: Global,
     cues: &Option<Tree>,
@@ -36,7 +36,7 @@ fn cues_text(
     Ok(text)
 }
 
-/// Makes the file of a target, whatever it was, with the lines of the track that it names, if the source has that.
+/// Creates or replaces the file of `target` with the lines of its track, if the source has it.
 fn write_track_cues<F: Files>(
     alloc: Global,
     files: &mut F,
@@ -59,9 +59,9 @@ fn write_track_cues<F: Files>(
     write_file(files, target.name.as_str(), text.as_bytes())
 }
 
-/// Makes a file for each target whose track the source has, in their order, with a line for each place that its Cues has for
-/// the track; without a Cues it is empty. Each is closed before the next is made. After a refusal first files stand, the
-/// last of them with a first part.
+/// Extracts the cue points of each target's track that the source has, in order, to its own file. It has a line for
+/// each position in the Cues for the track; without a Cues it is empty. Each file is closed before the next is
+/// created. On failure the first files exist, the last of them with a first part.
 pub fn write_cues<F: Files>(
     alloc: Global,
     files: &mut F,

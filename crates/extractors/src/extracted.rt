@@ -1,4 +1,4 @@
-//! What an extraction tells of a file.
+//! Problems that an extraction reports about a file.
 
 ghost use Rattle.std.specs.Prelude.{[], ◌≡◌, IfOk};
 ghost use Rattle.extractors.specs.BadFrames.{told_of};
@@ -6,17 +6,17 @@ ghost use Rattle.extractors.specs.BadFrames.{told_of};
 use cluster_reader::Damages;
 use std::alloc::{AllocError, Global};
 
-/// What is wrong with the file that frames are taken from.
+/// Damage of a file, and frames that weren't written.
 #[derive(Debug, Drop)]
 pub struct Extracted {
-    /// The damages of the file.
+    /// Damaged places of the file.
     pub damages: Damages,
-    /// The blocks of frames that aren't written, since the codec has no form for them, once for each such frame.
+    /// Blocks with frames that aren't written because the codec has no form for them, once for each such frame.
     pub bad_frames: Damages,
 }
 
 impl Extracted {
-    /// Nothing yet.
+    /// Makes an empty report.
     pub(crate) fn new(alloc: Global) -> Result<Extracted, AllocError>
         ensures { IfOk result (λ extracted. extracted ≡ told_of [] []) }
     {

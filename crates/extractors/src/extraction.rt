@@ -1,4 +1,4 @@
-//! An extraction: the outputs are made, written and closed.
+//! Extraction of tracks: the outputs are created, written and closed.
 
 ghost use Rattle.std.specs.Prelude.{◌≡◌, ◌<◌, [], IsSome};
 ghost use Rattle.std.specs.List.{All};
@@ -26,12 +26,12 @@ use mkv_outputs::Outputs;
 use requests::Job;
 use std::alloc::Global;
 
-/// Takes frames of tracks, or their times, out of a file, each target into a file of its own, and answers what
-/// is wrong with the file that they are taken from. A target whose track the file hasn't makes no file; nor does one whose
-/// track can't be taken so, of which `job_refusal` tells. A frame that its codec has no form for is left out.
+/// Extracts the frames of tracks, or their timestamps, each target to its own file. Returns the damage of the source
+/// and the bad frames, which are left out. A target without a track in the file makes no file. Neither does one whose
+/// track can't be extracted in this form; `job_refusal` reports it.
 ///
-/// The records of the source were read from its file; what is asked for can be taken of its tracks, whose frames
-/// can be used.
+/// The records of `source` must have been read from its file, and its tracks must allow the job and have usable
+/// frames.
 pub fn extract<F: Files>(
     alloc: Global,
     files: &mut F,
@@ -44,12 +44,12 @@ pub fn extract<F: Files>(
     requires apart { AreApart (names_of (targets_of job.now)) }
     requires other { AreOthers (F.holder files.old source.now.file.n) (names_of (targets_of job.now)) }
 
-    // Each output is what its target asks for, and no other name changes. After a refusal first outputs stand, each a
-    // first part.
+    // Each output is the one that its target asks for, and no other name changes. On failure the first outputs exist,
+    // each a first part.
     ensures writes { WritesTaken F.Reads F.Files.own source.now job.now files.old files.new result }
     ensures tells { TellsTaken F.Reads source.now job.now files.old result }
 
-    // No file stays open, whatever the answer.
+    // No file stays open in any case.
     ensures kept { KeepsOthers F.Reads F.Files.own (names_in (outputs_in source.now job.now)) files.old files.new }
     ensures cause { HasRemuxCause F.Reads F.Files.own files.old files.new result }
     ensures octets { ReadsFewOf F.Reads source.now.file files.old files.new result }
@@ -62,7 +62,7 @@ pub fn extract<F: Files>(
     write_tracks(alloc, &list, files, &mut cursor)
 }
 
-/// Writes the outputs, all in one walk over the blocks that the cursor has left.
+/// Writes the outputs, all in one walk over the remaining blocks of `cursor`.
 fn write_tracks<F: Files>(
     alloc: Global,
     list: &[TrackOutput],
@@ -85,7 +85,7 @@ fn write_tracks<F: Files>(
     ended
 }
 
-/// Makes the outputs and writes them. They stay open, whatever the answer.
+/// Creates the outputs and writes them. They stay open in any case.
 fn write_all<F: Files>(
     alloc: Global,
     list: &[TrackOutput],
@@ -111,7 +111,7 @@ fn write_all<F: Files>(
     Ok(extracted)
 }
 
-/// Makes the outputs, and gives each of them what stands before the first frame.
+/// Creates the outputs, each with its bytes before the first frame.
 fn make_all<F: Files>(
     list: &[TrackOutput],
     outputs: &mut Outputs,

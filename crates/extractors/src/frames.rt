@@ -1,4 +1,4 @@
-//! The frames of one block are written into one output.
+//! Writer of the frames of one block into one output.
 
 ghost use Rattle.std.specs.Prelude.{◌≡◌, ◌≢◌, ◌<◌, ◌++◌, ◌^◌, length, IfOk, OnOk};
 ghost use Rattle.mkv_io.specs.Faults.{HasCause, is_make_failure};
@@ -20,18 +20,18 @@ use mkv_outputs::Outputs;
 use std::alloc::{AllocError, Global};
 use text_formats::put_srt;
 
-/// A frame that is given to an output.
+/// Frame that is written to an output.
 #[derive(Clone, Copy)]
 struct Framed<'a> {
-    /// Its number among the frames of its track, from 1.
+    /// Number of the frame in its track, counted from 1.
     number: u64,
     octets: &'a [u8],
-    /// In nanoseconds, as its duration.
+    /// Timestamp in nanoseconds, like the duration.
     time: i64,
     duration: u64,
 }
 
-/// What is put together of a frame before it is given to an output.
+/// Buffers for the bytes of one frame before they are written.
 #[derive(Drop)]
 pub struct Scratch {
     line: String,
@@ -49,7 +49,7 @@ impl Scratch {
     }
 }
 
-/// Octets behind a prefix. They are put together only where the prefix has octets.
+/// Returns `prefix` followed by `octets`. The bytes are joined in `text` only if the prefix isn't empty.
 pub(crate) fn whole<'a>(
     text: &'a mut Bytes,
     prefix: &[u8],
@@ -66,8 +66,9 @@ pub(crate) fn whole<'a>(
     Ok(text.as_slice())
 }
 
-/// Gives the frames of a block to the k-th output, of which the first has this number among those of its track, and
-/// answers the number of the next. The output has their octets. The scratch is of no use before and afterwards.
+/// Writes the frames of the cursor's block to output `k`; returns the number of the frame after them. The first frame
+/// has number `number` in its track. The output takes the bytes of frames. The content of `scratch` before and after
+/// the call doesn't matter.
 pub fn give_frames<F: Files>(
     outputs: &mut Outputs,
     files: &mut F,
@@ -104,8 +105,8 @@ pub fn give_frames<F: Files>(
     Ok(number.saturating_add(sizes.len() as u64))
 }
 
-/// Gives the times of the frames of a block to the k-th output, which has nothing else of them, and of which the first has this
-/// number, and answers the number of the next. The frames needn't be there.
+/// Writes the timestamps of the frames of the cursor's block to output `k`; returns the number of the frame after
+/// them. The first frame has number `number`. The frames themselves may be missing.
 pub fn give_times<F: Files>(
     outputs: &mut Outputs,
     files: &mut F,
@@ -132,7 +133,7 @@ pub fn give_times<F: Files>(
     Ok(number.saturating_add(frames as u64))
 }
 
-/// Gives a frame to the k-th output, which has its octets; nothing of a bad one.
+/// Writes a frame to output `k`, which takes the bytes of frames; writes nothing for a bad frame.
 fn give_frame<F: Files>(
     outputs: &mut Outputs,
     files: &mut F,
@@ -169,7 +170,7 @@ fn give_frame<F: Files>(
     }
 }
 
-/// Gives octets behind a prefix to the k-th output.
+/// Writes `prefix` and then `octets` to output `k`.
 fn give_behind<F: Files>(
     outputs: &mut Outputs,
     files: &mut F,
@@ -187,7 +188,7 @@ fn give_behind<F: Files>(
     outputs.write(files, k, octets)
 }
 
-/// Gives a time, as a line, to the k-th output.
+/// Writes a timestamp, as a line, to output `k`.
 fn give_time<F: Files>(
     outputs: &mut Outputs,
     files: &mut F,
@@ -206,7 +207,7 @@ fn give_time<F: Files>(
     outputs.write(files, k, text.as_bytes())
 }
 
-/// Gives a frame behind a prefix, as an entry of SubRip, to the k-th output.
+/// Writes `prefix` and a frame, as an entry of SubRip, to output `k`.
 fn give_text<F: Files>(
     outputs: &mut Outputs,
     files: &mut F,
@@ -225,7 +226,7 @@ fn give_text<F: Files>(
     outputs.write(files, k, scratch.entry.as_slice())
 }
 
-/// Puts a frame behind a prefix, as an entry of SubRip, into the scratch.
+/// Puts `prefix` and a frame, as an entry of SubRip, into `scratch`.
 fn put_text(prefix: &[u8], frame: Framed<'_>, scratch: &mut Scratch) -> Result<(), AllocError>
     ensures { OnOk result (scratch.new.entry ≡ as_text prefix.now frame.entry) }
 {
@@ -240,7 +241,7 @@ fn put_text(prefix: &[u8], frame: Framed<'_>, scratch: &mut Scratch) -> Result<(
     )
 }
 
-/// Gives the units of a frame behind a prefix, each behind a start code, to the k-th output; nothing of a bad frame.
+/// Writes the units of `prefix` and a frame, each after a start code, to output `k`; writes nothing for a bad frame.
 fn give_units<F: Files>(
     outputs: &mut Outputs,
     files: &mut F,
@@ -261,7 +262,7 @@ fn give_units<F: Files>(
     give_join(outputs, files, k, frame, length_size)
 }
 
-/// Gives the units of a frame, each behind a start code, to the k-th output; nothing of a bad frame.
+/// Writes the units of a frame, each after a start code, to output `k`; writes nothing for a bad frame.
 fn give_join<F: Files>(
     outputs: &mut Outputs,
     files: &mut F,
@@ -287,7 +288,7 @@ fn give_join<F: Files>(
     Ok(())
 }
 
-/// Gives a frame behind a prefix, both behind a header, to the k-th output; nothing of a bad frame.
+/// Writes a header, `prefix` and a frame to output `k`; writes nothing for a bad frame.
 fn give_headed<F: Files>(
     outputs: &mut Outputs,
     files: &mut F,

@@ -1,4 +1,4 @@
-//! The outputs that a job comes to, or why it is refused.
+//! The outputs of a job, and the reasons to refuse it.
 
 ghost use Rattle.std.specs.Prelude.{◌≡◌, map, IfOk, Some};
 ghost use Rattle.track_records.specs.Sound.{IsEntry};
@@ -15,7 +15,7 @@ use requests::{Form, Job, Target};
 use std::alloc::{AllocError, Global};
 use track_records::{Track, usable};
 
-/// What a job writes of the frames of tracks; None where it takes something else.
+/// Returns the form that a job writes the frames of tracks in; None if it extracts something else.
 pub fn form_of(job: &Job) -> Option<Form>
     ensures { result ≡ form_of job.now }
 {
@@ -25,7 +25,7 @@ pub fn form_of(job: &Job) -> Option<Form>
     }
 }
 
-/// The targets of a job that name tracks: those of attached files don't.
+/// Returns the targets of a job that name tracks; the targets for attached files don't.
 pub fn targets_of(job: &Job) -> &[Target]
     ensures { result.now ≡ targets_of job.now }
 {
@@ -35,7 +35,8 @@ pub fn targets_of(job: &Job) -> &[Target]
     }
 }
 
-/// The outputs of targets, in their order. One whose track isn't there, or isn't taken so, has none.
+/// Returns the outputs of targets, in order. A target whose track is missing or isn't extracted in this form has
+/// none.
 pub fn track_outputs(
     alloc: Global,
     form: Form,
@@ -60,7 +61,7 @@ pub fn track_outputs(
     Ok(list)
 }
 
-/// The output of this name, which takes the frames of a track.
+/// Makes the output `name` for the frames of `track`.
 fn output_with(
     alloc: Global,
     coding: Coding,
@@ -85,7 +86,7 @@ fn output_with(
     })
 }
 
-/// Why a job is refused for a track that it names.
+/// Returns the reason why a job is refused for a track that it names, if any.
 pub fn job_refusal(
     alloc: Global,
     job: &Job,
@@ -100,7 +101,7 @@ pub fn job_refusal(
     }
 }
 
-/// Why tracks that targets name aren't taken so: the first of a codec without a form, or else the first with a bad
+/// Returns the refusal for the tracks of targets: for the first codec without a form, or else for the first bad
 /// configuration.
 fn first_refusal(
     alloc: Global,
@@ -123,7 +124,7 @@ fn first_refusal(
     Ok(refusal_of(None, bad_config))
 }
 
-/// What is told of a track whose codec has no form, and else of one with a bad configuration.
+/// Returns the refusal for a track without a form for its codec, or else for one with a bad configuration.
 fn refusal_of(no_extractor: Option<u64>, bad_config: Option<u64>) -> Option<Refusal>
     ensures { result ≡ refusal_of no_extractor bad_config }
 {
@@ -140,7 +141,7 @@ fn refusal_of(no_extractor: Option<u64>, bad_config: Option<u64>) -> Option<Refu
     }
 }
 
-/// Why the track of a target isn't taken so, if it isn't. One that isn't there is passed.
+/// Returns the reason why the target's track isn't extracted in this form, if any. A missing track has none.
 fn unfit_of(
     alloc: Global,
     form: Form,
@@ -157,7 +158,7 @@ fn unfit_of(
     Ok(read.err())
 }
 
-/// The same text.
+/// Copies `text`.
 fn text_of(alloc: Global, text: &str) -> Result<Text, AllocError>
     ensures { IfOk result (λ copy. copy ≡ text.now) }
 {

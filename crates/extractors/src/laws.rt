@@ -1,7 +1,7 @@
-//! What holds of every output.
+//! Laws that hold for every output.
 ghost use Rattle.extractors.specs.Laws.{OutputsHoldTheGoodFrames};
 
-/// An output in the form of a codec is a stream of the good frames of its track, in order.
+/// An output in the form of a codec is a stream of the valid frames of its track, in order.
 pub fn outputs_hold_the_good_frames()
     ensures { OutputsHoldTheGoodFrames }
 {}

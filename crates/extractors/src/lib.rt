@@ -1,7 +1,7 @@
 #![tactic(auto)]
 
-//! Extractions: frames of tracks, or their times, are written into files of their own, all in one walk over
-//! the blocks of the file; chapters and cue points are written as text, attached files as they are.
+//! Extractions: frames of tracks, or their timestamps, to their own files, all in one walk over the blocks of the
+//! file. Chapters and cue points are extracted as text, attached files as they are.
 
 mod attached;
 mod bad_frames;

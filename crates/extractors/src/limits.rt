@@ -1,4 +1,4 @@
 //! Limits that are this project's.
 
-/// The most Elements of a Cues that is read, itself counted.
+/// Greatest number of Elements of a Cues that is read, itself included.
 pub const MAX_CUE_NODES: u32 = 8_388_608;

@@ -16,9 +16,9 @@ use mkv_schema::ids::{
 use std::alloc::AllocError;
 use std::fmt::Write;
 
-/// Adds a line for each CueTrackPositions that bears a TrackNumber, in the order of the Cues: its time in nanoseconds, at so
-/// many of them a tick, and the positions as they stand there, in octets from the start of the Segment's body and of the
-/// Cluster's.
+/// Appends a line for each CueTrackPositions with this TrackNumber, in the order of the Cues. A line has the time in
+/// nanoseconds, at `scale` nanoseconds a tick, and the positions. They are the numbers in the Cues, in bytes from the
+/// start of the Segment's body and of the Cluster's.
 pub fn put_cues(cues: &Tree, track: u64, scale: u64, out: &mut String) -> Result<(), AllocError>
     requires { IsSoundOf ids.CUES cues.now }
     ensures { OnOk result (string_bytes out.new ≡ string_bytes out.old ++ spec.cue_lines scale track cues.now) }
@@ -31,7 +31,7 @@ pub fn put_cues(cues: &Tree, track: u64, scale: u64, out: &mut String) -> Result
     Ok(())
 }
 
-/// Adds the lines of one cue point.
+/// Appends the lines of one cue point.
 fn put_point(point: &Tree, track: u64, scale: u64, out: &mut String) -> Result<(), AllocError>
     requires { IsSoundOf ids.CUE_POINT point.now }
     ensures { OnOk result (string_bytes out.new ≡ string_bytes out.old ++ spec.point_lines scale track point.now) }
@@ -45,7 +45,7 @@ fn put_point(point: &Tree, track: u64, scale: u64, out: &mut String) -> Result<(
     Ok(())
 }
 
-/// The time of a cue point in nanoseconds, where it says one.
+/// Returns the time of a cue point in nanoseconds, if it has one.
 fn time_of(point: &Tree, scale: u64) -> Option<u128>
     requires { IsSoundOf ids.CUE_POINT point.now }
     ensures { result ≡ spec.point_time scale point.now }
@@ -54,7 +54,7 @@ fn time_of(point: &Tree, scale: u64) -> Option<u128>
     Some(u128::from(ticks) * u128::from(scale))
 }
 
-/// Adds the line of a place, if it bears a track's number.
+/// Appends the line of `place`, if it has the track's number.
 fn put_place(
     time: Option<u128>,
     place: &Tree,
@@ -70,7 +70,7 @@ fn put_place(
     }
 }
 
-/// Adds the line of a place.
+/// Appends the line of `place`.
 fn put_line(time: Option<u128>, place: &Tree, out: &mut String) -> Result<(), AllocError>
     requires { IsSoundOf ids.CUE_TRACK_POSITIONS place.now }
     ensures { OnOk result (string_bytes out.new ≡ string_bytes out.old ++ spec.cue_line time place.now) }
@@ -81,7 +81,7 @@ fn put_line(time: Option<u128>, place: &Tree, out: &mut String) -> Result<(), Al
     out.push_str("\n")
 }
 
-/// Adds a name, and the unsigned integer of an ID in decimal, or `-` where it doesn't stand.
+/// Appends `name`, and the unsigned integer with this `id` in decimal, or `-` if it is absent.
 fn put_integer(name: &str, tree: &Tree, id: u32, out: &mut String) -> Result<(), AllocError>
     requires sound { IsSound tree.now }
     requires uint { HasUint (id_of tree.now) id }
@@ -93,7 +93,7 @@ fn put_integer(name: &str, tree: &Tree, id: u32, out: &mut String) -> Result<(),
     }
 }
 
-/// Adds a name, and a number in decimal, or `-` where there is none.
+/// Appends `name`, and `number` in decimal, or `-` if it is absent.
 fn put_number(name: &str, number: Option<u128>, out: &mut String) -> Result<(), AllocError>
     ensures { OnOk result (string_bytes out.new ≡ string_bytes out.old ++ spec.labelled name.now number) }
 {

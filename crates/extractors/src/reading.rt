@@ -16,8 +16,8 @@ use mkv_io::{FileId, Reads};
 use mkv_schema::ids::CUES;
 use std::alloc::Global;
 
-/// The first Cues of level 1, if there is one. It refuses the file where it has more than 64 MiB (`HeaderTooLarge`) or
-/// 8,388,608 Elements (`TooMany`), or where something inside is wrong.
+/// Reads the first Cues of level 1, if there is one. It refuses the file if the Cues is over 64 MiB
+/// (`HeaderTooLarge`), has over 8,388,608 Elements (`TooMany`), or is damaged inside.
 pub fn first_cues<R: Reads>(
     alloc: Global,
     outline: &Outline,

@@ -1,4 +1,4 @@
-//! A file of which something is taken.
+//! A file to extract from.
 
 use ebml_tree::Tree;
 use element_reader::Outline;
@@ -6,19 +6,19 @@ use mkv_io::{FileId, List};
 use output_model::Attachment;
 use track_records::Track;
 
-/// A live file, and what was read of it before its blocks.
+/// Live file, with the records that were read before its blocks.
 #[derive(Drop)]
 pub struct Source {
     pub file: FileId,
     pub outline: Outline,
-    /// Its first Info, if it has one.
+    /// First Info, if there is one.
     pub info: Option<Tree>,
-    /// The tracks of its first Tracks.
+    /// Tracks of the first Tracks.
     pub tracks: List<Track>,
-    /// The attached files of its first Attachments, whose data stay in it.
+    /// Attached files of the first Attachments, without their data.
     pub attachments: List<Attachment>,
-    /// Its first Chapters, if it has one.
+    /// First Chapters, if there is one.
     pub chapters: Option<Tree>,
-    /// Its first Cues, if it has one and they are asked for.
+    /// First Cues, if there is one and the job asks for it.
     pub cues: Option<Tree>,
 }

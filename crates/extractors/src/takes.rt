@@ -1,4 +1,4 @@
-//! Which blocks of a file outputs take.
+//! Selection of the blocks of a file that outputs take.
 
 ghost use Rattle.std.specs.Prelude.{◌≡◌, ◌==◌};
 ghost use Rattle.std.specs.List.{list_all};
@@ -9,7 +9,7 @@ use crate::frame_form::FrameForm;
 use crate::track_output::TrackOutput;
 use cluster_reader::BlockFilter;
 
-/// Whether times alone are written of frames, and not their octets.
+/// Checks whether only timestamps are written for frames, and not their bytes.
 fn is_of_times(form: &FrameForm) -> bool
     ensures { result ≡ is_of_times form.now }
 {
@@ -20,21 +20,21 @@ fn is_of_times(form: &FrameForm) -> bool
     }
 }
 
-/// Whether times alone are written into each output.
+/// Checks whether each output takes only timestamps.
 fn are_of_times(list: &[TrackOutput]) -> bool
     ensures { result ≡ list_all (λ (o : OutputSeen). is_of_times o.form) list.now }
 {
     list.iter().all(|output| is_of_times(&output.form))
 }
 
-/// Whether all outputs are of this track.
+/// Checks whether all outputs take this track.
 fn are_of_track(list: &[TrackOutput], track: u64) -> bool
     ensures { result ≡ list_all (λ (o : OutputSeen). o.track == track) list.now }
 {
     list.iter().all(|output| output.track == track)
 }
 
-/// The blocks of the track that all outputs take; where they take more than one, all blocks.
+/// Returns the filter for the track of all outputs, or for all blocks if they take more than one track.
 fn of_one_track(list: &[TrackOutput]) -> BlockFilter
     ensures { result ≡ of_one_track list.now }
 {
@@ -48,7 +48,7 @@ fn of_one_track(list: &[TrackOutput]) -> BlockFilter
     }
 }
 
-/// The blocks that outputs take: no frames, where each output has times alone.
+/// Returns the filter for the blocks that outputs take: no frames, if each output takes only timestamps.
 pub fn takes_of(list: &[TrackOutput]) -> BlockFilter
     ensures { result ≡ takes_of list.now }
 {

@@ -1,4 +1,4 @@
-//! Times of frames, and their text.
+//! Timestamps of frames, and their text.
 
 ghost use Rattle.std.specs.Prelude.{◌≡◌, ◌++◌, ◌<◌, ◌*◌, ◌^◌, pos, ◌+ℤ◌, OnOk};
 ghost use Rattle.std.specs.String.{string_bytes};
@@ -9,7 +9,7 @@ use cluster_reader::BlockHead;
 use std::alloc::AllocError;
 use std::fmt::Write;
 
-/// The time of the i-th frame of a lace, from 0, in nanoseconds: the block's time and so many steps.
+/// Returns the time of frame `i` of a lace, counted from 0, in nanoseconds: the block's time and `i` steps.
 pub fn frame_time(head: &BlockHead, i: usize, step: u64) -> i64
     requires small { IsSmallTime head.now.time }
     requires few { i < 256 }
@@ -19,7 +19,7 @@ pub fn frame_time(head: &BlockHead, i: usize, step: u64) -> i64
     head.time + (i as u64 * step) as i64
 }
 
-/// Adds a time as a line, in milliseconds.
+/// Appends a time as a line, in milliseconds.
 pub fn push_time(text: &mut String, time: i64) -> Result<(), AllocError>
     ensures { OnOk result (string_bytes text.new ≡ string_bytes text.old ++ time_line time) }
 {

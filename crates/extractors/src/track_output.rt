@@ -1,21 +1,21 @@
-//! An output that takes the frames of a track.
+//! An output for the frames of a track.
 
 use crate::frame_form::FrameForm;
 use mkv_io::{Bytes, Text};
 
-/// An output that takes the frames of one track.
+/// Output for the frames of one track.
 #[derive(Debug, Drop)]
 pub struct TrackOutput {
-    /// The name of its file.
+    /// Name of its file.
     pub name: Text,
-    /// The TrackNumber of the track.
+    /// TrackNumber of the track.
     pub track: u64,
-    /// Nanoseconds from one frame of a lace to the next: the track's DefaultDuration, 0 where it has none.
+    /// Nanoseconds from one frame of a lace to the next: the track's DefaultDuration, or 0 if it is absent.
     pub step: u64,
-    /// What stands before the first frame.
+    /// Bytes before the first frame.
     pub head: Bytes,
-    /// What was taken from the front of each frame.
+    /// Bytes that were removed from the start of each frame.
     pub prefix: Bytes,
-    /// How each frame is written.
+    /// Form of each frame.
     pub form: FrameForm,
 }

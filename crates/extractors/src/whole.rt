@@ -1,4 +1,4 @@
-//! Files that are made, written and closed by one call.
+//! Files that are created, written and closed by one call.
 
 ghost use Rattle.std.specs.Prelude.{◌≢◌, ◌+◌, ◌≤◌, length};
 ghost use Rattle.mkv_io.specs.Sources.{IsLive, file_size};
@@ -7,7 +7,7 @@ ghost use Rattle.extractors.specs.Whole.{CopiesFile, WritesFile};
 use cues_seekhead::{append, copy_data};
 use mkv_io::{FileId, Files, RemuxEnd as OutEnd};
 
-/// Makes the file of a name, whatever it was, with these octets. It is closed, whatever the answer.
+/// Creates or replaces the file `name` with the bytes `octets`. It is closed in any case.
 pub fn write_file<F: Files>(files: &mut F, name: &str, octets: &[u8]) -> Result<(), OutEnd>
     ensures { WritesFile F.Reads F.Files.own name.now octets.now 0 files.old files.new result }
 {
@@ -17,7 +17,8 @@ pub fn write_file<F: Files>(files: &mut F, name: &str, octets: &[u8]) -> Result<
     ended
 }
 
-/// Makes the file of a name, whatever it was, with octets of another file, `len` of them from a place on, as many at a time as the buffer holds.
+/// Creates or replaces the file `name` with `len` bytes of another file, from offset `at` on. It copies them through
+/// `buffer`.
 pub fn copy_file<F: Files>(
     files: &mut F,
     name: &str,

@@ -8,14 +8,14 @@ use Rattle.extractors.specs.Attached.{attached_at, attached_output}
 use Rattle.extractors.proofs.TargetLemmas.{AreOthers-target, KeepsOthers-target, written-more, written-part}
 use Rattle.extractors.proofs.attached.write_each.Goals as goal
 
--- the file of the source has another name than this one still
+-- The file of the source has another name than this one.
 pub write_attachment-requires-clause-other : goal.write_attachment-requires-clause-other
 write_attachment-requires-clause-other g c =
     AreOthers-target (g.F.Files.holder c.loop-target.files c.args.source.now.file.n) c.args.targets.now c.loop-target.target-index c.target-item.result
     (subst (λ (name : List ℕ). AreOthers name (names_of c.args.targets.now)) (sym (c.loop-target.invariant.kept.holders c.args.source.now.file.n c.requires.live)) c.requires.other)
     c.loop-target-test.true c.target-item.is
 
--- another file was written
+-- A further file was written.
 pub loop-target-preserved : goal.loop-target-preserved
 loop-target-preserved g c =
     let file = c.args.source.now.file.n in
@@ -36,7 +36,7 @@ loop-target-preserved g c =
     once_more : (before mid now i size here : ℕ) → here ≡ size → mid ≤ before + i * size → now ≤ mid + here → now ≤ before + (i + 1) * size
     once_more before mid now i size here is so more = grind arith
 
--- it was written in part
+-- The file was written in part.
 pub returns-in_err-write_attachment-clause-writes : goal.returns-in_err-write_attachment-clause-writes
 returns-in_err-write_attachment-clause-writes g c = λ bytes told.
     let file = c.args.source.now.file.n in
@@ -45,7 +45,7 @@ returns-in_err-write_attachment-clause-writes g c = λ bytes told.
     (g.F.Files.names c.args.files.now) (g.F.Files.names c.loop-target.files) (g.F.Files.names c.write_attachment.new.files) c.from_residual.result c.from_residual.ensures.0 c.loop-target-test.true c.target-item.is
     (c.loop-target.invariant.writes bytes told) (c.in_err-write_attachment.ensures.writes bytes (same.content c.requires.live ∙ told))
 
--- no other name was
+-- No other name was written.
 pub returns-in_err-write_attachment-clause-kept : goal.returns-in_err-write_attachment-clause-kept
 returns-in_err-write_attachment-clause-kept g c =
     KeepsOthers-then g.F.Reads g.F.Files (names_of c.args.targets.now) c.args.files.now c.loop-target.files c.write_attachment.new.files c.loop-target.invariant.kept

@@ -1,4 +1,4 @@
--- The files of the first targets stand, and no other name was written.
+-- The files of the first targets are complete, and no other name was written.
 use Rattle.std.proofs.Common.{◌≡◌, ◌≤◌, ◌+◌, ◌*◌, map, take}
 use Rattle.mkv_io.specs.Sources.{file_size}
 use Rattle.mkv_io.specs.Told.{IfVisible}

@@ -10,7 +10,7 @@ use Rattle.extractors.proofs.bad_frames.add_bad_of.Goals as goal
 less : (a b : ℕ) → (a + b) - a ≡ b
 less a b = omega arith
 
--- no frame was seen yet
+-- No frame is checked yet.
 pub loop-size-init : goal.loop-size-init
 loop-size-init c = record {
   upto = ToldUpTo-begins c.args.bad.now _;
@@ -20,7 +20,7 @@ loop-size-init c = record {
     none : (n : ℕ) → 0 + n ≡ n
     none n = omega arith
 
--- the next frame was seen
+-- The next frame was checked.
 pub loop-size-preserved : goal.loop-size-preserved
 loop-size-preserved c =
     let sizes = c.sizes-sizes.result.now in
@@ -37,7 +37,7 @@ loop-size-preserved c =
       rest = rest-next sizes i at size (length body) below refl c.loop-size.invariant.rest;
     }
 
--- all were seen
+-- All frames were checked.
 pub returns : goal.returns
 returns c =
     let sizes = c.sizes-sizes.result.now in

@@ -1,4 +1,4 @@
--- The bad frames before those that are left were told.
+-- The bad frames before the remaining frames are reported.
 use Rattle.std.proofs.Common.{◌≡◌, ◌+◌, drop, length, sum}
 use Rattle.block_reader.specs.Buffered.{block_of}
 use Rattle.extractors.specs.BadFrames.{bad_frame}

@@ -10,7 +10,7 @@ use Rattle.extractors.proofs.BlocksLemmas.{WritesBlock-err, given_upto, given_up
 use Rattle.extractors.proofs.TakesLemmas.{enough-at}
 use Rattle.extractors.proofs.blocks.give_block.Goals as goal
 
--- no output was given it yet
+-- No output has the block yet.
 pub loop-k-init : goal.loop-k-init
 loop-k-init g c = record {
   has = λ b enough since blocks has. subst (HaveBeenGiven since (g.F.Files.names c.args.files.now) (g.F.Files.holder c.args.files.now) c.args.outputs.now) (sym (given_upto-none c.args.list.now blocks b)) has.given;
@@ -21,7 +21,7 @@ loop-k-init g c = record {
   writing = refl;
 }
 
--- one more was
+-- One more output has the block.
 pub loop-k-preserved : goal.loop-k-preserved
 loop-k-preserved g c =
     let k = c.loop-k.k in
@@ -46,7 +46,7 @@ loop-k-preserved g c =
       writing = c.in_ok-numbers.ensures.cause ∙ c.loop-k.invariant.writing;
     }
 
--- one was given it in part
+-- One output has the block in part.
 pub returns-in_err-numbers-clause-gives : goal.returns-in_err-numbers-clause-gives
 returns-in_err-numbers-clause-gives g c =
     let k = c.loop-k.k in
@@ -62,12 +62,12 @@ returns-in_err-numbers-clause-gives g c =
     (c.in_err-numbers.ensures.gives b (enough-at list k o b c.args.cursor.now.block below c.index-list-k.is enough.each) since (given_upto k list blocks b) (c.loop-k.invariant.has b enough since blocks had)))
     (given_upto-begun _ list blocks b))
 
--- what was written until one was refused
+-- Only the outputs before the failure were written.
 pub returns-in_err-numbers-clause-only : goal.returns-in_err-numbers-clause-only
 returns-in_err-numbers-clause-only g c =
     WritesOutputs-then g.F.Reads g.F.Files c.args.files.now c.loop-k.files c.give_to.new.files c.args.outputs.now c.loop-k.outputs c.give_to.new.outputs c.requires.open c.loop-k.invariant.wrote c.give_to.ensures.only
 
--- all were given it
+-- All outputs have the block.
 pub returns-clause-gives : goal.returns-clause-gives
 returns-clause-gives g c = λ b enough since blocks had.
     record {

@@ -1,4 +1,4 @@
--- The first outputs were given the block, and only the outputs were written.
+-- The first outputs have the block, and only the outputs were written.
 use Rattle.std.proofs.Common.{◌≡◌, List, length}
 use Rattle.mkv_io.specs.Names.{Names}
 use Rattle.block_format.specs.Block.{Block}

@@ -12,7 +12,7 @@ use Rattle.extractors.proofs.BlocksLemmas.{count-none, frames_for-all, piece-non
 use Rattle.extractors.proofs.TakesLemmas.{enough-octets}
 use Rattle.extractors.proofs.blocks.give_to.Goals as goal
 
--- a block of another track adds nothing
+-- A block of another track adds nothing.
 pub returns-then-head-output-clause-gives : goal.returns-then-head-output-clause-gives
 returns-then-head-output-clause-gives g c = λ b enough since given has.
     subst (HaveBeenGiven since (g.F.Files.names c.args.files.now) (g.F.Files.holder c.args.files.now) c.args.outputs.now)
@@ -25,7 +25,7 @@ pub returns-then-head-output-clause-number : goal.returns-then-head-output-claus
 returns-then-head-output-clause-number g c = λ b enough.
     count-none c.args.output.now c.args.number b (λ same. c.if-head-output.true (ap (λ (h : BlockHead). h.track) c.head.ensures.exact ∙ sym enough.track ∙ same)) (omega (arith, c.ranges.number))
 
--- one of its track adds its frames
+-- A block of the output's track adds its frames.
 pub returns-in_default-clause-gives : goal.returns-in_default-clause-gives
 returns-in_default-clause-gives g c = λ b enough.
     let track = sym (ap (λ (h : BlockHead). h.track) c.head.ensures.exact) ∙ c.if-head-output.false in
@@ -40,7 +40,7 @@ returns-in_default-clause-number g c = λ b enough.
     let P : List Frame → Type 0 = λ frames. IfOk c.give_frames.result (λ (next : ℕ). next ≡ counted (c.args.number + length frames)) in
     subst P (ap (frames_of_block c.args.output.now.step) (sym is) ∙ sym (frames_for-all c.args.output.now b (enough.track ∙ track))) c.give_frames.ensures.number
 
--- or their times
+-- Or it adds their timestamps.
 pub returns-in-Time-clause-gives : goal.returns-in-Time-clause-gives
 returns-in-Time-clause-gives g c = λ b enough.
     let track = sym (ap (λ (h : BlockHead). h.track) c.head.ensures.exact) ∙ c.if-head-output.false in

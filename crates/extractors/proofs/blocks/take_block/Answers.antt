@@ -7,7 +7,7 @@ use Rattle.extractors.proofs.BlocksLemmas.{WritesBlock-err}
 use Rattle.extractors.proofs.ContentLemmas.{outputs_of-begun}
 use Rattle.extractors.proofs.blocks.take_block.Goals as goal
 
--- there is no memory to put a frame together, and nothing was written
+-- Memory for a frame ran out, and nothing was written.
 pub returns-in_err-add_bad_frames-clause-gives : goal.returns-in_err-add_bad_frames-clause-gives
 returns-in_err-add_bad_frames-clause-gives g c =
     λ b enough. WritesBlock-err g.F.Files c.args.list.now _ _ _ _ _ _ b c.from_residual.result c.from_residual.ensures.0
@@ -16,6 +16,6 @@ returns-in_err-add_bad_frames-clause-gives g c =
     (HaveBeenGiven-part since (g.F.Files.names c.args.files.now) (g.F.Files.holder c.args.files.now) c.args.outputs.now (outputs_of c.args.list.now blocks) had.given)
     (outputs_of-begun c.args.list.now blocks (b ∷ [])))
 
--- the bad frames were told before
+-- The bad frames were reported before.
 pub returns-clause-tells : goal.returns-clause-tells
 returns-clause-tells g c = OnOk-holds c.give_block.result c.in_ok-add_bad_frames.ensures

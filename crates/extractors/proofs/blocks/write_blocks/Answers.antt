@@ -19,7 +19,7 @@ use Rattle.extractors.proofs.TakesLemmas.{enough-taken}
 use Rattle.extractors.proofs.WalkLemmas.{MetSoFar-begins, MetSoFar-begun, MetSoFar-block, MetSoFar-damage, MetSoFar-ends, MetSoFar-part, MetSoFar-read, MetSoFar-told, ReadsFew-all, ReadsFew-err, WritesAndReads-none, WritesAndReads-read, WritesAndReads-write, input-other}
 use Rattle.extractors.proofs.blocks.write_blocks.Goals as goal
 
--- nothing was done yet
+-- Nothing is done yet.
 pub steps-init : goal.steps-init
 steps-init g c =
     let ones = c.in_ok-numbers.ensures.items_if_clones_equal (λ y is. is) in
@@ -37,7 +37,7 @@ steps-init g c =
       reading = refl;
     }
 
--- there is no memory for the numbers, and nothing was written
+-- Memory for the numbers ran out, and nothing was written.
 pub returns-in_err-numbers-clause-gives : goal.returns-in_err-numbers-clause-gives
 returns-in_err-numbers-clause-gives g c = λ bytes told.
     GivesBlocks-err g.F.Files c.args.list.now c.args.files.now c.args.files.now c.args.outputs.now c.args.outputs.now (blocks_of (left_of bytes c.args.cursor.now)) c.from_residual.result c.from_residual.ensures.0
@@ -45,7 +45,7 @@ returns-in_err-numbers-clause-gives g c = λ bytes told.
     (HaveBeenGiven-part since (g.F.Files.names c.args.files.now) (g.F.Files.holder c.args.files.now) c.args.outputs.now (outputs_of c.args.list.now []) has)
     (outputs_of-begun c.args.list.now [] (blocks_of (left_of bytes c.args.cursor.now))))
 
--- there is no memory for what is told, and nothing was written
+-- Memory for the report ran out, and nothing was written.
 pub returns-in_err-told-clause-gives : goal.returns-in_err-told-clause-gives
 returns-in_err-told-clause-gives g c = λ bytes told.
     GivesBlocks-err g.F.Files c.args.list.now c.args.files.now c.args.files.now c.args.outputs.now c.args.outputs.now (blocks_of (left_of bytes c.args.cursor.now)) c.from_residual-in_err-told.result c.from_residual-in_err-told.ensures.0
@@ -53,7 +53,7 @@ returns-in_err-told-clause-gives g c = λ bytes told.
     (HaveBeenGiven-part since (g.F.Files.names c.args.files.now) (g.F.Files.holder c.args.files.now) c.args.outputs.now (outputs_of c.args.list.now []) has)
     (outputs_of-begun c.args.list.now [] (blocks_of (left_of bytes c.args.cursor.now))))
 
--- the cursor couldn't go on
+-- The cursor couldn't advance.
 pub returns-in_err-advance_for-clause-gives : goal.returns-in_err-advance_for-clause-gives
 returns-in_err-advance_for-clause-gives g c = λ bytes told.
     let names_same = g.met.F.Files.names_stand c.advance_for.new.src c.steps.files c.advance_for.ensures.standing in
@@ -85,7 +85,7 @@ returns-in_err-advance_for-clause-octets g c =
     let most = c.in_err-advance_for.ensures.spends.most in
     ReadsFew-err _ _ _ c.from_residual-in_err-advance_for.result c.from_residual-in_err-advance_for.ensures.0 (omega (arith, c.steps.invariant.pays, pays, most, size))
 
--- a block was given
+-- A block was added.
 pub steps-preserved-in-Continue-branch-5 : goal.steps-preserved-in-Continue-branch-5
 steps-preserved-in-Continue-branch-5 g c =
     let give = c.in_ok-take_block-in-Block.ensures in
@@ -120,7 +120,7 @@ steps-preserved-in-Continue-branch-5 g c =
       reading = give.only.only.reading ∙ c.in_ok-advance_for.ensures.cause ∙ c.steps.invariant.reading;
     }
 
--- a block was given in part
+-- A block was added in part.
 pub returns-in_err-take_block-in-Block-clause-gives : goal.returns-in_err-take_block-in-Block-clause-gives
 returns-in_err-take_block-in-Block-clause-gives g c = λ bytes told.
     let names_same = g.met.F.Files.names_stand c.advance_for.new.src c.steps.files c.advance_for.ensures.standing in
@@ -160,7 +160,7 @@ returns-in_err-take_block-in-Block-clause-octets g c =
     let spends = c.in_ok-advance_for.ensures.spends in
     ReadsFew-all _ _ _ c.from_residual-in_err-take_block-in-Block.result (omega (arith, c.steps.invariant.pays, spends.pays, spends.most, size, c.take_block.ensures.only.only.octets))
 
--- a damage was met
+-- The cursor returned damage.
 pub steps-preserved : goal.steps-preserved
 steps-preserved g c =
     let names_same = g.met.F.Files.names_stand c.advance_for.new.src c.steps.files c.advance_for.ensures.standing in
@@ -185,7 +185,7 @@ steps-preserved g c =
       reading = c.in_ok-advance_for.ensures.cause ∙ c.steps.invariant.reading;
     }
 
--- all blocks were given
+-- All blocks were added.
 pub returns-in-End-clause-gives : goal.returns-in-End-clause-gives
 returns-in-End-clause-gives g c = λ bytes told.
     let names_same = g.met.F.Files.names_stand c.advance_for.new.src c.steps.files c.advance_for.ensures.standing in
@@ -196,7 +196,7 @@ returns-in-End-clause-gives g c = λ bytes told.
     (MetSoFar-read g.F.Files c.args.list.now c.args.files.now c.steps.files c.advance_for.new.src c.args.outputs.now c.steps.outputs c.steps.numbers.items (left_of bytes c.args.cursor.now) (left_of bytes c.steps.cursor) c.steps.told.damages c.steps.told.bad_frames (c.steps.invariant.so bytes told) names_same holders_same)
     (rw c.in-End.is at (c.in_ok-advance_for.ensures.gives bytes here)).0
 
--- and what is wrong was told
+-- All damage and bad frames were reported.
 pub returns-in-End-clause-tells : goal.returns-in-End-clause-tells
 returns-in-End-clause-tells g c = λ bytes told.
     let same = c.steps.invariant.walks.kept.others c.args.cursor.now.file.n c.requires.other in
@@ -204,7 +204,7 @@ returns-in-End-clause-tells g c = λ bytes told.
     MetSoFar-told g.F.Files c.args.list.now c.args.files.now c.steps.files c.args.outputs.now c.steps.outputs c.steps.numbers.items (left_of bytes c.args.cursor.now) (left_of bytes c.steps.cursor) c.steps.told
     (c.steps.invariant.so bytes told) (rw c.in-End.is at (c.in_ok-advance_for.ensures.gives bytes here)).0
 
--- and only the outputs were written
+-- Only the outputs were written.
 pub returns-in-End-clause-walks : goal.returns-in-End-clause-walks
 returns-in-End-clause-walks g c =
     let holders_same = g.met.F.Files.holders_stand c.advance_for.new.src c.steps.files c.advance_for.ensures.standing in

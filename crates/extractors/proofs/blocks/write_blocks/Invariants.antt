@@ -1,4 +1,4 @@
--- What was met of the file was given and told, and what was read lies before what was read to.
+-- The events that were read are written and reported, and the bytes that were read are before the end of the reading.
 use Rattle.std.proofs.Common.{◌≡◌, ◌≤◌, ◌+◌, ◌-◌, length}
 use Rattle.mkv_io.specs.Told.{IfVisible}
 use Rattle.cluster_reader.specs.Reading.{CanRead, left_of, read_to}

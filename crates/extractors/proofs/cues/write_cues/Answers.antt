@@ -8,7 +8,7 @@ use Rattle.extractors.specs.Source.{entries_in}
 use Rattle.extractors.proofs.TargetLemmas.{KeepsOthers-target, written-more, written-part}
 use Rattle.extractors.proofs.cues.write_cues.Goals as goal
 
--- another file was written
+-- A further file was written.
 pub loop-target-preserved : goal.loop-target-preserved
 loop-target-preserved g c =
     let ok = c.in_ok-write_track_cues.ensures in
@@ -24,7 +24,7 @@ loop-target-preserved g c =
       reads = omega (arith, c.write_track_cues.ensures.reads, c.loop-target.invariant.reads);
     }
 
--- it was written in part
+-- The file was written in part.
 pub returns-in_err-write_track_cues-clause-writes : goal.returns-in_err-write_track_cues-clause-writes
 returns-in_err-write_track_cues-clause-writes g c =
     let source = c.args.source.now in
@@ -32,7 +32,7 @@ returns-in_err-write_track_cues-clause-writes g c =
     (g.F.Files.names c.args.files.now) (g.F.Files.names c.loop-target.files) (g.F.Files.names c.write_track_cues.new.files) c.from_residual.result c.from_residual.ensures.0 c.loop-target-test.true c.target-item.is
     c.loop-target.invariant.writes c.in_err-write_track_cues.ensures.writes
 
--- no other name was
+-- No other name was written.
 pub returns-in_err-write_track_cues-clause-kept : goal.returns-in_err-write_track_cues-clause-kept
 returns-in_err-write_track_cues-clause-kept g c =
     KeepsOthers-then g.F.Reads g.F.Files (names_of c.args.targets.now) c.args.files.now c.loop-target.files c.write_track_cues.new.files c.loop-target.invariant.kept

@@ -1,4 +1,4 @@
--- The files of the first targets stand, and no other name was written.
+-- The files of the first targets are complete, and no other name was written.
 use Rattle.std.proofs.Common.{◌≡◌, ◌≤◌, take}
 use Rattle.mkv_io.specs.Writing.{KeepsOthers}
 use Rattle.mkv_outputs.specs.Outputs.{with_outputs}

@@ -17,7 +17,7 @@ use Rattle.extractors.specs.Whole.{AreWritten}
 use Rattle.extractors.proofs.JobLemmas.{each-entry, job_outputs-taken, outputs_for-apart, outputs_for-others, outputs_for-steps}
 use Rattle.extractors.proofs.extraction.extract.Goals as goal
 
--- no two outputs have one name
+-- No two outputs have the same name.
 pub write_tracks-requires-clause-apart : goal.write_tracks-requires-clause-apart
 write_tracks-requires-clause-apart g c =
     let kind = c.in-Some.form in
@@ -25,7 +25,7 @@ write_tracks-requires-clause-apart g c =
     c.deref.ensures.value ∙ c.in_ok-list.ensures ∙ ap (λ (ts : List Target). outputs_for kind ts (entries_in c.args.source.now)) c.targets_of.ensures in
     subst (λ (l : List TrackOutput). AreApart (names_in l)) (sym list) (outputs_for-apart kind (targets_of c.args.job.now) (entries_in c.args.source.now) c.requires.apart)
 
--- a DefaultDuration isn't too long
+-- A DefaultDuration isn't too long.
 pub write_tracks-requires-clause-steps : goal.write_tracks-requires-clause-steps
 write_tracks-requires-clause-steps g c =
     let kind = c.in-Some.form in
@@ -33,7 +33,7 @@ write_tracks-requires-clause-steps g c =
     c.deref.ensures.value ∙ c.in_ok-list.ensures ∙ ap (λ (ts : List Target). outputs_for kind ts (entries_in c.args.source.now)) c.targets_of.ensures in
     subst (All IsReady) (sym list) (outputs_for-steps kind (targets_of c.args.job.now) (entries_in c.args.source.now) (each-entry c.args.source.now.tracks c.requires.source.tracks))
 
--- none has the name of the source
+-- No output has the name of the source.
 pub write_tracks-requires-clause-other : goal.write_tracks-requires-clause-other
 write_tracks-requires-clause-other g c =
     let kind = c.in-Some.form in
@@ -43,7 +43,7 @@ write_tracks-requires-clause-other g c =
     (subst (λ (l : List TrackOutput). AreOthers (g.F.Files.holder c.args.files.now c.args.source.now.file.n) (names_in l)) (sym list)
     (outputs_for-others kind (targets_of c.args.job.now) (entries_in c.args.source.now) (g.F.Files.holder c.args.files.now c.args.source.now.file.n) c.requires.other))
 
--- each output is what its target asks for
+-- Each output is the one that its target asks for.
 pub returns-clause-writes : goal.returns-clause-writes
 returns-clause-writes g c = λ bytes told.
     let kind = c.in-Some.form in
@@ -58,7 +58,7 @@ returns-clause-writes g c = λ bytes told.
     (subst (λ (es : List Event). AreWritten (g.F.Files.names c.args.files.now) (g.F.Files.names c.write_tracks.new.files) (outputs_of c.deref.result.now (blocks_of es)) c.write_tracks.result) events
     (c.write_tracks.ensures.writes bytes here))
 
--- what is told is the file's
+-- The report is the file's.
 pub returns-clause-tells : goal.returns-clause-tells
 returns-clause-tells g c = λ bytes told.
     let kind = c.in-Some.form in

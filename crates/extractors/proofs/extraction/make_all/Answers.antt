@@ -10,7 +10,7 @@ use Rattle.extractors.specs.Content.{names_in, outputs_of}
 use Rattle.extractors.proofs.MakeLemmas.{MakesOutputs-err, count-next, made-among, made-apart, made-begun, made-next-as, made-other, outputs_of-first}
 use Rattle.extractors.proofs.extraction.make_all.Goals as goal
 
--- the next name is another one
+-- The next name differs from the others.
 pub add-requires-clause-apart : goal.add-requires-clause-apart
 add-requires-clause-apart g c =
     let below : c.loop-k.k < length c.args.list.now = omega (arith, c.loop-k-test.true) in
@@ -18,7 +18,7 @@ add-requires-clause-apart g c =
     (made-apart (g.F.Files.names c.args.files.now) (g.F.Files.names c.loop-k.files) (g.F.Files.holder c.loop-k.files) c.loop-k.outputs c.args.list.now c.loop-k.k c.index-list-k.result
     c.loop-k.invariant.has c.requires.apart below c.index-list-k.is)
 
--- it wasn't made
+-- The output wasn't created.
 pub returns-in_err-add-clause-makes : goal.returns-in_err-add-clause-makes
 returns-in_err-add-clause-makes g c =
     let below : c.loop-k.k < length c.args.list.now = omega (arith, c.loop-k-test.true) in
@@ -28,7 +28,7 @@ returns-in_err-add-clause-makes g c =
     (ArePrefixes-then since (g.F.Files.names c.add.new.files) (with_empty c.as_str.result.now first) (outputs_of c.args.list.now []) (c.in_err-add.ensures.gives since first c.loop-k.invariant.has)
     (subst (λ (name : List ℕ). AreBegun (with_empty name first) (outputs_of c.args.list.now [])) (sym c.as_str.ensures.same) (made-begun c.args.list.now c.loop-k.k c.index-list-k.result below c.index-list-k.is)))
 
--- no other name was touched
+-- No other name was changed.
 pub returns-in_err-add-clause-made : goal.returns-in_err-add-clause-made
 returns-in_err-add-clause-made g c =
     let below : c.loop-k.k < length c.args.list.now = omega (arith, c.loop-k-test.true) in
@@ -37,7 +37,7 @@ returns-in_err-add-clause-made g c =
     (λ other others same. made-other c.args.list.now c.loop-k.k c.index-list-k.result other below c.index-list-k.is others (same ∙ c.as_str.ensures.same))
     c.loop-k.invariant.made c.add.ensures.only
 
--- there is one more than there were
+-- There is one output more than before.
 pub write-requires-clause-below : goal.write-requires-clause-below
 write-requires-clause-below g c =
     let since = g.F.Files.names c.args.files.now in
@@ -46,7 +46,7 @@ write-requires-clause-below g c =
     let has = c.in_ok-add.ensures.gives since first c.loop-k.invariant.has in
     count-next c.args.list.now c.loop-k.k c.as_str.result.now below (length c.add.new.self) (HaveBeenGiven-count since _ _ _ _ has)
 
--- its head was written in part
+-- The first bytes were written in part.
 pub returns-in_err-write-clause-makes : goal.returns-in_err-write-clause-makes
 returns-in_err-write-clause-makes g c =
     let below : c.loop-k.k < length c.args.list.now = omega (arith, c.loop-k-test.true) in
@@ -75,7 +75,7 @@ returns-in_err-write-clause-made g c =
     (λ name others. made-among since (g.F.Files.names c.add.new.files) (g.F.Files.holder c.add.new.files) c.add.new.self c.args.list.now (with_empty c.as_str.result.now first) name has begun others)
     made c.write.ensures.only
 
--- another output was made
+-- A further output was created.
 pub loop-k-preserved : goal.loop-k-preserved
 loop-k-preserved g c =
     let below : c.loop-k.k < length c.args.list.now = omega (arith, c.loop-k-test.true) in

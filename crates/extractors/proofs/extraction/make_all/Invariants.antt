@@ -1,4 +1,4 @@
--- The first outputs were made and have their heads, and no other name was written.
+-- The first outputs were created with their first bytes, and no other name was written.
 use Rattle.std.proofs.Common.{◌≡◌, [], take}
 use Rattle.mkv_outputs.specs.Sinks.{AreOpen, HaveBeenGiven, MadeSince}
 use Rattle.extractors.specs.Content.{names_in, outputs_of}

@@ -9,26 +9,26 @@ use Rattle.extractors.proofs.MakeLemmas.{AreWritten-err, length-outputs, made-in
 use Rattle.extractors.proofs.WalkLemmas.{WritesAndReads-write}
 use Rattle.extractors.proofs.extraction.write_all.Goals as goal
 
--- some outputs weren't made
+-- Some outputs weren't created.
 pub returns-in_err-make_all-clause-writes : goal.returns-in_err-make_all-clause-writes
 returns-in_err-make_all-clause-writes g c = λ bytes told.
     AreWritten-err (g.F.Files.names c.args.files.now) (g.F.Files.names c.make_all.new.files) (outputs_of c.args.list.now (blocks_of (left_of bytes c.args.cursor.now))) c.from_residual.result c.from_residual.ensures.0
     (ArePrefixes-then (g.F.Files.names c.args.files.now) (g.F.Files.names c.make_all.new.files) (outputs_of c.args.list.now []) (outputs_of c.args.list.now (blocks_of (left_of bytes c.args.cursor.now)))
     c.in_err-make_all.ensures.makes (outputs_of-begun c.args.list.now [] (blocks_of (left_of bytes c.args.cursor.now))))
 
--- as many were made as there are
+-- All outputs were created.
 pub write_blocks-requires-clause-count : goal.write_blocks-requires-clause-count
 write_blocks-requires-clause-count g c =
     sym (length-outputs c.args.list.now [])
     ∙ HaveBeenGiven-count (g.F.Files.names c.args.files.now) (g.F.Files.names c.make_all.new.files) (g.F.Files.holder c.make_all.new.files) c.make_all.new.outputs (outputs_of c.args.list.now []) c.in_ok-make_all.ensures.makes
 
--- none has the name of the file that is read
+-- No output has the name of the file that is read.
 pub write_blocks-requires-clause-other : goal.write_blocks-requires-clause-other
 write_blocks-requires-clause-other g c =
     made-input (g.F.Files.names c.args.files.now) (g.F.Files.names c.make_all.new.files) (g.F.Files.holder c.args.files.now) (g.F.Files.holder c.make_all.new.files) c.make_all.new.outputs c.args.list.now c.args.cursor.now.file.n
     c.in_ok-make_all.ensures.makes (c.make_all.ensures.made.holders c.args.cursor.now.file.n c.requires.stands.live) c.requires.other
 
--- only the outputs were written
+-- Only the outputs were written.
 pub returns-in_err-extracted-clause-made : goal.returns-in_err-extracted-clause-made
 returns-in_err-extracted-clause-made g c =
     made-walked g.F.Reads g.F.Files (g.F.Files.names c.args.files.now) c.args.files.now c.make_all.new.files c.write_blocks.new.files c.args.list.now c.make_all.new.outputs c.write_blocks.new.outputs

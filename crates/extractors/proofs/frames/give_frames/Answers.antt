@@ -7,7 +7,7 @@ use Rattle.extractors.specs.Content.{counted, entry_of}
 use Rattle.extractors.proofs.FramesLemmas.{GivesUpTo-begins, GivesUpTo-ends, GivesUpTo-more, GivesUpTo-stops, HasGiven, entries_left, entries_left-block, entries_left-found, entries_left-none, length-frames_in, rest-next}
 use Rattle.extractors.proofs.frames.give_frames.Goals as goal
 
--- no frame was given yet
+-- No frame is written yet.
 pub loop-i-init : goal.loop-i-init
 loop-i-init g c = record {
   so = GivesUpTo-begins g.F.Files c.args.files.now c.args.outputs.now c.args.k _ _ refl;
@@ -20,7 +20,7 @@ loop-i-init g c = record {
     none : (n : ℕ) → 0 + n ≡ n
     none n = omega arith
 
--- the next frame was given
+-- The next frame was written.
 pub loop-i-preserved : goal.loop-i-preserved
 loop-i-preserved g c =
     let o = c.args.output.now in
@@ -40,7 +40,7 @@ loop-i-preserved g c =
       writing = c.in_ok-give_frame.ensures.cause ∙ c.loop-i.invariant.writing;
     }
 
--- it was given in part
+-- The frame was written in part.
 pub returns-in_err-give_frame-clause-gives : goal.returns-in_err-give_frame-clause-gives
 returns-in_err-give_frame-clause-gives g c =
     let o = c.args.output.now in
@@ -55,12 +55,12 @@ returns-in_err-give_frame-clause-gives g c =
     (entries_left-found o c.args.number time c.unwrap_or-duration.result sizes body c.loop-i.i c.loop-i.at c.saturating_add.result c.frame_time.result c.loop-i-test.true c.saturating_add.ensures fits c.frame_time.ensures)
     c.from_residual.result c.from_residual.ensures.0 c.in_err-give_frame.ensures.gives)
 
--- what was written until then
+-- Only the output was written until then.
 pub returns-in_err-give_frame-clause-only : goal.returns-in_err-give_frame-clause-only
 returns-in_err-give_frame-clause-only g c =
     WritesOutputs-then g.F.Reads g.F.Files c.args.files.now c.loop-i.files c.give_frame.new.files c.args.outputs.now c.loop-i.outputs c.give_frame.new.outputs c.requires.open c.loop-i.invariant.wrote c.give_frame.ensures.only
 
--- all were given
+-- All frames were written.
 pub returns-clause-gives : goal.returns-clause-gives
 returns-clause-gives g c =
     let o = c.args.output.now in
@@ -68,7 +68,7 @@ returns-clause-gives g c =
     (entries_left-block o c.args.number o.step c.sizes-sizes.result.now c.body-body.result.now c.head-head.result.now c.unwrap_or-duration.result c.args.cursor.now.block c.head-head.ensures.exact c.sizes-sizes.ensures.exact c.body-body.ensures.exact c.unwrap_or-duration.ensures)
     (GivesUpTo-ends c.loop-i.invariant.so (entries_left-none o c.args.number o.step c.head-head.result.now.time c.unwrap_or-duration.result c.sizes-sizes.result.now c.body-body.result.now c.loop-i.i c.loop-i.at c.loop-i-test.false))
 
--- the number behind them
+-- The result is the number after them.
 pub returns-clause-number : goal.returns-clause-number
 returns-clause-number g c =
     c.saturating_add-2.ensures

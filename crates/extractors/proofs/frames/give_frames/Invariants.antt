@@ -1,4 +1,4 @@
--- The frames up to those that are left were given, and only the outputs were written.
+-- The frames before the remaining ones were written, and only to the outputs.
 use Rattle.std.proofs.Common.{◌≡◌, ◌+◌, drop, length, sum}
 use Rattle.mkv_outputs.specs.Sinks.{WritesOutputs}
 use Rattle.extractors.proofs.FramesLemmas.{GivesUpTo, entries_left}

@@ -7,14 +7,14 @@ use Rattle.extractors.proofs.CodecLemmas.{adts-bad, adts-good}
 use Rattle.extractors.proofs.FramesLemmas.{Gives-err, Gives-then, HasGiven, HasGiven-none, HasPart, HasPart-first}
 use Rattle.extractors.proofs.frames.give_headed.Goals as goal
 
--- a length that isn't too long is no sum that stood still
+-- A length that isn't too long isn't a saturated sum.
 summed : (n a b : ℕ) → n ≡ min (a + b) (2 ^ 64 - 1) → n ≤ 8184 → n ≡ a + b
 summed n a b is few = omega (arith, is, few)
 
 longer : (n a b : ℕ) → n ≡ min (a + b) (2 ^ 64 - 1) → 8184 < n → 8184 < a + b
 longer n a b is many = omega (arith, is, many)
 
--- nothing is written of a frame that is too long
+-- A frame that is too long writes nothing.
 pub returns-then-len-gt-LONGEST_FRAME-clause-gives : goal.returns-then-len-gt-LONGEST_FRAME-clause-gives
 returns-then-len-gt-LONGEST_FRAME-clause-gives g c =
     let prefix = c.args.prefix.now in
@@ -24,7 +24,7 @@ returns-then-len-gt-LONGEST_FRAME-clause-gives g c =
     HasGiven-none g.F.Files c.args.files.now c.args.outputs.now c.args.k _
     (adts-bad c.args.aac.now prefix octets (longer n (length prefix) (length octets) c.saturating_add-len.ensures many))
 
--- the header was written in part
+-- The header was written in part.
 pub returns-in_err-write-clause-gives : goal.returns-in_err-write-clause-gives
 returns-in_err-write-clause-gives g c =
     let prefix = c.args.prefix.now in
@@ -37,7 +37,7 @@ returns-in_err-write-clause-gives g c =
     (HasPart-first g.F.Files c.args.files.now c.write.new.files c.args.outputs.now c.args.k (adts_header c.args.aac.now (7 + n)) (prefix ++ octets)
     (subst (λ (header : List ℕ). HasPart g.F.Files c.args.files.now c.write.new.files c.args.outputs.now c.args.k header) c.adts_header.ensures c.in_err-write.ensures.gives)))
 
--- the frame stands behind its header
+-- The frame follows its header.
 pub returns-clause-gives : goal.returns-clause-gives
 returns-clause-gives g c =
     let prefix = c.args.prefix.now in
@@ -50,7 +50,7 @@ returns-clause-gives g c =
     (subst (λ (header : List ℕ). HasGiven g.F.Files c.args.files.now c.write.new.files c.args.outputs.now c.write.new.self c.args.k header) c.adts_header.ensures c.in_ok-write.ensures.gives)
     c.give_behind.ensures.gives)
 
--- all were written
+-- All bytes were written.
 pub returns-clause-only : goal.returns-clause-only
 returns-clause-only g c =
     WritesOutputs-then g.F.Reads g.F.Files c.args.files.now c.write.new.files c.give_behind.new.files c.args.outputs.now c.write.new.self c.give_behind.new.outputs c.requires.open c.write.ensures.only c.give_behind.ensures.only

@@ -8,7 +8,7 @@ use Rattle.extractors.proofs.FramesLemmas.{GivesUpTo-begins, GivesUpTo-ends, Giv
 use Rattle.extractors.proofs.UnitsLemmas.{units-bad, units-next, units-none}
 use Rattle.extractors.proofs.frames.give_join.Goals as goal
 
--- nothing is written of a bad frame
+-- A bad frame writes nothing.
 pub returns-then-not-is_join-clause-gives : goal.returns-then-not-is_join-clause-gives
 returns-then-not-is_join-clause-gives g c =
     HasGiven-none g.F.Files c.args.files.now c.args.outputs.now c.args.k _ (units-bad c.args.length_size c.args.frame.now (sym c.is_join.ensures ∙ c.if-not-is_join.true))
@@ -16,7 +16,7 @@ returns-then-not-is_join-clause-gives g c =
 pub returns-then-not-is_join-clause-only : goal.returns-then-not-is_join-clause-only
 returns-then-not-is_join-clause-only g c = WritesOutputs-none g.F.Reads g.F.Files c.args.files.now c.args.outputs.now c.requires.open
 
--- no unit was given yet
+-- No unit is written yet.
 pub loop-unit-init : goal.loop-unit-init
 loop-unit-init g c = record {
   so = GivesUpTo-begins g.F.Files c.args.files.now c.args.outputs.now c.args.k _ _ refl;
@@ -26,7 +26,7 @@ loop-unit-init g c = record {
   writing = refl;
 }
 
--- the unit at the front was given
+-- The first unit was written.
 pub loop-unit-preserved : goal.loop-unit-preserved
 loop-unit-preserved g c =
     let w = c.args.length_size in
@@ -48,7 +48,7 @@ loop-unit-smaller g c =
     let found : unit_at c.args.length_size c.loop-unit.rest.now ≡ Some (c.in-Some.unit.now, c.in-Some.behind.now) = c.in-Some.ensures in
     unit_at-fewer _ _ _ _ found
 
--- it was given in part
+-- The unit was written in part.
 pub returns-in_err-give_behind-clause-gives : goal.returns-in_err-give_behind-clause-gives
 returns-in_err-give_behind-clause-gives g c =
     let w = c.args.length_size in
@@ -59,12 +59,12 @@ returns-in_err-give_behind-clause-gives g c =
     GivesUpTo-stops c.loop-unit.invariant.so c.give_behind.new.files c.give_behind.new.outputs (start_coded unit) (unwrap_or (annex_b w behind) [])
     (units-next w rest unit behind found c.loop-unit.invariant.join) c.from_residual.result c.from_residual.ensures.0 c.in_err-give_behind.ensures.gives
 
--- what was written until then
+-- Only the output was written until then.
 pub returns-in_err-give_behind-clause-only : goal.returns-in_err-give_behind-clause-only
 returns-in_err-give_behind-clause-only g c =
     WritesOutputs-then g.F.Reads g.F.Files c.args.files.now c.loop-unit.files c.give_behind.new.files c.args.outputs.now c.loop-unit.outputs c.give_behind.new.outputs c.requires.open c.loop-unit.invariant.wrote c.give_behind.ensures.only
 
--- all were given
+-- All units were written.
 pub returns-clause-gives : goal.returns-clause-gives
 returns-clause-gives g c =
     let none : unit_at c.args.length_size c.loop-unit.rest.now ≡ None = c.in_default.ensures in

@@ -1,4 +1,4 @@
--- The units up to those that are left were given, and only the outputs were written.
+-- The units before the remaining ones were written, and only to the outputs.
 use Rattle.std.proofs.Common.{◌≡◌, [], length, true, is_some, unwrap_or}
 use Rattle.elementary.specs.Units.{units_of}
 use Rattle.elementary.specs.Avc.{annex_b}

@@ -8,7 +8,7 @@ use Rattle.extractors.specs.Times.{time_line}
 use Rattle.extractors.proofs.FramesLemmas.{GivesUpTo-begins, GivesUpTo-ends, GivesUpTo-more, GivesUpTo-stops, HasGiven, length-times, times-block, times_left, times_left-found, times_left-none}
 use Rattle.extractors.proofs.frames.give_times.Goals as goal
 
--- no time was given yet
+-- No time is written yet.
 pub loop-i-init : goal.loop-i-init
 loop-i-init g c = record {
   so = GivesUpTo-begins g.F.Files c.args.files.now c.args.outputs.now c.args.k _ _ refl;
@@ -17,7 +17,7 @@ loop-i-init g c = record {
   writing = refl;
 }
 
--- the next time was given
+-- The next time was written.
 pub loop-i-preserved : goal.loop-i-preserved
 loop-i-preserved g c =
     let step = c.args.output.now.step in
@@ -33,7 +33,7 @@ loop-i-preserved g c =
       writing = c.in_ok-give_time.ensures.cause ∙ c.loop-i.invariant.writing;
     }
 
--- it was given in part
+-- The time was written in part.
 pub returns-in_err-give_time-clause-gives : goal.returns-in_err-give_time-clause-gives
 returns-in_err-give_time-clause-gives g c = λ b known.
     let step = c.args.output.now.step in
@@ -46,12 +46,12 @@ returns-in_err-give_time-clause-gives g c = λ b known.
     (times_left-found step time c.loop-i.i n c.frame_time-time.result c.loop-i-test.true fits c.frame_time-time.ensures)
     c.from_residual.result c.from_residual.ensures.0 c.in_err-give_time.ensures.gives)
 
--- what was written until then
+-- Only the output was written until then.
 pub returns-in_err-give_time-clause-only : goal.returns-in_err-give_time-clause-only
 returns-in_err-give_time-clause-only g c =
     WritesOutputs-then g.F.Reads g.F.Files c.args.files.now c.loop-i.files c.give_time.new.files c.args.outputs.now c.loop-i.outputs c.give_time.new.outputs c.requires.open c.loop-i.invariant.wrote c.give_time.ensures.only
 
--- all were given
+-- All times were written.
 pub returns-clause-gives : goal.returns-clause-gives
 returns-clause-gives g c = λ b known.
     let n = c.frames-frames.result in
@@ -59,7 +59,7 @@ returns-clause-gives g c = λ b known.
     (times-block c.args.output.now c.args.number c.head-head.result.now n b c.args.cursor.now.block c.requires.times c.head-head.ensures.exact c.frames-frames.ensures.exact known)
     (GivesUpTo-ends c.loop-i.invariant.so (times_left-none c.args.output.now.step c.head-head.result.now.time c.loop-i.i n c.loop-i-test.false))
 
--- the number behind them
+-- The result is the number after them.
 pub returns-clause-number : goal.returns-clause-number
 returns-clause-number g c = λ b known.
     c.saturating_add.ensures

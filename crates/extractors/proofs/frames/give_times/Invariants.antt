@@ -1,4 +1,4 @@
--- The times up to those that are left were given, and only the outputs were written.
+-- The times before the remaining ones were written, and only to the outputs.
 use Rattle.std.proofs.Common.{◌≡◌, ◌-◌, length}
 use Rattle.mkv_outputs.specs.Sinks.{WritesOutputs}
 use Rattle.extractors.proofs.FramesLemmas.{GivesUpTo, times_left}

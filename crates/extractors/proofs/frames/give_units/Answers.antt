@@ -1,7 +1,7 @@
 use Rattle.extractors.proofs.FramesLemmas.{Gives-err, HasPart-none}
 use Rattle.extractors.proofs.frames.give_units.Goals as goal
 
--- there is no memory for the frame, and nothing was written
+-- Memory for the frame ran out, and nothing was written.
 pub returns-in_err-frame-clause-gives : goal.returns-in_err-frame-clause-gives
 returns-in_err-frame-clause-gives g c =
     Gives-err g.F.Files c.args.files.now c.args.files.now c.args.outputs.now c.args.outputs.now c.args.k _ c.from_residual.result c.from_residual.ensures.0

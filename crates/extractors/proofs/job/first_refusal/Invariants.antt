@@ -1,4 +1,4 @@
--- The targets before this one are passed, but for the first bad configuration.
+-- The targets before this one are checked, and the first bad configuration among them is known.
 use Rattle.std.proofs.Common.{map}
 use Rattle.extractors.specs.Source.{entry_in}
 use Rattle.extractors.proofs.JobLemmas.{AreLeft}

@@ -9,20 +9,20 @@ use Rattle.extractors.specs.Source.{entry_in}
 use Rattle.extractors.proofs.JobLemmas.{outputs_for-found, outputs_for-none, usable-at}
 use Rattle.extractors.proofs.job.track_outputs.Goals as goal
 
--- the file hasn't the track
+-- The file doesn't have the track.
 pub loop-target-preserved-in_default : goal.loop-target-preserved-in_default
 loop-target-preserved-in_default c =
     let found : slice_get c.args.tracks.now c.target-item.result.id ≡ None = sym c.get.ensures ∙ ap option_copied c.in_default.is in
     c.loop-target.invariant
     ∙ sym (outputs_for-none c.args.form c.args.targets.now c.args.tracks.now c.loop-target.target-index c.target-item.result c.loop-target-test.true c.target-item.is found)
 
--- the frames of the track can be used
+-- The frames of the track can be used.
 pub output_with-requires-clause-usable : goal.output_with-requires-clause-usable
 output_with-requires-clause-usable c =
     let found : slice_get c.args.tracks.now c.target-item.result.id ≡ Some c.in-Some.track.now = sym c.get.ensures ∙ ap option_copied c.in-Some.is in
     usable-at c.args.targets.now c.args.tracks.now c.loop-target.target-index c.target-item.result c.in-Some.track.now c.requires.usable c.loop-target-test.true c.target-item.is found
 
--- the track isn't taken so
+-- The track isn't extracted in this form.
 pub loop-target-preserved-in-Err : goal.loop-target-preserved-in-Err
 loop-target-preserved-in-Err c =
     let found : slice_get c.args.tracks.now c.target-item.result.id ≡ Some c.in-Some.track.now = sym c.get.ensures ∙ ap option_copied c.in-Some.is in
@@ -33,7 +33,7 @@ loop-target-preserved-in-Err c =
     ∙ ap (λ (r : Result Coding UnsupportedTrack). first ++ track_output c.target-item.result.name entry r) (sym c.in_ok-read.ensures ∙ c.in-Err.is)
     ∙ append-nil first)
 
--- another output
+-- A further output is made.
 pub loop-target-preserved : goal.loop-target-preserved
 loop-target-preserved c =
     let found : slice_get c.args.tracks.now c.target-item.result.id ≡ Some c.in-Some.track.now = sym c.get.ensures ∙ ap option_copied c.in-Some.is in

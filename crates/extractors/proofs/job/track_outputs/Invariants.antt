@@ -1,4 +1,4 @@
--- The outputs of the first targets.
+-- These are the outputs of the first targets.
 use Rattle.std.proofs.Common.{◌≡◌, map, take}
 use Rattle.extractors.specs.Job.{outputs_for}
 use Rattle.extractors.specs.Source.{entry_in}

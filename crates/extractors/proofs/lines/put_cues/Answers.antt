@@ -1,4 +1,4 @@
--- A cue point is sound, as the Cues is.
+-- A cue point of a sound Cues is sound.
 use Rattle.extractors.proofs.LinesLemmas.{child-sound}
 use Rattle.extractors.proofs.lines.put_cues.Goals as goal
 

@@ -1,4 +1,4 @@
--- What was added, with the lines that are left, is the whole.
+-- The bytes that were appended and the lines of the rest are the whole.
 use Rattle.std.proofs.Common.{◌≡◌, ◌++◌, drop, flat_map}
 use Rattle.std.specs.String.{string_bytes}
 use Rattle.mkv_schema.specs.declared.ids.TheConstants.{CUE_POINT}

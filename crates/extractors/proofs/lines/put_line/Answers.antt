@@ -6,14 +6,14 @@ use Rattle.extractors.specs.Lines.{number_or_dash}
 use Rattle.extractors.proofs.LinesLemmas.{has_cluster, has_relative, joined}
 use Rattle.extractors.proofs.lines.put_line.Goals as goal
 
--- the table has the integers there
+-- The table has the integers in a CueTrackPositions.
 pub put_integer-requires-clause-uint : goal.put_integer-requires-clause-uint
 put_integer-requires-clause-uint c = has_cluster c.args.place.now c.requires
 
 pub put_integer-requires-2-clause-uint : goal.put_integer-requires-2-clause-uint
 put_integer-requires-2-clause-uint c = has_relative c.args.place.now c.requires
 
--- four pieces stand one behind the other
+-- The line consists of four pieces in sequence.
 pub returns : goal.returns
 returns c =
     joined c.push_str.result (string_bytes c.args.out.now) (string_bytes c.put_number.new.out) (string_bytes c.put_integer.new.out) (string_bytes c.put_integer-2.new.out) (string_bytes c.push_str.new.self)

@@ -1,4 +1,4 @@
--- The table has the integer there.
+-- The table has the integer in a CueTrackPositions.
 use Rattle.extractors.proofs.LinesLemmas.{has_track}
 use Rattle.extractors.proofs.lines.put_place.Goals as goal
 

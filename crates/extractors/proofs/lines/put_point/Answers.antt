@@ -7,11 +7,11 @@ use Rattle.extractors.proofs.LinesLemmas.{child-sound, part-added, part-passed}
 use Rattle.extractors.proofs.lines.put_point.Goals as goal
 use Rattle.extractors.proofs.lines.put_point.Goals.{then-id-eq-CUE_TRACK_POSITIONS+in_ok-put_place, else-id-eq-CUE_TRACK_POSITIONS}
 
--- a CueTrackPositions is sound, as the cue point is
+-- A CueTrackPositions of a sound cue point is sound.
 pub put_place-requires : goal.put_place-requires
 put_place-requires c = child-sound _ _ _ _ _ _ _ c.requires c.children-place-items.ensures.exact c.loop-place-test.true c.place-item.is c.id.ensures c.if-id-eq-CUE_TRACK_POSITIONS.true
 
--- its line was added, or it was passed
+-- Its line was appended, or it was passed.
 pub loop-place-preserved : goal.loop-place-preserved
 loop-place-preserved c =
     let f = place_lines c.time_of-time.result c.args.track in

@@ -1,4 +1,4 @@
--- The table has the integer there.
+-- The table has the integer in a CuePoint.
 use Rattle.extractors.proofs.LinesLemmas.{has_time}
 use Rattle.extractors.proofs.lines.time_of.Goals as goal
 

@@ -5,16 +5,16 @@ use Rattle.tree_format.specs.Node.{Node}
 use Rattle.extractors.proofs.ReadingLemmas.{IsFirstCues-shown, cues-master, first_cues-large, first_cues-none, first_cues-some}
 use Rattle.extractors.proofs.reading.first_cues.Goals as goal
 
--- a Cues is a master
+-- A Cues is a master.
 pub parse-requires-clause-master : goal.parse-requires-clause-master
 parse-requires-clause-master g c = cues-master
 
--- there is no Cues
+-- There is no Cues.
 pub returns-in_default-clause-exact : goal.returns-in_default-clause-exact
 returns-in_default-clause-exact g c = λ bytes told before outline.
     first_cues-none before bytes c.args.outline.now outline (sym c.first.ensures.kept ∙ c.in_default.is)
 
--- it is too large
+-- The Cues is too large.
 pub returns-in-Err-TooLarge-clause-exact : goal.returns-in-Err-TooLarge-clause-exact
 returns-in-Err-TooLarge-clause-exact g c = λ bytes told before outline.
     let is = IsFirstCues-shown before bytes c.args.outline.now c.in-Some.header outline (sym c.first.ensures.kept ∙ c.in-Some.is) in
@@ -22,14 +22,14 @@ returns-in-Err-TooLarge-clause-exact g c = λ bytes told before outline.
     (first_cues-large bytes c.args.outline.now c.in-Some.header c.in-Err-TooLarge.damage is
     ((c.in-Err-TooLarge.ensures.large c.in-Err-TooLarge.damage).0 (ap (λ e. Err e) c.in-Err-TooLarge.field-0-is)))
 
--- it is read as a tree
+-- The Cues is read as a tree.
 pub returns-in-Ok-parse-clause-exact : goal.returns-in-Ok-parse-clause-exact
 returns-in-Ok-parse-clause-exact g c = λ bytes told before outline.
     let is = IsFirstCues-shown before bytes c.args.outline.now c.in-Some.header outline (sym c.first.ensures.kept ∙ c.in-Some.is) in
     first_cues-some bytes c.args.outline.now c.in-Some.header c.as_slice.result.now is (λ d large. let both = (c.in-Ok.ensures.large d).1 large in absurd (cc)) (c.as_slice.ensures ∙ c.in-Ok.ensures.ok bytes told)
     ∙ ap (λ (read : Result Node Damage). and_then read (λ (tree : Node). Ok (Some tree))) c.in-Ok-parse.ensures.exact
 
--- or something is wrong inside
+-- The Cues is damaged inside.
 pub returns-in-Err-Damage-clause-exact : goal.returns-in-Err-Damage-clause-exact
 returns-in-Err-Damage-clause-exact g c = λ bytes told before outline.
     let is = IsFirstCues-shown before bytes c.args.outline.now c.in-Some.header outline (sym c.first.ensures.kept ∙ c.in-Some.is) in

@@ -7,7 +7,7 @@ use Rattle.cues_seekhead.proofs.BeginLemmas.{EndsOnly-one, KeepsOthers-unmade, M
 use Rattle.extractors.proofs.WholeLemmas.{WritesFile-closed, WritesFile-unmade}
 use Rattle.extractors.proofs.whole.copy_file.Goals as goal
 
--- the file wasn't made
+-- The file wasn't created.
 pub returns-in_err-file : goal.returns-in_err-file
 returns-in_err-file g c =
     let p = err_from_is_err_and c.from_residual.result c.from_residual.ensures.1 in
@@ -16,7 +16,7 @@ returns-in_err-file g c =
     (KeepsOthers-unmade g.F.Reads g.F.Files c.args.name.now c.args.files.now c.create.new.self c.create.result (g.met.F.Files.numbered c.args.files.now) c.in_err-file.ensures.refused.live c.create.ensures.stays c.create.ensures.asks)
     c.create.ensures.unread.reading c.create.ensures.unread.octets c.in_err-file.ensures.cause)
 
--- the other file is live still
+-- The other file is still live.
 pub copy_data-ended-requires-clause-from : goal.copy_data-ended-requires-clause-from
 copy_data-ended-requires-clause-from g c =
     let old = c.args.files.now in
@@ -24,12 +24,12 @@ copy_data-ended-requires-clause-from g c =
     let made = MakesFile-created g.F.Reads g.F.Files c.args.name.now c.in_ok-file.file old c.create.new.self c.create.result (g.met.F.Files.numbered old) ok.is_new c.create.ensures.stays c.create.ensures.asks in
     (made.others c.args.from.n (c.requires.live, (λ same. c.requires.other (sym same), tt))).alive ∙ c.requires.live
 
--- under another name
+-- The other file has another name.
 pub copy_data-ended-requires-clause-apart : goal.copy_data-ended-requires-clause-apart
 copy_data-ended-requires-clause-apart g c = λ equal.
     c.requires.other (sym (c.create.ensures.stays.holders c.args.from.n c.requires.live) ∙ equal ∙ c.in_ok-file.ensures.made.is_new.holder)
 
--- and as long
+-- The other file has the same length.
 pub copy_data-ended-requires-clause-inside : goal.copy_data-ended-requires-clause-inside
 copy_data-ended-requires-clause-inside g c =
     let old = c.args.files.now in
@@ -37,7 +37,7 @@ copy_data-ended-requires-clause-inside g c =
     let made = MakesFile-created g.F.Reads g.F.Files c.args.name.now c.in_ok-file.file old c.create.new.self c.create.result (g.met.F.Files.numbered old) ok.is_new c.create.ensures.stays c.create.ensures.asks in
     omega (arith, c.requires.inside, (made.others c.args.from.n (c.requires.live, (λ same. c.requires.other (sym same), tt))).size c.requires.live)
 
--- it was made, written and closed
+-- The file was created, written and closed.
 pub returns : goal.returns
 returns g c =
     let r = g.F.Reads in

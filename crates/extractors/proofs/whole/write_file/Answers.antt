@@ -5,7 +5,7 @@ use Rattle.cues_seekhead.proofs.BeginLemmas.{EndsOnly-one, KeepsOthers-unmade, M
 use Rattle.extractors.proofs.WholeLemmas.{WritesFile-closed, WritesFile-unmade}
 use Rattle.extractors.proofs.whole.write_file.Goals as goal
 
--- the file wasn't made
+-- The file wasn't created.
 pub returns-in_err-file : goal.returns-in_err-file
 returns-in_err-file g c =
     let p = err_from_is_err_and c.from_residual.result c.from_residual.ensures.1 in
@@ -14,7 +14,7 @@ returns-in_err-file g c =
     (KeepsOthers-unmade g.F.Reads g.F.Files c.args.name.now c.args.files.now c.create.new.self c.create.result (g.met.F.Files.numbered c.args.files.now) c.in_err-file.ensures.refused.live c.create.ensures.stays c.create.ensures.asks)
     c.create.ensures.unread.reading c.create.ensures.unread.octets c.in_err-file.ensures.cause)
 
--- it was made, written and closed
+-- The file was created, written and closed.
 pub returns : goal.returns
 returns g c =
     let r = g.F.Reads in
