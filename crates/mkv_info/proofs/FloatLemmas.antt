@@ -1,4 +1,4 @@
--- An identification has no number but whole ones.
+-- An identification has only whole numbers.
 use Rattle.std.proofs.Common.{◌≡◌, ℕ, ◌+◌, ◌==◌, Bool, true, false, ◌||◌, if◌then◌else◌, List, [], ◌∷◌, ◌++◌, Option, Some, None, refl, ap₂}
 use Rattle.std.specs.Option.{option_map}
 use Rattle.serde_json.specs.Data.{Data, Members, string}
@@ -21,7 +21,7 @@ use Rattle.mkv_info.specs.Identification.{container_value, identification, title
 neither : (a b : Bool) → a ≡ false → b ≡ false → a || b ≡ false
 neither a b first second = ap₂ (λ x y. x || y) first second
 
--- a member that may be left out has none, nor have those behind it
+-- A member that may be left out has no float, if the members after it have none.
 left_out : {A : Type 0} (f : A → Data) → ((x : A) → has_float (f x) ≡ false) → (key : List ℕ) (value : Option A) (ms : Members) → members_have_float ms ≡ false → members_have_float (with_first key (option_map f value) ms) ≡ false
 left_out f none key None ms others = others
 left_out f none key (Some x) ms others = neither _ _ (none x) others
@@ -60,7 +60,7 @@ tags_none tags k t = choice (tag_count (Track t.uid) tags == 0) (counted_tags (t
 container_none : (info : Option Node) → has_float (container_value info) ≡ false
 container_none info = neither _ _ (left_out (λ s. string s) (λ s. refl) _ (title_of info) _ refl) refl
 
--- so its text is said to the letter
+-- The identification has no float, so its text is exactly known.
 pub no-float : (name : List ℕ) (file : FileRecords) → has_float (identification name file) ≡ false
 unfolding identification
 no-float name file =

@@ -12,11 +12,11 @@ use Rattle.mkv_info.specs.Listed.{status_with, warnings}
 use Rattle.mkv_info.specs.Identified.{identified}
 use Rattle.mkv_info.specs.Read.{Described}
 
--- the line couldn't be said
+-- The line couldn't be printed.
 pub says-part : (old new : ReportLines) (name line : List ℕ) (file : Described) (why : CommandEnd) → line ≡ identification_line name file.records → SaysPart old new (line ∷ []) → SaysVerdict old new (Err why) (identified name (Ok file))
 says-part old new name line file why is part = SaysPart-before old new (identification_line name file.records ∷ []) (warnings name file.damage) (rw is at part)
 
--- it was said, and then the warning
+-- The line was printed, and then the warning.
 pub says-all : (old mid new : ReportLines) (name line : List ℕ) (file : Described) (r : Result Status CommandEnd) → line ≡ identification_line name file.records → mid ≡ with_lines old (line ∷ []) → Says mid new (warnings name file.damage) r → IfOk r (λ s. s ≡ status_with file.damage) → SaysVerdict old new r (identified name (Ok file))
 says-all old mid new name line file r is said says status = step r (Says-then old mid new (identification_line name file.records ∷ []) (warnings name file.damage) r (rw is at said) says) status
   where
@@ -24,7 +24,7 @@ says-all old mid new name line file r is said says status = step r (Says-then ol
     step (Ok s) all is_status = (is_status, all)
     step (Err why) all is_status = all
 
--- nothing is written
+-- Nothing is written.
 pub identified-nothing : (name : List ℕ) (read : Result Described Damage) → (identified name read).outputs ≡ nothing
 identified-nothing name (Ok file) = refl
 identified-nothing name (Err d) = refl

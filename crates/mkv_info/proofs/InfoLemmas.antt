@@ -1,4 +1,4 @@
--- A file and its sidecar.
+-- A file and its journal.
 use Rattle.std.proofs.Common.{◌≡◌, ◌≢◌, ℕ, Bool, true, false, List, [], ◌∷◌, Option, Some, None, Result, refl}
 use Rattle.mkv_io.specs.Asked.{AsksFor, AsksOnly, IsNotAmong}
 use Rattle.mkv_io.specs.declared.asked.Asked.{Asked}
@@ -17,7 +17,7 @@ use Rattle.mkv_info.specs.declared.info.Form.TheVariants.{Lines, Json}
 use Rattle.mkv_info.proofs.IdentifiedLemmas.{identified-nothing}
 use Rattle.mkv_info.proofs.ListedLemmas.{listed-nothing}
 
--- nothing is written
+-- Nothing is written.
 told-nothing : (form : Form) (name bytes : List ℕ) → (content_verdict form name bytes).outputs ≡ nothing
 told-nothing Lines name bytes = listed-nothing name bytes
 told-nothing Json name bytes = identified-nothing name (read_of bytes)
@@ -26,7 +26,7 @@ settled-nothing : (form : Form) (name bytes : List ℕ) (pending : Bool) → (un
 settled-nothing form name bytes true = refl
 settled-nothing form name bytes false = told-nothing form name bytes
 
--- what was said of a content is the verdict on its name
+-- The lines printed for a content are the result for its name.
 pub reaches-settled : (old new : Seen) (r : Result Status CommandEnd) (form : Form) (name : List ℕ) (pending : Bool) (content : Option (List ℕ)) → content ≢ None → ((bytes : List ℕ) → content ≡ Some bytes → SaysVerdict old.lines new.lines r (unless_pending name pending (content_verdict form name bytes))) → new.names ≡ old.names → Reaches old new r (name_verdict form name pending content)
 reaches-settled old new r form name pending None there says names = absurd (there refl)
 reaches-settled old new r form name pending (Some bytes) there says names =
@@ -34,7 +34,7 @@ reaches-settled old new r form name pending (Some bytes) there says names =
 
 -- ---- the names that are opened
 
--- a file is opened, its sidecar looked into, and the file closed
+-- A file is opened, its journal is read, and the file is closed.
 pub asks-told : {T E : Type 0} (name : List ℕ) (a b c d : List Asked) (result : Result T E) → AsksFor (Opened name) a b result → AsksOnly (sidecar_of name ∷ []) [] b c → d ≡ c → AsksOnly (with_sidecar name) [] a d
 asks-told name a b c d result opens looks closed =
     asks-both (IsNotAmong (with_sidecar name) []) a b d

@@ -1,4 +1,4 @@
--- Objects that are built in the order of their keys, and lists that are shown one item after the other.
+-- Objects that are built in the order of their keys, and lists of values.
 use Rattle.std.proofs.Common.{◌≡◌, ℕ, suc, ◌+◌, ◌<◌, ◌≤◌, Bool, true, false, ◌&&◌, List, [], ◌∷◌, ◌++◌, length, map, drop, get_or, Option, Some, None, Ordering, Less, Equal, Greater, nat_cmp, refl, sym, ap, ap₂, ◌∙◌, add-one}
 use Rattle.std.proofs.lemmas.List.{append_assoc, append-nil, drop_all, map-append}
 use Rattle.std.proofs.Math.Seq.{drop-cons}
@@ -14,7 +14,7 @@ both : (a b : Bool) → a && b ≡ true → (a ≡ true) × (b ≡ true)
 both true b holds = (refl, holds)
 both false b holds = absurd (cc)
 
--- a key behind those of all members is put last
+-- A key that comes after all others is put last.
 put_behind : (key : List ℕ) (value : Option Data) (before : List Member) → is_behind key before ≡ true → put_if key value (members_of before) ≡ members_of (before ++ (key, value) ∷ [])
 put_behind key None [] behind = refl
 put_behind key (Some d) [] behind = refl
@@ -38,15 +38,15 @@ put_behind_each before (m ∷ more) rises =
     ∙ put_behind_each (before ++ m ∷ []) more each.1
     ∙ ap members_of (append_assoc before (m ∷ []) more)
 
--- these members were put into an object, one after the other
+-- The members `ms` were put into an object in sequence.
 pub record ArePut (ms : List Member) (all : Members) : Type 0 where
   pub are : all ≡ put_each ms no_members
 
--- members whose keys rise stand in their order
+-- Members with ascending keys keep their order.
 pub put-members : (ms : List Member) (all : Members) → ArePut ms all → rise [] ms ≡ true → all ≡ members_of ms
 put-members ms all put rises = put.are ∙ put_behind_each [] ms rises
 
--- behind these a member more is put, or one that has a value
+-- A further member is put after these, or left out without a value.
 pub put-if_there : (ms : List Member) (before after : Members) (key : List ℕ) (own value : Option Data) → ArePut ms before → after ≡ put_if key own before → own ≡ value → ArePut (ms ++ (key, value) ∷ []) after
 put-if_there ms before after key own value were added is = record { are = added ∙ ap₂ (put_if key) is were.are ∙ step ms no_members }
   where
@@ -57,9 +57,9 @@ put-if_there ms before after key own value were added is = record { are = added 
 pub put-given : (ms : List Member) (before after : Members) (key : List ℕ) (own value : Data) → ArePut ms before → after ≡ put key own before → own ≡ value → ArePut (ms ++ (key, Some value) ∷ []) after
 put-given ms before after key own value were added is = put-if_there ms before after key (Some own) (Some value) were added (ap (λ (one : Data). Some one) is)
 
--- ---- lists that are shown
+-- ---- lists of values
 
--- behind the items that are shown stands the next one
+-- The next item follows the items that were passed.
 numbered-cons : {A : Type 0} (shown : ℕ → A → List Data) (k i : ℕ) (xs : List A) (x : A) → i < length xs → x ≡ get_or xs i x → numbered shown k (drop i xs) ≡ shown k x ++ numbered shown (k + 1) (drop (i + 1) xs)
 numbered-cons shown k i xs x below is =
     ap (numbered shown k) (drop-cons xs i x below) ∙ ap (λ one. shown k one ++ numbered shown (k + 1) (drop (suc i) xs)) (sym is) ∙ ap (λ n. shown k x ++ numbered shown (k + 1) (drop n xs)) (sym (add-one i))
@@ -69,20 +69,20 @@ numbered-next shown k i xs x done all below is was =
     append_assoc done (shown k x) (numbered shown (k + 1) (drop (i + 1) xs))
     ∙ sym (ap (λ rest. done ++ rest) (numbered-cons shown k i xs x below is)) ∙ was
 
--- at the end all are shown
+-- At the end all items were passed.
 pub numbered-all : {A : Type 0} (shown : ℕ → A → List Data) (k i : ℕ) (xs : List A) (done all : List Data) → length xs ≤ i → done ++ numbered shown k (drop i xs) ≡ all → done ≡ all
 numbered-all shown k i xs done all past was = sym (append-nil done) ∙ sym (ap (λ rest. done ++ numbered shown k rest) (drop_all i xs past)) ∙ was
 
--- what is shown of what a function makes of each item
+-- The values of mapped items.
 pub numbered-map : {A B : Type 0} (shown : ℕ → B → List Data) (f : A → B) (k : ℕ) (xs : List A) → numbered shown k (map f xs) ≡ numbered (λ n x. shown n (f x)) k xs
 numbered-map shown f k [] = refl
 numbered-map shown f k (x ∷ xs) = ap (λ rest. shown k (f x) ++ rest) (numbered-map shown f (k + 1) xs)
 
--- a value that is added is shown behind the others
+-- A value that is appended follows the others.
 pub view-more : (before after : List Value) (value : Value) (shown : Data) → after ≡ before ++ value ∷ [] → view value ≡ shown → map view after ≡ map view before ++ shown ∷ []
 view-more before after value shown is same = ap (map view) is ∙ map-append view before (value ∷ []) ∙ ap (λ one. map view before ++ one ∷ []) same
 
--- so one item more is shown
+-- One more item was passed.
 pub numbered-more : {A : Type 0} (shown : ℕ → A → List Data) (k i : ℕ) (xs : List A) (x : A) (done now all : List Data)
     → i < length xs → x ≡ get_or xs i x → now ≡ done ++ shown k x
     → done ++ numbered shown k (drop i xs) ≡ all → now ++ numbered shown (k + 1) (drop (i + 1) xs) ≡ all

@@ -1,4 +1,4 @@
--- What is read of a file to identify it.
+-- The data that are read to identify a file.
 use Rattle.std.proofs.Common.{◌≡◌, ℕ, List, All, Option, Some, None, IfSome, Result, Ok, ◌∙◌}
 use Rattle.mkv_schema.specs.declared.ids.TheConstants.{TAGS}
 use Rattle.mkv_io.specs.declared.damage.Damage.{Damage}
@@ -15,7 +15,7 @@ use Rattle.meta_records.specs.declared.records.Records.{Records}
 use Rattle.mkv_info.specs.Sound.{CanBeTold, IsAttached}
 use Rattle.mkv_info.specs.Read.{Described}
 
--- ---- the records that were read can be told
+-- ---- the records that were read can be described
 
 each_attached : (file : FileId) (total : ℕ) (list : List Attachment) → All (IsAttachedIn file total) list → All IsAttached list
 each_attached file total list are = λ k d below. let is = are k d below in record { id = is.entry.is.id; sound = is.entry.is.sound }
@@ -36,6 +36,6 @@ pub ruleset told = (CanBeTold-read)
 
 -- ---- what is read
 
--- behind an outline
+-- the data after an outline
 abbrev behind : List ℕ → FileOutline → Result Described Damage
 behind bytes v = and_then (file_records bytes v.segment) (λ (r : FileRecords). Ok (record { records = r; damage = v.damage }))

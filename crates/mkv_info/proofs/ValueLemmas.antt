@@ -13,7 +13,7 @@ use Rattle.tree_format.proofs.ChildLemmas.{HasUint-of, child-stands, stands-soun
 use Rattle.ebml_tree.specs.Texts.{HasText}
 use Rattle.ebml_tree.proofs.TextLemmas.{HasText-of}
 
--- ---- what the table has
+-- ---- entries of the table
 
 pub title : HasText INFO TITLE
 unfolding entry_of table
@@ -67,7 +67,7 @@ pub ruleset known = (HasText-of, HasUint-of, title, media_type, description, fil
 
 -- ---- the values
 
--- an integer among the children of a sound master has at most eight octets
+-- An integer among the children of a sound master has at most eight bytes.
 pub child-short : (parent : ℕ) (tree n : Node) (ns : List Node) (i id : ℕ) → IsSoundOf parent tree → HasUint parent id → ns ≡ children tree → i < length ns → n ≡ get_or ns i n → id_of n ≡ id → length (body_of n) ≤ 8
 child-short parent tree n ns i id is uint are inside at same =
     let stands = child-stands tree n ns i is.sound are inside at in
@@ -76,7 +76,7 @@ child-short parent tree n ns i id is uint are inside at same =
     stands-value (id_of tree) Uint n stands (ap (λ own. may_stand own (id_of tree)) same ∙ has.stands) (ap kind_of same ∙ has.kind) in
     grind (arith, nat_tests)
 
--- a master among them is sound
+-- A master among the children of a sound one is sound.
 pub child-sound : (tree n : Node) (ns : List Node) (i id own : ℕ) → IsSound tree → ns ≡ children tree → i < length ns → n ≡ get_or ns i n → own ≡ id_of n → own ≡ id → IsSoundOf id n
 child-sound tree n ns i id own sound are inside at of same =
     record { id = cc; sound = stands-sound (id_of tree) n (child-stands tree n ns i sound are inside at) }

@@ -1,16 +1,16 @@
--- How many octets `info` and `merge -J` may read. The bounds are this project's.
+-- The limits of bytes that `info` and `merge -J` read. They are this project's.
 use Rattle.std.specs.Prelude.{ℕ, ◌+◌, ◌*◌, min, List, length, Option, Some, None}
 use Rattle.meta_records.specs.declared.limits.TheConstants.{MAX_ATTACHMENTS_LEN}
 use Rattle.mkv_lines.specs.Command.{with_sidecar_head}
 use Rattle.mkv_info.specs.declared.info.Form.{Form}
 use Rattle.mkv_info.specs.declared.info.Form.TheVariants.{Lines, Json}
 
--- what may be read of a file of so many octets to list it: its outline twice, Tracks once, and level 1 once more
+-- the limit for listing a file of `octets` bytes: its outline twice, Tracks once, and level 1 once more
 abbrev pub most_to_list : ℕ → ℕ
 most_to_list octets = 4 * octets
 
--- what may be read of it to identify it: its outline twice, Info, Tracks, Chapters and Tags once each, and what names its
--- attached files, but none of their data
+-- the limit for identifying a file: its outline twice, and Info, Tracks, Chapters and Tags once each; and the names of its attached files,
+-- without their data
 abbrev pub most_to_identify : ℕ → ℕ
 most_to_identify octets = 6 * octets + min (16 * octets) (2 * MAX_ATTACHMENTS_LEN)
 
@@ -18,11 +18,11 @@ abbrev pub most_of_form : Form → ℕ → ℕ
 most_of_form Lines octets = most_to_list octets
 most_of_form Json octets = most_to_identify octets
 
--- what may be read of a name, which may have no content
+-- the limit for a name, which may have no content
 abbrev pub most_with : Form → Option (List ℕ) → ℕ
 most_with form None = 0
 most_with form (Some bytes) = with_sidecar_head (most_of_form form) (length bytes)
 
--- what may be read of a name in a world of names
+-- the limit for a name among the names of `world`
 abbrev pub most_to_tell : Form → (List ℕ → Option (List ℕ)) → List ℕ → ℕ
 most_to_tell form world name = most_with form (world name)

@@ -1,4 +1,4 @@
--- How many chapters there are: RFC 9559, section 5.1.7 (Chapters Element). The key is this project's.
+-- The count of chapters: RFC 9559, section 5.1.7 (Chapters Element). The key is this project's.
 use Rattle.std.specs.Prelude.{ℕ, ◌==◌, if◌then◌else◌, List, [], ◌∷◌, flat_map, length, Option, Some, None}
 use Rattle.serde_json.specs.Data.{Data}
 use Rattle.mkv_schema.specs.declared.ids.TheConstants.{CHAPTER_ATOM, EDITION_ENTRY}
@@ -6,11 +6,11 @@ use Rattle.tree_format.specs.Node.{Node, children}
 use Rattle.tree_format.specs.Changes.{part}
 use Rattle.mkv_info.specs.Json.{array_of, given, object_of, whole}
 
--- one object that has a number of entries, or none where there is no entry
+-- a list with one object that has the number of entries, or an empty list for no entries
 abbrev pub entries_value : ℕ → Data
 entries_value n = array_of (if n == 0 then [] else object_of (given "num_entries" (whole n) ∷ []) ∷ [])
 
--- the ChapterAtoms that stand directly in an EditionEntry, of all those among some Elements
+-- the ChapterAtoms directly in an EditionEntry, for all EditionEntries among `ns`
 abbrev pub top_atoms : List Node → List Node
 top_atoms ns = flat_map (λ e. part CHAPTER_ATOM (children e)) (part EDITION_ENTRY ns)
 

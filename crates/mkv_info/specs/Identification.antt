@@ -1,5 +1,5 @@
--- The identification of a file: what it has, as one JSON value, and the text of that value. The keys, their order and when
--- one is left out are this project's.
+-- The identification of a file as one JSON value, and the text of that value. The keys, their order and the conditions to leave one out are this
+-- project's.
 use Rattle.std.specs.Prelude.{ℕ, List, [], ◌∷◌, true, Option, codes}
 use Rattle.std.specs.Option.{option_map, option_and_then}
 use Rattle.serde_json.specs.Data.{Data, boolean, string}
@@ -15,11 +15,11 @@ use Rattle.mkv_info.specs.Chapters.{chapter_count, entries_value}
 use Rattle.mkv_info.specs.Tags.{tag_count, track_tags_value}
 use Rattle.mkv_info.specs.ToldTracks.{tracks_value}
 
--- the Title of an Info (RFC 9559, section 5.1.2, Info Element), where it isn't empty
+-- the Title of an Info (RFC 9559, section 5.1.2, Info Element), unless it is empty
 abbrev pub title_of : Option Node → Option (List ℕ)
 title_of info = option_and_then (λ i. unless_empty (text_or_empty TITLE i)) info
 
--- what is told of the file as a whole: TimestampScale in nanoseconds, and Title
+-- the properties of the whole file: TimestampScale in nanoseconds, and Title
 abbrev pub container_properties : Option Node → Data
 container_properties info = object_of (
     given "timestamp_scale" (whole (scale_of_info info)) ∷
@@ -34,7 +34,7 @@ container_value info = object_of (
     given "type" (string (codes "Matroska")) ∷
     [])
 
--- what a file of a name has, of which this was read
+-- the members for the file `name` with these records
 abbrev pub told_of : List ℕ → FileRecords → List Member
 told_of name file =
     given "attachments" (attachments_value file.attachments) ∷

@@ -31,11 +31,11 @@ members_of (m ∷ ms) = with_first m.0 m.1 (members_of ms)
 abbrev pub object_of : List Member → Data
 object_of ms = object (members_of ms)
 
--- these values, in this order
+-- an array with these values, in this order
 abbrev pub array_of : List Data → Data
 array_of ds = array (items_of ds)
 
--- the values that are shown of a list's items, of which the first has the number k
+-- the values of a list's items, numbered from `k`
 abbrev pub numbered : {A : Type 0} → (ℕ → A → List Data) → ℕ → List A → List Data
 numbered shown k [] = []
 numbered shown k (x ∷ xs) = shown k x ++ numbered shown (k + 1) xs

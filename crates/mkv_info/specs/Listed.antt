@@ -1,5 +1,5 @@
--- What `info` tells of a file: a line for each Element (RFC 8794, section 8, EBML Document) and each track (RFC 9559, section 5.1.4,
--- Tracks Element). The lines are this project's.
+-- The result of `info` for a file: a line for each Element (RFC 8794, section 8, EBML Document) and each track (RFC 9559, section 5.1.4, Tracks
+-- Element). The lines are this project's.
 use Rattle.std.specs.Prelude.{ℕ, ◌++◌, List, [], ◌∷◌, map, Option, Some, None, Result, Ok, Err}
 use Rattle.mkv_io.specs.declared.damage.Damage.{Damage}
 use Rattle.mkv_schema.specs.Outline.{Outlined, outline_of, segment_run}
@@ -16,25 +16,25 @@ use Rattle.mkv_info.specs.Tracks.{file_tracks, track_lines}
 abbrev pub element_lines : Outlined → List (List ℕ)
 element_lines o = level_0_line o.ebml ∷ level_0_line o.segment ∷ map level_1_line o.list
 
--- these lines, by an outline that was read and the Elements that its Segment has
+-- the same lines, by an outline that was read and the Elements of its Segment
 abbrev pub shown_lines : List ℕ → FileOutline → List (List ℕ)
 shown_lines bytes o = level_0_line o.ebml ∷ level_0_line o.segment ∷ map level_1_line (segment_run bytes o.segment).list
 
--- the lines of level 1 alone, of its Segment
+-- the lines of level 1 of a Segment
 abbrev pub level_1_lines : Header → List ℕ → List (List ℕ)
 level_1_lines segment bytes = map level_1_line (segment_run bytes segment).list
 
--- a file that is damaged at level 1 is listed up to there, with a warning behind the list
+-- the warning after the list; a file that is damaged at level 1 is listed up to the damage
 abbrev pub warnings : List ℕ → Option Damage → List (List ℕ)
 warnings name None = []
 warnings name (Some d) = warning_line name d ∷ []
 
--- all is done, or the damage is warned of
+-- the status: done, or warned of damage
 abbrev pub status_with : Option Damage → Status
 status_with None = Done
 status_with (Some d) = Warned
 
--- the Elements, then the tracks, then the warning
+-- the list: the Elements, then the tracks, then the warning
 abbrev pub listed : List ℕ → Outlined → List Track → Verdict
 listed name o tracks = only_said (status_with o.damage) (element_lines o ++ (track_lines 0 tracks ++ warnings name o.damage))
 
@@ -48,6 +48,6 @@ abbrev pub listed_or_refused : List ℕ → List ℕ → Result Outlined Damage 
 listed_or_refused name bytes (Ok o) = with_tracks name o (file_tracks bytes o.segment)
 listed_or_refused name bytes (Err d) = refused (refusal_line name d)
 
--- what is told of a content that bears a name, line by line
+-- the result for the file `name` with this content, line by line
 abbrev pub listed_verdict : List ℕ → List ℕ → Verdict
 listed_verdict name bytes = listed_or_refused name bytes (outline_of 0 bytes)

@@ -1,4 +1,4 @@
--- Members that are put into an object one after the other.
+-- Members that are put into an object in sequence.
 use Rattle.std.specs.Prelude.{ℕ, Bool, true, false, ◌&&◌, List, [], ◌∷◌, ◌++◌, Option, Some, None, ◌≡◌}
 use Rattle.std.specs.Ordering.{nat_cmp, match_ordering}
 use Rattle.std.specs.Cmp.Lexicographic.{slice_cmp}
@@ -10,7 +10,7 @@ use Rattle.std.specs.declared.string.String.{String}
 use Rattle.serde_json.specs.View.{members_view, view}
 use Rattle.serde_json.specs.declared.value.Value.{Value}
 
--- a member is put, unless it has no value
+-- an object after a member is put into it, unless it has no value
 abbrev pub put_if : List ℕ → Option Data → Members → Members
 put_if key None ms = ms
 put_if key (Some value) ms = put key value ms
@@ -19,17 +19,17 @@ put_if key (Some value) ms = put key value ms
 abbrev pub PutsMember : List ℕ → Option Value → List (String Global × Value) → List (String Global × Value) → Type 0
 PutsMember key value old new = members_view new ≡ put_if key (option_map view value) (members_view old)
 
--- these are put one after the other
+-- an object after these members are put into it in sequence
 abbrev pub put_each : List Member → Members → Members
 put_each [] ms = ms
 put_each (m ∷ more) ms = put_each more (put_if m.0 m.1 ms)
 
--- a key stands behind those of these members, in the order of their octets
+-- A key comes after the keys of all these members, in the order of bytes.
 abbrev pub is_behind : List ℕ → List Member → Bool
 is_behind key [] = true
 is_behind key (m ∷ ms) = match_ordering (slice_cmp nat_cmp key m.0) false false true && is_behind key ms
 
--- behind these members, the keys of others rise
+-- The keys of `more` ascend, and come after the keys of `before`.
 abbrev pub rise : List Member → List Member → Bool
 rise before [] = true
 rise before (m ∷ more) = is_behind m.0 before && rise (before ++ m ∷ []) more

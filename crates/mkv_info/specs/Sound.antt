@@ -1,4 +1,4 @@
--- What is known of the records that were read.
+-- Facts of the records that were read.
 use Rattle.std.specs.Prelude.{All, IfSome}
 use Rattle.mkv_schema.specs.declared.ids.TheConstants.{ATTACHED_FILE, TAGS}
 use Rattle.tree_format.specs.Node.{Node}
@@ -9,15 +9,15 @@ use Rattle.output_model.specs.declared.attachment.Attachment.{Attachment}
 use Rattle.meta_records.specs.Records.{IsGoodInfo}
 use Rattle.meta_records.specs.declared.records.Records.{Records}
 
--- an attached file, of whose AttachedFile each child stands there
+-- The table allows each child of the AttachedFile in it.
 abbrev pub IsAttached : Attachment → Type 0
 IsAttached a = IsSoundOf ATTACHED_FILE a.entry
 
--- a Tags Element whose children stand there
+-- The table allows each child of the Tags in it.
 abbrev pub AreTags : Node → Type 0
 AreTags tags = IsSoundOf TAGS tags
 
--- The records can be told: what is inside of each Element stands there, and the Info isn't refused.
+-- The records can be described: the table allows the children of each Element, and the Info isn't refused.
 pub record CanBeTold (r : Records) : Type 0 where
   pub info : IfSome r.info IsGoodInfo
   pub tracks : All (λ (t : Track). IsEntry t.entry) r.tracks

@@ -1,4 +1,4 @@
--- How many tags a file has, and each of its tracks: RFC 9559, section 5.1.8 (Tags Element). The keys are this project's.
+-- The counts of tags of a file, and of each of its tracks: RFC 9559, section 5.1.8 (Tags Element). The keys are this project's.
 use Rattle.std.specs.Prelude.{ℕ, ◌==◌, Bool, true, not, if◌then◌else◌, List, [], ◌∷◌, filter, flat_map, length, map, Option, Some, None}
 use Rattle.std.specs.List.{list_any}
 use Rattle.serde_json.specs.Data.{Data}
@@ -18,16 +18,16 @@ named_among ns = filter (λ uid. not (uid == 0)) (map integer_of (part TAG_TRACK
 abbrev pub named_in : Node → List ℕ
 named_in targets = named_among (children targets)
 
--- those that a Tag names in all its Targets
+-- the TrackUIDs that a Tag names in all its Targets
 abbrev pub tracks_named : Node → List ℕ
 tracks_named tag = flat_map named_in (part TARGETS (children tag))
 
--- the Tags that are counted: those that name no track, or those that name the track of a TrackUID
+-- The Tag is counted: it names no track, or it names the track with this TrackUID.
 abbrev pub is_counted : Scope → Node → Bool
 is_counted Global tag = not (list_any (λ own. true) (tracks_named tag))
 is_counted (Track uid) tag = list_any (λ own. own == uid) (tracks_named tag)
 
--- the SimpleTags that stand directly in a Tag that is counted, of all those among some Elements, each once
+-- the SimpleTags directly in a Tag that is counted, for all Tags among `ns`, each once
 abbrev pub simple_tags : Scope → List Node → List Node
 simple_tags scope ns = flat_map (λ t. part SIMPLE_TAG (children t)) (filter (is_counted scope) (part TAG ns))
 
@@ -35,15 +35,15 @@ abbrev pub tag_count : Scope → Option Node → ℕ
 tag_count scope None = 0
 tag_count scope (Some tags) = length (simple_tags scope (children tags))
 
--- so many tags of a track, which has this number in the file
+-- the value for `count` tags of the track with number `id`
 abbrev pub counted_tags : ℕ → ℕ → Data
 counted_tags count id = object_of (given "num_entries" (whole count) ∷ given "track_id" (whole id) ∷ [])
 
--- how many tags name a track; one that none names is left out
+-- the value with the number of tags of a track, or nothing if it has none
 abbrev pub track_tags : Option Node → ℕ → tracks.Track → List Data
 track_tags tags id t =
     if tag_count (Track t.uid) tags == 0 then [] else counted_tags (tag_count (Track t.uid) tags) id ∷ []
 
--- the same of all tracks, numbered from 0
+-- the values for all tracks, numbered from 0
 abbrev pub track_tags_value : Option Node → List tracks.Track → Data
 track_tags_value tags tracks = array_of (numbered (track_tags tags) 0 tracks)

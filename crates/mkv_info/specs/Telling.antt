@@ -1,4 +1,4 @@
--- What a call comes to that reads a live file and tells of it.
+-- The effects of a call that reads a live file and prints its description.
 use Rattle.std.specs.Prelude.{◌≡◌, ℕ, List, Result, Ok}
 use Rattle.mkv_io.specs.Sources.{IfTold}
 use Rattle.mkv_io.specs.declared.outside.FileId.{FileId}
@@ -16,35 +16,35 @@ use Rattle.mkv_io.specs.declared.files.Files.{Ghosts as FilesGhosts}
 use Rattle.mkv_info.specs.Info.{info_verdict, settled_verdict}
 use Rattle.mkv_info.specs.declared.info.Form.{Form}
 
--- It has said the lines of the verdict on the file's content, where that is told, or a first part of them.
+-- The call printed the lines of the result for the file's content, or a first part of them, if the content is visible to the proof.
 abbrev pub Informs : {S P : Type 0} → ReadsGhosts S → ReportGhosts P → S → FileId → P → P → Result Status CommandEnd → (List ℕ → Verdict) → Type 0
 Informs r p src file old new result verdict = IfTold r src file (λ bytes. SaysVerdict (p.lines old) (p.lines new) result (verdict bytes))
 
--- the same of lines alone
+-- The call printed these lines for the file's content, or a first part of them, if the content is visible to the proof.
 abbrev pub SaysOf : {S P T : Type 0} → ReadsGhosts S → ReportGhosts P → S → FileId → P → P → Result T CommandEnd → (List ℕ → List (List ℕ)) → Type 0
 SaysOf r p src file old new result lines = IfTold r src file (λ bytes. SaysTo p old new (lines bytes) result)
 
--- It has listed the content of a name that has this outline.
+-- The call listed the content of the file `name`, which has this outline.
 abbrev pub ListsOutline : {S P : Type 0} → ReadsGhosts S → ReportGhosts P → S → FileId → FileOutline → List ℕ → P → P → Result Status CommandEnd → Type 0
 ListsOutline r p src file outline name old new result =
     IfTold r src file (λ bytes. outline_in 0 bytes ≡ Ok outline → SaysVerdict (p.lines old) (p.lines new) result (listed_verdict name bytes))
 
--- It has said a line for the EBML header, for the Segment, and for each Element of level 1, of a file with this outline.
+-- The call printed a line for the EBML header, for the Segment, and for each Element of level 1, of a file with this outline.
 abbrev pub SaysElements : {S P T : Type 0} → ReadsGhosts S → ReportGhosts P → S → FileId → FileOutline → P → P → Result T CommandEnd → Type 0
 SaysElements r p src file outline old new result = SaysOf r p src file old new result (λ bytes. shown_lines bytes outline)
 
--- why it stops
+-- The call stopped because a count of faults of reading or of the report increased.
 abbrev pub HasTellStop : {S P T : Type 0} → ReadsGhosts S → ReportGhosts P → S → S → P → P → Result T CommandEnd → Type 0
 HasTellStop r p src src_now old new result = HasReadStop (r.reading_faults src) (r.reading_faults src_now) (p.faults old) (p.faults new) result
 
--- ---- by the names, where they are told
+-- ---- by the names, if they are visible to the proof
 
--- It has come to what is told in this form of the file of a name.
+-- The call has the result for the file `name` in this form.
 abbrev pub Presents : {S P : Type 0} → ReadsGhosts S → FilesGhosts S → ReportGhosts P → S → S → P → P → Result Status CommandEnd → Form → List ℕ → Type 0
 Presents r f p files files' report report' result form name =
     IfVisible (f.names files) (λ world. Fulfils r f p files files' report report' result (info_verdict form world name))
 
--- It has told in this form what a live file of a name is, unless an edit of that is pending.
+-- The call described the live file `name` in this form, unless it has a pending edit.
 abbrev pub TellsSettled : {S P : Type 0} → ReadsGhosts S → FilesGhosts S → ReportGhosts P → S → FileId → P → P → Result Status CommandEnd → Form → List ℕ → Type 0
 TellsSettled r f p files file old new result form name =
     IfVisible (f.names files) (λ world. Informs r p files file old new result (settled_verdict form world name))

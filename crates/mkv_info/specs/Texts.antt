@@ -3,11 +3,11 @@ use Rattle.std.specs.Prelude.{ℕ, List, [], ◌∷◌, Option, Some, None, unwr
 use Rattle.tree_format.specs.Node.{Node}
 use Rattle.tree_format.specs.Values.{text_in}
 
--- the text of an ID among the children, empty where there is none
+-- the text with this ID among the children, or an empty text if it is absent
 abbrev pub text_or_empty : ℕ → Node → List ℕ
 text_or_empty id tree = unwrap_or (text_in id tree) []
 
--- a text that has an octet at least
+-- the text, unless it is empty
 abbrev pub unless_empty : List ℕ → Option (List ℕ)
 unless_empty [] = None
 unless_empty (o ∷ os) = Some (o ∷ os)

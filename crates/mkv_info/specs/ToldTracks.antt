@@ -1,4 +1,4 @@
--- The tracks as they are told: RFC 9559, section 5.1.4 (Tracks Element). The keys are this project's.
+-- The tracks in JSON: RFC 9559, section 5.1.4 (Tracks Element). The keys are this project's.
 use Rattle.std.specs.Prelude.{ℕ, ◌==◌, not, List, [], ◌∷◌, ◌++◌, Option, codes}
 use Rattle.std.specs.Fmt.{decimal}
 use Rattle.std.specs.Option.{option_map, option_and_then}
@@ -11,24 +11,24 @@ use Rattle.track_records.specs.declared.track.Track.{Track}
 use Rattle.mkv_info.specs.Json.{Member, array_of, given, if_there, numbered, object_of, whole}
 use Rattle.mkv_info.specs.Texts.{text_or_empty, unless_empty}
 
--- a flag of an entry, which is set where its value isn't 0; the table has the value of one that is missing or empty
+-- a flag of an entry, set unless its value is 0; the table has the value of one that is missing or empty
 abbrev pub flag : ℕ → Node → Data
 flag id entry = boolean (not (uint_in id entry == 0))
 
--- two numbers, as a width and a height are written
+-- two numbers, written as a width and a height
 abbrev pub dimensions_text : ℕ → ℕ → List ℕ
 dimensions_text width height = decimal width ++ (codes "x" ++ decimal height)
 
--- PixelWidth and PixelHeight of a Video Element, where both stand
+-- PixelWidth and PixelHeight of a Video Element, if both are present
 abbrev pub pixels_in : Node → Option (List ℕ)
 pixels_in video = option_and_then (λ w. option_map (dimensions_text w) (integer_in PIXEL_HEIGHT video)) (integer_in PIXEL_WIDTH video)
 
--- the same of an entry's first Video
+-- PixelWidth and PixelHeight of an entry's first Video, if both are present
 abbrev pub dimensions_of : Node → Option (List ℕ)
 dimensions_of entry = option_and_then pixels_in (first_child VIDEO entry)
 
--- CodecID, DefaultDuration in nanoseconds where it stands, the flags, the language that is shown, LanguageBCP47 where it
--- stands, TrackNumber, the pixels, Name where it isn't empty, and TrackUID, 0 where there is none
+-- the properties of a track, each if it is present: CodecID, DefaultDuration in nanoseconds, the flags, the language, LanguageBCP47, TrackNumber,
+-- the pixels, Name unless it is empty, and TrackUID, or 0
 abbrev pub properties_of : Track → List Member
 properties_of t =
     given "codec_id" (string t.codec) ∷

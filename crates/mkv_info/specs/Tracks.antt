@@ -12,24 +12,24 @@ use Rattle.track_records.specs.Track.{tracks_of}
 use Rattle.track_records.specs.declared.track.Track.{Track}
 use Rattle.mkv_lines.specs.Shown.{track_text}
 
--- the tracks of a Tracks, or what refuses them; without a Tracks there are none
+-- the tracks of a Tracks, or their refusal; without a Tracks there are none
 abbrev pub tracks_in : Option Node → Result (List Track) Damage
 tracks_in None = Ok []
 tracks_in (Some tracks) = tracks_of tracks
 
--- the tracks of a file with this Segment are those of its first Tracks
+-- the tracks of a file with this Segment: the tracks of its first Tracks
 abbrev pub file_tracks : List ℕ → Header → Result (List Track) Damage
 file_tracks bytes segment = and_then (first_tree TRACKS bytes segment) tracks_in
 
--- These are the tracks of a content that has this outline, or what refuses them.
+-- `found` is the tracks of a content that has this outline, or their refusal.
 abbrev pub AreTracksOf : FileOutline → Result (List Track) Damage → List ℕ → Type 0
 AreTracksOf outline found bytes = outline_in 0 bytes ≡ Ok outline → found ≡ file_tracks bytes outline.segment
 
--- the line of a track, by its number from 0
+-- the line of track number `k`, counted from 0
 abbrev pub shown_track : ℕ → Track → List ℕ
 shown_track k t = track_text k (type_name t.kind) t.codec t.number t.uid t.language
 
--- a line for each track, of which the first has the number k
+-- a line for each track, numbered from `k`
 abbrev pub track_lines : ℕ → List Track → List (List ℕ)
 track_lines k [] = []
 track_lines k (t ∷ ts) = shown_track k t ∷ track_lines (k + 1) ts

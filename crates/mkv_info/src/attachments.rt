@@ -12,7 +12,7 @@ use output_model::Attachment;
 use serde_json::{Value, json};
 use std::alloc::{AllocError, Global};
 
-/// The attached files, numbered from 1.
+/// Makes the list of the attached files, numbered from 1.
 pub(crate) fn attachments_value(
     alloc: Global,
     attachments: &[Attachment],
@@ -27,7 +27,7 @@ pub(crate) fn attachments_value(
     Ok(Value::Array(values))
 }
 
-// An attached file of this number.
+// Makes the value of the attached file with number `id`.
 #[tactic(auto, using(crate::proofs::ValueLemmas::known))]
 fn attachment_value(alloc: Global, id: u64, attachment: &Attachment) -> Result<Value, AllocError>
     requires { IsAttached attachment.now }

@@ -1,4 +1,4 @@
-//! How many chapters there are: RFC 9559, section 5.1.7 (Chapters Element).
+//! Count of the chapters: RFC 9559, section 5.1.7 (Chapters Element).
 
 ghost use Rattle.std.specs.Prelude.{◌≡◌, IfOk};
 ghost use Rattle.serde_json.specs.View.{view};
@@ -10,7 +10,7 @@ use mkv_schema::ids::{CHAPTER_ATOM, EDITION_ENTRY};
 use serde_json::{Value, json};
 use std::alloc::{AllocError, Global};
 
-/// One object that has a number of entries, or none where there is no entry.
+/// Makes a list with one object that has the number of entries, or an empty list for no entries.
 pub(crate) fn entries_value(alloc: Global, count: usize) -> Result<Value, AllocError>
     ensures { IfOk result (λ value. view value ≡ entries_value count) }
 {
@@ -20,7 +20,7 @@ pub(crate) fn entries_value(alloc: Global, count: usize) -> Result<Value, AllocE
     json!(in alloc; [{"num_entries": count}])
 }
 
-/// How many ChapterAtoms stand directly in an EditionEntry.
+/// Returns the number of ChapterAtoms directly in an EditionEntry.
 pub(crate) fn chapter_count(chapters: &Option<Tree>) -> Result<usize, AllocError>
     ensures { IfOk result (λ count. count ≡ chapter_count chapters.now) }
 {

@@ -1,4 +1,4 @@
-//! What is told of a file as a whole: RFC 9559, section 5.1.2 (Info Element).
+//! Properties of the whole file: RFC 9559, section 5.1.2 (Info Element).
 
 ghost use Rattle.std.specs.Prelude.{◌≡◌, IfOk, IfSome};
 ghost use Rattle.std.specs.Option.{option_copied};
@@ -14,7 +14,7 @@ use mkv_schema::ids::TITLE;
 use serde_json::{Map, Value, json, put};
 use std::alloc::{AllocError, Global};
 
-/// The container, of a file whose first Info this is.
+/// Makes the value of the container, for a file with this first Info.
 pub(crate) fn container_value(alloc: Global, info: &Option<Tree>) -> Result<Value, AllocError>
     requires { IfSome info.now IsGoodInfo }
     ensures { IfOk result (λ value. view value ≡ container_value info.now) }
@@ -44,7 +44,7 @@ fn container_properties(alloc: Global, info: &Option<Tree>) -> Result<Value, All
     Ok(Value::Object(properties))
 }
 
-// The Title, where it isn't empty.
+// Returns the Title, if it isn't empty.
 #[tactic(auto, using(crate::proofs::ValueLemmas::known))]
 fn title_of(info: &Option<Tree>) -> Option<&str>
     requires { IfSome info.now IsGoodInfo }

@@ -1,4 +1,4 @@
-//! A file as one line of JSON.
+//! Identification of a file as one line of JSON.
 
 ghost use Rattle.std.specs.Prelude.{◌≡◌, IfOk};
 ghost use Rattle.mkv_io.specs.Bounds.{ReadsUpTo};
@@ -19,7 +19,7 @@ use mkv_io::{FileId, Reads, Report};
 use mkv_lines::{CommandEnd, Line, Status, refuse, say_text};
 use std::alloc::Global;
 
-/// Tells what a live file is, and warns of the damage that ends its outline; or says what refuses it.
+/// Prints the identification of a live file and a warning of the damage that ends its outline, or its refusal.
 pub fn identify_file<R: Reads, P: Report>(
     alloc: Global,
     name: &str,
@@ -44,7 +44,7 @@ pub fn identify_file<R: Reads, P: Report>(
     }
 }
 
-/// Tells what a file is of which this was read.
+/// Prints the identification of a file with the records in `read`.
 fn tell<P: Report>(
     alloc: Global,
     name: &str,

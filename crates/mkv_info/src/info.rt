@@ -1,4 +1,4 @@
-//! A file is opened, told of and closed.
+//! Opening, description and closing of a file.
 
 ghost use Rattle.std.specs.Prelude.{◌≡◌, [], ◌∷◌, IfOk};
 ghost use Rattle.mkv_io.specs.Asked.{AsksOnly};
@@ -18,7 +18,7 @@ use mkv_lines::{CommandEnd, Line, Status, refuse};
 use sidecar_edit::is_pending;
 use std::alloc::Global;
 
-/// The form in which a file is told of.
+/// Form of the description of a file.
 #[derive(Clone, Copy, Debug, PartialEq, Eq)]
 pub enum Form {
     /// A line for each Element and each track.
@@ -27,7 +27,7 @@ pub enum Form {
     Json,
 }
 
-/// Tells what the file of a name is, which is open in the meantime.
+/// Opens the file `name`, prints its description, and closes it.
 pub fn info_of<F: Files, P: Report>(
     alloc: Global,
     form: Form,
@@ -52,7 +52,7 @@ pub fn info_of<F: Files, P: Report>(
     ended
 }
 
-/// Tells what a live file is, unless an edit of the file of this name is pending.
+/// Prints the description of a live file, unless it has a pending edit.
 fn report_unless_pending<F: Files, P: Report>(
     alloc: Global,
     form: Form,

@@ -1,4 +1,4 @@
-//! Objects and arrays that are built part after part.
+//! JSON objects and arrays that are built step by step.
 
 ghost use Rattle.std.specs.Prelude.{OnErr, OnOk};
 ghost use Rattle.mkv_info.specs.Put.{PutsMember};
@@ -6,7 +6,7 @@ ghost use Rattle.mkv_info.specs.Put.{PutsMember};
 use serde_json::{Map, Value, put};
 use std::alloc::{AllocError, Global};
 
-/// Puts a member into an object, unless it has no value.
+/// Puts a member into `object`, unless it has no value.
 pub(crate) fn put_if(
     object: &mut Map<String, Value>,
     alloc: Global,

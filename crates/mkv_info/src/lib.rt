@@ -1,7 +1,7 @@
 #![tactic(auto)]
 
-//! What is told of one file: the command `info`, which lists its Elements and tracks, and `merge -J`, which tells what it is
-//! as one line of JSON.
+//! Descriptions of a file: the command `info` lists its Elements and tracks, and `merge -J` identifies it in one line
+//! of JSON.
 
 mod attachments;
 mod chapters;

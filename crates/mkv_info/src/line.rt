@@ -1,4 +1,4 @@
-//! The identification of a file, as a value and as its text.
+//! Identification of a file, as a value and as its text.
 
 ghost use Rattle.std.specs.Prelude.{◌≡◌, IfOk};
 ghost use Rattle.serde_json.specs.View.{view};
@@ -16,7 +16,7 @@ use mkv_io::Text;
 use serde_json::{Map, Value, put};
 use std::alloc::{AllocError, Global};
 
-/// The identification of a file of this name as one line of JSON, by what was read of the file.
+/// Makes the identification of the file `name` with these records, as one line of JSON.
 pub fn identify(alloc: Global, name: &str, records: &Records) -> Result<Text, AllocError>
     requires { CanBeTold records.now }
     ensures { IfOk result (λ line. line ≡ identification_line name.now (described_by records.now)) }
@@ -25,7 +25,7 @@ pub fn identify(alloc: Global, name: &str, records: &Records) -> Result<Text, Al
     Ok(Text::from_string(value.to_string(alloc)?))
 }
 
-// The same as a value.
+// Makes the identification of the file `name` with these records, as a value.
 #[tactic(auto, unfolding(crate::specs::Identification::identification))]
 fn identification(alloc: Global, name: &str, records: &Records) -> Result<Value, AllocError>
     requires { CanBeTold records.now }

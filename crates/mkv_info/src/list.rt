@@ -1,4 +1,4 @@
-//! A file's Elements, a line for each.
+//! List of a file's Elements, one to a line.
 
 ghost use Rattle.std.specs.Prelude.{◌≡◌, ◌*◌, IfOk};
 ghost use Rattle.mkv_io.specs.Bounds.{ReadsUpTo};
@@ -17,7 +17,7 @@ use mkv_io::{Damage, FileId, Reads, Report};
 use mkv_lines::{CommandEnd, Line, Status, refuse, say};
 use std::alloc::Global;
 
-/// Lists a live file's Elements and tracks, and warns of the damage that ends them. A file whose outline or
+/// Lists the Elements and tracks of a live file, and warns of the damage that ends them. A file whose outline or
 /// tracks are refused isn't listed.
 pub fn list_file<R: Reads, P: Report>(
     alloc: Global,
@@ -43,7 +43,7 @@ pub fn list_file<R: Reads, P: Report>(
     }
 }
 
-// Lists the Elements of a file with this outline and its tracks. A file whose tracks are refused isn't listed.
+// Lists the Elements and tracks of a file with this outline. A file whose tracks are refused isn't listed.
 fn list_outline<R: Reads, P: Report>(
     alloc: Global,
     name: &str,
@@ -70,7 +70,7 @@ fn list_outline<R: Reads, P: Report>(
     }
 }
 
-// A line for the EBML header, for the Segment, and for each Element of level 1.
+// Prints a line for the EBML header, for the Segment, and for each Element of level 1.
 fn say_elements<R: Reads, P: Report>(
     alloc: Global,
     outline: &Outline,
@@ -93,7 +93,7 @@ fn say_elements<R: Reads, P: Report>(
     say_level_1(alloc, outline, &mut window, src, file, report)
 }
 
-// A line for each Element of level 1, met through a window that holds nothing yet.
+// Prints a line for each Element of level 1, read through a window that holds nothing yet.
 fn say_level_1<R: Reads, P: Report>(
     alloc: Global,
     outline: &Outline,
@@ -125,7 +125,7 @@ fn say_level_1<R: Reads, P: Report>(
     }
 }
 
-/// Warns of a damage, if there is one.
+/// Prints a warning of a damaged place, if there is one.
 pub(crate) fn warn<P: Report>(
     alloc: Global,
     name: &str,

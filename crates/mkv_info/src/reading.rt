@@ -1,4 +1,4 @@
-//! What is read of a file to identify it.
+//! The data of a file that its identification needs.
 
 ghost use Rattle.std.specs.Prelude.{◌≡◌, IfOk};
 ghost use Rattle.mkv_io.specs.Bounds.{ReadsUpTo};
@@ -14,15 +14,15 @@ use meta_records::{Records, read_records};
 use mkv_io::{Damage, FileId, Reads};
 use std::alloc::Global;
 
-/// What was read of a file.
+/// Data that were read of a file.
 #[derive(Drop)]
 pub struct FileRead {
     pub records: Records,
-    /// What is damaged at level 1, up to where the file was read.
+    /// Damage at level 1, in the part of the file that was read.
     pub damage: Option<Damage>,
 }
 
-/// Reads what tells a live file, or the first thing that refuses it: its outline, and then its records.
+/// Reads the outline and then the records of a live file, or returns its first refusal.
 #[tactic(auto, using(crate::proofs::ReadLemmas::told))]
 pub fn read_file<R: Reads>(alloc: Global, src: &mut R, file: FileId) -> Result<FileRead, OutlineEnd>
     requires { IsLive R.Reads src.old file }

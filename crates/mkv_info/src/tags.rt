@@ -1,4 +1,4 @@
-//! How many tags a file has, and each of its tracks: RFC 9559, section 5.1.8 (Tags Element).
+//! Counts of the tags of a file, and of each of its tracks: RFC 9559, section 5.1.8 (Tags Element).
 
 ghost use Rattle.std.specs.Prelude.{◌≡◌, ◌==◌, ◌&&◌, not, IfOk, IfSome};
 ghost use Rattle.std.specs.List.{list_any};
@@ -16,16 +16,16 @@ use serde_json::{Value, json};
 use std::alloc::{AllocError, Global};
 use track_records::Track;
 
-/// Which Tags are counted.
+/// Tags that are counted.
 #[derive(Clone, Copy)]
 pub enum Scope {
-    /// Those that name no track.
+    /// Tags that name no track.
     Global,
-    /// Those that name the track of this TrackUID.
+    /// Tags that name the track with this TrackUID.
     Track(u64),
 }
 
-/// How many tags each track has, by its number from 0; a track that has none is left out.
+/// Makes the list of the tag counts of tracks, by track number from 0. A track without tags is left out.
 pub(crate) fn track_tags_value(
     alloc: Global,
     tags: &Option<Tree>,
@@ -44,14 +44,14 @@ pub(crate) fn track_tags_value(
     Ok(Value::Array(values))
 }
 
-// So many tags of the track of this number.
+// Makes the value for `count` tags of the track with number `id`.
 fn track_tags(alloc: Global, count: usize, id: usize) -> Result<Value, AllocError>
     ensures { IfOk result (λ value. view value ≡ counted_tags count id) }
 {
     json!(in alloc; {"num_entries": count, "track_id": id})
 }
 
-/// How many SimpleTags stand directly in the Tags that are counted.
+/// Returns the number of SimpleTags directly in the Tags that are counted.
 pub(crate) fn tag_count(tags: &Option<Tree>, scope: Scope) -> Result<usize, AllocError>
     requires { IfSome tags.now AreTags }
     ensures { IfOk result (λ count. count ≡ tag_count scope tags.now) }
@@ -78,7 +78,7 @@ fn is_counted(tag: &Tree, scope: Scope) -> bool
     }
 }
 
-// Whether a Tag names the track that is wanted, or any.
+// Checks whether a Tag names the wanted track, or any track if `wanted` is None.
 fn names(tag: &Tree, wanted: Option<u64>) -> bool
     requires { IsSoundOf TAG_ID tag.now }
     ensures { result ≡ list_any (is_wanted wanted) (tracks_named tag.now) }
@@ -91,7 +91,7 @@ fn names(tag: &Tree, wanted: Option<u64>) -> bool
     false
 }
 
-// The same of one Targets.
+// Checks whether a Targets names the wanted track, or any track if `wanted` is None.
 fn names_in(targets: &Tree, wanted: Option<u64>) -> bool
     requires { IsSoundOf TARGETS_ID targets.now }
     ensures { result ≡ list_any (is_wanted wanted) (named_in targets.now) }
@@ -104,7 +104,7 @@ fn names_in(targets: &Tree, wanted: Option<u64>) -> bool
     false
 }
 
-// Whether a TagTrackUID names the track that is wanted, or any; 0 names none.
+// Checks whether a TagTrackUID names the wanted track, or any track if `wanted` is None; 0 names none.
 fn is_wanted(uid: u64, wanted: Option<u64>) -> bool
     ensures { result ≡ (not (uid == 0) && is_wanted wanted uid) }
 {

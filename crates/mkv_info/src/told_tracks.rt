@@ -1,4 +1,4 @@
-//! The tracks: RFC 9559, section 5.1.4 (Tracks Element).
+//! Descriptions of the tracks: RFC 9559, section 5.1.4 (Tracks Element).
 
 ghost use Rattle.std.specs.Prelude.{◌≡◌, ◌++◌, All, IfOk, codes};
 ghost use Rattle.std.specs.Option.{option_map};
@@ -22,7 +22,7 @@ use serde_json::{Map, Value, json, put};
 use std::alloc::{AllocError, Global};
 use track_records::Track;
 
-/// The tracks, numbered from 0.
+/// Makes the list of the tracks, numbered from 0.
 pub(crate) fn tracks_value(alloc: Global, tracks: &[Track]) -> Result<Value, AllocError>
     requires { All (λ t. IsEntry t.entry) tracks.now }
     ensures { IfOk result (λ value. view value ≡ tracks_value tracks.now) }
@@ -34,7 +34,7 @@ pub(crate) fn tracks_value(alloc: Global, tracks: &[Track]) -> Result<Value, All
     Ok(Value::Array(values))
 }
 
-// A track of this number.
+// Makes the value of the track with number `id`.
 fn track_value(alloc: Global, id: usize, track: &Track) -> Result<Value, AllocError>
     requires { IsEntry track.now.entry }
     ensures { IfOk result (λ value. view value ≡ track_value id track.now) }
@@ -94,7 +94,7 @@ fn properties_of(alloc: Global, track: &Track) -> Result<Value, AllocError>
     Ok(Value::Object(properties))
 }
 
-// A flag of an entry, as a JSON boolean.
+// Returns a flag of an entry, as a JSON boolean.
 fn flag(entry: &Tree, id: u32) -> Value
     requires entry { IsEntry entry.now }
     requires uint { HasUint (id_of entry.now) id }
@@ -103,7 +103,7 @@ fn flag(entry: &Tree, id: u32) -> Value
     Value::Bool(uint_in(entry, id) != 0)
 }
 
-// The pixels of an entry's first Video.
+// Returns the pixel dimensions of an entry's first Video.
 fn dimensions_of(alloc: Global, entry: &Tree) -> Result<Option<Value>, AllocError>
     requires { IsEntry entry.now }
     ensures { IfOk result (λ value. option_map view value ≡ option_map string (dimensions_of entry.now)) }
@@ -114,7 +114,7 @@ fn dimensions_of(alloc: Global, entry: &Tree) -> Result<Option<Value>, AllocErro
     }
 }
 
-// PixelWidth and PixelHeight of a Video, where both stand.
+// Returns PixelWidth and PixelHeight of a Video, if both are present.
 #[tactic(auto, using(crate::proofs::ValueLemmas::known))]
 fn pixels_in(alloc: Global, video: &Tree) -> Result<Option<Value>, AllocError>
     requires { IsSoundOf VIDEO_ID video.now }

@@ -1,4 +1,4 @@
-//! The tracks of a file, a line for each.
+//! List of the tracks of a file, one to a line.
 
 ghost use Rattle.std.specs.Prelude.{◌≡◌, IfErr, IfOk, IfSome};
 ghost use Rattle.mkv_schema.specs.declared.ids.TheConstants.{TRACKS as TRACKS_ID};
@@ -20,7 +20,7 @@ use mkv_schema::ids::TRACKS;
 use std::alloc::Global;
 use track_records::{Track, read_tracks};
 
-/// The tracks of a file with this outline, or what refuses them.
+/// Reads the tracks of a file with this outline, or returns their refusal.
 pub fn tracks_of<R: Reads>(
     alloc: Global,
     outline: &Outline,
@@ -42,7 +42,7 @@ pub fn tracks_of<R: Reads>(
     }
 }
 
-// The tracks of a Tracks, or what refuses them; without a Tracks there are none.
+// Reads the tracks of a Tracks, or returns their refusal; without a Tracks there are none.
 fn tracks_in(alloc: Global, tracks: &Option<Tree>) -> Result<Result<List<Track>, Damage>, ReadEnd>
     requires { IfSome tracks.now (IsSoundOf TRACKS_ID) }
     ensures ok { IfOk result (λ found. found ≡ tracks_in tracks.now) }
@@ -58,7 +58,7 @@ fn tracks_in(alloc: Global, tracks: &Option<Tree>) -> Result<Result<List<Track>,
     }
 }
 
-// A track, by its number from 0, as its line shows it.
+// Returns the parts of the line of track number `index`, counted from 0.
 fn shown<'a>(index: usize, track: &'a Track) -> ShownTrack<'a>
     ensures { text_of (line.Track result) ≡ shown_track index track.now }
 {
@@ -72,7 +72,7 @@ fn shown<'a>(index: usize, track: &'a Track) -> ShownTrack<'a>
     }
 }
 
-/// A line for each track.
+/// Prints a line for each track.
 pub fn say_tracks<P: Report>(
     alloc: Global,
     tracks: &List<Track>,

@@ -15,7 +15,7 @@ use ebml_tree::{Tree, text_in};
 use serde_json::Value;
 use std::alloc::{AllocError, Global};
 
-/// The text of an ID, empty where there is none.
+/// Returns the text with this `id`, or an empty text if it is absent.
 pub(crate) fn text_or_empty<'a>(tree: &'a Tree, id: u32) -> &'a str
     requires sound { IsSound tree.now }
     requires text { HasText (id_of tree.now) id }
@@ -24,14 +24,14 @@ pub(crate) fn text_or_empty<'a>(tree: &'a Tree, id: u32) -> &'a str
     text_in(tree, id).unwrap_or("")
 }
 
-/// A text that has an octet at least.
+/// Returns `text`, unless it is empty.
 pub(crate) fn unless_empty(text: &str) -> Option<&str>
     ensures { option_copied result ≡ unless_empty text.now }
 {
     if text.is_empty() { None } else { Some(text) }
 }
 
-/// A text as a JSON string, where it is there.
+/// Returns the text as a JSON string, if it is present.
 pub(crate) fn string_if(alloc: Global, text: Option<&str>) -> Result<Option<Value>, AllocError>
     ensures { IfOk result (λ value. option_map view value ≡ option_map string (option_copied text.entry)) }
 {
@@ -41,14 +41,15 @@ pub(crate) fn string_if(alloc: Global, text: Option<&str>) -> Result<Option<Valu
     }
 }
 
-/// A number as a JSON number, where it is there.
+/// Returns the number as a JSON number, if it is present.
 pub(crate) fn number_if(number: Option<u64>) -> Option<Value>
     ensures { option_map view result ≡ option_map whole number }
 {
     number.map(Value::from)
 }
 
-/// A number of Elements, and how many children of an ID a master has beside them. No memory holds more than can be counted.
+/// Adds the number of children of `tree` with this `id` to `count`. A sum that is too large fails as out of memory;
+/// memory can't hold as many children.
 pub(crate) fn with_children(count: usize, tree: &Tree, id: u32) -> Result<usize, AllocError>
     ensures { IfOk result (λ more. more ≡ count + length (part id (children tree.now))) }
 {
@@ -58,7 +59,7 @@ pub(crate) fn with_children(count: usize, tree: &Tree, id: u32) -> Result<usize,
     }
 }
 
-// How many children of an ID a master has.
+// Returns the number of children of `tree` with this `id`.
 fn count_of(tree: &Tree, id: u32) -> usize
     ensures { result ≡ length (part id (children tree.now)) }
 {

@@ -1,4 +1,4 @@
--- The atoms so far, and those of the editions that are left, are all.
+-- All atoms are the atoms counted and the atoms of the remaining editions.
 use Rattle.std.proofs.Common.{◌≡◌, ◌+◌, length, drop}
 use Rattle.mkv_info.specs.Chapters.{top_atoms}
 use Rattle.mkv_info.proofs.chapters.chapter_count.Given as goal

@@ -10,7 +10,7 @@ use Rattle.mkv_info.specs.Info.{info_verdict}
 use Rattle.mkv_info.proofs.InfoLemmas.{asks-told, reaches-settled}
 use Rattle.mkv_info.proofs.info.info_of.Goals as goal
 
--- the file couldn't be opened
+-- The file couldn't be opened.
 pub returns-in-Err-Failed-clause-verdict : goal.returns-in-Err-Failed-clause-verdict
 returns-in-Err-Failed-clause-verdict g c = λ world told.
     IsStopped-before (seen_in g.F.Reads g.F.Files g.P.Report c.args.files.now c.args.report.now)
@@ -23,7 +23,7 @@ returns-in-Err-Memory-clause-verdict g c = λ world told.
     (seen_in g.F.Reads g.F.Files g.P.Report c.open_file.new.self c.args.report.now)
     (info_verdict c.args.form world c.args.name.now) refl c.open_file.ensures.stays.names
 
--- the file was there
+-- The file exists.
 pub returns-clause-verdict : goal.returns-clause-verdict
 returns-clause-verdict g c = λ world told.
     let name = c.args.name.now in
@@ -35,7 +35,7 @@ returns-clause-verdict g c = λ world told.
     (λ bytes is. c.report_unless_pending-ended.ensures.verdict world (opened ∙ told) bytes (c.in-Ok.ensures.opened.content world told ∙ is))
     (c.close.ensures.stays.names ∙ c.report_unless_pending-ended.ensures.looks.names ∙ opened)
 
--- it was asked for all the same
+-- The missing file was asked for, too.
 pub returns-in-Err-Missing-clause-asks : goal.returns-in-Err-Missing-clause-asks
 returns-in-Err-Missing-clause-asks g c =
     asks-one (IsNotAmong (with_sidecar c.args.name.now) []) (Opened c.args.name.now) (g.F.Files.asked c.args.files.now) (g.F.Files.asked c.open_file.new.self) c.open_file.result (λ others. others.0 refl) c.open_file.ensures.asks
@@ -48,7 +48,7 @@ pub returns-in-Err-Memory-clause-asks : goal.returns-in-Err-Memory-clause-asks
 returns-in-Err-Memory-clause-asks g c =
     asks-one (IsNotAmong (with_sidecar c.args.name.now) []) (Opened c.args.name.now) (g.F.Files.asked c.args.files.now) (g.F.Files.asked c.open_file.new.self) c.open_file.result (λ others. others.0 refl) c.open_file.ensures.asks
 
--- it and its sidecar were opened
+-- The file and its journal were opened.
 pub returns-clause-asks : goal.returns-clause-asks
 returns-clause-asks g c =
     asks-told c.args.name.now (g.F.Files.asked c.args.files.now) (g.F.Files.asked c.open_file.new.self) (g.F.Files.asked c.report_unless_pending-ended.new.files) (g.F.Files.asked c.close.new.self) c.open_file.result

@@ -3,7 +3,7 @@ use Rattle.sidecar_edit.specs.Name.{sidecar_of}
 use Rattle.sidecar_edit.proofs.LooksLemmas.{LooksOnly-standing, LooksOnly-then}
 use Rattle.mkv_info.proofs.info.report_unless_pending.Goals as goal
 
--- the sidecar was looked into, and the file read
+-- The journal was read, and then the file.
 pub returns-in-Lines-clause-looks : goal.returns-in-Lines-clause-looks
 returns-in-Lines-clause-looks g c =
     let laws = g.met.F.Files in

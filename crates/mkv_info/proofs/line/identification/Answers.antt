@@ -13,7 +13,7 @@ use Rattle.mkv_info.specs.ToldTracks.{tracks_value}
 use Rattle.mkv_info.proofs.JsonLemmas.{ArePut, put-given, put-members}
 use Rattle.mkv_info.proofs.line.identification.Goals as goal
 
--- the members are put in the order of their keys
+-- The members are put in the order of their keys.
 pub returns : goal.returns
 unfolding identification
 returns c =

@@ -3,7 +3,7 @@ use Rattle.serde_json.specs.Written.{compact_text, has_float}
 use Rattle.mkv_info.proofs.FloatLemmas.{no-float}
 use Rattle.mkv_info.proofs.line.identify.Goals as goal
 
--- the value has no float, so its text is known
+-- The value has no float, so its text is known.
 pub returns : goal.returns
 returns c =
     c.from_string.ensures

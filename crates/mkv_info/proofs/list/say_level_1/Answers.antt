@@ -16,16 +16,16 @@ use Rattle.mkv_lines.proofs.SaidLemmas.{SaysUpTo-more, SaysUpTo-stops}
 use Rattle.mkv_info.proofs.WalkLemmas.{MovesTo-next, walked-most}
 use Rattle.mkv_info.proofs.list.say_level_1.Goals as goal
 
--- the next Element's line is the first of those that are left
+-- The next Element's line is the first of the rest.
 next_line : (old now : ReportLines) (all : List (List ℕ)) (h : Header) (here rest : List Header) → SaysUpTo old now all (map level_1_line here) → here ≡ h ∷ rest → SaysUpTo old now all (level_1_line h ∷ map level_1_line rest)
 next_line old now all h here rest way gives = subst (λ (lines : List (List ℕ)). SaysUpTo old now all lines) (ap (map level_1_line) gives) way
 
--- what is behind an Element stands behind its place, up to the end
+-- The offset after an Element is after its own, up to the end.
 further : (h : Header) (next : Result ℕ Damage) (at end : ℕ) → IsFurther (Element h next) at end → (at < result_unwrap_or next end) × (result_unwrap_or next end ≤ end)
 further h (Ok q) at end f = f
 further h (Err d) at end f = (f, omega arith)
 
--- another line was said
+-- Another line was printed.
 pub loop-header-preserved : goal.loop-header-preserved
 loop-header-preserved g c =
     let header = c.in-Ok-Element.header in
@@ -61,7 +61,7 @@ loop-header-preserved g c =
           c.in_ok-say-in-Ok-Element.ensures.said);
     }
 
--- a line couldn't be said
+-- A line couldn't be printed.
 pub returns-in_err-say-in-Ok-Element-clause-said : goal.returns-in_err-say-in-Ok-Element-clause-said
 returns-in_err-say-in-Ok-Element-clause-said g c = λ bytes told.
     let header = c.in-Ok-Element.header in
@@ -80,7 +80,7 @@ returns-in_err-say-in-Ok-Element-clause-said g c = λ bytes told.
     (next_line (g.P.Report.lines c.args.report.now) (g.P.Report.lines c.loop-header.report) all header (level_1 bytes size at end).list rest (c.loop-header.invariant.way bytes told) gives)
     c.in_err-say-in-Ok-Element.ensures.said)
 
--- nor has been read more than the walk costs
+-- No more was read than the walk allows.
 pub returns-in_err-say-in-Ok-Element-clause-octets : goal.returns-in_err-say-in-Ok-Element-clause-octets
 returns-in_err-say-in-Ok-Element-clause-octets g c =
     let next = c.in-Ok-Element.next in

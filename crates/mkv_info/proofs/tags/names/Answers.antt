@@ -1,4 +1,4 @@
--- A Targets is sound, as its Tag is.
+-- A Targets of a sound Tag is sound.
 use Rattle.mkv_info.proofs.ValueLemmas.{child-sound}
 use Rattle.mkv_info.proofs.tags.names.Goals as goal
 

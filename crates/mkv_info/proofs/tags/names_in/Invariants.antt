@@ -1,4 +1,4 @@
--- What is left names what all name.
+-- The wanted track is named in the rest if it is named at all.
 use Rattle.std.proofs.Common.{◌≡◌, drop}
 use Rattle.std.specs.List.{list_any}
 use Rattle.mkv_info.specs.Named.{is_wanted}

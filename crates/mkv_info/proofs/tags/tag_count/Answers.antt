@@ -1,4 +1,4 @@
--- A Tag is sound, as its Tags is.
+-- A Tag of a sound Tags is sound.
 use Rattle.mkv_info.proofs.ValueLemmas.{child-sound}
 use Rattle.mkv_info.proofs.tags.tag_count.Goals as goal
 

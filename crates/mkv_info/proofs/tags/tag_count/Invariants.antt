@@ -1,4 +1,4 @@
--- The tags so far, and those of what is left, are all.
+-- All tags are the tags counted and the tags of the rest.
 use Rattle.std.proofs.Common.{◌≡◌, ◌+◌, length, drop}
 use Rattle.mkv_info.specs.Tags.{simple_tags}
 use Rattle.mkv_info.proofs.tags.tag_count.Given as goal

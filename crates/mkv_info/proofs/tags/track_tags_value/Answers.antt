@@ -9,7 +9,7 @@ use Rattle.mkv_info.proofs.TagLemmas.{tags-left_out, tags-told}
 use Rattle.mkv_info.proofs.tags.track_tags_value.Goals as goal
 use Rattle.mkv_info.proofs.tags.track_tags_value.Goals.{then-count-gt0+in_ok-track_tags+in_ok-push, else-count-gt0}
 
--- one track more is told of, or left out
+-- One more track is in the list, or left out.
 pub loop-index-preserved : goal.loop-index-preserved
 loop-index-preserved c =
     let tags = c.args.tags.now in
@@ -25,7 +25,7 @@ loop-index-preserved c =
     ] in
     numbered-more (track_tags tags) k k c.args.tracks.now t before _ _ c.loop-index-test.true c.index-tracks-index.is now c.loop-index.invariant
 
--- all are
+-- All tracks were passed.
 pub returns : goal.returns
 returns c =
     view-Array c.loop-index.values

@@ -1,4 +1,4 @@
--- A Video that stands in an entry is sound.
+-- A Video of a sound entry is sound.
 use Rattle.std.proofs.Common.{sym}
 use Rattle.tree_format.proofs.ChildLemmas.{first_child-sound}
 use Rattle.mkv_info.proofs.told_tracks.dimensions_of.Goals as goal

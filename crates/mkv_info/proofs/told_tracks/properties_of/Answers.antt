@@ -8,7 +8,7 @@ use Rattle.mkv_info.specs.ToldTracks.{properties_of}
 use Rattle.mkv_info.proofs.JsonLemmas.{ArePut, put-given, put-if_there, put-members}
 use Rattle.mkv_info.proofs.told_tracks.properties_of.Goals as goal
 
--- the members are put in the order of their keys
+-- The members are put in the order of their keys.
 pub returns : goal.returns
 returns c =
     let is0 : ArePut [] (members_view c.new-properties.result.entries) = record { are = ap members_view c.new-properties.ensures.empty } in

@@ -1,4 +1,4 @@
--- The values so far, and those of what is left, are those of all.
+-- All values are the values made and the values of the rest.
 use Rattle.std.proofs.Common.{◌≡◌, ◌++◌, ◌∷◌, [], drop, map}
 use Rattle.serde_json.specs.View.{view}
 use Rattle.mkv_info.specs.ToldTracks.{track_value}

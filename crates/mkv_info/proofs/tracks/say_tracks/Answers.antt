@@ -8,7 +8,7 @@ use Rattle.mkv_info.specs.Tracks.{shown_track, track_lines}
 use Rattle.mkv_info.proofs.TracksLemmas.{track_lines-next}
 use Rattle.mkv_info.proofs.tracks.say_tracks.Goals as goal
 
--- a line couldn't be said
+-- A line couldn't be printed.
 pub returns-in_err-say-clause-said : goal.returns-in_err-say-clause-said
 returns-in_err-say-clause-said g c =
     let items = c.as_slice-track-items.ensures in
@@ -22,7 +22,7 @@ returns-in_err-say-clause-said g c =
     (track_lines-next (g.P.Report.lines c.args.report.now) (g.P.Report.lines c.loop-index.report) (track_lines 0 c.args.tracks.now) k c.args.tracks.now t below is c.loop-index.invariant.way)
     (subst (λ (line : List ℕ). SaysPart (g.P.Report.lines c.loop-index.report) (g.P.Report.lines c.say.new.report) (line ∷ [])) c.shown.ensures c.in_err-say.ensures.said))
 
--- another line was said
+-- Another line was printed.
 pub loop-index-preserved : goal.loop-index-preserved
 loop-index-preserved g c = record {
   report = search rules;

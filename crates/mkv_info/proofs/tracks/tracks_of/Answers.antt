@@ -7,17 +7,17 @@ use Rattle.meta_records.proofs.RecordsLemmas.{held}
 use Rattle.mkv_info.specs.Tracks.{tracks_in}
 use Rattle.mkv_info.proofs.tracks.tracks_of.Goals as goal
 
--- a Tracks is read whole
+-- A Tracks is read whole.
 pub first_tree-requires-clause-held : goal.first_tree-requires-clause-held
 first_tree-requires-clause-held g c = held.tracks
 
--- its tracks are the file's
+-- Its tracks are the file's.
 pub returns-in-Ok-clause-ok : goal.returns-in-Ok-clause-ok
 returns-in-Ok-clause-ok g c =
     IfOk-weaker c.tracks_in.result (λ (found : Result (List Track) Damage). found ≡ tracks_in c.in-Ok.tracks) _
     (λ found is bytes told outline. is ∙ sym (ap (λ tree. and_then tree tracks_in) (c.in-Ok.ensures.exact bytes told 0 outline))) c.tracks_in.ensures.ok
 
--- or it is refused
+-- The Tracks is refused.
 pub returns-in-Err-Refused-clause-ok : goal.returns-in-Err-Refused-clause-ok
 returns-in-Err-Refused-clause-ok g c = λ bytes told outline.
     rw c.in-Err-Refused.field-0-is
