@@ -1,4 +1,4 @@
--- What edits leave, and how they are told.
+-- The effect of edits, and their messages.
 use Rattle.std.proofs.Common.{◌≡◌, ◌∙◌, ◌⊎◌, inl, inr, ⊎_elim, ℕ, ◌+◌, ◌≤◌, IsTrue, Bool, true, false, not, ◌||◌, nat_le, nat_lt, if◌then◌else◌, List, [], ◌∷◌, length, slice_index, Option, Some, None, option_map, Result, Ok, Err, refl, ap, sym, subst, arith, eq-eqb}
 use Rattle.std.specs.Prelude.{◌==◌, OnOk}
 use Rattle.std.proofs.lemmas.List.{get_or-take}
@@ -39,9 +39,9 @@ use Rattle.edit_plan.proofs.RecordLemmas.{writes_of-recorded}
 use Rattle.mkv_propedit.specs.Left.{HasMadeCause, IsBeingEdited, IsEdit, IsUnderway, LeavesEdited, LeavesPlanned, StaysOpen}
 use Rattle.mkv_propedit.specs.Propedit.{propedit_on, propedit_verdict, told, unless_begun}
 
--- ---- a quiet sidecar
+-- ---- a journal without a pending edit
 
--- whether a record ends within its sidecar doesn't make it quiet
+-- A journal with an open gate always has a pending edit or is invalid.
 not-quiet : (breach : Option ℕ) (total size : ℕ) → unless_broken breach total size ≡ Quiet → ⊥
 not-quiet (Some octet) total size is = absurd (cc)
 not-quiet None total size is = of (nat_lt size total) is
@@ -74,7 +74,7 @@ module _ (M : List ℕ) (found : List ℕ → Result (List Write) Refusal) where
   abbrev record_from : Result (List Write) Refusal → Result Planned Refusal
   record_from r = and_then r (λ ws. Ok (record_for M ws))
 
-  -- the writes that were recorded
+  -- The record has the writes that were found.
   record-writes : (p : Planned) → record_from (found M) ≡ Ok p → (ws : List Write) × (found M ≡ Ok ws) × (record_for M ws ≡ p)
   record-writes p is = of (found M) refl is
     where
@@ -88,7 +88,7 @@ module _ (M : List ℕ) (found : List ℕ → Result (List Write) Refusal) where
   pub record-made : (p : Planned) → record_from (found M) ≡ Ok p → IsMadeFor p.head M
   record-made p is = subst (λ (q : Planned). IsMadeFor q.head M) (record-writes p is).2 (record { len = refl; first = refl })
 
-  -- a crash while its plan is carried out
+  -- A crash during the execution of the plan leaves an edit that is underway.
   pub underway : (S m s : List ℕ) (p : Planned) → state S ≡ Quiet → record_from (found M) ≡ Ok p → IsEditing p M m s → IsUnderway found M S m s
   underway S m s p quiet is editing =
       let all = record-writes p is in record {
@@ -101,7 +101,7 @@ module _ (M : List ℕ) (found : List ℕ → Result (List Write) Refusal) where
         no_shorter = editing.no_shorter;
       }
 
-  -- what its plan leaves when it has ended
+  -- The execution of the plan has the effect of an edit.
   pub leaves-planned : (S : List ℕ) (p : Planned) (s : Status) (q : Pair) → state S ≡ Quiet → record_from (found M) ≡ Ok p → LeavesPlanned s p M S q → LeavesEdited s found M S q
   leaves-planned S p status.Done q quiet is leaves =
       let all = record-writes p is in
@@ -111,14 +111,14 @@ module _ (M : List ℕ) (found : List ℕ → Result (List Write) Refusal) where
   leaves-planned S p status.NoMemory q quiet is leaves = leaves
   leaves-planned S p status.Outside q quiet is leaves = leaves
 
--- ---- what a crash leaves
+-- ---- crash images
 
 module _ {D : Type 0} (r : reads.Ghosts D) (d : Ghosts D) where
-  -- a call that only reads
+  -- This is a call that only reads.
   pub reads-moment : (old new : D) → IsLeft r d old new → ((m s : List ℕ) → d.left_since old (d.moment old) m s → IsPairImage (d.pair old) m s) → LeavesOnly d.moment d.left_since old new (IsPairImage (d.pair old))
   reads-moment old new left only = same d.moment d.left_since old new (IsPairImage (d.pair old)) left.moment left.back left.forth only
 
-  -- what is read in front of a call that leaves the pair open
+  -- Bytes are read before a call that leaves the pair open.
   pub stays-then : (old mid new : D) (n more : ℕ) → IsLeft r d old mid → r.octets_read mid ≤ r.octets_read old + n → StaysOpen r d mid new more → StaysOpen r d old new (n + more)
   stays-then old mid new n more left read later = record { opened = later.opened ∙ left.opened; octets = omega arith }
 
@@ -126,13 +126,13 @@ module _ {D : Type 0} (d : Ghosts D) (found : List ℕ → Result (List Write) R
   abbrev pub Edits : D → D → Type 0
   Edits old new = LeavesOnly d.moment d.left_since old new (IsBeingEdited found (d.pair old).media.reads (d.pair old).sidecar.reads)
 
-  -- a call that leaves the pair
+  -- This is a call that leaves the pair.
   pub left-moment : (old new : D) → IsSynced (d.pair old) → LeavesOnly d.moment d.left_since old new (IsPairImage (d.pair old)) → Edits old new
   left-moment old new synced run =
       weaker d.moment d.left_since old new (IsPairImage (d.pair old)) (IsBeingEdited found (d.pair old).media.reads (d.pair old).sidecar.reads)
       (λ m s image. inl (both_image (d.pair old) m s synced image)) run
 
-  -- an edit behind a call that leaves the pair
+  -- An edit follows a call that leaves the pair.
   pub edit-then : (old mid new : D) (s : Status) → AtRest d old → (IsTrue d.told → d.pair mid ≡ d.pair old) → (IsTrue d.told → LeavesOnly d.moment d.left_since old mid (IsPairImage (d.pair old))) → IsEdit d found mid new s → IsEdit d found old new s
   edit-then old mid new s rest pair run edit = record {
     pair = λ told. subst (λ (p : Pair). LeavesEdited s found p.media.reads p.sidecar.reads (d.pair new)) (pair told) (edit.pair told);
@@ -141,19 +141,19 @@ module _ {D : Type 0} (d : Ghosts D) (found : List ℕ → Result (List Write) R
         (subst (λ (p : Pair). LeavesOnly d.moment d.left_since mid new (IsBeingEdited found p.media.reads p.sidecar.reads)) (pair told) (edit.any_moment told));
   }
 
-  -- nothing was edited, and the pair is left
+  -- Nothing was edited, and the pair is left.
   pub edit-none : (old new : D) (s : Status) → AtRest d old → ((M S : List ℕ) (p : Pair) → p ≡ both M S → LeavesEdited s found M S p) → (IsTrue d.told → d.pair new ≡ d.pair old) → (IsTrue d.told → LeavesOnly d.moment d.left_since old new (IsPairImage (d.pair old))) → IsEdit d found old new s
   edit-none old new s rest leaves pair run = record {
     pair = λ told. leaves (d.pair old).media.reads (d.pair old).sidecar.reads (d.pair new) (pair told ∙ rest told);
     any_moment = λ told. left-moment old new (rest told) (run told);
   }
 
-  -- the same of a disk that isn't touched
+  -- The same holds for a disk that isn't touched.
   pub edit-still : (old : D) (s : Status) → AtRest d old → ((M S : List ℕ) (p : Pair) → p ≡ both M S → LeavesEdited s found M S p) → ((m t : List ℕ) → IsTrue d.told → d.left_since old (d.moment old) m t → IsPairImage (d.pair old) m t) → IsEdit d found old old s
   edit-still old s rest leaves only =
       edit-none old old s rest leaves (λ told. refl) (λ told. stays d.moment d.left_since old (IsPairImage (d.pair old)) (λ m t left. only m t told left))
 
-  -- a refusal that is told, or couldn't be
+  -- A refusal was printed, or couldn't be.
   pub refused-left : (line : List ℕ) (old new : ReportLines) (result : Result Status CommandEnd) → SaysVerdict old new result (refused line) → (M S : List ℕ) (p : Pair) → p ≡ both M S → LeavesEdited (status_of result) found M S p
   refused-left line old new (Ok s) says M S p same = subst (λ (t : Status). LeavesEdited t found M S p) (sym says.0) same
   refused-left line old new (Err stop.Memory) says M S p same = same
@@ -161,7 +161,7 @@ module _ {D : Type 0} (d : Ghosts D) (found : List ℕ → Result (List Write) R
   refused-left line old new (Err stop.Disk) says M S p same = tt
   refused-left line old new (Err stop.Report) says M S p same = tt
 
--- ---- what was carried out is told
+-- ---- the message of the execution
 
 module _ {A E : Type 0} (before now : ℕ) where
   pub made-left : (p : Planned) (M S : List ℕ) (q : Pair) (line : List ℕ) (old new : ReportLines) (made : Result A E) (result : Result Status CommandEnd) → OnOk made (q ≡ both (applied M (writes_of p)) (0 ∷ []))
@@ -178,7 +178,7 @@ module _ {A E : Type 0} (before now : ℕ) where
   made-stop r d old new (Ok u) result reading disk cause = said-stop r d old new before now result (record { reading = reading; writing = disk }) cause.0
   made-stop r d old new (Err e) result reading disk cause = subst (λ x. HasDiskStop r d old new before now x) (sym cause.0) (inr (reading, disk), cause.1)
 
--- ---- over a disk that tells
+-- ---- over a disk that is visible to the proof
 
 told-outputs : (name : List ℕ) (r : Result (List ℕ) Refusal) → (told name r).outputs ≡ nothing
 told-outputs name (Ok file) = refl
@@ -189,12 +189,12 @@ begun-outputs name Quiet v none = none
 begun-outputs name Live v none = refl
 begun-outputs name (Bad offset) v none = refl
 
--- edits write no output
+-- Edits write no output.
 pub propedit-outputs : (is_there : Bool) (name : List ℕ) (edits : List Edit) (M S : List ℕ) → (propedit_verdict is_there name edits M S).outputs ≡ nothing
 propedit-outputs true name edits M S = begun-outputs name (state S) (told name (edited M edits)) (told-outputs name (edited M edits))
 propedit-outputs false name edits M S = refl
 
--- what holds of the verdict over what is read holds of the verdict that is told
+-- A property of the result for the content of the files is a property of the visible result.
 pub edit-told : {D : Type 0} (d : Ghosts D) (disk : D) (name : List ℕ) (edits : List Edit) (Q : Verdict → Type 0) → OfReads d disk (λ M S. Q (propedit_verdict (d.is_there disk name) name edits M S)) → IfVisible (option_map (λ world. propedit_on world name edits) (disk_world d disk)) Q
 edit-told d disk name edits Q so = by_told d.told so
   where

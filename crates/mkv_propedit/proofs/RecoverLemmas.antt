@@ -1,4 +1,4 @@
--- What recovering leaves, and how it is told.
+-- The effect of a recovery, and its messages.
 use Rattle.std.proofs.Common.{◌≡◌, ◌∙◌, ℕ, IsTrue, List, [], ◌∷◌, Bool, true, false, if◌then◌else◌, Some, None, option_map, Result, Ok, Err, refl, ap, sym, subst}
 use Rattle.mkv_io.specs.declared.reads.Reads as reads
 use Rattle.mkv_io.specs.Told.{IfVisible}
@@ -30,9 +30,9 @@ use Rattle.sidecar_edit.proofs.RecoverLemmas.{recovering-same}
 use Rattle.mkv_propedit.specs.Recover.{DiskWorld, disk_world, recover_verdict, told, verdict_on}
 use Rattle.mkv_propedit.specs.Recovery.{HasDiskStop, HasTellCause, IsRecovery, LeavesPair, sidecar_after}
 
--- ---- what is told
+-- ---- messages
 
--- what recovering comes to is told, or the disk failed before anything was
+-- The outcome of a recovery is printed, or the disk failed before.
 pub told-recovered : (M S name : List ℕ) (p : Pair) (outcome : Result Recovered RecoverEnd) (result : Result Status CommandEnd) (before now : ℕ) (old new : ReportLines) → IsRecovered M S outcome p
     → HasTellCause outcome before now result → SaysVerdict old new result (told name outcome) → SaysVerdict old new result (told name (recovery M S))
 told-recovered M S name p (Ok Applied) result before now old new is cause says = subst (λ r. SaysVerdict old new result (told name r)) (sym is.0) says
@@ -43,14 +43,14 @@ told-recovered M S name p (Err DiskFault) result before now old new is cause say
     subst (λ (r : Result Status CommandEnd). SaysVerdict old new r (told name (recovery M S))) (sym cause.0)
     (SaysPart-before old new [] (told name (recovery M S)).lines (subst (λ (r : Result Status CommandEnd). SaysVerdict old new r (told name (Err DiskFault))) cause.0 says))
 
--- ---- what is left of the pair
+-- ---- the pair after a recovery
 
--- where nothing was to be done
+-- Nothing was pending.
 pair-nothing : (M S : List ℕ) → recovery M S ≡ Ok Nothing → both M S ≡ both (recovered M S) (sidecar_after (recovery M S) S)
 pair-nothing M S is = sym (ap (λ r. both (when_applied r M (applied M (writes_in S))) (sidecar_after r S)) is)
 
 module _ (M S name : List ℕ) (p : Pair) (before now : ℕ) (old new : ReportLines) where
-  -- where an edit was made whole
+  -- An edit was completed.
   left-applied : (result : Result Status CommandEnd) → recovery M S ≡ Ok Applied → p ≡ both (recovered M S) (0 ∷ []) → (result ≡ Err stop.Memory → ⊥) → SaysVerdict old new result (told name (Ok Applied)) → LeavesPair (status_of result) M S p
   left-applied (Ok s) is pair some says =
       subst (λ (t : Status). LeavesPair t M S p) (sym says.0) (pair ∙ ap (λ r. both (recovered M S) (sidecar_after r S)) (sym is))
@@ -59,7 +59,7 @@ module _ (M S name : List ℕ) (p : Pair) (before now : ℕ) (old new : ReportLi
   left-applied (Err stop.Disk) is pair some says = tt
   left-applied (Err stop.Report) is pair some says = tt
 
-  -- where nothing was written
+  -- Nothing was written.
   left-same : (v : Verdict) (result : Result Status CommandEnd) → p ≡ both M S → LeavesPair v.status M S p → SaysVerdict old new result v → LeavesPair (status_of result) M S p
   left-same v (Ok s) pair leaves says = subst (λ (t : Status). LeavesPair t M S p) (sym says.0) leaves
   left-same v (Err stop.Memory) pair leaves says = pair
@@ -74,7 +74,7 @@ module _ (M S name : List ℕ) (p : Pair) (before now : ℕ) (old new : ReportLi
   left-recovered (Err (Foreign mark kept found)) result is keeps cause says = left-same (told name (Err (Foreign mark kept found))) result keeps keeps says
   left-recovered (Err DiskFault) result is keeps cause says = subst (λ (r : Result Status CommandEnd). LeavesPair (status_of r) M S p) (sym cause.0) tt
 
--- what stands tells the pair
+-- The pair is determined by the state that reading leaves.
 pub keeps-pair : {T : Type 0} (a b : T) (p q : Pair) (outcome : Result Recovered RecoverEnd) → (b ≡ a → q ≡ p) → KeepsUnlessApplied outcome a b → KeepsUnlessApplied outcome p q
 keeps-pair a b p q (Ok Applied) so keeps = tt
 keeps-pair a b p q (Ok Nothing) so keeps = so keeps
@@ -82,10 +82,10 @@ keeps-pair a b p q (Err (BadSidecar offset)) so keeps = so keeps
 keeps-pair a b p q (Err (Foreign mark kept found)) so keeps = so keeps
 keeps-pair a b p q (Err DiskFault) so keeps = tt
 
--- ---- why it stops
+-- ---- the reasons why it stops
 
 module _ {D : Type 0} (r : reads.Ghosts D) (d : Ghosts D) where
-  -- where the disk didn't fail
+  -- The disk didn't fail.
   pub said-stop : {T : Type 0} (old new : D) (before now : ℕ) (result : Result T CommandEnd) → HasNoFault r d old new → HasSayCause before now result → HasDiskStop r d old new before now result
   said-stop old new before now (Ok x) none cause = (none, cause)
   said-stop old new before now (Err stop.Memory) none cause = (none, cause)
@@ -100,7 +100,7 @@ module _ {D : Type 0} (r : reads.Ghosts D) (d : Ghosts D) where
   told-stop old new before now (Err (Foreign mark kept found)) result disk cause = said-stop old new before now result disk cause
   told-stop old new before now (Err DiskFault) result disk cause = subst (λ r'. HasDiskStop r d old new before now r') (sym cause.0) (disk, cause.1)
 
-  -- behind a call that failed at nothing
+  -- The call follows one that didn't fail.
   pub stop-then : {T : Type 0} (old mid new : D) (before now : ℕ) (result : Result T CommandEnd) → HasNoFault r d old mid → HasDiskStop r d mid new before now result → HasDiskStop r d old new before now result
   stop-then old mid new before now (Ok x) none cause = (none-then r d old mid new none cause.0, cause.1)
   stop-then old mid new before now (Err stop.Memory) none cause = (none-then r d old mid new none cause.0, cause.1)
@@ -108,24 +108,24 @@ module _ {D : Type 0} (r : reads.Ghosts D) (d : Ghosts D) where
   stop-then old mid new before now (Err stop.Disk) none cause = (one-then r d old mid new none cause.0, cause.1)
   stop-then old mid new before now (Err stop.Report) none cause = (none-then r d old mid new none cause.0, cause.1)
 
--- ---- what a crash leaves
+-- ---- crash images
 
 module _ {D : Type 0} (d : Ghosts D) where
   abbrev pub Recovers : D → D → Type 0
   Recovers old new = LeavesOnly d.moment d.left_since old new (IsRecovering (d.pair old).media.reads (d.pair old).sidecar.reads)
 
-  -- a call that leaves the pair
+  -- This is a call that leaves the pair.
   pub opened-moment : (old new : D) → IsSynced (d.pair old) → LeavesOnly d.moment d.left_since old new (IsPairImage (d.pair old)) → Recovers old new
   opened-moment old new synced run =
       let M = (d.pair old).media.reads in let S = (d.pair old).sidecar.reads in
       weaker d.moment d.left_since old new (IsPairImage (d.pair old)) (IsRecovering M S) (λ m s image. recovering-same M S m s (both_image (d.pair old) m s synced image)) run
 
-  -- a disk that isn't touched
+  -- The disk isn't touched.
   pub untouched : (old new : D) → IsSynced (d.pair old) → ((m s : List ℕ) → d.left_since old (d.moment old) m s → IsPairImage (d.pair old) m s) → new ≡ old → Recovers old new
   untouched old new synced only same =
       subst (λ x. Recovers old x) (sym same) (opened-moment old old synced (stays d.moment d.left_since old (IsPairImage (d.pair old)) only))
 
-  -- a recovery behind a call that leaves the pair
+  -- A recovery follows a call that leaves the pair.
   pub recovery-then : (old mid new : D) (s : Status) → AtRest d old → (IsTrue d.told → d.pair mid ≡ d.pair old) → (IsTrue d.told → LeavesOnly d.moment d.left_since old mid (IsPairImage (d.pair old))) → IsRecovery d mid new s → IsRecovery d old new s
   recovery-then old mid new s rest pair run recovery = record {
     pair = λ told. subst (λ (p : Pair). LeavesPair s p.media.reads p.sidecar.reads (d.pair new)) (pair told) (recovery.pair told);
@@ -134,19 +134,19 @@ module _ {D : Type 0} (d : Ghosts D) where
         (subst (λ (p : Pair). LeavesOnly d.moment d.left_since mid new (IsRecovering p.media.reads p.sidecar.reads)) (pair told) (recovery.any_moment told));
   }
 
-  -- nothing was recovered, and the pair is left
+  -- Nothing was recovered, and the pair is left.
   pub recovery-none : (old new : D) (s : Status) → AtRest d old → ((M S : List ℕ) (p : Pair) → p ≡ both M S → LeavesPair s M S p) → (IsTrue d.told → d.pair new ≡ d.pair old) → (IsTrue d.told → LeavesOnly d.moment d.left_since old new (IsPairImage (d.pair old))) → IsRecovery d old new s
   recovery-none old new s rest leaves pair run = record {
     pair = λ told. leaves (d.pair old).media.reads (d.pair old).sidecar.reads (d.pair new) (pair told ∙ rest told);
     any_moment = λ told. opened-moment old new (rest told) (run told);
   }
 
-  -- the same of a disk that isn't touched
+  -- The same holds for a disk that isn't touched.
   pub recovery-still : (old : D) (s : Status) → AtRest d old → ((M S : List ℕ) (p : Pair) → p ≡ both M S → LeavesPair s M S p) → ((m t : List ℕ) → IsTrue d.told → d.left_since old (d.moment old) m t → IsPairImage (d.pair old) m t) → IsRecovery d old old s
   recovery-still old s rest leaves only =
       recovery-none old old s rest leaves (λ told. refl) (λ told. stays d.moment d.left_since old (IsPairImage (d.pair old)) (λ m t left. only m t told left))
 
--- a refusal that is told, or couldn't be
+-- A refusal was printed, or couldn't be.
 pub refused-left : (line : List ℕ) (old new : ReportLines) (result : Result Status CommandEnd) → SaysVerdict old new result (refused line) → (M S : List ℕ) (p : Pair) → p ≡ both M S → LeavesPair (status_of result) M S p
 refused-left line old new (Ok s) says M S p same = subst (λ (t : Status). LeavesPair t M S p) (sym says.0) same
 refused-left line old new (Err stop.Memory) says M S p same = same
@@ -161,9 +161,9 @@ refused-status line old new (Err stop.Files) says is = absurd (cc)
 refused-status line old new (Err stop.Disk) says is = absurd (cc)
 refused-status line old new (Err stop.Report) says is = absurd (cc)
 
--- ---- over a disk that tells
+-- ---- over a disk that is visible to the proof
 
--- what is told of a recovery writes nothing
+-- The result of a recovery writes no output.
 told-outputs : (name : List ℕ) (outcome : Result Recovered RecoverEnd) → (told name outcome).outputs ≡ nothing
 told-outputs name (Ok Applied) = refl
 told-outputs name (Ok Nothing) = refl
@@ -175,7 +175,7 @@ pub recover-outputs : (is_there : Bool) (name M S : List ℕ) → (recover_verdi
 recover-outputs true name M S = told-outputs name (recovery M S)
 recover-outputs false name M S = refl
 
--- what holds of the verdict over what is read holds of the verdict that is told
+-- A property of the result for the content of the files is a property of the visible result.
 pub verdict-told : {D : Type 0} (d : Ghosts D) (disk : D) (name : List ℕ) (Q : Verdict → Type 0) → OfReads d disk (λ M S. Q (recover_verdict (d.is_there disk name) name M S)) → IfVisible (option_map (λ world. verdict_on world name) (disk_world d disk)) Q
 verdict-told d disk name Q so = by_told d.told so
   where

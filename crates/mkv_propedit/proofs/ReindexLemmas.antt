@@ -1,4 +1,4 @@
--- What is planned of a new index is the record of its writes, and what is told of it.
+-- The plan of a new index is the record of its writes, with its message.
 use Rattle.std.proofs.Common.{◌≡◌, ℕ, Bool, true, false, if◌then◌else◌, IsTrue, List, [], ◌∷◌, Some, None, Result, Ok, Err, refl, ap, subst}
 use Rattle.std.specs.Prelude.{option_map}
 use Rattle.mkv_io.specs.Told.{IfVisible}
@@ -23,7 +23,7 @@ record_behind M x = and_then x (λ (y : Index). Ok (indexed M y))
 abbrev writes_behind : Result Index Refusal → Result (List Write) Refusal
 writes_behind x = and_then x (λ (y : Index). Ok y.writes)
 
--- the record of its writes
+-- The record has the writes of the index.
 pub index-record : (M : List ℕ) (i : Indexed) → indexed_of M ≡ Ok i → and_then (writes_of_index M) (λ ws. Ok (recorded M ws)) ≡ Ok i.plan
 index-record M i is = of (index_of M) is
   where
@@ -33,7 +33,7 @@ index-record M i is = of (index_of M) is
         ap (λ (j : Indexed). Ok j.plan) same
     of (Err r) is = absurd (cc)
 
--- its line
+-- The message has the number of points.
 pub index-told : (M name : List ℕ) (i : Indexed) → indexed_of M ≡ Ok i → indexed_told name (index_of M) ≡ done (reindexed_line name i.cues ∷ [])
 index-told M name i is = of (index_of M) is
   where
@@ -43,18 +43,18 @@ index-told M name i is = of (index_of M) is
         ap (λ (j : Indexed). done (reindexed_line name j.cues ∷ [])) same
     of (Err r) is = absurd (cc)
 
--- ---- over a disk that tells
+-- ---- over a disk that is visible to the proof
 
 told-outputs : (name : List ℕ) (x : Result Index Refusal) → (indexed_told name x).outputs ≡ nothing
 told-outputs name (Ok x) = refl
 told-outputs name (Err why) = refl
 
--- an index writes no output
+-- An index writes no output.
 pub reindex-outputs : (is_there : Bool) (name M S : List ℕ) → (reindex_verdict is_there name M S).outputs ≡ nothing
 reindex-outputs true name M S = begun-outputs name (state S) (indexed_told name (index_of M)) (told-outputs name (index_of M))
 reindex-outputs false name M S = refl
 
--- what holds of the verdict over what is read holds of the verdict that is told
+-- A property of the result for the content of the files is a property of the visible result.
 pub index-told_on : {D : Type 0} (d : Ghosts D) (disk : D) (name : List ℕ) (Q : Verdict → Type 0) → OfReads d disk (λ M S. Q (reindex_verdict (d.is_there disk name) name M S)) → IfVisible (option_map (λ world. reindex_on world name) (disk_world d disk)) Q
 index-told_on d disk name Q so = by_told d.told so
   where

@@ -1,16 +1,16 @@
--- How many octets `propedit` and `recover` may read. The bounds are this project's.
+-- The limits of bytes that `propedit` and `recover` read. They are this project's.
 use Rattle.std.specs.Prelude.{ℕ, ◌+◌, ◌*◌}
 use Rattle.sidecar_edit.specs.declared.place.TheConstants.{HEAD, KEPT, MAX_OCTETS}
 
--- what may be read to plan edits of a file of so many octets: the file 25 times over, and the first octets that are kept of it
+-- the limit for planning edits of a file of `octets` bytes: 25 times the file, and its first bytes, which are kept
 abbrev pub most_to_plan : ℕ → ℕ
 most_to_plan octets = 25 * octets + KEPT
 
--- what may be read to edit it in place: besides, what its sidecar begins with
+-- the limit for editing it in place: the same, and the head of its journal
 abbrev pub most_to_edit : ℕ → ℕ
 most_to_edit octets = HEAD + most_to_plan octets
 
--- what may be read to recover a file, however long it is: what its sidecar begins with, the first octets that are kept of the
--- file, and of the sidecar what is to be written
+-- the limit for recovering a file of any length: the head of its journal, the first bytes of the file, and the bytes of the journal that are
+-- written
 abbrev pub most_to_recover : ℕ
 most_to_recover = HEAD + KEPT + MAX_OCTETS

@@ -1,4 +1,4 @@
--- A change of a file in place, be it edits that words ask for or a new index: what it writes, and what is told of it. It is this project's.
+-- A change of a file in place, by edits of the command line or by a new index: its writes, and its message. It is this project's.
 use Rattle.std.specs.Prelude.{◌≡◌, ⊤, ℕ, ◌+◌, Bool, List, [], ◌∷◌, Result, Ok, Err}
 use Rattle.mkv_lines.specs.Line.{text_of}
 use Rattle.mkv_lines.specs.Verdict.{Verdict, done, refused}
@@ -25,35 +25,35 @@ use Rattle.mkv_lines.specs.declared.status.CommandEnd.{CommandEnd}
 use Rattle.mkv_propedit.specs.Command.{SaysOfDisk}
 use Rattle.sidecar_edit.specs.Gate.{state}
 
--- what it writes to a file of a content, or what refuses it
+-- the writes of a change to a file with this content, or their refusal
 abbrev pub writes_of_change : FileChange → List ℕ → Result (List Write) Refusal
 writes_of_change (Edits edits) = writes_of_edits edits.now
 writes_of_change Index = writes_of_index
 
--- what is told of a file of a content
+-- the result of a change of a file with the content `M`
 abbrev pub change_told : List ℕ → FileChange → List ℕ → Verdict
 change_told name (Edits edits) M = told name (edited M edits.now)
 change_told name Index M = indexed_told name (index_of M)
 
--- what it comes to, where a medium and its sidecar read so
+-- the result of the command for a file with the content `media` and a journal with the content `sidecar`
 abbrev pub change_verdict : Bool → List ℕ → FileChange → List ℕ → List ℕ → Verdict
 change_verdict is_there name change media sidecar = file_verdict is_there name sidecar (change_told name change media)
 
--- A change of the file of a name says what it comes to, where the disk tells.
+-- A change of the file `name` prints its result, if the disk is visible to the proof.
 abbrev pub SaysOfChange : {D P : Type 0} → Ghosts D → ReportGhosts P → D → P → P → Result Status CommandEnd → List ℕ → FileChange → Type 0
 SaysOfChange d p disk report report' result name change = SaysOfDisk d p disk report report' result (change_verdict (d.is_there disk name) name change)
 
--- the same once the file and its sidecar are open
+-- The same after the file and its journal are open.
 abbrev pub SaysOfOpened : {D P : Type 0} → Ghosts D → ReportGhosts P → D → P → P → Result Status CommandEnd → List ℕ → FileChange → Type 0
 SaysOfOpened d p disk report report' result name change = SaysOfDisk d p disk report report' result (λ M S. unless_begun name (state S) (change_told name change M))
 
--- and where no edit of it is pending
+-- The same if no edit of the file is pending.
 abbrev pub SaysOfQuiet : {D P : Type 0} → Ghosts D → ReportGhosts P → D → P → P → Result Status CommandEnd → List ℕ → FileChange → Type 0
 SaysOfQuiet d p disk report report' result name change = SaysOfDisk d p disk report report' result (λ M S. change_told name change M)
 
--- ---- how much is read
+-- ---- the bytes that are read
 
--- what may be read to plan it of a file of so many octets, and to make it in place
+-- the limits for planning a change of a file of `octets` bytes, and for making it in place
 abbrev pub most_to_plan_change : FileChange → ℕ → ℕ
 most_to_plan_change (Edits edits) octets = most_to_plan octets
 most_to_plan_change Index octets = most_to_index octets
@@ -61,14 +61,14 @@ most_to_plan_change Index octets = most_to_index octets
 abbrev pub most_to_change : FileChange → ℕ → ℕ
 most_to_change change octets = HEAD + most_to_plan_change change octets
 
--- ---- its plan
+-- ---- the plan of a change
 
--- the record of what it writes to a file of a content
+-- the record of the writes of a change to a file with the content `M`
 abbrev pub record_of_change : FileChange → List ℕ → Result Planned Refusal
 record_of_change change M = and_then (writes_of_change change M) (λ ws. Ok (recorded M ws))
 
--- A plan is the record of what a change writes, with the line that tells of it; or the change is refused, and told so; or the outside failed, or
--- there is no memory.
+-- The result is a plan: the record of the writes of a change, with its message. Or the change is refused, with the message of its refusal; or a
+-- read failed, or memory ran out.
 abbrev pub GivesChange : List ℕ → FileChange → List ℕ → Result ChangePlan PlanEnd → Type 0
 GivesChange name change M (Ok made) = (record_of_change change M ≡ Ok made.plan) × (change_told name change M ≡ done (text_of made.line ∷ []))
 GivesChange name change M (Err (end.Refused why)) = change_told name change M ≡ refused (refusal_text name why)

@@ -1,4 +1,4 @@
--- What a command over a disk says and reads, whatever it was to do. It is this project's.
+-- The lines that a command over a disk prints, and the bytes that it reads, whatever it does. It is this project's.
 use Rattle.std.specs.Prelude.{◌≤◌, ◌+◌, ℕ, List, length, Result}
 use Rattle.mkv_io.specs.declared.reads.Reads as reads
 use Rattle.mkv_io.specs.declared.report.Report.{Ghosts as ReportGhosts}
@@ -8,10 +8,10 @@ use Rattle.mkv_lines.specs.Verdict.{SaysVerdict, Verdict}
 use Rattle.mkv_lines.specs.declared.status.Status.{Status}
 use Rattle.mkv_lines.specs.declared.status.CommandEnd.{CommandEnd}
 
--- It says this verdict of what the two files read, or a first part of its lines where it stopped.
+-- The command prints the lines of the result for the content of the two files, or a first part of them if it stops.
 abbrev pub SaysOfDisk : {D P : Type 0} → Ghosts D → ReportGhosts P → D → P → P → Result Status CommandEnd → (List ℕ → List ℕ → Verdict) → Type 0
 SaysOfDisk d p disk report report' result verdict = OfReads d disk (λ media sidecar. SaysVerdict (p.lines report) (p.lines report') result (verdict media sidecar))
 
--- It reads at most as many octets as this bound has for the length of the medium.
+-- The command reads at most `most` bytes, for the length of the file.
 abbrev pub ReadsOfDisk : {D : Type 0} → reads.Ghosts D → Ghosts D → D → D → (ℕ → ℕ) → Type 0
 ReadsOfDisk r d disk disk' most = OfReads d disk (λ media sidecar. r.octets_read disk' ≤ r.octets_read disk + most (length media))

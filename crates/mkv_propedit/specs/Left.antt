@@ -1,4 +1,4 @@
--- What an edit in place leaves of the disk, whatever it writes. It is this project's.
+-- The effect of an edit in place on the disk, whatever it writes. It is this project's.
 use Rattle.std.specs.Prelude.{◌≡◌, ◌≢◌, ◌⊎◌, ◌≤◌, ◌+◌, ℕ, List, [], ◌∷◌, length, Some, Result, Ok, Err}
 use Rattle.mkv_io.specs.declared.reads.Reads as reads
 use Rattle.mkv_disk.specs.Calls.{AnyMoment, OfReads}
@@ -23,22 +23,22 @@ use Rattle.edit_changes.specs.Plan.{plan_of, recorded}
 use Rattle.mkv_io.specs.Sources.{file_size}
 use Rattle.mkv_disk.specs.declared.disk.TheConstants.{MEDIA}
 
--- ---- what is written
+-- ---- the writes
 
--- what edits write to a file of a content, or what refuses them
+-- the writes of `edits` to a file with the content `M`, or their refusal
 abbrev pub writes_of_edits : List Edit → List ℕ → Result (List Write) Refusal
 writes_of_edits edits M = plan_of M edits
 
--- ---- when it has ended
+-- ---- after the end
 
--- No edit was pending, these writes are found for the file, and the medium is the file with them, beside a closed gate.
+-- No edit was pending. `found` gives the writes for the file, and the file is `M` with these writes, beside a closed gate.
 pub record IsEdited (found : List ℕ → Result (List Write) Refusal) (M S : List ℕ) (p : Pair) : Type 0 where
   pub quiet : state S ≡ Quiet
   pub writes : List Write
   pub made : found M ≡ Ok writes
   pub pair : p ≡ both (applied M writes) (0 ∷ [])
 
--- Where all is done, the file is edited; where it is refused, and without memory, nothing has changed.
+-- If the command is done, the file is edited. After a refusal, or out of memory, nothing has changed.
 abbrev pub LeavesEdited : Status → (List ℕ → Result (List Write) Refusal) → List ℕ → List ℕ → Pair → Type 0
 LeavesEdited status.Done found M S p = IsEdited found M S p
 LeavesEdited status.Outside found M S p = Unit {0}
@@ -46,8 +46,8 @@ LeavesEdited s found M S p = p ≡ both M S
 
 -- ---- at any moment
 
--- No edit was pending, and these writes are found for the file. The two stand for the file as it was or with them, and can be
--- recovered; the sidecar is quiet, or holds exactly their record; and the file is no shorter than it was.
+-- No edit was pending, and `found` gives the writes for the file. The two files determine the file as it was or with the writes, and can be
+-- recovered. The journal has no pending edit, or holds exactly their record. The file isn't shorter than it was.
 pub record IsUnderway (found : List ℕ → Result (List Write) Refusal) (M S m s : List ℕ) : Type 0 where
   pub quiet : state S ≡ Quiet
   pub writes : List Write
@@ -57,46 +57,46 @@ pub record IsUnderway (found : List ℕ → Result (List Write) Refusal) (M S m 
   pub sidecar : IsQuiet s ⊎ (s ≡ OPEN ∷ body_of (recorded M writes))
   pub no_shorter : length M ≤ length m
 
--- What a crash may leave of a file M beside a sidecar S while it is edited: both as they were, or an edit that is underway.
+-- A crash image of an edit of file `M` beside journal `S`: both as they were, or an edit that is underway.
 abbrev pub IsBeingEdited : (List ℕ → Result (List Write) Refusal) → List ℕ → List ℕ → List ℕ → List ℕ → Type 0
 IsBeingEdited found M S m s = ((m ≡ M) × (s ≡ S)) ⊎ IsUnderway found M S m s
 
--- ---- both
+-- ---- after the end and at any moment
 
--- What an edit leaves of the two files when it has ended, and what a crash leaves of them at any moment.
+-- The effect of an edit on the two files after its end, and the crash images at any moment.
 pub record IsEdit {D : Type 0} (d : Ghosts D) (found : List ℕ → Result (List Write) Refusal) (old new : D) (s : Status) : Type 0 where
   pub pair : OfReads d old (λ M S. LeavesEdited s found M S (d.pair new))
   pub any_moment : AnyMoment d old new (IsBeingEdited found)
 
--- The same of a name: the pair is open under it, or couldn't be opened.
+-- The same for a name: the pair is open under it, or couldn't be opened.
 pub record IsEditOf {D : Type 0} (r : reads.Ghosts D) (d : Ghosts D) (name : List ℕ) (found : List ℕ → Result (List Write) Refusal) (old new : D) (s : Status) : Type 0 where
   pub leaves : IsEdit d found old new s
   pub opened : (d.opened new ≡ Some name) ⊎ IsUnopened r d name old new s
 
--- The pair stays open under its name, and at most so many octets are read.
+-- The pair stays open under its name, and at most `most` bytes are read.
 pub record StaysOpen {D : Type 0} (r : reads.Ghosts D) (d : Ghosts D) (old new : D) (most : ℕ) : Type 0 where
   pub opened : d.opened new ≡ d.opened old
   pub octets : r.octets_read new ≤ r.octets_read old + most
 
--- The same, where the bound is one of the length that the medium had.
+-- The same, with a limit for the length that the file had.
 abbrev pub StaysOpenOf : {D : Type 0} → reads.Ghosts D → Ghosts D → D → D → (ℕ → ℕ) → Type 0
 StaysOpenOf r d old new most = StaysOpen r d old new (most (file_size r old MEDIA))
 
--- ---- a plan that is carried out
+-- ---- the execution of a plan
 
--- It is one of this file, and the sidecar is quiet.
+-- The plan is one of this file, and the journal has no pending edit.
 pub record IsPlannedFor (plan : Planned) (M S : List ℕ) : Type 0 where
   pub sound : IsPlan plan
   pub made : IsMadeFor plan.head M
   pub quiet : IsQuiet S
 
--- Where all is done, its writes are made, beside a closed gate; without memory nothing has changed.
+-- If the command is done, the writes of the plan are made, beside a closed gate. Out of memory, nothing has changed.
 abbrev pub LeavesPlanned : Status → Planned → List ℕ → List ℕ → Pair → Type 0
 LeavesPlanned status.Done plan M S p = p ≡ both (applied M (writes_of plan)) (0 ∷ [])
 LeavesPlanned status.Outside plan M S p = Unit {0}
 LeavesPlanned s plan M S p = p ≡ both M S
 
--- Telling of it stops by the disk where that failed; else there is memory to tell it.
+-- Printing the result is stopped by the disk if the disk failed; if not, memory for the message exists.
 abbrev pub HasMadeCause : {A E T : Type 0} → Result A E → ℕ → ℕ → Result T CommandEnd → Type 0
 HasMadeCause (Ok _) before now result = HasSayCause before now result × (result ≢ Err stop.Memory)
 HasMadeCause (Err _) before now result = (result ≡ Err stop.Disk) × (now ≡ before)

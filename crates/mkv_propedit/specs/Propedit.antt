@@ -1,4 +1,4 @@
--- What `propedit` comes to: its status and its lines. All of it is this project's, after mkvpropedit(1).
+-- The result of `propedit`: its status and its lines. All of it is this project's, after mkvpropedit(1).
 use Rattle.std.specs.Prelude.{ℕ, Bool, if◌then◌else◌, List, [], ◌∷◌, codes, Result, Ok, Err}
 use Rattle.requests.specs.declared.edit.Edit.{Edit}
 use Rattle.mkv_lines.specs.Line.{bad_sidecar_line, edit_refused_line, edit_too_large_line, edited_line, missing_line, no_room_line, pending_edit_line, refusal_line}
@@ -20,7 +20,7 @@ use Rattle.mkv_lines.specs.declared.status.Status.{Status}
 use Rattle.mkv_lines.specs.declared.status.CommandEnd.{CommandEnd}
 use Rattle.mkv_propedit.specs.Command.{SaysOfDisk}
 
--- ---- what refuses edits, as a line says it
+-- ---- the names of refusals in a message
 
 abbrev pub why_name : EditRefusal → List ℕ
 why_name NoInfo = codes "NoInfo"
@@ -42,31 +42,31 @@ refusal_text name (refusal.Edit edit why) = edit_refused_line name (why_name why
 refusal_text name (refusal.EditTooLarge length nodes) = edit_too_large_line name length nodes
 refusal_text name (refusal.NoRoom why need have) = no_room_line name (room_name why) need have
 
--- ---- what it comes to
+-- ---- the result
 
--- what is told of a file, by what its edits come to
+-- the result for a file, by its edited content or its refusal
 abbrev pub told : List ℕ → Result (List ℕ) Refusal → Verdict
 told name (Ok file) = done (edited_line name ∷ [])
 told name (Err why) = refused (refusal_text name why)
 
--- a file is refused of which an edit is pending, or whose sidecar is wrong
+-- the refusal of a file with a pending edit or an invalid journal, or the result `v`
 abbrev pub unless_begun : List ℕ → Gate → Verdict → Verdict
 unless_begun name Quiet v = v
 unless_begun name Live v = refused (pending_edit_line name)
 unless_begun name (Bad offset) v = refused (bad_sidecar_line name offset)
 
--- what a change of a file in place comes to: by whether there is a medium of the name, by what its sidecar reads, and by what is told of the file
+-- the result of a change of a file in place: whether the file exists, the content of its journal, and the result `v` for its content
 abbrev pub file_verdict : Bool → List ℕ → List ℕ → Verdict → Verdict
 file_verdict is_there name sidecar v = if is_there then unless_begun name (state sidecar) v else refused (missing_line name)
 
--- what `propedit` comes to, where a medium and its sidecar read so
+-- the result of `propedit` for a file with the content `media` and a journal with the content `sidecar`
 abbrev pub propedit_verdict : Bool → List ℕ → List Edit → List ℕ → List ℕ → Verdict
 propedit_verdict is_there name edits media sidecar = file_verdict is_there name sidecar (told name (edited media edits))
 
--- Edits of the file of a name say what they come to, where the disk tells.
+-- The edits of the file `name` print their result, if the disk is visible to the proof.
 abbrev pub SaysOfEdits : {D P : Type 0} → Ghosts D → ReportGhosts P → D → P → P → Result Status CommandEnd → List ℕ → List Edit → Type 0
 SaysOfEdits d p disk report report' result name edits = SaysOfDisk d p disk report report' result (propedit_verdict (d.is_there disk name) name edits)
 
--- what it comes to over a disk that tells all
+-- the result over a disk with the content `world`
 abbrev pub propedit_on : DiskWorld → List ℕ → List Edit → Verdict
 propedit_on world name edits = propedit_verdict (world.is_there name) name edits world.media world.sidecar

@@ -1,4 +1,4 @@
--- What `recover` leaves of the disk, and why it stops.
+-- The effect of `recover` on the disk, and the reasons why it stops.
 use Rattle.std.specs.Prelude.{◌≡◌, ◌≢◌, ◌⊎◌, ℕ, false, IsTrue, List, [], ◌∷◌, Some, Result, Ok, Err}
 use Rattle.mkv_io.specs.Faults.{HasIncreased}
 use Rattle.mkv_io.specs.declared.reads.Reads as reads
@@ -18,37 +18,36 @@ use Rattle.sidecar_edit.specs.declared.outcome.RecoverEnd.TheVariants.{DiskFault
 use Rattle.sidecar_edit.specs.Recovery.{recovered, recovery}
 use Rattle.sidecar_edit.specs.Recovering.{IsRecovering}
 
--- a sidecar behind a recovery that came to this: a closed gate where an edit was made whole
+-- the journal after a recovery: a closed gate if an edit was completed
 abbrev pub sidecar_after : Result Recovered RecoverEnd → List ℕ → List ℕ
 sidecar_after (Ok Applied) sidecar = 0 ∷ []
 sidecar_after other sidecar = sidecar
 
--- Where all is done, the medium is the file that it and its sidecar stood for; where it is refused, and without memory, nothing has
--- changed.
+-- If the command is done, the file is the one that it and its journal determined. After a refusal, or out of memory, nothing has changed.
 abbrev pub LeavesPair : Status → List ℕ → List ℕ → Pair → Type 0
 LeavesPair status.Done M S p = p ≡ both (recovered M S) (sidecar_after (recovery M S) S)
 LeavesPair status.Outside M S p = Unit {0}
 LeavesPair s M S p = p ≡ both M S
 
--- What a recovery leaves of the two files when it has ended, and what a crash leaves of them at any moment of it.
+-- The effect of a recovery on the two files after its end, and the crash images at any moment of it.
 pub record IsRecovery {D : Type 0} (d : Ghosts D) (old new : D) (s : Status) : Type 0 where
   pub pair : OfReads d old (λ M S. LeavesPair s M S (d.pair new))
   pub any_moment : AnyMoment d old new IsRecovering
 
--- The pair wasn't opened, and nothing has changed: it isn't there, or the outside failed.
+-- The pair wasn't opened, and nothing has changed: it doesn't exist, or a call failed.
 pub record IsUnopened {D : Type 0} (r : reads.Ghosts D) (d : Ghosts D) (name : List ℕ) (old new : D) (s : Status) : Type 0 where
   pub standing : r.standing new ≡ r.standing old
   pub not_done : s ≢ status.Done
   pub missing : s ≡ status.Refused → IsTrue d.told → d.is_there old name ≡ false
 
--- The same of a name: the pair is open under it.
+-- The same for a name: the pair is open under it.
 pub record IsRecoveryOf {D : Type 0} (r : reads.Ghosts D) (d : Ghosts D) (name : List ℕ) (old new : D) (s : Status) : Type 0 where
   pub leaves : IsRecovery d old new s
   pub opened : (d.opened new ≡ Some name) ⊎ IsUnopened r d name old new s
 
--- ---- why it stops
+-- ---- the reasons why it stops
 
--- By the disk only where one of its counts of faults rose, and by the report only where its own did.
+-- The disk stops the call only if one of its counts of faults increased, and the report only if its own count did.
 abbrev pub HasDiskStop : {D T : Type 0} → reads.Ghosts D → Ghosts D → D → D → ℕ → ℕ → Result T CommandEnd → Type 0
 HasDiskStop r d old new before now (Ok _) = HasNoFault r d old new × (now ≡ before)
 HasDiskStop r d old new before now (Err stop.Memory) = HasNoFault r d old new × (now ≡ before)
@@ -56,7 +55,7 @@ HasDiskStop r d old new before now (Err stop.Disk) = HasOneFault r d old new × 
 HasDiskStop r d old new before now (Err stop.Report) = HasNoFault r d old new × HasIncreased before now
 HasDiskStop r d old new before now (Err stop.Files) = ⊥
 
--- Telling of a recovery stops by the disk where that failed. Where an edit was made whole, there is memory to tell it.
+-- Printing the result of a recovery is stopped by the disk if the disk failed. If an edit was completed, memory for the message exists.
 abbrev pub HasTellCause : {T : Type 0} → Result Recovered RecoverEnd → ℕ → ℕ → Result T CommandEnd → Type 0
 HasTellCause (Err DiskFault) before now result = (result ≡ Err stop.Disk) × (now ≡ before)
 HasTellCause (Ok Applied) before now result = HasSayCause before now result × (result ≢ Err stop.Memory)

@@ -1,4 +1,4 @@
--- What `reindex` comes to: its status and its lines. All of it is this project's.
+-- The result of `reindex`: its status and its lines. All of it is this project's.
 use Rattle.std.specs.Prelude.{ℕ, ◌+◌, ◌*◌, Bool, List, [], ◌∷◌, length, Result, Ok, Err}
 use Rattle.mkv_lines.specs.Line.{reindexed_line}
 use Rattle.mkv_lines.specs.Verdict.{Verdict, done, refused}
@@ -15,32 +15,32 @@ use Rattle.mkv_lines.specs.declared.status.Status.{Status}
 use Rattle.mkv_lines.specs.declared.status.CommandEnd.{CommandEnd}
 use Rattle.mkv_propedit.specs.Command.{SaysOfDisk}
 
--- ---- what it comes to
+-- ---- the result
 
--- what a new index writes to a file of a content, or what refuses it
+-- the writes of a new index to a file with the content `M`, or their refusal
 abbrev pub writes_of_index : List ℕ → Result (List Write) Refusal
 writes_of_index M = and_then (index_of M) (λ x. Ok x.writes)
 
--- what is told of a file, by what its new index comes to
+-- the result for a file, by its new index or its refusal
 abbrev pub indexed_told : List ℕ → Result Index Refusal → Verdict
 indexed_told name (Ok x) = done (reindexed_line name (length x.points) ∷ [])
 indexed_told name (Err why) = refused (refusal_text name why)
 
--- what `reindex` comes to, where a medium and its sidecar read so
+-- the result of `reindex` for a file with the content `media` and a journal with the content `sidecar`
 abbrev pub reindex_verdict : Bool → List ℕ → List ℕ → List ℕ → Verdict
 reindex_verdict is_there name media sidecar = file_verdict is_there name sidecar (indexed_told name (index_of media))
 
--- Indexing the file of a name anew says what it comes to, where the disk tells.
+-- The new index of the file `name` prints its result, if the disk is visible to the proof.
 abbrev pub SaysOfReindex : {D P : Type 0} → Ghosts D → ReportGhosts P → D → P → P → Result Status CommandEnd → List ℕ → Type 0
 SaysOfReindex d p disk report report' result name = SaysOfDisk d p disk report report' result (reindex_verdict (d.is_there disk name) name)
 
--- what it comes to over a disk that tells all
+-- the result over a disk with the content `world`
 abbrev pub reindex_on : DiskWorld → List ℕ → Verdict
 reindex_on world name = reindex_verdict (world.is_there name) name world.media world.sidecar
 
--- ---- how much is read
+-- ---- the bytes that are read
 
--- what may be read to plan a new index of a file of so many octets, and to write it in place
+-- the limits for planning a new index of a file of `octets` bytes, and for writing it in place
 abbrev pub most_to_index : ℕ → ℕ
 most_to_index octets = 26 * octets + KEPT
 

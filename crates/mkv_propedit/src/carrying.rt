@@ -1,4 +1,4 @@
-//! Edits that are planned are carried out.
+//! Execution of planned edits.
 
 ghost use Rattle.std.specs.Prelude.{◌≤◌, true, [], ◌∷◌, length, IfOk};
 ghost use Rattle.mkv_io.specs.Faults.{HasCause};
@@ -23,7 +23,8 @@ use mkv_lines::{CommandEnd, Line, Status};
 use sidecar_edit::{DiskFault, Plan, commit, settle};
 use std::alloc::Global;
 
-/// Makes the edits of a plan beside a quiet sidecar, and says so by a line. All memory is taken before anything is written.
+/// Makes the edits of `plan` beside a journal without a pending edit, and prints `line`. All memory is taken before
+/// anything is written.
 pub fn edit_planned<D: Disk, R: Report>(
     alloc: Global,
     line: &Line,
@@ -49,7 +50,7 @@ pub fn edit_planned<D: Disk, R: Report>(
     tell(&edited, made, report)
 }
 
-/// Closes the gate of a quiet sidecar, and makes the edits of a plan beside it.
+/// Closes the gate of a journal without a pending edit, and makes the edits of `plan`.
 fn carry_out<D: Disk>(plan: &Plan, disk: &mut D) -> Result<(), DiskFault>
     requires ready { IsReady D.Reads D.Disk.own disk.old }
     requires some { 1 ≤ length plan.now.head.places }

@@ -1,4 +1,4 @@
-//! What is to be changed of a file in place, and how it is planned.
+//! Changes of a file in place, and their plans.
 
 ghost use Rattle.std.specs.Prelude.{◌≡◌, ◌≤◌, length, IfOk};
 ghost use Rattle.mkv_io.specs.Faults.{HasCause};
@@ -19,21 +19,21 @@ use requests::Edit;
 use sidecar_edit::Plan;
 use std::alloc::Global;
 
-/// A change of a file in place: the edits that words ask for, or a new index.
+/// Change of a file in place: the edits of the command line, or a new index.
 #[derive(Drop)]
 pub enum FileChange<'a> {
     Edits(&'a List<Edit>),
     Index,
 }
 
-/// What a change writes, and the line that tells of it.
+/// Writes of a change, and its message.
 #[derive(Drop)]
 pub struct ChangePlan<'a> {
     pub plan: Plan,
     pub line: Line<'a>,
 }
 
-/// Plans a change of a medium, or answers the first thing that refuses it. Nothing is written.
+/// Plans a change of the file on `disk`, or returns its first refusal. Nothing is written.
 pub fn plan_change<'a, D: Disk>(
     alloc: Global,
     name: &'a str,

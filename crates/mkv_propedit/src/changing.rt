@@ -1,4 +1,4 @@
-//! A file and its sidecar are opened, and the file changed.
+//! Opening of a file and its journal, and the change of the file.
 
 ghost use Rattle.std.specs.Prelude.{◌≡◌, IfOk};
 ghost use Rattle.mkv_disk.specs.Calls.{AtRest, IsReady, OfReads};
@@ -21,8 +21,8 @@ use mkv_lines::{CommandEnd, Line, Status, refuse};
 use sidecar_edit::{Gate, state};
 use std::alloc::Global;
 
-/// Changes the file of a name in place, wholly or not at all, and says what came of it. A stop at any moment leaves a file
-/// and a sidecar that can be recovered.
+/// Changes the file `name` in place, wholly or not at all, and prints the result. A stop at any moment leaves a file
+/// and a journal that can be recovered.
 pub fn change_file<D: Disk, R: Report>(
     alloc: Global,
     name: &str,
@@ -46,7 +46,7 @@ pub fn change_file<D: Disk, R: Report>(
     }
 }
 
-/// Changes the file of a pair that is open, unless an edit of it is pending, or its sidecar is wrong.
+/// Changes the file of an open pair, unless an edit is pending or the journal is invalid.
 fn change_open<D: Disk, R: Report>(
     alloc: Global,
     name: &str,
@@ -70,7 +70,7 @@ fn change_open<D: Disk, R: Report>(
     }
 }
 
-/// Changes the file of a pair that is open, and of which no edit is pending.
+/// Changes the file of an open pair without a pending edit.
 fn change_quiet<D: Disk, R: Report>(
     alloc: Global,
     name: &str,

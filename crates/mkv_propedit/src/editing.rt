@@ -1,4 +1,4 @@
-//! Properties of a file are edited in place.
+//! Edits of a file's properties in place.
 
 ghost use Rattle.std.specs.Prelude.{IfOk};
 ghost use Rattle.mkv_disk.specs.Calls.{AtRest};
@@ -19,8 +19,8 @@ use mkv_lines::{CommandEnd, Status};
 use requests::Edit;
 use std::alloc::Global;
 
-/// Makes edits of the file of a name, all of them or none, and says what came of it. A stop at any moment leaves a file
-/// and a sidecar that can be recovered.
+/// Makes the edits of the file `name`, all of them or none, and prints the result. A stop at any moment leaves a file
+/// and a journal that can be recovered.
 pub fn propedit_of<D: Disk, R: Report>(
     alloc: Global,
     name: &str,

@@ -1,7 +1,7 @@
 #![tactic(auto)]
 
-//! The commands `propedit`, which changes properties of a file in place, and `reindex`, which writes its index anew there, and the
-//! command `recover`, which finishes such a change that was stopped.
+//! The commands `propedit`, which changes properties of a file in place, and `reindex`, which rewrites its index in
+//! place. The command `recover` completes such a change after an interruption.
 
 mod carrying;
 mod change;

@@ -1,4 +1,4 @@
-//! What recovering a file came to is told.
+//! Messages of a recovery.
 
 ghost use Rattle.std.specs.Prelude.{◌≡◌, IfOk};
 ghost use Rattle.std.specs.String.{string_bytes};
@@ -14,7 +14,7 @@ use mkv_lines::{CommandEnd, Line, Status, refuse, say, say_text};
 use sidecar_edit::{RecoverEnd, Recovered};
 use std::alloc::{AllocError, Global};
 
-/// The line of an edit that was made whole.
+/// Returns the message for a completed edit.
 pub fn recovered_text(alloc: Global, name: &str) -> Result<String, AllocError>
     ensures { IfOk result (λ text. string_bytes text ≡ recovered_line name.now) }
 {
@@ -22,8 +22,8 @@ pub fn recovered_text(alloc: Global, name: &str) -> Result<String, AllocError>
     format!(in alloc; "{line}")
 }
 
-/// Says what recovering a file came to, unless the disk failed. The line of an edit that was made whole is given, and takes no
-/// memory.
+/// Prints the result of a recovery, unless the disk failed. `recovered` is the message for a completed edit, which
+/// takes no memory.
 pub fn tell<R: Report>(
     alloc: Global,
     name: &str,

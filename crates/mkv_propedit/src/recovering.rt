@@ -1,4 +1,4 @@
-//! A file and its sidecar are opened, and recovered.
+//! Opening of a file and its journal, and their recovery.
 
 ghost use Rattle.std.specs.Prelude.{IfOk};
 ghost use Rattle.mkv_io.specs.Bounds.{ReadsUpTo};
@@ -18,7 +18,7 @@ use mkv_lines::{CommandEnd, Line, Status, refuse};
 use sidecar_edit::recover;
 use std::alloc::Global;
 
-/// Makes an edit of the file of a name whole that was stopped, and says what came of it.
+/// Completes an interrupted edit of the file `name`, and prints the result.
 pub fn recover_of<D: Disk, R: Report>(
     alloc: Global,
     name: &str,
@@ -41,7 +41,7 @@ pub fn recover_of<D: Disk, R: Report>(
     }
 }
 
-/// Recovers a pair that is open. All memory is taken before anything is written.
+/// Recovers an open pair. All memory is taken before anything is written.
 fn recover_open<D: Disk, R: Report>(
     alloc: Global,
     name: &str,

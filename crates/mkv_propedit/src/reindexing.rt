@@ -1,4 +1,4 @@
-//! The index of a file is written anew in place.
+//! Rewriting of a file's index in place.
 
 ghost use Rattle.std.specs.Prelude.{IfOk};
 ghost use Rattle.mkv_disk.specs.Calls.{AtRest};
@@ -17,8 +17,8 @@ use mkv_io::Report;
 use mkv_lines::{CommandEnd, Status};
 use std::alloc::Global;
 
-/// Writes the index of the file of a name anew, the Cues and the SeekHead, and says what came of it. A stop at any moment
-/// leaves a file and a sidecar that can be recovered.
+/// Rewrites the index of the file `name`, its Cues and SeekHead, and prints the result. A stop at any moment leaves a
+/// file and a journal that can be recovered.
 pub fn reindex_of<D: Disk, R: Report>(
     alloc: Global,
     name: &str,

@@ -1,4 +1,4 @@
-//! What edits come to is told.
+//! Messages of edits.
 
 ghost use Rattle.std.specs.Prelude.{◌≡◌, [], ◌∷◌, IfOk};
 ghost use Rattle.std.specs.String.{string_bytes};
@@ -15,14 +15,14 @@ use mkv_lines::{CommandEnd, Line, Status, say_text};
 use sidecar_edit::DiskFault;
 use std::alloc::{AllocError, Global};
 
-/// The text of a line that is said once there is nothing left to fail.
+/// Returns the text of a message that is printed when nothing can fail any more.
 pub fn line_text(alloc: Global, line: &Line) -> Result<String, AllocError>
     ensures { IfOk result (λ text. string_bytes text ≡ text_of line.now) }
 {
     format!(in alloc; "{line}")
 }
 
-/// Says the line of edits that are made, unless the disk failed. It takes no memory.
+/// Prints the message of completed edits, unless the disk failed. It takes no memory.
 pub fn tell<R: Report>(
     edited: &str,
     made: Result<(), DiskFault>,
@@ -42,7 +42,7 @@ pub fn tell<R: Report>(
     }
 }
 
-/// The line of what refuses edits.
+/// Returns the message of a refusal.
 pub fn refusal_line(name: &str, refusal: Refusal) -> Line<'_>
     ensures { text_of result ≡ spec.refusal_text name.now refusal }
 {

@@ -9,14 +9,14 @@ use Rattle.sidecar_edit.specs.Leaves.{IsEditing}
 use Rattle.sidecar_edit.proofs.EditLemmas.{editing-before}
 use Rattle.mkv_propedit.proofs.carrying.carry_out.Goals as goal
 
--- ---- while the sidecar is settled
+-- ---- while the gate of the journal is closed
 
 pub returns-in_err-settle-clause-any_moment : goal.returns-in_err-settle-clause-any_moment
 returns-in_err-settle-clause-any_moment g c = λ told.
     let d = g.D.Disk in let a = c.args.disk.now in let plan = c.args.plan.now in let planned = c.requires.planned told in let M = (d.pair a).media.reads in
     weaker d.moment d.left_since a c.settle.new.disk _ (IsEditing plan M) (λ m s has. editing-before plan M planned.sound c.requires.some planned.made m s has) (c.settle.ensures.any_moment told)
 
--- ---- behind it
+-- ---- after that
 
 pub commit-requires-clause-settled : goal.commit-requires-clause-settled
 commit-requires-clause-settled g c = λ told.

@@ -9,7 +9,7 @@ use Rattle.sidecar_edit.proofs.GateLemmas.{both_image}
 use Rattle.mkv_propedit.proofs.PropeditLemmas.{made-left, made-stop}
 use Rattle.mkv_propedit.proofs.carrying.edit_planned.Goals as goal
 
--- ---- without memory nothing is done
+-- ---- out of memory, nothing is done
 
 pub returns-in_default-clause-any_moment : goal.returns-in_default-clause-any_moment
 returns-in_default-clause-any_moment g c = λ told.
@@ -19,7 +19,7 @@ returns-in_default-clause-any_moment g c = λ told.
     let same = both_image (d.pair a) m s (c.requires.ready.at_rest told) (g.met.D.Disk.only_now a m s told left) in
     editing-before plan M planned.sound c.requires.some planned.made m s (same.0, subst IsQuiet (sym same.1) planned.quiet))
 
--- ---- what was made is told
+-- ---- the message of the execution
 
 pub returns-clause-pair : goal.returns-clause-pair
 returns-clause-pair g c = λ told.

@@ -1,7 +1,7 @@
 use Rattle.mkv_propedit.proofs.ReindexLemmas.{index-record, index-told}
 use Rattle.mkv_propedit.proofs.change.plan_change.Goals as goal
 
--- a new index is the record of its writes, and tells how many points it has
+-- The plan of a new index is the record of its writes, and its message has the number of points.
 pub returns-in_ok-indexed-in-Index-clause-exact : goal.returns-in_ok-indexed-in-Index-clause-exact
 returns-in_ok-indexed-in-Index-clause-exact g c = λ tells.
     let M = (g.D.Disk.pair c.args.disk.now).media.reads in

@@ -47,7 +47,7 @@ returns-in-Ok-clause-cause g c =
     stop-then g.D.Reads g.D.Disk c.args.disk.now c.open_pair.new.self c.change_open.new.disk (g.R.Report.faults c.args.report.now) (g.R.Report.faults c.change_open.new.report) c.change_open.result
     (record { reading = c.in-Ok.ensures.cause; writing = c.open_pair.ensures.counts.writing }) c.change_open.ensures.cause
 
--- ---- it isn't
+-- ---- it couldn't be opened
 
 pub returns-in-Err-Missing-clause-verdict : goal.returns-in-Err-Missing-clause-verdict
 returns-in-Err-Missing-clause-verdict g c = λ tells.

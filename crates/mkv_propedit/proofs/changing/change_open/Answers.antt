@@ -21,7 +21,7 @@ use Rattle.mkv_propedit.proofs.PropeditLemmas.{edit-none, edit-then, reads-momen
 use Rattle.mkv_propedit.proofs.changing.change_open.Given.{Over}
 use Rattle.mkv_propedit.proofs.changing.change_open.Goals as goal
 
--- what reading leaves
+-- The effect of reading.
 stands : (g : Over) (old new : g.row.D.Denot) → g.D.Reads.standing new ≡ g.D.Reads.standing old → IsLeft g.D.Reads g.D.Disk old new
 stands g old new same = record {
   standing = same;
@@ -33,11 +33,11 @@ stands g old new same = record {
   writing = g.met.D.Disk.writing_stands new old same;
 }
 
--- and a crash behind it leaves what is read
+-- A crash after reading leaves the content that was read.
 reads : (g : Over) (old new : g.row.D.Denot) → g.D.Reads.standing new ≡ g.D.Reads.standing old → IsTrue g.D.Disk.told → LeavesOnly g.D.Disk.moment g.D.Disk.left_since old new (IsPairImage (g.D.Disk.pair old))
 reads g old new same told = reads-moment g.D.Reads g.D.Disk old new (stands g old new same) (λ m s left. g.met.D.Disk.only_now old m s told left)
 
--- no more than the sidecar's first octets was read
+-- Only the head of the journal was read.
 looked : (g : Over) (change : FileChange) (old new : g.row.D.Denot) → g.D.Reads.standing new ≡ g.D.Reads.standing old → g.D.Reads.octets_read new ≤ g.D.Reads.octets_read old + HEAD → StaysOpen g.D.Reads g.D.Disk old new (most_to_change change (file_size g.D.Reads old MEDIA))
 looked g change old new same read = record { opened = (stands g old new same).opened; octets = omega arith }
 
@@ -80,7 +80,7 @@ returns-in-Ok-Quiet-clause-cause g c =
     stop-then g.D.Reads g.D.Disk a b c.change_quiet.new.disk (g.R.Report.faults c.args.report.now) (g.R.Report.faults c.change_quiet.new.report) c.change_quiet.result
     (record { reading = c.in-Ok-Quiet.ensures.cause; writing = (stands g a b c.state.ensures.only.standing).writing }) c.change_quiet.ensures.cause
 
--- ---- one is, or the sidecar is wrong
+-- ---- an edit is pending, or the journal is invalid
 
 pub returns-in-Ok-Live-clause-verdict : goal.returns-in-Ok-Live-clause-verdict
 returns-in-Ok-Live-clause-verdict g c = λ tells.

@@ -15,7 +15,7 @@ use Rattle.mkv_propedit.proofs.PropeditLemmas.{edit-none, edit-then, leaves-plan
 use Rattle.mkv_propedit.proofs.changing.change_quiet.Given.{Over}
 use Rattle.mkv_propedit.proofs.changing.change_quiet.Goals as goal
 
--- what reading leaves
+-- The effect of reading.
 stands : (g : Over) (old new : g.row.D.Denot) → g.D.Reads.standing new ≡ g.D.Reads.standing old → IsLeft g.D.Reads g.D.Disk old new
 stands g old new same = record {
   standing = same;
@@ -27,7 +27,7 @@ stands g old new same = record {
   writing = g.met.D.Disk.writing_stands new old same;
 }
 
--- and a crash behind it leaves what is read
+-- A crash after reading leaves the content that was read.
 reads : (g : Over) (old new : g.row.D.Denot) → g.D.Reads.standing new ≡ g.D.Reads.standing old → IsTrue g.D.Disk.told → LeavesOnly g.D.Disk.moment g.D.Disk.left_since old new (IsPairImage (g.D.Disk.pair old))
 reads g old new same told = reads-moment g.D.Reads g.D.Disk old new (stands g old new same) (λ m s left. g.met.D.Disk.only_now old m s told left)
 
@@ -78,7 +78,7 @@ returns-in-Ok-clause-cause g c =
     stop-then g.D.Reads g.D.Disk a b c.edit_planned.new.disk (g.R.Report.faults c.args.report.now) (g.R.Report.faults c.edit_planned.new.report) c.edit_planned.result
     (record { reading = c.in-Ok.ensures.cause; writing = (stands g a b c.plan_change.ensures.standing).writing }) c.edit_planned.ensures.cause
 
--- ---- they are refused
+-- ---- the edits are refused
 
 pub returns-in-Err-Refused-clause-verdict : goal.returns-in-Err-Refused-clause-verdict
 returns-in-Err-Refused-clause-verdict g c = λ tells.

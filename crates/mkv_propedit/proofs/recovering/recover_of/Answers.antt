@@ -38,7 +38,7 @@ returns-in-Ok-clause-cause g c =
     stop-then g.D.Reads g.D.Disk c.args.disk.now c.open_pair.new.self c.recover_open.new.disk (g.R.Report.faults c.args.report.now) (g.R.Report.faults c.recover_open.new.report) c.recover_open.result
     (record { reading = c.in-Ok.ensures.cause; writing = c.open_pair.ensures.counts.writing }) c.recover_open.ensures.cause
 
--- ---- it isn't
+-- ---- it couldn't be opened
 
 pub returns-in-Err-Missing-clause-recovery : goal.returns-in-Err-Missing-clause-recovery
 returns-in-Err-Missing-clause-recovery g c =

@@ -4,12 +4,12 @@ use Rattle.mkv_lines.specs.declared.status.Status.TheVariants as status
 use Rattle.mkv_propedit.proofs.RecoverLemmas.{keeps-pair, left-recovered, recovery-still, told-recovered, told-stop}
 use Rattle.mkv_propedit.proofs.recovering.recover_open.Goals as goal
 
--- ---- without memory nothing is done
+-- ---- out of memory, nothing is done
 
 pub returns-in_default-clause-recovery : goal.returns-in_default-clause-recovery
 returns-in_default-clause-recovery g c = recovery-still g.D.Disk c.args.disk.now status.NoMemory c.requires.at_rest (λ M S p same. same) (g.met.D.Disk.only_now c.args.disk.now)
 
--- ---- what came of it is told
+-- ---- the message of the outcome
 
 pub returns-clause-verdict : goal.returns-clause-verdict
 returns-clause-verdict g c = λ told.
