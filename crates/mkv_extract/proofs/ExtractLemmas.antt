@@ -1,4 +1,4 @@
--- How an extraction comes to its verdict.
+-- The steps from an extraction to its result.
 use Rattle.std.proofs.Common.{◌≡◌, ◌+◌, ◌≤◌, ℕ, zero, suc, nat_lt, if◌then◌else◌, slice_get, arith, List, [], ◌∷◌, ◌++◌, length, Bool, true, false, ◌||◌, map, cond, append-nil, Option, Some, None, option_map, option_to_list, IsSome, Result, Err, IfOk, inl, refl, sym, ◌∙◌, ap, subst}
 use Rattle.std.specs.List.{All, find}
 use Rattle.std.specs.Str.{bytes_eq}
@@ -52,7 +52,7 @@ use Rattle.mkv_extract.proofs.ToldLemmas.{any-absent, slice_get-past, slice_get-
 
 -- ---- the names of the outputs
 
--- none of these names is that of a file which is read
+-- No name in the list is the name of a file that is read.
 others-named : (name holder : List ℕ) (names : List (List ℕ)) → find (is_read name) names ≡ None → holder ≡ name → AreOthers holder names
 others-named name holder [] none same = tt
 others-named name holder (out ∷ outs) none same = split (bytes_eq out name) (bytes_eq out (sidecar_of name)) refl (λ rest. others-named name holder outs rest same) none
@@ -62,11 +62,11 @@ others-named name holder (out ∷ outs) none same = split (bytes_eq out name) (b
     split false true isnt behind never = absurd (cc)
     split false false isnt behind none = (λ one. let yes : bytes_eq out name ≡ true = (bytes_eq-Decides out name).1 (one ∙ same) in absurd (cc), behind none)
 
--- the file is held under another name than each of the outputs
+-- The file has another name than each of the outputs.
 pub others-input : (name holder : List ℕ) (job : Job) → first_written name job ≡ None → holder ≡ name → AreOthers holder (names_for job)
 others-input name holder job none same = others-named name holder (names_for job) none same
 
--- the name of the first target that passes a test
+-- The name of the first target that passes a test.
 pub found-name : (test : List ℕ → Bool) (targets : List Target) → option_map (λ (t : Target). t.name) (find (λ (t : Target). test t.name) targets) ≡ find test (jobs.names_of targets)
 found-name test [] = refl
 found-name test (t ∷ ts) = split (test t.name) (found-name test ts)
@@ -76,7 +76,7 @@ found-name test (t ∷ ts) = split (test t.name) (found-name test ts)
     split true rest = refl
     split false rest = rest
 
--- ---- a job that takes frames of tracks, or their times
+-- ---- a job that extracts frames of tracks, or their timestamps
 
 pub taken-job : (job : Job) (f : Form) (list : List Target) → job ≡ form.Tracks f list → IsSome (form_of job)
 taken-job job f list is = subst (λ (j : Job). IsSome (form_of j)) (sym is) refl
@@ -87,37 +87,37 @@ names-job (form.Attachments list) some = absurd (cc)
 names-job (form.Cues list) some = absurd (cc)
 names-job (form.Chapters out) some = absurd (cc)
 
--- it takes them
+-- The job extracts them.
 pub frames-taken : (name : List ℕ) (job : Job) (f : Form) (list : List Target) (bytes : List ℕ) (file : FileRead) (events : List Event) → job ≡ form.Tracks f list → frames_taken name job file events ≡ taken_by name job bytes file events
 frames-taken name job f list bytes file events is = subst (λ (j : Job). frames_taken name j file events ≡ taken_by name j bytes file events) (sym is) refl
 
--- nothing is refused where no target is unfit
+-- Without a refusal no target is unfit.
 none-refused : (unknown bad : Option ℕ) → refusal_of unknown bad ≡ None → (unknown ≡ None) × (bad ≡ None)
 none-refused (Some k) bad is = absurd (cc)
 none-refused None (Some k) is = absurd (cc)
 none-refused None None is = (refl, refl)
 
--- the outputs of a job that isn't refused have the names of those targets whose tracks the file has
+-- The outputs of a job that isn't refused have the names of the targets whose tracks the file has.
 taken-names : (kind : Option Form) (targets : List Target) (entries : List Node) → IsSome kind → refusal_taken kind targets entries ≡ None → names_in (outputs_taken kind targets entries) ≡ written (length entries) targets
 taken-names None targets entries some fit = absurd (cc)
 taken-names (Some kind) targets entries some fit =
     let none = none-refused (first_unfit NoExtractor kind targets entries) (first_unfit BadConfig kind targets entries) fit in
     written-names kind targets entries none.0 none.1
 
--- ---- the names that are opened and made
+-- ---- the names that are opened and created
 
--- only outputs of a job were made, so only files of its names
+-- Only outputs of the job were created, so only files with its names.
 pub asks-taken : (job : Job) (entries : List Node) (old new : List Asked) → AsksOnly [] (names_in (job_outputs job entries)) old new → AsksOnly [] (names_for job) old new
 asks-taken job entries old new asks = asks-more [] (names_in (job_outputs job entries)) [] (names_for job) old new (λ name others. others) (job_outputs-others job entries) asks
 
--- a sidecar is looked into, and the outputs are made
+-- A journal is read, and the outputs are created.
 pub asks-settled : (name : List ℕ) (made : List (List ℕ)) (a b c : List Asked) → AsksOnly (sidecar_of name ∷ []) [] a b → AsksOnly [] made b c → AsksOnly (sidecar_of name ∷ []) made a c
 asks-settled name made a b c looks makes =
     asks-both (IsNotAmong (sidecar_of name ∷ []) made) a b c
     (asks-more (sidecar_of name ∷ []) [] (sidecar_of name ∷ []) made a b (λ other others. others) (λ other others. tt) looks)
     (asks-more [] made (sidecar_of name ∷ []) made b c (λ other others. tt) (λ other others. others) makes)
 
--- a file is opened, what stands beside it is looked into, outputs are made, and the file is closed
+-- A file is opened, its journal is read, outputs are created, and the file is closed.
 pub asks-extracted : {T E : Type 0} (name : List ℕ) (made : List (List ℕ)) (a b c d : List Asked) (result : Result T E) → AsksFor (Opened name) a b result → AsksOnly (sidecar_of name ∷ []) made b c → d ≡ c → AsksOnly (with_sidecar name) made a d
 asks-extracted name made a b c d result opens makes closed =
     asks-both (IsNotAmong (with_sidecar name) made) a b d
@@ -128,7 +128,7 @@ asks-extracted name made a b c d result opens makes closed =
 
 -- ---- attached files
 
--- those that a file has are told of
+-- The attached files that a file has are reported.
 pub attached-names : (bytes : List ℕ) (targets : List Target) (files : List AttachedFile) → All (λ (t : Target). 1 ≤ t.id) targets → names_of (attached_outputs bytes targets files) ≡ written (length files + 1) targets
 attached-names bytes [] files numbers = refl
 attached-names bytes (t ∷ ts) files numbers = step t.id (numbers 0 t (omega arith)) (attached-names bytes ts files (λ k d below. numbers (suc k) d (omega arith)))
@@ -146,7 +146,7 @@ attached-names bytes (t ∷ ts) files numbers = step t.id (numbers 0 t (omega ar
 
 -- ---- cue points
 
--- those of the tracks that a file has are told of
+-- The outputs for the tracks that a file has are reported.
 pub cues-names : (scale : ℕ) (cues : Option Node) (targets : List Target) (entries : List Node) → names_of (cues_outputs scale cues targets entries) ≡ written (length entries) targets
 cues-names scale cues [] entries = refl
 cues-names scale cues (t ∷ ts) entries = each (slice_get entries t.id) refl (cues-names scale cues ts entries)
@@ -160,7 +160,7 @@ cues-names scale cues (t ∷ ts) entries = each (slice_get entries t.id) refl (c
 
 -- ---- lines and outputs
 
--- What the calls say of what targets name is what the verdict tells of it.
+-- The lines that the calls print for targets are the lines of the result.
 pub record IsToldBy (name : List ℕ) (t : Taken) (what : Missing) (count : ℕ) (targets : List Target) : Type 0 where
   pub missing : t.missing ≡ absent_lines what name count targets
   pub named : names_of t.outputs ≡ written count targets
@@ -189,11 +189,11 @@ attached-told name bytes file count targets counted numbers = record {
   named = attached-names bytes targets file.attachments numbers ∙ ap (λ (n : ℕ). written (n + 1) targets) (sym counted);
 }
 
--- the outputs stand whole, and what is wrong was told
+-- The outputs are complete, and the warnings were printed.
 reaches : (old new : Seen) (mid : ReportLines) (r : Result Status CommandEnd) (name : List ℕ) (t : Taken) → mid ≡ with_lines old.lines t.missing → Says mid new.lines (map wrote_line (names_of t.outputs) ++ warned name t) r → IfOk r (λ s. s ≡ status_of (is_some_of t.missing) (t.damages ++ t.bad_frames)) → new.names ≡ with_outputs old.names t.outputs → Reaches old new r (done_verdict name t)
 reaches old new mid r name t = Reaches-behind old new mid r (done_verdict name t) (map wrote_line (names_of t.outputs) ++ warned name t) refl
 
--- of what isn't frames the damage of level 1
+-- For content other than frames, damage at level 1 is reported.
 outline-told : (name : List ℕ) (d : Option Damage) → outline_lines name d ≡ told_lines name (told_damages (option_to_list d)) ++ told_bad name (told_damages [])
 outline-told name None = refl
 outline-told name (Some d) = refl
@@ -204,7 +204,7 @@ reaches-whole old new mid r name file missing outputs d same said says status na
     (subst (λ (lines : List (List ℕ)). Says mid new.lines (map wrote_line (names_of outputs) ++ lines) r) (ap (outline_lines name) same ∙ outline-told name file.damage) says)
     (subst (λ (ds : List Damage). IfOk r (λ s. s ≡ status_of (is_some_of missing) ds)) (ap option_to_list same ∙ sym (append-nil (option_to_list file.damage))) status) names
 
--- what isn't there was warned of before
+-- The warnings of missing items were printed first.
 module _ {name : List ℕ} {t : Taken} {what : Missing} {count : ℕ} {targets : List Target} (is : IsToldBy name t what count targets) where
   missing-said : (old mid : ReportLines) → mid ≡ with_lines old (absent_lines what name count targets) → mid ≡ with_lines old t.missing
   missing-said old mid said = said ∙ ap (with_lines old) (sym is.missing)
@@ -215,15 +215,15 @@ module _ {name : List ℕ} {t : Taken} {what : Missing} {count : ℕ} {targets :
   status-told : (r : Result Status CommandEnd) (ds : List Damage) → IfOk r (λ s. s ≡ status_of (has_absent count targets) ds) → IfOk r (λ s. s ≡ status_of (is_some_of t.missing) ds)
   status-told r ds = subst (λ (a : Bool). IfOk r (λ s. s ≡ status_of a ds)) (sym (ap is_some_of is.missing ∙ any-absent (line_of what name) count targets))
 
-  -- a warning of it couldn't be said
+  -- A warning of a missing item couldn't be printed.
   pub begun : (old new : Seen) (why : CommandEnd) → SaysPart old.lines new.lines (absent_lines what name count targets) → new.names ≡ old.names → Reaches old new (Err why) (done_verdict name t)
   begun old new why part names = inl (subst (SaysPart old.lines new.lines) (sym is.missing) part, Leaves-same old.names new.names (at_once t.outputs) names)
 
-  -- an output wasn't written
+  -- An output wasn't written.
   pub stopped : (old new : Seen) (why : CommandEnd) → new.lines ≡ with_lines old.lines (absent_lines what name count targets) → ArePrefixes old.names new.names t.outputs → Reaches old new (Err why) (done_verdict name t)
   stopped old new why said part = inl (SaysPart-all old.lines new.lines t.missing (missing-said old.lines new.lines said), part)
 
-  -- the outputs stand whole
+  -- The outputs are complete.
   pub told : (old new : Seen) (mid : ReportLines) (r : Result Status CommandEnd) (more : List (List ℕ)) → more ≡ warned name t → mid ≡ with_lines old.lines (absent_lines what name count targets) → Says mid new.lines (wrote_lines count targets ++ more) r → IfOk r (λ s. s ≡ status_of (has_absent count targets) (t.damages ++ t.bad_frames)) → new.names ≡ with_outputs old.names t.outputs → Reaches old new r (done_verdict name t)
   told old new mid r more all said says status names =
       reaches old new mid r name t (missing-said old.lines mid said)

@@ -1,4 +1,4 @@
--- The tracks that targets name, and what keeps their frames from being used.
+-- The tracks that targets name, and the reasons why their frames can't be used.
 use Rattle.std.proofs.Common.{◌≡◌, ℕ, zero, suc, ◌+◌, ◌<◌, ◌≤◌, ◌==◌, Bool, true, false, ◌||◌, if◌then◌else◌, List, [], ◌∷◌, ◌++◌, length, drop, get_or, map, Some, None, IfSome, slice_get, Ok, refl, sym, ◌∙◌, ap, arith, eq-eqb}
 use Rattle.std.proofs.lemmas.List.{drop_all}
 use Rattle.mkv_io.specs.declared.damage.Damage.{Damage}
@@ -19,19 +19,19 @@ use Rattle.mkv_extract.specs.Read.{causes_from, causes_of, first_unusable, is_na
 
 -- ---- in a walk over the tracks
 
--- one whose frames can't be used refuses the file
+-- A track whose frames can't be used refuses the file.
 pub causes-bad : (targets : List Target) (tracks : List Track) (k : ℕ) (t : Track) (d : Damage) → k < length tracks → t ≡ get_or tracks k t → first_damage (causes_of targets k t) ≡ Some d → first_damage (causes_from targets k (drop k tracks)) ≡ Some d
 causes-bad targets tracks k t d below is some =
     ap (λ (ts : List Track). first_damage (causes_from targets k ts)) (next-left tracks k t below is)
     ∙ first_damage-some (causes_of targets k t) (causes_from targets (k + 1) (drop (k + 1) tracks)) d some
 
--- at last none is left
+-- At the end no track is left.
 pub causes-none : (targets : List Target) (tracks : List Track) (k : ℕ) → length tracks ≤ k → first_damage (causes_from targets k (drop k tracks)) ≡ None
 causes-none targets tracks k all = ap (λ (ts : List Track). first_damage (causes_from targets k ts)) (drop_all k tracks all)
 
--- ---- where nothing refuses the file
+-- ---- if the file isn't refused
 
--- a target names its track
+-- A target names its track.
 named-at : (targets : List Target) (i : ℕ) (d : Target) → i < length targets → is_named targets (get_or targets i d).id ≡ true
 named-at [] i d below = absurd (omega arith)
 named-at (t ∷ ts) zero d below = ap (λ (a : Bool). a || is_named ts t.id) (eq-eqb t.id t.id refl)
@@ -41,7 +41,7 @@ named-at (t ∷ ts) (suc i) d below = ap (λ (a : Bool). (t.id == (get_or ts i d
     or_true true = refl
     or_true false = refl
 
--- each track that is named can be used
+-- Each named track can be used.
 each-usable : (targets : List Target) (k : ℕ) (tracks : List Track) (j : ℕ) → first_damage (causes_from targets k tracks) ≡ None → is_named targets (k + j) ≡ true → IfSome (slice_get (map entry_in tracks) j) IsUsable
 each-usable targets k [] j none named = tt
 each-usable targets k (t ∷ ts) zero none named =
@@ -67,8 +67,8 @@ AreUsableOf-read targets tracks none = λ i d below.
     zero_plus : (n : ℕ) → 0 + n ≡ n
     zero_plus n = omega arith
 
--- ---- what is read
+-- ---- the data that are read
 
--- its blocks and damages are the file's own
+-- The blocks and damage of the data are the file's own.
 pub events-read : (bytes : List ℕ) (segment : Header) (r : FileRecords) → file_records bytes segment ≡ Ok r → events_of (with_limits (scale_of_info r.info)) bytes segment ≡ file_events true bytes segment
 events-read bytes segment r is = ap (λ (scale : ℕ). events_of (with_limits scale) bytes segment) (file_records-scale bytes segment r is)

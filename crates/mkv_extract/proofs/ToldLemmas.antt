@@ -1,4 +1,4 @@
--- The lines of an extraction, one target after the other.
+-- The lines of an extraction, one target at a time.
 use Rattle.std.proofs.Common.{◌≡◌, ℕ, zero, suc, ◌+◌, ◌<◌, ◌≤◌, ◌==◌, nat_le, nat_lt, Bool, true, false, not, ◌||◌, ◌&&◌, if◌then◌else◌, List, [], ◌∷◌, ◌++◌, length, take, drop, get_or, map, filter, Option, Some, None, slice_get, Result, Ok, Err, refl, sym, ◌∙◌, ap, subst, arith}
 use Rattle.std.proofs.lemmas.Bool.{eqb-true, lt-ltb, le-ltb}
 use Rattle.std.proofs.lemmas.List.{drop_all, take_more}
@@ -24,13 +24,13 @@ use Rattle.mkv_extract.specs.Told.{has_absent, written}
 use Rattle.lemmas.proofs.PlainLemmas.{or-true as or_true}
 pub use Rattle.lemmas.proofs.PlainLemmas.{drop-get_or as next-left}
 
--- ---- the tracks that a file hasn't
+-- ---- the tracks that a file lacks
 
 -- the numbers that targets name
 ids_of : List Target → List ℕ
 ids_of targets = map (λ (t : Target). t.id) targets
 
--- a number isn't among those that were seen
+-- The number isn't among the targets that were passed.
 is_new : List Target → ℕ → Bool
 is_new seen n = not (is_named seen n)
 
@@ -38,11 +38,11 @@ or_false : (a : Bool) → (a || false) ≡ a
 or_false true = refl
 or_false false = refl
 
--- a number is seen, or it is that of one more
+-- A number is named by the targets passed or by one more.
 seen_more : (seen : List Target) (t : Target) (n : ℕ) → is_named (seen ++ t ∷ []) n ≡ (is_named seen n || (t.id == n))
 seen_more seen t n = list_any-append (λ (each : Target). each.id == n) seen (t ∷ []) ∙ ap (λ (a : Bool). is_named seen n || a) (or_false (t.id == n))
 
--- what is neither seen nor that of one more
+-- Filtering by both conditions is filtering in two steps.
 filter_both : (seen : List Target) (t : Target) (ns : List ℕ) → filter (λ n. is_new seen n) (filter (λ m. not (t.id == m)) ns) ≡ filter (λ n. is_new (seen ++ t ∷ []) n) ns
 unfolding is_new
 filter_both seen t [] = refl
@@ -56,11 +56,11 @@ filter_both seen t (n ∷ ns) = step (filter_both seen t ns) (t.id == n) refl
         ∙ ap (λ (a : Bool). if not a then n ∷ filter (λ m. is_new (seen ++ t ∷ []) m) ns else filter (λ m. is_new (seen ++ t ∷ []) m) ns)
         (sym (seen_more seen t n ∙ ap (λ (a : Bool). is_named seen n || a) is ∙ or_false (is_named seen n)))
 
--- behind some targets, the numbers that are left: each once, none that was seen, and none of a track that is there
+-- the remaining numbers after the targets `seen`: each once, not named before, and at least `count`
 pub absent_left : ℕ → List Target → List Target → List ℕ
 absent_left count seen targets = filter (λ n. nat_le count n) (filter (λ n. is_new seen n) (once (ids_of targets)))
 
--- at first all are left
+-- At first all numbers remain.
 pub absent_left-all : (count : ℕ) (targets : List Target) → absent_left count [] targets ≡ absent count targets
 unfolding absent_left is_new ids_of
 absent_left-all count targets = ap (filter (λ n. nat_le count n)) (all (once (map (λ (t : Target). t.id) targets)))
@@ -69,7 +69,7 @@ absent_left-all count targets = ap (filter (λ n. nat_le count n)) (all (once (m
     all [] = refl
     all (n ∷ ns) = ap (λ (ms : List ℕ). n ∷ ms) (all ns)
 
--- the next number is one of them, or it isn't
+-- The next number is one of them, or it isn't.
 absent_left-step : (count : ℕ) (seen : List Target) (t : Target) (rest : List Target) → absent_left count seen (t ∷ rest) ≡ (if nat_le count t.id && not (is_named seen t.id) then t.id ∷ absent_left count (seen ++ t ∷ []) rest else absent_left count (seen ++ t ∷ []) rest)
 unfolding absent_left is_new ids_of
 absent_left-step count seen t rest =
@@ -85,12 +85,12 @@ absent_left-step count seen t rest =
     step true false is = ap (λ (a : Bool). if a then t.id ∷ filter (λ n. nat_le count n) left else filter (λ n. nat_le count n) left) is
     step false false is = ap (λ (a : Bool). if a then t.id ∷ filter (λ n. nat_le count n) left else filter (λ n. nat_le count n) left) is
 
--- at last none is left
+-- At the end no number remains.
 pub absent_left-none : (count : ℕ) (seen : List Target) → absent_left count seen [] ≡ []
 unfolding absent_left ids_of
 absent_left-none count seen = refl
 
--- the next number is told, or it is passed
+-- The next number is reported, or it is passed.
 pub absent-next : (old now : ReportLines) (all : List (List ℕ)) (line : ℕ → List ℕ) (count : ℕ) (targets : List Target) (k : ℕ) (t : Target) (told : Bool) → k < length targets → t ≡ get_or targets k t → (nat_le count t.id && not (is_named (take k targets) t.id)) ≡ told → SaysUpTo old now all (map line (absent_left count (take k targets) (drop k targets)))
     → SaysUpTo old now all (map line (if told then t.id ∷ absent_left count (take (k + 1) targets) (drop (k + 1) targets) else absent_left count (take (k + 1) targets) (drop (k + 1) targets)))
 absent-next old now all line count targets k t told below is tells way =
@@ -102,15 +102,15 @@ absent-next old now all line count targets k t told below is tells way =
     ∙ ap (λ (seen : List Target). if nat_le count t.id && not (is_named (take k targets) t.id) then t.id ∷ rest seen else rest seen) (ap (λ (each : Target). take k targets ++ each ∷ []) is ∙ sym (take_more targets k t below))
     ∙ ap (λ (a : Bool). if a then t.id ∷ rest (take (k + 1) targets) else rest (take (k + 1) targets)) tells)) way
 
--- at last all are said
+-- At the end all lines were printed.
 pub absent-ends : (count : ℕ) (targets : List Target) (k : ℕ) (line : ℕ → List ℕ) → length targets ≤ k → map (line) (absent_left count (take k targets) (drop k targets)) ≡ []
 absent-ends count targets k line all =
     ap (λ (rest : List Target). map (line) (absent_left count (take k targets) rest)) (drop_all k targets all)
     ∙ ap (map (line)) (absent_left-none count (take k targets))
 
--- ---- whether there is one
+-- ---- the existence of such a number
 
--- a number of which a test fails is none for which it holds
+-- Removing a number that fails a test doesn't change whether any passes it.
 any-left : (p : ℕ → Bool) (n : ℕ) (ns : List ℕ) → p n ≡ false → list_any p (filter (λ m. not (n == m)) ns) ≡ list_any p ns
 any-left p n [] fails = refl
 any-left p n (m ∷ ms) fails = step (n == m) refl (any-left p n ms fails)
@@ -136,7 +136,7 @@ any-line line p (n ∷ ns) = step (p n) (any-line line p ns)
     step true rest = refl
     step false rest = rest
 
--- a line is told where targets name what isn't there
+-- A line is printed exactly if targets name a missing item.
 pub any-absent : (line : ℕ → List ℕ) (count : ℕ) (targets : List Target) → is_some_of (map line (absent count targets)) ≡ has_absent count targets
 any-absent line count targets = any-line line (nat_le count) (once (map (λ (t : Target). t.id) targets)) ∙ any-once (nat_le count) (map (λ (t : Target). t.id) targets) ∙ ids targets
   where
@@ -146,28 +146,28 @@ any-absent line count targets = any-line line (nat_le count) (once (map (λ (t :
 
 -- ---- the outputs
 
--- the line of an output is said
+-- The line of an output is printed.
 pub written-said : (old now : ReportLines) (all : List (List ℕ)) (count : ℕ) (targets : List Target) (k : ℕ) (t : Target) → k < length targets → t ≡ get_or targets k t → t.id < count → SaysUpTo old now all (map wrote_line (written count (drop k targets))) → SaysUpTo old now all (wrote_line t.name ∷ map wrote_line (written count (drop (k + 1) targets)))
 written-said old now all count targets k t below is there way =
     subst (SaysUpTo old now all)
     (ap (λ (left : List Target). map wrote_line (written count left)) (next-left targets k t below is)
     ∙ ap (λ (a : Bool). map wrote_line ((if a then t.name ∷ [] else []) ++ written count (drop (k + 1) targets))) (lt-ltb _ _ there)) way
 
--- ---- what targets name
+-- ---- the items that targets name
 
--- something that isn't there stands behind all
+-- The index of a missing item is past the end.
 pub slice_get-past : {A : Type 0} (xs : List A) (k : ℕ) → slice_get xs k ≡ None → length xs ≤ k
 slice_get-past [] k found = omega arith
 slice_get-past (x ∷ xs) zero found = absurd (cc)
 slice_get-past (x ∷ xs) (suc k) found = let rest = slice_get-past xs k found in omega arith
 
--- and something that is there among them
+-- The index of an existing item is inside the list.
 pub slice_get-within : {A : Type 0} (xs : List A) (k : ℕ) (x : A) → slice_get xs k ≡ Some x → k < length xs
 slice_get-within [] k x found = absurd (cc)
 slice_get-within (first ∷ xs) zero x found = omega arith
 slice_get-within (first ∷ xs) (suc k) x found = let rest = slice_get-within xs k x found in omega arith
 
--- where none is unfit, the first isn't
+-- If no target is unfit, the first isn't.
 unfit-first : (why : UnsupportedTrack) (kind : Form) (t : Target) (ts : List Target) (entries : List Node) → first_unfit why kind (t ∷ ts) entries ≡ None → (names_unfit why kind entries t ≡ false) × (first_unfit why kind ts entries ≡ None)
 unfit-first why kind t ts entries none = split (names_unfit why kind entries t) (find (names_unfit why kind entries) ts) none
   where
@@ -175,7 +175,7 @@ unfit-first why kind t ts entries none = split (names_unfit why kind entries t) 
     split true rest is = absurd (cc)
     split false rest is = (refl, is)
 
--- a target whose track isn't taken so is unfit
+-- A target whose track isn't extracted in this form is unfit.
 unfit-named : (why : UnsupportedTrack) (kind : Form) (t : Target) (entries : List Node) (e : Node) → slice_get entries t.id ≡ Some e → coding_of kind e ≡ Err why → names_unfit why kind entries t ≡ true
 unfit-named why kind t entries e found read =
     ap (λ (entry : Option Node). option_map_or (λ (each : Node). is_unfit why (coding_of kind each)) entry false) found
@@ -185,7 +185,7 @@ unfit-named why kind t entries e found read =
     same NoExtractor = refl
     same BadConfig = refl
 
--- the outputs of a job of which no target is unfit have these names
+-- The outputs of a job without an unfit target have these names.
 pub written-names : (kind : Form) (targets : List Target) (entries : List Node) → first_unfit NoExtractor kind targets entries ≡ None → first_unfit BadConfig kind targets entries ≡ None → names_in (outputs_for kind targets entries) ≡ written (length entries) targets
 written-names kind [] entries known good = refl
 written-names kind (t ∷ ts) entries known good =
@@ -209,8 +209,8 @@ written-names kind (t ∷ ts) entries known good =
         rest ∙ ap (λ (a : Bool). (if a then t.name ∷ [] else []) ++ written (length entries) ts) (sym (le-ltb _ _ (slice_get-past entries t.id found)))
     step rest (Some e) found = told rest e found (coding_of kind e) refl
 
--- ---- the damages
+-- ---- the damaged places
 
--- the next warning is the first of those that are left
+-- The next warning is the first of the rest.
 pub warnings-next : (old now : ReportLines) (all : List (List ℕ)) (name : List ℕ) (first : List Damage) (k : ℕ) (d : Damage) → k < length first → d ≡ get_or first k d → SaysUpTo old now all (map (warning_line name) (drop k first)) → SaysUpTo old now all (warning_line name d ∷ map (warning_line name) (drop (k + 1) first))
 warnings-next old now all name first k d below is way = subst (SaysUpTo old now all) (ap (map (warning_line name)) (next-left first k d below is)) way

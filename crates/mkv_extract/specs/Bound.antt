@@ -1,4 +1,4 @@
--- How many octets `extract` may read. The bounds are this project's.
+-- The limits of bytes that `extract` reads. They are this project's.
 use Rattle.std.specs.Prelude.{◌≡◌, ℕ, ◌+◌, ◌*◌, min, List, length, Option, Some, None}
 use Rattle.mkv_io.specs.declared.reads.Reads.{Ghosts}
 use Rattle.requests.specs.declared.job.Job.{Job}
@@ -8,41 +8,40 @@ use Rattle.mkv_lines.specs.Command.{with_sidecar_head}
 use Rattle.mkv_io.specs.Bounds.{ReadsByNames, ReadsUpTo}
 use Rattle.mkv_io.specs.declared.files.Files as writing
 
--- of a file of so many octets the first Cues is read once, for a job that takes it
+-- the limit for the first Cues of a file of `octets` bytes, which is read once for a job that extracts it
 abbrev pub most_of_cues : Job → ℕ → ℕ
 most_of_cues (jobs.Cues list) octets = octets
 most_of_cues job octets = 0
 
--- what may be read of it before its blocks: besides, its outline twice, Info, Tracks, Chapters and Tags once each, and
--- what names its attached files, but none of their data
+-- the limit before the blocks: the first Cues; the outline twice, and Info, Tracks, Chapters and Tags once each; and the names of attached files,
+-- without their data
 abbrev pub most_before : Job → ℕ → ℕ
 most_before job octets = 6 * octets + min (16 * octets) (2 * MAX_ATTACHMENTS_LEN) + most_of_cues job octets
 
--- what may be read of its blocks and of the data of its attached files: twice the file for tracks, however many, and the file
--- for each attached file that is taken
+-- the limit for the blocks and the data of attached files: twice the file for any number of tracks, and the file for each attached file
 abbrev pub most_of_content : Job → ℕ → ℕ
 most_of_content (jobs.Tracks form list) octets = 2 * octets
 most_of_content (jobs.Attachments list) octets = length list * octets
 most_of_content job octets = 0
 
--- what may be read of it in all
+-- the limit for the whole file
 abbrev pub most_of_file : Job → ℕ → ℕ
 most_of_file job octets = most_before job octets + most_of_content job octets
 
--- what may be read of a name, which may have no content
+-- the limit for a name, which may have no content
 abbrev pub most_with : Job → Option (List ℕ) → ℕ
 most_with job None = 0
 most_with job (Some bytes) = with_sidecar_head (most_of_file job) (length bytes)
 
--- what may be read of a name in a world of names
+-- the limit for a name among the names of `world`
 abbrev pub most_to_extract : (List ℕ → Option (List ℕ)) → List ℕ → Job → ℕ
 most_to_extract world name job = most_with job (world name)
 
--- No more octets were read than this job may read of the file of a name, where the names are told.
+-- At most the bytes of this limit were read of the file `name`, if the names are visible to the proof.
 abbrev pub ReadsToExtract : {S : Type 0} → Ghosts S → writing.Ghosts S → S → S → List ℕ → Job → Type 0
 ReadsToExtract r f old new name job = ReadsByNames r f old new (λ world. most_to_extract world name job)
 
--- Nothing has changed but the count of octets read, which has risen by at most so many.
+-- Only the count of bytes read has changed, by at most `most`.
 pub record ReadsAtMost {S : Type 0} (r : Ghosts S) (old new : S) (most : ℕ) : Type 0 where
   pub standing : r.standing new ≡ r.standing old
   pub octets : ReadsUpTo r old new most

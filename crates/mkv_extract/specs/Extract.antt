@@ -1,4 +1,4 @@
--- What `extract` comes to. All of it is this project's, after mkvextract(1).
+-- The result of `extract`. All of it is this project's, after mkvextract(1).
 use Rattle.std.specs.Prelude.{ℕ, ◌+◌, ◌==◌, nat_le, Bool, true, false, if◌then◌else◌, not, List, [], ◌∷◌, ◌++◌, length, map, filter, Option, Some, None, ok_or, option_map, option_to_list, Result, Ok, Err}
 use Rattle.mkv_io.specs.Lists.{is_some_of}
 use Rattle.mkv_io.specs.Results.{and_then, unless}
@@ -30,27 +30,27 @@ use Rattle.sidecar_edit.specs.Pending.{is_pending}
 use Rattle.mkv_extract.specs.Names.{first_written}
 use Rattle.mkv_extract.specs.Read.{FileRead, read_of}
 
--- ---- what a job takes
+-- ---- the content that a job extracts
 
--- numbers in their order, each where it stands first
+-- the numbers in their order, each only at its first place
 abbrev pub once : List ℕ → List ℕ
 once [] = []
 once (n ∷ ns) = n ∷ filter (λ m. not (n == m)) (once ns)
 
--- the numbers that targets name, from this one on, each once: those of things that a file hasn't
+-- the numbers from `count` on that targets name, each once: items that a file lacks
 abbrev pub absent : ℕ → List Target → List ℕ
 absent count targets = filter (λ n. nat_le count n) (once (map (λ (t : Target). t.id) targets))
 
--- a line for each track that targets name and that a file hasn't
+-- a line for each track that targets name and that a file lacks
 abbrev pub missing_tracks : List ℕ → FileRead → List Target → List (List ℕ)
 missing_tracks name file targets = map (no_track_line name) (absent (length file.tracks) targets)
 
--- a line for each attached file that targets name and that a file hasn't: they are numbered from 1
+-- a line for each attached file that targets name and that a file lacks; they are numbered from 1
 abbrev pub missing_attachments : List ℕ → FileRead → List Target → List (List ℕ)
 missing_attachments name file targets = map (no_attachment_line name) (absent (length file.attachments + 1) targets)
 
--- What is taken of a file: a line for each thing that is named and that it hasn't; the outputs, in the order of the words; the damages of the
--- file that are told; and those of the frames that aren't written.
+-- The content that is extracted: a line for each named item that the file lacks; the outputs, in the order of the command line; the damage of the
+-- file that is reported; and the frames that aren't written.
 pub record Taken : Type 0 where
   pub missing : List (List ℕ)
   pub outputs : List Output
@@ -61,7 +61,7 @@ pub record Taken : Type 0 where
 abbrev pub entries_of : FileRead → List Node
 entries_of file = map entry_in file.tracks
 
--- frames of tracks, or their times, are taken of a file that has these blocks and damages
+-- the frames of tracks, or their timestamps, for a file with the blocks and damage `events`
 abbrev pub frames_taken : List ℕ → Job → FileRead → List Event → Taken
 frames_taken name job file events = record {
   missing = missing_tracks name file (targets_of job);
@@ -70,48 +70,49 @@ frames_taken name job file events = record {
   bad_frames = bad_frames (job_outputs job (entries_of file)) (blocks_of events);
 }
 
--- something else than frames is taken of a file, and of its damages that of level 1 is told
+-- content other than frames; only damage at level 1 is reported
 abbrev pub taken_whole : FileRead → List (List ℕ) → List Output → Taken
 taken_whole file missing outputs = record { missing = missing; outputs = outputs; damages = option_to_list file.damage; bad_frames = [] }
 
--- attached files are taken of a content
+-- the attached files
 abbrev pub attached_taken : List ℕ → List Target → List ℕ → FileRead → Taken
 attached_taken name targets bytes file = taken_whole file (missing_attachments name file targets) (attached_outputs bytes targets file.attachments)
 
--- the cue points of tracks are taken of the first Cues
+-- the cue points of tracks in the first Cues
 abbrev pub cues_taken : List ℕ → List Target → FileRead → Taken
 cues_taken name targets file =
     taken_whole file (missing_tracks name file targets) (cues_outputs (scale_of_info file.info) file.cues targets (entries_of file))
 
--- the chapters of a file are taken
+-- the chapters
 abbrev pub chapters_taken : List ℕ → FileRead → Taken
 chapters_taken out file = taken_whole file [] (chapters_output out file.chapters ∷ [])
 
--- what a job takes of a content of which this was read, and that has these blocks and damages
+-- the content that a job extracts from a file with the blocks and damage `events`
 abbrev pub taken_by : List ℕ → Job → List ℕ → FileRead → List Event → Taken
 taken_by name (jobs.Chapters out) bytes file events = chapters_taken out file
 taken_by name (jobs.Attachments list) bytes file events = attached_taken name list bytes file
 taken_by name (jobs.Cues list) bytes file events = cues_taken name list file
 taken_by name job bytes file events = frames_taken name job file events
 
--- ---- why nothing is taken
+-- ---- refusals
 
--- a track that can't be taken so, for this reason
+-- the line of a track that can't be extracted in this form, for the reason `why`
 abbrev pub unfit_line : List ℕ → UnsupportedTrack → ℕ → List ℕ
 unfit_line name unfit.NoExtractor number = no_extractor_line name number
 unfit_line name unfit.BadConfig number = bad_config_line name number
 
--- a line for a track that is named and that can't be taken so, if there is one
+-- a line for a named track that can't be extracted in this form, if there is one
 abbrev pub unfit_track : List ℕ → Job → FileRead → Option (List ℕ)
 unfit_track name job file = option_map (λ (r : Refusal). unfit_line name r.why r.track) (job_refusal job (entries_of file))
 
--- what was read, or the line of the damage that refuses it
+-- the data that were read, or the line of the damage that refuses them
 abbrev pub or_line : {A : Type 0} → List ℕ → Result A Damage → Result A (List ℕ)
 or_line name (Ok x) = Ok x
 or_line name (Err d) = Err (refusal_line name d)
 
--- What a job takes of a name in a world of names, or the line of the first of these that stands: an output has the name of a file that is read;
--- the name has no content; an edit of it is pending; its content can't be read; a track that is named can't be taken so.
+-- The content that a job extracts from a name of `world`, or the line of its first refusal. The reasons are checked in this order: an output has
+-- the name of a file that is read; the name has no content; an edit of it is pending; its content can't be read; a named track can't be extracted
+-- in this form.
 abbrev pub taken_of : (List ℕ → Option (List ℕ)) → List ℕ → Job → Result Taken (List ℕ)
 taken_of world name job =
     and_then (unless (option_map output_is_input_line (first_written name job)) (world name)) (λ (content : Option (List ℕ)).
@@ -120,27 +121,28 @@ taken_of world name job =
     and_then (or_line name found) (λ (file : FileRead).
     unless (unfit_track name job file) (taken_by name job bytes file (file_events true bytes file.segment))))))
 
--- ---- the verdict
+-- ---- the result
 
--- a warning for each of the damages that are told one by one, and the number of the others
+-- a warning for each damaged place that is reported, and the number of the others
 abbrev pub told_lines : List ℕ → ToldDamages → List (List ℕ)
 told_lines name d = damage_lines name d.first d.more
 
--- a warning for each of the frames that aren't written, as far as they are told one by one, and the number of the others
+-- a warning for each frame that isn't written and is reported, and the number of the others
 abbrev pub told_bad : List ℕ → ToldDamages → List (List ℕ)
 told_bad name d = bad_frame_lines name d.first d.more
 
--- what is wrong with the file, and then with frames
+-- the warnings of the file, and then of its frames
 abbrev pub warned : List ℕ → Taken → List (List ℕ)
 warned name t = told_lines name (told_damages t.damages) ++ told_bad name (told_damages t.bad_frames)
 
--- all is done; a thing that isn't there and what is wrong with the file are warned of
+-- the status: done, or warned of a missing item or of damage
 abbrev pub status_of : Bool → List Damage → Status
 status_of false [] = Done
 status_of false (d ∷ ds) = Warned
 status_of true damages = Warned
 
--- What is taken is written. What isn't there is said before, and what is written and what is wrong behind.
+-- The result of an extraction. Lines for missing items are printed before the outputs are written, and the messages of outputs and the warnings
+-- after.
 abbrev pub done_verdict : List ℕ → Taken → Verdict
 done_verdict name t = record {
   status = status_of (is_some_of t.missing) (t.damages ++ t.bad_frames);
@@ -149,11 +151,11 @@ done_verdict name t = record {
   outputs = at_once t.outputs;
 }
 
--- what is taken is written, or a line says why nothing is
+-- the result of an extraction, or the line of its refusal
 abbrev pub verdict_of : List ℕ → Result Taken (List ℕ) → Verdict
 verdict_of name (Ok t) = done_verdict name t
 verdict_of name (Err line) = refused line
 
--- what `extract` comes to in a world of names
+-- the result of `extract` for a name of `world`
 abbrev pub extract_verdict : (List ℕ → Option (List ℕ)) → List ℕ → Job → Verdict
 extract_verdict world name job = verdict_of name (taken_of world name job)

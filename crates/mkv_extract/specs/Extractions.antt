@@ -1,4 +1,4 @@
--- What is asked of a file out of which a job takes what it asks for, and what the call comes to.
+-- The requirements of an extraction from a file, and the effect of the call.
 use Rattle.std.specs.Prelude.{ℕ, List, Result}
 use Rattle.mkv_io.specs.Names.{AreOthers}
 use Rattle.mkv_io.specs.Sources.{IsLive}
@@ -16,7 +16,7 @@ use Rattle.mkv_lines.specs.declared.status.Status.{Status}
 use Rattle.mkv_lines.specs.declared.status.CommandEnd.{CommandEnd}
 use Rattle.mkv_extract.specs.Extract.{extract_verdict}
 
--- A job has come to what `extract` comes to in the world of names, if that is told.
+-- The call has the result of `extract`, if the names are visible to the proof.
 abbrev pub Takes : {F P : Type 0} → ReadsGhosts F → FilesGhosts F → ReportGhosts P → F → F → P → P → Result Status CommandEnd → List ℕ → Job → Type 0
 Takes r f p files files' report report' result name job =
     IfVisible (f.names files) (λ world. Fulfils r f p files files' report report' result (extract_verdict world name job))
@@ -27,7 +27,8 @@ pub record CanTake {F : Type 0} (r : ReadsGhosts F) (f : FilesGhosts F) (files :
   pub live : IsLive r files file
   pub other : AreOthers (f.holder files file.n) (names_for job)
 
--- The job can be done, the source is live, the frames of the tracks that the job names can be used, and no output has the name of its file.
+-- The job can be done, the source is live, and the frames of the tracks that the job names can be used. No output has the name of the source's
+-- file.
 pub record CanTakeFrom {F : Type 0} (r : ReadsGhosts F) (f : FilesGhosts F) (files : F) (source : Source) (job : Job) : Type 0 where
   pub done : CanBeDone job
   pub sound : IsSource r files source

@@ -1,4 +1,4 @@
--- What is read of a file before its blocks, for a job that takes something of it: RFC 9559, section 5.1 (Segment Element).
+-- The data of a file up to its blocks that a job needs: RFC 9559, section 5.1 (Segment Element).
 use Rattle.std.specs.Prelude.{◌≡◌, ⊤, ℕ, ◌+◌, ◌==◌, Bool, true, if◌then◌else◌, List, [], ◌∷◌, ◌++◌, map, Option, None, Result, Ok, Err}
 use Rattle.std.specs.List.{list_any}
 use Rattle.mkv_io.specs.declared.damage.Damage.{Damage}
@@ -22,15 +22,15 @@ use Rattle.extractors.specs.Job.{targets_of}
 use Rattle.extractors.specs.Source.{events_in}
 use Rattle.extractors.specs.declared.source.Source.{Source}
 
--- a target names the track of this number, from 0
+-- A target names track `k`, counted from 0.
 abbrev pub is_named : List Target → ℕ → Bool
 is_named targets k = list_any (λ (t : Target). t.id == k) targets
 
--- what keeps the frames of a track of this number from being used, if a target names it
+-- the reasons why the frames of track `k` can't be used, if a target names it
 abbrev pub causes_of : List Target → ℕ → Track → List (Option Damage)
 causes_of targets k t = if is_named targets k then usable_causes t.entry else []
 
--- the same of tracks, in their order, of which the first has the number k
+-- the same for tracks in their order, numbered from `k`
 abbrev pub causes_from : List Target → ℕ → List Track → List (Option Damage)
 causes_from targets k [] = []
 causes_from targets k (t ∷ ts) = causes_of targets k t ++ causes_from targets (k + 1) ts
@@ -38,7 +38,7 @@ causes_from targets k (t ∷ ts) = causes_of targets k t ++ causes_from targets 
 abbrev pub first_unusable : List Target → List Track → Option Damage
 first_unusable targets tracks = first_damage (causes_from targets 0 tracks)
 
--- the Segment of a file, the damage that ends its level 1, and what is taken of its records
+-- the Segment of a file, the damage that ends its level 1, and the records that a job needs
 pub record FileRead : Type 0 where
   pub segment : Header
   pub damage : Option Damage
@@ -48,7 +48,7 @@ pub record FileRead : Type 0 where
   pub chapters : Option Node
   pub cues : Option Node
 
--- what is read of a source
+-- the data of a source
 abbrev pub read_in : Source → FileRead
 read_in s = record {
   segment = s.outline.segment;
@@ -60,18 +60,17 @@ read_in s = record {
   cues = s.cues;
 }
 
--- the same of a file with this Segment, this damage of level 1, these records and this Cues
+-- the data of a file with this Segment, damage of level 1, records and Cues
 abbrev pub read_with : Header → Option Damage → FileRecords → Option Node → FileRead
 read_with segment damage r cues =
     record { segment = segment; damage = damage; info = r.info; tracks = r.tracks; attachments = r.attachments; chapters = r.chapters; cues = cues }
 
--- the first Cues, for a job that takes it
+-- the first Cues, for a job that extracts it
 abbrev pub cues_for : Job → List ℕ → Header → Result (Option Node) Damage
 cues_for (jobs.Cues list) bytes segment = first_cues bytes segment
 cues_for job bytes segment = Ok None
 
--- what is read of a content, or the first thing that refuses it: its outline, its records, its Cues, and then the tracks
--- that are named
+-- the data of a content, or its first refusal: for its outline, its records, its Cues, and then the named tracks
 abbrev pub read_of : Job → List ℕ → Result FileRead Damage
 read_of job bytes =
     and_then (outline_of 0 bytes) (λ (o : Outlined).
@@ -79,17 +78,17 @@ read_of job bytes =
     and_then (cues_for job bytes o.segment) (λ (cues : Option Node).
     unless (first_unusable (targets_of job) r.tracks) (read_with o.segment o.damage r cues))))
 
--- A source was read so, or what refuses the file; a read may fail, and there may be no memory.
+-- The result is the source or the file's refusal; or a read failed, or memory ran out.
 abbrev pub ReadsSource : Result FileRead Damage → Result Source OutlineEnd → Type 0
 ReadsSource found (Ok s) = found ≡ Ok (read_in s)
 ReadsSource found (Err (outline_end.Refused d)) = found ≡ Err d
 ReadsSource found (Err outline_end.ReadFault) = ⊤
 ReadsSource found (Err outline_end.Memory) = ⊤
 
--- The first Cues was read so, where this is the outline of the content.
+-- The first Cues was read, if `outline` is the outline of the content.
 abbrev pub ReadsCues : Job → FileOutline → Result (Option Node) OutlineEnd → List ℕ → Type 0
 ReadsCues job outline result bytes = (held : ℕ) → outline_in held bytes ≡ Ok outline → ReadsAs (cues_for job bytes outline.segment) result
 
--- Its ticks have as many nanoseconds as those of the file's own blocks and damages.
+-- The source's events are the file's own blocks and damage, with the same tick.
 abbrev pub HasOwnEvents : Source → List ℕ → Type 0
 HasOwnEvents source bytes = events_in source bytes ≡ file_events true bytes source.outline.segment

@@ -1,5 +1,5 @@
--- What is left to be taken, as the calls come to it one inside the other; and what each of these calls comes to.
--- No verdict stands on this module: each word is an end of `taken_of`.
+-- The part of `taken_of` that is left for each inner call, and the effects of the calls. No result depends on this module: each definition is an
+-- end of `taken_of`.
 use Rattle.std.specs.Prelude.{ℕ, Bool, true, if◌then◌else◌, List, Some, None, Result}
 use Rattle.mkv_io.specs.Results.{and_then, unless}
 use Rattle.mkv_io.specs.Sources.{IfTold}
@@ -23,57 +23,57 @@ use Rattle.mkv_extract.specs.Extract.{Taken, attached_taken, done_verdict, frame
 use Rattle.mkv_extract.specs.Read.{FileRead, read_in, read_of}
 use Rattle.requests.specs.declared.job.Target.{Target}
 
--- of a content of which this was read: unless a track can't be taken so
+-- the content for data that were read, unless a track can't be extracted in this form
 abbrev pub fit_taken : List ℕ → Job → List ℕ → FileRead → List Event → Result Taken (List ℕ)
 fit_taken name job bytes file events = unless (unfit_track name job file) (taken_by name job bytes file events)
 
--- of a content of which this was found
+-- the content for data that were found
 abbrev pub found_taken : List ℕ → Job → List ℕ → Result FileRead Damage → Result Taken (List ℕ)
 found_taken name job bytes found =
     and_then (or_line name found) (λ (file : FileRead). fit_taken name job bytes file (file_events true bytes file.segment))
 
--- of a content that isn't read yet
+-- the content for a file that isn't read yet
 abbrev pub file_taken : List ℕ → Job → List ℕ → Result Taken (List ℕ)
 file_taken name job bytes = found_taken name job bytes (read_of job bytes)
 
--- of a content of which an edit may be pending
+-- the content for a file that may have a pending edit
 abbrev pub settled_taken : List ℕ → Job → Bool → List ℕ → Result Taken (List ℕ)
 settled_taken name job pending bytes =
     and_then (unless (if pending then Some (pending_edit_line name) else None) (read_of job bytes)) (found_taken name job bytes)
 
--- ---- what the calls come to
+-- ---- the effects of the calls
 
--- A call has come to what is taken of the content of a live file, where that is told.
+-- The call has the result of `taken` for the content of a live file, if the content is visible to the proof.
 abbrev pub ComesToTaken : {F P : Type 0} → ReadsGhosts F → FilesGhosts F → ReportGhosts P → FileId → F → F → P → P → Result Status CommandEnd → List ℕ → (List ℕ → Result Taken (List ℕ)) → Type 0
 ComesToTaken r f p file files files' report report' result name taken =
     IfTold r files file (λ bytes. Fulfils r f p files files' report report' result (verdict_of name (taken bytes)))
 
--- A job has taken what it asks for of a file whose name may have an edit that is pending.
+-- A job extracted from a file that may have a pending edit.
 abbrev pub TakesSettled : {F P : Type 0} → ReadsGhosts F → FilesGhosts F → ReportGhosts P → FileId → F → F → P → P → Result Status CommandEnd → List ℕ → Job → Type 0
 TakesSettled r f p file files files' report report' result name job =
     IfVisible (f.names files) (λ world. ComesToTaken r f p file files files' report report' result name (settled_taken name job (is_pending world name)))
 
--- A job has taken what it asks for of a file.
+-- A job extracted from a file.
 abbrev pub TakesFile : {F P : Type 0} → ReadsGhosts F → FilesGhosts F → ReportGhosts P → FileId → F → F → P → P → Result Status CommandEnd → List ℕ → Job → Type 0
 TakesFile r f p file files files' report report' result name job = ComesToTaken r f p file files files' report report' result name (file_taken name job)
 
--- A job has taken what it asks for of a source, unless a track can't be taken so.
+-- A job extracted from a source, unless a track can't be extracted in this form.
 abbrev pub TakesSource : {F P : Type 0} → ReadsGhosts F → FilesGhosts F → ReportGhosts P → Source → F → F → P → P → Result Status CommandEnd → List ℕ → Job → Type 0
 TakesSource r f p source files files' report report' result name job =
     ComesToTaken r f p source.file files files' report report' result name (λ bytes. fit_taken name job bytes (read_in source) (events_in source bytes))
 
--- A job has taken frames of a source, unless a track can't be taken so.
+-- A job extracted frames of a source, unless a track can't be extracted in this form.
 abbrev pub TakesFrames : {F P : Type 0} → ReadsGhosts F → FilesGhosts F → ReportGhosts P → Source → F → F → P → P → Result Status CommandEnd → List ℕ → Job → Type 0
 TakesFrames r f p source files files' report report' result name job =
     ComesToTaken r f p source.file files files' report report' result name (λ bytes.
     unless (unfit_track name job (read_in source)) (frames_taken name job (read_in source) (events_in source bytes)))
 
--- A job has taken frames of a source whose tracks can all be taken so.
+-- A job extracted frames of a source whose tracks can all be extracted in this form.
 abbrev pub TakesFit : {F P : Type 0} → ReadsGhosts F → FilesGhosts F → ReportGhosts P → Source → F → F → P → P → Result Status CommandEnd → List ℕ → Job → Type 0
 TakesFit r f p source files files' report report' result name job = IfTold r files source.file (λ bytes.
     Fulfils r f p files files' report report' result (done_verdict name (frames_taken name job (read_in source) (events_in source bytes))))
 
--- Attached files were taken of a source.
+-- Attached files were extracted from a source.
 abbrev pub TakesAttached : {F P : Type 0} → ReadsGhosts F → FilesGhosts F → ReportGhosts P → Source → F → F → P → P → Result Status CommandEnd → List ℕ → List Target → Type 0
 TakesAttached r f p source files files' report report' result name targets = IfTold r files source.file (λ bytes.
     Fulfils r f p files files' report report' result (done_verdict name (attached_taken name targets bytes (read_in source))))

@@ -1,4 +1,4 @@
-//! Attached files are taken out of a file.
+//! Extraction of attached files.
 
 ghost use Rattle.std.specs.Prelude.{◌*◌, ◌≤◌, [], length, All};
 ghost use Rattle.mkv_io.specs.Asked.{AsksOnly};
@@ -17,7 +17,7 @@ use mkv_lines::{CommandEnd, Status, stop_of};
 use requests::Target;
 use std::alloc::Global;
 
-/// Takes attached files out of a source, each into a file of its own, and tells of it. They are numbered from 1.
+/// Extracts attached files of a source, each to its own file, and prints the result. They are numbered from 1.
 pub fn extract_attachments<F: Files, P: Report>(
     alloc: Global,
     name: &str,

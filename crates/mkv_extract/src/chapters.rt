@@ -1,4 +1,4 @@
-//! The chapters of a file are taken out.
+//! Extraction of the chapters of a file.
 
 ghost use Rattle.std.specs.Prelude.{◌≡◌, ◌≤◌, [], ◌∷◌, false, option_to_list, IfOk, IfSome};
 ghost use Rattle.mkv_io.specs.Asked.{AsksOnly};
@@ -18,7 +18,7 @@ use mkv_io::{Damage, Files, Report};
 use mkv_lines::{CommandEnd, Line, Status, say, stop_of};
 use std::alloc::Global;
 
-/// Takes the chapters of a source out as text, into a file of their own, and tells of it.
+/// Extracts the chapters of a source as text to the file `out`, and prints the result.
 pub fn extract_chapters<F: Files, P: Report>(
     alloc: Global,
     name: &str,
@@ -40,7 +40,7 @@ pub fn extract_chapters<F: Files, P: Report>(
     tell_output(alloc, name, out, source.outline.damage(), report)
 }
 
-/// Tells of an output that stands whole, and warns of the damage of level 1.
+/// Prints the message of a complete output, and warns of damage at level 1.
 fn tell_output<P: Report>(
     alloc: Global,
     name: &str,

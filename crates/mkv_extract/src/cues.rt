@@ -1,4 +1,4 @@
-//! Cue points are taken out of a file.
+//! Extraction of cue points.
 
 ghost use Rattle.std.specs.Prelude.{◌≤◌, []};
 ghost use Rattle.mkv_io.specs.Asked.{AsksOnly};
@@ -15,7 +15,7 @@ use mkv_lines::{CommandEnd, Status, stop_of};
 use requests::Target;
 use std::alloc::Global;
 
-/// Takes the cue points of tracks out of a source, each track's into a file of its own, and tells of it.
+/// Extracts the cue points of each target track to its own file, and prints the result.
 pub fn extract_cues<F: Files, P: Report>(
     alloc: Global,
     name: &str,

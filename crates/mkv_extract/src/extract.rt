@@ -1,4 +1,4 @@
-//! A file is opened, its tracks are taken out, and it is closed.
+//! Opening of a file, extraction from it, and closing.
 
 ghost use Rattle.std.specs.Prelude.{◌≡◌, ◌*◌, [], ◌∷◌, None, IsSome};
 ghost use Rattle.mkv_io.specs.Asked.{AsksOnly};
@@ -27,7 +27,7 @@ use requests::Job;
 use sidecar_edit::is_pending;
 use std::alloc::{AllocError, Global};
 
-/// Takes what a job asks for out of the file of a name, each target into a file of its own. No two of them have one name.
+/// Extracts what `job` asks for from the file `name`, each target to its own file. No two of them have the same name.
 pub fn extract_of<F: Files, P: Report>(
     alloc: Global,
     name: &str,
@@ -60,8 +60,7 @@ pub fn extract_of<F: Files, P: Report>(
     ended
 }
 
-/// Takes what a job asks for out of a live file, unless an edit of the file of this name is pending, or something else
-/// refuses it.
+/// Extracts what `job` asks for from a live file, unless it has a pending edit or is refused for another reason.
 fn extract_settled<F: Files, P: Report>(
     alloc: Global,
     name: &str,
@@ -82,7 +81,7 @@ fn extract_settled<F: Files, P: Report>(
     extract_file(alloc, name, job, files, file, report)
 }
 
-/// Takes what a job asks for out of a live file, unless something refuses it.
+/// Extracts what `job` asks for from a live file, unless the file is refused.
 fn extract_file<F: Files, P: Report>(
     alloc: Global,
     name: &str,
@@ -107,7 +106,7 @@ fn extract_file<F: Files, P: Report>(
     }
 }
 
-/// Takes what a job asks for out of a source.
+/// Extracts what `job` asks for from a source.
 fn extract_job<F: Files, P: Report>(
     alloc: Global,
     name: &str,
@@ -139,7 +138,7 @@ fn extract_job<F: Files, P: Report>(
     }
 }
 
-/// Takes what a job asks for out of a source, unless a track that it names can't be taken so.
+/// Extracts what `job` asks for from a source, unless a track that it names can't be extracted in this form.
 fn extract_fit<F: Files, P: Report>(
     alloc: Global,
     name: &str,
@@ -162,7 +161,7 @@ fn extract_fit<F: Files, P: Report>(
     }
 }
 
-/// The line of a track that isn't taken.
+/// Returns the message for a track that isn't extracted.
 fn line_of(name: &str, refusal: Refusal) -> Line<'_>
     ensures { text_of result ≡ unfit_line name.now refusal.why refusal.track }
 {
@@ -173,7 +172,7 @@ fn line_of(name: &str, refusal: Refusal) -> Line<'_>
     }
 }
 
-/// Takes what a job asks for out of a source, and tells of it.
+/// Extracts the tracks of `job` from a source, and prints the result.
 fn extract_source<F: Files, P: Report>(
     alloc: Global,
     name: &str,

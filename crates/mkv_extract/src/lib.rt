@@ -1,7 +1,7 @@
 #![tactic(auto)]
 
-//! The command `extract`, which takes frames of tracks, their times, cue points, the chapters or attached files out of a
-//! file.
+//! The command `extract`, which extracts frames of tracks, their timestamps, cue points, chapters or attached files
+//! from a file.
 
 mod attachments;
 mod chapters;

@@ -1,4 +1,4 @@
-//! The names of the outputs of an extraction, and those of the files that it reads.
+//! Names of the outputs of an extraction, and of the files that it reads.
 
 ghost use Rattle.std.specs.Prelude.{◌≡◌, IfOk};
 ghost use Rattle.std.specs.List.{find};
@@ -13,14 +13,14 @@ use requests::{Job, Target};
 use sidecar_edit::sidecar_name;
 use std::alloc::{AllocError, Global};
 
-/// Whether an output has the name of the file, or that of its sidecar.
+/// Checks whether an output has the name of the file or of its journal.
 fn is_read(name: &str, sidecar: &str, out: &str) -> bool
     ensures { result ≡ is_either name.now sidecar.now out.now }
 {
     out == name || out == sidecar
 }
 
-/// The first of these targets whose output has one of these names.
+/// Returns the first target whose output has the name `name` or `sidecar`.
 fn target_among<'a>(name: &str, sidecar: &str, targets: &'a [Target]) -> Option<&'a Target>
     ensures { option_copied result ≡ find (λ (t : TargetSeen). is_either name.now sidecar.now t.name) targets.now }
 {
@@ -29,7 +29,7 @@ fn target_among<'a>(name: &str, sidecar: &str, targets: &'a [Target]) -> Option<
         .find(|target| is_read(name, sidecar, target.name.as_str()))
 }
 
-/// The name of the first of these targets that is that of a file which is read.
+/// Returns the name of the first target that is also the name of a file that is read.
 fn written_among<'a>(name: &str, sidecar: &str, targets: &'a [Target]) -> Option<&'a Text>
     requires { sidecar.now ≡ sidecar_of name.now }
     ensures { option_copied result ≡ find (is_read name.now) (names_of targets.now) }
@@ -40,7 +40,7 @@ fn written_among<'a>(name: &str, sidecar: &str, targets: &'a [Target]) -> Option
     }
 }
 
-/// The name of the first output that is that of a file which is read.
+/// Returns the name of the first output that is also the name of a file that is read.
 pub fn first_written<'a>(
     alloc: Global,
     name: &str,

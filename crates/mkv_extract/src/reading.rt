@@ -1,4 +1,4 @@
-//! What is read of a file before its blocks.
+//! Reader of a file up to its blocks.
 
 ghost use Rattle.std.specs.Prelude.{◌≡◌, IfOk, IfSome};
 ghost use Rattle.mkv_io.specs.Faults.{HasCause};
@@ -24,8 +24,8 @@ use requests::{Job, Target};
 use std::alloc::Global;
 use track_records::{Track, usable};
 
-/// What is read of a live file before its blocks, or the first thing that refuses it: its outline, its records, for a job
-/// that takes it its first Cues, and then the tracks that the job names, in their order.
+/// Reads a live file up to its blocks, or returns its first refusal: for its outline, its records, its first Cues if
+/// the job extracts it, and then the tracks that the job names, in their order.
 pub fn read_source<R: Reads>(
     alloc: Global,
     job: &Job,
@@ -38,7 +38,7 @@ pub fn read_source<R: Reads>(
     ensures usable { IfOk result (λ source. AreUsable source (targets_of job.now)) }
     ensures file { IfOk result (λ source. source.file ≡ file) }
 
-    // A tick has as many nanoseconds as in the file's own blocks and damages.
+    // The tick is the one of the file's own blocks and damage.
     ensures events { IfOk result (λ source. IfTold R.Reads src.old file (HasOwnEvents source)) }
     ensures reads { ReadsAtMost R.Reads src.old src.new (most_before job.now (file_size R.Reads src.old file)) }
     ensures cause { HasCause is_outline_fault (R.reading_faults src.old) (R.reading_faults src.new) result }
@@ -60,7 +60,7 @@ pub fn read_source<R: Reads>(
     })
 }
 
-/// The first Cues, for a job that takes it, or what is wrong with it.
+/// Reads the first Cues, for a job that extracts it, or returns its damage.
 fn cues_for<R: Reads>(
     alloc: Global,
     job: &Job,
@@ -82,14 +82,14 @@ fn cues_for<R: Reads>(
     }
 }
 
-/// Whether a target names the track of this number, from 0.
+/// Checks whether a target names track `k`, counted from 0.
 pub fn is_named(targets: &[Target], k: u64) -> bool
     ensures { result ≡ is_named targets.now k }
 {
     targets.iter().any(|target| target.id == k)
 }
 
-/// What keeps the frames of a named track from being used: of the first such track.
+/// Returns the reason why the frames of a named track can't be used, for the first such track.
 fn first_unusable(targets: &[Target], tracks: &[Track]) -> Option<Damage>
     requires { AreRead tracks.now }
     ensures { result ≡ first_unusable targets.now tracks.now }
@@ -102,7 +102,7 @@ fn first_unusable(targets: &[Target], tracks: &[Track]) -> Option<Damage>
     None
 }
 
-/// What keeps the frames of the k-th track from being used, if a target names it.
+/// Returns the reason why the frames of track `k` can't be used, if a target names it.
 fn cause_of(targets: &[Target], k: u64, track: &Track) -> Option<Damage>
     requires { IsEntry track.now.entry }
     ensures { result ≡ first_damage (causes_of targets.now k track.now) }

@@ -1,4 +1,4 @@
-//! What is told of an extraction.
+//! Messages of an extraction.
 
 ghost use Rattle.std.specs.Prelude.{◌≡◌, false, ◌&&◌, not, nat_le, nat_lt, length, option_to_list, ◌∷◌, [], List, Ok, IfOk};
 ghost use Rattle.mkv_io.specs.declared.damage.Damage.{Damage};
@@ -19,23 +19,23 @@ use mkv_lines::{CommandEnd, Line, Status, say};
 use requests::Target;
 use std::alloc::Global;
 
-/// What a file may not have of what targets name.
+/// Kind of item that targets name and a file may lack.
 #[derive(Clone, Copy)]
 pub enum Missing {
     Track,
     Attachment,
 }
 
-/// What is warned of in a list.
+/// Kind of warnings in a list.
 #[derive(Clone, Copy)]
 pub enum WarningKind {
-    /// The damages of the file.
+    /// Damaged places of the file.
     File,
-    /// The frames that aren't written.
+    /// Frames that aren't written.
     Frames,
 }
 
-/// Warns of the numbers from `count` on that targets name, of each once: the file hasn't what they stand for.
+/// Warns of the numbers from `count` on that targets name, each once: the file lacks these items.
 pub fn say_absent<P: Report>(
     alloc: Global,
     missing: Missing,
@@ -57,7 +57,7 @@ pub fn say_absent<P: Report>(
     Ok(())
 }
 
-/// Warns of a number that the file hasn't.
+/// Warns of a number that the file lacks.
 fn say_missing<P: Report>(
     alloc: Global,
     missing: Missing,
@@ -74,14 +74,15 @@ fn say_missing<P: Report>(
     }
 }
 
-/// Whether a number is told that stands behind these targets: it isn't below `count`, and none of them names it.
+/// Checks whether a number is reported after the targets `before`: it isn't below `count`, and no target before names
+/// it.
 fn is_told(before: &[Target], number: u64, count: u64) -> bool
     ensures { result ≡ (nat_le count number && not (is_named before.now number)) }
 {
     number >= count && !is_named(before, number)
 }
 
-/// Tells of the outputs, which stand whole, and warns of what is wrong.
+/// Prints the messages of the complete outputs, and warns of problems.
 pub fn tell<P: Report>(
     alloc: Global,
     name: &str,
@@ -100,7 +101,7 @@ pub fn tell<P: Report>(
     Ok(status_of(targets, count, extracted))
 }
 
-/// Warns of what is wrong with the file, and then of the frames that aren't written.
+/// Warns of damage of the file, and then of the frames that aren't written.
 fn warn_all<P: Report>(
     alloc: Global,
     name: &str,
@@ -120,7 +121,7 @@ fn warn_all<P: Report>(
     )
 }
 
-/// A line for each output: of the targets whose numbers are below `count`.
+/// Prints a line for each output, that is, for each target with a number below `count`.
 pub fn say_wrote<P: Report>(
     alloc: Global,
     targets: &[Target],
@@ -140,7 +141,7 @@ pub fn say_wrote<P: Report>(
     Ok(())
 }
 
-/// A warning for each of the first damages, and the number of the others.
+/// Prints a warning for each of the first damaged places, and the number of the others.
 fn warn<P: Report>(
     alloc: Global,
     what: WarningKind,
@@ -162,7 +163,7 @@ fn warn<P: Report>(
     Ok(())
 }
 
-/// The number of the others.
+/// Prints the number of the others.
 fn say_more<P: Report>(
     alloc: Global,
     what: WarningKind,
@@ -179,7 +180,7 @@ fn say_more<P: Report>(
     }
 }
 
-/// Tells of the outputs of targets, which stand whole, and warns of the damage of level 1.
+/// Prints the messages of the complete outputs of targets, and warns of damage at level 1.
 pub fn tell_held<P: Report>(
     alloc: Global,
     name: &str,
@@ -202,7 +203,7 @@ pub fn tell_held<P: Report>(
     }
 }
 
-/// Warns of the damage of level 1, if there is one.
+/// Warns of damage at level 1, if there is any.
 pub fn warn_outline<P: Report>(
     alloc: Global,
     name: &str,
@@ -221,7 +222,7 @@ pub fn warn_outline<P: Report>(
     Ok(Status::Warned)
 }
 
-/// Warns of a damage.
+/// Prints a warning of a damaged place.
 fn warn_of<P: Report>(
     alloc: Global,
     name: &str,
@@ -235,7 +236,7 @@ fn warn_of<P: Report>(
     say(alloc, report, &Line::Warned { name, damage })
 }
 
-/// Whether something is warned of: a track that isn't there, a damage, or a frame that isn't written.
+/// Returns the status: a warning is printed for a missing track, for damage, or for a frame that isn't written.
 fn status_of(targets: &[Target], count: u64, extracted: &Extracted) -> Status
     ensures value { HasStatusOf extracted.now (has_absent count targets.now) (Ok result) }
     ensures ordinary { IsOrdinary result }
@@ -252,14 +253,14 @@ fn status_of(targets: &[Target], count: u64, extracted: &Extracted) -> Status
     Status::Done
 }
 
-/// Whether there is one in a list that is told.
+/// Checks whether a list that is reported isn't empty.
 fn is_any(told: &Damages) -> bool
     ensures { (list : List Damage) → told.now ≡ told_damages list → result ≡ nat_lt 0 (length list) }
 {
     !told.first().is_empty()
 }
 
-/// Whether a target names a number from `count` on.
+/// Checks whether a target names a number from `count` on.
 pub fn has_absent(targets: &[Target], count: u64) -> bool
     ensures { result ≡ has_absent count targets.now }
 {

@@ -6,7 +6,7 @@ use Rattle.mkv_extract.specs.Read.{read_in}
 use Rattle.mkv_extract.proofs.ExtractLemmas.{reaches-whole}
 use Rattle.mkv_extract.proofs.chapters.extract_chapters.Goals as goal
 
--- the output stands whole
+-- The output is complete.
 pub returns-clause-verdict : goal.returns-clause-verdict
 returns-clause-verdict g c =
     let lines = g.P.Report.lines c.args.report.now in
@@ -14,7 +14,7 @@ returns-clause-verdict g c =
     lines c.tell_output.result c.args.name.now (read_in c.args.source.now) [] (chapters_output c.args.out.now c.args.source.now.chapters ∷ []) c.damage.result
     c.damage.ensures (sym (with_lines-none lines)) c.tell_output.ensures.said c.tell_output.ensures.status c.in_default.ensures.writes
 
--- only outputs were made
+-- Only outputs were created.
 pub returns-in-Err-clause-asks : goal.returns-in-Err-clause-asks
 returns-in-Err-clause-asks g c = c.write_chapters.ensures.kept.asks
 

@@ -17,7 +17,7 @@ use Rattle.mkv_extract.specs.Steps.{file_taken, fit_taken, found_taken}
 use Rattle.mkv_extract.specs.Read.{FileRead, read_in}
 use Rattle.mkv_extract.proofs.extract.extract_file.Goals as goal
 
--- the file couldn't be read
+-- The file couldn't be read.
 pub returns-in-Err-ReadFault-clause-verdict : goal.returns-in-Err-ReadFault-clause-verdict
 returns-in-Err-ReadFault-clause-verdict g c = λ bytes told.
     IsStopped-before (seen_in g.F.Reads g.F.Files g.P.Report c.args.files.now c.args.report.now)
@@ -30,7 +30,7 @@ returns-in-Err-Memory-clause-verdict g c = λ bytes told.
     (seen_in g.F.Reads g.F.Files g.P.Report c.read_source.new.src c.args.report.now)
     (verdict_of c.args.name.now (file_taken c.args.name.now c.args.job.now bytes)) refl (g.met.F.Files.names_stand c.read_source.new.src c.args.files.now c.in-Err-Memory.ensures.reads.standing)
 
--- reading leaves all as it was
+-- Reading changes nothing.
 pub returns-in-Ok-clause-verdict : goal.returns-in-Ok-clause-verdict
 returns-in-Ok-clause-verdict g c = λ bytes told.
     let name = c.args.name.now in
@@ -72,7 +72,7 @@ returns-in-Ok-clause-ended g c =
       cause = subst (λ (counts : Counts). HasStopCause counts after c.extract_job.result) same c.extract_job.ensures.ended.cause;
     }
 
--- reading asks for nothing
+-- Reading opens and creates nothing.
 pub returns-in-Err-Refused-clause-asks : goal.returns-in-Err-Refused-clause-asks
 returns-in-Err-Refused-clause-asks g c =
     asks-none (IsNotAmong [] (names_for c.args.job.now)) (g.F.Files.asked c.args.files.now) (g.F.Files.asked c.read_source.new.src)

@@ -8,7 +8,7 @@ use Rattle.mkv_extract.specs.Read.{read_in}
 use Rattle.mkv_extract.proofs.ExtractLemmas.{frames-taken, taken-job}
 use Rattle.mkv_extract.proofs.extract.extract_job.Goals as goal
 
--- it takes something of tracks
+-- The job extracts from tracks.
 pub extract_fit-requires-clause-takes : goal.extract_fit-requires-clause-takes
 extract_fit-requires-clause-takes g c = taken-job c.args.job.now _ _ c.in-Tracks.is
 
@@ -21,7 +21,7 @@ returns-in-Tracks-clause-verdict g c = λ bytes is.
     (frames-taken name c.args.job.now _ _ bytes file (events_in c.args.source.now bytes) c.in-Tracks.is)
     (c.extract_fit.ensures.verdict bytes is)
 
--- the outputs have the names of the job
+-- The outputs have the names of the job.
 pub returns-in-Chapters-clause-asks : goal.returns-in-Chapters-clause-asks
 returns-in-Chapters-clause-asks g c = rw (c.in-Chapters.is, ← c.as_str.ensures.same) c.extract_chapters.ensures.asks
 

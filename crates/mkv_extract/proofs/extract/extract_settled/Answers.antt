@@ -11,7 +11,7 @@ use Rattle.mkv_extract.specs.Steps.{settled_taken}
 use Rattle.mkv_extract.proofs.ExtractLemmas.{asks-settled}
 use Rattle.mkv_extract.proofs.extract.extract_settled.Goals as goal
 
--- the sidecar couldn't be looked into
+-- The journal couldn't be read.
 pub returns-in_err-is_pending-clause-verdict : goal.returns-in_err-is_pending-clause-verdict
 returns-in_err-is_pending-clause-verdict g c = λ world told bytes is.
     let p = err_from_is_err_and c.from_residual.result c.from_residual.ensures.1 in
@@ -23,7 +23,7 @@ returns-in_err-is_pending-clause-verdict g c = λ world told bytes is.
     (verdict_of name (settled_taken name job (is_pending world name) bytes))
     refl c.is_pending.ensures.looks.names)
 
--- only the sidecar was opened
+-- Only the journal was opened.
 pub returns-in_err-is_pending-clause-asks : goal.returns-in_err-is_pending-clause-asks
 returns-in_err-is_pending-clause-asks g c =
     asks-more (sidecar_of c.args.name.now ∷ []) [] (sidecar_of c.args.name.now ∷ []) (names_for c.args.job.now) (g.F.Files.asked c.args.files.now) (g.F.Files.asked c.is_pending.new.files) (λ other others. others) (λ other others. tt) c.is_pending.ensures.looks.kept.asks
@@ -32,7 +32,7 @@ pub returns-then-branch-clause-asks : goal.returns-then-branch-clause-asks
 returns-then-branch-clause-asks g c =
     asks-more (sidecar_of c.args.name.now ∷ []) [] (sidecar_of c.args.name.now ∷ []) (names_for c.args.job.now) (g.F.Files.asked c.args.files.now) (g.F.Files.asked c.is_pending.new.files) (λ other others. others) (λ other others. tt) c.is_pending.ensures.looks.kept.asks
 
--- and then the outputs were made
+-- Then the outputs were created.
 pub returns-clause-asks : goal.returns-clause-asks
 returns-clause-asks g c =
     asks-settled c.args.name.now (names_for c.args.job.now) (g.F.Files.asked c.args.files.now) (g.F.Files.asked c.is_pending.new.files) (g.F.Files.asked c.extract_file.new.files) c.is_pending.ensures.looks.kept.asks c.extract_file.ensures.asks

@@ -11,7 +11,7 @@ use Rattle.mkv_extract.specs.Told.{wrong_lines}
 use Rattle.mkv_extract.proofs.ExtractLemmas.{asks-taken, begun, frames-told, names-job, stopped, told}
 use Rattle.mkv_extract.proofs.extract.extract_source.Goals as goal
 
--- the outputs have the names of the targets
+-- The outputs have the names of the targets.
 pub extract-requires-clause-apart : goal.extract-requires-clause-apart
 extract-requires-clause-apart g c = subst AreApart (names-job c.args.job.now c.requires.takes) c.requires.can.done.apart
 
@@ -19,7 +19,7 @@ pub extract-requires-clause-other : goal.extract-requires-clause-other
 extract-requires-clause-other g c =
     subst (AreOthers (g.F.Files.holder c.args.files.now c.args.source.now.file.n)) (names-job c.args.job.now c.requires.takes) c.requires.can.other
 
--- a warning of a track that isn't there couldn't be said
+-- A warning of a missing track couldn't be printed.
 pub returns-in_err-say_absent-clause-verdict : goal.returns-in_err-say_absent-clause-verdict
 returns-in_err-say_absent-clause-verdict g c = λ bytes is.
     let p = err_from_is_err_and c.from_residual.result c.from_residual.ensures.1 in
@@ -28,14 +28,14 @@ returns-in_err-say_absent-clause-verdict g c = λ bytes is.
     c.requires.takes c.requires.fit c.len-count.ensures c.targets_of-targets.ensures)
     (seen_in g.F.Reads g.F.Files g.P.Report c.args.files.now c.args.report.now) (seen_in g.F.Reads g.F.Files g.P.Report c.args.files.now c.say_absent.new.report) p.0 c.in_err-say_absent.ensures.said refl)
 
--- an output wasn't written
+-- An output wasn't written.
 pub returns-in-Err-clause-verdict : goal.returns-in-Err-clause-verdict
 returns-in-Err-clause-verdict g c = λ bytes is.
     stopped (frames-told c.args.name.now c.args.job.now (read_in c.args.source.now) (events_in c.args.source.now bytes) c.len-count.result c.targets_of-targets.result.now
     c.requires.takes c.requires.fit c.len-count.ensures c.targets_of-targets.ensures)
     (seen_in g.F.Reads g.F.Files g.P.Report c.args.files.now c.args.report.now) (seen_in g.F.Reads g.F.Files g.P.Report c.extract.new.files c.say_absent.new.report) c.stop_of.result c.in_ok-say_absent.ensures.said (c.in-Err.ensures.writes bytes is)
 
--- the outputs stand whole
+-- The outputs are complete.
 pub returns-clause-verdict : goal.returns-clause-verdict
 returns-clause-verdict g c = λ bytes is.
     let events = events_in c.args.source.now bytes in
@@ -48,7 +48,7 @@ returns-clause-verdict g c = λ bytes is.
     (c.tell.ensures.status (damages_of events) (bad_frames list (blocks_of events)) (ap (λ (e : Extracted). e.damages) tells) (ap (λ (e : Extracted). e.bad_frames) tells))
     (c.in-Ok.ensures.writes bytes is)
 
--- only outputs were made
+-- Only outputs were created.
 pub returns-in-Err-clause-asks : goal.returns-in-Err-clause-asks
 returns-in-Err-clause-asks g c =
     asks-taken c.args.job.now (entries_in c.args.source.now) (g.F.Files.asked c.args.files.now) (g.F.Files.asked c.extract.new.files) c.extract.ensures.kept.asks

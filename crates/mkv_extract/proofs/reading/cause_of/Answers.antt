@@ -4,7 +4,7 @@ use Rattle.file_format.specs.Encoding.{usable_causes}
 use Rattle.meta_records.proofs.CausesLemmas.{usable-some}
 use Rattle.mkv_extract.proofs.reading.cause_of.Goals as goal
 
--- its frames can't be used
+-- The frames of the track can't be used.
 pub returns-in-Err : goal.returns-in-Err
 returns-in-Err c =
     sym (ap (λ (a : Bool). first_damage (if a then usable_causes c.args.track.now.entry else [])) (sym c.is_named.ensures ∙ c.if-not-is_named.false)

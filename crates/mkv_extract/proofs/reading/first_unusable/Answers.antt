@@ -2,7 +2,7 @@ use Rattle.std.proofs.Common.{sym, ◌∙◌}
 use Rattle.mkv_extract.proofs.ReadLemmas.{causes-bad}
 use Rattle.mkv_extract.proofs.reading.first_unusable.Goals as goal
 
--- a track refuses the file
+-- A track refuses the file.
 pub returns-in-Some : goal.returns-in-Some
 returns-in-Some c =
     sym (c.loop-k.invariant

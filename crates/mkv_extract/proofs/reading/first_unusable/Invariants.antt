@@ -1,4 +1,4 @@
--- Nothing kept the frames of a track from being used so far.
+-- The frames of the tracks passed can be used.
 use Rattle.std.proofs.Common.{◌≡◌, drop}
 use Rattle.mkv_schema.specs.Outline.{first_damage}
 use Rattle.mkv_extract.specs.Read.{causes_from, first_unusable}

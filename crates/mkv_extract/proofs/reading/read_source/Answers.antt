@@ -7,7 +7,7 @@ use Rattle.mkv_extract.specs.Read.{first_unusable}
 use Rattle.mkv_extract.proofs.ReadLemmas.{AreUsableOf-read, events-read}
 use Rattle.mkv_extract.proofs.reading.read_source.Goals as goal
 
--- the tracks that are named can be used
+-- The tracks that are named can be used.
 pub returns-clause-usable : goal.returns-clause-usable
 returns-clause-usable g c =
     let tracks = c.in_ok-records.records.tracks in
@@ -17,7 +17,7 @@ returns-clause-usable g c =
     ∙ sym c.first_unusable.ensures ∙ c.in_default.is in
     AreUsableOf-read (targets_of c.args.job.now) tracks none
 
--- the Info that was read gives the length of a tick
+-- The Info that was read determines the tick.
 pub returns-clause-events : goal.returns-clause-events
 returns-clause-events g c = λ bytes told.
     let now = ap (λ s. (g.R.Reads.files s).content c.args.file.n) c.read.ensures.same.standing ∙ told in

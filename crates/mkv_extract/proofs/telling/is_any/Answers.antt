@@ -5,7 +5,7 @@ use Rattle.mkv_io.specs.declared.damage.Damage.{Damage}
 use Rattle.cluster_reader.specs.ToldDamages.{ToldDamages}
 use Rattle.mkv_extract.proofs.telling.is_any.Goals as goal
 
--- of a list that has one the first is told
+-- The first element of a list that isn't empty is reported.
 any : (list : List Damage) → not (length (take 100 list) == 0) ≡ nat_lt 0 (length list)
 any [] = refl
 any (d ∷ ds) =

@@ -7,14 +7,14 @@ use Rattle.mkv_extract.specs.Told.{line_of}
 use Rattle.mkv_extract.proofs.ToldLemmas.{absent-ends, absent-next, absent_left, absent_left-all}
 use Rattle.mkv_extract.proofs.telling.say_absent.Goals as goal
 
--- no line was said yet
+-- No line is printed yet.
 pub loop-k-init : goal.loop-k-init
 loop-k-init g c = record {
   report = refl;
   way = subst (SaysUpTo (g.P.Report.lines c.args.report.now) (g.P.Report.lines c.args.report.now) (map (line_of c.args.missing c.args.name.now) (absent c.args.count c.args.targets.now))) (ap (map (line_of c.args.missing c.args.name.now)) (sym (absent_left-all c.args.count c.args.targets.now))) (SaysUpTo-begins (g.P.Report.lines c.args.report.now) (map (line_of c.args.missing c.args.name.now) (absent c.args.count c.args.targets.now)));
 }
 
--- a number that isn't told is passed
+-- A number that isn't reported is passed.
 pub loop-k-preserved-then-not-is_told : goal.loop-k-preserved-then-not-is_told
 loop-k-preserved-then-not-is_told g c = record {
   report = search rules;
@@ -24,7 +24,7 @@ loop-k-preserved-then-not-is_told g c = record {
       c.loop-k.invariant.way;
 }
 
--- a line couldn't be said
+-- A line couldn't be printed.
 pub returns-in_err-say_missing-clause-said : goal.returns-in_err-say_missing-clause-said
 returns-in_err-say_missing-clause-said g c =
     let p = err_from_is_err_and c.from_residual.result c.from_residual.ensures.1 in
@@ -35,7 +35,7 @@ returns-in_err-say_missing-clause-said g c =
     c.loop-k.invariant.way)
     c.in_err-say_missing.ensures.said)
 
--- another line was said
+-- Another line was printed.
 pub loop-k-preserved : goal.loop-k-preserved
 loop-k-preserved g c = record {
   report = search rules;
@@ -47,7 +47,7 @@ loop-k-preserved g c = record {
       c.in_ok-say_missing.ensures.said;
 }
 
--- all lines were said
+-- All lines were printed.
 pub returns-clause-said : goal.returns-clause-said
 returns-clause-said g c =
     let all : length c.args.targets.now ≤ c.loop-k.k = omega (arith, c.loop-k-test.false) in

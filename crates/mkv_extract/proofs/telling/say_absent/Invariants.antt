@@ -1,4 +1,4 @@
--- The lines of the first targets were said.
+-- The lines of the first targets were printed.
 use Rattle.std.proofs.Common.{◌≡◌, drop, map, take}
 use Rattle.mkv_lines.specs.Said.{SaysUpTo}
 use Rattle.mkv_extract.specs.Extract.{absent}

@@ -8,7 +8,7 @@ use Rattle.mkv_extract.specs.Told.{written}
 use Rattle.mkv_extract.proofs.ToldLemmas.{written-said}
 use Rattle.mkv_extract.proofs.telling.say_wrote.Goals as goal
 
--- a line couldn't be said
+-- A line couldn't be printed.
 pub returns-in_err-say-clause-said : goal.returns-in_err-say-clause-said
 returns-in_err-say-clause-said g c =
     let t = c.target-item.result in
@@ -20,7 +20,7 @@ returns-in_err-say-clause-said g c =
     (written-said (g.P.Report.lines c.args.report.now) (g.P.Report.lines c.loop-target.report) (map wrote_line (written c.args.count c.args.targets.now)) c.args.count c.args.targets.now k t c.loop-target-test.true c.target-item.is there c.loop-target.invariant.way)
     (subst (λ (name : List ℕ). SaysPart (g.P.Report.lines c.loop-target.report) (g.P.Report.lines c.say.new.report) (wrote_line name ∷ [])) c.as_str-name.ensures.same c.in_err-say.ensures.said))
 
--- another line was said
+-- Another line was printed.
 pub loop-target-preserved : goal.loop-target-preserved
 loop-target-preserved g c = record {
   report = search rules;

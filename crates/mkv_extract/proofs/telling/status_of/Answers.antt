@@ -6,20 +6,20 @@ use Rattle.mkv_extract.specs.Extract.{status_of}
 use Rattle.mkv_extract.specs.Told.{has_absent}
 use Rattle.mkv_extract.proofs.telling.status_of.Goals as goal
 
--- a damage is warned of
+-- Damage gives a warning.
 damaged : (absent : Bool) (damages bad : List Damage) → nat_lt 0 (length damages) ≡ true → Warned ≡ status_of absent (damages ++ bad)
 damaged absent [] bad any = absurd (cc)
 damaged true (d ∷ ds) bad any = refl
 damaged false (d ∷ ds) bad any = refl
 
--- and so is a frame that isn't written
+-- A frame that isn't written gives a warning.
 left_out : (absent : Bool) (damages bad : List Damage) → nat_lt 0 (length bad) ≡ true → Warned ≡ status_of absent (damages ++ bad)
 left_out true damages bad any = refl
 left_out false (d ∷ ds) bad any = refl
 left_out false [] (b ∷ bs) any = refl
 left_out false [] [] any = absurd (cc)
 
--- nothing is warned of
+-- There is no warning.
 done : (absent : Bool) (damages bad : List Damage) → absent ≡ false → nat_lt 0 (length damages) ≡ false → nat_lt 0 (length bad) ≡ false → Done ≡ status_of absent (damages ++ bad)
 done true damages bad none first others = absurd (cc)
 done false (d ∷ ds) bad none first others = let some = lt-ltb 0 (length (d ∷ ds)) (omega arith) in absurd (cc)

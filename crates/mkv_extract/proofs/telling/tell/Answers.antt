@@ -6,7 +6,7 @@ use Rattle.mkv_extract.specs.Extract.{told_bad, told_lines}
 use Rattle.mkv_extract.specs.Told.{written}
 use Rattle.mkv_extract.proofs.telling.tell.Goals as goal
 
--- the line of an output couldn't be said
+-- The line of an output couldn't be printed.
 pub returns-in_err-say_wrote-clause-said : goal.returns-in_err-say_wrote-clause-said
 returns-in_err-say_wrote-clause-said g c =
     let p = err_from_is_err_and c.from_residual.result c.from_residual.ensures.1 in
@@ -14,7 +14,7 @@ returns-in_err-say_wrote-clause-said g c =
     (SaysPart-before (g.P.Report.lines c.args.report.now) (g.P.Report.lines c.say_wrote.new.report) (map wrote_line (written c.args.count c.args.targets.now)) (told_lines c.args.name.now c.args.extracted.now.damages ++ told_bad c.args.name.now c.args.extracted.now.bad_frames)
     c.in_err-say_wrote.ensures.said)
 
--- a warning couldn't be said
+-- A warning couldn't be printed.
 pub returns-in_err-warn_all-clause-said : goal.returns-in_err-warn_all-clause-said
 returns-in_err-warn_all-clause-said g c =
     let p = err_from_is_err_and c.from_residual-in_err-warn_all.result c.from_residual-in_err-warn_all.ensures.1 in

@@ -13,7 +13,7 @@ use Rattle.mkv_extract.specs.declared.telling.WarningKind.{WarningKind}
 use Rattle.mkv_extract.proofs.ToldLemmas.{warnings-next}
 use Rattle.mkv_extract.proofs.telling.warn.Goals as goal
 
--- a warning couldn't be said
+-- A warning couldn't be printed.
 pub returns-in_err-warn_of-clause-said : goal.returns-in_err-warn_of-clause-said
 returns-in_err-warn_of-clause-said g c =
     let first = c.first-first.result.now in
@@ -26,7 +26,7 @@ returns-in_err-warn_of-clause-said g c =
     (warnings-next (g.P.Report.lines c.args.report.now) (g.P.Report.lines c.loop-damage.report) (map (warning_line c.args.name.now) first) c.args.name.now first k _ c.loop-damage-test.true (get_or_default first k _ _ c.loop-damage-test.true) c.loop-damage.invariant.way)
     c.in_err-warn_of.ensures.said)))
 
--- another was said
+-- Another warning was printed.
 pub loop-damage-preserved : goal.loop-damage-preserved
 loop-damage-preserved g c = record {
   report = search rules;
@@ -38,16 +38,16 @@ loop-damage-preserved g c = record {
       c.in_ok-warn_of.ensures.said;
 }
 
--- the warnings of all the first damages were said
+-- The warnings of all the first damaged places were printed.
 all-warned : (old now : ReportLines) (name : List ℕ) (first : List Damage) (k : ℕ) → length first ≤ k → SaysUpTo old now (map (warning_line name) first) (map (warning_line name) (drop k first)) → now ≡ with_lines old (map (warning_line name) first)
 all-warned old now name first k all way =
     SaysUpTo-ends old now (map (warning_line name) first) (subst (SaysUpTo old now (map (warning_line name) first)) (ap (map (warning_line name)) (drop_all k first all)) way)
 
--- where there are others their number is told
+-- If there are others, their number is printed.
 others-some : (what : WarningKind) (name : List ℕ) (more : ℕ) → 0 < more → others what name more ≡ more_line what name more ∷ []
 others-some what name more some = let test : (more == 0) ≡ false = grind (arith, nat_tests, some) in ap (λ (a : Bool). if a then [] else more_line what name more ∷ []) test
 
--- the number of the others couldn't be said
+-- The number of the others couldn't be printed.
 returns-others : (old mid new : ReportLines) (what : WarningKind) (name : List ℕ) (d : ToldDamages) (first : List Damage) (more : ℕ) → first ≡ d.first → more ≡ d.more → mid ≡ with_lines old (map (warning_line name) first) → 0 < more → SaysPart mid new (more_line what name more ∷ []) → SaysPart old new (warnings what name d)
 returns-others old mid new what name d first more is number said some part =
     subst (λ (list : List Damage). SaysPart old new (map (warning_line name) list ++ others what name d.more)) is
