@@ -1,4 +1,4 @@
--- Whether tracks can go on in lanes.
+-- Tracks that can or can't continue output tracks.
 use Rattle.std.proofs.Common.{◌≡◌, ◌≤◌, ◌<◌, ℕ, ◌+◌, List, length, drop, map, get_or, Option, None, ap, ap₂, ◌∙◌, arith}
 use Rattle.std.specs.Option.{option_map, option_or}
 use Rattle.std.proofs.lemmas.List.{drop_all}

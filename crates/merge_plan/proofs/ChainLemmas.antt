@@ -1,4 +1,4 @@
--- Lanes of things, by what each gives to them.
+-- Output tracks of things, by the items of each.
 use Rattle.std.proofs.Common.{◌≡◌, ◌≤◌, ◌<◌, ℕ, zero, suc, ◌+◌, Bool, true, false, cond, if◌then◌else◌, List, [], ◌∷◌, ◌++◌, length, map, flat_map, refl, sym, ap, ap₂, ◌∙◌, arith, length-append}
 use Rattle.std.specs.List.{All, enumerate_from, slice_get, sum, sum_by, take_while}
 use Rattle.std.specs.Option.{option_to_list}
@@ -8,7 +8,7 @@ use Rattle.std.proofs.lemmas.List.Elements.{All-nil, All-cons, All-head, All-tai
 use Rattle.std.proofs.lemmas.List.Sums.{sum-map, sum_by-append, sum_by-cons, sum_by-take-le, take_while-cons}
 use Rattle.merge_plan.specs.Chains.{at_place, columns_from, lanes_begun, lanes_by}
 
--- ---- the items at the front that pass a test
+-- ---- the first items that pass a test
 
 pub while-map : {X Y : Type 0} (p : Y → Bool) (f : X → Y) (xs : List X) → take_while p (map f xs) ≡ map f (take_while (λ x. p (f x)) xs)
 while-map p f [] = refl
@@ -56,7 +56,7 @@ enumerate-below : {X : Type 0} (most n : ℕ) (xs : List X) → n + length xs �
 enumerate-below {X = X} most n [] few = All-nil (λ (e : ℕ × X). e.0 < most)
 enumerate-below {X = X} most n (x ∷ xs) few = All-cons (λ (e : ℕ × X). e.0 < most) (n, x) (enumerate_from (n + 1) xs) (omega arith) (enumerate-below most (n + 1) xs (omega arith))
 
--- ---- what is made of each item of a row
+-- ---- mapped items of a row
 
 module _ {B C : Type 0} (f : B → C) where
   one-map : (place : ℕ) (row : List B) → option_to_list (slice_get (map f row) place) ≡ map f (option_to_list (slice_get row place))
@@ -73,7 +73,7 @@ module _ {B C : Type 0} (f : B → C) where
   columns-map place [] rows = refl
   columns-map place (x ∷ row) rows = ap₂ (λ l ls. (f x ∷ l) ∷ ls) (at-map place rows) (columns-map (place + 1) row rows)
 
--- lanes of things that are made of others, and whose rows are
+-- The output tracks of mapped things are the mapped output tracks.
 module _ {X Y B C : Type 0} (appended : Y → Bool) (row : Y → List C) (h : X → Y) (own : X → List B) (f : B → C) (same : (x : X) → row (h x) ≡ map f (own x)) where
   rows-map : (xs : List X) → map row (map h xs) ≡ map (map f) (map own xs)
   rows-map [] = refl
@@ -94,9 +94,9 @@ module _ {X Y B C : Type 0} (appended : Y → Bool) (row : Y → List C) (h : X 
   lanes-map (x ∷ xs) =
       ap₂ (λ a b. a ++ b) (begun-map x xs) (lanes-map xs) ∙ sym (map-append (map f) (lanes_begun (λ y. appended (h y)) own x xs) (lanes_by (λ y. appended (h y)) own xs))
 
--- ---- the first of each lane
+-- ---- the first item of each output track
 
--- the items that begin lanes
+-- the items that begin output tracks
 abbrev pub begins : {A B : Type 0} → (A → Bool) → (A → List B) → A → List B
 begins appended row x = if appended x then [] else row x
 
@@ -151,7 +151,7 @@ module _ {B : Type 0} (P : B → Type 0) where
     lanes-all (x ∷ xs) all =
         All-append (All P) (lanes_begun appended row x xs) (lanes_by appended row xs) (begun-all x xs (All-head Q x xs all) (All-tail Q x xs all)) (lanes-all xs (All-tail Q x xs all))
 
--- ---- how many links a lane has
+-- ---- the number of links of an output track
 
 one-few : {B : Type 0} (place : ℕ) (row : List B) → length (option_to_list (slice_get row place)) ≤ 1
 one-few place [] = omega arith
@@ -185,7 +185,7 @@ module _ {A B : Type 0} (appended : A → Bool) (row : A → List B) where
           let few = while-length appended xs in
           columns-few (suc (length xs)) 0 (row x) (map row (take_while appended xs)) (omega arith)
 
--- ---- how much the links of a lane are together
+-- ---- the total weight of an output track's links
 
 one-light : {B : Type 0} (weight : B → ℕ) (most place : ℕ) (row : List B) → All (λ b. weight b ≤ most) row → sum_by weight (option_to_list (slice_get row place)) ≤ most
 one-light weight most place [] light = omega arith
@@ -225,11 +225,11 @@ module _ {A B : Type 0} (appended : A → Bool) (row : A → List B) (weight : B
           let whole = sum_by-cons most x xs in
           columns-light (sum_by most (x ∷ xs)) (most x) 0 (row x) (take_while appended xs) (light x) (omega arith)
 
--- as much of things with their numbers
+-- Numbering things doesn't change their total weight.
 pub enumerate-sum : {X : Type 0} (weight : X → ℕ) (n : ℕ) (xs : List X) → sum_by (λ (e : ℕ × X). weight e.1) (enumerate_from n xs) ≡ sum_by weight xs
 enumerate-sum {X = X} weight n xs = sym (sum-map (λ (e : ℕ × X). weight e.1) (enumerate_from n xs)) ∙ ap sum (unnumbered weight n xs) ∙ sum-map weight xs
 
--- ---- where none is appended
+-- ---- if nothing is appended
 
 columns-alone : {B : Type 0} (place : ℕ) (own : List B) → columns_from place own [] ≡ map (λ b. b ∷ []) own
 columns-alone place [] = refl
@@ -237,7 +237,7 @@ columns-alone place (x ∷ own) = ap (λ l. (x ∷ []) ∷ l) (columns-alone (pl
 
 -- ---- numbers
 
--- the numbers of inputs in lanes are below that of one more
+-- The numbers of inputs in output tracks are below the number of the next input.
 pub numbers-below : {A : Type 0} (appended : ℕ × A → Bool) (row : ℕ × A → List ℕ) → ((e : ℕ × A) → All (λ m. m ≡ e.0) (row e)) → (n most : ℕ) (xs : List A) → n + length xs ≤ most
     → All (All (λ m. m < most)) (lanes_by appended row (enumerate_from n xs))
 numbers-below {A = A} appended row own n most xs few =

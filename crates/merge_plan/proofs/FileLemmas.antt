@@ -1,4 +1,4 @@
--- The attached files of an output, and what inputs give besides their tracks and blocks.
+-- The attached files of an output, and the data of inputs besides their tracks and blocks.
 use Rattle.std.proofs.Common.{◌≡◌, ◌<◌, ℕ, zero, suc, ◌+◌, ◌==◌, List, [], ◌∷◌, ◌++◌, length, drop, map, flat_map, get_or, Option, Some, None, if◌then◌else◌, refl, sym, ap, ap₂, subst, ◌∙◌, arith, append-nil, append_assoc}
 use Rattle.std.specs.List.{All, sum_by}
 use Rattle.std.specs.Option.{option_map}
@@ -31,15 +31,15 @@ use Rattle.merge_plan.specs.Planned.{StandsInInput, IsToldInput, source_in}
 use Rattle.merge_plan.specs.Records.{anywhere, kept_anywhere, kept_in, records_from, records_in, uids_at, uids_behind}
 use Rattle.merge_plan.specs.TakenTracks.{HasRecords}
 
--- what inputs give, in their files
+-- the data of inputs, in their files
 abbrev pub records_at : List ℕ → List ℕ → List Input → List InputRecords
 records_at before left inputs = records_from before left (map kept_in inputs)
 
--- the same, whichever file has the data
+-- the same, whichever file has the data of attached files
 abbrev anywhere_at : List ℕ → List ℕ → List Input → List InputRecords
 anywhere_at before left inputs = records_from before left (map kept_anywhere (map read_in inputs))
 
--- the TrackUIDs of an input's lanes, and those that are left behind it
+-- the TrackUIDs of an input's output tracks
 abbrev own_uids : List ℕ → List ℕ → Input → List ℕ
 own_uids before left i = uids_at before left (read_in i)
 
@@ -68,7 +68,7 @@ all-uids-anywhere before left (i ∷ is) =
     ∙ ap₂ (λ a b. a ++ b) (uids-anywhere i.attachments) (all-uids-anywhere own rest is)
     ∙ sym (map-append (λ (a : Attachment). a.uid) i.attachments (files_of (records_at own rest is)))
 
--- those of what was read
+-- The FileUIDs are the ones of the records.
 uids-shown : (files : List Attachment) → map (λ (a : AttachedFile). a.uid) (map in_file files) ≡ merged.file_uids files
 uids-shown [] = refl
 uids-shown (a ∷ files) = ap (λ l. a.uid ∷ l) (uids-shown files)
@@ -106,14 +106,14 @@ data-all f (i ∷ is) told has =
     map-append (with_octets f) i.attachments (files_in_all is)
     ∙ ap₂ (λ a b. a ++ b) (data-one f i (told 0 i (omega arith)) i.attachments (has 0 i (omega arith)).attachments) (data-all f is (λ k d inside. told (suc k) d (omega arith)) (λ k d inside. has (suc k) d (omega arith)))
 
--- the attached files of an output are those of its sources
+-- The attached files of an output are the attached files of its sources.
 pub attached-all : (f : LiveFiles) (before left : List ℕ) (inputs : List Input) → All (IsToldInput f) inputs → All HasRecords inputs → map (attached_file f) (merged_attachments (records_at before left inputs)) ≡ attachments_of (map (source_in f) inputs)
 attached-all f before left inputs told has =
     ap (λ files. map (attached_file f) (with_uids (renumbered (merged.file_uids files)) files)) (files-at before left inputs)
     ∙ with-data f (renumbered (merged.file_uids (files_in_all inputs))) (files_in_all inputs)
     ∙ ap₂ (λ uids files. attached_from (renumbered uids) files) (sym (all-uids-read f inputs)) (data-all f inputs told has)
 
--- ---- how many octets their data are
+-- ---- the number of bytes of their data
 
 octets-uids : (uids : List ℕ) (files : List Attachment) → length uids ≡ length files → sum_by (λ (a : Attachment). a.len) (with_uids uids files) ≡ sum_by (λ (a : Attachment). a.len) files
 octets-uids [] [] many = refl
@@ -142,7 +142,7 @@ octets-all before left inputs =
     ∙ octets-uids (renumbered uids) files (length-from uids [] uids ∙ length-map files (λ (a : Attachment). a.uid))
     ∙ octets-read inputs
 
--- ---- whose they are
+-- ---- the files of their data
 
 flat-each : {X Y : Type 0} (f : X → List Y) (P : Y → Type 0) (xs : List X) → ((k : ℕ) (x : X) → k < length xs → x ≡ get_or xs k x → All P (f x)) → All P (flat_map f xs)
 flat-each f P [] each = λ k d inside. absurd (omega arith)
@@ -167,7 +167,7 @@ files-each inputs has = flat-each (λ (i : Input). i.attachments) (StandsInInput
     of : (k : ℕ) (i : Input) → k < length inputs → i ≡ get_or inputs k i → HasRecords i → All (StandsInInput inputs) i.attachments
     of k i inside is holds = λ j d below. record { number = k; input = i; inside = inside; is = is; same = (holds.attachments j d below).same; within = (holds.attachments j d below).inside }
 
--- each stands in the file of one of them
+-- The data of each attached file are in the file of an input.
 pub files-are : (before left : List ℕ) (inputs : List Input) → All HasRecords inputs → All (StandsInInput inputs) (merged_attachments (records_at before left inputs))
 files-are before left inputs has =
     let files : List Attachment = files_in_all inputs in
@@ -180,7 +180,7 @@ chapters-same : (before left : List ℕ) (inputs : List Input) → flat_map chap
 chapters-same before left [] = refl
 chapters-same before left (i ∷ is) = ap (λ l. chapters_in (records_in (own_uids before left i) (kept_in i)) ++ l) (chapters-same (own_uids before left i) (left_uids left i) is)
 
--- the identifiers, and what becomes of editions one behind the other
+-- a Chapters with these editions
 abbrev joined : List Node → Node
 joined editions = master CHAPTERS 0 (nodes_of editions)
 
@@ -190,7 +190,7 @@ chapters-anywhere before left inputs =
 
 -- ---- Tags
 
--- the identifiers that the targets of Tags have, where those of the attached files are these
+-- the identifiers for the targets of Tags, with these FileUIDs
 abbrev numbers_with : List ℕ → InputRecords → List ℕ → List ℕ → List ℕ → ℕ → ℕ → Option ℕ
 numbers_with files i editions chapters attachments id uid =
     if id == TAG_TRACK_UID then number_of i.track_uids i.output_uids uid else
@@ -198,7 +198,7 @@ numbers_with files i editions chapters attachments id uid =
     (if id == TAG_CHAPTER_UID then number_of (uids_in chapter_uids i.chapters) chapters uid else
     (if id == TAG_ATTACHMENT_UID then number_of files attachments uid else None)))
 
--- the Tags of an input, and those of inputs behind it
+-- the Tags of an input, and of the inputs after it
 abbrev tags_with : List ℕ → InputRecords → List InputRecords → List ℕ → List ℕ → List ℕ → List Node
 tags_with files i others editions chapters attachments =
     children_in (option_map (written_tags i.keep (numbers_with files i editions chapters attachments)) i.tags)
@@ -224,7 +224,7 @@ tags-anywhere before left inputs =
     (tags-same before left inputs (edition_numbers (records_at before left inputs)) (chapter_numbers (records_at before left inputs)) (merged.file_numbers (records_at before left inputs)))
     ∙ ap (λ given. with_some (joined_tags given (anywhere_at before left inputs))) (numbers-same before left inputs)
 
--- ---- one input more
+-- ---- one more input
 
 module _ (before left own after : List ℕ) (i : Input) (here : own ≡ uids_at before left (read_in i)) (behind_it : after ≡ uids_behind left (read_in i)) where
   pub records-next : (inputs rest : List Input) (records new all : List InputRecords) (one : InputRecords) → inputs ≡ i ∷ rest → one ≡ records_in own (kept_in i) → new ≡ records ++ one ∷ []
@@ -240,7 +240,7 @@ module _ (before left own after : List ℕ) (i : Input) (here : own ≡ uids_at 
 pub records-none : (before left : List ℕ) (records all : List InputRecords) (inputs : List Input) → inputs ≡ [] → records ++ records_at before left inputs ≡ all → records ≡ all
 records-none before left records all inputs none so_far = sym (append-nil records) ∙ ap (λ is. records ++ records_at before left is) (sym none) ∙ so_far
 
--- ---- what was read
+-- ---- the records of the inputs
 
 pub reads-in : (f : LiveFiles) (inputs : List Input) → reads_of (map (source_in f) inputs) ≡ map read_in inputs
 reads-in f [] = refl

@@ -1,4 +1,4 @@
--- Lanes of tracks that are taken.
+-- Output tracks of selected tracks.
 use Rattle.std.proofs.Common.{◌≡◌, ◌<◌, ℕ, zero, suc, ◌+◌, Bool, true, false, if◌then◌else◌, List, [], ◌∷◌, ◌++◌, length, take, drop, map, get_or, Option, None, sym, ap, ap₂, subst, ◌∙◌, refl, arith, append-nil, append_assoc}
 use Rattle.std.specs.List.{All, AllZip, enumerate_from, range_with_len, slice_get, take_while}
 use Rattle.std.proofs.lemmas.List.FromFn.{map-range_with_len_more}
@@ -30,15 +30,15 @@ zip-append R (x ∷ xs) (y ∷ ys) ws zs all more = (all.0, zip-append R xs ys w
 
 -- ---- links
 
--- one more track of an input is a link
+-- One more track of an input is a link.
 pub link-more : (i : Input) (taken : List TakenTrack) (k : ℕ) (t : TakenTrack) (link : Link) (old new : List Link) → k < length taken → t ≡ get_or taken k t → AllZip (IsLink i) (take k taken) old → IsLink i t link → new ≡ old ++ link ∷ [] → AllZip (IsLink i) (take (k + 1) taken) new
 link-more i taken k t link old new inside at are is put =
     let more : AllZip (IsLink i) (take k taken ++ t ∷ []) (old ++ link ∷ []) = zip-append (IsLink i) (take k taken) old (t ∷ []) (link ∷ []) are (is, tt) in
     subst (AllZip (IsLink i) (take (k + 1) taken)) (sym put) (subst (λ (ts : List TakenTrack). AllZip (IsLink i) ts (old ++ link ∷ [])) (sym (take-next taken k t inside at)) more)
 
--- ---- one lane
+-- ---- one output track
 
--- it goes on
+-- It is continued.
 pub lane-more : (first : Spot) (spots more : List Spot) (old new : PlannedLane) → IsLaneOf (first ∷ spots) old → GoesOn more old new → IsLaneOf (first ∷ (spots ++ more)) new
 lane-more first spots more old new is goes =
     record {
@@ -47,7 +47,7 @@ lane-more first spots more old new is goes =
       rule = goes.rule ∙ is.rule;
     }
 
--- what an input has at a place
+-- The track of an input at an index is the only one.
 pub spots-one : (place number : ℕ) (i : Input) (o : Option TakenTrack) → slice_get i.taken place ≡ o → spots_at place (number, i) ≡ option_to_list (option_map (spot number i) o)
 spots-one place number i o is = ap option_to_list (of place i.taken ∙ ap (option_map (spot number i)) is)
   where
@@ -56,7 +56,7 @@ spots-one place number i o is = ap option_to_list (of place i.taken ∙ ap (opti
     of zero (t ∷ ts) = refl
     of (suc place) (t ∷ ts) = of place ts
 
--- an input that has nothing there
+-- An input without a track at this index leaves the output track as it is.
 pub stays : (place number : ℕ) (i : Input) (old new : PlannedLane) → slice_get i.taken place ≡ None → new ≡ old → GoesOn (spots_at place (number, i)) old new
 stays place number i old new none same =
     subst (λ (spots : List Spot). GoesOn spots old new) (sym (spots-one place number i None none))
@@ -69,7 +69,7 @@ stays place number i old new none same =
       drives = ap (λ (l : PlannedLane). l.drives) same;
     })
 
--- what goes on in it, of one input more
+-- One more input continues the output track.
 pub behind-more : (place number : ℕ) (inputs : List Input) (k : ℕ) (i : Input) → k < length inputs → i ≡ get_or inputs k i
     → spots_behind place number (take (k + 1) inputs) ≡ spots_behind place number (take k inputs) ++ spots_at place (number + k, i)
 behind-more place number inputs k i inside is =
@@ -80,9 +80,9 @@ behind-more place number inputs k i inside is =
     ∙ flat_map-append (λ (row : List Spot). option_to_list (slice_get row place)) (map spots_in (enumerate_from number (take k inputs))) (spots_in (number + k, i) ∷ [])
     ∙ ap (λ l. spots_behind place number (take k inputs) ++ l) (append-nil (spots_at place (number + k, i)))
 
--- ---- lanes one behind the other
+-- ---- output tracks in sequence
 
--- Lanes with which those of these spots, behind them, are all.
+-- The output tracks `lanes`, followed by output tracks of `left`, are the output tracks of `all`.
 abbrev pub GoOn : List (List Spot) → List PlannedLane → List (List Spot) → Type 0
 GoOn left lanes all = (rest : List PlannedLane) → AllZip IsLaneOf left rest → AllZip IsLaneOf all (lanes ++ rest)
 
@@ -96,14 +96,14 @@ lanes-done all lanes so_far = subst (AllZip IsLaneOf all) (append-nil lanes) (so
 pub left-same : (left other all : List (List Spot)) (lanes : List PlannedLane) → left ≡ other → GoOn left lanes all → GoOn other lanes all
 left-same left other all lanes same so_far = subst (λ (l : List (List Spot)). GoOn l lanes all) same so_far
 
--- ---- the lanes of an input
+-- ---- the output tracks of an input
 
--- those that it begins from a place on, and those of the inputs behind it
+-- the output tracks that an input begins from index `place` on, and the ones of the inputs after it
 abbrev pub left_at : List Input → ℕ → Input → List TakenTrack → List Input → ℕ → List (List Spot)
 left_at inputs number i taken behind place =
     columns_from place (drop place (map (spot number i) taken)) (map spots_in (enumerate_from (number + 1) behind)) ++ spots_from (number + 1) (drop (number + 1) inputs)
 
--- the first of them
+-- The first of them.
 pub place-next : (inputs : List Input) (number : ℕ) (i : Input) (taken : List TakenTrack) (behind : List Input) (place : ℕ) (t : TakenTrack) → place < length taken → t ≡ get_or taken place t
     → left_at inputs number i taken behind place ≡ (spot number i t ∷ spots_behind place (number + 1) behind) ∷ left_at inputs number i taken behind (place + 1)
 place-next inputs number i taken behind place t inside is =
@@ -112,7 +112,7 @@ place-next inputs number i taken behind place t inside is =
     ap (λ row. columns_from place row (map spots_in (enumerate_from (number + 1) behind)) ++ spots_from (number + 1) (drop (number + 1) inputs))
     (drop-next (map (spot number i) taken) place (spot number i t) (omega arith) at)
 
--- an input begins lanes, of which it gives to the first
+-- An input that isn't appended begins output tracks.
 pub input-next : (inputs : List Input) (number : ℕ) (i : Input) (taken : List TakenTrack) (behind : List Input) → number < length inputs → i ≡ get_or inputs number i → taken ≡ tracks_begun (read_in i)
     → behind ≡ take_while goes_on (drop (number + 1) inputs) → spots_from number (drop number inputs) ≡ left_at inputs number i taken behind 0
 input-next inputs number i taken behind inside is begun are =
@@ -128,7 +128,7 @@ input-next inputs number i taken behind inside is begun are =
     of true = refl
     of false = ap (λ l. columns_from 0 (spots_in (number, i)) (map spots_in l)) (while-enumerate goes_on (number + 1) rest)
 
--- ---- what an input's tracks are
+-- ---- the tracks of an input
 
 pub item-taken : (inputs : List Input) (number : ℕ) (i : Input) (taken : List TakenTrack) (k : ℕ) (t : TakenTrack) → All HasTaken inputs → number < length inputs → i ≡ get_or inputs number i → taken ≡ tracks_begun (read_in i) → k < length taken → t ≡ get_or taken k t → IsTaken t
 item-taken inputs number i taken k t all inside is are within at =
@@ -136,11 +136,11 @@ item-taken inputs number i taken k t all inside is are within at =
     let each : All IsTaken taken = subst (All IsTaken) (sym are) (begun-taken i one) in
     subst IsTaken (sym at) (each k t within)
 
--- those of the inputs behind it
+-- The tracks of the appended inputs after it can be taken, too.
 pub behind-taken : (inputs behind : List Input) (n : ℕ) → All HasTaken inputs → behind ≡ take_while goes_on (drop n inputs) → All HasTaken behind
 behind-taken inputs behind n all are = subst (All HasTaken) (sym are) (All-take HasTaken _ (drop n inputs) (All-drop HasTaken n inputs all))
 
--- ---- which lanes drive
+-- ---- drivers
 
 pub driven-more : (videos : List Bool) (lanes new : List PlannedLane) (lane : PlannedLane) → AreDriven videos lanes → lane.drives ≡ is_driver videos (length lanes) → new ≡ lanes ++ lane ∷ [] → AreDriven videos new
 driven-more videos lanes new lane so_far drives put =

@@ -28,7 +28,7 @@ use Rattle.merge_plan.specs.Behind.{walked_in, walked_of}
 
 -- ---- one link
 
--- its times keep their limits
+-- The times of a link keep their limits.
 link-timed : (i : Input) (t : TakenTrack) (blocks : Blocks) (link : Link) → IsLinkBy i blocks t link → HasPlace i → IsTaken t → IsShortText blocks → IsTimed link
 link-timed i t (held_by.Clusters outline scale) (Track link) is place taken short =
     let small = link-small i t (held_by.Clusters outline scale) (Track link) is taken place short in
@@ -40,7 +40,7 @@ link-timed i t (held_by.Clusters outline scale) (Entries text) is place taken sh
 link-timed i t (held_by.Entries entries) (Track link) is place taken short = absurd is
 link-timed i t (held_by.Entries entries) (Entries text) is place taken short = link-small i t (held_by.Entries entries) (Entries text) is taken place short
 
--- It is of the input's file, as that was read.
+-- The link is a track of the input's file, with the outline that was read.
 record IsTrackOf (i : Input) (read : FileOutline) (nanoseconds : ℕ) (link : TrackLink) : Type 0 where
   file : link.file ≡ i.file
   segment : link.outline.value.segment ≡ read.segment
@@ -58,7 +58,7 @@ link-own i t (held_by.Clusters outline scale) (Entries text) is = is
 link-own i t (held_by.Entries entries) (Track link) is = is
 link-own i t (held_by.Entries entries) (Entries text) is = tt
 
--- all tracks of an input are of one file
+-- All tracks of an input are in one file.
 link-same : (i : Input) (blocks : Blocks) (t : TrackLink) → IsOfInput i blocks (Track t) → (link : Link) → IsOfInput i blocks link → IsOfFile t link
 link-same i (held_by.Clusters outline scale) t is (Track other) also = record {
   file = also.file ∙ sym is.file;
@@ -68,7 +68,7 @@ link-same i (held_by.Clusters outline scale) t is (Track other) also = record {
 link-same i (held_by.Clusters outline scale) t is (Entries text) also = tt
 link-same i (held_by.Entries entries) t is link also = absurd is
 
--- which is walked over
+-- This file is walked over.
 link-length : (f : LiveFiles) (i : Input) (blocks : Blocks) (t : TrackLink) → IsOfInput i blocks (Track t) → f.size t.file.n ≤ walked_in blocks (f.size i.file.n)
 link-length f i (held_by.Clusters outline scale) t is = omega (arith, ap (λ (file : FileId). f.size file.n) is.file)
 link-length f i (held_by.Entries entries) t is = absurd is
@@ -76,7 +76,7 @@ link-length f i (held_by.Entries entries) t is = absurd is
 -- ---- all links of an input
 
 module _ (i : Input) (links : List Link) (are : AreLinksOf i links) (has : HasTaken i) where
-  -- a fact of each, where it follows from its track
+  -- A property of each link that follows from its track.
   each-link : (P : Link → Type 0) → ((t : TakenTrack) (link : Link) → IsTaken t → IsLink i t link → P link) → All P links
   each-link P so = zip-all (IsLink i) IsTaken P so i.taken links has.taken are
 
@@ -95,7 +95,7 @@ module _ (i : Input) (links : List Link) (are : AreLinksOf i links) (has : HasTa
   pub links-one : AreOfOneFile links
   links-one = λ t first. All-weaker (IsOfInput i i.blocks) (IsOfFile t) (link-same i i.blocks t (first-all (IsOfInput i i.blocks) links t first links-own)) links links-own
 
-  -- a walk over the file reads no more than its length, and none of a text is walked over
+  -- A walk over the file reads at most its length, and a text isn't walked over.
   pub links-length : (f : LiveFiles) → surveyed_length f links ≤ walked_of f i
   links-length f = split (first_track links) refl
     where
@@ -103,6 +103,6 @@ module _ (i : Input) (links : List Link) (are : AreLinksOf i links) (has : HasTa
       split None is = omega arith
       split (Some t) is = link-length f i i.blocks t (first-all (IsOfInput i i.blocks) links t is links-own)
 
-  -- what they give is what the input gives
+  -- The blocks of the links are the blocks of the input.
   pub links-given : (f : LiveFiles) → map (given_in f) links ≡ given_of (source_in f i)
   links-given f = zip-map (IsLink i) (given_in f) (given_from (read_in i).times (append_offset (read_in i)) (blocks_in i.blocks) (octets_in f i.file.n)) (λ t link is. link-given i t f i.blocks link is) i.taken links are

@@ -1,4 +1,4 @@
--- Lists with their next item, and lists of what is lent.
+-- Lists with their next item, and lists of borrowed things.
 use Rattle.std.proofs.Common.{◌≡◌, ◌<◌, ℕ, ◌+◌, List, [], ◌∷◌, ◌++◌, length, take, drop, get_or, refl, sym, ap, subst, ◌∙◌, arith, add-one, drop-cons}
 use Rattle.std.proofs.lemmas.List.{take_more, map_push, length-map, get_or-map}
 use denote.Ref.{Bor}
@@ -11,7 +11,7 @@ module _ {X : Type 0} (xs : List X) (i : ℕ) (x : X) (inside : i < length xs) (
   pub drop-next : drop i xs ≡ x ∷ drop (i + 1) xs
   drop-next = drop-cons xs i x inside ∙ rw (add-one, ← is) refl
 
--- ---- what is lent
+-- ---- borrowed things
 
 pub length-lent : {A : Type 0} (refs : List (Bor A)) → length (lent refs) ≡ length refs
 length-lent refs = length-map refs (λ r. r.now)

@@ -1,4 +1,4 @@
--- Inputs are set in place, one after the other.
+-- Inputs are placed one at a time.
 use Rattle.std.proofs.Common.{◌≡◌, ◌≤◌, ℕ, ◌+◌, ◌*◌, ◌-◌, List, [], ◌∷◌, ◌++◌, length, map, Option, Some, None, refl, sym, ap, ap₂, subst, ◌∙◌, arith, append_assoc, length-append}
 use Rattle.std.specs.Prelude.{slice_get}
 use Rattle.std.specs.List.{All, sum_by}
@@ -33,13 +33,13 @@ last-push inputs i = ap (λ (n : ℕ). slice_get (inputs ++ i ∷ []) (n - 1)) (
     at [] = refl
     at (x ∷ xs) = at xs
 
--- what it says of one behind it
+-- A fact for the next input depends on the last input.
 behind-push : (of : Input → ℕ) (inputs : List Input) (i : Input) → option_map_or of (last_in (inputs ++ i ∷ [])) 0 ≡ of i
 behind-push of inputs i = ap (λ (o : Option Input). option_map_or of o 0) (last-push inputs i)
 
 -- ---- one input
 
--- an input that is later by so much
+-- the input with this append offset
 abbrev pub moved : Option ℕ → Input → Input
 moved shift i = record i { shift = shift }
 
@@ -55,7 +55,7 @@ moved-good f shift i is = record {
 
 -- ---- input after input
 
--- These were set in place, and those are left of all.
+-- The inputs `placed` were placed, and `left` remain.
 pub record GoesOn (f : LiveFiles) (inputs placed left : List Input) : Type 0 where
   pub good : All (IsInput f) placed
   pub rest : All (IsInput f) left
@@ -97,13 +97,13 @@ module _ (f : LiveFiles) (inputs placed new left rest : List Input) (i : Input) 
       place : HasPlace (moved shift i)
       place = omega (arith, near, goes.near, goes.many, ap length next)
 
-  -- what is walked over for it is a part of what is walked over for all that were left
+  -- The bytes for this input are a part of the bytes for all remaining inputs.
   pub goes-paid : (most mid now : ℕ) → mid + 2 * walked_behind f (size_behind f placed) left ≤ most → now ≤ mid + 2 * walked_for i.shift (size_behind f placed) → now + 2 * walked_behind f (size_behind f new) rest ≤ most
   goes-paid most mid now before more =
       let last : size_behind f new ≡ walked_of f i = ap (size_behind f) put ∙ behind-push (walked_of f) placed (moved shift i) in
       omega (arith, ap (walked_behind f (size_behind f placed)) next, ap (λ (n : ℕ). walked_behind f n rest) last)
 
--- no more is walked over than all files
+-- At most the bytes of all files are walked over.
 pub walked-within : (f : LiveFiles) (before : ℕ) (inputs : List Input) → walked_behind f before inputs ≤ before + sum_by (λ (i : Input). f.size i.file.n) inputs
 walked-within f before [] = omega arith
 walked-within f before (i ∷ is) =

@@ -1,4 +1,4 @@
--- What a plan's lanes are.
+-- The output tracks of a plan.
 use Rattle.std.proofs.Common.{◌≡◌, ◌≤◌, ◌<◌, ℕ, zero, suc, ◌+◌, Bool, true, false, if◌then◌else◌, List, [], ◌∷◌, ◌++◌, length, map, flat_map, get_or, Option, Some, None, nat_abs, refl, sym, ap, ap₂, subst, ◌∙◌, arith}
 use Rattle.std.specs.List.{All, AllZip, enumerate_from, range_with_len, sum_by}
 use Rattle.std.specs.Option.{option_or}
@@ -44,7 +44,7 @@ use Rattle.merge_plan.specs.TakenTracks.{AreDriven, Spot, HasPlace, HasTaken, Is
 use Rattle.merge_plan.proofs.ChainLemmas.{begins, enumerate-all, enumerate-map, enumerate-sum, lanes-all, lanes-few, lanes-first, lanes-light, lanes-map, unnumbered}
 use Rattle.merge_plan.proofs.RefusalLemmas.{unrefused-few}
 
--- ---- lists of pairs that stand in a relation
+-- ---- lists of related pairs
 
 pub zip-map : {A B C : Type 0} (R : A → B → Type 0) (f : B → C) (g : A → C) → ((x : A) (y : B) → R x y → f y ≡ g x) → (xs : List A) (ys : List B) → AllZip R xs ys → map f ys ≡ map g xs
 zip-map R f g same [] [] all = refl
@@ -71,9 +71,9 @@ zip-all R Q P so [] (y ∷ ys) each all = absurd all
 zip-all R Q P so (x ∷ xs) [] each all = absurd all
 zip-all R Q P so (x ∷ xs) (y ∷ ys) each all = all-cons P y ys (so x y (each 0 x (omega arith)) all.0) (zip-all R Q P so xs ys (λ k d inside. each (suc k) d (omega arith)) all.1)
 
--- ---- the tracks that are taken, each with its input
+-- ---- the selected tracks, each with its input
 
--- an input that isn't appended, by its number
+-- The input isn't the first of a chain.
 abbrev own_place : ℕ × Input → Bool
 own_place each = goes_on each.1
 
@@ -97,7 +97,7 @@ spots-rules n inputs =
         ∙ ap₂ (λ a b. a ++ b) (one n i (goes_on i)) (of (n + 1) is)
         ∙ sym (map-append rule_of (tracks_begun (read_in i)) (tracks_taken (map read_in is)))
 
--- what a track gives, among these files
+-- the blocks of a track, in these files
 abbrev pub given_at : LiveFiles → Spot → Given
 given_at f s = given_from (read_in s.input).times (append_offset (read_in s.input)) (blocks_in s.input.blocks) (octets_in f s.input.file.n) s.track
 
@@ -119,12 +119,12 @@ spots-numbers n inputs =
     of n i [] = refl
     of n i (t ∷ ts) = ap (λ l. n ∷ l) (of n i ts)
 
--- a fact of inputs, and of the tracks that are taken of them
+-- `P` holds of the input of a track, which can be taken.
 record Holds (P : Input → Type 0) (s : Spot) : Type 0 where
   pub input : P s.input
   pub taken : IsTaken s.track
 
--- an input of which it holds
+-- `P` holds of the input, and its tracks can be taken.
 record HoldsIn (P : Input → Type 0) (i : Input) : Type 0 where
   pub input : P i
   pub taken : HasTaken i
@@ -137,7 +137,7 @@ spots-hold P n inputs each all =
 
 -- ---- a link to a track of a file
 
--- what a track of this number gives, of a file with this outline
+-- the blocks of track `number` in a file with this outline
 made : LiveFiles → Placing → ℕ → ℕ → ℕ → FileOutline → Given
 made f p number scale file outline = track_given p number (events_of (with_limits scale) (octets_in f file) outline.segment)
 
@@ -195,9 +195,9 @@ module _ (i : Input) (read : List Entry) (t : TakenTrack) (link : TextLink) (is 
         entries = subst (All IsSmallEntry) (sym is.entries) (All-weaker (IsEntryWithin MAX_SRT_LEN) IsSmallEntry small-entry read within.1);
       }
 
--- ---- a link, by what holds the blocks of its input
+-- ---- a link, by the form of its input
 
--- what an input has that was read
+-- An input that was read has tracks that can be taken.
 pub input-taken : (f : LiveFiles) (i : Input) → IsInput f i → HasTaken i
 input-taken f i good = record { taken = good.taken; text = short i.blocks good.blocks }
   where
@@ -224,7 +224,7 @@ module _ (i : Input) (t : TakenTrack) where
   link-open f (held_by.Entries entries) (Track link) is live are = absurd is
   link-open f (held_by.Entries entries) (Entries text) is live are = tt
 
-  -- the file of a track is that of the input
+  -- The file of a track is the file of its input.
   file-of : (P : ℕ → Type 0) → P i.file.n → (blocks : Blocks) (link : TrackLink) → IsLinkBy i blocks t (Track link) → P link.file.n
   file-of P own (held_by.Clusters outline scale) link is = subst (λ (file : FileId). P file.n) (sym is.file) own
   file-of P own (held_by.Entries entries) link is = absurd is
@@ -241,7 +241,7 @@ module _ (i : Input) (t : TakenTrack) where
   link-length f blocks (Track link) is = file-of (λ n. f.size n ≤ f.size i.file.n) (omega arith) blocks link is
   link-length f blocks (Entries text) is = omega arith
 
--- ---- the lanes
+-- ---- the output tracks
 
 lane-given : (f : LiveFiles) (spots : List Spot) (l : PlannedLane) → IsLaneOf spots l → map (given_in f) l.spec.links ≡ map (given_at f) spots
 lane-given f spots l is = zip-map IsLinkAt (given_in f) (given_at f) (λ s link at. link-given s.input s.track f s.input.blocks link at) spots l.spec.links is.links
@@ -252,7 +252,7 @@ lane-linked inputs spots l few is =
     let numbers : length l.inputs ≡ length spots = ap length is.inputs ∙ length-map spots (λ (s : Spot). s.number) in
     record { few = omega arith; numbered = omega arith }
 
--- how long the file of a track is
+-- the length of the file of a track
 abbrev spot_length : LiveFiles → Spot → ℕ
 spot_length f s = f.size s.input.file.n
 
@@ -265,13 +265,13 @@ lane-length f (s ∷ spots) (link ∷ links) all =
     let rest = lane-length f spots links all.1 in
     omega (arith, sum_by-cons (spot_length f) s spots)
 
--- An input's links keep their limits.
+-- The links of an input keep their limits.
 record KeepsLimits (i : Input) : Type 0 where
   pub place : HasPlace i
   pub has : HasTaken i
 
 module _ (inputs : List Input) (lanes : List PlannedLane) (are : AllZip IsLaneOf (spots_from 0 inputs) lanes) where
-  -- as many lanes as tracks that begin one
+  -- There is one output track for each track that begins one.
   pub lanes-length : length lanes ≡ length (tracks_taken (map read_in inputs))
   lanes-length =
       let spots : List (List Spot) = spots_from 0 inputs in
@@ -290,21 +290,21 @@ module _ (inputs : List Input) (lanes : List PlannedLane) (are : AllZip IsLaneOf
   pub lanes-rules : rules_of lanes ≡ rules_given (map read_in inputs)
   lanes-rules = zip-map IsLaneOf (λ (l : PlannedLane). l.cues) rule_at (λ spots l is. is.rule) (spots_from 0 inputs) lanes are ∙ spots-rules 0 inputs
 
-  -- those drive that do by the types of the tracks
+  -- The drivers are determined by the types of the tracks.
   pub lanes-drives : (videos : List Bool) → AreDriven videos lanes → videos ≡ map is_video (tracks_taken (map read_in inputs)) → drivers_of lanes ≡ drives_given (map read_in inputs)
   lanes-drives videos driven same =
       driven
       ∙ ap (λ (n : ℕ). map (is_driver videos) (range_with_len 0 n)) (lanes-length ∙ sym (length-map (tracks_taken (map read_in inputs)) is_video))
       ∙ ap (λ (vs : List Bool). map (is_driver vs) (range_with_len 0 (length (map is_video (tracks_taken (map read_in inputs)))))) same
 
-  -- each has few links, and of each the input's number
+  -- Each output track has few links, and the number of each link's input.
   pub lanes-linked : All (IsLinked inputs) lanes
   lanes-linked =
       let few : All (λ (spots : List Spot). length spots ≤ length inputs) (spots_from 0 inputs) =
       subst (λ (n : ℕ). All (λ (spots : List Spot). length spots ≤ n) (spots_from 0 inputs)) (length-enumerate_from 0 inputs) (lanes-few own_place spots_in (enumerate_from 0 inputs)) in
       zip-all IsLaneOf (λ (spots : List Spot). length spots ≤ length inputs) (IsLinked inputs) (λ spots l is_few is. lane-linked inputs spots l is_few is) (spots_from 0 inputs) lanes few are
 
-  -- and no more of each file than that
+  -- Each output track has the bytes of each file at most once.
   pub lanes-once : (f : LiveFiles) → All (λ (l : PlannedLane). files_length f l.spec.links ≤ sum_by (λ (i : Input). f.size i.file.n) inputs) lanes
   lanes-once f =
       let whole : ℕ = sum_by (λ (i : Input). f.size i.file.n) inputs in
@@ -315,7 +315,7 @@ module _ (inputs : List Input) (lanes : List PlannedLane) (are : AllZip IsLaneOf
       zip-all IsLaneOf (λ (spots : List Spot). sum_by (spot_length f) spots ≤ whole) (λ (l : PlannedLane). files_length f l.spec.links ≤ whole)
       (λ spots l fits is. omega (arith, lane-length f spots l.spec.links is.links)) (spots_from 0 inputs) lanes each are
 
-  -- a fact of each link, where it follows from one of each input
+  -- A property of each link that follows from a property of each input.
   pub lanes-links : (C : Input → Type 0) (P : Link → Type 0) → ((i : Input) (t : TakenTrack) (link : Link) → C i → IsTaken t → IsLink i t link → P link) → All C inputs → All HasTaken inputs → All (All P) (links_of lanes)
   lanes-links C P so each taken =
       All-map (All P) (λ (l : PlannedLane). l.spec.links) lanes
@@ -339,7 +339,7 @@ module _ (inputs : List Input) (lanes : List PlannedLane) (are : AllZip IsLaneOf
 
 -- ---- the plan
 
--- what isn't refused has few lanes
+-- A plan that isn't refused has few output tracks.
 pub plan-few : (words : MergeWords) (reads : List InputRead) → plan_refusal words reads ≡ None → length (tracks_taken reads) ≤ MAX_LANES
 plan-few words reads none = unrefused-few words.webm (tracks_taken reads) (first-none (lanes_refusal words.webm (tracks_taken reads)) (records_refusal reads) none)
   where

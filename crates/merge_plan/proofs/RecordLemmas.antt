@@ -1,4 +1,4 @@
--- The titles of inputs, the tracks that are taken, and their entries.
+-- The titles of inputs, the selected tracks, and their entries.
 use Rattle.std.proofs.Common.{◌≡◌, ◌≤◌, ◌<◌, ℕ, zero, suc, ◌+◌, Bool, true, false, if◌then◌else◌, List, [], ◌∷◌, ◌++◌, length, take, drop, map, flat_map, get_or, Option, Some, None, refl, sym, ap, ap₂, ◌∙◌, arith, append-nil, append_assoc}
 use Rattle.std.specs.List.{All}
 use Rattle.std.specs.Option.{IfSome}
@@ -38,9 +38,9 @@ module _ (inputs : List Input) (k : ℕ) (i : Input) (inside : k < length inputs
 pub title-none : (inputs : List Input) (k : ℕ) → length inputs ≤ k → first_title (map read_in (drop k inputs)) ≡ []
 title-none inputs k past = ap (λ l. first_title (map read_in l)) (drop_all k inputs past)
 
--- ---- the tracks that are taken
+-- ---- the selected tracks
 
--- those of an input that begin lanes
+-- the tracks of an input that begin output tracks
 abbrev pub begun_in : Input → List TakenTrack
 begun_in i = tracks_begun (read_in i)
 
@@ -58,7 +58,7 @@ taken-next inputs k i inside is =
 pub taken-all : (inputs : List Input) (k : ℕ) → length inputs ≤ k → taken_in (take k inputs) ≡ tracks_taken (map read_in inputs)
 taken-all inputs k past = ap taken_in (take_all k inputs past) ∙ taken-read inputs
 
--- each is taken so
+-- Each of them can be taken.
 pub begun-taken : (i : Input) → HasTaken i → All IsTaken (begun_in i)
 begun-taken i has = of (is_appended (read_in i))
   where
@@ -75,7 +75,7 @@ each-taken (i ∷ is) all = All-append IsTaken (begun_in i) (taken_in is) (begun
 pub length-uids : (taken : List TakenTrack) → length (uids_of taken) ≡ length taken
 length-uids taken = length-from (map (λ (t : TakenTrack). t.track.uid) taken) [] (map (λ (t : TakenTrack). t.track.uid) taken) ∙ length-map taken (λ (t : TakenTrack). t.track.uid)
 
--- inside a list another default changes nothing
+-- Inside a list the default doesn't matter.
 get_or-same : (xs : List ℕ) (k d e : ℕ) → k < length xs → get_or xs k d ≡ get_or xs k e
 get_or-same [] k d e inside = absurd (omega arith)
 get_or-same (x ∷ xs) zero d e inside = refl
@@ -99,7 +99,7 @@ pub entries-all : (uids : List ℕ) (refs : List (Bor TakenTrack)) (k : ℕ) (en
 entries-all uids refs k entries all past as_many so_far =
     sym (append-nil entries) ∙ ap (λ us. entries ++ entries_from (k + 1) us (drop k (lent refs))) (sym (drop_all k uids (omega arith))) ∙ so_far
 
--- what can be written was read
+-- A record that can be written was read as one.
 pub read-record : (own : ℕ) (n : Option Node) → IfSome n (IsRecord own) → IfSome n (IsRead own)
 read-record own None is = tt
 read-record own (Some m) is = record { id = is.id; master = is.master; sound = is.sound }

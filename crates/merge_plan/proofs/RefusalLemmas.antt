@@ -1,4 +1,4 @@
--- What refuses tracks.
+-- Refusals of tracks.
 use Rattle.std.proofs.Common.{◌≡◌, ◌≤◌, ◌<◌, ℕ, ◌+◌, ◌==◌, nat_lt, Bool, true, false, List, ◌∷◌, length, drop, get_or, Some, None, if◌then◌else◌, refl, sym, ap, ◌∙◌, arith}
 use Rattle.std.specs.Option.{option_or}
 use Rattle.std.proofs.lemmas.Bool.Decides.{nat_tests}
@@ -31,7 +31,7 @@ module _ (refs : List (Bor TakenTrack)) (k : ℕ) (r : Bor TakenTrack) (inside :
 pub codec-none : (refs : List (Bor TakenTrack)) (k : ℕ) → length refs ≤ k → other_codec (drop k (lent refs)) ≡ None
 codec-none refs k past = let long = length-lent refs in ap other_codec (drop_all k (lent refs) (omega arith))
 
--- ---- tracks as lanes
+-- ---- tracks as output tracks
 
 module _ (webm : Bool) (taken : List TakenTrack) where
   pub refused-none : (length taken == 0) ≡ true → lanes_refusal webm taken ≡ Some NoLane
@@ -46,7 +46,7 @@ module _ (webm : Bool) (taken : List TakenTrack) where
         let is : nat_lt MAX_LANES (length taken) ≡ true = grind (arith, nat_tests) in
         past-none ∙ ap (λ b. option_or (where_so b TooManyLanes) (not_webm webm taken)) is
 
--- what isn't refused are some lanes, and not too many
+-- Without a refusal there are some output tracks, and not too many.
 pub unrefused-few : (webm : Bool) (taken : List TakenTrack) → lanes_refusal webm taken ≡ None → length taken ≤ MAX_LANES
 unrefused-few webm taken none = of (length taken == 0) refl (nat_lt MAX_LANES (length taken)) refl
   where

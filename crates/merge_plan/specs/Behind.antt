@@ -1,4 +1,4 @@
--- What the last of some inputs says of one that is appended to it: what the code knows on the way. Where inputs stand is that of Places.
+-- Facts of an input that is appended to the last of some inputs, as the code knows them on the way. Places defines the beginnings of inputs.
 use Rattle.std.specs.Prelude.{◌≡◌, ℕ, ◌+◌, ◌-◌, List, length, Option, None, Some, slice_get, ◌*◌}
 use Rattle.std.specs.List.{All}
 use Rattle.std.specs.Option.{option_map, option_map_or}
@@ -15,23 +15,23 @@ use Rattle.mkv_io.specs.Bounds.{ReadsUpTo}
 use Rattle.mkv_io.specs.Sources.{live_files}
 use Rattle.mkv_io.specs.declared.reads.Reads.{Ghosts}
 
--- An input ends at this time, where its file tells its content.
+-- The input ends at `time`, if the content of its file is visible to the proof.
 abbrev pub EndsAt : LiveFiles → Input → ℕ → Type 0
 EndsAt f i time = IsToldInput f i → time ≡ end_of (source_in f i)
 
--- the last of these
+-- the last input
 abbrev pub last_in : List Input → Option Input
 last_in inputs = slice_get inputs (length inputs - 1)
 
--- where the last of these ends; 0 where there is none
+-- the end of the last input, or 0 if there is none
 abbrev pub end_behind : LiveFiles → List Input → ℕ
 end_behind f inputs = option_map_or (λ (i : Input). end_of (source_in f i)) (last_in inputs) 0
 
--- the most nanoseconds at which it ends
+-- the greatest possible end of the last input, in nanoseconds
 abbrev pub most_behind : List Input → ℕ
 most_behind inputs = option_map_or (λ (i : Input). append_offset (read_in i) + MAX_END) (last_in inputs) 0
 
--- how much of a file of this length is walked over to find where it ends: of a text nothing, since its entries tell that
+-- the number of bytes of a file that are walked over to find its end: `size` bytes, or none for a text, whose entries have the end
 abbrev pub walked_in : Blocks → ℕ → ℕ
 walked_in (Clusters outline scale) size = size
 walked_in (Entries entries) size = 0
@@ -39,19 +39,19 @@ walked_in (Entries entries) size = 0
 abbrev pub walked_of : LiveFiles → Input → ℕ
 walked_of f i = walked_in i.blocks (f.size i.file.n)
 
--- how much of the file of the last of these is
+-- the number of bytes of the last input's file that are walked over
 abbrev pub size_behind : LiveFiles → List Input → ℕ
 size_behind f inputs = option_map_or (walked_of f) (last_in inputs) 0
 
--- how much is walked over for an input with this shift: so much of the file before it, where it is appended
+-- the number of bytes that are walked over for an input with this shift: `before` for an appended one
 abbrev pub walked_for : Option ℕ → ℕ → ℕ
 walked_for None before = 0
 walked_for (Some time) before = before
 
--- Where an input with this shift is appended, the file of the last of these is read twice at most; else nothing is.
+-- For an appended input, the file of the last input before it is read at most twice; for another input nothing is read.
 abbrev pub ReadsToPlace : {S : Type 0} → Ghosts S → S → S → List Input → Option ℕ → Type 0
 ReadsToPlace r old new before shift = ReadsUpTo r old new (2 * walked_for shift (size_behind (live_files r old) before))
 
--- An input with this shift is later by so much, behind these, where their files tell their contents.
+-- An input with this shift has the append offset `later` after the inputs `before`, if the contents of their files are visible to the proof.
 abbrev pub IsBehind : LiveFiles → List Input → Option ℕ → Option ℕ → Type 0
 IsBehind f before shift later = All (IsToldInput f) before → later ≡ option_map (λ _. end_behind f before) shift

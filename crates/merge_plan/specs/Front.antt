@@ -1,4 +1,4 @@
--- What stands in front of the Clusters of a merge: RFC 9559, sections 5.1.2 (Info Element), 5.1.4 (Tracks Element) and 5.1.6 (Attachments Element).
+-- The Elements before the Clusters of a merge: RFC 9559, sections 5.1.2 (Info Element), 5.1.4 (Tracks Element) and 5.1.6 (Attachments Element).
 use Rattle.std.specs.Prelude.{ℕ, List, [], ◌∷◌, map, flat_map, sum_by}
 use Rattle.mkv_io.specs.Contents.{octets_from}
 use Rattle.mkv_schema.specs.declared.ids.TheConstants.{FILE_UID}
@@ -13,13 +13,13 @@ use Rattle.merge_inputs.specs.Input.{InputRead}
 use Rattle.merge_plan.specs.Plan.{Source}
 use Rattle.merge_plan.specs.Records.{info_of, tracks_of_output}
 
--- what was read of the inputs
+-- the records of the inputs
 abbrev pub reads_of : List Source → List InputRead
 reads_of sources = map (λ (s : Source). s.1) sources
 
 -- ---- attached files
 
--- the FileUIDs that the attached files of all inputs get
+-- the FileUIDs of the attached files of all inputs in the output
 abbrev pub file_uids : List InputRead → List ℕ
 file_uids reads = renumbered (map (λ (a : AttachedFile). a.uid) (flat_map (λ (i : InputRead). i.attachments) reads))
 
@@ -27,7 +27,7 @@ file_uids reads = renumbered (map (λ (a : AttachedFile). a.uid) (flat_map (λ (
 abbrev pub files_in : Source → List (AttachedFile × List ℕ)
 files_in s = map (λ (a : AttachedFile). (a, octets_from s.0 a.at a.len)) s.1.attachments
 
--- The AttachedFile of an output: that of an input, with this FileUID, and with its data.
+-- The AttachedFile of an output: the input's, with this FileUID and its data.
 abbrev pub attached : ℕ → AttachedFile × List ℕ → Node
 attached uid f = with_data f.1 (set_in (uint_leaf FILE_UID uid) f.0.entry)
 
@@ -36,11 +36,11 @@ attached_from [] files = []
 attached_from (uid ∷ uids) [] = []
 attached_from (uid ∷ uids) (f ∷ files) = attached uid f ∷ attached_from uids files
 
--- those of all inputs, one input behind the other
+-- the AttachedFiles of all inputs, input after input
 abbrev pub attachments_of : List Source → List Node
 attachments_of sources = attached_from (file_uids (reads_of sources)) (flat_map files_in sources)
 
--- how many octets the data of all attached files are
+-- the number of bytes of the data of all attached files
 abbrev pub attached_length : List InputRead → ℕ
 attached_length reads = sum_by (λ (i : InputRead). sum_by (λ (a : AttachedFile). a.len) i.attachments) reads
 

@@ -1,4 +1,5 @@
--- The identifiers of an output: RFC 9559, sections 5.1.4.1.2 (TrackUID Element), 5.1.6.1.5 (FileUID Element), 5.1.7.1.1 (EditionUID Element) and 5.1.7.1.4.1 (ChapterUID Element). Which they are is this project's.
+-- The identifiers of an output: RFC 9559, sections 5.1.4.1.2 (TrackUID Element), 5.1.6.1.5 (FileUID Element), 5.1.7.1.1 (EditionUID Element) and
+-- 5.1.7.1.4.1 (ChapterUID Element). The choice of identifiers is this project's.
 use Rattle.std.specs.Prelude.{◌<◌, ◌^◌, ℕ, List}
 use Rattle.std.specs.List.{All}
 use Rattle.output_records.specs.Attachments.{file_numbers}
@@ -13,7 +14,7 @@ pub record Identifiers : Type 0 where
   pub chapters : List ℕ
   pub files : List ℕ
 
--- those of a merge of inputs
+-- the identifiers of a merge of inputs
 abbrev pub identifiers_of : List InputRead → Identifiers
 identifiers_of reads = record {
   tracks = uids_of (tracks_taken reads);

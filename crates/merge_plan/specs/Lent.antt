@@ -1,7 +1,7 @@
--- Things that are lent.
+-- Borrowed things.
 use Rattle.std.specs.Prelude.{List, map}
 use denote.Ref.{Bor}
 
--- what references point to
+-- the values that references point to
 abbrev pub lent : {A : Type 0} → List (Bor A) → List A
 lent refs = map (λ r. r.now) refs

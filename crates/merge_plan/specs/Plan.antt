@@ -1,4 +1,4 @@
--- What the lanes of a merge are made of: RFC 9559, section 5.1.4 (Tracks Element). Which tracks make one lane is this project's.
+-- The output tracks of a merge: RFC 9559, section 5.1.4 (Tracks Element). The rule for joining tracks is this project's.
 use Rattle.std.specs.Prelude.{ℕ, ◌==◌, Bool, ◌||◌, if◌then◌else◌, List, [], length, map, Option, Some, None, unwrap_or}
 use Rattle.std.specs.List.{enumerate_from, range_with_len}
 use Rattle.std.specs.Option.{option_map_or}
@@ -25,45 +25,44 @@ use Rattle.merge_inputs.specs.declared.taken.TakenTrack.{TakenTrack}
 use Rattle.merge_plan.specs.Chains.{lanes_by}
 use Rattle.merge_plan.specs.Records.{chapters_of, is_appended, tracks_taken}
 
--- ---- the lanes, one for each track that begins one
+-- ---- the output tracks, one for each track that begins one
 
--- an input's content, and what is read of it before its blocks
+-- an input's content, and its records before the blocks
 abbrev pub Source : Type 0
 Source = List ℕ × InputRead
 
--- by how many nanoseconds an input is later; one that isn't appended is at its own time
+-- the append offset of an input in nanoseconds, or 0 if it isn't appended
 abbrev pub append_offset : InputRead → ℕ
 append_offset i = unwrap_or i.shift 0
 
--- how the blocks of a track are placed: with the word's delay, later by so much, and with what header stripping took from the
--- front of each frame
+-- the placing of the blocks of a track: the delay from the options, the append offset, and the bytes that header stripping removed from each
+-- frame
 abbrev pub placing_for : ℕ → TakenTrack → Placing
 placing_for shift t = record { delay = t.delay; shift = shift; default_duration = t.track.default_duration; prefix = prefix_of t.track.entry }
 
--- what a track gives of a file with these blocks and damages, at its own times or at those that files list for tracks
+-- the blocks of a track in a file with these events, at its own times or at the times that a timestamp file lists
 abbrev pub given_for : List (ℕ × Listing) → ℕ → List Event → TakenTrack → Given
 given_for times shift events t = timed_given (value_for t.id times) 0 (track_given (placing_for shift t) t.track.number events)
 
--- what a track gives, by what holds the blocks of its input, and by the content of the file: of Clusters its own blocks, with the damages of
--- the file; of a text all entries
+-- the blocks of a track, by the form of its input: in Clusters its own blocks, with the damage of the file; in a text all entries
 abbrev pub given_from : List (ℕ × Listing) → ℕ → BlocksRead → List ℕ → TakenTrack → Given
 given_from times shift (Clusters segment scale) bytes t = given_for times shift (events_by (Clusters segment scale) bytes) t
 given_from times shift (Entries entries) bytes t = text_given t.delay shift entries
 
--- what the tracks of a source give to its lanes
+-- the blocks of the tracks of a source
 abbrev pub given_of : Source → List Given
 given_of s = map (given_from s.1.times (append_offset s.1) s.1.blocks s.0) s.1.taken
 
--- Each lane, by what its links give: a track of a source that isn't appended begins one, and the tracks at its place of those that are
--- appended to that source go on in it.
+-- The links of each output track. A track of a source that isn't appended begins one. The tracks at its index in the sources that are appended to
+-- that source continue it.
 abbrev pub lanes_given : List Source → List (List Given)
 lanes_given sources = lanes_by (λ (s : Source). is_appended s.1) given_of sources
 
--- the number of an input, for each of its tracks
+-- the number of an input, once for each of its tracks
 abbrev pub numbers_of : ℕ × InputRead → List ℕ
 numbers_of each = map (λ _. each.0) each.1.taken
 
--- of each lane the numbers of its links' inputs, where the first of these inputs has this number
+-- the numbers of the inputs of each output track's links; the first input has number `input`
 abbrev pub inputs_given : ℕ → List InputRead → List (List ℕ)
 inputs_given input reads = lanes_by (λ (each : ℕ × InputRead). is_appended each.1) numbers_of (enumerate_from input reads)
 
@@ -72,7 +71,7 @@ inputs_given input reads = lanes_by (λ (each : ℕ × InputRead). is_appended e
 abbrev pub limits_of : MergeWords → ClusterLimits
 limits_of words = record { blocks = words.blocks; span = words.span; scale = words.scale }
 
--- where the words say nothing, blocks that can be decoded without another get a cue point, but for those of audio
+-- the default rule for cue points: keyframes of video and subtitle tracks get one, blocks of audio tracks don't
 abbrev pub default_rule : ℕ → CueRule
 default_rule type = if type == VIDEO_TRACK || type == SUBTITLE_TRACK then rule.Key else rule.Never
 
@@ -88,19 +87,19 @@ rule_of t = rule_for t.cues t.track.kind
 abbrev pub rules_given : List InputRead → List CueRule
 rules_given reads = map rule_of (tracks_taken reads)
 
--- ---- where the output is split
+-- ---- the split of the output
 
 abbrev pub is_video : TakenTrack → Bool
 is_video t = t.track.kind == VIDEO_TRACK
 
--- of lanes, of which these are video, which drive
+-- for each output track, whether it is a driver; `videos` says which are video
 abbrev pub drivers_by : List Bool → List Bool
 drivers_by videos = map (is_driver videos) (range_with_len 0 (length videos))
 
 abbrev pub drives_given : List InputRead → List Bool
 drives_given reads = drivers_by (map is_video (tracks_taken reads))
 
--- where the chapters start that are written, if any are
+-- the starts of the output's chapters, if it has any
 abbrev pub starts_in : Option Node → List ℕ
 starts_in chapters = option_map_or top_starts chapters []
 

@@ -1,4 +1,4 @@
--- What a plan is.
+-- The parts of a plan.
 use Rattle.std.specs.Prelude.{◌≡◌, ◌<◌, ◌≤◌, ⊤, ℕ, ◌+◌, Bool, false, List, length, map, get_or, sum_by, None, Some, IfSome, Result, Ok, Err}
 use Rattle.std.specs.List.{All}
 use Rattle.mkv_io.specs.LiveFiles.{LiveFiles}
@@ -34,13 +34,14 @@ use Rattle.merge_plan.specs.Refusal.{plan_refusal}
 abbrev pub source_in : LiveFiles → Input → Source
 source_in f i = (octets_in f i.file.n, read_in i)
 
--- the file of an input tells its content
+-- The content of an input's file is visible to the proof.
 abbrev pub IsToldInput : LiveFiles → Input → Type 0
 IsToldInput f i = f.content i.file.n ≡ Some (octets_in f i.file.n)
 
 -- ---- the records of an output
 
--- The records are those that the inputs come to: the attached files with their data, by the contents of the files, and how many octets these are.
+-- The records are the ones for the inputs: the attached files with their data, by the contents of the files, and the number of bytes of these
+-- data.
 pub record AreRecordsOf (inputs : List Input) (r : OutputRecords) : Type 0 where
   pub tracks : r.tracks ≡ tracks_of_output (map read_in inputs)
   pub attachments : (f : LiveFiles) → All (IsToldInput f) inputs → map (attached_file f) r.attachments ≡ attachments_of (map (source_in f) inputs)
@@ -48,7 +49,7 @@ pub record AreRecordsOf (inputs : List Input) (r : OutputRecords) : Type 0 where
   pub chapters : r.chapters ≡ chapters_of (map read_in inputs)
   pub tags : r.tags ≡ tags_of (map read_in inputs)
 
--- An attached file's data stand in the file of one of the inputs.
+-- The data of the attached file are in the file of one of the inputs.
 pub record StandsInInput (inputs : List Input) (a : Attachment) : Type 0 where
   pub number : ℕ
   pub input : Input
@@ -57,7 +58,7 @@ pub record StandsInInput (inputs : List Input) (a : Attachment) : Type 0 where
   pub same : a.file ≡ input.file
   pub within : a.at + a.len ≤ total_in input.blocks
 
--- They can be written and read again, and their identifiers have 64 bits.
+-- The records can be written and read again, and their identifiers have 64 bits.
 pub record AreSound (inputs : List Input) (r : OutputRecords) : Type 0 where
   pub tracks : IsRecord TRACKS r.tracks
   pub attachments : All IsAttached r.attachments
@@ -66,7 +67,7 @@ pub record AreSound (inputs : List Input) (r : OutputRecords) : Type 0 where
   pub tags : IfSome r.tags (IsRecord TAGS)
   pub numbers : Have64Bits (identifiers_of (map read_in inputs))
 
--- They are those of the inputs, which nothing refuses; the inputs are refused for what refuses them; or there is no memory.
+-- The result is the records for the inputs, which aren't refused; or their refusal; or memory ran out.
 abbrev pub GivesRecords : MergeWords → List Input → Result OutputRecords PlanEnd → Type 0
 GivesRecords words inputs (Ok r) = (plan_refusal words (map read_in inputs) ≡ None) × AreRecordsOf inputs r
 GivesRecords words inputs (Err (Refused why)) = plan_refusal words (map read_in inputs) ≡ Some why
@@ -74,9 +75,9 @@ GivesRecords words inputs (Err Memory) = ⊤
 
 -- ---- the plan
 
--- The plan that words and inputs come to: its name, where it is split and where its Clusters end, the identifiers of its outputs, what stands in front of them and what behind,
--- with how many octets of attached files' data;
--- and of each lane what its links give, by the contents of their files, their inputs, which blocks get a cue point, and whether it drives.
+-- The plan is the one for the options and inputs. It has the name, the split and the limits of Clusters, the identifiers, and the records before
+-- and after the Clusters, with the number of bytes of attached files. For each output track it has the blocks of its links, by the contents of
+-- their files, their inputs, the rule for cue points, and whether it is a driver.
 pub record IsPlanOf (words : MergeWords) (inputs : List Input) (p : MergePlan) : Type 0 where
   pub output : p.output ≡ words.output
   pub split : p.split ≡ split_given words (map read_in inputs)
@@ -93,32 +94,31 @@ pub record IsPlanOf (words : MergeWords) (inputs : List Input) (p : MergePlan) :
   pub rules : rules_of p.lanes ≡ rules_given (map read_in inputs)
   pub drives : drivers_of p.lanes ≡ drives_given (map read_in inputs)
 
--- A plan is that of the words and inputs, which nothing refuses; they are refused for what refuses them; or there is no
--- memory.
+-- The result is the plan for the options and inputs, which aren't refused; or their refusal; or memory ran out.
 abbrev pub Plans : MergeWords → List Input → Result MergePlan PlanEnd → Type 0
 Plans words inputs (Ok p) = (plan_refusal words (map read_in inputs) ≡ None) × IsPlanOf words inputs p
 Plans words inputs (Err (Refused why)) = plan_refusal words (map read_in inputs) ≡ Some why
 Plans words inputs (Err Memory) = ⊤
 
--- ---- what is known of every plan
+-- ---- facts of every plan
 
--- a fact of each link of each lane
+-- `P` holds of each link of each output track.
 abbrev pub AllLinks : (Link → Type 0) → MergePlan → Type 0
 AllLinks P p = All (All P) (links_of p.lanes)
 
--- A test of live files, by their numbers, spares that of a track.
+-- The test of live files, by their numbers, fails for the file of a track's link.
 abbrev pub IsSparedLink : (ℕ → Bool) → Link → Type 0
 IsSparedLink test (Track t) = test t.file.n ≡ false
 IsSparedLink test (Entries e) = ⊤
 
--- A lane has at most one link for each input, and of each the number of its input.
+-- An output track has at most one link for each input, and the number of each link's input.
 pub record IsLinked (inputs : List Input) (l : PlannedLane) : Type 0 where
   pub few : length l.spec.links ≤ length inputs
   pub numbered : length l.inputs ≡ length l.spec.links
 
--- A plan of these inputs can be carried out: its lanes are few, each with links for some of the inputs, of each one at most; the links
--- are small, and tracks of the inputs, so that a test which spares the files of all inputs spares theirs; its records are read again, its
--- attached files stand in those of the inputs, and its identifiers have 64 bits.
+-- A plan for these inputs can be carried out. It has few output tracks, each with at most one link for each input. The links are small, and are
+-- tracks of the inputs; a test that fails for the files of all inputs fails for theirs. Its records can be read again, the data of its attached
+-- files are in the inputs' files, and its identifiers have 64 bits.
 pub record CanBeWritten (inputs : List Input) (p : MergePlan) : Type 0 where
   pub few : length p.lanes ≤ MAX_LANES
   pub linked : All (IsLinked inputs) p.lanes

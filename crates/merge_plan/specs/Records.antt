@@ -1,4 +1,5 @@
--- The records of a merge: RFC 9559, sections 5.1.2 (Info Element), 5.1.4 (Tracks Element), 5.1.6 (Attachments Element), 5.1.7 (Chapters Element) and 5.1.8 (Tags Element). Which titles and identifiers an output gets is this project's.
+-- The records of a merge: RFC 9559, sections 5.1.2 (Info Element), 5.1.4 (Tracks Element), 5.1.6 (Attachments Element), 5.1.7 (Chapters Element)
+-- and 5.1.8 (Tags Element). The choice of titles and identifiers is this project's.
 use Rattle.std.specs.Prelude.{ℕ, ◌+◌, Bool, if◌then◌else◌, List, [], ◌∷◌, length, take, drop, map, flat_map, Option, is_some, unwrap_or}
 use Rattle.tree_format.specs.Node.{Node}
 use Rattle.output_model.specs.declared.attachment.Attachment.{Attachment}
@@ -16,25 +17,25 @@ use Rattle.output_records.specs.declared.inputs.InputRecords.{InputRecords}
 use Rattle.output_records.specs.Info.{output_info}
 use Rattle.output_records.specs.Tracks.{output_tracks}
 
--- an input goes on where the one before it ends
+-- The input is appended to the previous one.
 abbrev pub is_appended : InputRead → Bool
 is_appended i = is_some i.shift
 
--- the tracks of an input that begin lanes: those of one that is appended go on in the lanes of the one before it
+-- the tracks of an input that begin output tracks; the tracks of an appended input continue the previous input's
 abbrev pub tracks_begun : InputRead → List TakenTrack
 tracks_begun i = if is_appended i then [] else i.taken
 
--- the tracks that begin lanes, input after input; the first lane of the output has the number 1
+-- the tracks that begin output tracks, input after input; the first output track has number 1
 abbrev pub tracks_taken : List InputRead → List TakenTrack
 tracks_taken reads = flat_map tracks_begun reads
 
 -- ---- Tracks
 
--- the TrackUIDs that they get
+-- the TrackUIDs of the output tracks
 abbrev pub uids_of : List TakenTrack → List ℕ
 uids_of taken = renumbered (map (λ (t : TakenTrack). t.track.uid) taken)
 
--- what is set in the entry of a track: the number of its lane, its identifier, and what the words say of it
+-- the changes of the entry of a track: the number of its output track, its identifier, and its options
 abbrev pub change_of : ℕ → ℕ → TakenTrack → TrackChange
 change_of number uid t = record {
   number = number;
@@ -48,7 +49,7 @@ change_of number uid t = record {
 abbrev pub entry_of : ℕ → ℕ → TakenTrack → Node
 entry_of number uid t = written_entry (change_of number uid t) t.track.entry
 
--- the entries of tracks with these identifiers, numbered from this one on
+-- the entries of tracks with these identifiers, numbered from `number`
 abbrev pub entries_from : ℕ → List ℕ → List TakenTrack → List Node
 entries_from number [] taken = []
 entries_from number (uid ∷ uids) [] = []
@@ -62,7 +63,7 @@ tracks_of_output reads = output_tracks (entries_of (tracks_taken reads))
 
 -- ---- Info
 
--- a title, or another where it is empty
+-- a title, or the other if it is empty
 abbrev pub title_or : List ℕ → List ℕ → List ℕ
 title_or [] other = other
 title_or (octet ∷ octets) other = octet ∷ octets
@@ -72,7 +73,7 @@ abbrev pub first_title : List InputRead → List ℕ
 first_title [] = []
 first_title (i ∷ is) = title_or i.title (first_title is)
 
--- the title that the words give, else the first of an input; where the words give an empty one, there is none
+-- the title in the options, or else the first title of an input; an empty title in the options means that there is none
 abbrev pub title_of : MergeWords → List InputRead → List ℕ
 title_of words reads = unwrap_or words.title (first_title reads)
 
@@ -81,11 +82,11 @@ info_of words reads = output_info words.scale (title_of words reads)
 
 -- ---- Attachments, Chapters and Tags
 
--- what was read of an input, and its attached files, each in a live file
+-- the records of an input, and its attached files, each in a live file
 abbrev pub Kept : Type 0
 Kept = List Attachment × InputRead
 
--- what an input gives besides its tracks and blocks, where its lanes have these TrackUIDs
+-- the data of an input besides its tracks and blocks, if its output tracks have the TrackUIDs `numbers`
 abbrev pub records_in : List ℕ → Kept → InputRecords
 records_in numbers k = record {
   track_uids = map (λ (t : TakenTrack). t.track.uid) k.1.taken;
@@ -97,20 +98,20 @@ records_in numbers k = record {
   keep = k.1.keep;
 }
 
--- The TrackUIDs of an input's lanes: those of the input before it, where it is appended, else the first of those that
--- are left; and what is left then.
+-- The TrackUIDs of an input's output tracks: for an appended input the previous input's, and for another the first ones in `left`. `uids_behind`
+-- has the ones that are left then.
 abbrev pub uids_at : List ℕ → List ℕ → InputRead → List ℕ
 uids_at before left i = if is_appended i then before else take (length i.taken) left
 
 abbrev pub uids_behind : List ℕ → InputRead → List ℕ
 uids_behind left i = if is_appended i then left else drop (length i.taken) left
 
--- what inputs give, one behind the other, where the lanes of the input before them have these TrackUIDs, and those are left
+-- the data of inputs in sequence; `before` has the TrackUIDs of the previous input's output tracks, and `left` the remaining ones
 abbrev pub records_from : List ℕ → List ℕ → List Kept → List InputRecords
 records_from before left [] = []
 records_from before left (k ∷ ks) = records_in (uids_at before left k.1) k ∷ records_from (uids_at before left k.1) (uids_behind left k.1) ks
 
--- those that inputs hold, in their files
+-- the records and attached files of an input, in its file
 abbrev pub kept_in : Input → Kept
 kept_in i = (i.attachments, read_in i)
 
@@ -121,7 +122,7 @@ anywhere a = record { uid = a.uid; file = record { n = 0 }; at = a.at; len = a.l
 abbrev pub kept_anywhere : InputRead → Kept
 kept_anywhere i = (map anywhere i.attachments, i)
 
--- what all inputs give, whose lanes get the TrackUIDs of the output
+-- the data of all inputs, with the TrackUIDs of the output tracks
 abbrev pub records_of : List InputRead → List InputRecords
 records_of reads = records_from [] (uids_of (tracks_taken reads)) (map kept_anywhere reads)
 

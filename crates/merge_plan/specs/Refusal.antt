@@ -1,4 +1,4 @@
--- What refuses a merge whose inputs were read. The causes, their order and the limits are this project's.
+-- The refusal of a merge whose inputs were read. The reasons, their order and the limits are this project's.
 use Rattle.std.specs.Prelude.{ℕ, ◌==◌, nat_lt, Bool, true, false, not, if◌then◌else◌, List, length, find, Option, Some, None, option_map}
 use Rattle.std.specs.Option.{option_or}
 use Rattle.output_model.specs.declared.TheConstants.{MAX_LANES}
@@ -11,34 +11,34 @@ use Rattle.merge_plan.specs.declared.refusal.PlanRefusal.TheVariants.{NoLane, To
 use Rattle.merge_plan.specs.Records.{chapters_of, tags_of, tracks_of_output, tracks_taken}
 use Rattle.merge_plan.specs.Webm.{is_webm_codec}
 
--- something that stands only if a test passes
+-- `x`, if the test passes
 abbrev pub where_so : {A : Type 0} → Bool → A → Option A
 where_so true x = Some x
 where_so false x = None
 
--- no track is taken
+-- the refusal if no track is selected
 abbrev pub no_lane : List TakenTrack → Option PlanRefusal
 no_lane taken = where_so (length taken == 0) NoLane
 
--- more tracks are taken than an output has lanes
+-- the refusal if more tracks are selected than an output may have
 abbrev pub too_many_lanes : List TakenTrack → Option PlanRefusal
 too_many_lanes taken = where_so (nat_lt MAX_LANES (length taken)) TooManyLanes
 
--- the CodecID of the first track that a WebM output can't have
+-- the CodecID of the first track that WebM doesn't allow
 abbrev pub other_codec : List TakenTrack → Option (List ℕ)
 other_codec taken = option_map (λ (t : TakenTrack). t.track.codec) (find (λ (t : TakenTrack). not (is_webm_codec t.track.codec)) taken)
 
 abbrev pub not_webm : Bool → List TakenTrack → Option PlanRefusal
 not_webm webm taken = if webm then option_map NotWebm (other_codec taken) else None
 
--- what refuses tracks as lanes
+-- the refusal of the selected tracks
 abbrev pub lanes_refusal : Bool → List TakenTrack → Option PlanRefusal
 lanes_refusal webm taken = option_or (no_lane taken) (option_or (too_many_lanes taken) (not_webm webm taken))
 
--- Tracks, Chapters or Tags, of which the first counts, would be refused when they are read
+-- the refusal if Tracks, Chapters or Tags couldn't be read again; the first of them is named
 abbrev pub records_refusal : List InputRead → Option PlanRefusal
 records_refusal reads = option_map HeaderTooLarge (first_too_large (tracks_of_output reads) (chapters_of reads) (tags_of reads))
 
--- what refuses it, in the order in which it is told
+-- the refusal of a merge, in the order of the checks
 abbrev pub plan_refusal : MergeWords → List InputRead → Option PlanRefusal
 plan_refusal words reads = option_or (lanes_refusal words.webm (tracks_taken reads)) (records_refusal reads)

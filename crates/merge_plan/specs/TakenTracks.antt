@@ -1,4 +1,4 @@
--- Where the blocks of a lane come from, and the attached files of an output. The rule is this project's.
+-- The sources of an output track's blocks, and of the attached files of an output. The rule is this project's.
 use Rattle.std.specs.Prelude.{◌≡◌, ◌≤◌, ⊤, ℕ, Bool, List, [], ◌∷◌, ◌++◌, length, map, slice_get, IfSome, Option}
 use Rattle.std.specs.List.{All, AllZip, enumerate_from, range_with_len}
 use Rattle.std.specs.Option.{option_to_list}
@@ -33,7 +33,7 @@ use Rattle.merge_plan.specs.Plan.{append_offset, rule_of}
 use Rattle.merge_plan.specs.Records.{is_appended}
 use Rattle.ext_times.specs.Listing.{Listing}
 
--- a track that is taken, its input, and the input's number
+-- a selected track, its input, and the input's number
 pub record Spot : Type 0 where
   pub number : ℕ
   pub input : Input
@@ -42,32 +42,32 @@ pub record Spot : Type 0 where
 abbrev pub spot : ℕ → Input → TakenTrack → Spot
 spot number i t = record { number = number; input = i; track = t }
 
--- those of an input, by its number
+-- the selected tracks of an input, by its number
 abbrev pub spots_in : ℕ × Input → List Spot
 spots_in each = map (spot each.0 each.1) each.1.taken
 
--- an input goes on where the one before it ends
+-- The input is appended to the previous one.
 abbrev pub goes_on : Input → Bool
 goes_on i = is_appended (read_in i)
 
--- the spots of each lane of inputs, the first of which has this number
+-- the tracks of each output track; the first input has number `number`
 abbrev pub spots_from : ℕ → List Input → List (List Spot)
 spots_from number inputs = lanes_by (λ (each : ℕ × Input). goes_on each.1) spots_in (enumerate_from number inputs)
 
--- what an input has at a place, by its number
+-- the track of an input at index `place`, if it has one
 abbrev pub spots_at : ℕ → ℕ × Input → List Spot
 spots_at place each = option_to_list (slice_get (spots_in each) place)
 
--- the same of the inputs that are appended to one, of which the first has this number
+-- the tracks at index `place` of the inputs that are appended to one, numbered from `number`
 abbrev pub spots_behind : ℕ → ℕ → List Input → List Spot
 spots_behind place number others = at_place place (map spots_in (enumerate_from number others))
 
--- the times of a track's frames, where a file lists them
+-- the timestamps of a track's frames, if a timestamp file lists them
 abbrev pub times_listed : Input → TakenTrack → Option Listing
 times_listed i t = value_for t.id (read_in i).times
 
--- A link is this track of an input whose file has this outline and so many nanoseconds a tick, with no more in front of each frame than a
--- lane puts back.
+-- The link is track `t` of an input whose file has this outline and `nanoseconds` nanoseconds in a tick. At most MAX_PREFIX_LEN bytes were
+-- removed from the start of each frame.
 pub record IsLinkOf (i : Input) (read : FileOutline) (nanoseconds : ℕ) (t : TakenTrack) (link : TrackLink) : Type 0 where
   pub file : link.file ≡ i.file
   pub outline : link.outline.value ≡ read
@@ -80,13 +80,13 @@ pub record IsLinkOf (i : Input) (read : FileOutline) (nanoseconds : ℕ) (t : Ta
   pub times : listing_of link ≡ times_listed i t
   pub short : length link.prefix ≤ MAX_PREFIX_LEN
 
--- A link is this track of an input that is a text with these entries.
+-- The link is track `t` of an input that is a text with these entries.
 pub record IsTextOf (i : Input) (read : List Entry) (t : TakenTrack) (link : TextLink) : Type 0 where
   pub entries : link.entries ≡ read
   pub delay : link.delay ≡ t.delay
   pub shift : link.shift ≡ append_offset (read_in i)
 
--- A link is this track of an input whose blocks are held so.
+-- The link is track `t` of an input with blocks in this form.
 abbrev pub IsLinkBy : Input → Blocks → TakenTrack → Link → Type 0
 IsLinkBy i (held_by.Clusters outline scale) t (Track link) = IsLinkOf i outline.value scale t link
 IsLinkBy i (held_by.Clusters outline scale) t (Entries text) = ⊥
@@ -99,16 +99,16 @@ IsLink i t link = IsLinkBy i i.blocks t link
 abbrev pub IsLinkAt : Spot → Link → Type 0
 IsLinkAt s link = IsLink s.input s.track link
 
--- These links are the tracks that are taken of an input.
+-- The links are the selected tracks of an input.
 abbrev pub AreLinksOf : Input → List Link → Type 0
 AreLinksOf i links = AllZip (IsLink i) i.taken links
 
--- blocks get a cue point by the rule of the track that begins the lane
+-- the rule for cue points: the rule of the track that begins the output track
 abbrev pub rule_at : List Spot → CueRule
 rule_at [] = Never
 rule_at (s ∷ spots) = rule_of s.track
 
--- A lane goes on in these tracks.
+-- The output track `new` is `old`, continued with the tracks `spots`.
 pub record GoesOn (spots : List Spot) (old new : PlannedLane) : Type 0 where
   pub more : List Link
   pub links : new.spec.links ≡ old.spec.links ++ more
@@ -117,7 +117,7 @@ pub record GoesOn (spots : List Spot) (old new : PlannedLane) : Type 0 where
   pub rule : new.cues ≡ old.cues
   pub drives : new.drives ≡ old.drives
 
--- A lane has these tracks, one behind the other.
+-- The output track consists of the tracks `spots`, in sequence.
 pub record IsLaneOf (spots : List Spot) (l : PlannedLane) : Type 0 where
   pub links : AllZip IsLinkAt spots l.spec.links
   pub inputs : l.inputs ≡ map (λ (s : Spot). s.number) spots
@@ -126,25 +126,25 @@ pub record IsLaneOf (spots : List Spot) (l : PlannedLane) : Type 0 where
 abbrev pub AreLanesOf : List Input → List PlannedLane → Type 0
 AreLanesOf inputs lanes = AllZip IsLaneOf (spots_from 0 inputs) lanes
 
--- Of lanes, of which these are video, it is said which drive.
+-- Each output track knows whether it is a driver; `videos` says which are video.
 abbrev pub AreDriven : List Bool → List PlannedLane → Type 0
 AreDriven videos lanes = drivers_of lanes ≡ map (is_driver videos) (range_with_len 0 (length lanes))
 
--- The entries of a text are those of one that isn't too long.
+-- The entries of a text are those of a file that isn't too long.
 abbrev pub IsShortText : Blocks → Type 0
 IsShortText (held_by.Clusters outline scale) = ⊤
 IsShortText (held_by.Entries entries) = AreWithin MAX_SRT_LEN entries
 
--- The tracks that are taken of an input are such as can be, and a text isn't too long.
+-- The selected tracks of the input can be taken, and a text isn't too long.
 pub record HasTaken (i : Input) : Type 0 where
   pub taken : All IsTaken i.taken
   pub text : IsShortText i.blocks
 
--- An input isn't later than a lane's link may be.
+-- The input isn't later than a link may be.
 abbrev pub HasPlace : Input → Type 0
 HasPlace i = append_offset (read_in i) ≤ MAX_SHIFT
 
--- The data of the attached files of an input stand in its file, and its Chapters and Tags were read.
+-- The data of the attached files of an input are in its file, and its Chapters and Tags were read.
 pub record HasRecords (i : Input) : Type 0 where
   pub attachments : All (IsAttachedIn i.file (total_in i.blocks)) i.attachments
   pub chapters : IfSome i.chapters (IsRead CHAPTERS)

@@ -3,7 +3,7 @@ use Rattle.std.specs.Prelude.{ℕ, Bool, List, [], ◌∷◌, codes}
 use Rattle.std.specs.List.{list_any}
 use Rattle.std.specs.Str.{bytes_eq}
 
--- the CodecIDs of the tracks that a WebM file may have
+-- the CodecIDs of the tracks that WebM allows
 abbrev pub webm_codecs : List (List ℕ)
 webm_codecs = codes "V_VP8" ∷ codes "V_VP9" ∷ codes "V_AV1" ∷ codes "A_VORBIS" ∷ codes "A_OPUS" ∷ []
 

@@ -1,5 +1,5 @@
-//! Whether the tracks of an input can go on in the lanes of the one that it is appended to: RFC 9559, section 5.1.4
-//! (Tracks Element).
+//! Check whether the tracks of an appended input can continue the output tracks of the previous one: RFC 9559,
+//! section 5.1.4 (Tracks Element).
 
 ghost use Rattle.std.specs.Prelude.{◌≡◌, length, map};
 ghost use Rattle.merge_inputs.specs.Input.{read_in};
@@ -9,17 +9,18 @@ use merge_inputs::{Input, TakenTrack};
 use mkv_schema::ids::TRACK_ENTRY;
 use track_records::differs;
 
-/// An appended input whose tracks can't go on in the lanes of the input to which it is appended.
+/// Appended input whose tracks can't continue the output tracks of the input before it.
 #[derive(Clone, Copy, Debug, PartialEq, Eq)]
 pub struct AppendDiffers {
-    /// The input, counted from 0.
+    /// Index of the input, counted from 0.
     pub input: usize,
-    /// The first Element in which one of its tracks differs from that of its lane; TrackEntry where it has more tracks or
-    /// fewer.
+    /// ID of the first Element of a track that differs from its output track; TrackEntry if the numbers of tracks
+    /// differ.
     pub id: u32,
 }
 
-// The first Element in which one of these tracks differs from that of its lane, of as many.
+// Returns the ID of the first Element of a track in `taken` that differs from its output track. Both lists have the
+// same length.
 fn first_differing(lanes: &[TakenTrack], taken: &[TakenTrack]) -> Option<u32>
     requires { length lanes.now ≡ length taken.now }
     ensures { result ≡ first_differing lanes.now taken.now }
@@ -32,7 +33,8 @@ fn first_differing(lanes: &[TakenTrack], taken: &[TakenTrack]) -> Option<u32>
     None
 }
 
-// The same of any.
+// Returns the ID of the first Element of a track in `taken` that differs from its output track, or TrackEntry if the
+// lengths differ.
 fn differing(lanes: &[TakenTrack], taken: &[TakenTrack]) -> Option<u32>
     ensures { result ≡ differing lanes.now taken.now }
 {
@@ -43,7 +45,7 @@ fn differing(lanes: &[TakenTrack], taken: &[TakenTrack]) -> Option<u32>
     }
 }
 
-// In which Element an input differs from the tracks that began the lanes to which it is appended.
+// Returns the ID of the Element that differs from the tracks that began the output tracks, if `input` is appended.
 fn difference_at(before: &[TakenTrack], input: &Input) -> Option<u32>
     ensures { result ≡ difference_at before.now (read_in input.now) }
 {
@@ -54,7 +56,7 @@ fn difference_at(before: &[TakenTrack], input: &Input) -> Option<u32>
     }
 }
 
-// The tracks that began the lanes to which an input gives.
+// Returns the tracks that began the output tracks of `input`.
 fn lane_tracks<'a>(before: &'a [TakenTrack], input: &'a Input) -> &'a [TakenTrack]
     ensures { result.now ≡ lane_tracks before.now (read_in input.now) }
 {
@@ -65,8 +67,9 @@ fn lane_tracks<'a>(before: &'a [TakenTrack], input: &'a Input) -> &'a [TakenTrac
     }
 }
 
-/// The first appended input whose tracks can't go on in the lanes to which it is appended: there are more of them or fewer,
-/// or one differs from that of its lane in its type, its codec or what the codec was given, its size or its sampling.
+/// Returns the first appended input whose tracks can't continue the output tracks of the previous one. Their number
+/// differs, or a track differs from its output track in its type, its codec with its private data, its size or its
+/// sampling.
 pub fn append_refusal(inputs: &[Input]) -> Option<AppendDiffers>
     ensures { result ≡ append_refusal (map read_in inputs.now) }
 {

@@ -1,4 +1,4 @@
-//! The tracks that are taken, and the TrackEntries that are written of them: RFC 9559, section 5.1.4 (Tracks Element).
+//! The selected tracks, and their TrackEntries in the output: RFC 9559, section 5.1.4 (Tracks Element).
 
 ghost use Rattle.std.specs.Prelude.{◌≡◌, map, IfOk};
 ghost use Rattle.std.specs.List.{All};
@@ -15,7 +15,7 @@ use record_changes::renumber;
 use std::alloc::{AllocError, Global};
 use track_records::{TrackChange, written};
 
-/// The tracks of an input that begin lanes: none where it is appended to another.
+/// Returns the tracks of an input that begin output tracks: none if it is appended to another input.
 pub(crate) fn tracks_begun(input: &Input) -> &[TakenTrack]
     ensures { result.now ≡ tracks_begun (read_in input.now) }
 {
@@ -26,7 +26,7 @@ pub(crate) fn tracks_begun(input: &Input) -> &[TakenTrack]
     }
 }
 
-/// The tracks that begin lanes, input after input.
+/// Returns the tracks that begin output tracks, input after input.
 pub(crate) fn tracks_taken(alloc: Global, inputs: &[Input]) -> Result<Vec<&TakenTrack>, AllocError>
     ensures { IfOk result (λ taken. lent taken.items ≡ tracks_taken (map read_in inputs.now)) }
 {
@@ -39,7 +39,7 @@ pub(crate) fn tracks_taken(alloc: Global, inputs: &[Input]) -> Result<Vec<&Taken
     Ok(taken)
 }
 
-/// The TrackUIDs that tracks get.
+/// Returns the TrackUIDs of the output tracks.
 pub(crate) fn uids_of(alloc: Global, taken: &[&TakenTrack]) -> Result<List<u64>, AllocError>
     ensures { IfOk result (λ uids. uids ≡ uids_of (lent taken.now)) }
 {
@@ -47,7 +47,7 @@ pub(crate) fn uids_of(alloc: Global, taken: &[&TakenTrack]) -> Result<List<u64>,
     renumber(alloc, uids.as_slice())
 }
 
-/// The entry that is written of a track with this number and this TrackUID.
+/// Makes the output's entry of a track, with this number and this TrackUID.
 fn entry_of(alloc: Global, number: u64, uid: u64, taken: &TakenTrack) -> Result<Tree, AllocError>
     requires { IsTaken taken.now }
     ensures exact { IfOk result (λ entry. entry ≡ entry_of number uid taken.now) }
@@ -64,7 +64,7 @@ fn entry_of(alloc: Global, number: u64, uid: u64, taken: &TakenTrack) -> Result<
     written(alloc, &taken.track, &change)
 }
 
-/// The entries that are written of tracks with these TrackUIDs, numbered from 1 on.
+/// Makes the output's entries of tracks with these TrackUIDs, numbered from 1.
 pub(crate) fn entries_of(
     alloc: Global,
     taken: &[&TakenTrack],

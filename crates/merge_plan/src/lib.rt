@@ -1,7 +1,7 @@
 #![tactic(auto)]
 
-//! The plan of a merge: what the inputs that were read, and the words, come to in one output, or what refuses them; and where
-//! its appended inputs begin, for which alone a file is walked. Nothing is written here.
+//! The plan of a merge: the output for the inputs that were read and the options, or its refusal; and the beginnings
+//! of appended inputs. Files are walked over only for these beginnings. Nothing is written here.
 
 mod appending;
 mod entries;

@@ -17,7 +17,7 @@ use output_model::Attachment;
 use output_records::{MergedRecords, merge_records, tracks_of};
 use std::alloc::{AllocError, Global};
 
-/// What stands around the Clusters of an output, but for its Info.
+/// Records around the Clusters of an output, except for its Info.
 #[derive(Drop)]
 pub(crate) struct OutputRecords {
     pub(crate) tracks: Tree,
@@ -26,7 +26,7 @@ pub(crate) struct OutputRecords {
     pub(crate) tags: Option<Tree>,
 }
 
-/// The records that inputs come to, of which these tracks are taken.
+/// Makes the records of the output for `inputs` with the selected tracks `taken`.
 pub(crate) fn output_of(
     alloc: Global,
     taken: &[&TakenTrack],

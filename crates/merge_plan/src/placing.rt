@@ -1,4 +1,4 @@
-//! Inputs are set to where they begin.
+//! Placement of appended inputs.
 
 ghost use Rattle.std.specs.Prelude.{◌≡◌, ◌+◌, ◌*◌, ◌≤◌, length, IfOk};
 ghost use Rattle.std.specs.List.{All};
@@ -20,7 +20,7 @@ use merge_inputs::Input;
 use mkv_io::{List, ReadEnd, Reads};
 use std::alloc::Global;
 
-/// Where an input ends, in nanoseconds: so much later as it is itself. Its file is walked over, unless it is a text.
+/// Returns the input's end in nanoseconds, including its append offset. Its file is walked over, unless it is a text.
 fn end_of<R: Reads>(alloc: Global, input: &Input, src: &mut R) -> Result<u64, ReadEnd>
     requires input { IsInput (live_files R.Reads src.old) input.now }
     requires place { HasPlace input.now }
@@ -35,7 +35,7 @@ fn end_of<R: Reads>(alloc: Global, input: &Input, src: &mut R) -> Result<u64, Re
     Ok(input.shift.unwrap_or(0) + found.end)
 }
 
-/// By how much an input with this shift is later, behind these: by the end of the last of them.
+/// Returns the append offset of an input with this shift after the inputs `before`: the end of the last of them.
 fn shift_behind<R: Reads>(
     alloc: Global,
     before: &[Input],
@@ -59,8 +59,8 @@ fn shift_behind<R: Reads>(
     }
 }
 
-/// Sets each input that is appended to where the one before it ends. The file of that one is walked over, unless it is a text,
-/// and no other.
+/// Sets each appended input to the end of the previous input. Only the file of the previous input is walked over,
+/// unless it is a text.
 pub fn assign_append_offsets<R: Reads>(
     alloc: Global,
     inputs: List<Input>,

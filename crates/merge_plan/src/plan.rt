@@ -24,7 +24,7 @@ use requests::MergeWords;
 use splitter::split_size;
 use std::alloc::{AllocError, Global};
 
-/// The CodecID of the first track that a WebM output can't have.
+/// Returns the CodecID of the first track that WebM doesn't allow.
 fn other_codec<'a>(taken: &[&'a TakenTrack]) -> Option<&'a Text>
     ensures { option_copied result ≡ other_codec (lent taken.now) }
 {
@@ -36,7 +36,7 @@ fn other_codec<'a>(taken: &[&'a TakenTrack]) -> Option<&'a Text>
     None
 }
 
-/// What refuses tracks as lanes.
+/// Returns the refusal of `taken` as output tracks.
 fn lanes_refusal(webm: bool, taken: &[&TakenTrack]) -> Result<Option<PlanRefusal>, AllocError>
     ensures { IfOk result (λ refusal. refusal ≡ lanes_refusal webm (lent taken.now)) }
 {
@@ -56,7 +56,7 @@ fn lanes_refusal(webm: bool, taken: &[&TakenTrack]) -> Result<Option<PlanRefusal
     Ok(None)
 }
 
-/// The records of the output, or what refuses it.
+/// Makes the records of the output, or returns its refusal.
 fn records_for(
     alloc: Global,
     words: &MergeWords,
@@ -78,7 +78,7 @@ fn records_for(
     }
 }
 
-/// The identifiers of the outputs, as far as they are given.
+/// Returns the identifiers of the outputs that the options give.
 fn uuids_of(alloc: Global, words: &MergeWords) -> Result<List<u128>, AllocError>
     ensures { IfOk result (λ uuids. uuids ≡ words.now.uuids) }
 {
@@ -86,8 +86,9 @@ fn uuids_of(alloc: Global, words: &MergeWords) -> Result<List<u128>, AllocError>
     Ok(List::from_vec(uuids))
 }
 
-/// What these inputs come to in one output, or the first thing that refuses them: that no track is taken, or more than 64;
-/// in WebM a track of a codec that it can't have; and Tracks, Chapters or Tags that would be too large to be read again.
+/// Returns the plan of the output for `words` and `inputs`, or the first refusal. The reasons are: no track or more
+/// than 64 tracks are selected; WebM doesn't allow a codec; or Tracks, Chapters or Tags would be too large to be read
+/// again.
 pub fn plan_of(alloc: Global, words: &MergeWords, inputs: &[Input]) -> Result<MergePlan, PlanEnd>
     requires tracks { All HasTaken inputs.now }
     requires records { All HasRecords inputs.now }

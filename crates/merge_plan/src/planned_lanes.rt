@@ -1,4 +1,4 @@
-//! The lanes of a plan: one for each track that is taken of an input that isn't appended to another.
+//! The output tracks of a plan: one for each selected track of an input that isn't appended to another.
 
 ghost use Rattle.std.specs.Prelude.{◌≡◌, ◌≤◌, ◌<◌, ◌+◌, ◌^◌, ◌∷◌, length, option_map, IfOk, OnOk};
 ghost use Rattle.std.specs.List.{All, take_while};
@@ -24,7 +24,8 @@ use std::alloc::{AllocError, Global};
 use std::rc::Rc;
 use track_records::usable;
 
-/// Where the words say nothing, blocks that can be decoded without another get a cue point, but for those of audio.
+/// Returns the default rule for cue points: keyframes of video and subtitle tracks get one, blocks of audio tracks
+/// don't.
 fn default_rule(kind: u64) -> CueRule
     ensures { result ≡ default_rule kind }
 {
@@ -34,7 +35,7 @@ fn default_rule(kind: u64) -> CueRule
     }
 }
 
-/// Which blocks of a track get a cue point.
+/// Returns the rule for the blocks of a track that get a cue point.
 fn rule_of(taken: &TakenTrack) -> CueRule
     ensures { result ≡ rule_of taken.now }
 {
@@ -46,7 +47,7 @@ fn rule_of(taken: &TakenTrack) -> CueRule
     }
 }
 
-/// What header stripping took from the front of each frame.
+/// Returns the bytes that header stripping removed from the start of each frame.
 fn prefix_of(alloc: Global, taken: &TakenTrack) -> Result<Bytes, AllocError>
     requires { IsTaken taken.now }
     ensures exact { IfOk result (λ prefix. prefix ≡ prefix_of taken.now.track.entry) }
@@ -60,14 +61,14 @@ fn prefix_of(alloc: Global, taken: &TakenTrack) -> Result<Bytes, AllocError>
     Ok(prefix)
 }
 
-/// By how many nanoseconds an input is later.
+/// Returns the append offset of an input, in nanoseconds.
 fn append_offset(input: &Input) -> u64
     ensures { result ≡ append_offset (read_in input.now) }
 {
     input.shift.unwrap_or(0)
 }
 
-/// The times of a track's frames, where they are those of a file.
+/// Returns the timestamps of a track's frames, if a timestamp file lists them.
 fn times_of(input: &Input, taken: &TakenTrack) -> Result<Option<Rc<Times>>, AllocError>
     ensures { IfOk result (λ times. option_map (λ shared. shared.value) times ≡ times_listed input.now taken.now) }
 {
@@ -79,7 +80,7 @@ fn times_of(input: &Input, taken: &TakenTrack) -> Result<Option<Rc<Times>>, Allo
     Ok(None)
 }
 
-/// A track of an input whose file has this outline, and so many nanoseconds a tick, as a link.
+/// Makes the link of a track of an input whose file has this outline and `scale` nanoseconds in a tick.
 fn track_of(
     alloc: Global,
     input: &Input,
@@ -103,7 +104,7 @@ fn track_of(
     })
 }
 
-/// Entries again.
+/// Copies `entries`.
 fn copies(alloc: Global, entries: &[Entry]) -> Result<List<Entry>, AllocError>
     ensures { IfOk result (λ copies. copies ≡ entries.now) }
 {
@@ -118,7 +119,7 @@ fn copies(alloc: Global, entries: &[Entry]) -> Result<List<Entry>, AllocError>
     Ok(copies)
 }
 
-/// A track of an input that is a text with these entries as a link.
+/// Makes the link of a track of an input that is a text with these entries.
 fn text_of(
     alloc: Global,
     input: &Input,
@@ -134,7 +135,7 @@ fn text_of(
     })
 }
 
-/// A track as a link.
+/// Makes the link of a track.
 fn link_of(alloc: Global, input: &Input, taken: &TakenTrack) -> Result<Link, AllocError>
     requires { IsTaken taken.now }
     ensures { IfOk result (IsLink input.now taken.now) }
@@ -151,7 +152,7 @@ fn link_of(alloc: Global, input: &Input, taken: &TakenTrack) -> Result<Link, All
     }
 }
 
-/// The tracks that are taken of an input as links.
+/// Makes the links of the selected tracks of an input.
 pub fn links_of(alloc: Global, input: &Input) -> Result<List<Link>, AllocError>
     requires { HasTaken input.now }
     ensures { IfOk result (AreLinksOf input.now) }
@@ -163,7 +164,7 @@ pub fn links_of(alloc: Global, input: &Input) -> Result<List<Link>, AllocError>
     Ok(links)
 }
 
-/// The inputs at the front of these that are appended to the one before them.
+/// Returns the first of `inputs`, as far as they are appended to the input before them.
 fn appended(inputs: &[Input]) -> &[Input]
     ensures { result.now ≡ take_while goes_on inputs.now }
 {
@@ -175,7 +176,7 @@ fn appended(inputs: &[Input]) -> &[Input]
     inputs
 }
 
-/// Adds the track at this place of an input with this number to a lane, if it has one there.
+/// Adds track `place` of input `number` to `lane`, if the input has one there.
 fn go_on(
     alloc: Global,
     place: usize,
@@ -194,8 +195,8 @@ fn go_on(
     Ok(())
 }
 
-/// The lane that a track begins of an input with this number, from 0: at this place it goes on in the inputs that are
-/// appended to that one. It drives, or doesn't.
+/// Makes the output track that a track of input `number`, counted from 0, begins. Track `place` of each input
+/// appended to it continues it. `drives` is whether it is a driver.
 fn lane_of(
     alloc: Global,
     number: usize,
@@ -227,7 +228,7 @@ fn lane_of(
     Ok(lane)
 }
 
-/// The lanes of inputs, one behind the other, of which these are video.
+/// Makes the output tracks of `inputs`, in sequence; `videos` says which are video.
 pub(crate) fn lanes_of(
     alloc: Global,
     inputs: &[Input],

@@ -1,4 +1,4 @@
-//! What the inputs give besides their tracks and blocks.
+//! Data of the inputs besides their tracks and blocks.
 
 ghost use Rattle.std.specs.Prelude.{◌≡◌, [], drop, map, take, IfOk};
 ghost use Rattle.std.specs.List.{All};
@@ -14,7 +14,7 @@ use output_model::Attachment;
 use output_records::InputRecords;
 use std::alloc::{AllocError, Global};
 
-// Attached files again.
+// Copies the attached files.
 fn copies(alloc: Global, files: &[Attachment]) -> Result<List<Attachment>, AllocError>
     ensures { IfOk result (λ copies. copies ≡ files.now) }
 {
@@ -31,7 +31,7 @@ fn copies(alloc: Global, files: &[Attachment]) -> Result<List<Attachment>, Alloc
     Ok(copies)
 }
 
-// A record again, where it is there.
+// Copies a record, if it exists.
 fn copy_of(alloc: Global, tree: &Option<Tree>) -> Result<Option<Tree>, AllocError>
     ensures { IfOk result (λ copy. copy ≡ tree.now) }
 {
@@ -41,7 +41,7 @@ fn copy_of(alloc: Global, tree: &Option<Tree>) -> Result<Option<Tree>, AllocErro
     }
 }
 
-/// What an input gives besides its tracks and blocks, where its lanes have these TrackUIDs.
+/// Returns the data of an input besides its tracks and blocks, if its output tracks have the TrackUIDs `numbers`.
 fn records_in(alloc: Global, numbers: &[u64], input: &Input) -> Result<InputRecords, AllocError>
     requires { HasRecords input.now }
     ensures exact { IfOk result (λ records. records ≡ records_in numbers.now (kept_in input.now)) }
@@ -64,21 +64,22 @@ fn records_in(alloc: Global, numbers: &[u64], input: &Input) -> Result<InputReco
     })
 }
 
-// The first so many numbers.
+// Returns the first `count` numbers.
 fn first(numbers: &[u64], count: usize) -> &[u64]
     ensures { result.now ≡ take count numbers.now }
 {
     &numbers[..count.min(numbers.len())]
 }
 
-// Those behind them.
+// Returns the numbers after the first `count`.
 fn behind(numbers: &[u64], count: usize) -> &[u64]
     ensures { result.now ≡ drop count numbers.now }
 {
     &numbers[count.min(numbers.len())..]
 }
 
-// The TrackUIDs of an input's lanes: those of the input before it, where it is appended, else the first that are left.
+// Returns the TrackUIDs of an input's output tracks: for an appended input the previous input's, and for another the
+// first ones in `left`.
 fn uids_at<'a>(before: &'a [u64], left: &'a [u64], input: &Input) -> &'a [u64]
     ensures { result.now ≡ uids_at before.now left.now (read_in input.now) }
 {
@@ -89,7 +90,7 @@ fn uids_at<'a>(before: &'a [u64], left: &'a [u64], input: &Input) -> &'a [u64]
     }
 }
 
-// What is left then.
+// Returns the TrackUIDs that are left after this input.
 fn uids_behind<'a>(left: &'a [u64], input: &Input) -> &'a [u64]
     ensures { result.now ≡ uids_behind left.now (read_in input.now) }
 {
@@ -100,7 +101,7 @@ fn uids_behind<'a>(left: &'a [u64], input: &Input) -> &'a [u64]
     }
 }
 
-/// What inputs give besides their tracks and blocks, where the lanes of the output have these TrackUIDs.
+/// Returns the data of inputs besides their tracks and blocks, if the output tracks have the TrackUIDs `numbers`.
 pub(crate) fn records_of(
     alloc: Global,
     numbers: &[u64],

@@ -1,4 +1,4 @@
-//! Why there is no plan.
+//! Reasons why there is no plan.
 
 ghost use Rattle.std.specs.Prelude.{◌≡◌};
 ghost use Rattle.merge_plan.specs.declared.refusal.PlanEnd.TheVariants as plan_end;
@@ -6,25 +6,25 @@ ghost use Rattle.merge_plan.specs.declared.refusal.PlanEnd.TheVariants as plan_e
 use mkv_io::Text;
 use std::alloc::AllocError;
 
-/// What refuses a merge whose inputs were read.
+/// Reason to refuse a merge whose inputs were read.
 #[derive(Debug, Drop)]
 pub enum PlanRefusal {
-    /// No track is taken.
+    /// No track is selected.
     NoLane,
-    /// More than 64 tracks are taken.
+    /// More than 64 tracks are selected.
     TooManyLanes,
-    /// A WebM output can't have a track of this CodecID.
+    /// WebM doesn't allow a track with this CodecID.
     NotWebm { codec: Text },
-    /// The record of this ID would be too large to be read again.
+    /// The record with this ID would be too large to be read again.
     HeaderTooLarge { id: u32 },
 }
 
-/// Why there is no plan.
+/// Reason why there is no plan.
 #[derive(Debug, Drop)]
 pub enum PlanEnd {
     /// The merge is refused.
     Refused(PlanRefusal),
-    /// There is no memory.
+    /// Out of memory.
     Memory,
 }
 

@@ -1,4 +1,5 @@
-//! Where the output of a merge is split: RFC 9559, section 5.1.7 (Chapters Element), has the chapters. That it is split, and how, is this project's.
+//! Splitting of a merge's output: RFC 9559, section 5.1.7 (Chapters Element), defines the chapters. The rules of
+//! splitting are this project's.
 
 ghost use Rattle.std.specs.Prelude.{◌≡◌, map, IfOk, IfSome};
 ghost use Rattle.mkv_schema.specs.declared.ids.TheConstants.{CHAPTERS};
@@ -16,7 +17,7 @@ use requests::MergeWords;
 use splitter::{SplitSpec, split_spec};
 use std::alloc::{AllocError, Global};
 
-/// Where the chapters start that are written, if any are.
+/// Returns the starts of the output's chapters, if it has any.
 fn starts_in(alloc: Global, chapters: &Option<Tree>) -> Result<List<u64>, AllocError>
     requires { IfSome chapters.now (IsRead CHAPTERS) }
     ensures { IfOk result (λ starts. starts ≡ starts_in chapters.now) }
@@ -27,7 +28,7 @@ fn starts_in(alloc: Global, chapters: &Option<Tree>) -> Result<List<u64>, AllocE
     }
 }
 
-/// The times at which an output with these Chapters is split.
+/// Returns the rule for splitting an output with these Chapters.
 pub(crate) fn split_of(
     alloc: Global,
     words: &MergeWords,
@@ -40,14 +41,14 @@ pub(crate) fn split_of(
     split_spec(alloc, &words.split, starts.as_slice())
 }
 
-/// Whether a track is video.
+/// Checks whether a track is video.
 fn is_video(taken: &TakenTrack) -> bool
     ensures { result ≡ is_video taken.now }
 {
     taken.track.kind == VIDEO_TRACK
 }
 
-/// Which of these tracks are video.
+/// Returns for each track whether it is video.
 pub(crate) fn videos_of(alloc: Global, taken: &[&TakenTrack]) -> Result<List<bool>, AllocError>
     ensures { IfOk result (λ videos. videos ≡ map is_video (lent taken.now)) }
 {

@@ -7,7 +7,7 @@ ghost use Rattle.merge_plan.specs.Records.{first_title, title_of};
 use merge_inputs::Input;
 use requests::MergeWords;
 
-/// The first title that isn't empty.
+/// Returns the first title of an input that isn't empty.
 fn first_title(inputs: &[Input]) -> &str
     ensures { result.now ≡ first_title (map read_in inputs.now) }
 {
@@ -19,7 +19,8 @@ fn first_title(inputs: &[Input]) -> &str
     ""
 }
 
-/// The title that the words give, else the first of an input. An empty one of the words stands for none.
+/// Returns the title in the options, or else the first title of an input. An empty title in the options means that
+/// there is none.
 pub(crate) fn title_of<'a>(words: &'a MergeWords, inputs: &'a [Input]) -> &'a str
     ensures { result.now ≡ title_of words.now (map read_in inputs.now) }
 {

@@ -3,10 +3,10 @@
 ghost use Rattle.std.specs.Prelude.{◌≡◌};
 ghost use Rattle.merge_plan.specs.Webm.{is_webm_codec};
 
-/// The CodecIDs of the tracks that a WebM file may have.
+/// CodecIDs of the tracks that WebM allows.
 const CODECS: [&str; 5] = ["V_VP8", "V_VP9", "V_AV1", "A_VORBIS", "A_OPUS"];
 
-/// Whether a WebM file may have a track of this CodecID.
+/// Checks whether WebM allows a track with this CodecID.
 #[tactic(auto, unfolding(crate::specs::Webm::is_webm_codec))]
 pub fn is_webm_codec(codec: &str) -> bool
     ensures { result ≡ is_webm_codec codec.now }

@@ -1,4 +1,4 @@
--- The inputs before can go on.
+-- The previous inputs can continue.
 use Rattle.std.proofs.Common.{◌≡◌, drop, map}
 use Rattle.merge_inputs.specs.Input.{read_in}
 use Rattle.merge_plan.specs.Appending.{append_refusal, differs_from}

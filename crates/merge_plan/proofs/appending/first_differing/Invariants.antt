@@ -1,4 +1,4 @@
--- The tracks before are alike.
+-- The previous tracks are alike.
 use Rattle.std.proofs.Common.{◌≡◌, drop}
 use Rattle.merge_plan.specs.Appending.{first_differing}
 use Rattle.merge_plan.proofs.appending.first_differing.Given as goal

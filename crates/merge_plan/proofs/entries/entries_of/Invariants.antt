@@ -1,4 +1,4 @@
--- The entries so far, with those of what is left, are those of all; and each is whole.
+-- All entries are the entries that were made and the entries of the rest; each is whole.
 use Rattle.std.proofs.Common.{◌≡◌, ◌+◌, ◌++◌, drop}
 use Rattle.std.specs.List.{All}
 use Rattle.track_records.specs.Entry.{IsWholeEntry}

@@ -1,4 +1,4 @@
--- Each input's tracks are put behind the others.
+-- The tracks of each input are appended.
 use Rattle.std.proofs.Common.{◌∷◌, ◌++◌, [], sym, ap, ◌∙◌, append_assoc, take}
 use Rattle.std.proofs.lemmas.List.{take_all}
 use Rattle.merge_plan.specs.Lent.{lent}

@@ -1,4 +1,4 @@
--- What is taken of the inputs so far.
+-- The tracks are the selected tracks of the inputs passed.
 use Rattle.std.proofs.Common.{◌≡◌, ◌++◌, take}
 use Rattle.merge_plan.specs.Lent.{lent}
 use Rattle.merge_plan.proofs.RecordLemmas.{taken_in}

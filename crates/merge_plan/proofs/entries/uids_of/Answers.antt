@@ -1,4 +1,4 @@
--- The numbers are those of the tracks' identifiers.
+-- The numbers are the tracks' identifiers.
 use Rattle.std.proofs.Common.{◌≡◌, List, [], ◌∷◌, ℕ, map, refl, ap, subst, ◌∙◌, rules, IfOk}
 use denote.Ref.{Bor}
 use Rattle.record_changes.specs.Identifiers.{renumbered}

@@ -1,4 +1,4 @@
--- Each track is taken so, and the records are those of the inputs.
+-- Each track can be taken, and the records are the inputs'.
 use Rattle.std.proofs.Common.{◌≡◌, ◌<◌, ◌^◌, List, [], ℕ, map, sym, ap, subst, ◌∙◌, arith}
 use Rattle.std.specs.List.{All, sum_by}
 use Rattle.std.proofs.lemmas.List.Elements.{All-from_get_or}

@@ -1,4 +1,4 @@
--- One input more stands in place.
+-- One more input is placed.
 use Rattle.std.proofs.Common.{◌≡◌, ◌+◌, ◌*◌, ◌≤◌, ℕ, List, Option, length, ap, subst, ◌∙◌, arith}
 use Rattle.std.specs.Option.{unwrap_or}
 use Rattle.mkv_io.specs.LiveFiles.{LiveFiles}

@@ -1,4 +1,4 @@
--- The first inputs stand in place.
+-- The first inputs are placed.
 use Rattle.std.proofs.Common.{◌≡◌, ◌+◌, ◌*◌, ◌≤◌}
 use Rattle.mkv_io.specs.Sources.{live_files}
 use Rattle.merge_plan.specs.Behind.{size_behind}

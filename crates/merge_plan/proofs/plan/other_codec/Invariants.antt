@@ -1,4 +1,4 @@
--- The codecs before may stand in WebM.
+-- WebM allows the codecs of the previous tracks.
 use Rattle.std.proofs.Common.{◌≡◌, drop}
 use Rattle.merge_plan.specs.Lent.{lent}
 use Rattle.merge_plan.specs.Refusal.{other_codec}

@@ -1,4 +1,4 @@
--- The lanes are those of the tracks that are taken, and nothing refuses them.
+-- The output tracks are made of the selected tracks, and nothing refuses them.
 use Rattle.std.proofs.Common.{◌≡◌, List, Option, map, refl, sym, ap, ◌∙◌, arith, rules}
 use Rattle.mkv_schema.specs.declared.ids.TheConstants.{CHAPTERS}
 use Rattle.tree_format.specs.Node.{Node}

@@ -1,4 +1,4 @@
--- The tracks that were collected are those of the inputs.
+-- The tracks that were collected are the inputs' tracks.
 use Rattle.std.proofs.Common.{ap, ◌∙◌}
 use Rattle.merge_plan.specs.Lent.{lent}
 use Rattle.merge_plan.proofs.plan.records_for.Goals as goal

@@ -1,4 +1,4 @@
--- Those before go on.
+-- The previous inputs are appended.
 use Rattle.std.proofs.Common.{◌≡◌, ◌+◌, drop}
 use Rattle.std.specs.List.{prefix_len}
 use Rattle.merge_plan.specs.TakenTracks.{goes_on}

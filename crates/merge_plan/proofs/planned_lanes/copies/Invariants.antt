@@ -1,4 +1,4 @@
--- The copies are those of the entries so far.
+-- The copies are the entries that were passed.
 use Rattle.std.proofs.Common.{◌≡◌, take}
 use Rattle.merge_plan.proofs.planned_lanes.copies.Given as goal
 

@@ -1,4 +1,4 @@
--- An input that has no track there leaves the lane as it is.
+-- An input without a track at this index leaves the output track as it is.
 use Rattle.std.proofs.Common.{refl, sym}
 use Rattle.merge_plan.proofs.LaneLemmas.{stays}
 use Rattle.merge_plan.proofs.planned_lanes.go_on.Goals as goal

@@ -1,4 +1,4 @@
--- The lane goes on in one input more.
+-- One more input continues the output track.
 use Rattle.std.proofs.Common.{List, ◌+◌, ◌∷◌, ◌∙◌, sym, subst, take}
 use Rattle.merge_plan.specs.TakenTracks.{IsLaneOf, Spot, spot, spots_at, spots_behind}
 use Rattle.merge_plan.proofs.LaneLemmas.{behind-more, lane-more}

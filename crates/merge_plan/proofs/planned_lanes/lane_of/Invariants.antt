@@ -1,4 +1,4 @@
--- The lane goes on in the inputs so far.
+-- The inputs that were passed continue the output track.
 use Rattle.std.proofs.Common.{◌≡◌, ◌+◌, ◌∷◌, take}
 use Rattle.merge_plan.specs.TakenTracks.{IsLaneOf, spot, spots_behind}
 use Rattle.merge_plan.proofs.planned_lanes.lane_of.Given as goal

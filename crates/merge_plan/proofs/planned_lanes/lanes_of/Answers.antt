@@ -1,4 +1,4 @@
--- Each track's lane is put behind the others.
+-- The output track of each track is appended.
 use Rattle.std.proofs.Common.{List, [], ◌∷◌, ◌+◌, ◌∙◌, ap, drop}
 use Rattle.std.specs.List.{take_while}
 use Rattle.std.proofs.lemmas.List.{drop_all, take_rest}

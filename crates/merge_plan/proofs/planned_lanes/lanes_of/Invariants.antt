@@ -1,4 +1,4 @@
--- The lanes so far are the first of all.
+-- The output tracks that were made are the first of all.
 use Rattle.std.proofs.Common.{drop}
 use Rattle.merge_plan.specs.TakenTracks.{AreDriven, spots_from}
 use Rattle.merge_plan.proofs.LaneLemmas.{GoOn, left_at}

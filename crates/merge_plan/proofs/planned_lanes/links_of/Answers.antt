@@ -1,4 +1,4 @@
--- One track more is a link.
+-- One more track is a link.
 use Rattle.std.proofs.Common.{List, ◌∙◌, subst}
 use Rattle.std.specs.List.{AllZip}
 use Rattle.std.proofs.lemmas.List.{take_all}

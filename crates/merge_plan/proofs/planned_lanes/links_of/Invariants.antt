@@ -1,4 +1,4 @@
--- The tracks so far are links.
+-- The tracks that were passed are links.
 use Rattle.std.proofs.Common.{take}
 use Rattle.std.specs.List.{AllZip}
 use Rattle.merge_plan.specs.TakenTracks.{IsLink}

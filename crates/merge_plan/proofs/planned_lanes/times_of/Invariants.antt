@@ -1,4 +1,4 @@
--- The times so far are those of other tracks.
+-- The timestamps that were passed are other tracks'.
 use Rattle.std.proofs.Common.{◌≡◌, drop}
 use Rattle.merge_inputs.specs.Input.{listings_in}
 use Rattle.merge_inputs.specs.Taken.{value_for}

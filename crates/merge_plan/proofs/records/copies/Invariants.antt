@@ -1,4 +1,4 @@
--- The copies are those of the files so far.
+-- The copies are the files that were passed.
 use Rattle.std.proofs.Common.{◌≡◌, take}
 use Rattle.merge_plan.proofs.records.copies.Given as goal
 

@@ -1,4 +1,4 @@
--- The records so far, with those of what is left, are those of all; and each was read.
+-- All records are the records that were made and the records of the rest; each was read.
 use Rattle.std.proofs.Common.{◌≡◌, ◌++◌, [], drop, map}
 use Rattle.std.specs.List.{All}
 use Rattle.output_records.specs.Inputs.{IsInput}

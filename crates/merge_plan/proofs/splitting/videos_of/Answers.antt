@@ -1,4 +1,4 @@
--- The tracks are those that are lent.
+-- The tracks are the borrowed ones.
 use Rattle.std.proofs.Common.{◌≡◌, Bool, List, [], ◌∷◌, ◌++◌, map, refl, sym, ap, ap₂, ◌∙◌}
 use Rattle.std.proofs.lemmas.List.{map_push, take_all}
 use denote.Ref.{Bor}

@@ -1,4 +1,4 @@
--- Those of the tracks so far.
+-- The values are the values of the tracks that were passed.
 use Rattle.std.proofs.Common.{◌≡◌, map, take}
 use denote.Ref.{Bor}
 use Rattle.merge_inputs.specs.declared.taken.TakenTrack.{TakenTrack}

@@ -1,4 +1,4 @@
--- A title that isn't empty is the first where those before are empty.
+-- A title that isn't empty is the first one if the previous titles are empty.
 use Rattle.std.proofs.Common.{sym, ◌∙◌}
 use Rattle.merge_plan.proofs.RecordLemmas.{title-found, title-empty, title-none}
 use Rattle.merge_plan.proofs.title.first_title.Goals as goal

@@ -1,4 +1,4 @@
--- The titles before are empty.
+-- The previous titles are empty.
 use Rattle.std.proofs.Common.{◌≡◌, drop, map}
 use Rattle.merge_inputs.specs.Input.{read_in}
 use Rattle.merge_plan.specs.Records.{first_title}
