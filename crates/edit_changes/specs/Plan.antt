@@ -103,7 +103,7 @@ seek_to base h = record { id = h.id; position = h.offset - base }
 abbrev pub standing_seek : FileOutline → List Part → ℕ → Option Seek
 standing_seek o ps id = if goes ps id then None else option_map (seek_to o.segment.body) (first_of id o.others)
 
--- the Seek of an ID: of the appended Element, or else of the first existing one, unless it is removed
+-- the Seek of an ID: for the appended Element, or else for the first existing one, unless it is removed
 abbrev pub seek_for : List Seek → FileOutline → List Part → ℕ → Option Seek
 seek_for moved o ps id = option_or (find (λ s. s.id == id) moved) (standing_seek o ps id)
 
@@ -143,8 +143,9 @@ abbrev pub cluster_end : ℕ → Option Header → Option ℕ
 cluster_end total None = None
 cluster_end total (Some h) = if h.id == CLUSTER then other_end total h else None
 
--- The end that prevents appending to the file. It is the end that the Segment states; or the end that the last Element of level 1 states, if it
--- is a Cluster; or the end of a Segment of unknown size that isn't the file's.
+-- The end that prevents appending to the file. It is the end that the Segment states, unless it is the file's. If not, it is the end that the
+-- last Element of level 1 states, if it is a Cluster and its end isn't the file's. If not, it is the end of a Segment of unknown size, unless it
+-- is the file's.
 abbrev pub wrong_end : FileOutline → Option ℕ
 wrong_end o =
     option_or (other_end o.total o.segment)

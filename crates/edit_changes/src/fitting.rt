@@ -96,8 +96,8 @@ pub fn fit(alloc: Global, id: u32, body: &[u8], room: u64) -> Result<Option<Vec<
     Ok(Some(out))
 }
 
-/// Returns the bytes that replace an Element by one with this body: the Element, or the header of a Void if it is
-/// longer than `room`.
+/// Returns the bytes that replace an Element by one with this body. If the new Element is longer than `room`, they
+/// are the header of a Void.
 pub fn overwrite_or_void(
     alloc: Global,
     id: u32,

@@ -25,7 +25,7 @@ pub enum EditRefusal {
 /// Kind of room that is missing for moving an Info or a Tracks to the end of the file, in the order of the checks.
 #[derive(Clone, Copy, Debug, PartialEq, Eq)]
 pub enum Room {
-    /// Nothing may be appended to the file: an Element states another end (`need`) than the file has (`have`).
+    /// Nothing may be appended to the file: an Element or the Segment ends at `need`, and the file at `have`.
     Tail,
     /// The Element that moves must be the only one with its ID: 1 is needed, and `have` exist.
     Twin,

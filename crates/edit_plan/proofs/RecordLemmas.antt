@@ -33,7 +33,7 @@ places-octets ws ps octets places bytes = ap sum_of places ∙ sym (ap length by
 pub planned-record : (old n : ℕ) (first : List ℕ) (ps : List Place) (octets : List ℕ) (ws : List Write) → n ≡ extent old ws → ps ≡ map place ws → octets ≡ bytes_of ws → planned old n first ps octets ≡ record_over old first ws
 planned-record old n first ps octets ws end places bytes = λ i. planned old (end i) first (places i) (bytes i)
 
--- If the places are in order, the file ends at `end` or where it did.
+-- If the places are in order, the file ends at `end` or at its old end.
 pub extent-end : (old end : ℕ) (ps : List Place) (ws : List Write) → ps ≡ map place ws → AreInOrder old 0 ps → end ≡ last_end 0 ps → extent old ws ≡ max old end
 extent-end old end ps ws places order is =
     order-extent old old 0 ws (omega arith) (subst (AreInOrder old 0) places order) ∙ ap (max old) (sym (is ∙ ap (last_end 0) places))

@@ -1,6 +1,6 @@
 #![tactic(auto)]
 
-//! The plan of edits of a file's properties: the editable parts are read, and the writes over the file are made (RFC
+//! The plan of edits of a file's properties. It reads the editable parts and makes the writes over the file (RFC
 //! 9559, sections 5.1.1, SeekHead Element, 5.1.2, Info Element, and 5.1.4, Tracks Element).
 
 mod appended;

@@ -24,7 +24,7 @@ entries_from-behind o n (f ∷ fs) more =
     one_further : (k j : ℕ) → (k + 1) + j ≡ k + suc j
     one_further k j = omega arith
 
--- A number that has stopped is written as itself.
+-- The written form depends only on the counted number.
 written_of-counted : (kind : FrameForm) (n m : ℕ) (f : Frame) (octets : List ℕ) → counted n ≡ counted m → written_of kind n f octets ≡ written_of kind m f octets
 written_of-counted form.Plain n m f octets same = refl
 written_of-counted form.SubRip n m f octets same = ap (λ (k : ℕ). Some (put_srt k f.time f.duration octets)) same

@@ -34,7 +34,7 @@ entry-at [] k = refl
 entry-at (t ∷ ts) zero = refl
 entry-at (t ∷ ts) (suc k) = entry-at ts k
 
--- The outputs of one more target.
+-- The outputs of the rest are the outputs of the next target and of the others.
 outputs_for-next : (kind : Form) (targets : List Target) (entries : List Node) (k : ℕ) (t : Target) → k < length targets → t ≡ get_or targets k t → outputs_for kind (take (k + 1) targets) entries ≡ outputs_for kind (take k targets) entries ++ output_for kind t (slice_get entries t.id)
 outputs_for-next kind targets entries k t below is =
     ap (λ (n : ℕ). outputs_for kind (take n targets) entries) (one_more k)

@@ -53,7 +53,7 @@ with_more-last [] o (suc k) more is = absurd (omega arith)
 with_more-last (first ∷ given) o zero more is = absurd (omega arith)
 with_more-last (first ∷ given) o (suc k) more is = ap (λ (rest : List Output). first ∷ rest) (with_more-last given o k more (omega arith))
 
--- There are equally many outputs and tracks.
+-- There is one output for each element of the list.
 pub length-outputs : (list : List TrackOutput) (blocks : List Block) → length (outputs_of list blocks) ≡ length list
 length-outputs list blocks = length_of_map (λ (o : TrackOutput). output_of o blocks) list
 

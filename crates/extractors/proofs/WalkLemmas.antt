@@ -31,7 +31,7 @@ use Rattle.extractors.specs.Walks.{HaveBlocks, ReadsFew, WritesAndReads, numbers
 
 -- ---- the events of a file
 
--- Of the events `all` the first were read, and `left` remains; `passed` has the blocks, and `damages` the damage.
+-- The first events of `all` were read, and `left` remains; `passed` has the blocks, and `damages` the damage.
 pub record MetUpTo (all left : List Event) (passed : List Block) (damages : ToldDamages) : Type 0 where
   pub blocks : blocks_of all ≡ passed ++ blocks_of left
   pub met : List Damage

@@ -15,7 +15,7 @@ abbrev pub octets_of_frames : TrackOutput → List Block → List (List ℕ)
 octets_of_frames o blocks = map (λ (f : Frame). whole o.prefix f) (frames_of o.step o.track blocks)
 
 -- An output of AAC is a join of headers and the valid frames, in order. If no unit contains a start code, an output of AVC is a join of start
--- codes, the sets, and the units of the valid frames, in order.
+-- codes with the sets and the valid frames' units, in order.
 pub record OutputsHoldTheGoodFrames : Type 0 where
   pub adts : (o : TrackOutput) (aac : Aac) (blocks : List Block) → o.head ≡ [] → o.form ≡ form.Adts aac → IsAac aac
       → IsAdts (content_of o blocks) (headed aac (filter is_good (octets_of_frames o blocks)))

@@ -18,8 +18,8 @@ use track_records::Track;
 /// First line of a timestamp file.
 const TIMES_HEAD: &[u8] = b"# timestamp format v2\n";
 
-/// Returns the bytes before the frames of a track and the form of each frame; or the reason why the track isn't
-/// extracted in this form.
+/// Returns the bytes before the frames of a track and the form of each frame. If the track isn't extracted in this
+/// form, it returns the reason.
 pub fn coding_of(
     alloc: Global,
     form: Form,

@@ -30,8 +30,8 @@ use std::alloc::Global;
 /// and the bad frames, which are left out. A target without a track in the file makes no file. Neither does one whose
 /// track can't be extracted in this form; `job_refusal` reports it.
 ///
-/// The records of `source` must have been read from its file, and its tracks must allow the job and have usable
-/// frames.
+/// The records of `source` must have been read from its file. The tracks of the job must allow its form and have
+/// usable frames.
 pub fn extract<F: Files>(
     alloc: Global,
     files: &mut F,

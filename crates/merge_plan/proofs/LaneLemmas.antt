@@ -103,7 +103,7 @@ abbrev pub left_at : List Input → ℕ → Input → List TakenTrack → List I
 left_at inputs number i taken behind place =
     columns_from place (drop place (map (spot number i) taken)) (map spots_in (enumerate_from (number + 1) behind)) ++ spots_from (number + 1) (drop (number + 1) inputs)
 
--- The first of them.
+-- This is the first of them.
 pub place-next : (inputs : List Input) (number : ℕ) (i : Input) (taken : List TakenTrack) (behind : List Input) (place : ℕ) (t : TakenTrack) → place < length taken → t ≡ get_or taken place t
     → left_at inputs number i taken behind place ≡ (spot number i t ∷ spots_behind place (number + 1) behind) ∷ left_at inputs number i taken behind (place + 1)
 place-next inputs number i taken behind place t inside is =

@@ -76,7 +76,7 @@ link-length f i (held_by.Entries entries) t is = absurd is
 -- ---- all links of an input
 
 module _ (i : Input) (links : List Link) (are : AreLinksOf i links) (has : HasTaken i) where
-  -- A property of each link that follows from its track.
+  -- A property holds for each link if it follows from the link's track.
   each-link : (P : Link → Type 0) → ((t : TakenTrack) (link : Link) → IsTaken t → IsLink i t link → P link) → All P links
   each-link P so = zip-all (IsLink i) IsTaken P so i.taken links has.taken are
 

@@ -73,7 +73,7 @@ zip-all R Q P so (x ∷ xs) (y ∷ ys) each all = all-cons P y ys (so x y (each 
 
 -- ---- the selected tracks, each with its input
 
--- The input isn't the first of a chain.
+-- The input is appended to the previous one.
 abbrev own_place : ℕ × Input → Bool
 own_place each = goes_on each.1
 
@@ -315,7 +315,7 @@ module _ (inputs : List Input) (lanes : List PlannedLane) (are : AllZip IsLaneOf
       zip-all IsLaneOf (λ (spots : List Spot). sum_by (spot_length f) spots ≤ whole) (λ (l : PlannedLane). files_length f l.spec.links ≤ whole)
       (λ spots l fits is. omega (arith, lane-length f spots l.spec.links is.links)) (spots_from 0 inputs) lanes each are
 
-  -- A property of each link that follows from a property of each input.
+  -- A property holds for each link if it follows from a property of each input.
   pub lanes-links : (C : Input → Type 0) (P : Link → Type 0) → ((i : Input) (t : TakenTrack) (link : Link) → C i → IsTaken t → IsLink i t link → P link) → All C inputs → All HasTaken inputs → All (All P) (links_of lanes)
   lanes-links C P so each taken =
       All-map (All P) (λ (l : PlannedLane). l.spec.links) lanes

@@ -31,7 +31,7 @@ end_behind f inputs = option_map_or (λ (i : Input). end_of (source_in f i)) (la
 abbrev pub most_behind : List Input → ℕ
 most_behind inputs = option_map_or (λ (i : Input). append_offset (read_in i) + MAX_END) (last_in inputs) 0
 
--- the number of bytes of a file that are walked over to find its end: `size` bytes, or none for a text, whose entries have the end
+-- the number of bytes walked over to find the end of a file: `size` bytes, or none for a text, whose entries have the end
 abbrev pub walked_in : Blocks → ℕ → ℕ
 walked_in (Clusters outline scale) size = size
 walked_in (Entries entries) size = 0

@@ -1,4 +1,4 @@
--- Chains: things of which each may be appended to the previous one, and their output tracks. It is this project's.
+-- Chains: each of some things may be appended to the previous one, and continues its output tracks. It is this project's.
 use Rattle.std.specs.Prelude.{ℕ, ◌+◌, Bool, if◌then◌else◌, List, [], ◌∷◌, ◌++◌, map, flat_map}
 use Rattle.std.specs.List.{slice_get, take_while}
 use Rattle.std.specs.Option.{option_to_list}

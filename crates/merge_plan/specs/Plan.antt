@@ -35,8 +35,7 @@ Source = List ℕ × InputRead
 abbrev pub append_offset : InputRead → ℕ
 append_offset i = unwrap_or i.shift 0
 
--- the placing of the blocks of a track: the delay from the options, the append offset, and the bytes that header stripping removed from each
--- frame
+-- the placing of the blocks of a track: the delay from the options, the append offset, and the bytes that header stripping removed
 abbrev pub placing_for : ℕ → TakenTrack → Placing
 placing_for shift t = record { delay = t.delay; shift = shift; default_duration = t.track.default_duration; prefix = prefix_of t.track.entry }
 
@@ -44,7 +43,8 @@ placing_for shift t = record { delay = t.delay; shift = shift; default_duration 
 abbrev pub given_for : List (ℕ × Listing) → ℕ → List Event → TakenTrack → Given
 given_for times shift events t = timed_given (value_for t.id times) 0 (track_given (placing_for shift t) t.track.number events)
 
--- the blocks of a track, by the form of its input: in Clusters its own blocks, with the damage of the file; in a text all entries
+-- the blocks of a track, by the form of its input. In Clusters they are its own blocks, with the damage of the file; in a text they are all
+-- entries.
 abbrev pub given_from : List (ℕ × Listing) → ℕ → BlocksRead → List ℕ → TakenTrack → Given
 given_from times shift (Clusters segment scale) bytes t = given_for times shift (events_by (Clusters segment scale) bytes) t
 given_from times shift (Entries entries) bytes t = text_given t.delay shift entries
@@ -71,7 +71,7 @@ inputs_given input reads = lanes_by (λ (each : ℕ × InputRead). is_appended e
 abbrev pub limits_of : MergeWords → ClusterLimits
 limits_of words = record { blocks = words.blocks; span = words.span; scale = words.scale }
 
--- the default rule for cue points: keyframes of video and subtitle tracks get one, blocks of audio tracks don't
+-- the default rule for cue points: keyframes of video and subtitle tracks get one, other blocks don't
 abbrev pub default_rule : ℕ → CueRule
 default_rule type = if type == VIDEO_TRACK || type == SUBTITLE_TRACK then rule.Key else rule.Never
 
@@ -92,7 +92,7 @@ rules_given reads = map rule_of (tracks_taken reads)
 abbrev pub is_video : TakenTrack → Bool
 is_video t = t.track.kind == VIDEO_TRACK
 
--- for each output track, whether it is a driver; `videos` says which are video
+-- for each output track, whether it is a driver; `videos` holds for the video tracks
 abbrev pub drivers_by : List Bool → List Bool
 drivers_by videos = map (is_driver videos) (range_with_len 0 (length videos))
 

@@ -40,8 +40,8 @@ IsToldInput f i = f.content i.file.n ≡ Some (octets_in f i.file.n)
 
 -- ---- the records of an output
 
--- The records are the ones for the inputs: the attached files with their data, by the contents of the files, and the number of bytes of these
--- data.
+-- The records are the ones for the inputs. The attached files have their data, by the contents of the files, and `octets` is the number of their
+-- bytes.
 pub record AreRecordsOf (inputs : List Input) (r : OutputRecords) : Type 0 where
   pub tracks : r.tracks ≡ tracks_of_output (map read_in inputs)
   pub attachments : (f : LiveFiles) → All (IsToldInput f) inputs → map (attached_file f) r.attachments ≡ attachments_of (map (source_in f) inputs)
@@ -75,9 +75,9 @@ GivesRecords words inputs (Err Memory) = ⊤
 
 -- ---- the plan
 
--- The plan is the one for the options and inputs. It has the name, the split and the limits of Clusters, the identifiers, and the records before
--- and after the Clusters, with the number of bytes of attached files. For each output track it has the blocks of its links, by the contents of
--- their files, their inputs, the rule for cue points, and whether it is a driver.
+-- The plan is the one for the options and inputs. It has the name, the split, the limits of Clusters and the identifiers. It has the records
+-- before and after the Clusters, with the number of bytes of attached files. Each output track has the blocks of its links by the contents of
+-- their files, and their inputs. It has a rule for cue points, and may be a driver.
 pub record IsPlanOf (words : MergeWords) (inputs : List Input) (p : MergePlan) : Type 0 where
   pub output : p.output ≡ words.output
   pub split : p.split ≡ split_given words (map read_in inputs)

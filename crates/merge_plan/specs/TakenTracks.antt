@@ -126,11 +126,11 @@ pub record IsLaneOf (spots : List Spot) (l : PlannedLane) : Type 0 where
 abbrev pub AreLanesOf : List Input → List PlannedLane → Type 0
 AreLanesOf inputs lanes = AllZip IsLaneOf (spots_from 0 inputs) lanes
 
--- Each output track knows whether it is a driver; `videos` says which are video.
+-- Each output track knows whether it is a driver; `videos` holds for the video tracks.
 abbrev pub AreDriven : List Bool → List PlannedLane → Type 0
 AreDriven videos lanes = drivers_of lanes ≡ map (is_driver videos) (range_with_len 0 (length lanes))
 
--- The entries of a text are those of a file that isn't too long.
+-- The entries of a text come from a file that isn't too long.
 abbrev pub IsShortText : Blocks → Type 0
 IsShortText (held_by.Clusters outline scale) = ⊤
 IsShortText (held_by.Entries entries) = AreWithin MAX_SRT_LEN entries

@@ -86,9 +86,9 @@ fn uuids_of(alloc: Global, words: &MergeWords) -> Result<List<u128>, AllocError>
     Ok(List::from_vec(uuids))
 }
 
-/// Returns the plan of the output for `words` and `inputs`, or the first refusal. The reasons are: no track or more
-/// than 64 tracks are selected; WebM doesn't allow a codec; or Tracks, Chapters or Tags would be too large to be read
-/// again.
+/// Returns the plan of the output for `words` and `inputs`, or the first refusal. A merge is refused if no track or
+/// more than 64 tracks are selected, or if WebM doesn't allow a codec. It is also refused if Tracks, Chapters or Tags
+/// would be too large to be read again.
 pub fn plan_of(alloc: Global, words: &MergeWords, inputs: &[Input]) -> Result<MergePlan, PlanEnd>
     requires tracks { All HasTaken inputs.now }
     requires records { All HasRecords inputs.now }

@@ -24,8 +24,7 @@ use std::alloc::{AllocError, Global};
 use std::rc::Rc;
 use track_records::usable;
 
-/// Returns the default rule for cue points: keyframes of video and subtitle tracks get one, blocks of audio tracks
-/// don't.
+/// Returns the default rule for cue points: keyframes of video and subtitle tracks get one, other blocks don't.
 fn default_rule(kind: u64) -> CueRule
     ensures { result ≡ default_rule kind }
 {
@@ -228,7 +227,7 @@ fn lane_of(
     Ok(lane)
 }
 
-/// Makes the output tracks of `inputs`, in sequence; `videos` says which are video.
+/// Makes the output tracks of `inputs`, in sequence; `videos` holds for the video tracks.
 pub(crate) fn lanes_of(
     alloc: Global,
     inputs: &[Input],

@@ -13,12 +13,12 @@ abbrev pub most_of_cues : Job → ℕ → ℕ
 most_of_cues (jobs.Cues list) octets = octets
 most_of_cues job octets = 0
 
--- the limit before the blocks: the first Cues; the outline twice, and Info, Tracks, Chapters and Tags once each; and the names of attached files,
--- without their data
+-- the limit before the blocks: the first Cues; the outline twice; Info, Tracks, Chapters and Tags once each; and attached files without their
+-- data
 abbrev pub most_before : Job → ℕ → ℕ
 most_before job octets = 6 * octets + min (16 * octets) (2 * MAX_ATTACHMENTS_LEN) + most_of_cues job octets
 
--- the limit for the blocks and the data of attached files: twice the file for any number of tracks, and the file for each attached file
+-- the limit for blocks and attached data: twice the file for any number of tracks, and the file for each attached file
 abbrev pub most_of_content : Job → ℕ → ℕ
 most_of_content (jobs.Tracks form list) octets = 2 * octets
 most_of_content (jobs.Attachments list) octets = length list * octets

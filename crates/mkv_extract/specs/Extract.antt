@@ -49,8 +49,8 @@ missing_tracks name file targets = map (no_track_line name) (absent (length file
 abbrev pub missing_attachments : List ℕ → FileRead → List Target → List (List ℕ)
 missing_attachments name file targets = map (no_attachment_line name) (absent (length file.attachments + 1) targets)
 
--- The content that is extracted: a line for each named item that the file lacks; the outputs, in the order of the command line; the damage of the
--- file that is reported; and the frames that aren't written.
+-- The content that is extracted. `missing` has a line for each named item that the file lacks. The outputs are in the order of the command line.
+-- `damages` is the damage of the file that is reported, and `bad_frames` the frames that aren't written.
 pub record Taken : Type 0 where
   pub missing : List (List ℕ)
   pub outputs : List Output
@@ -110,9 +110,9 @@ abbrev pub or_line : {A : Type 0} → List ℕ → Result A Damage → Result A 
 or_line name (Ok x) = Ok x
 or_line name (Err d) = Err (refusal_line name d)
 
--- The content that a job extracts from a name of `world`, or the line of its first refusal. The reasons are checked in this order: an output has
--- the name of a file that is read; the name has no content; an edit of it is pending; its content can't be read; a named track can't be extracted
--- in this form.
+-- The content that a job extracts from a name of `world`, or the line of its first refusal. The checks are in this order. No output has the name
+-- of a file that is read. The name has content. No edit of it is pending. Its content can be read. Each named track can be extracted in this
+-- form.
 abbrev pub taken_of : (List ℕ → Option (List ℕ)) → List ℕ → Job → Result Taken (List ℕ)
 taken_of world name job =
     and_then (unless (option_map output_is_input_line (first_written name job)) (world name)) (λ (content : Option (List ℕ)).

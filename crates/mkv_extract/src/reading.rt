@@ -24,8 +24,8 @@ use requests::{Job, Target};
 use std::alloc::Global;
 use track_records::{Track, usable};
 
-/// Reads a live file up to its blocks, or returns its first refusal: for its outline, its records, its first Cues if
-/// the job extracts it, and then the tracks that the job names, in their order.
+/// Reads a live file up to its blocks, or returns its first refusal. It checks the outline, the records, the first
+/// Cues if the job extracts it, and then the tracks that the job names, in their order.
 pub fn read_source<R: Reads>(
     alloc: Global,
     job: &Job,

@@ -34,7 +34,7 @@ CanBeTold-read file total r good = record {
 
 pub ruleset told = (CanBeTold-read)
 
--- ---- what is read
+-- ---- reading the file
 
 -- the data after an outline
 abbrev behind : List ℕ → FileOutline → Result Described Damage

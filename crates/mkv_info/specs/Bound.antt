@@ -9,8 +9,7 @@ use Rattle.mkv_info.specs.declared.info.Form.TheVariants.{Lines, Json}
 abbrev pub most_to_list : ℕ → ℕ
 most_to_list octets = 4 * octets
 
--- the limit for identifying a file: its outline twice, and Info, Tracks, Chapters and Tags once each; and the names of its attached files,
--- without their data
+-- the limit for identifying a file: its outline twice; Info, Tracks, Chapters and Tags once each; and attached files without their data
 abbrev pub most_to_identify : ℕ → ℕ
 most_to_identify octets = 6 * octets + min (16 * octets) (2 * MAX_ATTACHMENTS_LEN)
 

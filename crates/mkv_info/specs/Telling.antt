@@ -16,11 +16,11 @@ use Rattle.mkv_io.specs.declared.files.Files.{Ghosts as FilesGhosts}
 use Rattle.mkv_info.specs.Info.{info_verdict, settled_verdict}
 use Rattle.mkv_info.specs.declared.info.Form.{Form}
 
--- The call printed the lines of the result for the file's content, or a first part of them, if the content is visible to the proof.
+-- If the content is visible to the proof, the call printed the lines of the result for it, or a first part of them.
 abbrev pub Informs : {S P : Type 0} → ReadsGhosts S → ReportGhosts P → S → FileId → P → P → Result Status CommandEnd → (List ℕ → Verdict) → Type 0
 Informs r p src file old new result verdict = IfTold r src file (λ bytes. SaysVerdict (p.lines old) (p.lines new) result (verdict bytes))
 
--- The call printed these lines for the file's content, or a first part of them, if the content is visible to the proof.
+-- If the content is visible to the proof, the call printed these lines for it, or a first part of them.
 abbrev pub SaysOf : {S P T : Type 0} → ReadsGhosts S → ReportGhosts P → S → FileId → P → P → Result T CommandEnd → (List ℕ → List (List ℕ)) → Type 0
 SaysOf r p src file old new result lines = IfTold r src file (λ bytes. SaysTo p old new (lines bytes) result)
 

@@ -27,8 +27,8 @@ pixels_in video = option_and_then (λ w. option_map (dimensions_text w) (integer
 abbrev pub dimensions_of : Node → Option (List ℕ)
 dimensions_of entry = option_and_then pixels_in (first_child VIDEO entry)
 
--- the properties of a track, each if it is present: CodecID, DefaultDuration in nanoseconds, the flags, the language, LanguageBCP47, TrackNumber,
--- the pixels, Name unless it is empty, and TrackUID, or 0
+-- the properties of a track: CodecID, DefaultDuration in nanoseconds, flags, language, LanguageBCP47, TrackNumber, pixels, Name and TrackUID.
+-- Absent ones and an empty Name are left out; an absent TrackUID is 0.
 abbrev pub properties_of : Track → List Member
 properties_of t =
     given "codec_id" (string t.codec) ∷

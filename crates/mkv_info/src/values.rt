@@ -49,7 +49,7 @@ pub(crate) fn number_if(number: Option<u64>) -> Option<Value>
 }
 
 /// Adds the number of children of `tree` with this `id` to `count`. A sum that is too large fails as out of memory;
-/// memory can't hold as many children.
+/// memory can't hold that number of children.
 pub(crate) fn with_children(count: usize, tree: &Tree, id: u32) -> Result<usize, AllocError>
     ensures { IfOk result (λ more. more ≡ count + length (part id (children tree.now))) }
 {

@@ -1,4 +1,5 @@
--- Computed texts of messages, so that a wrong definition fails the check: the name of each kind of damage, and messages that no test file gives.
+-- Computed texts of messages, so that a wrong definition fails the check. They have the name of each kind of damage, and messages that no test
+-- file gives.
 use Rattle.std.proofs.Common.{◌≡◌, codes, refl}
 use Rattle.std.specs.Fmt.{digits}
 use Rattle.ebml_numbers.specs.declared.number.Size.TheVariants.{Unknown}

@@ -1,4 +1,4 @@
--- The end of a command over files, whatever it does, and the lines that it or a part of it prints and the bytes that it reads.
+-- The end of a command over files, whatever it does. For a command and for its parts: the lines that are printed and the bytes that are read.
 use Rattle.std.specs.Prelude.{◌≡◌, ℕ, ◌+◌, ◌≤◌, List, Result, IfOk}
 use Rattle.mkv_io.specs.Sources.{live_files}
 use Rattle.mkv_io.specs.declared.reads.Reads.{Ghosts as ReadsGhosts}

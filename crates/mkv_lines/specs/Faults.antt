@@ -4,7 +4,7 @@ use Rattle.mkv_io.specs.Faults.{HasIncreased}
 use Rattle.mkv_lines.specs.declared.status.CommandEnd.{CommandEnd}
 use Rattle.mkv_lines.specs.declared.status.CommandEnd.TheVariants as stop
 
--- the counts of failures: of opening or reading, of creating or writing, and of printing a line
+-- the counts of failures, for opening or reading, for creating or writing, and for printing a line
 pub record Counts : Type 0 where
   pub reading : ℕ
   pub writing : ℕ

@@ -129,7 +129,7 @@ wrote_line name = codes "wrote " ++ shown_text name
 abbrev pub wrote_blocks_line : List ℕ → ℕ → List ℕ
 wrote_blocks_line name blocks = wrote_line name ++ (codes ": " ++ (decimal blocks ++ codes " blocks"))
 
--- the files generated from `n`: counts of blocks, Clusters and cue points of the merge of two of them, and of the parts of its split
+-- the files generated from `n`, and the counts of a merge of two: blocks, Clusters and cue points, and the parts of its split
 abbrev pub generated_line : ℕ → ℕ → ℕ → ℕ → ℕ → List ℕ
 generated_line n blocks clusters cues parts =
     codes "generated "

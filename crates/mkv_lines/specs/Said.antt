@@ -33,7 +33,7 @@ SaysLast old new (Err stop.Disk) = new ≡ old
 SaysLast old new (Err stop.Memory) = new ≡ old
 SaysLast old new result = ⊤
 
--- A call that only prints lines is stopped by the report only if its count of faults increased; every other result leaves the count as it was.
+-- A call that only prints lines is stopped by the report only if its count of faults increased. Every other result leaves the count as it was.
 abbrev pub HasSayCause : {T : Type 0} → ℕ → ℕ → Result T CommandEnd → Type 0
 HasSayCause before now (Ok _) = now ≡ before
 HasSayCause before now (Err stop.Memory) = now ≡ before

@@ -51,7 +51,7 @@ unless_pending name false v = v
 
 -- ---- a command
 
--- A command that writes nothing has printed the lines of its result `v` and has its status; or it stopped early, with a first part of the lines
+-- A command that writes nothing has printed the lines of its result `v` and has its status. Or it stopped early, with a first part of the lines
 -- printed.
 abbrev pub SaysVerdict : ReportLines → ReportLines → Result Status CommandEnd → Verdict → Type 0
 SaysVerdict old new (Ok s) v = (s ≡ v.status) × (new ≡ with_lines old v.lines)
@@ -67,7 +67,7 @@ abbrev pub Leaves : Names → Names → WrittenOutputs → Type 0
 Leaves old new (at_once all) = ArePrefixes old new all
 Leaves old new (in_turn all) = AreWrittenInOrder old new all
 
--- A command stopped before its outputs were complete, and `says` holds of the lines before them; or after that, and it holds of all its lines.
+-- A command stopped early. If its outputs weren't complete, `says` holds of the lines before them, and if they were, of all its lines.
 abbrev pub StopsSaying : (List (List ℕ) → Type 0) → Names → Names → Verdict → Type 0
 StopsSaying says old new v = (says v.before × Leaves old new v.outputs) ⊎ (says v.lines × (new ≡ with_outputs old (list_of v.outputs)))
 

@@ -111,8 +111,8 @@ pub enum Line<'a> {
         name: &'a str,
         blocks: u64,
     },
-    /// Files were generated from `n`: counts of blocks, Clusters and cue points of the merge of two of them, and of
-    /// the parts of its split.
+    /// Files were generated from `n`. Two of them were merged: `blocks`, `clusters` and `cues` are the counts of the
+    /// output, and `parts` of its split.
     Generated {
         n: u32,
         blocks: u64,

@@ -10,7 +10,6 @@ most_to_plan octets = 25 * octets + KEPT
 abbrev pub most_to_edit : ℕ → ℕ
 most_to_edit octets = HEAD + most_to_plan octets
 
--- the limit for recovering a file of any length: the head of its journal, the first bytes of the file, and the bytes of the journal that are
--- written
+-- the limit for recovering a file of any length: the head of its journal, its first KEPT bytes, and the bytes to write
 abbrev pub most_to_recover : ℕ
 most_to_recover = HEAD + KEPT + MAX_OCTETS

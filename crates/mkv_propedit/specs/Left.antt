@@ -31,7 +31,7 @@ writes_of_edits edits M = plan_of M edits
 
 -- ---- after the end
 
--- No edit was pending. `found` gives the writes for the file, and the file is `M` with these writes, beside a closed gate.
+-- No edit was pending. `found` gives the writes for the file, and the file is `M` with these writes, beside a journal with a closed gate.
 pub record IsEdited (found : List ℕ → Result (List Write) Refusal) (M S : List ℕ) (p : Pair) : Type 0 where
   pub quiet : state S ≡ Quiet
   pub writes : List Write
@@ -90,7 +90,7 @@ pub record IsPlannedFor (plan : Planned) (M S : List ℕ) : Type 0 where
   pub made : IsMadeFor plan.head M
   pub quiet : IsQuiet S
 
--- If the command is done, the writes of the plan are made, beside a closed gate. Out of memory, nothing has changed.
+-- If the command is done, the writes of the plan are made, and the journal has a closed gate. Out of memory, nothing has changed.
 abbrev pub LeavesPlanned : Status → Planned → List ℕ → List ℕ → Pair → Type 0
 LeavesPlanned status.Done plan M S p = p ≡ both (applied M (writes_of plan)) (0 ∷ [])
 LeavesPlanned status.Outside plan M S p = Unit {0}

@@ -55,7 +55,7 @@ unless_begun name Quiet v = v
 unless_begun name Live v = refused (pending_edit_line name)
 unless_begun name (Bad offset) v = refused (bad_sidecar_line name offset)
 
--- the result of a change of a file in place: whether the file exists, the content of its journal, and the result `v` for its content
+-- the result of a change in place: the refusal of a missing file, a pending edit or an invalid journal, or the result `v` for the content
 abbrev pub file_verdict : Bool → List ℕ → List ℕ → Verdict → Verdict
 file_verdict is_there name sidecar v = if is_there then unless_begun name (state sidecar) v else refused (missing_line name)
 

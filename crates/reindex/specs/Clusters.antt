@@ -37,8 +37,8 @@ steps_left c = 2 * (c.level.end - c.level.at) + looked_at c.next
 
 -- ---- facts of the walk
 
--- For each offset that was reached or comes later: the last Cluster of `list` before it is the last one among the Elements that aren't passed, or
--- else the one that is kept.
+-- For each offset from the reached one on: the last Cluster of `list` before it is the last one among the Elements that aren't passed. If there
+-- is none, it is the Cluster that is kept.
 pub record HasComeTo (bytes : List ℕ) (list : List Header) (c : Clusters) : Type 0 where
   pub ascends : AscendFrom 0 (due bytes c)
   pub before : (at : ℕ) → c.reached ≤ at → cluster_before at list ≡ option_or (cluster_before at (due bytes c)) c.last
@@ -74,7 +74,7 @@ pub record HoldsNext (old new : Clusters) (found : Option Header) : Type 0 where
   pub next : new.next ≡ found
   pub further : steps_left new ≤ steps_left old
 
--- The walk advanced from its offset, and the distance accounts for the bytes that were read.
+-- The walk advanced from its offset, and the distance bounds the bytes that were read.
 abbrev pub PaysOn : {S T E : Type 0} → Ghosts S → S → S → Clusters → Clusters → Result T E → Type 0
 PaysOn r src src' old new result = Goes r old.level.file old.level.at (λ _. new.level.at) old.level.ahead new.level.ahead src src' result
 

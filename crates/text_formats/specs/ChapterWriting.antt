@@ -1,4 +1,4 @@
--- Form in which simple chapters are written, in this project's grammar.
+-- The written form of simple chapters, in this project's grammar.
 use Rattle.std.specs.Prelude.{ℕ, ◌/◌, List, [], ◌∷◌, ◌++◌, codes}
 use Rattle.mkv_io.specs.Characters.{EQUALS, LINE_FEED, POINT}
 use Rattle.text_formats.specs.declared.pieces.Piece.{Piece}

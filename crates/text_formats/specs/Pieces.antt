@@ -1,4 +1,4 @@
--- Form in which bytes, numbers and times are written, in this project's grammar.
+-- The written form of bytes, numbers and times, in this project's grammar.
 use Rattle.std.specs.Prelude.{ℕ, ◌+◌, ◌/◌, ◌%◌, nat_lt, if◌then◌else◌, List, [], ◌∷◌, ◌++◌}
 use Rattle.std.specs.Fmt.{decimal}
 use Rattle.mkv_io.specs.Characters.{COLON, DIGIT_0}

@@ -50,7 +50,7 @@ abbrev pub breaks : ℕ → List ℕ
 breaks zero = []
 breaks (suc n) = LINE_FEED ∷ breaks n
 
--- The result of reading line `l`, which is followed by `ls`, is the head that begins with `l`, if one does, or an error in its second line.
+-- The result for line `l`, followed by `ls`: the head that `l` begins, if any, or an error in its second line.
 abbrev pub HeadRead : List ℕ → List (List ℕ) → ℕ → Result (Option Head) TextEnd → Type 0
 HeadRead l ls n (Ok None) = head (l ∷ ls) ≡ None
 HeadRead l ls n (Ok (Some h)) =

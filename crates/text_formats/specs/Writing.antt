@@ -1,4 +1,4 @@
--- Form in which an entry of SubRip is written, in this project's grammar.
+-- The written form of an entry of SubRip, in this project's grammar.
 use Rattle.std.specs.Prelude.{ℕ, ℤ, pos, negsuc, ◌+ℤ◌, ◌/◌, List, [], ◌∷◌, ◌++◌, codes}
 use Rattle.std.specs.Fmt.{decimal}
 use Rattle.mkv_io.specs.Characters.{COMMA, LINE_FEED}

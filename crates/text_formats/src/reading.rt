@@ -170,8 +170,9 @@ fn read_entries(alloc: Global, bytes: &[u8]) -> Result<Vec<Entry>, TextEnd>
 }
 
 /// Reads the entries of a SubRip file, sorted by start; entries with the same start keep their order. Times are in
-/// nanoseconds. It fails with the first bad line. A line is bad if it isn't UTF-8, if it has `-->` but isn't the
-/// second line of a head, or if its end is before its start. A line before the first entry is bad if it isn't empty.
+/// nanoseconds. It fails with the first bad line. A line is bad if it isn't UTF-8. It is bad if it has `-->` but
+/// isn't the second line of a head, or if its end is before its start. A line before the first entry is bad unless it
+/// is empty.
 pub fn read_srt(alloc: Global, bytes: &[u8]) -> Result<List<Entry>, TextEnd>
     ensures exact { Reads result (spec.srt bytes.now) }
     ensures within { IfOk result (AreWithin (length bytes.now)) }

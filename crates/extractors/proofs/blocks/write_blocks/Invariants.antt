@@ -1,4 +1,4 @@
--- The events that were read are written and reported, and the bytes that were read are before the end of the reading.
+-- The events that were read are written and reported. The advance of the cursor bounds the bytes that were read.
 use Rattle.std.proofs.Common.{◌≡◌, ◌≤◌, ◌+◌, ◌-◌, length}
 use Rattle.mkv_io.specs.Told.{IfVisible}
 use Rattle.cluster_reader.specs.Reading.{CanRead, left_of, read_to}

@@ -1,4 +1,4 @@
--- The points are the points of the blocks passed, and both walks account for the bytes that were read.
+-- The points are the points of the blocks passed, and the advances of both walks bound the bytes that were read.
 use Rattle.std.proofs.Common.{◌≡◌, ◌≤◌, ◌+◌, ◌-◌, length}
 use Rattle.mkv_io.specs.Told.{IfVisible}
 use Rattle.elements.specs.Window.{HasNotPassed, end_ahead}

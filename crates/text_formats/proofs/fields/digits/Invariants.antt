@@ -1,4 +1,4 @@
--- The value of all digits is the value of those read, continued with the rest.
+-- The value of all digits is the value of the digits already read, and then of the rest.
 use Rattle.std.proofs.Common.{◌≡◌, ◌^◌, ◌<◌, drop}
 use Rattle.text_formats.proofs.FieldsLemmas.{read_on}
 use Rattle.text_formats.specs.Fields as spec

@@ -1,4 +1,4 @@
--- The Elements that were passed are before the offset, and the distance accounts for the bytes that were read.
+-- The Elements that were passed are before the offset, and the distance bounds the bytes that were read.
 use Rattle.std.proofs.Common.{◌≡◌, ◌≤◌, List}
 use Rattle.mkv_io.specs.Told.{IfVisible}
 use Rattle.mkv_schema.specs.declared.element.Header.{Header}
