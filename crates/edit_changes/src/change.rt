@@ -35,7 +35,7 @@ impl From<AllocError> for EditEnd {
     }
 }
 
-/// Replaces the first child of `property` by one with this value.
+/// Sets `property` to this value, as its only child. It takes the place of the first one, or comes last.
 #[tactic(auto, using(crate::proofs::ChangeLemmas::changes))]
 fn set(alloc: Global, tree: &mut Tree, property: Property, value: &Text) -> Result<(), EditEnd>
     requires master { IsMaster tree.old }

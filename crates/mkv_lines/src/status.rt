@@ -12,7 +12,7 @@ pub enum Status {
     Done,
     /// Everything is done, and a message warns of a problem.
     Warned,
-    /// Nothing is done, and a message gives the reason, except for an argument that can't be read.
+    /// Nothing is done, and a message gives the reason. There is no message if an argument isn't UTF-8.
     Refused,
     /// Memory ran out.
     NoMemory,

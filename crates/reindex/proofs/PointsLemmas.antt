@@ -246,7 +246,7 @@ points_in-file i bytes segment tracks events numbers scale base all =
 
 -- ---- the bytes that were read
 
--- The distances of the advances of both walks bound the bytes that were read.
+-- The advances of both walks bound the bytes that were read.
 pub record HavePaid (size : ℕ) (first cursor : Reading) (list ahead : ReadAhead) (at before now : ℕ) : Type 0 where
   pub place : HasNotPassed ahead at size
   pub pays : now + read_to first + end_ahead list ≤ before + read_to cursor + end_ahead ahead
