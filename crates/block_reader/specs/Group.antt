@@ -33,7 +33,7 @@ GathersRun bytes run g (Err d) = group_refusal bytes run ≡ Some d
 abbrev pub GathersBody : {T : Type 0} → ℕ → ℕ → List ℕ → Gathered → Result T Damage → Type 0
 GathersBody base total body g found = IfBody base total body (λ bytes. GathersRun bytes (children_in in_master bytes base (end_behind base body)) g found)
 
--- A child with the ID `id` has this role in its group.
+-- A child with the ID `id` has the given role in its group.
 abbrev pub IsPart : ℕ → Part → Type 0
 IsPart id part.Block = id ≡ BLOCK
 IsPart id part.Duration = id ≡ BLOCK_DURATION

@@ -10,7 +10,7 @@ use Rattle.block_reader.specs.declared.block.Times.{Times}
 use Rattle.block_reader.specs.declared.head.BlockHead.{BlockHead}
 use Rattle.block_reader.specs.Time.{is_too_large_at}
 
--- the block with the head `h` and these frames, references and kept children
+-- the block with the head `h`, the frames `frames`, the references `references`, and the kept children `kept`
 abbrev pub block_with : BlockHead → List (List ℕ) → List ℤ → List ℕ → Block
 block_with h frames references kept = record {
   track = h.track;
@@ -27,7 +27,7 @@ block_with h frames references kept = record {
   offset = h.offset;
 }
 
--- A reader's head, with these parts, is the block that `found` names, or both are the same damage.
+-- A reader's head, with the frames, references and kept children, is the block that `found` names, or both are the same damage.
 abbrev pub MakesHead : List (List ℕ) → List ℤ → List ℕ → Result Block Damage → Result BlockHead Damage → Type 0
 MakesHead frames references kept found (Ok head) = found ≡ Ok (block_with head frames references kept)
 MakesHead frames references kept found (Err d) = found ≡ Err d

@@ -34,7 +34,7 @@ abbrev pub TellsTimes : ℕ → ℤ → Gathered → Gathered → Option Times �
 TellsTimes scale ticks old new (Some times) = HasTimes scale ticks old new times
 TellsTimes scale ticks old new None = has_too_large_ticks scale ticks old.duration old.references.items ≡ true
 
--- the block of a group with these children and this content, unless its references are too many or a time is too large
+-- the block of a group with the children `children` and the content `content`, unless its references are too many or a time is too large
 abbrev pub block_in_group : ℕ → ℕ → ℕ → List ℕ → List Header → Content → Result Block Damage
 block_in_group scale timestamp offset bytes children content =
     and_then (unless (too_many_references (with_limits scale) children) content) (λ each. in_time (with_limits scale) BLOCK (group_with scale bytes timestamp offset children each))
@@ -72,7 +72,7 @@ StaysElse old new (Err e) = new ≡ old
 
 -- ---- the children of a group
 
--- `new` is `old` with one more child, which has this body and these bytes.
+-- `new` is `old` with the child `child` added, which has the body `value` and the bytes `octets`.
 abbrev pub GathersChild : Header → List ℕ → List ℕ → Gathered → Gathered → Type 0
 GathersChild child value octets old new = (bytes : List ℕ) (before : List Header) → value ≡ body_of bytes child → octets ≡ element_octets bytes child
     → Gathers bytes before old → Gathers bytes (before ++ child ∷ []) new

@@ -16,7 +16,7 @@ header_of octets = record { track = track_in octets; relative = relative_in octe
 abbrev pub header_in : List ℕ → Option BlockHeader
 header_in octets = if has_no_header octets then None else Some (header_of octets)
 
--- Frames of the sizes `sizes`, valid for lacing of this kind, begin at byte `start` of `octets` and fill the rest.
+-- Frames of the sizes `sizes`, valid for the lacing `kind`, begin at byte `start` of `octets` and fill the rest.
 pub record AreFrames (kind : Lace) (octets sizes : List ℕ) (start : ℕ) : Type 0 where
   pub inside : start ≤ length octets
   pub whole : start + sum sizes ≡ length octets
@@ -33,11 +33,11 @@ Cuts lace octets sizes found (Err kind) = found ≡ Err kind
 abbrev pub CutsWhole : List ℕ → List ℕ → ℕ → Type 0
 CutsWhole octets sizes start = Cuts laces.None octets sizes (frames_in laces.None octets) (Ok start)
 
--- the content with the header `s` and these frames
+-- the content with the header `s` and the frames `frames`
 abbrev pub content_of : Spelled → List (List ℕ) → Content
 content_of s frames = record { track = s.track; relative = s.relative; flags = s.flags; frames = frames }
 
--- A reader's result for a block's bytes is right: its content with these frame sizes, or its error.
+-- A reader's result for a block's bytes `octets` is right: its content with the frame sizes `sizes`, or its error.
 abbrev pub SpellsContent : List ℕ → List ℕ → Result Spelled Kind → Type 0
 SpellsContent octets sizes (Ok s) = (content_in octets ≡ Ok (content_of s (frames_cut sizes (drop s.start octets)))) × AreFrames (lace_of s.flags) octets sizes s.start
 SpellsContent octets sizes (Err kind) = content_in octets ≡ Err kind

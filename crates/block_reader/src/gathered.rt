@@ -47,7 +47,7 @@ fn element_of<'a>(body: &'a [u8], base: u64, child: &Header) -> &'a [u8]
     &body[(child.offset - base) as usize..(end - base) as usize]
 }
 
-// Checks whether `value` is valid for a child of a BlockGroup with this ID. A Block may have any bytes; a
+// Checks whether `value` is valid for a child of a BlockGroup with the ID `id`. A Block may have any bytes; a
 // BlockDuration or ReferenceBlock has at most eight.
 fn is_child_value(id: u32, value: &[u8]) -> bool
     ensures { result ≡ is_known_value GROUP_ID id value.now }

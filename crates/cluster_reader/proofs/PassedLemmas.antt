@@ -23,7 +23,7 @@ use Rattle.cluster_reader.proofs.TakesLemmas.{front-of-body, lends-passed}
 
 -- ---- facts that the first bytes settle
 
--- They settle no track.
+-- First bytes without a track settle no track.
 pub settled_by-cut : (takes : BlockFilter) (scale ticks : ℕ) (h : Header) (front : List ℕ) → front_track front ≡ None → settled_by takes scale ticks h front ≡ None
 settled_by-cut takes scale ticks h front none = ap (unless_wanted takes) (front_track-cut scale ticks h front none)
 

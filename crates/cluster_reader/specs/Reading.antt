@@ -91,7 +91,7 @@ LendsFor Block b = IsLendable b
 LendsFor (Damaged d) b = ⊤
 LendsFor End b = ⊤
 
--- A block from a step can be written if `takes` wants it.
+-- A block from a step can be written if the filter wants it.
 abbrev pub LendsWanted : BlockFilter → Step → Buffered → Type 0
 LendsWanted All step b = LendsFor step b
 LendsWanted (Track track) step b = b.head.track ≡ track → LendsFor step b
@@ -179,7 +179,7 @@ pub record PaysWithinFile {T : Type 0} (size : ℕ) (old new : Reading) (before 
 abbrev pub SpendsIn : {S T : Type 0} → Ghosts S → S → S → Reading → Reading → Result T ReadEnd → Type 0
 SpendsIn r src src' old new result = PaysWithinFile (file_size r src old.file) old new (r.octets_read src) (r.octets_read src') result
 
--- All blocks and damaged places of a file of `total` bytes with this Segment are left.
+-- All blocks and damaged places of a file of `total` bytes with the Segment `segment` are left.
 abbrev pub HasAllLeft : {E : Type 0} → ℕ → Header → ℕ → Result Reading E → Type 0
 HasAllLeft scale segment total result = (bytes : List ℕ) → total ≡ length bytes → IfOk result (λ c. left_of bytes c ≡ events_of (with_limits scale) bytes segment)
 

@@ -14,7 +14,7 @@ use Rattle.cluster_reader.specs.declared.child.TheConstants.{MAX_PREVIEW_LEN}
 use Rattle.cluster_reader.specs.declared.filter.BlockFilter.{BlockFilter}
 use Rattle.cluster_reader.specs.declared.filter.BlockFilter.TheVariants.{All, Track, Heads}
 
--- The filter wants the frames of a block of this track.
+-- The filter wants the frames of a block of the track `track`.
 abbrev pub wants : BlockFilter → ℕ → Bool
 wants All track = true
 wants (Track wanted) track = track == wanted

@@ -80,11 +80,11 @@ LendsForChild takes (child.Passed behind) b = ⊤
 LendsForChild takes child.Block b = LendsWanted takes Block b
 LendsForChild takes (child.Damaged d) b = ⊤
 
--- A child with this ID is read: a Timestamp, SimpleBlock or BlockGroup.
+-- A child with the ID `id` is read: a Timestamp, SimpleBlock or BlockGroup.
 abbrev pub is_looked_at : ℕ → Bool
 is_looked_at id = id == TIMESTAMP || (id == SIMPLE_BLOCK || id == BLOCK_GROUP)
 
--- A child with this ID changes only the block and the window of the walk, and nothing if its body isn't read.
+-- A child with the ID `id` changes only the block and the window of the walk, and nothing if its body isn't read.
 pub record KeepsWalk (id : ℕ) (old new : Walk) : Type 0 where
   pub only : new ≡ record old { block = new.block; window = new.window }
   pub other : is_looked_at id ≡ false → new ≡ old

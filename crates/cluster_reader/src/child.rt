@@ -109,7 +109,7 @@ fn timestamp_for(timestamp: Option<u64>, header: &Header) -> Result<u64, Damage>
     }
 }
 
-// Checks whether `takes` wants the frames of a block of this track.
+// Checks whether `takes` wants the frames of a block of the track `track`.
 fn wants(takes: BlockFilter, track: u64) -> bool
     ensures { result ≡ wants takes track }
 {

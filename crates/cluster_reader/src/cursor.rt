@@ -54,7 +54,7 @@ impl Model for Cursor {
 }
 
 impl Cursor {
-    /// Starts at the first Cluster of the file with this outline. One tick is `scale` nanoseconds.
+    /// Starts at the first Cluster of a file with the outline `outline`. One tick is `scale` nanoseconds.
     pub fn start<O: HasSegment>(
         alloc: Global,
         outline: &O,

@@ -17,7 +17,7 @@ use elements::{Parent, ends_cluster, id_of};
 use mkv_io::{ReadEnd, Reads};
 use mkv_schema::Header;
 
-// Checks whether an element with this ID ends the children of a Cluster; only one of unknown size ends this way.
+// Checks whether an element with the ID `id` ends the children of a Cluster; only one of unknown size ends this way.
 fn ends_children(unknown: bool, id: u32) -> bool
     ensures { result ≡ ends_children unknown id }
 {

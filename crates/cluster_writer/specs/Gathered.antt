@@ -46,7 +46,7 @@ joins_next limits (Some c) b = joins limits c b
 
 -- ---- the Cluster by the buffer's fields
 
--- the bytes of a Cluster with these elements; none without a Timestamp
+-- the bytes of a Cluster with the elements `elements`; none without a Timestamp
 abbrev pub cluster_with : Option ℕ → List ℕ → List ℕ
 cluster_with None elements = []
 cluster_with (Some timestamp) elements = octets_of (element CLUSTER (octets_of (timestamp_element timestamp) ++ elements))
@@ -55,7 +55,7 @@ cluster_with (Some timestamp) elements = octets_of (element CLUSTER (octets_of (
 abbrev pub is_empty : Gathered → Bool
 is_empty g = is_none g.timestamp
 
--- the length of the body of a Cluster with this Timestamp and these elements
+-- the length of the body of a Cluster with the Timestamp `timestamp` and the elements `elements`
 abbrev pub size_with : ℕ → List ℕ → ℕ
 size_with timestamp elements = length (octets_of (timestamp_element timestamp)) + length elements
 
@@ -107,7 +107,7 @@ pub record AddsBlock (b : OutputBlock) (old new : Gathered) : Type 0 where
   pub elements : new.elements ≡ old.elements ++ octets_of (block_element (timestamp_for old b.tick) b)
   pub spare : old.spare ≤ new.spare + octets_taken b
 
--- `new` is `old` with the element of the block with these parts added.
+-- `new` is `old` with the element of a block added, which has the given parts.
 abbrev pub AddsLent : ℕ → ℕ → OutHead → List ℕ → List ℕ → List ℕ → List ℤ → List ℕ → Gathered → Gathered → Type 0
 AddsLent lane tick head prefix body sizes references kept old new =
     AddsBlock (block_put lane tick (lent head prefix body sizes references kept)) old new
@@ -127,7 +127,7 @@ HoldsSame old new = (c : Option OutputCluster) → Holds c old → Holds c new
 abbrev pub HoldsNext : OutputBlock → Gathered → Gathered → Type 0
 HoldsNext b old new = (c : Option OutputCluster) → Holds c old → Holds (Some (with_next c b)) new
 
--- `new` contains the Cluster of `old` with the block with these parts added.
+-- `new` contains the Cluster of `old` with a block added, which has the given parts.
 abbrev pub HoldsLent : ℕ → ℕ → OutHead → List ℕ → List ℕ → List ℕ → List ℤ → List ℕ → Gathered → Gathered → Type 0
 HoldsLent lane tick head prefix body sizes references kept old new =
     HoldsNext (block_put lane tick (lent head prefix body sizes references kept)) old new

@@ -57,7 +57,7 @@ pub record AreLengths (b : BlockRef) (lengths : BlockLengths) : Type 0 where
 
 -- ---- while the block is written
 
--- The block `b` can be written in a Cluster with this Timestamp: it can be put, and its time is near enough.
+-- The block `b` can be written in a Cluster with the Timestamp `timestamp`: it can be put, and its time is near enough.
 pub record CanStand (timestamp : ℕ) (b : BlockRef) : Type 0 where
   pub put : CanBePut b
   pub near : is_near timestamp b.tick ≡ true

@@ -16,8 +16,8 @@ fn is_near(timestamp: u64, tick: u64) -> bool
     }
 }
 
-/// Checks whether a Cluster with this Timestamp, `count` blocks and a body of `size` bytes may have a block at
-/// `tick`, of `len` bytes.
+/// Checks whether a Cluster with the Timestamp `timestamp`, `count` blocks and a body of `size` bytes may have a
+/// block at `tick`, of `len` bytes.
 pub(crate) fn may_have(
     limits: ClusterLimits,
     timestamp: u64,

@@ -221,7 +221,7 @@ CanAttach-kept r f name a b it kept can = record {
 pub attached_file-kept : {S : Type 0} (r : Ghosts S) (f : writing.Ghosts S) (name : List ℕ) (a b : S) (it : Attachment) → KeepsOthers r f (name ∷ []) a b → CanAttach r f a name it → attached_file (live_files r b) it ≡ attached_file (live_files r a) it
 attached_file-kept r f name a b it kept can = ap (λ content. with_data (octets_told content it.at it.len) it.entry) (KeepsOthers-content r f name a b it.file.n kept can.live can.apart)
 
--- One more attached file.
+-- One more AttachedFile is appended to the previous ones.
 pub attached-push : (files : LiveFiles) (attachments : List Attachment) (i : ℕ) (it : Attachment) → i < length attachments → it ≡ get_or attachments i it
     → joined (map tree_element (map (attached_file files) (take i attachments))) ++ octets_of (tree_element (attached_file files it)) ≡ joined (map tree_element (map (attached_file files) (take (i + 1) attachments)))
 attached-push files attachments i it inside is =

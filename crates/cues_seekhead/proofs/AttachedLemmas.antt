@@ -98,7 +98,7 @@ attached-parts a bytes is own long =
     ∙ ap (λ w. head ++ w) (sym (append_assoc front middle (bytes ++ behind_data a)))
     ∙ sym (append_assoc head (front ++ middle) (bytes ++ behind_data a))
 
--- Its length is the computed one.
+-- The length of an AttachedFile is the computed one.
 pub attached-long : (a : Attachment) (bytes : List ℕ) → IsMaster a.entry → id_of a.entry ≡ ATTACHED_FILE → length bytes ≡ a.len → length (octets_of (tree_element (with_data bytes a.entry))) ≡ attached_total a
 attached-long a bytes is own long =
     let all = flat_map octets (with_child (leaf FILE_DATA 0 bytes) (children a.entry)) in
@@ -114,7 +114,7 @@ total-next i attachments a inside is =
     let next : drop i attachments ≡ a ∷ drop (i + 1) attachments = drop-cons attachments i a inside ∙ rw (add-one, ← is) refl in
     ap (sum_by attached_total) next ∙ sum_by-cons attached_total a (drop (i + 1) attachments)
 
--- Their length is the sum.
+-- The length of all AttachedFiles is the sum of theirs.
 pub attachments-long : (files : LiveFiles) (attachments : List Attachment) → All (λ (a : Attachment). IsMaster a.entry) attachments → All (λ (a : Attachment). id_of a.entry ≡ ATTACHED_FILE) attachments → HaveData files attachments
     → length (joined (map tree_element (map (attached_file files) attachments))) ≡ sum_by attached_total attachments
 attachments-long files [] masters own have = refl

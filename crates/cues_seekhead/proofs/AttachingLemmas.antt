@@ -35,7 +35,7 @@ data-kept : {S U : Type 0} (r : Ghosts S) (f : writing.Ghosts S) (file : FileId)
 data-kept r f file a b it octets m done can before =
     ap (λ (content : Option (List ℕ)). octets_told content it.at it.len) (KeepsOthers-content r f (f.holder a file.n) a b it.file.n before.kept can.live can.apart)
 
--- Its three parts are appended.
+-- The three parts of an AttachedFile are appended.
 pub attached-all : {S T U : Type 0} (r : Ghosts S) (f : writing.Ghosts S) (file : FileId) (it : Attachment) (a b c d : S) (done : U) (result : Result T RemuxEnd) (front back : List ℕ) → (live_files r a).live file.n ≡ true → CanAttach r f a (f.holder a file.n) it
     → IfVisible ((live_files r a).content it.file.n) (λ bytes. length bytes ≡ file_size r a it.file) → front ≡ before_data it → back ≡ behind_data it
     → AppendsOnly r f file front 0 a b (Ok done) → AppendsOnly r f file (octets_told ((live_files r b).content it.file.n) it.at it.len) it.len b c (Ok done) → AppendsOnly r f file back 0 c d result
@@ -92,7 +92,7 @@ data-rest attachments k =
     sym (sum_by-append (λ (a : Attachment). a.len) (take k attachments) (drop k attachments)) ∙ ap data_total (take-append-drop k attachments) in
     omega (arith, all)
 
--- They are unchanged if only another name is written.
+-- The AttachedFiles are unchanged if only another name is written.
 pub attached-octets-kept : {S : Type 0} (r : Ghosts S) (f : writing.Ghosts S) (name : List ℕ) (a b : S) (attachments : List Attachment) → KeepsOthers r f (name ∷ []) a b → All (CanAttach r f a name) attachments → attached_octets (live_files r b) attachments ≡ attached_octets (live_files r a) attachments
 attached-octets-kept r f name a b [] kept can = refl
 attached-octets-kept r f name a b (it ∷ them) kept can =

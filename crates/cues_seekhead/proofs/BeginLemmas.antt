@@ -113,7 +113,7 @@ can-data r f name a attachments told can = λ k d below.
 
 -- ---- a begun output
 
--- Its bytes are the elements before the Clusters.
+-- The bytes of a begun output are the elements before the Clusters.
 pub begun-octets : (files : LiveFiles) (front : Front) (o : Opening) → IsOpening front o → All (λ (a : Attachment). IsMaster a.entry) front.attachments → All (λ (a : Attachment). id_of a.entry ≡ ATTACHED_FILE) front.attachments → HaveData files front.attachments
     → o.octets ++ attached_octets files front.attachments ≡ opened_with (front_with files front) []
 begun-octets files front o opening masters own have = ap (λ w. w ++ attached_octets files front.attachments) opening.octets ∙ opening-octets files front masters own have
@@ -127,7 +127,7 @@ begun-known files front o out opening masters own have webm len seeks = record {
   seeks = seeks ∙ opening.seeks ∙ opening-seeks files front;
 }
 
--- A prefix of it is also a begun output.
+-- A prefix of the begun output is also one.
 pub begun-part : (before made now : Names) (holder name octets : List ℕ) → made ≡ with_content before name [] → holder ≡ name → PassesSome made now holder octets → ArePrefixes before now (record { name = name; content = octets } ∷ [])
 begun-part before made now holder name octets is same some = record {
   stand = record { name = name; content = some.passed.written } ∷ [];

@@ -69,7 +69,7 @@ IsPatched-none d = record { count = refl; each = λ k. inl refl }
 
 -- ---- content of the file
 
--- It is a prefix of the appended bytes.
+-- The content is a prefix of the appended bytes.
 pub StandsDrafted-begun : (before names now : Names) (name content more : List ℕ) (patches : List Patch) → names ≡ with_content before name content → PassesSome names now name more
     → StandsDrafted before now (record { name = name; appended = content ++ more; patches = patches })
 StandsDrafted-begun before names now name content more patches had some = record {
@@ -78,7 +78,7 @@ StandsDrafted-begun before names now name content more patches had some = record
   names = appended-to before names now name content some.passed.written had some.passed.added;
 }
 
--- It is all bytes, with the area or the size changed.
+-- The content is all appended bytes, with the area or the size changed.
 pub StandsDrafted-patched : (before now : Names) (d : Draft) (content : List ℕ) → now ≡ with_content before d.name content → IsPatched content d → StandsDrafted before now d
 StandsDrafted-patched before now d content is patched = record {
   output = record { name = d.name; content = content };

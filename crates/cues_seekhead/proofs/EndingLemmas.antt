@@ -42,7 +42,7 @@ tags-valid : is_id TAGS ≡ true
 unfolding is_id
 tags-valid = refl
 
--- Their IDs are valid.
+-- The IDs of the Seeks are valid.
 pub ids-behind : (at : ℕ) (points : List CuePoint) (chapters tags : Option Node) (out out' : List ℕ) (seeks seeks' : List Seek) → IfSome chapters (λ n. id_of n ≡ CHAPTERS) → IfSome tags (λ n. id_of n ≡ TAGS)
     → Adds at (back_with points chapters tags) out out' seeks seeks' → AreIds seeks → AreIds seeks'
 ids-behind at points chapters tags out out' seeks seeks' is_chapters is_tags adds ids =

@@ -111,7 +111,7 @@ more-few : (position : ℕ) (attachments : List Attachment) → length (attachme
 more-few position [] = omega arith
 more-few position (a ∷ attachments) = omega arith
 
--- Their IDs are valid, and there are at most three.
+-- The IDs of the Seeks are valid, and there are at most three.
 pub front-ids : (f : Front) → id_of f.info ≡ INFO → id_of f.tracks ≡ TRACKS → AreIds (front_seeks f)
 front-ids f is_info is_tracks =
     let two : AllByRecursion (λ (s : Seek). is_id s.id ≡ true) (seeks_from 256 (records_of f)) = (ap is_id is_info ∙ info-valid, (ap is_id is_tracks ∙ tracks-valid, tt)) in

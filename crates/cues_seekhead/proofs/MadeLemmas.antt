@@ -30,7 +30,7 @@ MakesFile-kept r f name file a b c numbered made kept = record {
     stays : (other : ℕ) → (live_files r a).live other ≡ true → (live_files r b).live other ≡ true
     stays other live = made.besides other (λ same. let below = numbered other live in let newer = made.newer in absurd (omega (arith, same))) ∙ live
 
--- It is the only output that was created.
+-- The created file is the only new one.
 as_made : {S : Type 0} (r : Ghosts S) (f : writing.Ghosts S) (name : List ℕ) (file : FileId) (a b : S) → MakesFile r f name file a b → MadeSince r f (name ∷ []) a b (record { file = file; waiting = [] } ∷ [])
 as_made r f name file a b made = record {
   newer = at;
@@ -50,7 +50,7 @@ pub MakesFile-ended : {S : Type 0} (r : Ghosts S) (f : writing.Ghosts S) (name :
 MakesFile-ended r f name file a b c numbered made ends =
     KeepsOthers-ended r f (name ∷ []) a b c (record { file = file; waiting = [] } ∷ []) numbered (as_made r f name file a b made) ends
 
--- The same files are also live if it was written before.
+-- The same files are also live if the output was written before.
 pub MakesFile-finished : {S : Type 0} (r : Ghosts S) (f : writing.Ghosts S) (name : List ℕ) (file : FileId) (a b c : S) → ((other : ℕ) → (live_files r a).live other ≡ true → other < f.given a) → MakesFile r f name file a b → WritesAndEnds r f file b c → KeepsOthers r f (name ∷ []) a c
 MakesFile-finished r f name file a b c numbered made ends =
     let P : List ℕ → Type 0 = λ n. KeepsOthers r f (n ∷ []) b ends.before in

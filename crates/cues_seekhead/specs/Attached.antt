@@ -27,7 +27,7 @@ abbrev pub attachments_header : List Attachment → List ℕ
 attachments_header [] = []
 attachments_header (a ∷ attachments) = header_octets ATTACHMENTS (sum_by attached_total (a ∷ attachments))
 
--- the Seek of Attachments at this position, or nothing without attachments
+-- the Seek of Attachments at the position `position`, or nothing without attachments
 abbrev pub attachments_seeks : ℕ → List Attachment → List Seek
 attachments_seeks position [] = []
 attachments_seeks position (a ∷ attachments) = record { id = ATTACHMENTS; position = position } ∷ []

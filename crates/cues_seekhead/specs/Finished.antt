@@ -11,7 +11,7 @@ use Rattle.output_model.specs.Document.{Document, clusters_elements, layout}
 use Rattle.cues_seekhead.specs.OpenOutput.{OpenOutput, StandsOpen}
 use Rattle.cues_seekhead.specs.Draft.{StandsDrafted, draft_of}
 
--- All Clusters of the document `d` are in the output's file, and `d` has its cue points and these Chapters and Tags.
+-- All Clusters of the document `d` are in the output's file, and `d` has its cue points and the given Chapters and Tags.
 pub record IsReady {S : Type 0} (r : Ghosts S) (f : writing.Ghosts S) (before : Names) (d : Document) (files : S) (o : OpenOutput) (its_chapters its_tags : Option Node) : Type 0 where
   pub stands : StandsOpen r f before (f.holder files o.file.n) d.front (joined (clusters_elements d.clusters)) files o
   pub cues : d.cues ≡ o.cues

@@ -12,8 +12,8 @@ use Rattle.mkv_io.specs.declared.remux_end.RemuxEnd.{RemuxEnd}
 use Rattle.mkv_outputs.specs.Sinks.{EndsOnly}
 use Rattle.cues_seekhead.specs.OpenOutput.{OpenOutput}
 
--- `file` was created with this name, and is live with a new number. Other files are live as before, with the same names. Files of other names are
--- unchanged. No other file was created or opened.
+-- `file` was created with the name `name`, and is live with a new number. Other files are live as before, with the same names. Files of other
+-- names are unchanged. No other file was created or opened.
 pub record MakesFile {S : Type 0} (r : Ghosts S) (f : writing.Ghosts S) (name : List ℕ) (file : FileId) (old new : S) : Type 0 where
   pub newer : f.given old ≤ file.n
   pub live : (live_files r new).live file.n ≡ true

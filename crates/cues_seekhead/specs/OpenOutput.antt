@@ -60,7 +60,7 @@ pub record StandsOpen {S : Type 0} (r : Ghosts S) (f : writing.Ghosts S) (before
   pub names : f.names files ≡ with_content before name (opened_with front behind)
   pub known : Knows front behind o
 
--- The attached file `a` can be written to an output with this name. It is an AttachedFile, and its data are in a live file of another name.
+-- The attached file `a` can be written to an output with the name `name`. It is an AttachedFile, and its data are in a live file of another name.
 pub record CanAttach {S : Type 0} (r : Ghosts S) (f : writing.Ghosts S) (files : S) (name : List ℕ) (a : Attachment) : Type 0 where
   pub id : id_of a.entry ≡ ATTACHED_FILE
   pub master : IsMaster a.entry
@@ -68,7 +68,7 @@ pub record CanAttach {S : Type 0} (r : Ghosts S) (f : writing.Ghosts S) (files :
   pub inside : a.at + a.len ≤ file_size r files a.file
   pub apart : f.holder files a.file.n ≢ name
 
--- An output with this name was begun, and its content is the elements before the Clusters.
+-- An output with the name `name` was begun, and its content is the elements before the Clusters.
 abbrev pub BeginsOutput : {S : Type 0} → Ghosts S → writing.Ghosts S → List ℕ → GivenFront → S → S → OpenOutput → Type 0
 BeginsOutput r f name front old new out = StandsOpen r f (f.names old) name (front_with (live_files r old) front) [] new out
 

@@ -124,8 +124,8 @@ fn head_octets(alloc: Global, webm: bool, rest: &Bytes) -> Result<Bytes, AllocEr
     Ok(out)
 }
 
-/// Returns the start of an output with these elements before its Clusters. An output longer than a size can express
-/// fails like out of memory.
+/// Returns the start of an output with the elements `front` before its Clusters. An output longer than a size can
+/// express fails like out of memory.
 pub fn open_octets(alloc: Global, front: &Front) -> Result<Opening, AllocError>
     requires info { id_of front.now.info ≡ INFO_ID }
     requires tracks { id_of front.now.tracks ≡ TRACKS_ID }

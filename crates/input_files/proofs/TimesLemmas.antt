@@ -14,7 +14,7 @@ none-left [] (suc k) most = refl
 none-left (w ∷ ws) zero most = absurd (omega arith)
 none-left (w ∷ ws) (suc k) most = none-left ws k (omega arith)
 
--- One more input.
+-- One more input adds its timestamp files.
 pub named-more : (words : List FileWords) (k : ℕ) (w : FileWords) (before now : List TimesName) → k < length words → w ≡ get_or words k w
     → before ++ named_from k (drop k words) ≡ named_from 0 words → now ≡ before ++ map (named_of k) w.times → now ++ named_from (k + 1) (drop (k + 1) words) ≡ named_from 0 words
 named-more words k w before now inside is sofar more =
@@ -25,7 +25,7 @@ named-more words k w before now inside is sofar more =
     ∙ ap (λ (list : List FileWords). before ++ named_from k list) (sym (drop-cons words k w inside))
     ∙ sofar
 
--- All inputs.
+-- The timestamp files of all inputs are the command line's.
 pub named-all : (words : List FileWords) (k : ℕ) (named : List TimesName) → length words ≤ k → named ++ named_from k (drop k words) ≡ named_from 0 words → named ≡ named_from 0 words
 named-all words k named most sofar =
     sym (append-nil named) ∙ ap (λ (list : List FileWords). named ++ named_from k list) (sym (none-left words k most)) ∙ sofar
@@ -39,7 +39,7 @@ octets_of world named = sum_by (λ (n : TimesName). octets_with (world n.name)) 
 pub octets-more : (world : List ℕ → Option (List ℕ)) (n : TimesName) (ns : List TimesName) → octets_of world (n ∷ ns) ≡ octets_with (world n.name) + octets_of world ns
 octets-more world n ns = sum_by-cons (λ (each : TimesName). octets_with (world each.name)) n ns
 
--- One more file.
+-- One more timestamp file is read.
 pub given-more : (world : List ℕ → Option (List ℕ)) (room now : ℕ) (n : TimesName) (left ns : List TimesName) (f : TimesFile) (before after all : List TimesFile) → left ≡ n ∷ ns
     → before ++ times_from world room left ≡ all → f ≡ record { named = n; given = given_with room (world n.name) } → after ≡ before ++ f ∷ [] → now ≡ room - size_with (world n.name)
     → after ++ times_from world now ns ≡ all

@@ -9,7 +9,7 @@ use Rattle.input_files.specs.declared.refusal.TextRefusal.{TextRefusal}
 use Rattle.input_files.specs.declared.chapter_file.ChapterFile.{ChapterFile}
 use Rattle.input_files.specs.declared.chapter_file.ChapterFile.TheVariants.{Absent, Missing, Refused, Read}
 
--- the result of a chapter file with this meaning
+-- the result of a chapter file, given its meaning
 abbrev pub given_by : Result Node TextRefusal → ChapterFile
 given_by (Ok chapters) = Read chapters
 given_by (Err why) = Refused why

@@ -27,13 +27,13 @@ contents_of content ids = map (λ (f : FileId). content f.n) ids
 
 -- ---- files
 
--- The files `ids` are live, have increasing numbers, and were opened with these names.
+-- The files `ids` are live, have increasing numbers, and were opened with the names `names`.
 pub record AreInputs {S : Type 0} (r : Ghosts S) (f : writing.Ghosts S) (names : List (List ℕ)) (files : S) (ids : List FileId) : Type 0 where
   pub live : AreLive (live_files r files).live ids
   pub rising : AreRising ids
   pub under : holders_of (f.holder files) ids ≡ names
 
--- The files `ids` were opened with these names, and have new numbers. Other files are live as before, and unchanged with their names.
+-- The files `ids` were opened with the names `names`, and have new numbers. Other files are live as before, and unchanged with their names.
 pub record OpensInputs {S : Type 0} (r : Ghosts S) (f : writing.Ghosts S) (names : List (List ℕ)) (old new : S) (ids : List FileId) : Type 0 where
   pub inputs : AreInputs r f names new ids
   pub newer : All (λ (s : FileId). f.given old ≤ s.n) ids

@@ -12,7 +12,7 @@ use Rattle.input_files.specs.declared.times_file.TimesName.{TimesName}
 
 -- ---- timestamp files
 
--- the timestamp file of a track of the input with this number
+-- the timestamp file of a track of the input with the number `input`
 abbrev pub named_of : ℕ → ℕ × List ℕ → TimesName
 named_of input pair = record { input = input; id = pair.0; name = pair.1 }
 
@@ -31,7 +31,7 @@ times_names times = map (λ (n : TimesName). n.name) times
 
 -- ---- results
 
--- the result of a timestamp file with these times
+-- the result of a timestamp file, given its times
 abbrev pub given_by : Result Listing TextRefusal → TimesGiven
 given_by (Ok times) = Read times
 given_by (Err why) = Refused why

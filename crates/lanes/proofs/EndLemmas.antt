@@ -242,7 +242,7 @@ known-head b lent known =
       frames = λ t. frames-alike t (by_head lent) b (sym (ap (λ (h : BlockHead). h.track) known.head)) count;
     }
 
--- They give the ends and counts of all links.
+-- The head and frame count give the ends and counts of all links.
 link-ends : (b : Block) (lent : Buffered) → IsByHead b lent → (k : ℕ) (link : Link) → link_end (by_head lent) k link ≡ link_end b k link
 link-ends b lent is k (Track t) = is.ends t k
 link-ends b lent is k (Entries e) = refl

@@ -141,7 +141,7 @@ module _ {links : List Link} {t : TrackLink} {old new : Walk} {c d : Reading} (i
       omega arith)
 
 module _ (f : LiveFiles) (scale : ℕ) {links : List Link} {t : TrackLink} {old new : Walk} {c d : Reading} (is : Reads links t old new c d) where
-  -- The rest of its link is what the cursor has left.
+  -- The cursor has the rest of the link.
   was : links_left f links old ≡ track_behind t old.frames old.stopped (left_of (octets_in f t.file.n) c) ∷ later f links old.at
   was = links_left-at f links old (Track t) is.at ∙ ap (λ each. track_left f t old.frames old.stopped each ∷ later f links old.at) is.before
 

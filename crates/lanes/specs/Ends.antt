@@ -25,7 +25,7 @@ abbrev pub link_end : Block → ℕ → Link → ℕ
 link_end b k (Track t) = track_end t k b
 link_end b k (Entries e) = 0
 
--- the greatest of 0 and the ends of the block `b` in all links, after these numbers of frames
+-- the greatest of 0 and the ends of the block `b` in all links, after the given numbers of frames
 abbrev pub ends_of : Block → List ℕ → List Link → ℕ
 ends_of b [] links = 0
 ends_of b (k ∷ counts) [] = 0
@@ -37,12 +37,12 @@ text_end e = last_end (text_with e []).placing (map entry_block e.entries)
 
 -- ---- all blocks
 
--- the blocks and damaged places of a link, if its file has these events
+-- the blocks and damaged places of a link, if its file has the events `events`
 abbrev pub given_by : List Event → Link → Given
 given_by events (Track t) = track_with t events
 given_by events (Entries e) = text_with e e.entries
 
--- the end of a file with these events
+-- the end of a file with the events `events`
 abbrev pub end_of : List Event → List Link → ℕ
 end_of events links = file_end (map (given_by events) links)
 

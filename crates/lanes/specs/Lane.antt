@@ -29,7 +29,7 @@ pub record LaneSeen : Type 0 where
   pub walk : Walk
   pub given : ℕ
 
--- the blocks that are left of the output track `l` among these files
+-- the blocks that are left of the output track `l` among the files `f`
 abbrev pub left : LiveFiles → LaneSeen → List Ordered
 left f l = walks.left f l.scale l.links l.walk
 
@@ -55,7 +55,7 @@ lent l = walks.lent_in l.links l.walk
 
 -- ---- among files
 
--- The output track `l` can be advanced among these files.
+-- The output track `l` can be advanced among the files `f`.
 abbrev pub IsReady : LiveFiles → LaneSeen → Type 0
 IsReady f l = walks.IsReady f l.links l.walk
 

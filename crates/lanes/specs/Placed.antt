@@ -27,7 +27,7 @@ track_lent t b p = record { head = p.head; prefix = t.prefix; body = b.body; siz
 abbrev pub entry_placed : ℕ → TextLink → Entry → List OutputBlock
 entry_placed scale t e = placed scale (text_with t []).placing (entry_block e)
 
--- the visible parts of a placed entry with this text: one frame
+-- the visible parts of a placed entry with the text `text`: one frame
 abbrev pub text_lent : List ℕ → Placed → Lent
 text_lent text p = record { head = p.head; prefix = []; body = text; sizes = p.one_size; references = p.references.items; kept = [] }
 

@@ -5,7 +5,7 @@ use Rattle.mkv_io.specs.declared.damage.Damage.{Damage}
 use Rattle.cluster_reader.specs.ToldDamages.{ToldDamages, with_damage}
 use Rattle.lanes.specs.declared.damages.LinkDamage.{LinkDamage}
 
--- the report `t` with these damaged places added
+-- the report `t` with damaged places added
 abbrev pub with_damages : ToldDamages → List Damage → ToldDamages
 with_damages t [] = t
 with_damages t (d ∷ ds) = with_damages (with_damage t d) ds
@@ -16,7 +16,7 @@ with_all [] ds = []
 with_all (t ∷ ts) [] = t ∷ ts
 with_all (t ∷ ts) (d ∷ ds) = with_damages t d ∷ with_all ts ds
 
--- a damaged place of the link with this number
+-- a damaged place of the link with the number `number`
 abbrev pub of_link : ℕ → Damage → LinkDamage
 of_link number d = record { link = number; damage = d }
 

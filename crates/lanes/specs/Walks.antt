@@ -21,7 +21,7 @@ use Rattle.lanes.specs.declared.walk.Walk.{Walk}
 
 -- ---- blocks and damaged places that are left
 
--- the rest of a track, given these events, after `k` of its frames; `stopped` is set if damage has ended the reading
+-- the rest of a track with the events `events` left, after `k` of its frames; `stopped` is set if damage has ended the reading
 abbrev pub track_behind : TrackLink → ℕ → Bool → List Event → Given
 track_behind t k stopped events = record (timed_given (listing_of t) k (track_given (placing_of t) t.number events)) { stops = stopped || is_some (last_of events) }
 
@@ -86,7 +86,7 @@ abbrev pub HasCounted : ℕ → Option Reading → Type 0
 HasCounted frames None = frames ≡ 0
 HasCounted frames (Some c) = frames ≤ 256 * c.place.at
 
--- The walk `w` over these links can be advanced among these files.
+-- The walk `w` over `links` can be advanced among the files `f`.
 pub record IsReady (f : LiveFiles) (links : List Link) (w : Walk) : Type 0 where
   pub files : All (IsOpenLink f) links
   pub here : IsAt f w.cursor (slice_get links w.at)

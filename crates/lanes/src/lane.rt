@@ -80,8 +80,8 @@ impl Model for Lane {
 }
 
 impl Lane {
-    /// Returns an output track with these links, for an output with `scale` nanoseconds per tick. It allocates memory
-    /// for the damaged places, and reads nothing.
+    /// Returns an output track with the links in `spec`, for an output with `scale` nanoseconds per tick. It
+    /// allocates memory for the damaged places, and reads nothing.
     pub fn start(alloc: Global, spec: LaneSpec, scale: u64) -> Result<Lane, AllocError>
         requires scale { 1 ≤ scale }
         requires most { length spec.links ≤ MAX_LINKS }

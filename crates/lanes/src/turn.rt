@@ -98,7 +98,7 @@ fn turn_text(links: &[Link], text: &TextLink, scale: u64, walk: &mut Walk) -> Op
     }
 }
 
-/// Takes one turn of a walk over these links. Returns `None` if something was skipped.
+/// Takes one turn of a walk over `links`. Returns `None` if no block was placed and the walk hasn't ended.
 pub fn take_turn<R: Reads>(
     alloc: Global,
     links: &[Link],

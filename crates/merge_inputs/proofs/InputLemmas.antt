@@ -64,13 +64,13 @@ file_read-unless words webm held bytes v r outline records =
     (ap (λ (w : FileOutline). file_records bytes w.segment) (sym of.shows) ∙ records)
     ∙ ap (λ (w : FileOutline). input_or_refusal (refusal_as words r) (read_as words webm w r)) (sym of.shows)
 
--- It is refused.
+-- The input is refused.
 pub file_read-refused : (words : FileWords) (webm : Bool) (held : ℕ) (bytes : List ℕ) (v : FileOutline) (r : FileRecords) (why : InputRefusal) → outline_in held bytes ≡ Ok v → file_records bytes v.segment ≡ Ok r → refusal_as words r ≡ Some why → file_read words webm held bytes ≡ Err why
 file_read-refused words webm held bytes v r why outline records bad =
     file_read-unless words webm held bytes v r outline records
     ∙ ap (λ (refusal : Option InputRefusal). input_or_refusal refusal (read_as words webm v r)) bad
 
--- It isn't refused.
+-- The input isn't refused.
 pub file_read-all : (words : FileWords) (webm : Bool) (held : ℕ) (bytes : List ℕ) (v : FileOutline) (r : FileRecords) (input : InputRead) → outline_in held bytes ≡ Ok v → file_records bytes v.segment ≡ Ok r → refusal_as words r ≡ None → input ≡ read_as words webm v r → file_read words webm held bytes ≡ Ok input
 file_read-all words webm held bytes v r input outline records good is =
     file_read-unless words webm held bytes v r outline records

@@ -33,7 +33,7 @@ first-four bytes into rest m known few same is =
     let four : take 4 (take known bytes) ≡ take 4 bytes = take-take_min 4 known bytes ∙ ap (λ n. take n bytes) fewer ∙ take_min 4 bytes in
     ap begins_ebml (front ∙ whole) ∙ ap (pointwise nat_eq (0x1A ∷ 0x45 ∷ 0xDF ∷ 0xA3 ∷ [])) four
 
--- Its track agrees with its entry, which is valid.
+-- The track of a text agrees with its entry, which is valid.
 pub text-read : (tracks : List Track) → tracks ≡ track_of text_entry ∷ [] → All (λ (t : Track). IsWholeEntry t.entry) tracks → All (λ (t : Track). IsTrack t.entry) tracks → AreRead tracks
 text-read tracks is whole each = record {
   said = All-same (λ (t : Track). t ≡ track_of t.entry) tracks (track_of text_entry ∷ []) is (All-cons (λ (t : Track). t ≡ track_of t.entry) (track_of text_entry) [] refl (All-nil (λ (t : Track). t ≡ track_of t.entry)));
@@ -42,7 +42,7 @@ text-read tracks is whole each = record {
   room = All-weaker (λ (t : Track). IsWholeEntry t.entry) (λ (t : Track). HasRoom t.entry) (λ t w. w.room) tracks whole;
 }
 
--- Its frames can be used.
+-- The frames of a text can be used.
 pub text-usable : (words : FileWords) → first_unusable (taken_from words 0 (track_of text_entry ∷ [])) ≡ None
 text-usable words = one (is_taken words 0 (track_of text_entry).kind)
   where

@@ -76,7 +76,7 @@ input_or_refusal (Some why) input = Err why
 abbrev pub refusal_of : List TakenTrack → Option InputRefusal
 refusal_of taken = option_map Damaged (first_unusable taken)
 
--- the input of a file with this outline and these records
+-- the input of a file with the outline `o` and the records `r`
 abbrev pub input_with : FileWords → Bool → Outlined → FileRecords → InputRead
 input_with words webm o r = record {
   blocks = Clusters o.segment (scale_of_info r.info);
@@ -99,7 +99,7 @@ file_read words webm held bytes =
     found_then (file_records bytes o.segment) (λ (r : FileRecords).
     input_or_refusal (refusal_of (taken_from words 0 r.tracks)) (input_with words webm o r)))
 
--- the input of a text with these entries: one track, and nothing else
+-- the input of a text with the entries `entries`: one track, and nothing else
 abbrev pub text_with : FileWords → List Entry → InputRead
 text_with words entries = record {
   blocks = Entries entries;
@@ -115,7 +115,7 @@ text_with words entries = record {
   times = [];
 }
 
--- the input with these entries; a refused text refuses the input
+-- the input of a text, given its entries; a refused text refuses the input
 abbrev pub text_then : Result (List Entry) TextRefusal → (List Entry → InputRead) → Result InputRead InputRefusal
 text_then (Ok entries) more = Ok (more entries)
 text_then (Err why) more = Err (Text why)
@@ -123,7 +123,7 @@ text_then (Err why) more = Err (Text why)
 abbrev pub text_read : FileWords → List ℕ → Result InputRead InputRefusal
 text_read words bytes = text_then (srt_text bytes) (text_with words)
 
--- the input with this content, or its refusal: a text, or a file with Clusters
+-- the input with the content `bytes`, or its refusal: a text, or a file with Clusters
 abbrev pub input_of : FileWords → Bool → ℕ → List ℕ → Result InputRead InputRefusal
 input_of words webm held bytes = if is_srt words.name bytes then text_read words bytes else file_read words webm held bytes
 
@@ -163,7 +163,7 @@ read_in i = record {
   times = listings_in i.times;
 }
 
--- the events of an input whose file has this content; none for a text
+-- the events of an input whose file has the content `bytes`; none for a text
 abbrev pub events_by : BlocksRead → List ℕ → List Event
 events_by (Clusters segment scale) bytes = events_of (with_limits scale) bytes segment
 events_by (Entries entries) bytes = []
@@ -171,7 +171,7 @@ events_by (Entries entries) bytes = []
 abbrev pub events_in : InputRead → List ℕ → List Event
 events_in i bytes = events_by i.blocks bytes
 
--- The events with this scale are the file's own.
+-- The events with the scale `scale` are the file's own.
 abbrev pub AreOwnEvents : Blocks → List ℕ → Type 0
 AreOwnEvents (held_by.Clusters outline scale) bytes = events_by (Clusters outline.value.segment scale) bytes ≡ file_events true bytes outline.value.segment
 AreOwnEvents (held_by.Entries entries) bytes = ⊤

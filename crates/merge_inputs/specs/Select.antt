@@ -13,14 +13,14 @@ use Rattle.mkv_schema.specs.declared.track_type.TheConstants.{VIDEO_TRACK, AUDIO
 abbrev pub is_among : ℕ → List ℕ → Bool
 is_among id ids = list_any (λ k. k == id) ids
 
--- The selection has the track with this ID.
+-- The selection has the track with the ID `id`.
 abbrev pub takes : Select → ℕ → Bool
 takes All id = true
 takes (These ids) id = is_among id ids
 takes (AllBut ids) id = not (is_among id ids)
 takes Off id = false
 
--- A track with this ID and TrackType is copied; only video, audio and subtitles can be.
+-- A track with the ID `id` and the TrackType `type` is copied; only video, audio and subtitles can be.
 abbrev pub is_taken : FileWords → ℕ → ℕ → Bool
 is_taken words id type =
     if type == VIDEO_TRACK then takes words.video id else

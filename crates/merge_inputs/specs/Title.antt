@@ -10,6 +10,6 @@ use Rattle.tree_format.specs.Values.{first_child}
 abbrev pub title_text : Node → List ℕ
 title_text info = option_map_or (λ n. text_of (body_of n)) (first_child TITLE info) []
 
--- the title of a file with this first Info
+-- the title of a file with the first Info `info`
 abbrev pub title_of_info : Option Node → List ℕ
 title_of_info info = option_map_or title_text info []

@@ -17,7 +17,7 @@ use std::rc::Rc;
 /// Source of an input's blocks
 #[derive(Drop)]
 pub enum Blocks {
-    /// Clusters of a file with this outline, with `scale` nanoseconds per tick
+    /// Clusters of a file with the outline `outline`, with `scale` nanoseconds per tick
     Clusters { outline: Rc<Outline>, scale: u64 },
     /// Entries of a text, sorted by start
     Entries { entries: List<Entry> },

@@ -7,7 +7,7 @@ use mkv_schema::track_type::{AUDIO_TRACK, SUBTITLE_TRACK, VIDEO_TRACK};
 use record_changes::TagKeep;
 use requests::{FileWords, Select};
 
-/// Checks whether a track with this ID and TrackType is copied.
+/// Checks whether a track with the ID `id` and the TrackType `kind` is copied.
 pub fn is_taken(words: &FileWords, id: u64, kind: u64) -> bool
     ensures { result ≡ is_taken words.now id kind }
 {
@@ -19,7 +19,7 @@ pub fn is_taken(words: &FileWords, id: u64, kind: u64) -> bool
     }
 }
 
-/// Checks whether a selection has the track with this ID.
+/// Checks whether a selection has the track with the ID `id`.
 fn takes(select: &Select, id: u64) -> bool
     ensures { result ≡ takes select.now id }
 {

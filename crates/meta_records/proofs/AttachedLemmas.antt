@@ -23,7 +23,7 @@ files-same : (bytes : List ℕ) (file : FileId) (list : List Header) → map (fi
 files-same bytes file [] = refl
 files-same bytes file (h ∷ hs) = ap (λ (files : List AttachedFile). file_at bytes h ∷ files) (files-same bytes file hs)
 
--- They are read.
+-- The attached files are read.
 pub attached-read : (bytes : List ℕ) (file : FileId) (h : Header) (list : List Attachment) → attachments_in bytes file h ≡ Ok list → files_at bytes (Some h) ≡ Ok (map in_file list)
 attached-read bytes file h list read = step (first_damage (attachments_causes bytes h)) read
   where
@@ -33,7 +33,7 @@ attached-read bytes file h list read = step (first_damage (attachments_causes by
         ap (λ (files : List AttachedFile). Ok files) (files-same bytes file (attached_in bytes h) ∙ ap (map in_file) same)
     step (Some d) made = absurd (cc)
 
--- They are refused.
+-- The attached files are refused.
 pub attached-refused : (bytes : List ℕ) (file : FileId) (h : Header) (d : Damage) → attachments_in bytes file h ≡ Err d → files_at bytes (Some h) ≡ Err d
 attached-refused bytes file h d read = step (first_damage (attachments_causes bytes h)) read
   where

@@ -113,7 +113,7 @@ AreRead-first bytes from p e ns kept are past =
 
 -- ---- the entry
 
--- Its children are the ones that it was built from.
+-- An element's children are the ones that it was built from.
 pub built-children : (id at deep : ℕ) (ns : List Node) (t : Node) → IsBuilt id at deep ns t → children t ≡ ns
 built-children id at deep ns t built = ap children built.is ∙ list-nodes ns
 

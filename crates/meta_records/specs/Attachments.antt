@@ -101,7 +101,7 @@ no_value m = where_it (not m.fits) (told_at BadValue m.header)
 abbrev pub causes : ℕ → ℕ → ScannedElement → List (Option Damage)
 causes octets nodes m = limits_passed (octets + m.counted) nodes m.header ++ no_value m ∷ []
 
--- the first damage in this list, after `octets` counted bytes and `nodes` elements
+-- the first damage in the list, after `octets` counted bytes and `nodes` elements
 abbrev pub refused_from : ℕ → ℕ → List (Result ScannedElement Damage) → Option Damage
 refused_from octets nodes [] = None
 refused_from octets nodes (Err d ∷ rest) = Some d

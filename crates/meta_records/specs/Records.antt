@@ -34,7 +34,7 @@ use Rattle.mkv_io.specs.Sources.{IfTold}
 use Rattle.mkv_io.specs.declared.reads.Reads.{Ghosts}
 use Rattle.element_reader.specs.Outline.{FileOutline, outline_in}
 
--- An element with this ID is a master of level 1 other than a Cluster, limited to 16 MiB.
+-- An element with the ID `id` is a master of level 1 other than a Cluster, limited to 16 MiB.
 pub record IsHeld (id : ℕ) : Type 0 where
   pub master : is_master id ≡ true
   pub described : is_described id ≡ true
@@ -46,7 +46,7 @@ abbrev pub tree_at : List ℕ → Option Header → Result (Option Node) Damage
 tree_at bytes None = Ok None
 tree_at bytes (Some h) = and_then (tree_of h.id h.offset (body_of bytes h) h.body MAX_NODES) (λ tree. Ok (Some tree))
 
--- the first element of level 1 with this ID as a tree, or its damage
+-- the first element of level 1 with the ID `id` as a tree, or its damage
 abbrev pub first_tree : ℕ → List ℕ → Header → Result (Option Node) Damage
 first_tree id bytes segment = tree_at bytes (first_of id (segment_run bytes segment).list)
 
@@ -68,7 +68,7 @@ pub record FileRecords : Type 0 where
   pub chapters : Option Node
   pub tags : Option Node
 
--- the records of a file with this Segment, or the first damage: in Info, Tracks, Attachments, Chapters, then Tags
+-- the records of a file with the Segment `segment`, or the first damage: in Info, Tracks, Attachments, Chapters, then Tags
 abbrev pub file_records : List ℕ → Header → Result FileRecords Damage
 file_records bytes segment =
     and_then (and_then (first_tree INFO bytes segment) good_info) (λ info.
@@ -78,7 +78,7 @@ file_records bytes segment =
     and_then (first_tree TAGS bytes segment) (λ tags.
     Ok (record { info = info; tracks = tracks; attachments = attachments; chapters = chapters; tags = tags }))))))
 
--- the nanoseconds per tick of a file with this first Info
+-- the nanoseconds per tick of a file, given its first Info
 abbrev pub scale_of_info : Option Node → ℕ
 scale_of_info None = DEFAULT_SCALE
 scale_of_info (Some info) = scale_of info
@@ -129,10 +129,10 @@ pub record AreGood (file : FileId) (total : ℕ) (r : Records) : Type 0 where
   pub chapters : IfSome r.chapters (IsRead CHAPTERS)
   pub tags : IfSome r.tags (IsRead TAGS)
 
--- The fact `P` holds for the file's bytes if they are visible to the proof and have this outline, whatever other inputs held.
+-- The fact `P` holds for the file's bytes if they are visible to the proof and have the outline `outline`, whatever other inputs held.
 abbrev pub IfOutlined : {S : Type 0} → Ghosts S → S → FileId → FileOutline → (List ℕ → Type 0) → Type 0
 IfOutlined r src file outline P = IfTold r src file (λ bytes. (held : ℕ) → outline_in held bytes ≡ Ok outline → P bytes)
 
--- The fact `P` holds for `found` of the file's bytes and Segment, if they are visible to the proof and have this outline.
+-- The fact `P` holds for `found` of the file's bytes and Segment, if they are visible to the proof and have the outline `outline`.
 abbrev pub IfOutlinedAs : {S X : Type 0} → Ghosts S → S → FileId → FileOutline → (List ℕ → Header → X) → (X → Type 0) → Type 0
 IfOutlinedAs r src file outline found P = IfOutlined r src file outline (λ bytes. P (found bytes outline.segment))

@@ -93,7 +93,7 @@ pub record IsPartLeaf (n : Node) : Type 0 where
 
 -- ---- attached files found
 
--- `new` is `old` with the AttachedFiles among these children of Attachments added.
+-- `new` is `old` with the AttachedFiles added that are in `children`, the children of Attachments.
 pub record Adds (bytes : List ℕ) (file : FileId) (children : List Header) (old new : AttachmentScan) : Type 0 where
   pub attachments : new.attachments ≡ old.attachments ++ map (attachment_of bytes file) (filter is_attached children)
   pub missing : new.missing ≡ option_or old.missing (first_damage (map (missing_data bytes) (filter is_attached children)))
@@ -105,17 +105,17 @@ pub record ReadsChild (bytes : List ℕ) (file : FileId) (at end next : ℕ) (ol
   pub behind : next ≡ stated_end child
   pub adds : Adds bytes file (child ∷ []) old new
 
--- `a` is an attached file whose entry can be written and read again, and whose data are in this file before `end`.
+-- `a` is an attached file whose entry can be written and read again, and whose data are in the file `file` before `end`.
 pub record IsAttachedIn (file : FileId) (end : ℕ) (a : Attachment) : Type 0 where
   pub entry : IsAttachment a.entry
   pub same : a.file ≡ file
   pub inside : a.at + a.len ≤ end
 
--- All attached files found are valid in this file before `end`.
+-- All attached files found are valid in the file `file` before `end`.
 abbrev pub AreAttachedIn : FileId → ℕ → AttachmentScan → Type 0
 AreAttachedIn file end found = All (IsAttachedIn file end) found.attachments
 
--- `a` is the attached file with the header `h` in these bytes; and the damage is the one reported if it has no data.
+-- `a` is the attached file with the header `h` in `bytes`; and the damage is the one reported if it has no data.
 abbrev pub IsAttachedOf : FileId → Header → Attachment → List ℕ → Type 0
 IsAttachedOf file h a bytes = a ≡ attachment_of bytes file h
 
@@ -159,7 +159,7 @@ good_files found = unless (first_refusal found.missing (one_over found.attachmen
 
 -- ---- bytes that are read
 
--- an upper bound on the bytes that are read for these counts: one header per element, and the counted bytes
+-- an upper bound on the bytes that are read for the counts `c`: one header per element, and the counted bytes
 abbrev pub cost : Counts → ℕ
 cost c = MAX_ELEMENT_HEADER_LEN * c.nodes + c.octets
 

@@ -121,7 +121,7 @@ pub(crate) struct Attached {
     pub missing: Option<Damage>,
 }
 
-// Returns the attached file with these parts.
+// Returns the attached file with the parts `parts`.
 fn attached_of(file: FileId, attached: &Header, parts: Parts) -> Attached
     requires { AreSoundParts (stated_end attached.now) parts }
     ensures exact { IfPartsOf attached.now parts (IsAttachedOf file attached.now result.attachment) }

@@ -37,9 +37,9 @@ pub struct Records {
     pub tags: Option<Tree>,
 }
 
-/// Reads the records of a file with this outline, or returns the first damage. Info, Tracks, Attachments, Chapters
-/// and Tags are checked in this order; each first as elements, then for its values. A file without Tracks is refused.
-/// The outline may have been read after other inputs, with any number of bytes held.
+/// Reads the records of a file with the outline `outline`, or returns the first damage. Info, Tracks, Attachments,
+/// Chapters and Tags are checked in this order; each first as elements, then for its values. A file without Tracks is
+/// refused. The outline may have been read after other inputs, with any number of bytes held.
 #[tactic(auto, using(crate::proofs::RecordsLemmas::held))]
 pub fn read_records<R: Reads>(
     alloc: Global,

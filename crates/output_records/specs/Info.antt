@@ -13,7 +13,7 @@ abbrev pub title_elements : List ℕ → List Node
 title_elements [] = []
 title_elements (octet ∷ octets) = leaf TITLE 0 (octet ∷ octets) ∷ []
 
--- the Info of an output with `scale` nanoseconds per tick and this title
+-- the Info of an output with `scale` nanoseconds per tick and the title `title`
 abbrev pub output_info : ℕ → List ℕ → Node
 output_info scale title = master INFO 0 (nodes_of (
     uint_leaf TIMESTAMP_SCALE scale ∷ title_elements title ++ (leaf MUXING_APP 0 application ∷ leaf WRITING_APP 0 application ∷ [])))

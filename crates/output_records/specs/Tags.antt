@@ -73,7 +73,7 @@ pub record HaveShortNumbers (numbers : Uids) : Type 0 where
   pub chapters : All (λ n. n < 2 ^ 64) numbers.chapters
   pub attachments : All (λ n. n < 2 ^ 64) numbers.attachments
 
--- the kept Tags of inputs in one Tags, with these numbers
+-- the kept Tags of inputs in one Tags, with the numbers `numbers`
 abbrev pub joined_tags : Uids → List InputRecords → Node
 joined_tags numbers inputs = master TAGS 0 (nodes_of (tags_from numbers inputs))
 

@@ -54,7 +54,7 @@ load-first start bs k = same-first octets_taken (in_part start) (λ b. keeps-len
 
 -- ---- in Clusters
 
--- It is the same in a Cluster with any Timestamp.
+-- The load of blocks is their length in a Cluster with any Timestamp.
 in-cluster : (timestamp : ℕ) (bs : List OutputBlock) → length (joined (block_elements timestamp bs)) ≡ load bs
 in-cluster timestamp bs = same-length octets_taken (block_element timestamp) (λ b. length-same timestamp b.tick b) bs
 

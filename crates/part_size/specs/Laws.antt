@@ -13,7 +13,7 @@ use Rattle.splitter.specs.Sections.{Part, Section, Split, in_part, may_cut, part
 use Rattle.splitter.specs.Steps.{new_cuts}
 use Rattle.splitter.specs.Laws.{all_placed}
 
--- the split only at this load limit, with `scale` nanoseconds per tick and these driving output tracks
+-- the split only at the load limit `limit`, with `scale` nanoseconds per tick and the driving output tracks `drives`
 abbrev pub by_size : ℕ → ℕ → (ℕ → Bool) → Split
 by_size limit scale drives = record { spec = Whole; size = Some limit; scale = scale; drives = drives }
 

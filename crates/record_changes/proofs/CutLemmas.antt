@@ -37,7 +37,7 @@ atom-holds n read = record {
   atoms = ap (λ p. is_master_in p CHAPTER_ATOM) read.id ∙ atom-in_atom;
 }
 
--- Its atoms were read.
+-- The atoms in a master were read.
 pub all-read-if : (parent own : ℕ) (n : Node) (ns : List Node) → is_master_in parent own ≡ true → IsRead parent n → ns ≡ children n → All (IsReadIf own) ns
 all-read-if parent own n ns has read are = λ i d inside. read-if parent own n (get_or ns i d) ns i has read are inside (get_or_default ns i d (get_or ns i d) inside)
 

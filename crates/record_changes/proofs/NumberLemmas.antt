@@ -27,7 +27,7 @@ numbered-own uids k (master id at kids) read =
     ap (λ i. if i == CHAPTER_ATOM then set (master id at (nodes_of (numbered_among uids (k + 1) kids))) else master id at kids) read.id
     ∙ ap (λ ks. set (master id at (nodes_of (numbered_among uids (k + 1) ks)))) (sym (nodes-list kids))
 
--- One more element.
+-- One more element is numbered.
 numbered_among-append : (uids : List ℕ) (k : ℕ) (xs : List Node) (x : Node)
     → numbered_among uids k (nodes_of (xs ++ x ∷ [])) ≡ numbered_among uids k (nodes_of xs) ++ numbered uids (k + length (atoms_among (nodes_of xs))) x ∷ []
 numbered_among-append uids k [] x = let same : k ≡ k + 0 = omega arith in ap (λ j. numbered uids j x ∷ []) same

@@ -27,6 +27,6 @@ numbered_editions editions uids j k [] = []
 numbered_editions editions uids j k (e ∷ es) =
     numbered_edition (slice_index editions j) uids k e ∷ numbered_editions editions uids (j + 1) (k + length (atoms_inside e)) es
 
--- a Chapters element whose editions and atoms have these identifiers, in their order; other children are left out
+-- a Chapters element whose editions have the identifiers `editions`, and whose atoms have `uids`, in their order; other children are left out
 abbrev pub with_identifiers : List ℕ → List ℕ → Node → Node
 with_identifiers editions uids chapters = with_children chapters (numbered_editions editions uids 0 0 (editions_of chapters))

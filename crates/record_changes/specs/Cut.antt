@@ -12,7 +12,7 @@ use Rattle.record_changes.specs.Before.{is_before}
 
 -- ---- times
 
--- A chapter with this start and end is in the period `s`: it starts in it, or starts before it and ends after its start.
+-- A chapter from `start` to `end` is in the period `s`. It starts in it, or starts before it and ends after its start.
 abbrev pub takes : Stretch → ℕ → Option ℕ → Bool
 takes s start end = if nat_lt start s.from then is_before end s.from else is_before s.to start
 
@@ -76,7 +76,7 @@ has_atom edition = list_any (λ n. id_of n == CHAPTER_ATOM) (children edition)
 abbrev pub edition_within : Stretch → Node → List Node
 edition_within s n = if id_of n == EDITION_ENTRY && has_atom (cut_inside s n) then cut_inside s n ∷ [] else []
 
--- a master with these children, or nothing if there are none
+-- a master with the given children, or nothing if there are none
 abbrev pub unless_empty : Node → List Node → Option Node
 unless_empty tree [] = None
 unless_empty tree (n ∷ ns) = Some (with_children tree (n ∷ ns))

@@ -22,7 +22,7 @@ pub record HoldsAtoms (n : Node) : Type 0 where
 abbrev pub MayReplace : Node → Node → Type 0
 MayReplace old new = (parent : ℕ) → StandsIn parent old → IsInPlace parent old new
 
--- `new` is the atom `old` with these times set, and no deeper.
+-- `new` is the atom `old` with the times `times` set, and no deeper.
 pub record SetsTimes (times : List Node) (old new : Node) : Type 0 where
   pub changed : new ≡ set_each times old
   pub read : IsRead CHAPTER_ATOM new

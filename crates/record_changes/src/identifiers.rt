@@ -61,7 +61,7 @@ fn numbers_of(
     Ok(given)
 }
 
-/// Returns the output's numbers for these identifiers, in the order of writing; 0 means an absent identifier.
+/// Returns the output's numbers for the identifiers `uids`, in the order of writing; 0 means an absent identifier.
 ///
 /// The first use of a positive identifier keeps it. Any other gets the smallest positive number that isn't in `uids`
 /// and wasn't used before.

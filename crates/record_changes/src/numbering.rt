@@ -56,8 +56,8 @@ fn numbered_edition(
     Ok(written)
 }
 
-/// Returns Chapters whose editions and chapters have these identifiers, in reading order. Children other than
-/// editions are left out.
+/// Returns `tree` with the identifiers `editions` and `chapters` of its editions and chapters, in reading order.
+/// Children other than editions are left out.
 pub fn with_identifiers(
     alloc: Global,
     tree: &Tree,

@@ -13,7 +13,7 @@ pub struct Stretch {
 impl Stretch {
     ghost use Rattle.record_changes.specs.Cut.{takes, within};
 
-    /// Checks whether a chapter with this start and end is in the period.
+    /// Checks whether a chapter from `start` to `end` is in the period.
     pub(crate) fn takes(self, start: u64, end: Option<u64>) -> bool
         ensures { result ≡ takes self start end }
     {

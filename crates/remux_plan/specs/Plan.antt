@@ -22,7 +22,7 @@ links_of lanes = map (λ (l : PlannedLane). l.spec.links) lanes
 abbrev pub rules_of : List PlannedLane → List CueRule
 rules_of lanes = map (λ (l : PlannedLane). l.cues) lanes
 
--- the merged list of the output tracks among these files
+-- the merged list of the plan's output tracks among the files `f`
 abbrev pub blocks_of : LiveFiles → MergePlan → List OutputBlock
 blocks_of f p = merged (lanes_over f p.limits.scale (links_of p.lanes))
 

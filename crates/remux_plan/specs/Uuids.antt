@@ -32,6 +32,6 @@ abbrev pub behind_first : List Node → List Node → List Node
 behind_first more [] = []
 behind_first more (n ∷ ns) = n ∷ (more ++ ns)
 
--- an Info with these identifiers after its first child, the TimestampScale
+-- the Info `info` with the identifiers `u` after its first child, the TimestampScale
 unfoldable pub with_uuids : PartUuids → Node → Node
 with_uuids u info = with_children info (behind_first (uuid_elements u) (children info))

@@ -84,7 +84,7 @@ empty-info (master id at kids) made u is own built none =
     without [] is = refl
     without (n ∷ ns) is = absurd (omega arith)
 
--- It is still an Info.
+-- An Info with identifiers is still an Info.
 pub with-id : (u : PartUuids) (n : Node) → id_of (with_uuids u n) ≡ id_of n
 unfolding with_uuids
 with-id u (leaf id at body) = refl

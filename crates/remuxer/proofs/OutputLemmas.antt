@@ -244,7 +244,7 @@ module _ {S : Type 0} (r : Ghosts S) (f : writing.Ghosts S) (o : OutputSpec) (na
         finishes-all r f (f.names a) name its c e w'.out chapters o.tags result (chapters-are o (live_files r a) (part_in (live_files r a) p) cut is ∙ sym its_chapters) refl of_files finishes ended
         w'.counts (fills.all (f.names a) name its refl stands)
 
-    -- Its counts are right, and the parts after it are left.
+    -- The output's counts are right, and the parts after it are left.
     pub filled-counts : w.blocks ≡ 0 → left (live_files r e) p'.merge ≡ left (live_files r c) p'.merge → CountsPart (live_files r a) (live_files r e) o p p' (record { blocks = w'.blocks; counts = w'.counts })
     filled-counts none later = record {
       counts = (fills.all (f.names a) name its refl stands).counts;
@@ -257,7 +257,7 @@ module _ {S : Type 0} (r : Ghosts S) (f : writing.Ghosts S) (o : OutputSpec) (na
 pub goes-whole : {S : Type 0} (r : Ghosts S) (more : ℕ) (a b c e : S) (p p' : PlacedBlocks) → GoesOn r more a b p p → GoesOn r 0 b c p p' → GoesOn r 0 c e p' p' → GoesOn r more a e p p'
 goes-whole r more a b c e p p' first next last = goes-more r more a c e p p' p' (goes-more r more a b c p p p' first next) last
 
--- They also do if reading blocks failed, since nothing is read afterwards.
+-- The bytes also add up if reading blocks failed, since nothing is read afterwards.
 pub goes-refused : {S T E : Type 0} (r : Ghosts S) (more : ℕ) (a b c e : S) (p p' : PlacedBlocks) (result : Result T E) → GoesOn r more a b p p → Goes r 0 b c p p' result → r.octets_read e ≤ r.octets_read c
     → r.octets_read e ≤ r.octets_read a + due (live_files r a) p.merge + files_length (live_files r a) p.merge + more
 goes-refused r more a b c e p p' (Ok done) first next same = let one = first.paid in let other = next.paid in omega (arith, one, other, same)

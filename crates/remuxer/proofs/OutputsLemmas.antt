@@ -268,7 +268,7 @@ module _ {S : Type 0} (r : Ghosts S) (f : writing.Ghosts S) (o : OutputSpec) (a 
           let count : length written ≡ length so_far.done = ap length so_far.written_are ∙ length-map (outputs_from (live_files r a) o 1 so_far.done) written_of ∙ count-outputs (live_files r a) o 1 so_far.done in
           omega (arith, count)
 
-      -- It is the next output of the plan.
+      -- The written output is the next one of the plan.
       is-next : (let x : PlannedOutput = record { name = next_name o' written; blocks = here.blocks; document = document_with (live_files r b) (next_spec o' written) here } in x) ≡ output_in (live_files r a) o (1 + length so_far.done) here
       is-next =
           ap (λ (fr : model.Front). let x : PlannedOutput = record {
@@ -296,13 +296,13 @@ module _ {S : Type 0} (r : Ghosts S) (f : writing.Ghosts S) (o : OutputSpec) (a 
           ∙ map-append (λ (each : PlannedOutput). draft_of each.name each.document) (outputs_from (live_files r a) o 1 so_far.done) (outputs_from (live_files r a) o (1 + length so_far.done) (here ∷ rest))
           ∙ ap (λ (each : PlannedOutput). done_drafts ++ draft_of each.name each.document ∷ drafts_of (outputs_from (live_files r a) o (suc (1 + length so_far.done)) rest)) (sym is-next)
 
-      -- It failed.
+      -- The next output couldn't be written.
       pub refused-next : (now : Names) → AreWrittenInOrder (f.names b) now (draft_of its.name its.document ∷ []) → AreWrittenInOrder (f.names a) now (drafts_of (outputs_from (live_files r a) o 1 (parts (split_in p) (left (live_files r a) p.merge))))
       refused-next now stands =
           subst (AreWrittenInOrder (f.names a) now) (sym all-drafts)
           (in_turn-behind (f.names a) (f.names b) now done_drafts (drafts_of (outputs_from (live_files r a) o (suc (1 + length so_far.done)) rest)) (draft_of its.name its.document) so_far.names stands)
 
-      -- It is complete.
+      -- The next output is complete.
       one-more : outputs_from (live_files r a) o 1 (so_far.done ++ here ∷ []) ≡ outputs_from (live_files r a) o 1 so_far.done ++ its ∷ []
       one-more =
           outputs-split (live_files r a) o 1 so_far.done (here ∷ [])

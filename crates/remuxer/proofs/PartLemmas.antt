@@ -66,7 +66,7 @@ start-at s [] = refl
 start-at s (b ∷ bs) = ap next_start (goes-on s (begun b.tick b) bs)
 
 module _ (s : Split) (start : ℕ) (b : OutputBlock) (bs : List OutputBlock) where
-  -- They are the written sections, and the first one goes up to the next cut.
+  -- The parts are the written sections, and the first one goes up to the next cut.
   first-sections : parts_from s start (b ∷ bs) ≡ parts_in s (record { start = start; blocks = b ∷ within s start (octets_taken b) bs } ∷ sections_at s (beyond s start (octets_taken b) bs))
   first-sections =
       ap (parts_in s) (goes-on s (begun start b) bs)

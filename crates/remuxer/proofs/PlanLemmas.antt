@@ -140,7 +140,7 @@ module _ {S : Type 0} {r : Ghosts S} {f : writing.Ghosts S} {a : S} {p : MergePl
       records = subst (λ (q : Bool). HasRecords r f a (name_of q p.output 1) p.front p.chapters p.tags) (sym it.same) plan.records;
     })
 
-    -- They are the outputs of the plan.
+    -- The outputs are the ones of the plan.
     plan-outputs : outputs_left (live_files r a) started_spec started_blocks ≡ outputs_in (live_files r a) p
     plan-outputs =
         ap (λ (c : CutsSeen). outputs_left (live_files r a) started_spec (record { merge = m; cuts = c; drives = s.drives; ahead = None; start = 0 })) it.cut
@@ -148,13 +148,13 @@ module _ {S : Type 0} {r : Ghosts S} {f : writing.Ghosts S} {a : S} {p : MergePl
         (record { merge = m; cuts = new_cuts p.split p.size p.limits.scale; drives = s.drives; ahead = None; start = 0 })) it.same it.started.rules
         ∙ ap₂ (λ (each : Split) (blocks : List OutputBlock). outputs_from (live_files r a) (spec_of p) 1 (parts each blocks)) plan-split plan-left
 
-    -- They are written.
+    -- The outputs of the plan are written.
     pub plan-writes : {T : Type 0} (now : S) (result : Result T RemuxEnd) → WritesParts r f b now started_spec started_blocks result → WritesPlan r f a now p result
     plan-writes now result writes told =
         let here = subst (λ (x : S). WritesParts r f x now started_spec started_blocks result) it.idle writes in
         subst (λ (outputs : List PlannedOutput). WritesOutputs (f.names a) (f.names now) outputs result) plan-outputs (here (plan-told told))
 
-    -- Their summaries are right.
+    -- The summaries of the outputs are right.
     pub plan-says : (written : List Written) → SaysWritten r b started_spec started_blocks (Ok written) → IsToldPlan (live_files r a) p → written ≡ map written_of (outputs_in (live_files r a) p)
     plan-says written says told =
         subst (λ (x : S). SaysWritten r x started_spec started_blocks (Ok written)) it.idle says (plan-told told) ∙ ap (map written_of) plan-outputs

@@ -139,7 +139,7 @@ module _ {S : Type 0} (r : Ghosts S) (f : writing.Ghosts S) (before : Names) (na
               stands = subst (λ (w : List ℕ). StandsOpen r f before name d.front w new (grown o (length bytes))) octets grows;
             }
 
-    -- A prefix of it is written.
+    -- A prefix of the Cluster is written.
     pub broken-drafted : Stands r f before name rules d old o g n (b ∷ left) → ((c : Option OutputCluster) → Holds c g → joins_next g.limits c b ≡ false) → ((c : OutputCluster) → Holds (Some c) g → bytes ≡ octets_of (cluster_element c))
         → PassesSome (f.names old) (f.names new) (f.holder old o.file.n) bytes → StandsDrafted before (f.names new) (draft_of name d)
     broken-drafted stands never is some = by-cluster stands.cluster stands.cut stands.holds
@@ -178,7 +178,7 @@ module _ {S : Type 0} (r : Ghosts S) (f : writing.Ghosts S) (before : Names) (na
           stands = stands.stands;
         }
 
-    -- It gets a cue point.
+    -- The block gets a cue point.
     pub stands-cued : (begins : Bool) (o' : OpenOutput) (relative : ℕ) (stands : Stands r f before name rules d files o old n (b ∷ left)) → begins ≡ is_empty old → joins_next old.limits stands.cluster b ≡ true → ((c : Option OutputCluster) → Holds c old → Holds (Some (with_next c b)) new) → new.limits ≡ old.limits → is_cue rules b ≡ true
         → relative ≡ place_in old b.tick → (length o.cues < MAX_CUES → o' ≡ with_cue o (record { tick = b.tick; lane = b.lane; cluster = o.len; relative = relative })) → (MAX_CUES ≤ length o.cues → o' ≡ o)
         → Stands r f before name rules d files o' new (counted_with begins true n) left
@@ -239,7 +239,7 @@ module _ {S : Type 0} (r : Ghosts S) (f : writing.Ghosts S) (before : Names) (na
     counts : d.cues ≡ cues_for (is_cue rules) d.front d.clusters → AreCounts d.clusters (length d.cues) n
     counts points = record { clusters = stands.counts.clusters ∙ ap (λ (cs : List OutputCluster). counted 0 (length cs)) all; cues = stands.counts.cues ∙ sym (ap length (cues points)) }
 
-    -- It is written.
+    -- The last Cluster is written.
     pub all-written : (new : S) → d.cues ≡ cues_for (is_cue rules) d.front d.clusters → f.names new ≡ with_change (f.names old) (f.holder old o.file.n) (with_appended bytes) → f.holder new o.file.n ≡ f.holder old o.file.n → IsOpen r new (grown o (length bytes))
         → HasAll r f before name d new (grown o (length bytes)) n
     all-written new points added holder is_open = record {
@@ -257,7 +257,7 @@ module _ {S : Type 0} (r : Ghosts S) (f : writing.Ghosts S) (before : Names) (na
       stands = subst (λ (w : List ℕ). StandsOpen r f before name d.front w old o) (sym (append-nil (joined (clusters_elements stands.done))) ∙ ap (λ w. joined (clusters_elements stands.done) ++ w) (sym none) ∙ octets) stands.stands;
     }
 
-    -- A prefix of it is written.
+    -- A prefix of the Cluster is written.
     pub rest-drafted : (new : S) → PassesSome (f.names old) (f.names new) (f.holder old o.file.n) bytes → StandsDrafted before (f.names new) (draft_of name d)
     rest-drafted new some =
         drafted (f.names old) (f.names new) stands.done (clusters_held stands.cluster) bytes (joined (back_elements d)) all (ap (λ w. w ++ joined (back_elements d)) (is ∙ clusters_held-octets stands.cluster g stands.holds))

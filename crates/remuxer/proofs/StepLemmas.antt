@@ -38,7 +38,7 @@ use Rattle.remuxer.proofs.PartLemmas.{behind-cut, beyond-cut, beyond-next, fits-
 
 -- ---- the block of an output track
 
--- Its head is the placed one.
+-- The head of the block is the placed one.
 head-by_track : (p : Placed) (t : TrackLink) (c : Option Reading) → (lent_by_track p t c).head ≡ p.head
 head-by_track p t None = refl
 head-by_track p t (Some c) = refl
@@ -88,7 +88,7 @@ out-none begins start a place = ap (λ (p : Place). is_some (if is_same p then S
 same-within : (start : ℕ) (a : Ahead) → a.place ≡ place_at true false start → is_within (Some a) ≡ true
 same-within start a place = ap (λ (p : Place). is_some (if is_same p then Some a.lane else None)) place
 
--- Its section is written then.
+-- If the block ahead is in the current part, its section is written.
 pub within-kept : (m : MergeSeen) (c : CutsSeen) (a : Ahead) → IsAhead m c a → is_within (Some a) ≡ true → is_kept c ≡ true
 within-kept m c a ahead is = either (is_kept c) ahead.place
   where
@@ -137,7 +137,7 @@ module _ (f : LiveFiles) (b : PlacedBlocks) where
         ap (λ (q : Bool). if q then parts_in (split_in b) (sections_at (split_in b) (behind_part f b)) else parts_from (split_in b) (start_of b.cuts) (behind_part f b)) isnt
         ∙ ap (parts_from (split_in b) (start_of b.cuts)) behind-ahead
 
--- They are the same if the merge has the same blocks left.
+-- The blocks left are the same if the merge has the same blocks left.
 module _ (f h : LiveFiles) (b : PlacedBlocks) (same : left h b.merge ≡ left f b.merge) where
   pub rest-same : rest_of_part h b ≡ rest_of_part f b
   rest-same = ap (λ (bs : List OutputBlock). if is_within b.ahead then lent_ahead b ++ within (split_in b) (start_of b.cuts) b.cuts.load bs else []) same
@@ -234,7 +234,7 @@ module _ (f : LiveFiles) (b : PlacedBlocks) (m' : MergeSeen) (c' : CutsSeen) (a 
   pub step-split : split_in (on_to b m' c' (Some a)) ≡ split_in b
   step-split = ap (λ (c : CutsSeen). split_in (on_to b m' c (Some a))) step-cuts
 
-  -- Its time has 64 bits.
+  -- The time of the next block has 64 bits.
   early-block : x.tick * b.cuts.scale < 2 ^ 64
   early-block =
       let scale : steps.queue.lane.scale ≡ b.cuts.scale = of-one (λ (q : Queue). q.lane.scale ≡ b.cuts.scale) m'.queues a.lane steps.queue (scales-kept b.cuts.scale b.merge.queues m'.queues lanes can.scales) steps.here in
@@ -242,7 +242,7 @@ module _ (f : LiveFiles) (b : PlacedBlocks) (m' : MergeSeen) (c' : CutsSeen) (a 
       let most = subst (λ (n : ℕ). steps.queue.lane.walk.placed.head.tick * n ≤ most_time + n / 2) scale steps.lends.ticks.early in
       subst (λ (h : OutHead). h.tick * b.cuts.scale < 2 ^ 64) (sym head) (early-time steps.queue.lane.walk.placed.head.tick b.cuts.scale can.scale most)
 
-  -- It is ahead afterwards.
+  -- The next block is ahead afterwards.
   pub step-ahead : IsAhead m' c' a
   step-ahead = record {
     lends = record { queue = steps.queue; here = steps.here; sound = steps.lends.lent; early = subst (λ (n : ℕ). x.tick * n < 2 ^ 64) (sym step-scale) early-block };
@@ -263,11 +263,11 @@ module _ (f : LiveFiles) (b : PlacedBlocks) (m' : MergeSeen) (c' : CutsSeen) (a 
       either true = early-block
       either false = can.early
 
-  -- It was the first block that was left.
+  -- The next block was the first that was left.
   pub step-left : GivesOfLane f b.merge m' a.lane → left f b.merge ≡ x ∷ left f m'
   step-left gives = gives.gives ∙ ap (λ (q : Queue). block_lent a.lane q.lane ∷ left f m') (same-queue m' a.lane gives.queue steps.queue gives.here steps.here)
 
-  -- Its place depends on the cut before it.
+  -- The place of the next block depends on the cut before it.
   cut-start : (q : Bool) → is_cut b.cuts may x.tick ≡ q → start_of c' ≡ (if q then x.tick else start_of b.cuts)
   cut-start q is = ap start_of step-cuts ∙ ap (λ (cut : Bool). if cut then x.tick else start_of b.cuts) is
 
@@ -289,7 +289,7 @@ module _ (f : LiveFiles) (b : PlacedBlocks) (m' : MergeSeen) (c' : CutsSeen) (a 
     abbrev b' : PlacedBlocks
     b' = on_to b m' c' (Some a)
 
-    -- It comes before the next blocks.
+    -- The block ahead comes before the next blocks.
     step-on : ahead_of m' (Some a) (left h m') ≡ x ∷ bs
     step-on = ap₂ (λ (first more : List OutputBlock). first ++ more) (lent-one m' a.lane steps.queue steps.here) same
 

@@ -63,7 +63,7 @@ pub record OnlyRead {S : Type 0} (r : Ghosts S) (f : writing.Ghosts S) (old new 
   pub given : f.given new ≡ f.given old
   pub asked : f.asked new ≡ f.asked old
 
--- They are functions of the state that reading keeps.
+-- The files' names, holders and requests are functions of the state that reading keeps.
 pub only-read : {S : Type 0} (r : Ghosts S) (f : writing.Ghosts S) (old new : S) → r.standing new ≡ r.standing old → ((a b : S) → r.standing a ≡ r.standing b → f.names a ≡ f.names b)
     → ((a b : S) → r.standing a ≡ r.standing b → (file : ℕ) → f.holder a file ≡ f.holder b file) → ((a b : S) → r.standing a ≡ r.standing b → f.given a ≡ f.given b)
     → ((a b : S) → r.standing a ≡ r.standing b → f.asked a ≡ f.asked b) → OnlyRead r f old new
@@ -154,7 +154,7 @@ module _ {S : Type 0} (r : Ghosts S) (f : writing.Ghosts S) (rules : List CueRul
       ap (map (in_part n)) (rest-within (live_files r a) p in_it ∙ ap (λ (first : List OutputBlock). first ++ within (split_in p) (start_of p.cuts) p.cuts.load (left (live_files r a) p.merge)) one)
       ∙ ap (λ (k : ℕ). in_part k x ∷ others) (sym starts)
 
-  -- It couldn't be written.
+  -- The block couldn't be written.
   pub lent-drafted : ((more : List OutputBlock) → StaysDraft r f rules (in_part start x ∷ more) a b w) → StaysDraft r f rules (left_of_part (live_files r a) n p) a b w
   lent-drafted drafted before name d stands =
       let P : List OutputBlock → Type 0 = λ bs. Stands r f before name rules d a w.out w.buffer w.counts bs in
@@ -351,6 +351,6 @@ module _ {S : Type 0} (r : Ghosts S) (f : writing.Ghosts S) (o : OutputSpec) (ru
     few = λ le. let most = taken.few le in omega (arith, blocks, most);
   }
 
-  -- It couldn't be written.
+  -- The last Cluster couldn't be written.
   pub fills-none : (now : S) → ((before : Names) (name : List ℕ) (d : Document) → Stands r f before name o.rules d b v.out v.buffer v.counts [] → StandsDrafted before (f.names now) (draft_of name d)) → StaysDraft r f o.rules (part_in (live_files r a) p).blocks a now w
   fills-none now drafted = λ before name d stands. drafted before name d (all-taken before name d stands)

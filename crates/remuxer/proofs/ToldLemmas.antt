@@ -38,12 +38,12 @@ told-step inputs m k input numbers l inside here lane =
     (drop_more inputs k numbers inside ∙ ap (λ (x : List ℕ). x ∷ drop (k + 1) inputs) (sym here))
     (drop_more (told_by m) k told (slice_get_within (told_by m) k told at) ∙ ap (λ (x : List ToldDamages). x ∷ drop (k + 1) (told_by m)) (get_or_from_slice_get (told_by m) k told told at))
 
--- It has a report of the input.
+-- The output track has a report of the input.
 pub first-found : {T : Type 0} (o : Option (Bor T)) (p rest : Option T) → is_some o ≡ true → option_copied o ≡ p → option_copied o ≡ option_or p rest
 first-found None p rest found is = absurd (cc)
 first-found (Some x) p rest found is = ap (λ each. option_or each rest) is
 
--- It has no report of the input.
+-- The output track has no report of the input.
 pub none-found : {T : Type 0} (o : Option (Bor T)) (p rest : Option T) → is_some o ≡ false → option_copied o ≡ p → option_or p rest ≡ rest
 none-found None p rest none is = ap (λ each. option_or each rest) (sym is)
 none-found (Some x) p rest none is = absurd (cc)

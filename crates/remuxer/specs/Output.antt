@@ -62,8 +62,8 @@ IsUnwrittenLink holder split output (Entries e) = ⊤
 abbrev pub IsUnwritten : (ℕ → List ℕ) → Bool → List ℕ → MergeSeen → Type 0
 IsUnwritten holder split output m = All (λ (q : Queue). All (IsUnwrittenLink holder split output) q.lane.links) m.queues
 
--- An output with this name can be written for the current part. Its blocks can be taken with the output's ticks, and no file of a link has this
--- name. The elements outside the Clusters can be written.
+-- An output with the name `name` can be written for the current part. Its blocks can be taken with the output's ticks, and no file of a link has
+-- this name. The elements outside the Clusters can be written.
 pub record CanWrite {S : Type 0} (r : Ghosts S) (f : writing.Ghosts S) (files : S) (o : OutputSpec) (name : List ℕ) (b : PlacedBlocks) : Type 0 where
   pub gives : CanGive (live_files r files) b
   pub begun : IsPartBegun b
@@ -185,7 +185,7 @@ own_name o number = name_of o.split o.name number
 abbrev pub own_spec : OutputSpec → ℕ → OutputSpec
 own_spec o number = record o { front = record o.front { info = with_uuids (uuids_at o.uuids o.link number) o.front.info } }
 
--- the output `number` with this part
+-- the output `number` with the part `part`
 abbrev pub own_output : LiveFiles → OutputSpec → ℕ → Part → PlannedOutput
 own_output f o number part = record { name = own_name o number; blocks = part.blocks; document = document_with f (own_spec o number) part }
 

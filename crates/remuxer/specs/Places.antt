@@ -101,7 +101,7 @@ part_in f b = record {
   blocks = map (in_part (start_of b.cuts)) (rest_of_part f b);
 }
 
--- the parts of blocks, the first of them in a section that starts at this tick
+-- the parts of blocks, the first of them in a section that starts at the tick `start`
 abbrev pub parts_from : Split → ℕ → List OutputBlock → List Part
 parts_from s start [] = []
 parts_from s start (b ∷ bs) = parts_in s (cut_from s (begun start b) bs)
@@ -130,7 +130,7 @@ pub record IsLimit (spec : SplitSpec) (limit : ℕ) : Type 0 where
   pub fits : limit < 2 ^ 64
   pub whole : spec ≡ Whole
 
--- Blocks can be taken among these files. The merge can continue with at most 64 output tracks of the output's scale, each marked as driving or
+-- Blocks can be taken among the files `f`. The merge can continue with at most 64 output tracks of the output's scale, each marked as driving or
 -- not. The start of the section has 64 bits in nanoseconds, and parts end at times or at a load.
 pub record CanGive (f : LiveFiles) (b : PlacedBlocks) : Type 0 where
   pub ready : IsReady f b.merge

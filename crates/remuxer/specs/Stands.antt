@@ -63,7 +63,7 @@ pub record HasAll {S : Type 0} (r : Ghosts S) (f : writing.Ghosts S) (before : N
   pub counts : AreCounts d.clusters (length d.cues) n
   pub stands : StandsOpen r f before name d.front (joined (clusters_elements d.clusters)) files o
 
--- A block at this tick, with an element of `len` bytes, can join the Cluster in the buffer, and no capacity was lost.
+-- A block at `tick`, with an element of `len` bytes, can join the Cluster in the buffer, and no capacity was lost.
 pub record JoinsHeld (tick len : ℕ) (old new : Gathered) : Type 0 where
   pub joins : has_place new tick len ≡ true
   pub spare : old.spare ≤ new.spare

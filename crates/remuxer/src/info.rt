@@ -49,7 +49,7 @@ fn add_uuids(alloc: Global, info: &mut Tree, uuids: PartUuids) -> Result<(), All
     add_uuid(alloc, info, NEXT_UUID, uuids.next)
 }
 
-/// Returns an Info with these identifiers after its first child.
+/// Returns the Info `info` with the identifiers `uuids` after its first child.
 pub(crate) fn info_with(alloc: Global, info: &Tree, uuids: PartUuids) -> Result<Tree, AllocError>
     requires id { id_of info.now ≡ INFO_ID }
     requires master { IsMaster info.now }

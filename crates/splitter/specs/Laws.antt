@@ -19,7 +19,7 @@ with_last [] b = []
 with_last (x ∷ []) b = with_block x b ∷ []
 with_last (x ∷ (y ∷ ys)) b = x ∷ with_last (y ∷ ys) b
 
--- the written sections after a block at this place: it begins one, joins the last one, or is in none
+-- the written sections after a block at its place: it begins one, joins the last one, or is in none
 abbrev pub placed : List Section → Place → OutputBlock → List Section
 placed xs (Next start) b = xs ++ begun start b ∷ []
 placed xs Same b = with_last xs b
@@ -42,7 +42,7 @@ StepsJoin =
 abbrev pub IsUncut : Split → Section → Type 0
 IsUncut s x = (k : ℕ) (b : OutputBlock) → 0 < k → slice_get x.blocks k ≡ Some b → cuts s (record { start = x.start; blocks = take k x.blocks }) b ≡ false
 
--- The section `y` begins with a block and starts at its tick, and a cut is before this block, after the section `x`.
+-- The section `y` begins with a block and starts at its tick, and a cut is before the block, after the section `x`.
 pub record IsCutOff (s : Split) (x y : Section) : Type 0 where
   pub first : OutputBlock
   pub rest : List OutputBlock

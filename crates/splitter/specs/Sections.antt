@@ -55,7 +55,7 @@ abbrev pub cut_from : Split → Section → List OutputBlock → List Section
 cut_from s x [] = x ∷ []
 cut_from s x (b ∷ bs) = if cuts s x b then x ∷ cut_from s (begun b.tick b) bs else cut_from s (with_block x b) bs
 
--- the next blocks of a section up to the next cut, which started at the tick `start` and has this load
+-- the next blocks of a section up to the next cut, which started at the tick `start` and has a load of `octets` bytes
 abbrev pub within : Split → ℕ → ℕ → List OutputBlock → List OutputBlock
 within s start octets [] = []
 within s start octets (b ∷ bs) = if cuts_at s start octets b then [] else b ∷ within s start (octets + octets_taken b) bs
@@ -83,7 +83,7 @@ pub record Part : Type 0 where
   pub end : Option ℕ
   pub blocks : List OutputBlock
 
--- the block `b` in a part that starts at this tick; a block before the start is at tick 0
+-- the block `b` in a part that starts at the tick `start`; a block before the start is at tick 0
 abbrev pub in_part : ℕ → OutputBlock → OutputBlock
 in_part start b = in_output b.lane (b.tick - start) b
 

@@ -6,12 +6,12 @@ use Rattle.requests.specs.declared.split.SplitWords.TheVariants as words
 use Rattle.splitter.specs.declared.spec.SplitSpec.{SplitSpec}
 use Rattle.splitter.specs.declared.spec.SplitSpec.TheVariants.{Whole, Duration, Times, Parts}
 
--- the start of the chapter `number`, counted from 1, if there is one
+-- the start of the chapter with the given number, counted from 1, if there is one
 abbrev pub start_at : List ℕ → ℕ → Option ℕ
 start_at starts zero = None
 start_at starts (suc k) = slice_get starts k
 
--- the split by times of an output with these chapter starts
+-- the split by times of an output whose chapters start at `starts`
 abbrev pub spec_of : Option SplitWords → List ℕ → SplitSpec
 spec_of None starts = Whole
 spec_of (Some (words.Duration by)) starts = Duration by

@@ -12,7 +12,7 @@ use std::marker::Model;
 pub enum Place {
     /// Same part as the previous block
     Same,
-    /// First block of a new part, which starts at this tick
+    /// First block of a new part, which starts at tick `start`
     Next { start: u64 },
     /// No part
     Out,

@@ -35,14 +35,14 @@ fn are_digits(octets: &[u8]) -> bool
     octets.len() >= 3 && octets.iter().all(|octet| octet.is_ascii_digit())
 }
 
-// Returns `octets` without the prefix `front`, or nothing if it hasn't this prefix.
+// Returns `octets` without the prefix `front`, or nothing without this prefix.
 fn behind<'a>(front: &[u8], octets: &'a [u8]) -> Option<&'a [u8]>
     ensures { option_copied result ≡ behind front.now octets.now }
 {
     octets.strip_prefix(front)
 }
 
-// Returns `octets` without the suffix `end`, or nothing if it hasn't this suffix.
+// Returns `octets` without the suffix `end`, or nothing without this suffix.
 fn before<'a>(end: &[u8], octets: &'a [u8]) -> Option<&'a [u8]>
     ensures { option_copied result ≡ before end.now octets.now }
 {

@@ -14,7 +14,7 @@ pub enum SplitSpec {
     Whole,
     /// A cut `by` nanoseconds after the start of each section
     Duration { by: u64 },
-    /// Cuts at these times; 0 has no effect
+    /// Cuts at the times `at`; 0 has no effect
     Times { at: List<u64> },
     /// Cuts at the bounds of `spans`; only sections that start in a span are written
     Parts { spans: List<SpanWords> },

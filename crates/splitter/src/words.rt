@@ -17,7 +17,7 @@ fn start_at(starts: &[u64], number: u64) -> Option<u64>
     starts.get(k as usize).copied()
 }
 
-// Returns the starts of the chapters with these numbers.
+// Returns the starts of the chapters with the numbers `numbers`.
 fn starts_at(alloc: Global, starts: &[u64], numbers: &[u64]) -> Result<List<u64>, AllocError>
     ensures { IfOk result (λ at. at ≡ filter_map (start_at starts.now) numbers.now) }
 {

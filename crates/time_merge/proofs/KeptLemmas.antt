@@ -81,7 +81,7 @@ stands-kept old new m keeps ready = record {
 
 -- ---- a call that writes to other names
 
--- It keeps the files of a merge.
+-- The call keeps the files of a merge.
 pub keeps-merge : {S : Type 0} (r : Ghosts S) (f : writing.Ghosts S) (names : List (List ℕ)) (old new : S) (m : MergeSeen) → KeepsOthers r f names old new → IsApart (f.holder old) names m → KeepsMerge (live_files r old) (live_files r new) m
 keeps-merge r f names old new m keeps apart = λ k d lt. λ j e inside. one (slice_index_or (slice_index_or m.queues k d).lane.links j e) (apart k d lt j e inside)
   where
@@ -89,7 +89,7 @@ keeps-merge r f names old new m keeps apart = λ k d lt. λ j e inside. one (sli
     one (Track t) others = keeps.others t.file.n others
     one (Entries e) others = tt
 
--- Their names stay different.
+-- The names of a merge's files still differ from the written ones.
 pub apart-kept : {S : Type 0} (r : Ghosts S) (f : writing.Ghosts S) (names : List (List ℕ)) (old new : S) (m : MergeSeen) → KeepsOthers r f names old new → IsReady (live_files r old) m → IsApart (f.holder old) names m → IsApart (f.holder new) names m
 apart-kept r f names old new m keeps ready apart = λ k d lt. λ j e inside. one (slice_index_or (slice_index_or m.queues k d).lane.links j e) ((ready k d lt).files j e inside) (apart k d lt j e inside)
   where

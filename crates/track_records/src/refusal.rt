@@ -38,7 +38,7 @@ fn is_bad(child: &Tree) -> bool
     }
 }
 
-// Checks whether an element with this ID came before. Only the two IDs that may be invalid are noted.
+// Checks whether an element with the ID `id` came before. Only the two IDs that may be invalid are noted.
 fn is_met(numbered: bool, timed: bool, id: u32) -> bool
     ensures { result ≡ is_met numbered timed id }
 {

@@ -20,7 +20,7 @@ front-is c =
     c.front_at-front.ensures.exact
     ∙ ap (λ n. take n (front_from c.args.window.now c.args.header.now.body)) (c.min-most.ensures ∙ ap (λ n. min n MAX_PREVIEW_LEN) c.known.ensures)
 
--- They settle no track.
+-- Held bytes without a track settle no track.
 pub returns-in_err-track-clause-exact : goal.returns-in_err-track-clause-exact
 returns-in_err-track-clause-exact c =
     let h = c.args.header.now in

@@ -39,7 +39,7 @@ returns-in_err-copy_data g c =
     rw (p.1, p.2) (attached-uncopied g.F.Reads g.F.Files c.args.file c.args.attachment.now c.args.files.now c.append.new.files c.copy_data.new.files _ c.in_err-copy_data.field-0.0 _ c.requires.live c.requires.attached
     (g.met.F.Reads.told_size (g.F.Reads.standing c.args.files.now) c.args.attachment.now.file.n) (c.as_slice.ensures ∙ c.in_ok-before.ensures) c.in_ok-append.ensures c.in_err-copy_data.ensures)
 
--- Its three parts are appended.
+-- The three parts of an AttachedFile are appended.
 pub returns : goal.returns
 returns g c =
     attached-all g.F.Reads g.F.Files c.args.file c.args.attachment.now c.args.files.now c.append.new.files c.copy_data.new.files c.append-2.new.files _ c.append-2.result _ _ c.requires.live c.requires.attached

@@ -33,7 +33,7 @@ add_attachment-requires g c =
       buffer = omega (arith, c.requires.buffer);
     }
 
--- It was appended.
+-- The next AttachedFile was appended.
 pub loop-attachment-preserved : goal.loop-attachment-preserved
 loop-attachment-preserved g c =
     let r = g.F.Reads in
@@ -54,7 +54,7 @@ loop-attachment-preserved g c =
     (AppendsOnly-then r f c.args.file start c.loop-attachment.files c.add_attachment.new.files _ _ _ _ 0 no_refusal c.requires.live before
     (record { appended = one.appended; size = one.size; kept = one.kept; cause = record { reading = one.cause.reading; writing = one.cause.writing }; reads = one.reads }))
 
--- It failed.
+-- The next AttachedFile couldn't be appended.
 pub returns-in_err-add_attachment : goal.returns-in_err-add_attachment
 returns-in_err-add_attachment g c =
     let r = g.F.Reads in

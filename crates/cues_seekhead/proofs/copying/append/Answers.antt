@@ -18,7 +18,7 @@ returns g c =
       reads = omega (arith, c.append.ensures.unread.octets);
     }
 
--- A prefix of them is at the end.
+-- A prefix of the bytes was appended.
 pub returns-in_err-append : goal.returns-in_err-append
 returns-in_err-append g c =
     let p = err_from_is_err_and c.from_residual.result c.from_residual.ensures.1 in

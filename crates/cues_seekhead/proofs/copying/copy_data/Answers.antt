@@ -23,7 +23,7 @@ copy_chunk-requires g c =
       );
     }
 
--- One more chunk.
+-- One more chunk is copied.
 pub loop-done-preserved : goal.loop-done-preserved
 loop-done-preserved g c =
     let before = c.loop-done.invariant.copied in

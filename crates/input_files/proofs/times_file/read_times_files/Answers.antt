@@ -10,7 +10,7 @@ use Rattle.input_files.proofs.LooksLemmas.{LooksOnly-times, among-rest}
 use Rattle.input_files.proofs.TimesLemmas.{given-more, octets-more, octets_of}
 use Rattle.input_files.proofs.times_file.read_times_files.Goals as goal
 
--- One more file.
+-- One more timestamp file is read.
 pub loop-named-preserved : goal.loop-named-preserved
 loop-named-preserved g c =
     let inv = c.loop-named.invariant in
@@ -38,7 +38,7 @@ loop-named-preserved g c =
           omega (arith, inv.octets world told, c.read_named.ensures.octets world at, more, few);
     }
 
--- All files.
+-- All timestamp files were read.
 pub returns-clause-exact : goal.returns-clause-exact
 returns-clause-exact g c = λ world told.
     let left : List TimesName = c.loop-named.named-iterator.rest.items in

@@ -29,7 +29,7 @@ read_tracks-requires c =
     c.in_ok-push.ensures.sound (sound-built TRACKS 0 [] c.in_ok-tracks.tracks none)
     (stands-in c.in_ok-tracks.tracks c.in_ok-text_entry.field-0 (ap id_of none.is) c.in_ok-text_entry.ensures.whole)
 
--- It has the only entry.
+-- The list of tracks has the only entry's track.
 is-one : (t entry : Node) (list : List Track) → t ≡ master TRACKS 0 (nodes_of (entry ∷ [])) → entry ≡ text_entry → tracks_of t ≡ Ok list → list ≡ track_of text_entry ∷ []
 is-one t entry list tree same read =
     let whole : t ≡ master TRACKS 0 (nodes_of (text_entry ∷ [])) = tree ∙ ap (λ e. master TRACKS 0 (nodes_of (e ∷ []))) same in
@@ -54,7 +54,7 @@ returns-in-Ok-clause-whole c =
 pub returns-in-Ok-clause-tracks : goal.returns-in-Ok-clause-tracks
 returns-in-Ok-clause-tracks c = each IsTrack _ (listed c) is_track
 
--- It isn't refused.
+-- The Tracks isn't refused.
 never : (t entry : Node) (end : TreeEnd) (d : Harm) → t ≡ master TRACKS 0 (nodes_of (entry ∷ [])) → entry ≡ text_entry → end ≡ Damage d → Refuses end (tracks_of t) → ⊥
 never t entry end d tree same is refuses =
     let P : TreeEnd → Type 0 = λ e. Refuses e (tracks_of t) in

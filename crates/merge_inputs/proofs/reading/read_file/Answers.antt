@@ -38,7 +38,7 @@ returns-in-Some-clause-exact g c = λ bytes told.
     (c.in_ok-info.ensures.exact bytes now c.args.held outline)
     (ap refusal_of (sym (c.as_slice.ensures ∙ c.in_ok-taken.ensures)) ∙ ap (option_map Damaged) (sym c.first_unusable.ensures ∙ c.in-Some.is))
 
--- They aren't refused.
+-- The copied tracks aren't refused.
 pub returns-clause-exact : goal.returns-clause-exact
 returns-clause-exact g c = λ bytes told.
     let outline = c.in_ok-outline.ensures.exact bytes told in

@@ -21,7 +21,7 @@ returns-in_err-child-clause-pays g c =
     let p = err_from_is_err_and c.from_residual.result c.from_residual.ensures.1 in
     rw p.1 (IsSpent-header _ _ _ _ _ refl c.in_err-child.ensures.octets)
 
--- It passes a limit.
+-- The child passes a limit.
 
 pub returns-in_err-add-clause-meets : goal.returns-in_err-add-clause-meets
 returns-in_err-add-clause-meets g c = λ bytes told.

@@ -18,14 +18,14 @@ returns-in-Err-TooLarge-clause-exact g c = λ bytes told before outline.
     let both : Some c.in-Err-TooLarge.damage ≡ None = sym large ∙ is.small in
     absurd (cc)
 
--- It is read as a tree.
+-- The element is read as a tree.
 pub returns-in-Ok-parse-clause-exact : goal.returns-in-Ok-parse-clause-exact
 returns-in-Ok-parse-clause-exact g c = λ bytes told before outline.
     let is = IsFirst-shown c.args.id before bytes c.args.outline.now c.in-Some.header c.requires.held outline (sym c.first.ensures.kept ∙ c.in-Some.is) in
     first_tree-some c.args.id bytes c.args.outline.now c.in-Some.header c.as_slice.result.now is (c.as_slice.ensures ∙ c.in-Ok.ensures.ok bytes told)
     ∙ ap (λ (read : Result Node Damage). and_then read (λ (tree : Node). Ok (Some tree))) c.in-Ok-parse.ensures.exact
 
--- It is damaged.
+-- The element is damaged.
 pub returns-in-Err-Damage-clause-exact : goal.returns-in-Err-Damage-clause-exact
 returns-in-Err-Damage-clause-exact g c = λ bytes told before outline.
     let is = IsFirst-shown c.args.id before bytes c.args.outline.now c.in-Some.header c.requires.held outline (sym c.first.ensures.kept ∙ c.in-Some.is) in

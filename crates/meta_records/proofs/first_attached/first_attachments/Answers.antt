@@ -10,13 +10,13 @@ returns-in_default-clause-exact g c = λ bytes told before outline.
     first_attached-of before bytes c.args.outline.now _ outline (sym c.first.ensures.kept ∙ c.in_default.is)
     ∙ ap (λ (list : List Attachment). Ok (map in_file list)) (sym c.new.ensures)
 
--- They are read.
+-- The attached files are read.
 pub returns-in-Ok-clause-exact : goal.returns-in-Ok-clause-exact
 returns-in-Ok-clause-exact g c = λ bytes told before outline.
     first_attached-of before bytes c.args.outline.now _ outline (sym c.first.ensures.kept ∙ c.in-Some.is)
     ∙ attached-read bytes c.args.file c.in-Some.header c.in-Ok.attachments (c.in-Ok.ensures.exact bytes told)
 
--- They are refused.
+-- The attached files are refused.
 pub returns-in-Err-Refused-clause-exact : goal.returns-in-Err-Refused-clause-exact
 returns-in-Err-Refused-clause-exact g c = λ bytes told before outline.
     first_attached-of before bytes c.args.outline.now _ outline (sym c.first.ensures.kept ∙ c.in-Some.is)

@@ -32,7 +32,7 @@ returns-in_err-header-clause-pays g c =
     let p = err_from_is_err_and c.from_residual.result c.from_residual.ensures.1 in
     rw p.1 (IsSpent-header _ _ _ _ _ refl c.in_err-header.ensures.octets)
 
--- It passes a limit.
+-- The element passes a limit.
 
 pub returns-in_err-add-clause-meets : goal.returns-in_err-add-clause-meets
 returns-in_err-add-clause-meets g c = λ bytes told.
@@ -47,7 +47,7 @@ returns-in_err-add-clause-pays g c =
     let p = err_from_is_err_and c.from_residual-in_err-add.result c.from_residual-in_err-add.ensures.1 in
     rw p.1 (IsSpent-header _ _ _ _ _ c.in_err-add.ensures.refused c.in_ok-header.ensures.octets)
 
--- Its body is invalid, or couldn't be read.
+-- The element's body is invalid, or couldn't be read.
 
 pub returns-in_err-leaf-clause-meets : goal.returns-in_err-leaf-clause-meets
 returns-in_err-leaf-clause-meets g c = λ bytes told.
@@ -67,7 +67,7 @@ returns-in_err-leaf-clause-pays g c =
     let p = err_from_is_err_and c.from_residual-in_err-leaf.result c.from_residual-in_err-leaf.ensures.1 in
     rw p.1 (IsSpent-one _ _ _ _ _ _ _ _ c.in_ok-header.ensures.octets c.in_err-leaf.ensures.octets (rw c.counted_of.ensures at c.in_ok-add.ensures.octets) c.in_ok-add.ensures.nodes few.0 (omega (arith, few.1)))
 
--- It is read.
+-- The element is read.
 
 pub returns-clause-meets : goal.returns-clause-meets
 returns-clause-meets g c = λ bytes told.

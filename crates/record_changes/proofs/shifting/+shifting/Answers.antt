@@ -51,7 +51,7 @@ shifted_atom-returns-then-has_start t c =
     let whole = subst P (sym (start-there by items (map (shifted_part by) items) has)) built in
     record { exact = part-built by _ atom _ items c.requires are whole; place = may-built CHAPTER_ATOM atom _ items _ c.requires are whole }
 
--- Its start is added.
+-- The start of an atom is added.
 with-start : (by : ℕ) (atom : Node) (items : List Node) (old child new : Node) → IsBuilt CHAPTER_ATOM (offset_of atom) (depth_all (nodes_of items)) (map (shifted_part by) items) old
     → IsPut old child new → child ≡ uint_leaf CHAPTER_TIME_START by → StandsIn CHAPTER_ATOM child → has_start items ≡ false
     → IsBuilt CHAPTER_ATOM (offset_of atom) (depth_all (nodes_of items)) (map (shifted_part by) items ++ missing_start by items) new

@@ -1,4 +1,4 @@
--- One more atom.
+-- The start of one more atom is appended.
 use Rattle.mkv_schema.specs.declared.ids.TheConstants.{CHAPTER_ATOM}
 use Rattle.record_changes.specs.Cut.{start_of}
 use Rattle.record_changes.proofs.ChapterFacts.{atom-in_edition}

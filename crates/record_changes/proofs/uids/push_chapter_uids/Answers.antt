@@ -1,4 +1,4 @@
--- One more edition.
+-- The identifiers of one more edition are appended.
 use Rattle.mkv_schema.specs.declared.ids.TheConstants.{CHAPTER_UID}
 use Rattle.record_changes.specs.Atoms.{value_in}
 use Rattle.record_changes.proofs.ChapterFacts.{edition-in}

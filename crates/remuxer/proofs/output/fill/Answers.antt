@@ -18,7 +18,7 @@ use Rattle.remuxer.proofs.output.fill.Given.{Over}
 use Rattle.remuxer.proofs.output.fill.Goals as goal
 use Rattle.remuxer.proofs.output.fill.Goals.{In_ok-add_part}
 
--- Its blocks couldn't all be added.
+-- The output's blocks couldn't all be added.
 pub returns-in_err-add_part-clause-fills : goal.returns-in_err-add_part-clause-fills
 returns-in_err-add_part-clause-fills g c = λ told.
     let p = err_from_is_err_and c.from_residual.result c.from_residual.ensures.1 in
@@ -60,7 +60,7 @@ drafted : (g : Over) (c : In_ok-add_part g) (now : g.row.F.Denot) → ((before :
 drafted g c now is told =
     fills-none g.F.Reads g.F.Files c.args.spec.now c.as_slice.result.now c.args.files.now c.add_part.new.files c.args.writer.now c.add_part.new.self c.args.blocks.now c.add_part.new.blocks c.as_slice.ensures (c.in_ok-add_part.ensures.takes told) c.in_ok-add_part.ensures.over now is
 
--- Its chapters couldn't be cut.
+-- The output's chapters couldn't be cut.
 pub returns-in_err-chapters-clause-fills : goal.returns-in_err-chapters-clause-fills
 returns-in_err-chapters-clause-fills g c = λ told.
     let p = err_from_is_err_and c.from_residual-in_err-chapters.result c.from_residual-in_err-chapters.ensures.1 in

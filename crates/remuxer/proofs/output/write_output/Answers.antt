@@ -64,7 +64,7 @@ stands : (g : Over) (c : After-fill g)
 stands g c =
     begun-stands g.F.Reads g.F.Files c.args.spec.now c.args.name.now c.args.files.now c.begin.new.files c.args.blocks.now (same-left g c) c.in_ok-out.out c.in_ok-buffer.buffer c.in_ok-out.ensures.ok c.in_ok-out.ensures.cues c.in_ok-buffer.ensures.empty c.in_ok-buffer.ensures.limits
 
--- It couldn't be finished.
+-- The output couldn't be finished.
 pub returns-in_err-finish_with-in-Ok-clause-writes : goal.returns-in_err-finish_with-in-Ok-clause-writes
 returns-in_err-finish_with-in-Ok-clause-writes g c = λ told.
     let end = err_from_is_err_and c.from_residual-in_err-finish_with-in-Ok.result c.from_residual-in_err-finish_with-in-Ok.ensures.1 in
@@ -85,7 +85,7 @@ returns-in_err-finish_with-in-Ok-clause-goes g c =
     let same : g.F.Reads.octets_read c.finish_with.new.files ≤ g.F.Reads.octets_read c.fill.new.files = omega (arith, ends.ended.octets, ends.written.octets) in
     rw end.1 (goes-refused {E = RemuxEnd} g.F.Reads (data_of c.args.spec.now) c.args.files.now c.begin.new.files c.fill.new.files c.finish_with.new.files c.args.blocks.now c.fill.new.blocks (Ok c.in-Ok.part) goes c.in-Ok.ensures.goes same)
 
--- It was finished.
+-- The output was finished.
 pub returns-in-Ok-clause-writes : goal.returns-in-Ok-clause-writes
 returns-in-Ok-clause-writes g c = λ told.
     let after = (goal.at.returns-in-Ok-clause-writes g c).After-fill in
@@ -120,7 +120,7 @@ returns-in-Ok-clause-kept g c =
     let a = c.args.files.now in
     finished-keeps g.F.Reads g.F.Files a c.begin.new.files c.fill.new.files c.finish_with.new.files c.args.name.now c.in_ok-out.out.file c.fill.new.writer.out.file (g.met.F.Files.numbered a) c.in_ok-out.ensures.made c.in-Ok.ensures.writes.kept c.in-Ok.ensures.writes.file c.in_ok-finish_with-in-Ok.ensures.ended
 
--- It was abandoned.
+-- The output was abandoned.
 pub returns-clause-writes : goal.returns-clause-writes
 returns-clause-writes g c = λ told.
     let after = (goal.at.returns-clause-writes g c).After-fill in

@@ -53,7 +53,7 @@ kept-one g c e =
     let few : number < 2 ^ 64 = omega arith in
     keeps-one g.F.Reads g.F.Files spec.split spec.name (own_name spec number) c.args.files.now e (named-so spec.split spec.name number few)
 
--- It failed.
+-- The output couldn't be written.
 pub returns-in_err-done-clause-writes : goal.returns-in_err-done-clause-writes
 returns-in_err-done-clause-writes g c = λ told.
     let end = err_from_is_err_and c.from_residual.result c.from_residual.ensures.1 in
@@ -63,7 +63,7 @@ returns-in_err-done-clause-writes g c = λ told.
 pub returns-in_err-done-clause-kept : goal.returns-in_err-done-clause-kept
 returns-in_err-done-clause-kept g c = kept-one g (goal.at.returns-in_err-done-clause-kept g c).After-write_own c.write_own.new.files c.in_err-done.ensures.kept
 
--- It is complete.
+-- The output is complete.
 stands : (g : Over) (c : After-write_own g) → WritesLayout (g.F.Files.names c.args.files.now) (g.F.Files.names c.write_own.new.files) (own_name c.args.spec.now (length c.as_slice.result.now + 1)) (its g c (length c.as_slice.result.now + 1))
     → WritesLayout (g.F.Files.names c.args.files.now) (g.F.Files.names c.write_own.new.files) (next_name c.args.spec.now c.args.written.now) (its g c (length c.args.written.now + 1))
 stands g c = subst (λ (n : ℕ). WritesLayout (g.F.Files.names c.args.files.now) (g.F.Files.names c.write_own.new.files) (own_name c.args.spec.now n) (its g c n)) (num g c)
@@ -106,7 +106,7 @@ kept-then g c h standing kept =
     let names = own_name c.args.spec.now (length c.as_slice.result.now + 1) ∷ [] in
     kept-one g c h (KeepsOthers-then g.F.Reads g.F.Files names c.args.files.now c.write_own.new.files h kept (read-keeps g.F.Reads g.F.Files c.write_own.new.files h (read g c.write_own.new.files h standing) names))
 
--- It couldn't be read.
+-- The next part couldn't be read.
 pub returns-in_err-begun-clause-writes : goal.returns-in_err-begun-clause-writes
 returns-in_err-begun-clause-writes g c = λ told.
     let end = err_from_is_err_and c.from_residual-in_err-begun.result c.from_residual-in_err-begun.ensures.1 in
@@ -135,7 +135,7 @@ returns-in_err-begun-clause-cause g c =
     (HasRemuxCause-then g.F.Reads g.F.Files c.args.files.now e h _ c.in_ok-done.ensures.cause.reading c.in_ok-done.ensures.cause.writing
     (HasRemuxCause-read g.F.Reads g.F.Files e h c.in_err-begun.field-0.0 (g.met.F.Files.writing_stands h e c.in_err-begun.ensures.standing) c.in_err-begun.ensures.cause))
 
--- It was found, or none is left.
+-- The next part was found, or none is left.
 pub returns-clause-writes : goal.returns-clause-writes
 returns-clause-writes g c = λ told.
     let after = (goal.at.returns-clause-writes g c).After-write_own in

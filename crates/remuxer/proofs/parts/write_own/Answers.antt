@@ -55,7 +55,7 @@ write_output-requires g c =
 named : (g : Over) (c : After-write_output g) → c.as_str.result.now ≡ own_name c.args.spec.now c.args.number
 named g c = c.as_str.ensures.same ∙ c.in_ok-name.ensures
 
--- It has its own identifiers.
+-- The output has its own identifiers.
 own : (g : Over) (c : After-write_output g) → (let o : OutputSpec = record c.args.spec.now { front = record c.args.spec.now.front { info = c.replace-plain.new.dest } } in o) ≡ own_spec c.args.spec.now c.args.number
 own g c =
     let spec = c.args.spec.now in
@@ -65,7 +65,7 @@ own g c =
 kept-own : (g : Over) (c : After-write_output g) → KeepsOthers g.F.Reads g.F.Files (c.as_str.result.now ∷ []) c.args.files.now c.write_output.new.files → KeepsOthers g.F.Reads g.F.Files (own_name c.args.spec.now c.args.number ∷ []) c.args.files.now c.write_output.new.files
 kept-own g c = subst (λ (n : List ℕ). KeepsOthers g.F.Reads g.F.Files (n ∷ []) c.args.files.now c.write_output.new.files) (named g c)
 
--- It failed.
+-- The output couldn't be written.
 pub returns-in_err-done-clause-writes : goal.returns-in_err-done-clause-writes
 returns-in_err-done-clause-writes g c =
     let end = err_from_is_err_and c.from_residual-in_err-done.result c.from_residual-in_err-done.ensures.1 in
@@ -76,7 +76,7 @@ returns-in_err-done-clause-writes g c =
 pub returns-in_err-done-clause-kept : goal.returns-in_err-done-clause-kept
 returns-in_err-done-clause-kept g c = kept-own g (goal.at.returns-in_err-done-clause-kept g c).After-write_output c.in_err-done.ensures.kept
 
--- It is complete.
+-- The output is complete.
 pub returns-clause-writes : goal.returns-clause-writes
 returns-clause-writes g c =
     let after = (goal.at.returns-clause-writes g c).After-write_output in

@@ -41,7 +41,7 @@ write_front-requires-clause-attached g c = λ k d below.
     let made = MakesFile-created g.F.Reads g.F.Files c.args.name.now c.in_ok-file.file old new c.create.result (g.met.F.Files.numbered old) ok.is_new c.create.ensures.stays c.create.ensures.asks in
     CanAttach-created g.F.Reads g.F.Files c.args.name.now c.in_ok-file.file old new _ (g.met.F.Files.numbered old) made (c.requires.attached k d below)
 
--- It was created and written.
+-- The output was created and written.
 pub returns-in-Ok-clause-made : goal.returns-in-Ok-clause-made
 returns-in-Ok-clause-made g c =
     let r = g.F.Reads in

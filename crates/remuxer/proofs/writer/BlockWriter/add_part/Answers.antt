@@ -66,7 +66,7 @@ add_lent-requires-clause-number g c =
     let inside : c.in-Some.lane < length c.steps.blocks.merge.queues = slice_get_within c.steps.blocks.merge.queues c.in-Some.lane it.lends.queue it.lends.here in
     omega (arith, inside, c.steps.invariant.goes.gives.few)
 
--- It couldn't be written.
+-- The block ahead couldn't be written.
 pub returns-in_err-add_lent-clause-takes : goal.returns-in_err-add_lent-clause-takes
 returns-in_err-add_lent-clause-takes g c =
     let end = err_from_is_err_and c.from_residual.result c.from_residual.ensures.1 in
