@@ -72,6 +72,10 @@ pub returns-in-Help-clause-octets : goal.returns-in-Help-clause-octets
 returns-in-Help-clause-octets g c =
     reads-nothing (g.F.Files.names c.args.files.now) (disk_world g.D.Disk c.args.disk.now) (Ok c.args.command.now) (g.F.Reads.octets_read c.args.files.now + g.D.Reads.octets_read c.args.disk.now)
 
+pub returns-in-Explain-clause-octets : goal.returns-in-Explain-clause-octets
+returns-in-Explain-clause-octets g c =
+    reads-nothing (g.F.Files.names c.args.files.now) (disk_world g.D.Disk c.args.disk.now) (Ok c.args.command.now) (g.F.Reads.octets_read c.args.files.now + g.D.Reads.octets_read c.args.disk.now)
+
 pub returns-in-Version-clause-octets : goal.returns-in-Version-clause-octets
 returns-in-Version-clause-octets g c =
     reads-nothing (g.F.Files.names c.args.files.now) (disk_world g.D.Disk c.args.disk.now) (Ok c.args.command.now) (g.F.Reads.octets_read c.args.files.now + g.D.Reads.octets_read c.args.disk.now)
