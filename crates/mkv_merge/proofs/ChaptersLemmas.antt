@@ -20,14 +20,14 @@ use Rattle.mkv_merge.specs.Prepared.{AreInputsOf, reads_in}
 use Rattle.mkv_io.specs.Results.{unless}
 use Rattle.mkv_merge.specs.declared.refusal.Refusal.{Refusal}
 
--- ---- the first of them has the Chapters
+-- ---- the first input has the Chapters
 
--- what is still to be given, behind so many
+-- the Chapters for the next input, after the inputs of the list
 abbrev pub left_for : {A : Type 0} → Option Node → List A → Option Node
 left_for chapters [] = chapters
 left_for chapters (i ∷ is) = None
 
--- one more input
+-- One more input gets its Chapters.
 pub first-more : (chapters : Option Node) (done : List Input) (i : Input) → first_with with_tree chapters (done ++ i ∷ []) ≡ first_with with_tree chapters done ++ with_tree (left_for chapters done) i ∷ []
 first-more chapters [] i = refl
 first-more chapters (d ∷ done) i = ap (λ (rest : List Input). with_tree chapters d ∷ rest) (map-append (with_tree None) done (i ∷ []))
@@ -36,7 +36,7 @@ pub none-left : (chapters : Option Node) (done : List Input) (i : Input) → lef
 none-left chapters [] i = refl
 none-left chapters (d ∷ done) i = refl
 
--- ---- what was read of them
+-- ---- results of reading
 
 others-read : (inputs : List Input) → reads_in (map (with_tree None) inputs) ≡ map (with_chapters None) (reads_in inputs)
 others-read [] = refl
@@ -52,7 +52,7 @@ chaptered-read webm file.Missing inputs = refl
 chaptered-read webm (file.Refused why) inputs = refl
 chaptered-read webm (file.Read chapters) inputs = first-read (kept_one (not webm) (Some chapters)) inputs
 
--- ---- they are inputs of the same files
+-- ---- inputs of the same files
 
 input-with : (f : LiveFiles) (chapters : Option Node) (i : Input) → IfSome chapters (IsRead CHAPTERS) → IsInput f i → IsInput f (with_tree chapters i)
 input-with f chapters i read is = record {
@@ -106,7 +106,7 @@ chaptered-inputs f list webm (file.Read chapters) inputs written are =
       places = first-places kept inputs are.places;
     }
 
--- ---- an answer that nothing refuses, and one that something does
+-- ---- results with and without a refusal
 
 pub unrefused : {A : Type 0} (why : Option Refusal) (x y : A) → unless why x ≡ Ok y → (why ≡ None) × (x ≡ y)
 unrefused None x y is = (refl, cc)

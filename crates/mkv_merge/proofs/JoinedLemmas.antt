@@ -1,4 +1,4 @@
--- A merge of which nothing is said.
+-- A merge that prints nothing.
 use Rattle.std.proofs.Common.{◌≡◌, List, map, Result, Ok, Err, IfOk, sym, ◌∙◌, ap, subst}
 use Rattle.mkv_io.specs.LiveFiles.{LiveFiles}
 use Rattle.mkv_io.specs.Names.{Names}
@@ -25,7 +25,7 @@ use Rattle.mkv_merge.proofs.SummaryLemmas.{damages-are, some-told, warnings-told
 use Rattle.mkv_merge.proofs.VerdictLemmas.{tells-is}
 use Rattle.mkv_merge.proofs.WritingLemmas.{IsMergeOf, lanes-for}
 
--- the summary of a plan is that of the sources
+-- The summary of a plan describes its sources.
 pub summary-of : (f : LiveFiles) (words : MergeWords) (inputs : List Input) (p : MergePlan) (sources : List Source) (s : Summary) → IsMergeOf f words inputs p sources → IsSummary f p s → IsSummaryOf words sources s
 summary-of f words inputs p sources s is sums = record {
   outputs = sums.outputs ∙ ap (map written_of) (outputs-are f words inputs p sources is);
@@ -33,7 +33,7 @@ summary-of f words inputs p sources s is sums = record {
   damaged = some-told (damages_of f p.lanes) _ s sources (tells-is f p s sums) (λ k. damages-are f sources p.lanes k (lanes-for f words inputs p sources is));
 }
 
--- the outputs were written, or couldn't be
+-- The outputs were written, or couldn't be written.
 pub merges-remuxed : (old new : Names) (words : MergeWords) (found : Result (List Source) Refusal) (f : LiveFiles) (inputs : List Input) (p : MergePlan) (sources : List Source) (r : Result Summary RemuxEnd) → found ≡ Ok sources → IsMergeOf f words inputs p sources
     → IfOk r (IsSummary f p) → WritesOutputs old new (outputs_in f p) r → Merges old new words found (as_merged (as_remuxed r))
 merges-remuxed old new words found f inputs p sources (Ok s) are is sums writes = record {
@@ -46,11 +46,11 @@ merges-remuxed old new words found f inputs p sources (Err end) are is sums stan
     subst (λ (r : Result (List Source) Refusal). AreWrittenInOrder old new (drafts_of (outputs_found words r))) (sym are)
     (subst (λ (os : List PlannedOutput). AreWrittenInOrder old new (drafts_of os)) (outputs-are f words inputs p sources is) stands)
 
--- nothing was written before
+-- Nothing was written before.
 merges-begun : (old new : Names) (words : MergeWords) (found : Result (List Source) Refusal) (why : CommandEnd) → new ≡ old → Merges old new words found (Err why)
 merges-begun old new words found why same = subst (λ (names : Names). AreWrittenInOrder old names (drafts_of (outputs_found words found))) (sym same) (AreWrittenInOrder-none old _)
 
--- it is refused, or was stopped before
+-- The merge is refused or was stopped before its outputs.
 pub merges-ended : (old new : Names) (words : MergeWords) (found : Result (List Source) Refusal) (end : MergeEnd) → ReadsAs {B = List Source} (λ (s : List Source). s) found (Err end) → new ≡ old → Merges old new words found (as_merged (Err end))
 merges-ended old new words found (Ended why) is same = (is, same)
 merges-ended old new words found (Stopped why) is same = merges-begun old new words found why same

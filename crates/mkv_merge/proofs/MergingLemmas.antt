@@ -1,4 +1,4 @@
--- Inputs that are all there: their contents, how much is read of them, and how a merge of them ends.
+-- Inputs that all exist: their contents, the bytes read of them, and the end of a merge of them.
 use Rattle.std.proofs.Common.{◌≡◌, ℕ, suc, ◌+◌, ◌*◌, ◌≤◌, cond, true, List, [], ◌∷◌, length, map, Option, Some, None, Result, Ok, Err, IfOk, inl, inr, refl, sym, ◌∙◌, ap, ap₂, subst, arith}
 use Rattle.std.specs.Prelude.{Bool, is_none, option_map, unwrap_or}
 use Rattle.std.specs.List.{position_from}
@@ -64,7 +64,7 @@ use Rattle.mkv_merge.specs.declared.refusal.Refusal.{Refusal}
 use Rattle.mkv_merge.specs.declared.refusal.Refusal.TheVariants.{Missing, OutputIsInput}
 use Rattle.mkv_merge.proofs.WritingLemmas.{readable-found, readable-none}
 
--- each name has a content, where none is missing from there on
+-- Each name has a content if none is missing from there on.
 all-there-from : (world : List ℕ → Option (List ℕ)) (k : ℕ) (names : List (List ℕ)) → position_from (λ name. is_none (world name)) k names ≡ None
     → map world names ≡ map Some (map (λ name. unwrap_or (world name) []) names)
 all-there-from world k [] none = refl
@@ -79,21 +79,21 @@ all-there-from world k (name ∷ names) none = step (world name) (all-there-from
 pub all-there : (world : List ℕ → Option (List ℕ)) (names : List (List ℕ)) → first_missing world names ≡ None → map world names ≡ map Some (map (λ name. unwrap_or (world name) []) names)
 all-there world names none = all-there-from world 0 names none
 
--- ---- what refuses them before they are read
+-- ---- refusals before reading
 
 module _ (world : List ℕ → Option (List ℕ)) (words : MergeWords) (behind : List (Option Refusal)) (texts : TextFiles) (contents : List (List ℕ)) where
-  -- what is found of sources that all these may refuse
+  -- the sources, unless one of these refusals holds
   abbrev found_by : Option (List ℕ) → Option ℕ → Result (List Source) Refusal
   found_by written missing = sources_unless (option_map OutputIsInput written ∷ option_map Missing missing ∷ behind) words texts contents
 
   abbrev found : Result (List Source) Refusal
   found = found_by (first_written words) (first_missing world (file_names words.files))
 
-  -- an output could have the name of a file that is read
+  -- An output could have the name of a file that is read.
   pub written-found : (name : List ℕ) → first_written words ≡ Some name → found ≡ Err (OutputIsInput name)
   written-found name is = ap (λ (o : Option (List ℕ)). found_by o (first_missing world (file_names words.files))) is
 
-  -- none could: an input isn't there, or all are
+  -- No output could have such a name: an input is missing, or all exist.
   module _ (apart : first_written words ≡ None) (files : List FileWords) (same : files ≡ words.files) where
     by-missing : (o : Option ℕ) → first_missing world (file_names files) ≡ o → found ≡ found_by None o
     by-missing o is = ap₂ found_by apart (ap (λ (each : List FileWords). first_missing world (file_names each)) (sym same) ∙ is)
@@ -106,7 +106,7 @@ module _ (world : List ℕ → Option (List ℕ)) (words : MergeWords) (behind :
     pub there-found : first_missing world (file_names files) ≡ None → found ≡ sources_unless behind words texts contents
     there-found is = by-missing None is
 
--- a text file isn't there, or an edit is pending
+-- A text file is missing, or an edit is pending.
 pub begun-refused : (world : List ℕ → Option (List ℕ)) (words : MergeWords) (texts : TextFiles) (contents : List (List ℕ)) (why : Refusal) → begun_refusal world words texts ≡ Some why → sources_unless (refusals_begun world words texts) words texts contents ≡ Err why
 begun-refused world words texts contents why is =
     ap (λ (o : Option Refusal). unless o (sources_in words texts contents)) (either (missing_text texts) (pending_of world words) is)
@@ -116,7 +116,7 @@ begun-refused world words texts contents why is =
     either None (Some cause) is = is
     either (Some cause) next is = is
 
--- neither
+-- No text file is missing and no edit is pending.
 pub begun-past : (world : List ℕ → Option (List ℕ)) (words : MergeWords) (texts : TextFiles) (contents : List (List ℕ)) → begun_refusal world words texts ≡ None → sources_unless (refusals_begun world words texts) words texts contents ≡ sources_unless [] words texts contents
 begun-past world words texts contents is =
     ap (λ (o : Option Refusal). unless o (sources_in words texts contents)) (neither (missing_text texts) (pending_of world words) is)
@@ -126,17 +126,17 @@ begun-past world words texts contents is =
     neither None (Some cause) is = absurd (cc)
     neither (Some cause) next is = absurd (cc)
 
--- ---- the inputs' contents
+-- ---- contents of the inputs
 
--- and the files that were opened tell the contents of their names
+-- The opened files make the contents of their names visible to the proof.
 pub opened-told : (f : LiveFiles) (world : List ℕ → Option (List ℕ)) (words : MergeWords) (files : List FileWords) (list ids : List FileId) → files ≡ words.files → ids ≡ list → first_missing world (file_names files) ≡ None → inputs.contents_of f.content list ≡ map world (file_names files) → AreTold f ids (contents_held world words)
 opened-told f world words files list ids same of there told =
     ap (inputs.contents_of f.content) of ∙ told ∙ all-there world (file_names files) there
     ∙ ap (λ (each : List FileWords). map Some (map (λ name. unwrap_or (world name) []) (file_names each))) same
 
--- ---- how much is read
+-- ---- bytes read
 
--- live files that are told have the lengths of their contents
+-- Live files that are visible to the proof have the lengths of their contents.
 pub size-told : (f : LiveFiles) → ((file : ℕ) → IfVisible (f.content file) (λ bytes. length bytes ≡ f.size file)) → (world : List ℕ → Option (List ℕ)) (files : List FileWords) (ids : List FileId) → AreTold f ids (map (λ name. unwrap_or (world name) []) (file_names files)) → files_size f ids ≡ contents_length world files
 size-told f sized world [] [] told = refl
 size-told f sized world [] (id ∷ ids) told = absurd (cc)
@@ -150,7 +150,7 @@ size-told f sized world (w ∷ files) (id ∷ ids) told =
     let right = sum_by-cons (λ (each : FileWords). length (unwrap_or (world each.name) [])) w files in
     omega (arith, one, rest, left, right)
 
--- what is read before the blocks, what each lane reads and what is copied are no more than what may be read
+-- The bytes read before the blocks, by each output track and for attached files are at most the bound.
 pub reads-both : (found : Result (List Source) Refusal) (sources : List Source) (lanes old mid new size now copied : ℕ) → found ≡ Ok sources → lanes ≡ length (lanes_given sources) → now ≡ size → copied ≡ attached_length (reads_of sources) → mid ≤ old + 27 * size → new ≤ mid + (2 * (lanes * now) + copied) → new ≤ old + most_of found size
 reads-both found sources lanes old mid new size now copied is count same copied_is first second =
     subst (λ (r : Result (List Source) Refusal). new ≤ old + most_of r size) (sym is)
@@ -160,7 +160,7 @@ reads-both found sources lanes old mid new size now copied is count same copied_
     fits : (n d : ℕ) → new ≤ mid + (2 * (n * size) + d) → new ≤ old + (27 * size + (2 * (n * size) + d))
     fits n d more = omega arith
 
--- text files are read, inputs are opened, merged and closed
+-- The bound holds if text files are read, and inputs are opened, merged and closed.
 pub reads-closed : (found there : Result (List Source) Refusal) (most size text look old read opened merged closed : ℕ) → found ≡ there → size ≡ most → read ≤ old + text → opened ≡ read → merged ≤ opened + (most_of there size + look) → closed ≡ merged → closed ≤ old + (text + (most_of found most + look))
 reads-closed found there most size text look old read opened merged closed is length first begun paid ended =
     within (most_of there size) (most_of found most) (ap (most_of there) length ∙ ap (λ (r : Result (List Source) Refusal). most_of r most) (sym is)) paid
@@ -168,9 +168,9 @@ reads-closed found there most size text look old read opened merged closed is le
     within : (n m : ℕ) → n ≡ m → merged ≤ opened + (n + look) → closed ≤ old + (text + (m + look))
     within n m same paid = omega arith
 
--- ---- live files that are the same
+-- ---- unchanged live files
 
--- inputs stand while files are only looked into
+-- Looking at files leaves the inputs unchanged.
 pub inputs-stand : {S : Type 0} (r : Ghosts S) (f : writing.Ghosts S) (names opened written : List (List ℕ)) (old new : S) (ids : List FileId) → inputs.AreInputs r f names old ids → UsesOnly r f opened written old new → inputs.AreInputs r f names new ids
 inputs-stand r f names opened written old new ids are uses = record {
   live = AreLive-on (live_files r old).live (live_files r new).live ids are.live uses.live;
@@ -178,7 +178,7 @@ inputs-stand r f names opened written old new ids are uses = record {
   under = holders_of-kept (live_files r old).live (f.holder old) (f.holder new) ids are.live uses.holders ∙ are.under;
 }
 
--- and while they are only read
+-- Reading leaves them unchanged.
 pub inputs-kept : {S : Type 0} (r : Ghosts S) (f : writing.Ghosts S) (names : List (List ℕ)) (old new : S) (ids : List FileId) → inputs.AreInputs r f names old ids → r.standing new ≡ r.standing old → ((file : ℕ) → f.holder new file ≡ f.holder old file) → inputs.AreInputs r f names new ids
 inputs-kept r f names old new ids are standing holders = record {
   live = subst (λ standing. AreLive (r.files standing).live ids) (sym standing) are.live;
@@ -186,14 +186,14 @@ inputs-kept r f names old new ids are standing holders = record {
   under = ap (λ (holder : ℕ → List ℕ). holders_of holder ids) (λ i file. holders file i) ∙ are.under;
 }
 
--- they have the same contents
+-- They have the same contents.
 pub contents-kept : (live : ℕ → Bool) (old new : ℕ → Option (List ℕ)) (ids : List FileId) → ((file : ℕ) → live file ≡ true → new file ≡ old file) → AreLive live ids → inputs.contents_of new ids ≡ inputs.contents_of old ids
 contents-kept live old new [] same are = refl
 contents-kept live old new (f ∷ fs) same are =
     ap (λ (c : Option (List ℕ)). c ∷ inputs.contents_of new fs) (same f.n (are 0 f (omega arith)))
     ∙ ap (λ (cs : List (Option (List ℕ))). old f.n ∷ cs) (contents-kept live old new fs same (λ k d below. are (suc k) d (omega arith)))
 
--- and the same lengths
+-- They have the same lengths.
 pub sizes-kept : (old new : LiveFiles) (ids : List FileId) → ((file : ℕ) → IsSameFile old new file) → AreLive old.live ids → files_size new ids ≡ files_size old ids
 sizes-kept old new [] same are = refl
 sizes-kept old new (f ∷ fs) same are =
@@ -203,9 +203,9 @@ sizes-kept old new (f ∷ fs) same are =
     let right = sum_by-cons (λ (file : FileId). old.size file.n) f fs in
     omega (arith, here, rest, left, right)
 
--- ---- how it ends
+-- ---- end of the merge
 
--- what reads files ended early
+-- A call that reads files ended early.
 pub early-cause : {A T : Type 0} (done : A → T) (told : Refusal → T) (before now writing report : ℕ) (end : MergeEnd) → HasReadCause {T = A} before now (Err end)
     → HasStopCause (record { reading = before; writing = writing; report = report }) (record { reading = now; writing = writing; report = report }) (end_as done told (Err end))
 early-cause done told before now writing report (Refused why) same = λ i. record { reading = same i; writing = writing; report = report }
@@ -214,7 +214,7 @@ early-cause done told before now writing report (Stopped stop.Files) rose = (inl
 early-cause done told before now writing report (Stopped stop.Disk) never = absurd never
 early-cause done told before now writing report (Stopped stop.Report) never = absurd never
 
--- text files weren't read, or inputs weren't opened
+-- Text files weren't read, or inputs weren't opened.
 pub texts-cause : (before now : ℕ) (why : ReadEnd) → HasCause {T = ℕ} is_read_fault before now (Err why) → HasReadCause {T = ℕ} before now (Err (Stopped (read_stop why)))
 texts-cause before now read_end.ReadFault rose = rose
 texts-cause before now read_end.Memory same = same
@@ -224,13 +224,13 @@ inputs-cause before now (inputs_end.Missing input) same = same
 inputs-cause before now inputs_end.Failed rose = rose
 inputs-cause before now inputs_end.Memory same = same
 
--- the same of what says nothing
+-- The same for a merge that prints nothing.
 pub join-ended : {S : Type 0} (r : Ghosts S) (f : writing.Ghosts S) (old new : S) (end : MergeEnd) → HasReadCause {T = Prepared} (r.reading_faults old) (r.reading_faults new) (Err end) → f.writing_faults new ≡ f.writing_faults old → HasFilesCause r f old new (as_merged (Err end))
 join-ended r f old new end cause same =
     subst (λ (n : ℕ). HasStopCause (files_counts r f old) (record { reading = r.reading_faults new; writing = n; report = 0 }) (as_merged (Err end))) (sym same)
     (early-cause Written merged.Refused (r.reading_faults old) (r.reading_faults new) (f.writing_faults old) 0 end cause)
 
--- and what has written
+-- The same after outputs were written.
 pub join-remuxed : {S : Type 0} (r : Ghosts S) (f : writing.Ghosts S) (old mid new : S) (result : Result Summary RemuxEnd) → r.reading_faults mid ≡ r.reading_faults old → f.writing_faults mid ≡ f.writing_faults old → HasRemuxCause r f mid new result → HasFilesCause r f old new (as_merged (as_remuxed result))
 join-remuxed r f old mid new result reading writing cause =
     subst (λ (counts : Counts). HasStopCause counts (files_counts r f new) (as_merged (as_remuxed result))) (λ i. record { reading = reading i; writing = writing i; report = 0 }) (by_end result cause)
@@ -242,7 +242,7 @@ join-remuxed r f old mid new result reading writing cause =
     by_end (Err remux_end.Memory) cause = λ i. record { reading = cause.reading i; writing = cause.writing i; report = 0 }
 
 module _ {F P : Type 0} (r : Ghosts F) (f : writing.Ghosts F) (p : ReportGhosts P) where
-  -- files that were only looked into are seen as before
+  -- Looking at files leaves visible state as it was.
   pub seen-kept : (old new : F) (report : P) → r.reading_faults new ≡ r.reading_faults old → f.writing_faults new ≡ f.writing_faults old → f.names new ≡ f.names old → seen_in r f p new report ≡ seen_in r f p old report
   seen-kept old new report reading writing names = λ i. record {
     counts = record { reading = reading i; writing = writing i; report = p.faults report };
@@ -250,7 +250,7 @@ module _ {F P : Type 0} (r : Ghosts F) (f : writing.Ghosts F) (p : ReportGhosts 
     names = names i;
   }
 
-  -- what ended before a line was said
+  -- The merge ended before a line was printed.
   pub merges-early : (old new : F) (report : P) (words : MergeWords) (found : Result (List Source) Refusal) (most : ℕ) (end : MergeEnd) → ReadsAs {B = List Source} (λ (s : List Source). s) found (Err end) → f.names new ≡ f.names old → ReadsUpTo r old new most
       → MergesTo r f p old new report report words found most (Err end)
   merges-early old new report words found most (Refused why) is names paid = record {
@@ -277,7 +277,7 @@ module _ {F P : Type 0} (r : Ghosts F) (f : writing.Ghosts F) (p : ReportGhosts 
       ordinary (Refused why) = tt
       ordinary (Stopped why) = tt
 
-  -- what was found is written, and told
+  -- The sources are written, and their lines are printed.
   pub merges-written : (old mid new : F) (report report' : P) (words : MergeWords) (found : Result (List Source) Refusal) (sources : List Source) (most : ℕ) (result : Result Status CommandEnd) → seen_in r f p mid report ≡ seen_in r f p old report → found ≡ Ok sources
       → HaveRecords sources → IfOk result (λ (s : Status). AreShort words sources) → Fulfils r f p mid new report report' result (merged_verdict words sources) → ReadsUpTo r old new most → MergesTo r f p old new report report' words found most (as_written result)
   merges-written old mid new report report' words found sources most result begun is have short comes paid = by_end result short comes
@@ -312,7 +312,7 @@ module _ {F P : Type 0} (r : Ghosts F) (f : writing.Ghosts F) (p : ReportGhosts 
         cause = subst (λ (seen : Seen). HasStopCause {T = Status} seen.counts (seen_in r f p new report').counts (Err why)) begun ended.cause;
       }
 
-  -- files were looked into before, and inputs were closed behind
+  -- Files were looked at before, and inputs were closed after.
   pub merges-within : (old mid done new : F) (report report' : P) (words : MergeWords) (found there : Result (List Source) Refusal) (most more : ℕ) (result : Result Status MergeEnd) → seen_in r f p mid report ≡ seen_in r f p old report → seen_in r f p new report' ≡ seen_in r f p done report'
       → found ≡ there → ReadsUpTo r old new most → MergesTo r f p mid done report report' words there more result → MergesTo r f p old new report report' words found most result
   merges-within old mid done new report report' words found there most more result begun ended is paid merges = record {
@@ -332,7 +332,7 @@ module _ {F P : Type 0} (r : Ghosts F) (f : writing.Ghosts F) (p : ReportGhosts 
         (subst (λ (seen : Seen). HasStopCause (seen_in r f p mid report).counts seen.counts result) (sym ended) was.cause);
   }
 
-  -- what refuses a merge is told
+  -- A refusal is printed.
   pub refusal-told : (old new : F) (report mid report' : P) (words : MergeWords) (found : Result (List Source) Refusal) (most : ℕ) (why : Refusal) (result : Result Status CommandEnd) → MergesTo r f p old new report mid words found most (Err (Refused why))
       → SaysVerdict (p.lines mid) (p.lines report') result (refused (line_of words why)) → Fulfils r f p old new report report' result (verdict_of words found)
   refusal-told old new report mid report' words found most why result merges says =

@@ -20,19 +20,19 @@ use Rattle.mkv_merge.specs.Read.{first_written, is_output, is_part, is_split}
 
 -- ---- two names
 
--- two tests that say yes of the same
+-- Two tests that hold in the same cases are equal.
 same-test : (a b : Bool) → (a ≡ true → b ≡ true) → (b ≡ true → a ≡ true) → a ≡ b
 same-test true b to from = sym (to refl)
 same-test false true to from = from refl
 same-test false false to from = refl
 
--- either name may come first
+-- Equality of names is symmetric.
 either-first : (xs ys : List ℕ) → bytes_eq xs ys ≡ bytes_eq ys xs
 either-first xs ys = same-test (bytes_eq xs ys) (bytes_eq ys xs)
     (λ is. (bytes_eq-Decides ys xs).1 (sym ((bytes_eq-Decides xs ys).0 is)))
     (λ is. (bytes_eq-Decides xs ys).1 (sym ((bytes_eq-Decides ys xs).0 is)))
 
--- ---- names of which none passes a test
+-- ---- names without one that passes a test
 
 first-none : {A : Type 0} (a b : Option A) → option_or a b ≡ None → a ≡ None
 first-none None b none = refl
@@ -50,13 +50,13 @@ each-fails test (n ∷ ns) none = split (test n) refl (each-fails test ns) none
     split true is rest never = absurd (cc)
     split false is rest none = All-cons (λ name. test name ≡ false) n ns is (rest none)
 
--- so it is of those in front
+-- If no name passes the test, no name of the first list does.
 front-fails : (test : List ℕ → Bool) (front rest : List (List ℕ)) → find test (front ++ rest) ≡ None → All (λ name. test name ≡ false) front
 front-fails test front rest none = each-fails test front (first-none (find test front) (find test rest) (sym (find-append test front rest) ∙ none))
 
--- ---- the names of the inputs
+-- ---- names of the inputs
 
--- what is neither the output's name nor that of a part isn't written
+-- A name that is neither the output's nor a part's isn't written.
 unwritten-name : (words : MergeWords) (name : List ℕ) → is_output words name ≡ false → is_part words name ≡ false → may_be_written (is_split words) words.output name ≡ false
 unwritten-name words name own part = split (is_split words) part
   where
@@ -75,7 +75,7 @@ unwritten-inputs words none =
     (front-fails (is_output words) names rest (first-none own part none) k d below)
     (front-fails (is_part words) names rest (second-none own part none) k d below)
 
--- the same of the names under which files were opened
+-- The same for the names under which files were opened.
 pub unwritten-held : (holder : ℕ → List ℕ) (ids : List FileId) (words : MergeWords) → holders_of holder ids ≡ file_names words.files → first_written words ≡ None → All (λ (f : FileId). may_be_written (is_split words) words.output (holder f.n) ≡ false) ids
 unwritten-held holder ids words held none = λ k d below.
     subst (λ (name : List ℕ). may_be_written (is_split words) words.output name ≡ false) (ap (λ (names : List (List ℕ)). get_or names k (holder d.n)) (sym held) ∙ get_or-map (λ (f : FileId). holder f.n) ids k d)

@@ -1,4 +1,4 @@
--- The outputs of a plan are those of its sources.
+-- The outputs of a plan are the outputs of its sources.
 use Rattle.std.proofs.Common.{◌≡◌, ℕ, suc, ◌+◌, ◌==◌, Bool, true, false, if◌then◌else◌, List, [], ◌∷◌, map, refl, sym, ◌∙◌, ap, ap₂, arith}
 use Rattle.std.specs.List.{enumerate_from}
 use Rattle.mkv_io.specs.LiveFiles.{LiveFiles}
@@ -21,7 +21,7 @@ use Rattle.merge_plan.specs.Records.{chapters_of, tags_of}
 use Rattle.mkv_merge.specs.Merge.{front_at, output_at, outputs_of, parts_of, split_of}
 use Rattle.mkv_merge.proofs.WritingLemmas.{IsMergeOf, blocks-are, reads-are}
 
--- what stands in front of the Clusters of a part, with attached files or without
+-- The elements before the Clusters of a part are the same, with or without attached files.
 front-with : (f : LiveFiles) (words : MergeWords) (number : ℕ) (front : given.Front) (its : Front) (first : Bool) → front_with f front ≡ its
     → front_with f (record front { info = with_uuids (uuids_at words.uuids words.link number) front.info; attachments = if first then front.attachments else [] })
     ≡ record its { info = with_uuids (uuids_at words.uuids words.link number) its.info; attachments = if first then its.attachments else [] }
@@ -39,7 +39,7 @@ module _ (f : LiveFiles) (words : MergeWords) (inputs : List Input) (p : MergePl
   parts-are : parts (planned.split_of p) (planned_blocks f p) ≡ parts_of words sources
   parts-are = ap₂ (λ (s : Split) (blocks : List OutputBlock). parts s blocks) split-is (blocks-are f words inputs p sources is)
 
-  -- each part is the same output
+  -- Each part is the same output.
   output-is : (number : ℕ) (part : Part) → output_in f (spec_of p) number part ≡ output_at words sources (number, part)
   output-is number part =
       let reads = sym (reads-are f words inputs p sources is) in

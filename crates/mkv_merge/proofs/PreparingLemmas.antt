@@ -1,4 +1,4 @@
--- What is read of inputs one after the other, and what they come to.
+-- Inputs are read in sequence; the results make the sources or the refusal of a merge.
 use Rattle.std.proofs.Common.{◌≡◌, ℕ, zero, suc, ◌+◌, ◌*◌, ◌<◌, ◌≤◌, Bool, true, false, if◌then◌else◌, List, [], ◌∷◌, ◌++◌, length, take, drop, get_or, map, Option, Some, None, Result, Ok, Err, refl, sym, ◌∙◌, ap, subst, arith, append_assoc}
 use Rattle.std.specs.List.{All, AllByRecursion, sum_by, zip}
 use Rattle.std.specs.Option.{option_map, unwrap_or}
@@ -53,14 +53,14 @@ use Rattle.mkv_merge.proofs.TextsLemmas.{inputs-timed}
 
 -- ---- a file and its content
 
--- the first of the pairs from a place on
+-- The pairs from `k` on begin with the pair number `k`.
 zip-at : {A B : Type 0} (xs : List A) (ys : List B) (k : ℕ) (x : A) (y : B) → k < length xs → k < length ys → drop k (zip xs ys) ≡ (get_or xs k x, get_or ys k y) ∷ drop (suc k) (zip xs ys)
 zip-at [] ys k x y below there = absurd (omega arith)
 zip-at (first ∷ xs) [] k x y below there = absurd (omega arith)
 zip-at (first ∷ xs) (one ∷ ys) zero x y below there = refl
 zip-at (first ∷ xs) (one ∷ ys) (suc k) x y below there = zip-at xs ys k x y (omega arith) (omega arith)
 
--- there is none behind the last
+-- No pair follows the last one.
 zip-end : {A B : Type 0} (xs : List A) (ys : List B) (k : ℕ) → length xs ≤ k → drop k (zip xs ys) ≡ []
 zip-end [] ys zero most = refl
 zip-end [] ys (suc k) most = refl
@@ -68,14 +68,14 @@ zip-end (first ∷ xs) ys zero most = absurd (omega arith)
 zip-end (first ∷ xs) [] (suc k) most = refl
 zip-end (first ∷ xs) (one ∷ ys) (suc k) most = zip-end xs ys k (omega arith)
 
--- the content of one of some files that are told
+-- The content of a file in a list that is visible to the proof.
 told-at : (content : ℕ → Option (List ℕ)) (list : List FileId) (contents : List (List ℕ)) (k : ℕ) (file : FileId) → files.contents_of content list ≡ map Some contents → k < length list → content (get_or list k file).n ≡ Some (get_or contents k [])
 told-at content [] contents k file told below = absurd (omega arith)
 told-at content (first ∷ list) [] k file told below = absurd (cc)
 told-at content (first ∷ list) (bytes ∷ contents) zero file told below = cc
 told-at content (first ∷ list) (bytes ∷ contents) (suc k) file told below = told-at content list contents k file (cc) (omega arith)
 
--- there are as many contents as files
+-- Contents and files have the same count.
 told-count : (content : ℕ → Option (List ℕ)) (list : List FileId) (contents : List (List ℕ)) → files.contents_of content list ≡ map Some contents → length contents ≡ length list
 told-count content list contents told =
     sym (length-map contents some) ∙ ap length (sym told) ∙ length-map list (λ (f : FileId). content f.n)
@@ -83,22 +83,22 @@ told-count content list contents told =
     some : List ℕ → Option (List ℕ)
     some bytes = Some bytes
 
--- ---- one input after the other
+-- ---- inputs in sequence
 
--- what is read of inputs, the first of which has this number, behind what was read of those before it
+-- the results of reading inputs from the number `k` on, after the results `done` of the inputs before them
 abbrev pub read_behind : Bool → ℕ → ℕ → List InputRead → List (FileWords × List ℕ) → Result (List InputRead) Refusal
 read_behind webm k held done files = and_then (inputs_from webm k held files) (λ rest. Ok (done ++ rest))
 
--- the same, where this is found of the first
+-- the same if `found` is the result of the first of them
 abbrev found_behind : Bool → ℕ → ℕ → List InputRead → List (FileWords × List ℕ) → Result InputRead Refusal → Result (List InputRead) Refusal
 found_behind webm k held done files found =
     and_then (and_then found (λ read. and_then (inputs_from webm (suc k) (counted held read.held) files) (λ reads. Ok (read ∷ reads)))) (λ rest. Ok (done ++ rest))
 
--- All inputs are read as these, and then those from the k-th on are.
+-- Reading all inputs is the same as appending the results from the number `k` on to `done`.
 abbrev pub GoesOn : MergeWords → List (List ℕ) → ℕ → ℕ → List InputRead → Type 0
 GoesOn words contents k held done = inputs_of words contents ≡ read_behind words.webm k held done (drop k (zip words.files contents))
 
--- what is found of the k-th
+-- The result for the input number `k`.
 found-at : (f : LiveFiles) (words : MergeWords) (list : List FileId) (contents : List (List ℕ)) (k held : ℕ) (done : List InputRead) (w : FileWords) (file : FileId) (found : Result InputRead Refusal) → length list ≡ length words.files → k < length list → w ≡ get_or words.files k w → AreTold f list contents → IfVisible (f.content (get_or list k file).n) (λ bytes. numbered k (input_of w words.webm held bytes) ≡ found) → GoesOn words contents k held done → inputs_of words contents ≡ found_behind words.webm k held done (drop (suc k) (zip words.files contents)) found
 found-at f words list contents k held done w file found each below is told finds goes =
     goes
@@ -106,13 +106,13 @@ found-at f words list contents k held done w file found each below is told finds
     ∙ ap (λ (each : FileWords). found_behind words.webm k held done (drop (suc k) (zip words.files contents)) (numbered k (input_of each words.webm held (get_or contents k [])))) (sym is)
     ∙ ap (found_behind words.webm k held done (drop (suc k) (zip words.files contents))) (finds (get_or contents k []) (told-at f.content list contents k file told below))
 
--- it refuses all, or isn't read for another reason
+-- A refusal of this input refuses the merge; or the input isn't read for another reason.
 pub refused-at : (f : LiveFiles) (words : MergeWords) (list : List FileId) (contents : List (List ℕ)) (k held : ℕ) (done : List InputRead) (w : FileWords) (file : FileId) (end : MergeEnd) → length list ≡ length words.files → k < length list → w ≡ get_or words.files k w → AreTold f list contents → IfVisible (f.content (get_or list k file).n) (λ bytes. ReadsAs {B = Input} read_in (numbered k (input_of w words.webm held bytes)) (Err end)) → GoesOn words contents k held done → ReadsAs {B = List Input} reads_in (inputs_of words contents) (Err end)
 refused-at f words list contents k held done w file (Refused why) each below is told finds goes =
     found-at f words list contents k held done w file (Err why) each below is told finds goes
 refused-at f words list contents k held done w file (Stopped stop) each below is told finds goes = tt
 
--- it is read
+-- The input is read.
 pub read-at : (f : LiveFiles) (words : MergeWords) (list : List FileId) (contents : List (List ℕ)) (k held : ℕ) (done : List InputRead) (w : FileWords) (file : FileId) (read : InputRead) → length list ≡ length words.files → k < length list → w ≡ get_or words.files k w → AreTold f list contents → IfVisible (f.content (get_or list k file).n) (λ bytes. numbered k (input_of w words.webm held bytes) ≡ Ok read) → GoesOn words contents k held done → GoesOn words contents (k + 1) (counted held read.held) (done ++ read ∷ [])
 read-at f words list contents k held done w file read each below is told finds goes =
     found-at f words list contents k held done w file (Ok read) each below is told finds goes
@@ -126,12 +126,12 @@ read-at f words list contents k held done w file read each below is told finds g
     one_more : (n : ℕ) → suc n ≡ n + 1
     one_more n = omega arith
 
--- all are read
+-- All inputs are read.
 pub read-end : (words : MergeWords) (contents : List (List ℕ)) (k held : ℕ) (done : List InputRead) → length words.files ≤ k → GoesOn words contents k held done → inputs_of words contents ≡ Ok done
 read-end words contents k held done most goes =
     goes ∙ ap (read_behind words.webm k held done) (zip-end words.files contents k most) ∙ ap Ok (append-nil done)
 
--- the inputs so far are those of the first files
+-- The inputs read up to now belong to the first files.
 pub files-more : (inputs : List Input) (input : Input) (list : List FileId) (k : ℕ) (file : FileId) → k < length list → input.file ≡ get_or list k file → map (λ (i : Input). i.file) inputs ≡ take k list → map (λ (i : Input). i.file) (inputs ++ input ∷ []) ≡ take (k + 1) list
 files-more inputs input list k file below is of =
     map-append (λ (i : Input). i.file) inputs (input ∷ [])
@@ -142,7 +142,7 @@ files-more inputs input list k file below is of =
     one_more : (n : ℕ) → n + 1 ≡ suc n
     one_more n = omega arith
 
--- none is later than a lane's link may be
+-- No append offset is greater than a link's may be.
 pub read-place : (file : FileId) (w : FileWords) (i : Input) → IsReadOf file w i → HasPlace i
 read-place file w i is = let none : append_offset (read_in i) ≡ 0 = ap (λ (o : Option ℕ). unwrap_or o 0) is.unmoved ∙ of w.appended in omega arith
   where
@@ -150,20 +150,20 @@ read-place file w i is = let none : append_offset (read_in i) ≡ 0 = ap (λ (o 
     of true = refl
     of false = refl
 
--- ---- how much is read
+-- ---- bytes read
 
--- what was read of one file more is paid by its length
+-- The length of one more file pays for its reads.
 pub pays-more : (f : LiveFiles) (list : List FileId) (k : ℕ) (file : FileId) (start mid now size : ℕ) → k < length list → size ≡ f.size (get_or list k file).n → mid ≤ start + 25 * files_size f (take k list) → now ≤ mid + 25 * size → now ≤ start + 25 * files_size f (take (k + 1) list)
 pays-more f list k file start mid now size below is before more =
     omega (arith, sum_by_more (λ (each : FileId). f.size each.n) list k file below)
 
--- the first files are no longer than all
+-- The first files together are at most as long as all.
 pub pays-all : (f : LiveFiles) (list : List FileId) (k start now : ℕ) → now ≤ start + 25 * files_size f (take k list) → now ≤ start + 25 * files_size f list
 pays-all f list k start now paid = omega (arith, sum_by-take-le (λ (each : FileId). f.size each.n) list k)
 
--- ---- inputs whose files are told
+-- ---- inputs whose files are visible to the proof
 
--- the contents of the files of inputs
+-- The contents of the files of inputs.
 contents-are : (f : LiveFiles) (inputs : List Input) → files.contents_of f.content (map (λ (i : Input). i.file) inputs) ≡ map (λ (i : Input). f.content i.file.n) inputs
 contents-are f [] = refl
 contents-are f (i ∷ is) = ap (λ (rest : List (Option (List ℕ))). f.content i.file.n ∷ rest) (contents-are f is)
@@ -192,29 +192,29 @@ each-told f inputs contents told = All-from_recursion (λ (i : Input). f.content
 pub told-contents : (f : LiveFiles) (ids : List FileId) (contents : List (List ℕ)) (inputs : List Input) → map (λ (i : Input). i.file) inputs ≡ ids → AreTold f ids contents → map (λ (i : Input). f.content i.file.n) inputs ≡ map Some contents
 told-contents f ids contents inputs of told = sym (contents-are f inputs) ∙ ap (files.contents_of f.content) of ∙ told
 
--- the inputs together are as long as their files
+-- The inputs together are as long as their files.
 pub inputs-size : (f : LiveFiles) (inputs : List Input) → sum_by (λ (i : Input). f.size i.file.n) inputs ≡ files_size f (map (λ (i : Input). i.file) inputs)
 inputs-size f [] = refl
 inputs-size f (i ∷ is) =
     sum_by-cons (λ (each : Input). f.size each.file.n) i is ∙ ap (λ (n : ℕ). f.size i.file.n + n) (inputs-size f is)
     ∙ sym (sum_by-cons (λ (file : FileId). f.size file.n) i.file (map (λ (each : Input). each.file) is))
 
--- ---- what the inputs come to
+-- ---- sources or refusal
 
--- the first of what may refuse a merge doesn't stand, or it does
+-- The first of the refusals doesn't hold, or it does.
 pub past : (why : Option Refusal) (behind : List (Option Refusal)) → why ≡ None → first_cause (why ∷ behind) ≡ first_cause behind
 past why behind is = ap (λ (o : Option Refusal). first_cause (o ∷ behind)) is
 
 pub stands : (why : Option Refusal) (behind : List (Option Refusal)) (cause : Refusal) → why ≡ Some cause → first_cause (why ∷ behind) ≡ Some cause
 stands why behind cause is = ap (λ (o : Option Refusal). first_cause (o ∷ behind)) is
 
--- the last of it
+-- The last refusal.
 last-cause : (why : Option Refusal) → first_cause (why ∷ []) ≡ why
 last-cause None = refl
 last-cause (Some cause) = refl
 
 module _ (words : MergeWords) (texts : TextFiles) (contents : List (List ℕ)) where
-  -- what may refuse them behind the inputs, the chapter file, the files of times, and those that are appended
+  -- the refusals after the appended inputs; below, after the timestamp files, the chapter file and the inputs
   abbrev behind_append : List (Option Refusal)
   behind_append = option_map Plan (plan_refusal words (reads_of (sources_in words texts contents))) ∷ []
 
@@ -233,12 +233,12 @@ module _ (words : MergeWords) (texts : TextFiles) (contents : List (List ℕ)) w
   all-read : (read : List Input) → inputs_of words contents ≡ Ok (reads_in read) → result_err (inputs_of words contents) ≡ None
   all-read read is = ap (λ (r : Result (List InputRead) Refusal). result_err r) is
 
-  -- an input wasn't read
+  -- An input wasn't read.
   pub input-ended : (end : MergeEnd) → ReadsEach words contents (Err end) → Prepares words texts contents (Err end)
   input-ended (Refused why) is = refused-for why (stands (result_err (inputs_of words contents)) behind_inputs why (ap (λ (r : Result (List InputRead) Refusal). result_err r) is))
   input-ended (Stopped stop) is = tt
 
-  -- the chapter file wasn't taken
+  -- The chapter file was refused.
   pub chapters-ended : (read : List Input) (end : MergeEnd) → inputs_of words contents ≡ Ok (reads_in read)
       → ReadsAs {B = List Input} (λ (list : List Input). list) (with_file with_tree words.webm texts.chapters read) (Err end) → Prepares words texts contents (Err end)
   chapters-ended read (Refused why) is made =
@@ -246,7 +246,7 @@ module _ (words : MergeWords) (texts : TextFiles) (contents : List (List ℕ)) w
       ∙ stands (chapters_refusal texts.chapters) behind_chapters why (stood (chapters_refusal texts.chapters) (chaptered with_tree words.webm texts.chapters read) why made))
   chapters-ended read (Stopped stop) is made = tt
 
-  -- the inputs have the Chapters of the chapter file
+  -- The inputs have the Chapters of the chapter file.
   module _ (read headed : List Input) (is : inputs_of words contents ≡ Ok (reads_in read)) (made : with_file with_tree words.webm texts.chapters read ≡ Ok headed) where
     headed-is : (chapters_refusal texts.chapters ≡ None) × (chaptered with_tree words.webm texts.chapters read ≡ headed)
     headed-is = unrefused (chapters_refusal texts.chapters) (chaptered with_tree words.webm texts.chapters read) headed made
@@ -254,13 +254,13 @@ module _ (words : MergeWords) (texts : TextFiles) (contents : List (List ℕ)) w
     past-chapters : first_cause (refusals_read words texts contents) ≡ first_cause behind_chapters
     past-chapters = past (result_err (inputs_of words contents)) behind_inputs (all-read read is) ∙ past (chapters_refusal texts.chapters) behind_chapters headed-is.0
 
-    -- a file of times wasn't taken
+    -- A timestamp file was refused.
     pub times-ended : (end : MergeEnd) → ReadsAs {B = List Input} reads_in (with_times texts.times (reads_in headed)) (Err end) → Prepares words texts contents (Err end)
     times-ended (Refused why) given =
         refused-for why (past-chapters ∙ stands (times_refusal texts.times) behind_times why (stood (times_refusal texts.times) (timed_from texts.times 0 (reads_in headed)) why given))
     times-ended (Stopped stop) given = tt
 
-    -- and the times of the files of times
+    -- The inputs also have the timestamps of the timestamp files.
     module _ (timed : List Input) (given : with_times texts.times (reads_in headed) ≡ Ok (reads_in timed)) where
       timed-is : (times_refusal texts.times ≡ None) × (timed_from texts.times 0 (reads_in headed) ≡ reads_in timed)
       timed-is = unrefused (times_refusal texts.times) (timed_from texts.times 0 (reads_in headed)) (reads_in timed) given
@@ -274,13 +274,13 @@ module _ (words : MergeWords) (texts : TextFiles) (contents : List (List ℕ)) w
       past-times : first_cause (refusals_read words texts contents) ≡ first_cause behind_times
       past-times = past-chapters ∙ past (times_refusal texts.times) behind_times timed-is.0
 
-      -- an appended one can't go on
+      -- An appended input can't continue the output tracks.
       pub differs-refused : (d : AppendDiffers) → append_refusal (reads_in timed) ≡ Some d → sources_unless [] words texts contents ≡ Err (Differs d)
       differs-refused d differs =
           refused-for (Differs d) (past-times
           ∙ stands (option_map Differs (append_refusal (reads_with words texts contents))) behind_append (Differs d) (ap (option_map Differs) (ap append_refusal reads-are ∙ differs)))
 
-      -- they were set in place
+      -- The inputs have their append offsets.
       module _ (f now : LiveFiles) (ids : List FileId) (placed : List Input) (standing : now ≡ f) (written : CanBeWritten texts.chapters) (are : AreInputsOf now ids read) (but : IsSameBut headed timed)
           (same : map (λ (i : Input). i.file) placed ≡ map (λ (i : Input). i.file) timed) (told : AreTold f ids contents) (none : append_refusal (reads_in timed) ≡ None) (stand : StandInPlace now timed placed) where
         of : map (λ (i : Input). i.file) timed ≡ ids
@@ -305,14 +305,14 @@ module _ (words : MergeWords) (texts : TextFiles) (contents : List (List ℕ)) w
             ∙ last-cause (option_map Plan (plan_refusal words (reads_of (sources_in words texts contents)))) ∙ ap (option_map Plan) why)
             ∙ ap (unless (option_map Plan o)) sources-are
 
-        -- they weren't planned
+        -- The inputs weren't planned.
         pub plan-ended : (end : PlanEnd) → Plans words placed (Err end) → Prepares words texts contents (Err (unplanned end))
         plan-ended (plan_end.Refused why) is = plan-found (Some why) is
         plan-ended plan_end.Memory is = tt
 
--- ---- how much is read before the blocks
+-- ---- bytes read before the blocks
 
--- inputs are read, and then walked over
+-- Inputs are read, and then walked to their ends.
 pub pays-both : (f now : LiveFiles) (ids : List FileId) (webm : Bool) (c : ChapterFile) (read headed timed : List Input) (start mid end : ℕ) → now ≡ f → CanBeWritten c → AreInputsOf now ids read → with_file with_tree webm c read ≡ Ok headed → IsSameBut headed timed
     → mid ≤ start + 25 * files_size f ids → end ≤ mid + 2 * walked_length now timed → end ≤ start + 27 * files_size f ids
 pays-both f now ids webm c read headed timed start mid end standing written are made same paid walked =

@@ -1,4 +1,4 @@
--- What is told of a summary is what a merge of its sources comes to.
+-- The warnings by a summary are the warnings of a merge of its sources.
 use Rattle.std.proofs.Common.{◌≡◌, ◌≢◌, ℕ, zero, suc, ◌+◌, ◌<◌, ◌≤◌, ◌==◌, nat_lt, max, Bool, true, false, ◌||◌, if◌then◌else◌, List, [], ◌∷◌, ◌++◌, length, map, filter, flat_map, Option, Some, None, refl, sym, ◌∙◌, ap, subst, arith, append-nil}
 use Rattle.std.specs.List.{All, enumerate_from, find, list_any, range_with_len, zip}
 use Rattle.std.specs.Option.{option_map_or, option_or}
@@ -42,9 +42,9 @@ is-same n k is = grind (arith, nat_tests)
 is-other : (n k : ℕ) → (n == k) ≡ false → n ≢ k
 is-other n k is = grind (arith, nat_tests)
 
--- ---- the damages of the inputs
+-- ---- damage of the inputs
 
--- links, each with its input's number and the damages of its file
+-- the links, each with its input's number and the damage of its file
 abbrev Tagged : Type 0
 Tagged = List (ℕ × List Damage)
 
@@ -52,19 +52,19 @@ links-are : (f : LiveFiles) (lanes : List PlannedLane) → flat_map (link_damage
 links-are f [] = refl
 links-are f (l ∷ lanes) = ap (λ (rest : Tagged). zip l.inputs (lane_damages (map (given_in f) l.spec.links)) ++ rest) (links-are f lanes)
 
--- What is known of the lanes of a merge of these sources.
+-- `lanes` are the planned output tracks of a merge of `sources`.
 pub record AreLanesFor (f : LiveFiles) (sources : List Source) (lanes : List PlannedLane) : Type 0 where
   pub numbers : map (λ (l : PlannedLane). l.inputs) lanes ≡ inputs_given 0 (reads_of sources)
   pub given : map (map (given_in f)) (links_of lanes) ≡ lanes_given sources
 
--- the damages of an input are those of its source
+-- The damage of an input is the damage of its source.
 pub damages-are : (f : LiveFiles) (sources : List Source) (lanes : List PlannedLane) (k : ℕ) → AreLanesFor f sources lanes → damages_of f lanes k ≡ damages_met sources k
 damages-are f sources lanes k are =
     ap (first_met k) (links-are f lanes)
     ∙ ap (λ (numbers : List (List ℕ)). first_met k (links_met numbers (map (map (given_in f)) (links_of lanes)))) are.numbers
     ∙ ap (λ (given : List (List Given)). first_met k (links_met (inputs_given 0 (reads_of sources)) given)) are.given
 
--- no link has the number of a source that isn't there
+-- No link has the number of a source that doesn't exist.
 zip-none : (ns : List ℕ) (found : List (List Damage)) (k : ℕ) → All (λ m. m < k) ns → find (λ (link : ℕ × List Damage). link.0 == k) (zip ns found) ≡ None
 zip-none [] found k below = refl
 zip-none (n ∷ ns) [] k below = refl
@@ -84,14 +84,14 @@ met-none (ns ∷ numbers) (gs ∷ given) k below =
 abbrev first_of : Option (ℕ × List Damage) → List Damage
 first_of o = option_map_or (λ (link : ℕ × List Damage). link.1) o []
 
--- so it has no damages
+-- Therefore it has no damage.
 past-source : (sources : List Source) (k : ℕ) → length sources ≤ k → damages_met sources k ≡ []
 past-source sources k past =
     let many : length (reads_of sources) ≡ length sources = length-map sources (λ (s : Source). s.1) in
     let below : All (All (λ m. m < k)) (inputs_given 0 (reads_of sources)) = numbers-below (λ (each : ℕ × InputRead). is_appended each.1) numbers_of (λ each. All-map (λ m. m ≡ each.0) (λ (t : TakenTrack). each.0) each.1.taken (λ n d inside. refl)) 0 k (reads_of sources) (omega arith) in
     ap first_of (met-none (inputs_given 0 (reads_of sources)) (lanes_given sources) k below)
 
--- ---- no lane has a link of an input of a higher number
+-- ---- no output track has a link with a greater input number
 
 count-append : (ns ms : List ℕ) → count_to (ns ++ ms) ≡ max (count_to ns) (count_to ms)
 count-append [] ms = omega arith
@@ -119,9 +119,9 @@ past-damages f lanes k past =
     ap (first_met k) (links-are f lanes)
     ∙ ap first_of (met-none (map (λ (l : PlannedLane). l.inputs) lanes) (map (map (given_in f)) (links_of lanes)) k (lanes-below lanes k past))
 
--- ---- what is told of one input
+-- ---- warnings of one input
 
--- What is told of an input has its number.
+-- Each item of the list for `k` has the key `k`.
 record Keyed {A : Type 0} (key : A → ℕ) (list : ℕ → List A) : Type 0 where
   same : (k : ℕ) → filter (λ (x : A). key x == k) (list k) ≡ list k
   other : (i k : ℕ) → i ≢ k → filter (λ (x : A). key x == k) (list i) ≡ []
@@ -186,7 +186,7 @@ more-keyed told = record {
   other = λ i k apart. more-other k (record { input = i; count = (told i).more }) ((told i).more == 0) apart;
 }
 
--- A summary tells these damages of each input.
+-- The summary `s` lists the damage `found` of each of `count` inputs.
 pub record Tells (found : ℕ → List Damage) (count : ℕ) (s : Summary) : Type 0 where
   pub damages : s.damages ≡ flat_map (λ input. first_damages input (told_damages (found input))) (range_with_len 0 count)
   pub more : s.more ≡ flat_map (λ input. more_damages input (told_damages (found input))) (range_with_len 0 count)
@@ -210,7 +210,7 @@ more-lines : (name : List ℕ) (m : MoreDamage) (none : Bool) → map (λ (m : M
 more-lines name m true = refl
 more-lines name m false = refl
 
--- the warnings of an input
+-- The warnings of an input.
 input-told : (found : ℕ → List Damage) (count : ℕ) (s : Summary) → Tells found count s → (k : ℕ) (name : List ℕ) → input_warnings s k name ≡ damages_warned name (found k)
 input-told found count s tells k name =
     let told = told_damages (found k) in
@@ -235,7 +235,7 @@ all-warnings s found sources told are n (file ∷ files) =
 pub warnings-told : (found : ℕ → List Damage) (count : ℕ) (s : Summary) (files : List FileWords) (sources : List Source) → Tells found count s → ((k : ℕ) → found k ≡ damages_met sources k) → warnings_from s 0 files ≡ flat_map (warnings sources) (enumerate_from 0 files)
 warnings-told found count s files sources tells are = all-warnings s found sources (input-told found count s tells) are 0 files
 
--- ---- whether there are any
+-- ---- whether there are warnings
 
 none-is : {A : Type 0} (xs : List A) → is_some_of xs ≡ false → xs ≡ []
 none-is [] none = refl
@@ -245,7 +245,7 @@ first-none : (k : ℕ) (xs : List Damage) → first_damages k (told_damages xs) 
 first-none k [] none = refl
 first-none k (x ∷ xs) none = absurd (cc)
 
--- no source has one
+-- No source has damage.
 none-any : (sources : List Source) → ((k : ℕ) → damages_met sources k ≡ []) → (n count : ℕ) → list_any (λ k. is_some_of (damages_met sources k)) (range_with_len n count) ≡ false
 none-any sources none n zero = refl
 none-any sources none n (suc count) =

@@ -1,4 +1,4 @@
--- The lines of a merge, one item after the other.
+-- The lines of a merge, one item at a time.
 use Rattle.std.proofs.Common.{◌≡◌, ℕ, suc, ◌+◌, ◌<◌, ◌≤◌, Bool, true, false, ◌||◌, if◌then◌else◌, List, [], ◌∷◌, ◌++◌, append_assoc, length, drop, get_or, map, filter, flat_map, refl, sym, ◌∙◌, ap, subst, arith}
 use Rattle.std.specs.List.{list_any, zip}
 use Rattle.std.proofs.lemmas.List.{drop_all}
@@ -21,9 +21,9 @@ pub use Rattle.lemmas.proofs.PlainLemmas.{drop-get_or as drop-at}
 
 -- ---- a walk over a list
 
--- ---- a line for each item that is kept
+-- ---- a line for each item that passes a test
 
--- the next item's line is said
+-- The line of the next item is printed.
 next-said : {A : Type 0} (line : A → List ℕ) (kept : A → Bool) (old now : ReportLines) (all : List (List ℕ)) (xs : List A) (k : ℕ) (x : A) → k < length xs → x ≡ get_or xs k x → kept x ≡ true → SaysUpTo old now all (map line (filter kept (drop k xs))) → SaysUpTo old now all (line x ∷ map line (filter kept (drop (k + 1) xs)))
 next-said {A = A} line kept old now all xs k x below is keeps way =
     subst (SaysUpTo old now all)
@@ -35,13 +35,13 @@ kept-said line kept old mid new all xs k x below is keeps way said =
     SaysUpTo-more old mid new all (line x ∷ []) (map line (filter kept (drop (k + 1) xs)))
     (next-said line kept old mid all xs k x below is keeps way) said
 
--- or it couldn't be said
+-- The line couldn't be printed.
 pub kept-stops : {A : Type 0} (line : A → List ℕ) (kept : A → Bool) (old mid new : ReportLines) (all : List (List ℕ)) (xs : List A) (k : ℕ) (x : A) → k < length xs → x ≡ get_or xs k x → kept x ≡ true → SaysUpTo old mid all (map line (filter kept (drop k xs))) → SaysPart mid new (line x ∷ []) → SaysPart old new all
 kept-stops line kept old mid new all xs k x below is keeps way part =
     SaysUpTo-stops old mid new all (line x ∷ []) (map line (filter kept (drop (k + 1) xs)))
     (next-said line kept old mid all xs k x below is keeps way) part
 
--- some item is kept
+-- Some item passes the test.
 pub is_some-kept : {A : Type 0} (kept : A → Bool) (xs : List A) → list_any kept xs ≡ is_some_of (filter kept xs)
 is_some-kept kept [] = refl
 is_some-kept {A = A} kept (x ∷ xs) = step (kept x) (is_some-kept kept xs)
@@ -50,9 +50,9 @@ is_some-kept {A = A} kept (x ∷ xs) = step (kept x) (is_some-kept kept xs)
     step true rest = refl
     step false rest = rest
 
--- ---- the files, each with what was read of it
+-- ---- files, each with the result of reading it
 
--- from a place on
+-- the files from `k` on with the results of reading them
 pub files_left : List FileWords → List Input → ℕ → List (FileWords × InputRead)
 files_left files inputs k = zip (drop k files) (reads_in (drop k inputs))
 
@@ -73,7 +73,7 @@ files_left-none files inputs k past = ap (λ (fs : List FileWords). zip fs (read
 pub has_absent-all : (words : MergeWords) (inputs : List Input) → has_absent words (reads_in inputs) ≡ list_any (λ f. is_some_of (absent f)) (files_left words.files inputs 0)
 has_absent-all words inputs = ap (list_any (λ f. is_some_of (absent f))) (files_left-all words.files inputs)
 
--- the next one does, or one of those behind it
+-- The next file lacks a track, or a later one does.
 has_absent-next : (any : Bool) (files : List FileWords) (inputs : List Input) (k : ℕ) (file : FileWords) (input : Input) → k < length files → k < length inputs → file ≡ get_or files k file → input ≡ get_or inputs k input
     → any ≡ list_any (λ f. is_some_of (absent f)) (files_left files inputs k) → any ≡ (is_some_of (absent_of file input.count) || list_any (λ f. is_some_of (absent f)) (files_left files inputs (k + 1)))
 has_absent-next any files inputs k file input here there is of so =
@@ -94,7 +94,7 @@ has_absent-passed any files inputs k file input here there is of so none =
 pub has_absent-none : (any : Bool) (files : List FileWords) (inputs : List Input) (k : ℕ) → length files ≤ k → any ≡ list_any (λ f. is_some_of (absent f)) (files_left files inputs k) → false ≡ any
 has_absent-none any files inputs k past so = sym (so ∙ ap (list_any (λ f. is_some_of (absent f))) (files_left-none files inputs k past))
 
--- ---- the lines of the tracks that the files lack
+-- ---- lines of absent tracks
 
 pub absent-begins : (old : ReportLines) (words : MergeWords) (inputs : List Input) → SaysUpTo old old (lines_before words (reads_in inputs)) (flat_map absent_lines (files_left words.files inputs 0))
 absent-begins old words inputs =
@@ -110,9 +110,9 @@ pub absent-ends : (old new : ReportLines) (all : List (List ℕ)) (files : List 
 absent-ends old new all files inputs k past way =
     SaysUpTo-ends old new all (subst (SaysUpTo old new all) (ap (flat_map absent_lines) (files_left-none files inputs k past)) way)
 
--- ---- the warnings of the inputs
+-- ---- warnings of the inputs
 
--- those of the next input
+-- The warnings of the next input.
 pub warnings-next : (old now : ReportLines) (all : List (List ℕ)) (s : Summary) (files : List FileWords) (k : ℕ) (file : FileWords) (name : List ℕ) (damages : List InputDamage) (more : List MoreDamage) → k < length files → file ≡ get_or files k file
     → name ≡ file.name → damages ≡ s.damages → more ≡ s.more → SaysUpTo old now all (warnings_from s k (drop k files))
     → SaysUpTo old now all (map (λ (d : InputDamage). warning_line name d.damage) (damages_at k damages) ++ (map (λ (m : MoreDamage). more_damages_line name m.count) (more_at k more) ++ warnings_from s (k + 1) (drop (k + 1) files)))
@@ -137,7 +137,7 @@ warnings-next old now all s files k file name damages more below is called of ot
     more_lines : List ℕ → List MoreDamage → List (List ℕ)
     more_lines ns ms = map (λ (m : MoreDamage). more_damages_line ns m.count) (more_at k ms)
 
--- at last all are said
+-- In the end all warnings are printed.
 pub warnings-end : (old new : ReportLines) (all : List (List ℕ)) (s : Summary) (files : List FileWords) (k : ℕ) → length files ≤ k → SaysUpTo old new all (warnings_from s k (drop k files)) → new ≡ with_lines old all
 warnings-end old new all s files k past way =
     SaysUpTo-ends old new all (subst (SaysUpTo old new all) (ap (warnings_from s k) (drop_all k files past)) way)

@@ -1,4 +1,4 @@
--- Inputs that are given the times of files.
+-- Inputs with the timestamps of timestamp files.
 use Rattle.std.proofs.Common.{◌≡◌, ℕ, suc, ◌+◌, Bool, true, false, if◌then◌else◌, List, [], ◌∷◌, ◌++◌, ◌<◌, length, drop, get_or, map, flat_map, Option, Some, None, Ok, Err, refl, sym, ◌∙◌, ap, ap₂, subst, add-one, append_assoc, drop-cons}
 use Rattle.std.specs.Prelude.{◌==◌}
 use Rattle.std.specs.List.{All}
@@ -24,9 +24,9 @@ use Rattle.mkv_merge.specs.declared.refusal.Refusal.{Refusal}
 use Rattle.mkv_merge.specs.declared.texts.SharedTimes.{SharedTimes}
 use Rattle.mkv_merge.proofs.ChaptersLemmas.{chaptered-inputs, unrefused}
 
--- ---- they are the inputs of the same files
+-- ---- inputs of the same files
 
--- an input is one whatever its times are
+-- An input stays valid with other timestamps.
 own-times : (f : LiveFiles) (i : Input) → IsInput f i → IsInput f (untimed i)
 own-times f i is = record {
   live = is.live;
@@ -72,7 +72,7 @@ same-places (i ∷ is) (n ∷ ns) same all =
     let rest : IsSameBut is ns = cc in
     All-cons HasPlace n ns (subst HasPlace (sym here) (All-head HasPlace i is all)) (same-places is ns rest (All-tail HasPlace i is all))
 
--- with what text files give
+-- The inputs with the text files applied are inputs of the same files.
 pub inputs-timed : (f : LiveFiles) (list : List FileId) (webm : Bool) (c : ChapterFile) (read headed timed : List Input) → CanBeWritten c → AreInputsOf f list read → with_file with_tree webm c read ≡ Ok headed → IsSameBut headed timed
     → AreInputsOf f list timed
 inputs-timed f list webm c read headed timed written are made same =
@@ -83,9 +83,9 @@ inputs-timed f list webm c read headed timed written are made same =
       places = same-places headed timed same head.places;
     }
 
--- ---- what files list
+-- ---- timestamps of files
 
--- of one file
+-- The timestamps of one file.
 listed-one : (input : ℕ) (f : TimesFile) (rest : List (ℕ × Listing)) → flat_map (at_input input) (map (given_listed f.named.input) (given_listing f.named.id f.given)) ++ rest
     ≡ (if f.named.input == input then given_listing f.named.id f.given else []) ++ rest
 listed-one input f rest = by_given f.given
@@ -125,7 +125,7 @@ shared-timed shared files input (i ∷ is) are =
     (ap (λ (times : List (ℕ × Listing)). with_listings times i) (shared-listed input shared ∙ ap (flat_map (at_input input)) are ∙ listed-at input files))
     (shared-timed shared files (suc input) is are)
 
--- where nothing refuses the files
+-- The inputs have the timestamps of the files if none is refused.
 pub times-given : (files : List TimesFile) (shared : List SharedTimes) (inputs new : List Input) → times_refusal files ≡ None → map listed_of shared ≡ listed_in files → reads_in new ≡ shared_from shared 0 (reads_in inputs)
     → with_times files (reads_in inputs) ≡ Ok (reads_in new)
 times-given files shared inputs new none are made =
@@ -135,9 +135,9 @@ times-given files shared inputs new none are made =
 pub times-refused : (files : List TimesFile) (reads : List InputRead) (why : Refusal) → times_refusal files ≡ Some why → with_times files reads ≡ Err why
 times-refused files reads why is = ap (λ (o : Option Refusal). unless o (timed_from files 0 reads)) is
 
--- ---- one after the other
+-- ---- one at a time
 
--- what one file more lists
+-- The timestamps of one more file.
 pub listed-more : (before after : List SharedTimes) (f : TimesFile) (left fs all : List TimesFile) → left ≡ f ∷ fs → map listed_of before ++ listed_in left ≡ listed_in all → map listed_of after ≡ map listed_of before ++ listed_by f
     → map listed_of after ++ listed_in fs ≡ listed_in all
 listed-more before after f left fs all is sofar more =
@@ -146,7 +146,7 @@ listed-more before after f left fs all is sofar more =
     ∙ ap (λ (files : List TimesFile). map listed_of before ++ listed_in files) (sym is)
     ∙ sofar
 
--- one that was shared more
+-- The timestamps of one more shared item.
 pub shared-more : (input : ℕ) (shared : List SharedTimes) (k : ℕ) (s : SharedTimes) (before after : List (ℕ × Listing)) → k < length shared → s ≡ get_or shared k s → before ++ shared_at input (drop k shared) ≡ shared_at input shared
     → after ≡ before ++ at_input input (listed_of s) → after ++ shared_at input (drop (k + 1) shared) ≡ shared_at input shared
 shared-more input shared k s before after inside is sofar more =
@@ -156,7 +156,7 @@ shared-more input shared k s before after inside is sofar more =
     ∙ ap (λ (rest : List SharedTimes). before ++ shared_at input rest) (sym one)
     ∙ sofar
 
--- one input more
+-- One more input has its timestamps.
 pub timed-more : (shared : List SharedTimes) (n : ℕ) (before after : List Input) (i j : Input) (left is all : List Input) → left ≡ i ∷ is → reads_in before ++ shared_from shared n (reads_in left) ≡ shared_from shared 0 (reads_in all)
     → read_in j ≡ with_listings (shared_at n shared) (read_in i) → after ≡ before ++ j ∷ [] → reads_in after ++ shared_from shared (n + 1) (reads_in is) ≡ shared_from shared 0 (reads_in all)
 timed-more shared n before after i j left is all front sofar made more =

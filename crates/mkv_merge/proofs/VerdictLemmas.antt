@@ -1,4 +1,4 @@
--- A merge comes to its verdict.
+-- A merge ends with its result.
 use Rattle.std.proofs.Common.{◌≡◌, ℕ, Bool, ◌||◌, All, List, ◌++◌, length, map, Option, Some, Result, Ok, Err, IfOk, inl, refl, sym, ◌∙◌, ap, ap₂, subst}
 use Rattle.std.specs.List.{enumerate_from, flat_map}
 use Rattle.std.proofs.lemmas.List.{length-map}
@@ -37,12 +37,12 @@ use Rattle.mkv_merge.proofs.OutputsLemmas.{outputs-are}
 use Rattle.mkv_merge.proofs.SummaryLemmas.{Tells, damages-are, past-damages, some-told, warnings-told}
 use Rattle.mkv_merge.proofs.WritingLemmas.{IsMergeOf, lanes-for, reads-are}
 
--- ---- the summary is that of the sources
+-- ---- the summary describes the sources
 
 pub tells-is : (f : LiveFiles) (p : MergePlan) (s : Summary) → IsSummary f p s → Tells (damages_of f p.lanes) (count_to (flat_map (λ (l : PlannedLane). l.inputs) p.lanes)) s
 tells-is f p s is = record { damages = is.damages; more = is.more; past = past-damages f p.lanes }
 
--- as many outputs
+-- The summary counts the outputs of the sources.
 count-told : (f : LiveFiles) (words : MergeWords) (inputs : List Input) (p : MergePlan) (sources : List Source) (s : Summary) → IsMergeOf f words inputs p sources → IsSummary f p s → length s.outputs ≡ length (outputs_of words sources)
 count-told f words inputs p sources s is sums = ap (λ (ws : List Written). length ws) (sums.outputs ∙ ap (map written_of) (outputs-are f words inputs p sources is)) ∙ length-map (outputs_of words sources) written_of
 
@@ -60,9 +60,9 @@ warned-told f words inputs p sources s is sums absent =
     ap (λ (some : Bool). absent || some)
     (some-told (damages_of f p.lanes) _ s sources (tells-is f p s sums) (λ k. damages-are f sources p.lanes k (lanes-for f words inputs p sources is)))
 
--- ---- the verdict
+-- ---- result
 
--- a warning of a track that isn't there couldn't be said
+-- The warning of an absent track couldn't be printed.
 pub merge-begun : (old new : Seen) (why : CommandEnd) (f : LiveFiles) (words : MergeWords) (inputs : List Input) (p : MergePlan) (sources : List Source) → IsMergeOf f words inputs p sources → SaysPart old.lines new.lines (lines_before words (reads_in inputs)) → new.names ≡ old.names → Reaches old new (Err why) (merged_verdict words sources)
 merge-begun old new why f words inputs p sources is part names =
     inl (
@@ -70,7 +70,7 @@ merge-begun old new why f words inputs p sources is part names =
       Leaves-same old.names new.names (in_turn (drafts_of (outputs_of words sources))) names,
     )
 
--- all that isn't there was warned of, and an output couldn't be written
+-- All absent tracks were warned of, and an output couldn't be written.
 pub merge-left : (old new : Seen) (why : CommandEnd) (f : LiveFiles) (words : MergeWords) (inputs : List Input) (p : MergePlan) (sources : List Source) → IsMergeOf f words inputs p sources → new.lines ≡ with_lines old.lines (lines_before words (reads_in inputs)) → AreWrittenInOrder old.names new.names (drafts_of (outputs_in f p)) → Reaches old new (Err why) (merged_verdict words sources)
 merge-left old new why f words inputs p sources is said stands =
     inl (
@@ -78,11 +78,11 @@ merge-left old new why f words inputs p sources is said stands =
       subst (λ (os : List PlannedOutput). AreWrittenInOrder old.names new.names (drafts_of os)) (outputs-are f words inputs p sources is) stands,
     )
 
--- the outputs stand whole
+-- The outputs are complete.
 all-whole : (old new : Names) (outputs : List PlannedOutput) → WritesAll old new outputs → new ≡ with_outputs old (outputs_of_drafts (drafts_of outputs))
 all-whole old new outputs writes = writes.names ∙ sym (ap (with_outputs old) writes.become)
 
--- none of them is longer than a file may be
+-- No output is longer than a file may be.
 pub outputs-short : (old new : Names) (world : List ℕ → Option (List ℕ)) (r : Result Status CommandEnd) (f : LiveFiles) (words : MergeWords) (inputs : List Input) (p : MergePlan) (sources : List Source) → IsMergeOf f words inputs p sources → old ≡ Some world → WritesAll old new (outputs_in f p) → IfOk r (λ (s : Status). AreShort words sources)
 outputs-short old new world r f words inputs p sources is told writes = by_end r
   where
@@ -93,7 +93,7 @@ outputs-short old new world r f words inputs p sources is told writes = by_end r
     by_end (Ok s) = short
     by_end (Err why) = tt
 
--- and the rest is told
+-- The remaining lines are printed.
 pub merge-told : (old new : Seen) (mid : ReportLines) (r : Result Status CommandEnd) (f : LiveFiles) (words : MergeWords) (inputs : List Input) (p : MergePlan) (sources : List Source) (s : Summary) (absent : Bool) → IsMergeOf f words inputs p sources → IsSummary f p s
     → absent ≡ has_absent words (reads_in inputs) → mid ≡ with_lines old.lines (lines_before words (reads_in inputs))
     → Says mid new.lines (map (λ (w : Written). wrote_blocks_line w.name w.blocks) s.outputs ++ warnings_from s 0 words.files ++ uuid_lines words (length s.outputs)) r → IfOk r (λ (status : Status). status ≡ warned_if (is_warned absent s || has_other_count words (length s.outputs)))

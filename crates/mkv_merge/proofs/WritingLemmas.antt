@@ -1,4 +1,4 @@
--- A merge that was prepared can be written, and is that of its sources.
+-- A prepared merge can be written, and its plan is made from its sources.
 use Rattle.std.proofs.Common.{◌≡◌, ◌≢◌, ℕ, ◌+◌, ◌*◌, ◌<◌, ◌≤◌, Bool, true, false, ◌||◌, List, [], ◌∷◌, length, map, get_or, Option, Some, None, Result, Ok, Err, IfOk, IfSome, refl, sym, ◌∙◌, ap, ap₂, subst, arith}
 use Rattle.std.specs.List.{All, sum_by, zip}
 use Rattle.std.proofs.Math.ListN.{get_or-map}
@@ -76,35 +76,35 @@ use Rattle.mkv_outputs.specs.Sinks.{holders_of}
 use Rattle.mkv_merge.specs.Read.{IsApartMerge, first_written, is_split}
 use Rattle.mkv_merge.proofs.NamesLemmas.{unwritten-held}
 
--- ---- what is asked of the plan
+-- ---- conditions on the plan
 
--- a fact of each of what is made of items
+-- A fact about each image of a list holds for each item.
 All-unmap : {A B : Type 0} (P : B → Type 0) (f : A → B) (xs : List A) → All P (map f xs) → All (λ (x : A). P (f x)) xs
 All-unmap P f xs all = λ k d below. subst P (get_or-map f xs k d) (all k (f d) (omega (arith, length-map xs f)))
 
--- as many inputs as words of files
+-- Inputs and files on the command line have the same count.
 pub many-inputs : {S : Type 0} (r : Ghosts S) (f : writing.Ghosts S) (files : S) (words : MergeWords) (ids : List FileId) (inputs : List Input) → AreInputs r f (file_names words.files) files ids → map (λ (i : Input). i.file) inputs ≡ ids → length inputs ≡ length words.files
 many-inputs r f files words ids inputs opened of =
     sym (length-map inputs (λ (i : Input). i.file)) ∙ ap length of
     ∙ sym (length-map ids (λ (file : FileId). f.holder files file.n)) ∙ ap length opened.under
     ∙ length-map words.files (λ (w : FileWords). w.name)
 
--- the numbers of the inputs are small
+-- The numbers of the inputs are small.
 numbers-small : (reads : List InputRead) → length reads ≤ MAX_INPUTS → All (All (λ (i : ℕ). i < MAX_INPUTS)) (inputs_given 0 reads)
 numbers-small reads few =
     numbers-below (λ (each : ℕ × InputRead). is_appended each.1) numbers_of (λ each. All-map (λ m. m ≡ each.0) (λ (t : TakenTrack). each.0) each.1.taken (λ k d below. refl)) 0 MAX_INPUTS reads (omega arith)
 
--- a record has its ID, where it is there
+-- A record has its ID, if it is present.
 pub record-id : (own : ℕ) (n : Option Node) → IfSome n (IsRecord own) → IfSome n (λ (m : Node). id_of m ≡ own)
 record-id own None is = tt
 record-id own (Some m) is = is.id
 
--- what stands in the octets that an outline counts stands in its file
+-- A place within the bytes that an outline counts is within its file.
 inside-file : (size end : ℕ) (blocks : Blocks) → CanBeGiven size blocks → end ≤ total_in blocks → end ≤ size
 inside-file size end (held_by.Clusters outline scale) can within = let same : size ≡ outline.value.total = can.size in omega arith
 inside-file size end (held_by.Entries entries) can within = omega arith
 
--- an attached file stands in the live file of an input, which wasn't opened under the name of the first output
+-- An attached file is in the live file of an input, which wasn't opened under the name of the first output.
 file-good : {S : Type 0} (r : Ghosts S) (f : writing.Ghosts S) (files : S) (split : Bool) (output : List ℕ) (inputs : List Input) (a : Attachment) → All (IsInput (live_files r files)) inputs → All (λ (i : Input). may_be_written split output (f.holder files i.file.n) ≡ false) inputs
     → IsAttached a → StandsInInput inputs a → CanAttach r f files (name_of split output 1) a
 file-good r f files split output inputs a good others entry is =
@@ -121,12 +121,12 @@ file-good r f files split output inputs a good others entry is =
       apart = subst (λ (file : FileId). f.holder files file.n ≢ name_of split output 1) (sym is.same) (λ same. let may : may_be_written split output (f.holder files is.input.file.n) ≡ true = ap (may_be_written split output) same ∙ first in absurd (cc (may, other)));
     }
 
--- no file of a link was opened under a name that may be written
+-- No file of a link was opened under a name that may be written.
 unwritten : (holder : ℕ → List ℕ) (split : Bool) (output : List ℕ) (link : Link) → IsSparedLink (λ file. may_be_written split output (holder file)) link → IsUnwrittenLink holder split output link
 unwritten holder split output (Track t) is = is
 unwritten holder split output (Entries e) is = tt
 
--- a plan is split where the words are
+-- A plan is split if and only if the command line splits.
 split-as : (words : Option SplitWords) (starts : List ℕ) → (is_timed (spec_of words starts) || is_some (size_of words)) ≡ is_some words
 split-as None starts = refl
 split-as (Some (split_words.Duration by)) starts = refl
@@ -140,7 +140,7 @@ pub plan-split : (words : MergeWords) (inputs : List Input) (p : MergePlan) → 
 plan-split words inputs p plan =
     ap₂ (λ (spec : SplitSpec) (size : Option ℕ). is_timed spec || is_some size) plan.split plan.size ∙ split-as words.split (starts_in (chapters_of (map read_in inputs)))
 
--- a load at which parts end has 64 bits, and then they end at no times
+-- A load at which parts end has 64 bits, and then no part ends at a time.
 limit-of : (words : Option SplitWords) (starts : List ℕ) → IfSome words IsSoundSplit → IfSome (size_of words) (IsLimit (spec_of words starts))
 limit-of None starts sound = tt
 limit-of (Some (split_words.Duration by)) starts sound = tt
@@ -150,7 +150,7 @@ limit-of (Some split_words.AllChapters) starts sound = tt
 limit-of (Some (split_words.Chapters numbers)) starts sound = tt
 limit-of (Some (split_words.Size limit)) starts sound = record { fits = omega (arith, sound.most); whole = refl }
 
--- none of the inputs was opened under such a name
+-- No input was opened under such a name.
 inputs-unwritten : (holder : ℕ → List ℕ) (words : MergeWords) (ids : List FileId) (p : Prepared) → holders_of holder ids ≡ file_names words.files → first_written words ≡ None → map (λ (i : Input). i.file) p.inputs ≡ ids → IsPlanOf words p.inputs p.plan
     → All (λ (i : Input). may_be_written (planned_split p.plan) p.plan.output (holder i.file.n) ≡ false) p.inputs
 inputs-unwritten holder words ids p under apart of plan =
@@ -160,7 +160,7 @@ inputs-unwritten holder words ids p under apart of plan =
     let named : All (P (planned_split p.plan) p.plan.output) ids = subst (λ (output : List ℕ). All (P (planned_split p.plan) output) ids) (sym plan.output) split in
     All-unmap (P (planned_split p.plan) p.plan.output) (λ (i : Input). i.file) p.inputs (subst (All (P (planned_split p.plan) p.plan.output)) (sym of) named)
 
--- what was prepared can be carried out
+-- A prepared merge can be written.
 pub plan-good : {S : Type 0} (r : Ghosts S) (f : writing.Ghosts S) (files : S) (words : MergeWords) (ids : List FileId) (p : Prepared) → IsApartMerge words → AreInputs r f (file_names words.files) files ids → IsPrepared (live_files r files) words ids p → IsPlan r f files p.plan
 plan-good {S = S} r f files words ids p is opened prepared =
     let sound = is.sound in
@@ -197,17 +197,17 @@ plan-good {S = S} r f files words ids p is opened prepared =
           (subst (λ (spec : SplitSpec). IfSome (size_of words.split) (IsLimit spec)) (sym plan.split) (limit-of words.split (starts_in (chapters_of (map read_in p.inputs))) sound.split));
     }
 
--- ---- its files are told
+-- ---- visible files
 
--- the files of the links
+-- The files of the links are visible to the proof.
 pub plan-told : (f : LiveFiles) (words : MergeWords) (ids : List FileId) (contents : List (List ℕ)) (p : Prepared) → IsPrepared f words ids p → AreTold f ids contents → IsToldPlan f p.plan
 plan-told f words ids contents p prepared told =
     All-unmap (All (IsToldLink f)) (λ (l : PlannedLane). l.spec.links) p.plan.lanes
     (prepared.written.told f (each-told f p.inputs contents (told-contents f ids contents p.inputs prepared.inputs.of told)))
 
--- ---- the plan is that of the sources
+-- ---- the plan and its sources
 
--- A plan is that of the words and of these sources, whose files are told.
+-- The plan `p` is made from the command line and from `sources`, whose files are visible to the proof.
 pub record IsMergeOf (f : LiveFiles) (words : MergeWords) (inputs : List Input) (p : MergePlan) (sources : List Source) : Type 0 where
   pub plan : IsPlanOf words inputs p
   pub split : planned_split p ≡ is_split words
@@ -224,7 +224,7 @@ merge-is f words ids contents p prepared told many = record {
   told = each-told f p.inputs contents (told-contents f ids contents p.inputs prepared.inputs.of told);
 }
 
--- what was read of the sources
+-- The results of reading the sources.
 pub reads-are : (f : LiveFiles) (words : MergeWords) (inputs : List Input) (p : MergePlan) (sources : List Source) → IsMergeOf f words inputs p sources → reads_of sources ≡ reads_in inputs
 reads-are f words inputs p sources is = ap reads_of (sym is.from) ∙ reads-in f inputs
 
@@ -243,15 +243,15 @@ blocks-are f words inputs p sources is =
     ap (λ (l : ClusterLimits). merged (lanes_over f l.scale (links_of p.lanes))) is.plan.limits
     ∙ ap merged (lanes-over f words.scale (links_of p.lanes) ∙ ap (map (lane_blocks words.scale)) (lanes-for f words inputs p sources is).given)
 
--- ---- its records are those of the sources
+-- ---- records of the sources
 
--- each attached file has its data
+-- Each attached file has its data.
 files-filled : (f : LiveFiles) (list : List Attachment) → All IsAttached list → All IsFilled (map (attached_file f) list)
 files-filled f list each =
     All-map IsFilled (attached_file f) list
     (λ k d below. record { entry = (get_or list k d).entry; octets = data_of f (get_or list k d); is = refl; attachment = each k d below })
 
--- so they can be written and read again
+-- The records can be written and read again.
 pub records-are : (f : LiveFiles) (words : MergeWords) (inputs : List Input) (p : MergePlan) (sources : List Source) → IsMergeOf f words inputs p sources → CanBeWritten inputs p → HaveRecords sources
 records-are f words inputs p sources is written =
     let reads = reads-are f words inputs p sources is in
@@ -264,7 +264,7 @@ records-are f words inputs p sources is written =
       numbers = subst (λ (list : List InputRead). Have64Bits (identifiers_of list)) (sym reads) written.numbers;
     }
 
--- where sources were found
+-- The outputs can be read again if sources were found.
 pub readable-found : (words : MergeWords) (found : Result (List Source) Refusal) (sources : List Source) (r : Result Status CommandEnd) → found ≡ Ok sources → HaveRecords sources → IfOk r (λ (s : Status). AreShort words sources) → EndsReadable words found r
 readable-found words found sources r is have short = subst (λ (o : Result (List Source) Refusal). EndsReadable words o r) (sym is) (of r short)
   where
@@ -272,7 +272,7 @@ readable-found words found sources r is have short = subst (λ (o : Result (List
     of (Ok s) short = record { records = have; short = short }
     of (Err why) short = tt
 
--- where a merge is refused there is nothing to be read
+-- A refused merge has no outputs to read.
 pub readable-none : (words : MergeWords) (found : Result (List Source) Refusal) (why : Refusal) (r : Result Status CommandEnd) → found ≡ Err why → EndsReadable words found r
 readable-none words found why r is = subst (λ (o : Result (List Source) Refusal). EndsReadable words o r) (sym is) (of r)
   where
@@ -280,16 +280,16 @@ readable-none words found why r is = subst (λ (o : Result (List Source) Refusal
     of (Ok s) = tt
     of (Err stop) = tt
 
--- ---- how much is read
+-- ---- bytes read
 
--- a lane reads the file of each input at most once
+-- An output track reads the file of each input at most once.
 pub lengths-within : (f : LiveFiles) (words : MergeWords) (ids : List FileId) (p : Prepared) → IsPrepared f words ids p → inputs_length f p.plan ≤ length p.plan.lanes * files_size f ids
 lengths-within f words ids p prepared =
     let size : sum_by (λ (i : Input). f.size i.file.n) p.inputs ≡ files_size f ids = inputs-size f p.inputs ∙ ap (files_size f) prepared.inputs.of in
     sum_by-le (λ (l : PlannedLane). walks.files_length f l.spec.links) (files_size f ids) p.plan.lanes
     (subst (λ (n : ℕ). All (λ (l : PlannedLane). walks.files_length f l.spec.links ≤ n) p.plan.lanes) size (prepared.written.once f))
 
--- what a merge of this plan may read
+-- The bytes that a merge of this plan may read.
 pub plan-reads : (f : LiveFiles) (words : MergeWords) (ids : List FileId) (p : Prepared) (old new : ℕ) → IsPrepared f words ids p → new ≤ old + 2 * inputs_length f p.plan + data_length p.plan → new ≤ old + (2 * (length p.plan.lanes * files_size f ids) + data_length p.plan)
 plan-reads f words ids p old new prepared paid =
     within (inputs_length f p.plan) (length p.plan.lanes * files_size f ids) (data_length p.plan) (lengths-within f words ids p prepared) paid
@@ -297,11 +297,11 @@ plan-reads f words ids p old new prepared paid =
     within : (read most data_read : ℕ) → read ≤ most → new ≤ old + 2 * read + data_read → new ≤ old + (2 * most + data_read)
     within read most data_read fits paid = omega arith
 
--- its attached files are those of the sources
+-- The plan's attached files belong to the sources.
 pub data-counted : (f : LiveFiles) (words : MergeWords) (inputs : List Input) (p : MergePlan) (sources : List Source) → IsMergeOf f words inputs p sources → data_length p ≡ attached_length (reads_of sources)
 data-counted f words inputs p sources is = is.plan.octets ∙ ap attached_length (sym (reads-are f words inputs p sources is))
 
--- its lanes are those of the sources
+-- The plan's output tracks belong to the sources.
 pub lanes-count : (f : LiveFiles) (words : MergeWords) (inputs : List Input) (p : MergePlan) (sources : List Source) → IsMergeOf f words inputs p sources → length p.lanes ≡ length (lanes_given sources)
 lanes-count f words inputs p sources is =
     sym (length-map p.lanes (λ (l : PlannedLane). l.spec.links))

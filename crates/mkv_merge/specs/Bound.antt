@@ -1,4 +1,4 @@
--- How many octets a merge may read. The bounds are this project's.
+-- The number of bytes that a merge may read. The bounds are this project's.
 use Rattle.std.specs.Prelude.{ℕ, ◌+◌, ◌*◌, if◌then◌else◌, List, [], length, sum_by, Option, is_none, unwrap_or, Result, Ok, Err}
 use Rattle.mkv_io.specs.declared.outside.FileId.{FileId}
 use Rattle.mkv_io.specs.LiveFiles.{LiveFiles}
@@ -15,45 +15,46 @@ use Rattle.merge_plan.specs.Plan.{Source, lanes_given}
 use Rattle.mkv_merge.specs.Merge.{sources_of}
 use Rattle.mkv_merge.specs.declared.refusal.Refusal.{Refusal}
 
--- the lengths of live files, of each as often as it is listed
+-- the sum of the lengths of live files; a file counts as often as `list` has it
 abbrev pub files_size : LiveFiles → List FileId → ℕ
 files_size f list = sum_by (λ (file : FileId). f.size file.n) list
 
 abbrev pub live_size : {S : Type 0} → Ghosts S → S → List FileId → ℕ
 live_size r files list = files_size (live_files r files) list
 
--- what a merge of this plan may read, whose inputs have so many octets: all twice for each lane, and the data of attached files
+-- the bytes that a merge with the plan `p` may read of inputs with `octets` bytes: each input twice for each output track, and the data of
+-- attached files
 abbrev pub most_planned : MergePlan → ℕ → ℕ
 most_planned p octets = 2 * (length p.lanes * octets) + data_length p
 
--- the lengths of the contents of inputs, of each as often as the words name it
+-- the sum of the lengths of the inputs' contents; a file counts as often as the command line names it
 abbrev pub contents_length : (List ℕ → Option (List ℕ)) → List FileWords → ℕ
 contents_length world files = sum_by (λ (w : FileWords). length (unwrap_or (world w.name) [])) files
 
--- how many lanes an output has; none where the merge is refused
+-- the number of output tracks, or 0 if the merge is refused
 abbrev pub lane_count : Result (List Source) Refusal → ℕ
 lane_count (Ok sources) = length (lanes_given sources)
 lane_count (Err why) = 0
 
--- how many octets the data of its attached files are
+-- the number of bytes of data of the attached files
 abbrev pub data_count : Result (List Source) Refusal → ℕ
 data_count (Ok sources) = attached_length (reads_of sources)
 data_count (Err why) = 0
 
--- what may be read of inputs of so many octets: all 25 times before the blocks, and twice to see where they end; twice for each
--- lane, and the data of their attached files
+-- the bytes that may be read of inputs with `octets` bytes. All inputs are read 25 times before the blocks, twice to find their ends, and twice
+-- for each output track. The data of attached files is added.
 abbrev pub most_of : Result (List Source) Refusal → ℕ → ℕ
 most_of sources octets = 27 * octets + (2 * (lane_count sources * octets) + data_count sources)
 
--- whose sidecars are looked into to see whether an edit is pending: those of the inputs, and of the output where it isn't split
+-- the number of journals that are looked at for a pending edit: one for each input, and the output's unless the output is split
 abbrev pub looked_into : MergeWords → ℕ
 looked_into words = if is_none words.split then length words.files + 1 else length words.files
 
--- what may be read to see it: what each of these begins with
+-- the bytes that may be read of journals: the head of each
 abbrev pub most_looked : MergeWords → ℕ
 most_looked words = HEAD * looked_into words
 
--- what a merge may read in a world of names: of its sources, of sidecars, and the chapter file and each file of times once
+-- the bytes that a merge may read if the files are `world`: of its inputs and journals, and the chapter file and each timestamp file once
 abbrev pub most_read : (List ℕ → Option (List ℕ)) → MergeWords → ℕ
 most_read world words =
     text_octets world words.chapters words.files + (most_of (sources_of world words) (contents_length world words.files) + most_looked words)

@@ -1,4 +1,5 @@
--- The Chapters of a chapter file in place of those of the inputs. RFC 9559, section 5.1.7 (Chapters Element), has the Element; which one is taken is this project's.
+-- Chapters of a chapter file, which replace the inputs' own. RFC 9559, section 5.1.7 (Chapters Element), defines the element; the choice is this
+-- project's.
 use Rattle.std.specs.Prelude.{Bool, not, List, [], ◌∷◌, map, Option, Some, None, Result}
 use Rattle.tree_format.specs.Node.{Node}
 use Rattle.input_files.specs.declared.chapter_file.ChapterFile.{ChapterFile}
@@ -10,43 +11,43 @@ use Rattle.mkv_io.specs.Results.{unless}
 use Rattle.mkv_merge.specs.declared.refusal.Refusal.{Refusal}
 use Rattle.mkv_merge.specs.declared.refusal.Refusal.TheVariants.{MissingChapters, Chapters}
 
--- ---- what refuses a merge
+-- ---- refusals
 
--- the chapter file isn't there
+-- the refusal because the chapter file is missing
 abbrev pub missing_chapters : ChapterFile → Option Refusal
 missing_chapters file.Absent = None
 missing_chapters file.Missing = Some MissingChapters
 missing_chapters (file.Refused why) = None
 missing_chapters (file.Read chapters) = None
 
--- it isn't taken
+-- the refusal because the chapter file is refused
 abbrev pub chapters_refusal : ChapterFile → Option Refusal
 chapters_refusal file.Absent = None
 chapters_refusal file.Missing = None
 chapters_refusal (file.Refused why) = Some (Chapters why)
 chapters_refusal (file.Read chapters) = None
 
--- ---- what it gives
+-- ---- Chapters of the file
 
--- an input, and what was read of one, with these Chapters
+-- an input with the Chapters `chapters`; `with_chapters` is the same for the result of reading it
 abbrev pub with_tree : Option Node → Input → Input
 with_tree chapters i = record i { chapters = chapters }
 
 abbrev pub with_chapters : Option Node → InputRead → InputRead
 with_chapters chapters i = record i { chapters = chapters }
 
--- Of inputs the first with these Chapters, and the others without any.
+-- the inputs with `chapters` in the first one and no Chapters in the others
 abbrev pub first_with : {A : Type 0} → (Option Node → A → A) → Option Node → List A → List A
 first_with set chapters [] = []
 first_with set chapters (i ∷ is) = set chapters i ∷ map (set None) is
 
--- inputs with what a chapter file gives: its Chapters in place of theirs, as if the first had them, or none at all in WebM
+-- the inputs with the Chapters of a chapter file, in the first input instead of all others, or without any Chapters in WebM
 abbrev pub chaptered : {A : Type 0} → (Option Node → A → A) → Bool → ChapterFile → List A → List A
 chaptered set webm file.Absent inputs = inputs
 chaptered set webm file.Missing inputs = inputs
 chaptered set webm (file.Refused why) inputs = inputs
 chaptered set webm (file.Read chapters) inputs = first_with set (kept_one (not webm) (Some chapters)) inputs
 
--- the same, unless the file isn't taken
+-- the inputs with the Chapters of a chapter file, unless the file is refused
 abbrev pub with_file : {A : Type 0} → (Option Node → A → A) → Bool → ChapterFile → List A → Result (List A) Refusal
 with_file set webm file inputs = unless (chapters_refusal file) (chaptered set webm file inputs)

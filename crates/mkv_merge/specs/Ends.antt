@@ -1,4 +1,4 @@
--- Why a merge ends before all its outputs stand, and which faults have then been counted.
+-- Reasons why a merge ends before all its outputs are complete, and the failures that have then been counted.
 use Rattle.std.specs.Prelude.{◌≡◌, ⊤, ℕ, Result, Ok, Err}
 use Rattle.input_files.specs.declared.inputs_end.InputsEnd.{InputsEnd}
 use Rattle.input_files.specs.declared.inputs_end.InputsEnd.TheVariants as inputs_end
@@ -16,7 +16,7 @@ use Rattle.mkv_merge.specs.declared.refusal.MergeEnd.TheVariants.{Refused, Stopp
 use Rattle.mkv_merge.specs.declared.refusal.Refusal.TheVariants.{Missing, Plan}
 use Rattle.mkv_merge.specs.declared.refusal.Refusal.{Refusal}
 
--- What reads files is refused, or stopped for want of memory, or where reading failed, whose count then rose.
+-- A call that reads files is refused, or is stopped because memory ran out or a read failed. Only a failed read increases the count.
 abbrev pub HasReadCause : {T : Type 0} → ℕ → ℕ → Result T MergeEnd → Type 0
 HasReadCause before now (Ok _) = now ≡ before
 HasReadCause before now (Err (Refused why)) = now ≡ before
@@ -25,7 +25,7 @@ HasReadCause before now (Err (Stopped stop.Files)) = HasIncreased before now
 HasReadCause before now (Err (Stopped stop.Disk)) = ⊥
 HasReadCause before now (Err (Stopped stop.Report)) = ⊥
 
--- What reads none is refused, or stopped for want of memory.
+-- A call that reads no files is refused, or is stopped because memory ran out.
 abbrev pub IsQuiet : MergeEnd → Type 0
 IsQuiet (Refused why) = ⊤
 IsQuiet (Stopped stop.Memory) = ⊤
@@ -33,7 +33,7 @@ IsQuiet (Stopped stop.Files) = ⊥
 IsQuiet (Stopped stop.Disk) = ⊥
 IsQuiet (Stopped stop.Report) = ⊥
 
--- how a merge ends whose inputs aren't opened, and one that isn't planned
+-- the end of a merge whose inputs aren't opened; `unplanned` is the end of a merge that isn't planned
 abbrev pub unopened : InputsEnd → MergeEnd
 unopened (inputs_end.Missing input) = Refused (Missing input)
 unopened inputs_end.Failed = Stopped stop.Files
@@ -43,7 +43,7 @@ abbrev pub unplanned : PlanEnd → MergeEnd
 unplanned (plan_end.Refused why) = Refused (Plan why)
 unplanned plan_end.Memory = Stopped stop.Memory
 
--- how a merge ends whose writing and telling ended so; and one of which nothing is said, whose writing ended so
+-- the end of a merge that prints, by the end of its writing; `as_remuxed` is the end of a merge that prints nothing
 abbrev pub as_written : Result Status CommandEnd → Result Status MergeEnd
 as_written (Ok s) = Ok s
 as_written (Err why) = Err (Stopped why)
@@ -52,7 +52,7 @@ abbrev pub as_remuxed : Result Summary RemuxEnd → Result Summary MergeEnd
 as_remuxed (Ok s) = Ok s
 as_remuxed (Err end) = Err (Stopped (stop_of end))
 
--- how what merges files ends, where this is what it has done, and what it makes of a refusal
+-- the end of a command that merges files, by its result: `done` is applied to a result and `told` to a refusal
 abbrev pub end_as : {A T : Type 0} → (A → T) → (Refusal → T) → Result A MergeEnd → Result T CommandEnd
 end_as done told (Ok x) = Ok (done x)
 end_as done told (Err (Refused why)) = Ok (told why)

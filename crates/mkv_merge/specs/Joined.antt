@@ -1,4 +1,4 @@
--- What a merge comes to of which nothing is said, and which looks at no file but its inputs. It is this project's.
+-- The result of a merge that prints nothing and looks at no file besides its inputs. It is this project's.
 use Rattle.std.specs.Prelude.{◌≡◌, ℕ, List, [], ◌∷◌, map, flat_map, Option, Result, Ok, Err}
 use Rattle.std.specs.List.{enumerate_from}
 use Rattle.std.specs.Option.{option_map}
@@ -36,58 +36,59 @@ use Rattle.mkv_merge.specs.declared.refusal.Refusal.TheVariants.{Missing, Output
 abbrev pub no_texts : TextFiles
 no_texts = record { chapters = Absent; times = [] }
 
--- the sources of such a merge whose inputs have these contents, unless an output could have the name of a file that is read
+-- the sources of a merge that prints nothing, if its inputs have the contents `contents`; or its refusal, if an output could have the name of a
+-- file that is read
 abbrev pub sources_apart : MergeWords → List (List ℕ) → Result (List Source) Refusal
 sources_apart words contents = sources_unless (option_map OutputIsInput (first_written words) ∷ []) words no_texts contents
 
--- the same of the inputs' names, in a world of names; one of them may not be there
+-- the sources of a merge that prints nothing, or its refusal, if the files are `world`; an input may be missing
 abbrev pub sources_alone : (List ℕ → Option (List ℕ)) → MergeWords → Result (List Source) Refusal
 sources_alone world words =
     sources_unless (option_map OutputIsInput (first_written words) ∷ option_map Missing (first_missing world (file_names words.files)) ∷ [])
     words no_texts (contents_held world words)
 
--- what such a merge may read in a world of names
+-- the bytes that a merge that prints nothing may read if the files are `world`
 abbrev pub most_lone : (List ℕ → Option (List ℕ)) → MergeWords → ℕ
 most_lone world words = most_of (sources_alone world words) (contents_length world words.files)
 
--- ---- what was merged
+-- ---- merged files
 
--- What is known of the outputs of these sources, and what is warned of them.
+-- The summary `s` describes the outputs of `sources`, and gives the warnings of a merge of them.
 pub record IsSummaryOf (words : MergeWords) (sources : List Source) (s : Summary) : Type 0 where
   pub outputs : s.outputs ≡ map written_of (outputs_of words sources)
   pub warned : warnings_from s 0 words.files ≡ flat_map (warnings sources) (enumerate_from 0 words.files)
   pub damaged : is_some_of s.damages ≡ has_damage sources
 
--- Sources were found, their outputs were written, and this is known of them.
+-- The sources were found, their outputs were written, and `s` is their summary.
 pub record HasMerged (old new : Names) (words : MergeWords) (found : Result (List Source) Refusal) (s : Summary) : Type 0 where
   pub sources : List Source
   pub are : found ≡ Ok sources
   pub writes : WritesAll old new (outputs_of words sources)
   pub summary : IsSummaryOf words sources s
 
--- the outputs of the sources, where these are found
+-- the outputs of the sources, if they were found
 abbrev pub outputs_found : MergeWords → Result (List Source) Refusal → List PlannedOutput
 outputs_found words (Ok sources) = outputs_of words sources
 outputs_found words (Err why) = []
 
--- The outputs stand, or the merge is refused and nothing was written. Where it is stopped some first outputs stand whole, and the next one as
--- a draft.
+-- The outputs are written, or the merge is refused and nothing was written. After a stop some first outputs are complete, and the next one is a
+-- draft.
 abbrev pub Merges : Names → Names → MergeWords → Result (List Source) Refusal → Result Merged CommandEnd → Type 0
 Merges old new words found (Ok (Written s)) = HasMerged old new words found s
 Merges old new words found (Ok (Refused why)) = (found ≡ Err why) × (new ≡ old)
 Merges old new words found (Err stop) = AreWrittenInOrder old new (drafts_of (outputs_found words found))
 
--- what came of a merge, of which nothing was said
+-- the result of a merge that prints nothing
 abbrev pub as_merged : Result Summary MergeEnd → Result Merged CommandEnd
 as_merged result = end_as Written Refused result
 
--- So does a merge of live files, and of names, where they tell.
+-- `Merges` holds for live files, if names and contents are visible to the proof.
 abbrev pub MergesLive : {S : Type 0} → Ghosts S → writing.Ghosts S → S → S → MergeWords → List FileId → Result Merged CommandEnd → Type 0
 MergesLive r f old new words list result = IfAllTold r old list (λ contents. Merges (f.names old) (f.names new) words (sources_unless [] words no_texts contents) result)
 
 abbrev pub MergesAlone : {S : Type 0} → writing.Ghosts S → S → S → MergeWords → Result Merged CommandEnd → Type 0
 MergesAlone f old new words result = IfVisible (f.names old) (λ world. Merges (f.names old) (f.names new) words (sources_alone world words) result)
 
--- what such a merge may read of live files
+-- A merge that prints nothing reads no more bytes of live files than it may.
 abbrev pub ReadsLive : {S : Type 0} → Ghosts S → S → S → MergeWords → List FileId → Type 0
 ReadsLive r old new words list = IfAllTold r old list (λ contents. ReadsUpTo r old new (most_of (sources_unless [] words no_texts contents) (live_size r old list)))

@@ -1,4 +1,4 @@
--- What `merge` comes to. The command is this project's, after mkvmerge(1); what its outputs hold is RFC 9559's.
+-- The result of `merge`. The command is this project's, after mkvmerge(1); the contents of its outputs are defined by RFC 9559.
 use Rattle.std.specs.Prelude.{ℕ, ◌==◌, nat_le, Bool, true, false, not, ◌&&◌, ◌||◌, if◌then◌else◌, List, [], ◌∷◌, ◌++◌, length, map, filter, flat_map, Option, Result, Ok, Err}
 use Rattle.std.specs.List.{enumerate_from, find, list_any, range_with_len, zip}
 use Rattle.std.specs.Option.{option_map, option_map_or}
@@ -49,15 +49,15 @@ use Rattle.mkv_io.specs.Results.{unless}
 use Rattle.mkv_merge.specs.declared.refusal.Refusal.{Refusal}
 use Rattle.mkv_merge.specs.declared.refusal.Refusal.TheVariants.{Differs, Missing, OutputIsInput, Plan}
 
--- ---- the sources
+-- ---- sources
 
--- the sources of a merge whose inputs have these contents: what is read of each, with what the text files give (a chapter file counts as the
--- first input's Chapters, in place of all others), and each that is appended in its place
+-- the sources of a merge whose inputs have the contents `contents`: the result of reading each, with the text files applied. The Chapters of a
+-- chapter file replace all others, as the first input's. Each appended input has its append offset.
 abbrev pub sources_in : MergeWords → TextFiles → List (List ℕ) → List Source
 sources_in words texts contents = in_place (zip contents (reads_with words texts contents))
 
--- What refuses a merge once its files are read, in order: an input, the chapter file or a file of times that isn't taken, an appended
--- input whose tracks can't go on in the lanes to which it is appended, and what all come to.
+-- the refusals of a merge after its files are read, in order: an input, the chapter file, a timestamp file, an appended input whose tracks can't
+-- continue the output tracks, and the plan
 abbrev pub refusals_read : MergeWords → TextFiles → List (List ℕ) → List (Option Refusal)
 refusals_read words texts contents =
     result_err (inputs_of words contents)
@@ -67,12 +67,12 @@ refusals_read words texts contents =
     ∷ option_map Plan (plan_refusal words (reads_of (sources_in words texts contents)))
     ∷ []
 
--- The sources of a merge whose inputs have these contents, or what refuses it: the first that stands of these causes, and then of what is read.
+-- the sources of a merge whose inputs have the contents `contents`, or the first refusal that holds: one of `causes`, or else one after reading
 abbrev pub sources_unless : List (Option Refusal) → MergeWords → TextFiles → List (List ℕ) → Result (List Source) Refusal
 sources_unless causes words texts contents = unless (first_cause (causes ++ refusals_read words texts contents)) (sources_in words texts contents)
 
--- What refuses a merge in a world of names before its files are read, in order: an output that could have the name of a file that is read, an
--- input and a text file that isn't there, and an edit that is pending.
+-- the refusals of a merge before its files are read, in order, if the files are `world`: an output with the name of a file that is read, a
+-- missing input, a missing text file, and a pending edit
 abbrev pub refusals : (List ℕ → Option (List ℕ)) → MergeWords → List (Option Refusal)
 refusals world words =
     option_map OutputIsInput (first_written words)
@@ -81,26 +81,26 @@ refusals world words =
     ∷ pending_of world words
     ∷ []
 
--- The sources of a merge, or the first of what refuses it that stands.
+-- the sources of a merge, or the first refusal that holds
 abbrev pub sources_of : (List ℕ → Option (List ℕ)) → MergeWords → Result (List Source) Refusal
 sources_of world words = sources_unless (refusals world words) words (texts_held world words) (contents_held world words)
 
--- ---- the outputs
+-- ---- outputs
 
--- the merged list of the tracks that are taken
+-- the merged list of the selected tracks
 abbrev pub blocks_of : MergeWords → List Source → List OutputBlock
 blocks_of words sources = merged (map (lane_blocks words.scale) (lanes_given sources))
 
--- how it is split, in ticks of the output
+-- the split of the output, in its ticks
 abbrev pub split_of : MergeWords → List Source → Split
 split_of words sources = record { spec = split_given words (reads_of sources); size = size_of words.split; scale = words.scale; drives = drives_by (drives_given (reads_of sources)) }
 
--- its parts; what isn't split is one part
+-- the parts of the output; an output that isn't split is one part
 abbrev pub parts_of : MergeWords → List Source → List Part
 parts_of words sources = parts (split_of words sources) (blocks_of words sources)
 
--- what stands in front of the Clusters of the part of a number, from 1 on: it has its own identifiers, and attached files go to the first one
--- alone
+-- the elements before the Clusters of the part `number`, from 1 on. Each part has its own identifiers; only the first part gets the attached
+-- files.
 abbrev pub front_for : MergeWords → ℕ → Front → Front
 front_for words number front = record front {
   info = with_uuids (uuids_at words.uuids words.link number) front.info;
@@ -110,26 +110,26 @@ front_for words number front = record front {
 abbrev pub front_at : MergeWords → List Source → ℕ → Front
 front_at words sources number = front_for words number (front_of words sources)
 
--- what of the Chapters goes into a part: those in its stretch of time, and all where nothing is split
+-- the Chapters of a part: the chapters in its period of time, or all if the output isn't split
 abbrev pub chapters_in : MergeWords → List Source → Part → Option Node
 chapters_in words sources part = chapters_within (is_split words) (chapters_of (reads_of sources)) (stretch_of words.scale part.start part.end)
 
--- a part in Clusters, with what stands around them
+-- the part as a document: its Clusters and the elements around them
 abbrev pub document_at : MergeWords → List Source → ℕ × Part → Document
 document_at words sources each =
     document_of (limits_of words) (rules_given (reads_of sources)) (front_at words sources each.0) (chapters_in words sources each.1) (tags_of (reads_of sources)) each.1.blocks
 
--- the output of a part: its name, its blocks, and what it is to be
+-- the output of a part: its name, blocks and document
 abbrev pub output_at : MergeWords → List Source → ℕ × Part → PlannedOutput
 output_at words sources each = record { name = name_of (is_split words) words.output each.0; blocks = each.1.blocks; document = document_at words sources each }
 
--- All outputs, in the order in which they are written.
+-- all outputs, in the order of writing
 abbrev pub outputs_of : MergeWords → List Source → List PlannedOutput
 outputs_of words sources = map (output_at words sources) (enumerate_from 1 (parts_of words sources))
 
--- ---- what is warned of
+-- ---- warnings
 
--- the tracks that the words name of a file, each once, and that it hasn't, which has so many
+-- the tracks that the command line names for a file, each once, and that the file doesn't have; it has `count` tracks
 abbrev pub absent_of : FileWords → ℕ → List ℕ
 absent_of file count = filter (λ n. nat_le count n) file.named
 
@@ -142,49 +142,49 @@ lines_absent file count = map (no_track_line file.name) (absent_of file count)
 abbrev pub absent_lines : FileWords × InputRead → List (List ℕ)
 absent_lines f = lines_absent f.0 f.1.count
 
--- the links of lanes, by the numbers of their sources and by what these give: of each its source's number, and the damages that are met in it
+-- the links of output tracks, each as the number of its source with the damage that is met in it
 abbrev pub links_met : List (List ℕ) → List (List Given) → List (ℕ × List Damage)
 links_met numbers given = flat_map (λ (lane : List ℕ × List Given). zip lane.0 (lane_damages lane.1)) (zip numbers given)
 
--- of links those damages that are met in the first one of the source of this number; none where no link is of it
+-- the damage that is met in the first link with the source number `k`, or none if there is no such link
 abbrev pub first_met : ℕ → List (ℕ × List Damage) → List Damage
 first_met k links = option_map_or (λ (link : ℕ × List Damage). link.1) (find (λ (link : ℕ × List Damage). link.0 == k) links) []
 
--- The damages of the events of the source of this number: none where no track of it is taken, so that it has no link, or where a file before it in
--- its chain stopped.
+-- the damage that is met in the source number `k`. It is empty if no track of the source is selected, or if a file before it in its chain
+-- stopped.
 abbrev pub damages_met : List Source → ℕ → List Damage
 damages_met sources k = first_met k (links_met (inputs_given 0 (reads_of sources)) (lanes_given sources))
 
--- what is warned of a file of this name that has these damages
+-- the warnings about a file `name` with this damage
 abbrev pub damages_warned : List ℕ → List Damage → List (List ℕ)
 damages_warned name damages = let told = told_damages damages in damage_lines name told.first told.more
 
--- what is warned of a source, by its number
+-- the warnings about a source, by its number
 abbrev pub warnings : List Source → ℕ × FileWords → List (List ℕ)
 warnings sources each = damages_warned each.1.name (damages_met sources each.0)
 
--- a track isn't there
+-- some input lacks a track that the command line names
 abbrev pub has_absent : MergeWords → List InputRead → Bool
 has_absent words reads = list_any (λ f. is_some_of (absent f)) (zip words.files reads)
 
--- something is wrong with a source
+-- some source has damage
 abbrev pub has_damage : List Source → Bool
 has_damage sources = list_any (λ k. is_some_of (damages_met sources k)) (range_with_len 0 (length sources))
 
--- segment identifiers are given, and not one for each of so many outputs
+-- segment identifiers are given, but not one for each of `count` outputs
 abbrev pub has_other_count : MergeWords → ℕ → Bool
 has_other_count words count = not (length words.uuids == 0) && not (length words.uuids == count)
 
 abbrev pub uuid_lines : MergeWords → ℕ → List (List ℕ)
 uuid_lines words count = if has_other_count words count then uuid_count_line (length words.uuids) count ∷ [] else []
 
--- ---- the verdict
+-- ---- result
 
 abbrev pub warned_if : Bool → Status
 warned_if true = Warned
 warned_if false = Done
 
--- the lines before the outputs, that of each output, and the lines behind them
+-- the lines before the outputs; `lines_behind` has the lines of the outputs and all later lines
 abbrev pub lines_before : MergeWords → List InputRead → List (List ℕ)
 lines_before words reads = flat_map absent_lines (zip words.files reads)
 
@@ -195,7 +195,7 @@ abbrev pub lines_behind : MergeWords → List Source → List (List ℕ)
 lines_behind words sources =
     map output_line (outputs_of words sources) ++ flat_map (warnings sources) (enumerate_from 0 words.files) ++ uuid_lines words (length (outputs_of words sources))
 
--- the tracks that aren't there, the outputs, what is wrong with the inputs, and the number of identifiers
+-- the result of a merge that isn't refused: warnings of absent tracks, the outputs, and warnings of damage and of the number of identifiers
 abbrev pub merged_verdict : MergeWords → List Source → Verdict
 merged_verdict words sources = record {
   status = warned_if (has_absent words (reads_of sources) || has_damage sources || has_other_count words (length (outputs_of words sources)));
@@ -208,11 +208,11 @@ abbrev pub verdict_of : MergeWords → Result (List Source) Refusal → Verdict
 verdict_of words (Ok sources) = merged_verdict words sources
 verdict_of words (Err why) = refused (line_of words why)
 
--- what `merge` comes to in a world of names
+-- the result of `merge` if the files are `world`
 abbrev pub merge_verdict : (List ℕ → Option (List ℕ)) → MergeWords → Verdict
 merge_verdict world words = verdict_of words (sources_of world words)
 
--- A merge of the files of the inputs' names has come to its verdict, or has stopped on the way; its refusal is told, too.
+-- A merge of the files that `words` names ends with its result, or was stopped on the way. A refusal is printed, too.
 abbrev pub ComesToMerge : {F P : Type 0} → Ghosts F → writing.Ghosts F → ReportGhosts P → F → F → P → P → Result Status CommandEnd → MergeWords → Type 0
 ComesToMerge r f p files files' report report' result words =
     IfVisible (f.names files) (λ world. Fulfils r f p files files' report report' result (merge_verdict world words))

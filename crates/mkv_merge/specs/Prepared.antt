@@ -1,4 +1,4 @@
--- What is known of a merge whose inputs were read and planned.
+-- Facts about a merge whose inputs were read and planned.
 use Rattle.std.specs.Prelude.{◌≡◌, ⊤, ℕ, Bool, List, [], length, map, Some, Result, Ok, Err}
 use Rattle.std.specs.List.{All, zip}
 use Rattle.mkv_io.specs.declared.outside.FileId.{FileId}
@@ -24,26 +24,26 @@ use Rattle.mkv_merge.specs.declared.refusal.MergeEnd.{MergeEnd}
 use Rattle.mkv_merge.specs.declared.refusal.MergeEnd.TheVariants.{Refused, Stopped}
 use Rattle.mkv_merge.specs.declared.refusal.Refusal.{Refusal}
 
--- these files have these contents, where they are told
+-- The files `list` have the contents `contents`, and these are visible to the proof.
 abbrev pub AreTold : LiveFiles → List FileId → List (List ℕ) → Type 0
 AreTold f list contents = files.contents_of f.content list ≡ map Some contents
 
--- a fact of the contents of live files, where all of these are told
+-- `P` holds for the contents of the live files `list`, if all are visible to the proof.
 abbrev pub IfAllTold : {S : Type 0} → Ghosts S → S → List FileId → (List (List ℕ) → Type 0) → Type 0
 IfAllTold r s list P = (contents : List (List ℕ)) → AreTold (live_files r s) list contents → P contents
 
--- Inputs can be read and planned: the words keep their limits, and there is a live file for each that they name.
+-- The inputs can be read and planned: the command line keeps its limits, and each file that it names is live.
 pub record CanPrepare {S : Type 0} (r : Ghosts S) (s : S) (words : MergeWords) (list : List FileId) : Type 0 where
   pub sound : IsSoundMerge words
   pub live : AreLive (live_files r s).live list
   pub each : length list ≡ length words.files
 
--- A call that only reads leaves all that stands, and its count of faults rose where it was stopped by one.
+-- A call that only reads changes nothing else, and a read that stopped it was counted as a failure.
 pub record EndsReading {S T : Type 0} (r : Ghosts S) (old new : S) (result : Result T MergeEnd) : Type 0 where
   pub standing : r.standing new ≡ r.standing old
   pub cause : HasReadCause (r.reading_faults old) (r.reading_faults new) result
 
--- What was found is what was read, or what refuses it; a call of the outside may fail, and there may be no memory.
+-- The expected result `found` is the result of reading, or its refusal; a call to the system may fail, and memory may run out.
 abbrev pub ReadsAs : {A B : Type 0} → (B → A) → Result A Refusal → Result B MergeEnd → Type 0
 ReadsAs shown found (Ok x) = found ≡ Ok (shown x)
 ReadsAs shown found (Err (Refused why)) = found ≡ Err why
@@ -52,29 +52,29 @@ ReadsAs shown found (Err (Stopped stop)) = ⊤
 abbrev pub reads_in : List Input → List InputRead
 reads_in inputs = map read_in inputs
 
--- An input was read that has this content, by its number; so was each of a merge.
+-- The input number `input` with the content `bytes` was read as expected; `ReadsEach` states it for all inputs of a merge.
 abbrev pub ReadsOne : ℕ → FileWords → Bool → ℕ → List ℕ → Result Input MergeEnd → Type 0
 ReadsOne input words webm held bytes result = ReadsAs read_in (numbered input (input_of words webm held bytes)) result
 
 abbrev pub ReadsEach : MergeWords → List (List ℕ) → Result (List Input) MergeEnd → Type 0
 ReadsEach words contents result = ReadsAs reads_in (inputs_of words contents) result
 
--- the sources of inputs that have these contents
+-- the sources of `inputs`, whose files have the contents `contents`
 abbrev pub sources_from : List (List ℕ) → List Input → List Source
 sources_from contents inputs = zip contents (reads_in inputs)
 
--- The inputs are those of these files, none later than a lane's link may be.
+-- The inputs are read from the files `list`, and no append offset is greater than a link's may be.
 pub record AreInputsOf (f : LiveFiles) (list : List FileId) (inputs : List Input) : Type 0 where
   pub good : All (IsInput f) inputs
   pub of : map (λ (i : Input). i.file) inputs ≡ list
   pub places : All HasPlace inputs
 
--- The inputs are those of these files, and the plan is theirs.
+-- The inputs are read from the files `list`, and the plan is made from them.
 pub record IsPrepared (f : LiveFiles) (words : MergeWords) (list : List FileId) (p : Prepared) : Type 0 where
   pub inputs : AreInputsOf f list p.inputs
   pub plan : IsPlanOf words p.inputs p.plan
   pub written : CanBeWritten p.inputs p.plan
 
--- The sources are those of what was prepared, or what is read refuses the merge.
+-- The sources are made from the prepared inputs, or reading found the refusal of the merge.
 abbrev pub Prepares : MergeWords → TextFiles → List (List ℕ) → Result Prepared MergeEnd → Type 0
 Prepares words texts contents result = ReadsAs (λ (p : Prepared). sources_from contents p.inputs) (sources_unless [] words texts contents) result

@@ -1,4 +1,4 @@
--- What is read of the inputs of a merge, and what refuses them. Both are this project's.
+-- The inputs of a merge as they are read, and their refusals. Both are this project's.
 use Rattle.std.specs.Prelude.{◌≡◌, ℕ, suc, Bool, true, false, ◌&&◌, List, [], ◌∷◌, ◌++◌, map, find, Option, Some, None, is_none, is_some, unwrap_or, Result, Ok, Err}
 use Rattle.std.specs.List.{zip}
 use Rattle.std.specs.Option.{option_or, option_to_list}
@@ -22,10 +22,10 @@ use Rattle.mkv_io.specs.Results.{and_then}
 use Rattle.mkv_merge.specs.declared.refusal.Refusal.{Refusal}
 use Rattle.mkv_merge.specs.declared.refusal.Refusal.TheVariants.{PendingInput, PendingOutput, Input}
 
--- ---- the names
+-- ---- names
 
--- the names that no output of a merge may have, in the order in which they are looked at: those of its inputs, of its chapter file and of
--- its files of times, and of the sidecars of its inputs and of its files of times
+-- the names that no output of a merge may have, in the order of the check: inputs, chapter file, timestamp files, journals of inputs, and
+-- journals of timestamp files
 abbrev pub read_names : MergeWords → List (List ℕ)
 read_names words =
     file_names words.files ++ (option_to_list words.chapters ++ (times_names (times_named words.files)
@@ -34,26 +34,27 @@ read_names words =
 abbrev pub is_split : MergeWords → Bool
 is_split words = is_some words.split
 
--- a name is the output's, as the words have it
+-- `name` is the output's name on the command line
 abbrev pub is_output : MergeWords → List ℕ → Bool
 is_output words name = bytes_eq name words.output
 
--- a name is that of a part
+-- `name` could be the name of a part
 abbrev pub is_part : MergeWords → List ℕ → Bool
 is_part words name = is_split words && is_part_name words.output name
 
--- the first of the names that are read which an output has: the name of the words, with a split too, or else a part
+-- the first name of a file that is read which an output has: the name on the command line, also if the output is split, or else the name of a
+-- part
 abbrev pub first_written : MergeWords → Option (List ℕ)
 first_written words = option_or (find (is_output words) (read_names words)) (find (is_part words) (read_names words))
 
--- Words of a merge that keep their limits, and none of whose files is read under a name that may be written.
+-- The command line of a merge keeps its limits, and no file that is read has a name that may be written.
 pub record IsApartMerge (words : MergeWords) : Type 0 where
   pub sound : IsSoundMerge words
   pub apart : first_written words ≡ None
 
--- ---- what the names hold
+-- ---- contents
 
--- what the inputs hold, and what the text files that the words name give
+-- the contents of the inputs; below, the contents of the text files
 abbrev pub contents_held : (List ℕ → Option (List ℕ)) → MergeWords → List (List ℕ)
 contents_held world words = map (λ name. unwrap_or (world name) []) (file_names words.files)
 
@@ -62,25 +63,24 @@ texts_held world words = text_files world words.chapters words.files
 
 -- ---- pending edits
 
--- an edit is pending of this input, or else of the file that lies at the output's name
+-- the refusal because an edit is pending: of the input, or else of the file with the output's name
 abbrev pub pending_refusal : Option ℕ → Bool → Option Refusal
 pending_refusal (Some input) output = Some (PendingInput input)
 pending_refusal None true = Some PendingOutput
 pending_refusal None false = None
 
--- what refuses a merge of files of which an edit is pending: the first of the inputs, and then the output, where it isn't split
+-- the refusal of a merge because of a pending edit: of the first such input, or else of the output, unless it is split
 abbrev pub pending_of : (List ℕ → Option (List ℕ)) → MergeWords → Option Refusal
 pending_of world words = pending_refusal (first_pending world (file_names words.files)) (is_none words.split && is_pending world words.output)
 
--- ---- what stands before the blocks
+-- ---- before the blocks
 
--- what is read of an input, by its number, or why it isn't taken
+-- the result of reading the input number `input`, or its refusal
 abbrev pub numbered : ℕ → Result InputRead InputRefusal → Result InputRead Refusal
 numbered input (Ok read) = Ok read
 numbered input (Err why) = Err (Input input why)
 
--- what is read of inputs with these contents, from this number on; those before them have so many octets of Info, Tracks, Chapters
--- and Tags
+-- the results of reading inputs from the number `input` on. The inputs before them have `held` bytes of Info, Tracks, Chapters and Tags.
 abbrev pub inputs_from : Bool → ℕ → ℕ → List (FileWords × List ℕ) → Result (List InputRead) Refusal
 inputs_from webm input held [] = Ok []
 inputs_from webm input held (file ∷ files) =
@@ -91,11 +91,11 @@ inputs_from webm input held (file ∷ files) =
 abbrev pub inputs_of : MergeWords → List (List ℕ) → Result (List InputRead) Refusal
 inputs_of words contents = inputs_from words.webm 0 0 (zip words.files contents)
 
--- what is read of them, where none is refused
+-- the results of reading, if none is refused
 abbrev pub found_in : Result (List InputRead) Refusal → List InputRead
 found_in (Ok reads) = reads
 found_in (Err why) = []
 
--- the same with what the text files give: the Chapters of the chapter file, and the times of the files of times
+-- the same with the text files applied: the Chapters of the chapter file and the timestamps of the timestamp files
 abbrev pub reads_with : MergeWords → TextFiles → List (List ℕ) → List InputRead
 reads_with words texts contents = timed_from texts.times 0 (chaptered with_chapters words.webm texts.chapters (found_in (inputs_of words contents)))

@@ -1,4 +1,5 @@
--- What is written of the sources of a merge can be read again; of what they give besides their tracks and blocks: RFC 9559, sections 5.1.6 (Attachments Element), 5.1.7 (Chapters Element) and 5.1.8 (Tags Element).
+-- The outputs of a merge can be read again, with the records besides tracks and blocks: RFC 9559, sections 5.1.6 (Attachments Element), 5.1.7
+-- (Chapters Element) and 5.1.8 (Tags Element).
 use Rattle.std.specs.Prelude.{◌≡◌, ℕ, List, IfSome, IfOk, Result}
 use Rattle.std.specs.List.{All}
 use Rattle.mkv_schema.specs.declared.ids.TheConstants.{CHAPTERS, TAGS}
@@ -17,29 +18,29 @@ use Rattle.mkv_lines.specs.declared.status.CommandEnd.{CommandEnd}
 use Rattle.mkv_merge.specs.Merge.{outputs_of}
 use Rattle.mkv_merge.specs.declared.refusal.Refusal.{Refusal}
 
--- An AttachedFile that was read, with these octets as its data.
+-- `n` is an AttachedFile that was read, with the bytes `octets` as its data.
 pub record IsFilled (n : Node) : Type 0 where
   pub entry : Node
   pub octets : List ℕ
   pub is : n ≡ with_data octets entry
   pub attachment : IsAttachment entry
 
--- The attached files of sources, and Chapters and Tags where there are any, can be written and read again; the identifiers have 64 bits.
+-- The attached files of `sources`, and their Chapters and Tags if any, can be written and read again; the identifiers have 64 bits.
 pub record HaveRecords (sources : List Source) : Type 0 where
   pub attachments : All IsFilled (attachments_of sources)
   pub chapters : IfSome (chapters_of (reads_of sources)) (IsRecord CHAPTERS)
   pub tags : IfSome (tags_of (reads_of sources)) (IsRecord TAGS)
   pub numbers : Have64Bits (identifiers_of (reads_of sources))
 
--- None of the outputs of sources is longer than a file may be.
+-- None of the outputs of `sources` is longer than a file may be.
 abbrev pub AreShort : MergeWords → List Source → Type 0
 AreShort words sources = All (λ (o : PlannedOutput). IsShort o.document) (outputs_of words sources)
 
--- What is written of sources can be read again: the records that they give, and outputs that are as long as files may be.
+-- The outputs of `sources` can be read again: their records are valid, and they aren't longer than files may be.
 pub record CanBeReadAgain (words : MergeWords) (sources : List Source) : Type 0 where
   pub records : HaveRecords sources
   pub short : AreShort words sources
 
--- So can what a merge has written that ended by itself, and that nothing refused.
+-- The outputs can be read again if the merge ended by itself and wasn't refused.
 abbrev pub EndsReadable : MergeWords → Result (List Source) Refusal → Result Status CommandEnd → Type 0
 EndsReadable words found result = IfOk result (λ _. IfOk found (CanBeReadAgain words))

@@ -1,4 +1,4 @@
--- Why nothing is merged, and the line that says so. The lines and their order are this project's.
+-- Reasons why nothing is merged, and the line that reports each. The lines and their order are this project's.
 use Rattle.std.specs.Prelude.{ℕ, List, [], ◌∷◌, Option, Some, None, unwrap_or, Result, Ok, Err}
 use Rattle.std.specs.List.{slice_get}
 use Rattle.std.specs.Option.{option_map_or}
@@ -14,17 +14,17 @@ use Rattle.mkv_lines.specs.Line.{append_differs_line, bad_text_line, missing_lin
 use Rattle.mkv_merge.specs.declared.refusal.Refusal.{Refusal}
 use Rattle.mkv_merge.specs.declared.refusal.Refusal.TheVariants.{OutputIsInput, Missing, MissingChapters, MissingTimes, PendingInput, PendingOutput, Input, Chapters, Times, Differs, Plan}
 
--- ---- the first that stands
+-- ---- the first refusal that holds
 
--- of all that may refuse a merge, in order, the first that stands
+-- the first of the refusals `causes` that holds
 abbrev pub first_cause : List (Option Refusal) → Option Refusal
 first_cause [] = None
 first_cause (None ∷ causes) = first_cause causes
 first_cause (Some why ∷ causes) = Some why
 
--- ---- the lines
+-- ---- lines
 
--- the name of an input, by its number
+-- the name of the input number `input`
 abbrev pub name_of : MergeWords → ℕ → List ℕ
 name_of words input = option_map_or (λ (file : FileWords). file.name) (slice_get words.files input) []
 
@@ -46,7 +46,7 @@ abbrev pub input_line : List ℕ → InputRefusal → List ℕ
 input_line name (Damaged damage) = refusal_line name damage
 input_line name (Text why) = text_line name why
 
--- the line of a refusal
+-- the line that reports a refusal
 abbrev pub line_of : MergeWords → Refusal → List ℕ
 line_of words (OutputIsInput name) = output_is_input_line name
 line_of words (Missing input) = missing_line (name_of words input)

@@ -1,5 +1,5 @@
--- What a merge comes to at the stages of its code, what it reads, and what it leaves to be read again; where the names tell, and the live files. No
--- verdict stands on these words: a lemma ties them to what `Merge` says.
+-- The results of a merge at the stages of its code, if names and live files are visible to the proof. No promise to users depends on this module:
+-- a lemma connects it to `Merge`.
 use Rattle.std.specs.Prelude.{◌≡◌, ℕ, ◌+◌, List, [], ◌∷◌, Option, IfOk, Result, Ok, Err}
 use Rattle.std.specs.Option.{option_or}
 use Rattle.mkv_io.specs.Told.{IfVisible}
@@ -30,54 +30,54 @@ use Rattle.mkv_merge.specs.declared.refusal.MergeEnd.{MergeEnd}
 use Rattle.mkv_merge.specs.declared.refusal.MergeEnd.TheVariants.{Refused, Stopped}
 use Rattle.mkv_merge.specs.declared.refusal.Refusal.{Refusal}
 
--- ---- what was planned is written
+-- ---- writing of a plan
 
--- what it comes to with these inputs, which were read of these files
+-- The writing of these inputs, which were read from the files `list`, ends with the result of the merge.
 abbrev pub ReachesPlanned : {F P : Type 0} → Ghosts F → writing.Ghosts F → ReportGhosts P → F → F → P → P → MergeWords → List FileId → List Input → Result Status CommandEnd → Type 0
 ReachesPlanned r f p files files' report report' words list inputs result = IfAllTold r files list (λ contents.
     Fulfils r f p files files' report report' result (merged_verdict words (sources_from contents inputs)))
 
--- how much is read of a plan, whose inputs are these files
+-- No more bytes are read than the plan may read from the files `list`.
 abbrev pub ReadsPlanned : {S : Type 0} → Ghosts S → S → S → List FileId → MergePlan → Type 0
 ReadsPlanned r old new list plan = ReadsUpTo r old new (most_planned plan (live_size r old list))
 
--- no output of these inputs is longer than a file may be
+-- No output of the inputs is longer than a file may be.
 abbrev pub EndsShort : {S : Type 0} → Ghosts S → writing.Ghosts S → S → MergeWords → List FileId → List Input → Result Status CommandEnd → Type 0
 EndsShort r f files words list inputs result = IfVisible (f.names files) (λ world. IfAllTold r files list (λ contents.
     IfOk result (λ _. AreShort words (sources_from contents inputs))))
 
--- ---- a merge up to its verdict, where a refusal isn't told yet
+-- ---- a merge up to its result, before a refusal is printed
 
--- what refuses a merge whose inputs are there before they are read: a text file that isn't there, or an edit that is pending
+-- the refusals of a merge before its inputs are read, if all inputs exist: a missing text file, or a pending edit
 abbrev pub refusals_begun : (List ℕ → Option (List ℕ)) → MergeWords → TextFiles → List (Option Refusal)
 refusals_begun world words texts = missing_text texts ∷ pending_of world words ∷ []
 
 abbrev pub begun_refusal : (List ℕ → Option (List ℕ)) → MergeWords → TextFiles → Option Refusal
 begun_refusal world words texts = option_or (missing_text texts) (pending_of world words)
 
--- how the command ends that tells a refusal
+-- the end of the command that prints a refusal
 abbrev pub as_command : Result Status MergeEnd → Result Status CommandEnd
 as_command result = end_as (λ s. s) (λ why. status.Refused) result
 
--- A merge of what is found has come to its verdict; or what refuses it is found, and nothing was said or written; or it has stopped on the way.
+-- A merge ends with its result; or its refusal is found, and nothing was printed or written; or it was stopped on the way.
 abbrev pub Leads : Seen → Seen → MergeWords → Result (List Source) Refusal → Result Status MergeEnd → Type 0
 Leads old new words found (Ok s) = Reaches old new (Ok s) (verdict_of words found)
 Leads old new words found (Err (Refused why)) = (found ≡ Err why) × (new.lines ≡ old.lines) × (new.names ≡ old.names)
 Leads old new words found (Err (Stopped why)) = IsStopped old new (verdict_of words found)
 
--- The same over files and a report. What was written can be read again, and no more than so many octets were read.
+-- `Leads` holds for the files and the report. The outputs can be read again, and at most `most` bytes were read.
 pub record MergesTo {F P : Type 0} (r : Ghosts F) (f : writing.Ghosts F) (p : ReportGhosts P) (files files' : F) (report report' : P) (words : MergeWords) (found : Result (List Source) Refusal) (most : ℕ) (result : Result Status MergeEnd) : Type 0 where
   pub verdict : Leads (seen_in r f p files report) (seen_in r f p files' report') words found result
   pub readable : EndsReadable words found (as_command result)
   pub octets : ReadsUpTo r files files' most
 
--- of live files
+-- `MergesTo` holds for the live files `list`.
 abbrev pub MergesThere : {F P : Type 0} → Ghosts F → writing.Ghosts F → ReportGhosts P → F → F → P → P → MergeWords → TextFiles → List FileId → Result Status MergeEnd → Type 0
 MergesThere r f p files files' report report' words texts list result = IfVisible (f.names files) (λ world. IfAllTold r files list (λ contents.
     let found = sources_unless (refusals_begun world words texts) words texts contents in
     MergesTo r f p files files' report report' words found (most_of found (live_size r files list) + most_looked words) result))
 
--- of the files of the inputs' names
+-- `MergesTo` holds for the files that `words` names.
 abbrev pub MergesNamed : {F P : Type 0} → Ghosts F → writing.Ghosts F → ReportGhosts P → F → F → P → P → MergeWords → Result Status MergeEnd → Type 0
 MergesNamed r f p files files' report report' words result = IfVisible (f.names files) (λ world.
     MergesTo r f p files files' report report' words (sources_of world words) (most_read world words) result)

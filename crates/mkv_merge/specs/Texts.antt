@@ -1,4 +1,4 @@
--- The times of files in place of those of tracks, and what refuses text files. Where times come from, and what they give, is this project's.
+-- Timestamp files, which replace the timestamps of tracks, and refusals because of text files. Both are this project's.
 use Rattle.std.specs.Prelude.{ℕ, suc, ◌==◌, if◌then◌else◌, List, [], ◌∷◌, find, Option, Some, None, is_some, Result}
 use Rattle.std.specs.List.{flat_map}
 use Rattle.std.specs.Option.{option_and_then, option_or}
@@ -14,66 +14,66 @@ use Rattle.mkv_io.specs.Results.{unless}
 use Rattle.mkv_merge.specs.declared.refusal.Refusal.{Refusal}
 use Rattle.mkv_merge.specs.declared.refusal.Refusal.TheVariants.{MissingTimes, Times}
 
--- ---- what refuses a merge
+-- ---- refusals
 
--- of files of times the first that refuses a merge for this cause, and why it does
+-- the first timestamp file for which `why` is a refusal; `refusal_of_first` is that refusal
 abbrev pub first_refusing : (TimesFile → Option Refusal) → List TimesFile → Option TimesFile
 first_refusing why files = find (λ (f : TimesFile). is_some (why f)) files
 
 abbrev pub refusal_of_first : (TimesFile → Option Refusal) → List TimesFile → Option Refusal
 refusal_of_first why files = option_and_then why (first_refusing why files)
 
--- a file of times of this name isn't there
+-- the refusal because the timestamp file `name` is missing
 abbrev pub missing_given : List ℕ → TimesGiven → Option Refusal
 missing_given name given.Missing = Some (MissingTimes name)
 missing_given name (given.Refused why) = None
 missing_given name (given.Read times) = None
 
--- why a file of times refuses a merge, where it isn't there; and of these files the first that does
+-- the refusal because a timestamp file is missing; `missing_times` is the first for a list of files
 abbrev pub missing_by : TimesFile → Option Refusal
 missing_by f = missing_given f.named.name f.given
 
 abbrev pub missing_times : List TimesFile → Option Refusal
 missing_times files = refusal_of_first missing_by files
 
--- the chapter file isn't there, or a file of times
+-- the refusal because the chapter file is missing, or else a timestamp file
 abbrev pub missing_text : TextFiles → Option Refusal
 missing_text texts = option_or (missing_chapters texts.chapters) (missing_times texts.times)
 
--- a file of times of this name isn't taken
+-- the refusal because the timestamp file `name` is refused
 abbrev pub given_refusal : List ℕ → TimesGiven → Option Refusal
 given_refusal name given.Missing = None
 given_refusal name (given.Refused why) = Some (Times name why)
 given_refusal name (given.Read times) = None
 
--- why a file of times refuses a merge, where it isn't taken; and of these files the first that does
+-- the refusal because a timestamp file is refused; `times_refusal` is the first for a list of files
 abbrev pub refusal_by : TimesFile → Option Refusal
 refusal_by f = given_refusal f.named.name f.given
 
 abbrev pub times_refusal : List TimesFile → Option Refusal
 times_refusal files = refusal_of_first refusal_by files
 
--- ---- what they give
+-- ---- timestamps of the files
 
--- the times that a file gives to the track of this ID
+-- the timestamps that a file gives to the track `id`
 abbrev pub given_listing : ℕ → TimesGiven → List (ℕ × Listing)
 given_listing id given.Missing = []
 given_listing id (given.Refused why) = []
 given_listing id (given.Read times) = (id, times) ∷ []
 
--- the times that files give to tracks of the input of this number, each with the ID of its track
+-- the timestamps that files give to tracks of the input number `input`, each with the ID of its track
 abbrev pub listings_at : ℕ → List TimesFile → List (ℕ × Listing)
 listings_at input files = flat_map (λ (f : TimesFile). if f.named.input == input then given_listing f.named.id f.given else []) files
 
--- an input with the times of files; one that is appended keeps its own times
+-- the input with the timestamps `times`; an appended input keeps its own
 abbrev pub with_listings : List (ℕ × Listing) → InputRead → InputRead
 with_listings times i = record i { times = if is_appended i then [] else times }
 
--- inputs, the first of which has this number, with what files of times give
+-- the inputs from the number `input` on, with the timestamps of `files`
 abbrev pub timed_from : List TimesFile → ℕ → List InputRead → List InputRead
 timed_from files input [] = []
 timed_from files input (i ∷ is) = with_listings (listings_at input files) i ∷ timed_from files (suc input) is
 
--- the same of all inputs, unless one of the files isn't taken
+-- all inputs with the timestamps of `files`, unless one of the files is refused
 abbrev pub with_times : List TimesFile → List InputRead → Result (List InputRead) Refusal
 with_times files reads = unless (times_refusal files) (timed_from files 0 reads)

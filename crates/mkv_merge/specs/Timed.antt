@@ -1,4 +1,4 @@
--- Inputs that were given the times of files. The way is this project's.
+-- Inputs with the timestamps of timestamp files. The way is this project's.
 use Rattle.std.specs.Prelude.{◌≡◌, ℕ, suc, ◌==◌, if◌then◌else◌, List, [], ◌∷◌, flat_map, map}
 use Rattle.ext_times.specs.Listing.{Listing}
 use Rattle.input_files.specs.declared.times_file.TimesFile.{TimesFile}
@@ -8,7 +8,7 @@ use Rattle.merge_plan.specs.Records.{is_appended}
 use Rattle.mkv_merge.specs.Texts.{given_listing, with_listings}
 use Rattle.mkv_merge.specs.declared.texts.SharedTimes.{SharedTimes}
 
--- what the file of a track lists, with the number of its input and the ID of the track
+-- the timestamps that a file lists for a track, with the number of the input and the ID of the track
 pub record Listed : Type 0 where
   pub input : ℕ
   pub id : ℕ
@@ -17,7 +17,7 @@ pub record Listed : Type 0 where
 abbrev pub listed_of : SharedTimes → Listed
 listed_of s = record { input = s.input; id = s.id; times = s.times.value }
 
--- the same of files
+-- the timestamps of one file, and below of several files
 abbrev pub given_listed : ℕ → ℕ × Listing → Listed
 given_listed input pair = record { input = input; id = pair.0; times = pair.1 }
 
@@ -27,26 +27,26 @@ listed_by f = map (given_listed f.named.input) (given_listing f.named.id f.given
 abbrev pub listed_in : List TimesFile → List Listed
 listed_in files = flat_map listed_by files
 
--- those of the input of this number
+-- the timestamps for the input number `input`
 abbrev pub at_input : ℕ → Listed → List (ℕ × Listing)
 at_input input l = if l.input == input then (l.id, l.times) ∷ [] else []
 
 abbrev pub shared_at : ℕ → List SharedTimes → List (ℕ × Listing)
 shared_at input shared = flat_map (λ (s : SharedTimes). at_input input (listed_of s)) shared
 
--- the times that were shared for an input; one that is appended keeps its own
+-- the timestamps that are shared for an input, or none if it is appended: then it keeps its own
 abbrev pub shared_for : ℕ → List SharedTimes → InputRead → List (ℕ × Listing)
 shared_for input shared i = if is_appended i then [] else shared_at input shared
 
--- inputs, the first of which has this number, with what was shared
+-- the inputs from the number `input` on, with the shared timestamps
 abbrev pub shared_from : List SharedTimes → ℕ → List InputRead → List InputRead
 shared_from shared input [] = []
 shared_from shared input (i ∷ is) = with_listings (shared_at input shared) i ∷ shared_from shared (suc input) is
 
--- an input at its own times
+-- the input without timestamps of a file
 abbrev pub untimed : Input → Input
 untimed i = record i { times = [] }
 
--- Inputs are these but for their times.
+-- `new` and `inputs` differ only in their timestamps.
 abbrev pub IsSameBut : List Input → List Input → Type 0
 IsSameBut inputs new = map untimed new ≡ map untimed inputs

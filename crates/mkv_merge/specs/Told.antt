@@ -1,4 +1,4 @@
--- The lines that are told of what a merge has found wrong. They are this project's.
+-- The lines that report the outputs of a merge and warn of damage. They are this project's.
 use Rattle.std.specs.Prelude.{ℕ, suc, ◌==◌, Bool, ◌||◌, List, [], ◌∷◌, ◌++◌, length, map, filter}
 use Rattle.requests.specs.declared.merge.FileWords.{FileWords}
 use Rattle.requests.specs.declared.merge.MergeWords.{MergeWords}
@@ -11,14 +11,14 @@ use Rattle.remux_plan.specs.declared.summary.MoreDamage.{MoreDamage}
 use Rattle.remux_plan.specs.declared.summary.Summary.{Summary}
 use Rattle.remux_plan.specs.declared.summary.Written.{Written}
 
--- those of the damages that are of an input
+-- the damage of the input number `input`; `more_at` is the same for the counts of further damage
 abbrev pub damages_at : ℕ → List InputDamage → List InputDamage
 damages_at input damages = filter (λ (d : InputDamage). d.input == input) damages
 
 abbrev pub more_at : ℕ → List MoreDamage → List MoreDamage
 more_at input more = filter (λ (m : MoreDamage). m.input == input) more
 
--- what is told of an input of this name: its damages one by one, and how many others it has
+-- the warnings about an input `name`: its first damaged places, and the number of the others
 abbrev pub damage_warnings : List ℕ → ℕ → List InputDamage → List (List ℕ)
 damage_warnings name input damages = map (λ (d : InputDamage). warning_line name d.damage) (damages_at input damages)
 
@@ -28,26 +28,26 @@ more_warnings name input more = map (λ (m : MoreDamage). more_damages_line name
 abbrev pub input_warnings : Summary → ℕ → List ℕ → List (List ℕ)
 input_warnings s input name = damage_warnings name input s.damages ++ more_warnings name input s.more
 
--- the same of inputs, the first of which has this number
+-- the warnings about inputs from the number `input` on
 abbrev pub warnings_from : Summary → ℕ → List FileWords → List (List ℕ)
 warnings_from s input [] = []
 warnings_from s input (file ∷ files) = input_warnings s input file.name ++ warnings_from s (suc input) files
 
--- something is warned of: a track that isn't there, or a damage
+-- There is something to warn of: an absent track or damage.
 abbrev pub is_warned : Bool → Summary → Bool
 is_warned absent s = absent || is_some_of s.damages
 
--- the lines of outputs that stand whole
+-- the lines of completed outputs
 abbrev pub wrote_lines : List Written → List (List ℕ)
 wrote_lines outputs = map (λ (w : Written). wrote_blocks_line w.name w.blocks) outputs
 
--- the lines of the outputs, and then the warnings of the inputs; and then that of the number of identifiers
+-- the lines of the outputs and then the warnings about the inputs; `told_summary` adds the warning about the number of identifiers
 abbrev pub told_outputs : MergeWords → Summary → List (List ℕ)
 told_outputs words s = wrote_lines s.outputs ++ warnings_from s 0 words.files
 
 abbrev pub told_summary : MergeWords → Summary → List (List ℕ)
 told_summary words s = told_outputs words s ++ uuid_lines words (length s.outputs)
 
--- the status of a merge of which all is told
+-- the status of a merge whose lines are all printed
 abbrev pub told_status : MergeWords → Bool → Summary → Status
 told_status words absent s = warned_if (is_warned absent s || has_other_count words (length s.outputs))

@@ -1,4 +1,4 @@
-//! The Chapters of a chapter file in place of those of the inputs: RFC 9559, section 5.1.7 (Chapters Element).
+//! Chapters of a chapter file, which replace the inputs' own: RFC 9559, section 5.1.7 (Chapters Element).
 
 ghost use Rattle.std.specs.Prelude.{◌≡◌, IfOk, IfErr};
 ghost use Rattle.mkv_merge.specs.Chapters.{first_with, with_file, with_tree};
@@ -12,7 +12,7 @@ use merge_inputs::Input;
 use mkv_io::List;
 use std::alloc::{AllocError, Global};
 
-/// Of inputs the first with these Chapters, and the others without any.
+/// Returns `inputs` with `chapters` in the first one, and without Chapters in the others.
 fn first_with(
     alloc: Global,
     chapters: Option<Tree>,
@@ -29,7 +29,8 @@ fn first_with(
     Ok(list)
 }
 
-/// Inputs with what a chapter file gives, unless it isn't taken: its Chapters in place of theirs, or none at all in WebM.
+/// Returns `inputs` with the Chapters of `file` instead of their own, or without any Chapters in WebM. Fails if
+/// `file` is refused.
 pub fn with_file(
     alloc: Global,
     webm: bool,

@@ -1,4 +1,4 @@
-//! Files are merged, and no line is said.
+//! Merges files without printing a line.
 
 ghost use Rattle.std.specs.Prelude.{[]};
 ghost use Rattle.mkv_io.specs.Seen.{SameLive};
@@ -22,14 +22,14 @@ use remuxer::remux;
 use requests::MergeWords;
 use std::alloc::Global;
 
-/// What a merge came to of which nothing was said.
+/// Result of a merge that prints nothing.
 #[derive(Drop)]
 pub enum Merged {
     Written(Summary),
     Refused(Refusal),
 }
 
-/// Merges live files, the inputs of these words.
+/// Merges the live files `ids`, the inputs of the command line `words`.
 fn join_opened<F: Files>(
     alloc: Global,
     words: &MergeWords,
@@ -52,7 +52,7 @@ fn join_opened<F: Files>(
     remuxed(remux(alloc, prepared.plan, files))
 }
 
-/// Merges the files of the inputs' names, unless an output could have the name of a file that is read.
+/// Merges the files that `words` names, unless an output could have the name of a file that is read.
 fn join_named<F: Files>(
     alloc: Global,
     words: &MergeWords,
@@ -74,7 +74,7 @@ fn join_named<F: Files>(
     ended
 }
 
-/// Merges the files of the inputs' names, and says nothing. No sidecar and no text file is looked at.
+/// Merges the files that `words` names, and prints nothing. Opens no journal and no text file.
 pub fn merge_files<F: Files>(
     alloc: Global,
     words: &MergeWords,

@@ -1,6 +1,6 @@
 #![tactic(auto)]
 
-//! The command `merge`, which writes one file of several: the tracks that the words take of each, as they say them.
+//! The command `merge`, which writes one file from the selected tracks of several files.
 
 mod chapters;
 mod joining;

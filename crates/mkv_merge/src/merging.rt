@@ -1,4 +1,4 @@
-//! Files are opened, merged and closed.
+//! Opens, merges and closes files.
 
 ghost use Rattle.mkv_io.specs.Told.{IfVisible};
 ghost use Rattle.input_files.specs.ChapterFile.{CanBeWritten};
@@ -25,8 +25,8 @@ use mkv_lines::{CommandEnd, Status};
 use requests::MergeWords;
 use std::alloc::Global;
 
-/// Merges live files, the inputs of these words, unless a text file isn't there, or an edit of one of them or of the output is
-/// pending.
+/// Merges the live files `ids`, the inputs of `words`. Refuses the merge if a text file is missing, or if an edit of
+/// an input or of the output is pending.
 fn merge_opened<F: Files, P: Report>(
     alloc: Global,
     words: &MergeWords,
@@ -49,7 +49,7 @@ fn merge_opened<F: Files, P: Report>(
     written(write(alloc, words, prepared, ids, files, report))
 }
 
-/// Merges the files of the inputs' names, unless an output could have the name of a file that is read.
+/// Merges the files that `words` names, unless an output could have the name of a file that is read.
 fn merge_named<F: Files, P: Report>(
     alloc: Global,
     words: &MergeWords,
@@ -71,8 +71,8 @@ fn merge_named<F: Files, P: Report>(
     ended
 }
 
-/// Writes one file of several, or that in parts, as the words say: the tracks that they take of each, at the times of files of
-/// times and with the Chapters of a chapter file where they name such.
+/// Runs `merge`: writes the selected tracks of several files to one file, or to several parts. Timestamp files and a
+/// chapter file that `words` names replace the inputs' timestamps and Chapters.
 pub fn merge_of<F: Files, P: Report>(
     alloc: Global,
     words: &MergeWords,
@@ -83,8 +83,8 @@ pub fn merge_of<F: Files, P: Report>(
     ensures verdict { ComesToMerge F.Reads F.Files.own P.Report files.old files.new report.old report.new result words.now }
     ensures ended { HasEnded F.Reads F.Files.own P.Report files.old files.new report.old report.new result }
 
-    // What a merge that ended has written can be read again: what its inputs give besides tracks and blocks, and outputs of
-    // no more octets than a file may have.
+    // If the merge ended by itself, its outputs can be read again: their records are valid, and none is longer than a
+    // file may be.
     ensures readable { IfVisible (F.names files.old) (λ world. EndsReadable words.now (sources_of world words.now) result) }
     ensures asks { AsksToMerge (opened_by words.now) words.now (F.asked files.old) (F.asked files.new) }
     ensures octets { IfVisible (F.names files.old) (λ world. ReadsUpTo F.Reads files.old files.new (most_read world words.now)) }

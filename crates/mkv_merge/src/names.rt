@@ -1,4 +1,4 @@
-//! The names of the outputs of a merge, and those of the files that it reads.
+//! Names of the outputs of a merge, and names of the files that it reads.
 
 ghost use Rattle.std.specs.Prelude.{◌≡◌, ◌++◌, find, map, IfOk, OnOk};
 ghost use Rattle.std.specs.Option.{option_copied, option_to_list};
@@ -14,7 +14,7 @@ use sidecar_edit::sidecar_name;
 use splitter::is_part_name;
 use std::alloc::{AllocError, Global};
 
-/// Adds the names of files.
+/// Appends the names of `files` to `names`.
 fn add_names(files: &[FileWords], names: &mut List<Text>) -> Result<(), AllocError>
     ensures { OnOk result (names.new ≡ names.old ++ file_names files.now) }
 {
@@ -24,7 +24,7 @@ fn add_names(files: &[FileWords], names: &mut List<Text>) -> Result<(), AllocErr
     Ok(())
 }
 
-/// Adds the name of the chapter file, if there is one.
+/// Appends the name of the chapter file to `names`, if there is one.
 fn add_chapters(chapters: &Option<Text>, names: &mut List<Text>) -> Result<(), AllocError>
     ensures { OnOk result (names.new ≡ names.old ++ option_to_list chapters.now) }
 {
@@ -34,7 +34,7 @@ fn add_chapters(chapters: &Option<Text>, names: &mut List<Text>) -> Result<(), A
     }
 }
 
-/// Adds the names of files of times.
+/// Appends the names of the timestamp files `times` to `names`.
 fn add_times(times: &[TimesName], names: &mut List<Text>) -> Result<(), AllocError>
     ensures { OnOk result (names.new ≡ names.old ++ times_names times.now) }
 {
@@ -44,7 +44,7 @@ fn add_times(times: &[TimesName], names: &mut List<Text>) -> Result<(), AllocErr
     Ok(())
 }
 
-/// Adds the names of the files beside these, in which an edit is kept until it is done.
+/// Appends the names of the journals of `files` to `names`.
 fn add_sidecars(
     alloc: Global,
     files: &[FileWords],
@@ -58,7 +58,7 @@ fn add_sidecars(
     Ok(())
 }
 
-/// The same of files of times.
+/// Appends the names of the journals of the timestamp files `times` to `names`.
 fn add_times_sidecars(
     alloc: Global,
     times: &[TimesName],
@@ -72,8 +72,8 @@ fn add_times_sidecars(
     Ok(())
 }
 
-/// The names that no output of a merge may have: those of its inputs, of its chapter file and of its files of times, and of the
-/// sidecars of its inputs and of its files of times.
+/// Returns the names that no output of a merge may have. They are the names of its inputs, its chapter file, its
+/// timestamp files, and the journals of its inputs and timestamp files.
 fn read_names(alloc: Global, words: &MergeWords) -> Result<List<Text>, AllocError>
     ensures { IfOk result (λ names. names ≡ read_names words.now) }
 {
@@ -88,14 +88,14 @@ fn read_names(alloc: Global, words: &MergeWords) -> Result<List<Text>, AllocErro
     Ok(names)
 }
 
-/// Whether a name is that of a part.
+/// Checks whether `name` could be the name of a part of the output.
 fn is_part(words: &MergeWords, name: &str) -> bool
     ensures { result ≡ is_part words.now name.now }
 {
     words.split.is_some() && is_part_name(words.output.as_str(), name)
 }
 
-/// The first of these names that is the output's.
+/// Returns the first of `names` that equals the output's name.
 fn output_among<'a>(words: &MergeWords, names: &'a [Text]) -> Option<&'a Text>
     ensures { option_copied result ≡ find (is_output words.now) names.now }
 {
@@ -103,14 +103,15 @@ fn output_among<'a>(words: &MergeWords, names: &'a [Text]) -> Option<&'a Text>
     names.iter().find(|name| name.as_str() == output)
 }
 
-/// The first of these names that is that of a part.
+/// Returns the first of `names` that could be the name of a part.
 fn part_among<'a>(words: &MergeWords, names: &'a [Text]) -> Option<&'a Text>
     ensures { option_copied result ≡ find (is_part words.now) names.now }
 {
     names.iter().find(|name| is_part(words, name.as_str()))
 }
 
-/// The first of the names that are read which an output has: the name of the words, with a split too, or else a part.
+/// Returns the first name of a file that is read which an output could have. The output's own name comes first, also
+/// if the output is split; then the names of parts.
 pub fn first_written(alloc: Global, words: &MergeWords) -> Result<Option<Text>, AllocError>
     ensures { IfOk result (λ name. name ≡ first_written words.now) }
 {

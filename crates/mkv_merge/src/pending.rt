@@ -1,4 +1,4 @@
-//! What keeps the files of a merge from being read.
+//! Refusals before the files of a merge are read.
 
 ghost use Rattle.std.specs.Prelude.{◌≡◌, IfOk};
 ghost use Rattle.mkv_io.specs.Bounds.{ReadsUpTo};
@@ -18,8 +18,8 @@ use requests::MergeWords;
 use sidecar_edit::is_pending;
 use std::alloc::Global;
 
-/// What refuses a merge of files of which an edit is pending: the first of the inputs, in the order of the words, and
-/// then the file that lies at the output's name, where the output isn't split.
+/// Returns the refusal of a merge because of a pending edit: the first input that has one, in the order of `words`.
+/// After the inputs follows an existing file with the output's name, unless the output is split.
 fn pending_of<F: Files>(
     alloc: Global,
     words: &MergeWords,
@@ -39,8 +39,8 @@ fn pending_of<F: Files>(
     Ok(None)
 }
 
-/// What refuses a merge whose inputs are there before they are read: a chapter file or a file of times that isn't there, or an
-/// edit that is pending.
+/// Returns the refusal of a merge before its inputs are read: a missing chapter file or timestamp file, or a pending
+/// edit. All inputs exist.
 pub fn begun_refusal<F: Files>(
     alloc: Global,
     words: &MergeWords,

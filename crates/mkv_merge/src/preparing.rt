@@ -1,4 +1,4 @@
-//! What stands before the blocks of the inputs, and what they come to.
+//! Reads inputs up to their blocks, and plans the merge.
 
 ghost use Rattle.std.specs.Prelude.{◌≡◌, ◌*◌, IfOk};
 ghost use Rattle.mkv_io.specs.Sources.{IfTold, IsLive, file_size, live_files};
@@ -22,15 +22,15 @@ use remux_plan::MergePlan;
 use requests::{FileWords, MergeWords};
 use std::alloc::Global;
 
-/// What a merge is made of.
+/// Inputs and plan of a merge.
 #[derive(Drop)]
 pub struct Prepared {
-    /// The inputs, in the order of the words.
+    /// Inputs, in the order of the command line.
     pub inputs: List<Input>,
     pub plan: MergePlan,
 }
 
-/// What is read of one input, by its number.
+/// Reads the input number `input` up to its blocks.
 fn read_one<R: Reads>(
     alloc: Global,
     words: &FileWords,
@@ -56,7 +56,7 @@ fn read_one<R: Reads>(
     }
 }
 
-/// How many octets of Info, Tracks, Chapters and Tags an input has, by what holds its blocks.
+/// Returns the total size of Info, Tracks, Chapters and Tags of an input, in bytes.
 fn held_by(blocks: &Blocks) -> u64
     ensures { result ≡ held_in blocks.now }
 {
@@ -66,7 +66,7 @@ fn held_by(blocks: &Blocks) -> u64
     }
 }
 
-/// What is read of the inputs before their blocks, in the order of the words.
+/// Reads all inputs up to their blocks, in the order of `words`.
 fn read_inputs<R: Reads>(
     alloc: Global,
     words: &MergeWords,
@@ -90,7 +90,7 @@ fn read_inputs<R: Reads>(
     Ok(inputs)
 }
 
-/// What these words make of these live files and of the text files, or what refuses them.
+/// Reads the live files, applies the text files and plans the merge. Fails if one of them is refused.
 pub fn prepare<R: Reads>(
     alloc: Global,
     words: &MergeWords,

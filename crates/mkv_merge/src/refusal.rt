@@ -1,4 +1,4 @@
-//! Why nothing is merged.
+//! Reasons why nothing is merged.
 
 ghost use Rattle.std.specs.Prelude.{◌≡◌};
 ghost use Rattle.mkv_lines.specs.Code.{read_stop};
@@ -14,42 +14,42 @@ use mkv_lines::{CommandEnd, Status, stop_of};
 use remux_plan::Summary;
 use std::alloc::AllocError;
 
-/// Why nothing is merged. Inputs count from 0, in the order of the words.
+/// Reason why nothing is merged. Inputs count from 0, in the order of the command line.
 #[derive(Debug, Drop)]
 pub enum Refusal {
-    /// This is a name of an input, of the chapter file, of a file of times, or of the file beside an input or a file of times in
-    /// which an edit is kept, and an output has it, or could have it as one of its parts.
+    /// An output has or could have `name`, which is the name of a file that is read. That file is an input, the
+    /// chapter file, a timestamp file, or the journal of an input or a timestamp file.
     OutputIsInput { name: Text },
-    /// There is no file of this input's name.
+    /// The input doesn't exist.
     Missing { input: usize },
-    /// There is no file of the chapter file's name.
+    /// The chapter file doesn't exist.
     MissingChapters,
-    /// There is no file of this name, that of a file of times.
+    /// The timestamp file `name` doesn't exist.
     MissingTimes { name: Text },
-    /// An edit of this input is pending.
+    /// An edit of the input is pending.
     PendingInput { input: usize },
-    /// An edit of the file that lies at the output's name is pending.
+    /// An edit of the file with the output's name is pending.
     PendingOutput,
-    /// This input isn't taken.
+    /// The input is refused.
     Input { input: usize, why: InputRefusal },
-    /// The chapter file isn't taken.
+    /// The chapter file is refused.
     Chapters(TextRefusal),
-    /// The file of times of this name isn't taken.
+    /// The timestamp file `name` is refused.
     Times { name: Text, why: TextRefusal },
-    /// The tracks of this appended input can't go on in the lanes of the input to which it is appended.
+    /// The tracks of an appended input can't continue the output tracks of the input to which it is appended.
     Differs(AppendDiffers),
     /// The inputs make no output.
     Plan(PlanRefusal),
 }
 
-/// Why a merge ends without its outputs: it is refused, or it is stopped.
+/// End of a merge without its outputs: refused or stopped.
 #[derive(Debug, Drop)]
 pub enum MergeEnd {
     Refused(Refusal),
     Stopped(CommandEnd),
 }
 
-/// How a merge ends whose writing and telling ended so.
+/// Returns the end of a merge that prints, by the end of its writing.
 pub fn written(ended: Result<Status, CommandEnd>) -> Result<Status, MergeEnd>
     ensures { result ≡ as_written ended }
 {
@@ -59,7 +59,7 @@ pub fn written(ended: Result<Status, CommandEnd>) -> Result<Status, MergeEnd>
     }
 }
 
-/// How a merge of which nothing is said ends, whose writing ended so.
+/// Returns the end of a merge that prints nothing, by the end of its writing.
 pub fn remuxed(ended: Result<Summary, RemuxEnd>) -> Result<Summary, MergeEnd>
     ensures { result ≡ as_remuxed ended }
 {

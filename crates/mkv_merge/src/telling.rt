@@ -1,4 +1,4 @@
-//! What is told of a merge.
+//! Messages of a merge.
 
 ghost use Rattle.std.specs.Prelude.{◌≡◌, length, IfOk};
 ghost use Rattle.mkv_lines.specs.Line.{text_of};
@@ -21,7 +21,7 @@ use remux_plan::{InputDamage, MoreDamage, Summary};
 use requests::{FileWords, MergeWords};
 use std::alloc::Global;
 
-/// The name of an input, by its number.
+/// Returns the name of the input number `input`.
 fn name_of(words: &MergeWords, input: usize) -> &str
     ensures { result.now ≡ name_of words.now input }
 {
@@ -65,7 +65,7 @@ fn plan_line<'a>(name: &'a str, why: &'a PlanRefusal) -> Line<'a>
     }
 }
 
-/// The name of the chapter file.
+/// Returns the name of the chapter file.
 fn chapters_name(words: &MergeWords) -> &str
     ensures { result.now ≡ chapters_name words.now }
 {
@@ -75,7 +75,7 @@ fn chapters_name(words: &MergeWords) -> &str
     }
 }
 
-/// The line of a refusal.
+/// Returns the line that reports the refusal `why`.
 fn line_of<'a>(words: &'a MergeWords, why: &'a Refusal) -> Line<'a>
     ensures { text_of result ≡ line_of words.now why.now }
 {
@@ -108,7 +108,7 @@ fn line_of<'a>(words: &'a MergeWords, why: &'a Refusal) -> Line<'a>
     }
 }
 
-/// Nothing is merged.
+/// Prints the refusal `why`.
 pub fn refuse<P: Report>(
     alloc: Global,
     words: &MergeWords,
@@ -122,7 +122,7 @@ pub fn refuse<P: Report>(
     mkv_lines::refuse(alloc, &line_of(words, why), report)
 }
 
-/// Warns of the tracks that the words name of a file with so many tracks, and that it hasn't.
+/// Warns of each track that `file` names and that the file doesn't have; the file has `count` tracks.
 fn say_absent_of<P: Report>(
     alloc: Global,
     file: &FileWords,
@@ -143,7 +143,7 @@ fn say_absent_of<P: Report>(
     Ok(())
 }
 
-/// The same of all inputs, in the order of the words.
+/// Warns of the absent tracks of all inputs, in the order of `words`.
 pub fn say_absent<P: Report>(
     alloc: Global,
     words: &MergeWords,
@@ -160,7 +160,7 @@ pub fn say_absent<P: Report>(
     Ok(())
 }
 
-/// Whether the words name a track that a file with so many tracks hasn't.
+/// Checks whether `file` names a track that the file doesn't have; the file has `count` tracks.
 fn has_absent_of(file: &FileWords, count: usize) -> bool
     ensures { result ≡ is_some_of (absent_of file.now count) }
 {
@@ -170,7 +170,7 @@ fn has_absent_of(file: &FileWords, count: usize) -> bool
         .any(|number| *number >= count as u64)
 }
 
-/// The same of some input.
+/// Checks whether some input lacks a track that `words` names.
 pub fn has_absent(words: &MergeWords, inputs: &[Input]) -> bool
     requires { length inputs.now ≡ length words.now.files }
     ensures { result ≡ has_absent words.now (reads_in inputs.now) }
@@ -183,7 +183,7 @@ pub fn has_absent(words: &MergeWords, inputs: &[Input]) -> bool
     false
 }
 
-/// Warns of the damages of an input that are told one by one.
+/// Warns of the damaged places of an input that are listed one by one.
 fn warn_of<P: Report>(
     alloc: Global,
     name: &str,
@@ -204,7 +204,7 @@ fn warn_of<P: Report>(
     Ok(())
 }
 
-/// Tells how many others an input has.
+/// Prints the number of the other damaged places of an input.
 fn warn_more<P: Report>(
     alloc: Global,
     name: &str,
@@ -225,7 +225,7 @@ fn warn_more<P: Report>(
     Ok(())
 }
 
-/// Warns of what is wrong with the inputs, in the order of the words.
+/// Warns of the damage of the inputs, in the order of `words`.
 pub fn warn<P: Report>(
     alloc: Global,
     words: &MergeWords,
@@ -243,14 +243,14 @@ pub fn warn<P: Report>(
     Ok(())
 }
 
-/// Whether segment identifiers are given, and not one for each of so many outputs.
+/// Checks whether segment identifiers are given, but not one for each of `outputs` outputs.
 pub fn has_other_count(words: &MergeWords, outputs: usize) -> bool
     ensures { result ≡ has_other_count words.now outputs }
 {
     !words.uuids.is_empty() && words.uuids.len() != outputs
 }
 
-/// Warns of it, where it is so.
+/// Warns if segment identifiers are given, but not one for each of `outputs` outputs.
 pub fn say_uuids<P: Report>(
     alloc: Global,
     words: &MergeWords,

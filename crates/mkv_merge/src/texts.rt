@@ -1,4 +1,4 @@
-//! The times of files in place of those of tracks, and what refuses text files.
+//! Timestamp files, which replace the timestamps of tracks, and refusals because of text files.
 
 ghost use Rattle.std.specs.Prelude.{◌≡◌, ◌++◌, map, IfOk, IfErr, OnOk};
 ghost use Rattle.std.specs.Option.{option_copied};
@@ -16,7 +16,7 @@ use mkv_io::List;
 use std::alloc::{AllocError, Global};
 use std::rc::Rc;
 
-/// Why a file of times refuses a merge, where it isn't there.
+/// Returns the refusal for `file` if it is missing.
 fn missing_by(file: &TimesFile) -> Result<Option<Refusal>, AllocError>
     ensures { IfOk result (λ why. why ≡ missing_by file.now) }
 {
@@ -29,7 +29,7 @@ fn missing_by(file: &TimesFile) -> Result<Option<Refusal>, AllocError>
     }
 }
 
-/// Of files of times the first that isn't there.
+/// Returns the first of `files` that is missing.
 fn first_missing(files: &[TimesFile]) -> Option<&TimesFile>
     ensures { option_copied result ≡ first_refusing missing_by files.now }
 {
@@ -38,7 +38,7 @@ fn first_missing(files: &[TimesFile]) -> Option<&TimesFile>
         .find(|file| matches!(&file.given, TimesGiven::Missing))
 }
 
-/// Why the first file of times that isn't there refuses a merge.
+/// Returns the refusal for the first missing timestamp file.
 fn missing_times(files: &[TimesFile]) -> Result<Option<Refusal>, AllocError>
     ensures { IfOk result (λ why. why ≡ missing_times files.now) }
 {
@@ -48,7 +48,7 @@ fn missing_times(files: &[TimesFile]) -> Result<Option<Refusal>, AllocError>
     }
 }
 
-/// The chapter file, where it isn't there, or else the first of the files of times that isn't.
+/// Returns the refusal for the chapter file if it is missing, or else for the first missing timestamp file.
 pub fn missing_text(texts: &TextFiles) -> Result<Option<Refusal>, AllocError>
     ensures { IfOk result (λ why. why ≡ missing_text texts.now) }
 {
@@ -58,7 +58,7 @@ pub fn missing_text(texts: &TextFiles) -> Result<Option<Refusal>, AllocError>
     }
 }
 
-/// Why a file of times refuses a merge, where it isn't taken.
+/// Returns the refusal for `file` if it is refused.
 fn refusal_by(file: &TimesFile) -> Result<Option<Refusal>, AllocError>
     ensures { IfOk result (λ why. why ≡ refusal_by file.now) }
 {
@@ -71,7 +71,7 @@ fn refusal_by(file: &TimesFile) -> Result<Option<Refusal>, AllocError>
     }
 }
 
-/// Of files of times the first that isn't taken.
+/// Returns the first of `files` that is refused.
 fn first_refused(files: &[TimesFile]) -> Option<&TimesFile>
     ensures { option_copied result ≡ first_refusing refusal_by files.now }
 {
@@ -80,7 +80,7 @@ fn first_refused(files: &[TimesFile]) -> Option<&TimesFile>
         .find(|file| matches!(&file.given, TimesGiven::Refused(_)))
 }
 
-/// Why the first file of times that isn't taken refuses a merge.
+/// Returns the refusal for the first timestamp file that is refused.
 fn times_refusal(files: &[TimesFile]) -> Result<Option<Refusal>, AllocError>
     ensures { IfOk result (λ why. why ≡ times_refusal files.now) }
 {
@@ -90,16 +90,16 @@ fn times_refusal(files: &[TimesFile]) -> Result<Option<Refusal>, AllocError>
     }
 }
 
-/// The times of a file, for the track of an input.
+/// Timestamps of a file for a track of an input.
 #[derive(Drop)]
 struct SharedTimes {
-    /// The input's number, from 0 in the order of the words.
+    /// Number of the input, from 0 in the order of the command line.
     input: usize,
     id: u64,
     times: Rc<Times>,
 }
 
-/// Adds the times that a file lists, if it lists any.
+/// Appends the timestamps that `file` lists to `list`, if it lists any.
 fn share(alloc: Global, file: TimesFile, list: &mut List<SharedTimes>) -> Result<(), AllocError>
     ensures { OnOk result (map listed_of list.new ≡ map listed_of list.old ++ listed_by file) }
 {
@@ -117,7 +117,7 @@ fn share(alloc: Global, file: TimesFile, list: &mut List<SharedTimes>) -> Result
     }
 }
 
-/// The times that files list, so that each lane may have a share in them.
+/// Returns the timestamps that `files` list, so that output tracks can share them.
 fn shared(alloc: Global, files: List<TimesFile>) -> Result<List<SharedTimes>, AllocError>
     ensures { IfOk result (λ list. map listed_of list ≡ listed_in files) }
 {
@@ -128,7 +128,7 @@ fn shared(alloc: Global, files: List<TimesFile>) -> Result<List<SharedTimes>, Al
     Ok(list)
 }
 
-/// Adds times, if they are those of this input.
+/// Appends the timestamps of `each` to `times`, if they are for the input number `input`.
 fn add_at(input: usize, each: &SharedTimes, times: &mut List<TrackTimes>) -> Result<(), AllocError>
     ensures { OnOk result (listings_in times.new ≡ listings_in times.old ++ at_input input (listed_of each.now)) }
 {
@@ -142,7 +142,7 @@ fn add_at(input: usize, each: &SharedTimes, times: &mut List<TrackTimes>) -> Res
     })
 }
 
-/// The times of an input.
+/// Returns the timestamps that are shared for the input number `input`.
 fn times_at(
     alloc: Global,
     input: usize,
@@ -157,7 +157,7 @@ fn times_at(
     Ok(times)
 }
 
-/// The same, none where the input is appended: it keeps its own times.
+/// Returns the timestamps that are shared for an input, or none if it is appended: then it keeps its own.
 fn times_for(
     alloc: Global,
     number: usize,
@@ -173,7 +173,7 @@ fn times_for(
     }
 }
 
-/// Inputs with the times of files.
+/// Returns the inputs with the shared timestamps.
 fn timed(
     alloc: Global,
     shared: &[SharedTimes],
@@ -190,7 +190,7 @@ fn timed(
     Ok(list)
 }
 
-/// Inputs with what files of times give, unless one of these isn't taken.
+/// Returns `inputs` with the timestamps of `files`. Fails if a timestamp file is refused.
 pub fn with_times(
     alloc: Global,
     files: List<TimesFile>,

@@ -1,4 +1,4 @@
-//! What was prepared is written, and told of.
+//! Writes the prepared outputs and prints their messages.
 
 ghost use Rattle.std.specs.Prelude.{◌≡◌, [], IfOk};
 ghost use Rattle.mkv_io.specs.Sources.{live_files};
@@ -21,7 +21,7 @@ use remuxer::remux;
 use requests::MergeWords;
 use std::alloc::Global;
 
-/// Tells of the outputs, which stand whole.
+/// Prints the line of each completed output.
 fn say_wrote<P: Report>(
     alloc: Global,
     outputs: &[Written],
@@ -37,7 +37,7 @@ fn say_wrote<P: Report>(
     Ok(())
 }
 
-/// Tells of the outputs, and warns of what is wrong with the inputs.
+/// Prints the line of each output, and warns of the damage of the inputs.
 fn tell_outputs<P: Report>(
     alloc: Global,
     words: &MergeWords,
@@ -52,7 +52,8 @@ fn tell_outputs<P: Report>(
     Ok(())
 }
 
-/// The same, and then warns of the number of identifiers.
+/// Prints the lines of the outputs and the warnings, the last of which compares the numbers of identifiers and
+/// outputs.
 fn tell<P: Report>(
     alloc: Global,
     words: &MergeWords,
@@ -75,7 +76,7 @@ fn tell<P: Report>(
     }
 }
 
-/// Writes what was prepared, and tells of it.
+/// Writes the prepared outputs and prints their messages.
 pub fn write<F: Files, P: Report>(
     alloc: Global,
     words: &MergeWords,
@@ -92,7 +93,7 @@ pub fn write<F: Files, P: Report>(
     ensures short { EndsShort F.Reads F.Files.own files.old words.now ids.now prepared.inputs result }
     ensures asks { AsksToMerge [] words.now (F.asked files.old) (F.asked files.new) }
 
-    // Each lane reads at most twice the file of its input, and attached files are copied.
+    // Each output track reads the file of its input at most twice, and attached files are copied.
     ensures octets { ReadsPlanned F.Reads files.old files.new ids.now prepared.plan }
 {
     let Prepared { inputs, plan } = prepared;

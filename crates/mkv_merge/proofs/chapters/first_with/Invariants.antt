@@ -1,4 +1,4 @@
--- The first inputs have what is theirs, and what is still to be given goes to the next.
+-- The first inputs have their Chapters, and the remaining Chapters go to the next input.
 use Rattle.std.proofs.Common.{◌≡◌, ◌++◌}
 use Rattle.mkv_merge.specs.Chapters.{first_with, with_tree}
 use Rattle.mkv_merge.proofs.ChaptersLemmas.{left_for}

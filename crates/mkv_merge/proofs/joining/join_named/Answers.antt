@@ -18,20 +18,20 @@ use Rattle.mkv_merge.proofs.MergingLemmas.{inputs-cause, join-ended, missing-fou
 use Rattle.mkv_merge.proofs.AskedLemmas.{merge-asks-both, merge-asks-inputs, merge-asks-more, merge-asks-none}
 use Rattle.mkv_merge.proofs.joining.join_named.Goals as goal
 
--- there was no memory for the names of the outputs
+-- Memory ran out for the names of the outputs.
 pub returns-in_err-name-clause-merges : goal.returns-in_err-name-clause-merges
 returns-in_err-name-clause-merges g c = λ world told.
     let p = err_from_is_err_and c.from_residual.result c.from_residual.ensures.1 in
     let names = g.F.Files.names c.args.files.now in
     rw (p.1, p.2) (merges-ended names names c.args.words.now (sources_alone world c.args.words.now) (Stopped stop.Memory) tt refl)
 
--- an output could have the name of a file that is read
+-- An output could have the name of a file that is read.
 pub returns-in-Some-clause-merges : goal.returns-in-Some-clause-merges
 returns-in-Some-clause-merges g c = λ world told.
     let words = c.args.words.now in
     (written-found world words [] no_texts (contents_held world words) c.in-Some.name (sym c.in_ok-name.ensures ∙ c.in-Some.is), refl)
 
--- an input isn't there, or couldn't be opened
+-- An input is missing or couldn't be opened.
 pub returns-in_err-ids-clause-merges : goal.returns-in_err-ids-clause-merges
 returns-in_err-ids-clause-merges g c = λ world told.
     let p = err_from_is_err_and c.from_residual-in_err-ids.result c.from_residual-in_err-ids.ensures.1 in
@@ -41,7 +41,7 @@ returns-in_err-ids-clause-merges g c = λ world told.
     (missing-found world words [] no_texts (contents_held world words) (sym c.in_ok-name.ensures ∙ c.in_default.is) c.as_slice.result.now c.as_slice.ensures end (c.in_err-ids.ensures.missing world told))
     c.open_all.ensures.same.names)
 
--- they were opened, merged and closed
+-- The inputs were opened, merged and closed.
 pub returns-clause-merges : goal.returns-clause-merges
 returns-clause-merges g c = λ world told.
     let words = c.args.words.now in
@@ -57,14 +57,14 @@ returns-clause-merges g c = λ world told.
     (subst (λ (o : Result (List Source) Refusal). Merges (g.F.Files.names c.open_all.new.files) (g.F.Files.names c.join_opened-ended.new.files) words o (as_merged c.join_opened-ended.result)) (sym found)
     (c.join_opened-ended.ensures.merges contents contents-told)))
 
--- ---- how it ends
+-- ---- end of the merge
 
 pub returns-in_err-ids-clause-cause : goal.returns-in_err-ids-clause-cause
 returns-in_err-ids-clause-cause g c =
     let p = err_from_is_err_and c.from_residual-in_err-ids.result c.from_residual-in_err-ids.ensures.1 in
     rw (p.1, p.2) (join-ended g.F.Reads g.F.Files c.args.files.now c.open_all.new.files (unopened c.in_err-ids.field-0.0) (inputs-cause _ _ c.in_err-ids.field-0.0 c.in_err-ids.ensures.cause) c.open_all.ensures.same.writing)
 
--- ---- how much is read
+-- ---- bytes read
 
 pub returns-clause-octets : goal.returns-clause-octets
 returns-clause-octets g c = λ world told.
@@ -83,9 +83,9 @@ returns-clause-octets g c = λ world told.
     (size-told f (g.met.F.Reads.told_size (g.F.Reads.standing opened)) world words.files ids contents-told) (omega arith) c.in_ok-ids.ensures.same.octets (omega (arith, paid)) c.close_all.ensures.octets in
     omega (arith, closed)
 
--- ---- what is asked for
+-- ---- calls for files
 
--- inputs are opened
+-- Inputs are opened.
 pub returns-clause-asks : goal.returns-clause-asks
 returns-clause-asks g c =
     let words = c.args.words.now in
@@ -98,12 +98,12 @@ returns-clause-asks g c =
     (merge-asks-both names words opened merged closed (merge-asks-more [] names words opened merged (λ name others. tt) c.join_opened-ended.ensures.asks)
     (merge-asks-none names words merged closed c.close_all.ensures.asked))
 
--- they couldn't be opened
+-- Inputs couldn't be opened.
 pub returns-in_err-ids-clause-asks : goal.returns-in_err-ids-clause-asks
 returns-in_err-ids-clause-asks g c =
     merge-asks-inputs c.args.words.now c.as_slice.result.now (g.F.Files.asked c.args.files.now) (g.F.Files.asked c.open_all.new.files) c.as_slice.ensures c.in_err-ids.ensures.refused.asks
 
--- nothing was looked at
+-- Nothing was looked at.
 pub returns-in-Some-clause-asks : goal.returns-in-Some-clause-asks
 returns-in-Some-clause-asks g c = merge-asks-none (file_names c.args.words.now.files) c.args.words.now (g.F.Files.asked c.args.files.now) (g.F.Files.asked c.args.files.now) refl
 

@@ -23,14 +23,14 @@ use Rattle.mkv_merge.proofs.WritingLemmas.{data-counted, lanes-count, many-input
 use Rattle.mkv_merge.proofs.AskedLemmas.{merge-asks-made, merge-asks-none}
 use Rattle.mkv_merge.proofs.joining.join_opened.Goals as goal
 
--- nothing that stands has changed
+-- Nothing else has changed.
 pub remux-requires : goal.remux-requires
 remux-requires g c =
     plan-good g.F.Reads g.F.Files c.prepare.new.src c.args.words.now c.args.ids.now c.in_ok-prepared.prepared c.requires.words
     (inputs-kept g.F.Reads g.F.Files (file_names c.args.words.now.files) c.args.files.now c.prepare.new.src c.args.ids.now c.requires.inputs c.in_ok-prepared.ensures.reading.standing (g.met.F.Files.holders_stand c.prepare.new.src c.args.files.now c.in_ok-prepared.ensures.reading.standing))
     c.in_ok-prepared.ensures.prepared
 
--- an input couldn't be read, or what was read is refused
+-- An input couldn't be read, or reading found a refusal.
 pub returns-in_err-prepared-clause-merges : goal.returns-in_err-prepared-clause-merges
 returns-in_err-prepared-clause-merges g c = λ contents told.
     let p = err_from_is_err_and c.from_residual.result c.from_residual.ensures.1 in
@@ -40,7 +40,7 @@ returns-in_err-prepared-clause-merges g c = λ contents told.
     (subst (λ (o : Result (List Source) Refusal). ReadsAs {B = List Source} (λ (s : List Source). s) o (Err c.in_err-prepared.field-0.0)) plain (c.in_err-prepared.ensures.exact contents told))
     (g.met.F.Files.names_stand c.prepare.new.src c.args.files.now c.in_err-prepared.ensures.reading.standing))
 
--- they are written, or can't be
+-- The outputs are written, or can't be written.
 pub returns-clause-merges : goal.returns-clause-merges
 returns-clause-merges g c = λ contents told.
     let words = c.args.words.now in
@@ -59,7 +59,7 @@ returns-clause-merges g c = λ contents told.
     (merges-remuxed (g.F.Files.names c.prepare.new.src) (g.F.Files.names c.remux.new.files) words (sources_unless [] words no_texts contents) now prepared.inputs prepared.plan sources c.remux.result (sym plain ∙ c.in_ok-prepared.ensures.exact contents told) is
     (c.remux.ensures.summary planned) (c.remux.ensures.output planned)))
 
--- ---- how it ends
+-- ---- end of the merge
 
 pub returns-in_err-prepared-clause-cause : goal.returns-in_err-prepared-clause-cause
 returns-in_err-prepared-clause-cause g c =
@@ -72,7 +72,7 @@ returns-clause-cause g c =
     rw c.remuxed.ensures (join-remuxed g.F.Reads g.F.Files c.args.files.now c.prepare.new.src c.remux.new.files c.remux.result c.in_ok-prepared.ensures.reading.cause
     (g.met.F.Files.writing_stands c.prepare.new.src c.args.files.now c.in_ok-prepared.ensures.reading.standing) c.remux.ensures.cause)
 
--- ---- how much is read
+-- ---- bytes read
 
 pub returns-clause-octets : goal.returns-clause-octets
 returns-clause-octets g c = λ contents told.
@@ -89,9 +89,9 @@ returns-clause-octets g c = λ contents told.
     (sym plain ∙ c.in_ok-prepared.ensures.exact contents told) (lanes-count now words prepared.inputs prepared.plan sources is) (ap (λ (f : LiveFiles). files_size f ids) same) (data-counted now words prepared.inputs prepared.plan sources is) c.prepare.ensures.octets
     (plan-reads now words ids prepared (g.F.Reads.octets_read c.prepare.new.src) (g.F.Reads.octets_read c.remux.new.files) c.in_ok-prepared.ensures.prepared c.remux.ensures.octets)
 
--- ---- what is asked for
+-- ---- calls for files
 
--- reading asks for nothing
+-- Reading makes no call for files.
 pub returns-in_err-prepared-clause-asks : goal.returns-in_err-prepared-clause-asks
 returns-in_err-prepared-clause-asks g c =
     merge-asks-none [] c.args.words.now (g.F.Files.asked c.args.files.now) (g.F.Files.asked c.prepare.new.src) (g.met.F.Files.asked_stands c.prepare.new.src c.args.files.now c.in_err-prepared.ensures.reading.standing)

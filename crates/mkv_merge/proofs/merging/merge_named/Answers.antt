@@ -20,14 +20,14 @@ use Rattle.mkv_merge.proofs.MergingLemmas.{ended-early, inputs-cause, merges-ear
 use Rattle.mkv_merge.proofs.AskedLemmas.{merge-asks-both, merge-asks-files, merge-asks-inputs, merge-asks-none, merge-asks-sidecars, merge-asks-texts}
 use Rattle.mkv_merge.proofs.merging.merge_named.Goals as goal
 
--- there was no memory for the names of the outputs
+-- Memory ran out for the names of the outputs.
 pub returns-in_err-name-clause-merges : goal.returns-in_err-name-clause-merges
 returns-in_err-name-clause-merges g c = λ world told.
     let p = err_from_is_err_and c.from_residual.result c.from_residual.ensures.1 in
     let files = c.args.files.now in
     rw (p.1, p.2) (merges-early g.F.Reads g.F.Files g.P.Report files files c.args.report.now c.args.words.now (sources_of world c.args.words.now) (most_read world c.args.words.now) (Stopped stop.Memory) tt refl (omega arith))
 
--- an output could have the name of a file that is read
+-- An output could have the name of a file that is read.
 pub returns-in-Some-clause-merges : goal.returns-in-Some-clause-merges
 returns-in-Some-clause-merges g c = λ world told.
     let words = c.args.words.now in
@@ -36,7 +36,7 @@ returns-in-Some-clause-merges g c = λ world told.
     (written-found world words (refusals_begun world words (texts_held world words)) (texts_held world words) (contents_held world words) c.in-Some.name (sym c.in_ok-name.ensures ∙ c.in-Some.is))
     refl (omega arith)
 
--- a text file couldn't be read
+-- A text file couldn't be read.
 pub returns-in_err-texts-clause-merges : goal.returns-in_err-texts-clause-merges
 returns-in_err-texts-clause-merges g c = λ world told.
     let p = err_from_is_err_and c.from_residual-in_err-texts.result c.from_residual-in_err-texts.ensures.1 in
@@ -45,7 +45,7 @@ returns-in_err-texts-clause-merges g c = λ world told.
     rw (p.1, p.2) (merges-early g.F.Reads g.F.Files g.P.Report c.args.files.now c.read_text_files.new.files c.args.report.now words (sources_of world words) (most_read world words) (Stopped (read_stop c.in_err-texts.field-0.0)) tt
     c.read_text_files.ensures.looks.names (omega (arith, paid)))
 
--- an input isn't there, or couldn't be opened
+-- An input is missing or couldn't be opened.
 pub returns-in_err-ids-clause-merges : goal.returns-in_err-ids-clause-merges
 returns-in_err-ids-clause-merges g c = λ world told.
     let p = err_from_is_err_and c.from_residual-in_err-ids.result c.from_residual-in_err-ids.ensures.1 in
@@ -59,7 +59,7 @@ returns-in_err-ids-clause-merges g c = λ world told.
     (c.in_err-ids.ensures.missing world (looks.names ∙ told)))
     (c.open_all.ensures.same.names ∙ looks.names) (omega (arith, paid, c.open_all.ensures.same.octets)))
 
--- inputs were opened, merged and closed
+-- Inputs were opened, merged and closed.
 pub returns-clause-merges : goal.returns-clause-merges
 returns-clause-merges g c = λ world told.
     let words = c.args.words.now in
@@ -89,7 +89,7 @@ returns-clause-merges g c = λ world told.
     (g.F.Reads.octets_read c.args.files.now) (g.F.Reads.octets_read c.read_text_files.new.files) (g.F.Reads.octets_read opened) (g.F.Reads.octets_read c.merge_opened-ended.new.files) (g.F.Reads.octets_read c.close_all.new.files)
     found (size-told f (g.met.F.Reads.told_size (g.F.Reads.standing opened)) world words.files ids contents-told) paid same.octets merged.octets ends.octets) merged
 
--- ---- how it ends
+-- ---- end of the merge
 
 pub returns-in_err-texts-clause-ended : goal.returns-in_err-texts-clause-ended
 returns-in_err-texts-clause-ended g c =
@@ -107,21 +107,21 @@ returns-in_err-ids-clause-ended g c =
     (subst (λ (n : ℕ). HasReadCause {T = Status} n (g.F.Reads.reading_faults c.open_all.new.files) (Err (unopened end))) c.in_ok-texts.ensures.cause (inputs-cause _ _ end c.in_err-ids.ensures.cause))
     (c.open_all.ensures.same.writing ∙ looks.writing) (λ file. c.in_err-ids.ensures.refused.live file ∙ looks.kept.live file))
 
--- ---- what is asked for
+-- ---- calls for files
 
--- nothing is
+-- No file is asked for.
 pub returns-in_err-name-clause-asks : goal.returns-in_err-name-clause-asks
 returns-in_err-name-clause-asks g c = merge-asks-none (opened_by c.args.words.now) c.args.words.now (g.F.Files.asked c.args.files.now) (g.F.Files.asked c.args.files.now) refl
 
 pub returns-in-Some-clause-asks : goal.returns-in-Some-clause-asks
 returns-in-Some-clause-asks g c = merge-asks-none (opened_by c.args.words.now) c.args.words.now (g.F.Files.asked c.args.files.now) (g.F.Files.asked c.args.files.now) refl
 
--- text files are opened
+-- Text files are opened.
 pub returns-in_err-texts-clause-asks : goal.returns-in_err-texts-clause-asks
 returns-in_err-texts-clause-asks g c =
     merge-asks-texts c.args.words.now c.as_slice.result.now (g.F.Files.asked c.args.files.now) (g.F.Files.asked c.read_text_files.new.files) c.as_slice.ensures c.read_text_files.ensures.looks.kept.asks
 
--- then inputs
+-- Then inputs are opened.
 pub returns-in_err-ids-clause-asks : goal.returns-in_err-ids-clause-asks
 returns-in_err-ids-clause-asks g c =
     let words = c.args.words.now in
@@ -131,7 +131,7 @@ returns-in_err-ids-clause-asks g c =
     merge-asks-both (opened_by words) words old mid new (merge-asks-texts words c.as_slice.result.now old mid c.as_slice.ensures c.read_text_files.ensures.looks.kept.asks)
     (merge-asks-files words mid new (merge-asks-inputs words c.as_slice-2.result.now mid new c.as_slice-2.ensures c.in_err-ids.ensures.refused.asks))
 
--- and sidecars
+-- Journals are looked at, too.
 pub returns-clause-asks : goal.returns-clause-asks
 returns-clause-asks g c =
     let words = c.args.words.now in

@@ -4,7 +4,7 @@ use Rattle.mkv_merge.proofs.MergingLemmas.{refusal-told}
 use Rattle.mkv_merge.proofs.WritingLemmas.{readable-none}
 use Rattle.mkv_merge.proofs.merging.merge_of.Goals as goal
 
--- it has come to its verdict
+-- The merge ended with its result.
 pub returns-in-Ok-clause-verdict : goal.returns-in-Ok-clause-verdict
 returns-in-Ok-clause-verdict g c = λ world told. (c.in-Ok.ensures.merges world told).verdict
 
@@ -14,7 +14,7 @@ returns-in-Ok-clause-readable g c = λ world told. (c.in-Ok.ensures.merges world
 pub returns-in-Ok-clause-octets : goal.returns-in-Ok-clause-octets
 returns-in-Ok-clause-octets g c = λ world told. (c.in-Ok.ensures.merges world told).octets
 
--- what refuses it is told
+-- The refusal is printed.
 pub returns-in-Err-Refused-clause-verdict : goal.returns-in-Err-Refused-clause-verdict
 returns-in-Err-Refused-clause-verdict g c = λ world told.
     let words = c.args.words.now in
@@ -29,7 +29,7 @@ returns-in-Err-Refused-clause-readable g c = λ world told.
 pub returns-in-Err-Refused-clause-octets : goal.returns-in-Err-Refused-clause-octets
 returns-in-Err-Refused-clause-octets g c = λ world told. (c.in-Err-Refused.ensures.merges world told).octets
 
--- it was stopped
+-- The merge was stopped.
 pub returns-in-Err-Stopped-clause-verdict : goal.returns-in-Err-Stopped-clause-verdict
 returns-in-Err-Stopped-clause-verdict g c = λ world told. (rw c.in-Err-Stopped.field-0-is at (c.in-Err-Stopped.ensures.merges world told)).verdict
 

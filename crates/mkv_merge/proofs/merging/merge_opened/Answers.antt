@@ -22,7 +22,7 @@ use Rattle.mkv_merge.proofs.WritingLemmas.{data-counted, lanes-count, many-input
 use Rattle.mkv_merge.proofs.AskedLemmas.{merge-asks-both, merge-asks-looks, merge-asks-more}
 use Rattle.mkv_merge.proofs.merging.merge_opened.Goals as goal
 
--- the inputs stand while sidecars are looked into, and what is there is read
+-- Looking at journals and reading leave the inputs unchanged.
 pub write-requires-clause-inputs : goal.write-requires-clause-inputs
 write-requires-clause-inputs g c =
     let names = file_names c.args.words.now.files in
@@ -32,7 +32,7 @@ write-requires-clause-inputs g c =
     (inputs-stand g.F.Reads g.F.Files names (sidecars_of c.args.words.now) [] c.args.files.now mid c.args.ids.now c.requires.inputs c.begun_refusal.ensures.looks.kept)
     standing (g.met.F.Files.holders_stand c.prepare.new.src mid standing)
 
--- a sidecar couldn't be looked into
+-- A journal couldn't be looked at.
 pub returns-in_err-why-clause-merges : goal.returns-in_err-why-clause-merges
 returns-in_err-why-clause-merges g c = λ world told contents held.
     let p = err_from_is_err_and c.from_residual.result c.from_residual.ensures.1 in
@@ -42,7 +42,7 @@ returns-in_err-why-clause-merges g c = λ world told contents held.
     rw (p.1, p.2) (merges-early g.F.Reads g.F.Files g.P.Report c.args.files.now c.begun_refusal.new.files c.args.report.now words found most (Stopped (read_stop c.in_err-why.field-0.0)) tt
     c.begun_refusal.ensures.looks.names (omega (arith, c.begun_refusal.ensures.octets)))
 
--- a text file isn't there, or an edit is pending
+-- A text file is missing, or an edit is pending.
 pub returns-in-Some-clause-merges : goal.returns-in-Some-clause-merges
 returns-in-Some-clause-merges g c = λ world told contents held.
     let words = c.args.words.now in
@@ -52,7 +52,7 @@ returns-in-Some-clause-merges g c = λ world told contents held.
     (begun-refused world words c.args.texts contents c.in-Some.why (sym (c.in_ok-why.ensures.exact world told) ∙ c.in-Some.is))
     c.begun_refusal.ensures.looks.names (omega (arith, c.begun_refusal.ensures.octets))
 
--- an input couldn't be read, or what was read is refused
+-- An input couldn't be read, or reading found a refusal.
 pub returns-in_err-prepared-clause-merges : goal.returns-in_err-prepared-clause-merges
 returns-in_err-prepared-clause-merges g c = λ world told contents held.
     let p = err_from_is_err_and c.from_residual-in_err-prepared.result c.from_residual-in_err-prepared.ensures.1 in
@@ -70,7 +70,7 @@ returns-in_err-prepared-clause-merges g c = λ world told contents held.
     (g.met.F.Files.names_stand c.prepare.new.src c.begun_refusal.new.files c.in_err-prepared.ensures.reading.standing ∙ c.begun_refusal.ensures.looks.names)
     (omega (arith, c.begun_refusal.ensures.octets, c.prepare.ensures.octets, size)))
 
--- what was prepared is written, or its writing was stopped
+-- The prepared outputs are written, or their writing was stopped.
 pub returns-clause-merges : goal.returns-clause-merges
 returns-clause-merges g c = λ world told contents held.
     let words = c.args.words.now in
@@ -99,7 +99,7 @@ returns-clause-merges g c = λ world told contents held.
     seen is (records-are now words prepared.inputs prepared.plan (sources_from contents prepared.inputs) merge c.in_ok-prepared.ensures.prepared.written) (c.write.ensures.short world (names ∙ told) contents now-told)
     (c.write.ensures.verdict contents now-told) (omega (arith, c.begun_refusal.ensures.octets, paid)))
 
--- ---- how it ends
+-- ---- end of the merge
 
 pub returns-in_err-why-clause-ended : goal.returns-in_err-why-clause-ended
 returns-in_err-why-clause-ended g c =
@@ -125,16 +125,16 @@ returns-clause-ended g c =
     rw c.written.ensures (ended-written g.F.Reads g.F.Files g.P.Report c.args.files.now c.prepare.new.src c.write.new.files c.args.report.now c.write.new.report c.write.result seen
     (λ file. ap (λ standing. (g.F.Reads.files standing).live file) standing ∙ looks.kept.live file) c.write.ensures.ended)
 
--- ---- what is asked for
+-- ---- calls for files
 
--- sidecars are looked into
+-- Journals are looked at.
 pub returns-in_err-why-clause-asks : goal.returns-in_err-why-clause-asks
 returns-in_err-why-clause-asks g c = merge-asks-looks c.args.words.now (g.F.Files.asked c.args.files.now) (g.F.Files.asked c.begun_refusal.new.files) c.begun_refusal.ensures.looks.kept.asks
 
 pub returns-in-Some-clause-asks : goal.returns-in-Some-clause-asks
 returns-in-Some-clause-asks g c = merge-asks-looks c.args.words.now (g.F.Files.asked c.args.files.now) (g.F.Files.asked c.begun_refusal.new.files) c.begun_refusal.ensures.looks.kept.asks
 
--- reading asks for nothing
+-- Reading makes no call for files.
 pub returns-in_err-prepared-clause-asks : goal.returns-in_err-prepared-clause-asks
 returns-in_err-prepared-clause-asks g c =
     let mid = c.begun_refusal.new.files in

@@ -1,4 +1,4 @@
--- The names of the files so far stand behind those before.
+-- The names of the first files follow the earlier names.
 use Rattle.std.proofs.Common.{◌≡◌, ◌++◌, take}
 use Rattle.input_files.specs.TimesFile.{times_names}
 use Rattle.mkv_merge.proofs.names.add_times.Given as goal

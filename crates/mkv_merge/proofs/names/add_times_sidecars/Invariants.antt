@@ -1,4 +1,4 @@
--- The names of the files beside those so far stand behind those before.
+-- The names of the first files' journals follow the earlier names.
 use Rattle.std.proofs.Common.{◌≡◌, ◌++◌, map, take}
 use Rattle.sidecar_edit.specs.Name.{sidecar_of}
 use Rattle.input_files.specs.TimesFile.{times_names}

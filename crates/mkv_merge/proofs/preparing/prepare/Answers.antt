@@ -1,4 +1,4 @@
--- The inputs were read, set in place and planned.
+-- The inputs were read, got their append offsets, and were planned.
 use Rattle.std.proofs.Common.{◌≡◌, None, List, Err, length, map, sym, ◌∙◌, ap, subst, arith}
 use Rattle.std.proofs.lemmas.List.{length-map}
 use Rattle.std.proofs.lemmas.Result.{err_from_is_err_and}
@@ -13,39 +13,39 @@ use Rattle.mkv_merge.proofs.PreparingLemmas.{chapters-ended, differs-refused, in
 use Rattle.mkv_merge.proofs.TextsLemmas.{inputs-timed}
 use Rattle.mkv_merge.proofs.preparing.prepare.Goals as goal
 
--- an input wasn't read
+-- An input wasn't read.
 pub returns-in_err-read-clause-exact : goal.returns-in_err-read-clause-exact
 returns-in_err-read-clause-exact g c = λ contents told.
     let p = err_from_is_err_and c.from_residual.result c.from_residual.ensures.1 in
     rw (p.1, p.2) (input-ended c.args.words.now c.args.texts contents c.in_err-read.field-0.0 (c.in_err-read.ensures.exact contents told))
 
--- the chapter file wasn't taken
+-- The chapter file was refused.
 pub returns-in_err-chaptered-clause-exact : goal.returns-in_err-chaptered-clause-exact
 returns-in_err-chaptered-clause-exact g c = λ contents told.
     let p = err_from_is_err_and c.from_residual-in_err-chaptered.result c.from_residual-in_err-chaptered.ensures.1 in
     rw (p.1, p.2) (chapters-ended c.args.words.now c.args.texts contents c.in_ok-read.read c.in_err-chaptered.field-0.0 (c.in_ok-read.ensures.exact contents told) c.in_err-chaptered.ensures.exact)
 
--- a file of times wasn't
+-- A timestamp file was refused.
 pub returns-in_err-timed-clause-exact : goal.returns-in_err-timed-clause-exact
 returns-in_err-timed-clause-exact g c = λ contents told.
     let p = err_from_is_err_and c.from_residual-in_err-timed.result c.from_residual-in_err-timed.ensures.1 in
     rw (p.1, p.2)
     (times-ended c.args.words.now c.args.texts contents c.in_ok-read.read c.in_ok-chaptered.chaptered (c.in_ok-read.ensures.exact contents told) c.in_ok-chaptered.ensures.exact c.in_err-timed.field-0.0 c.in_err-timed.ensures.exact)
 
--- an appended one can't go on
+-- An appended input can't continue the output tracks.
 pub returns-in-Some-clause-exact : goal.returns-in-Some-clause-exact
 returns-in-Some-clause-exact g c = λ contents told.
     differs-refused c.args.words.now c.args.texts contents c.in_ok-read.read c.in_ok-chaptered.chaptered (c.in_ok-read.ensures.exact contents told) c.in_ok-chaptered.ensures.exact
     c.in_ok-timed.timed c.in_ok-timed.ensures.exact c.in-Some.differs
     (ap append_refusal (sym (ap (map read_in) c.as_slice.ensures)) ∙ sym c.append_refusal.ensures ∙ c.in-Some.is)
 
--- what was read are inputs of these files
+-- The inputs that were read are inputs of the files.
 pub assign_append_offsets-requires-clause-inputs : goal.assign_append_offsets-requires-clause-inputs
 assign_append_offsets-requires-clause-inputs g c =
     (inputs-timed (live_files g.R.Reads c.read_inputs.new.src) c.args.files.now c.args.words.now.webm c.args.texts.chapters c.in_ok-read.read c.in_ok-chaptered.chaptered c.in_ok-timed.timed
     c.requires.chapters c.in_ok-read.ensures.inputs c.in_ok-chaptered.ensures.exact c.in_ok-timed.ensures.same).good
 
--- there are no more than 64
+-- There are at most 64 inputs.
 pub assign_append_offsets-requires-clause-few : goal.assign_append_offsets-requires-clause-few
 assign_append_offsets-requires-clause-few g c =
     let inputs : List Input = c.in_ok-timed.timed in
@@ -53,7 +53,7 @@ assign_append_offsets-requires-clause-few g c =
     c.requires.chapters c.in_ok-read.ensures.inputs c.in_ok-chaptered.ensures.exact c.in_ok-timed.ensures.same in
     omega (arith, length-map inputs (λ (i : Input). i.file), ap (λ (l : List FileId). length l) are.of, c.requires.ready.each, c.requires.ready.sound.files.most)
 
--- they aren't planned
+-- The inputs aren't planned.
 pub returns-in_err-plan-clause-exact : goal.returns-in_err-plan-clause-exact
 returns-in_err-plan-clause-exact g c = λ contents told.
     let p = err_from_is_err_and c.from_residual-in_err-plan.result c.from_residual-in_err-plan.ensures.1 in
@@ -64,7 +64,7 @@ returns-in_err-plan-clause-exact g c = λ contents told.
     c.in_ok-inputs.ensures.placed.files told (ap append_refusal (sym (ap (map read_in) c.as_slice.ensures)) ∙ sym c.append_refusal.ensures ∙ c.in_default.is) c.in_ok-inputs.ensures.exact
     c.in_err-plan.field-0.0 (subst (λ (inputs : List Input). Plans words inputs (Err c.in_err-plan.field-0.0)) c.as_slice-2.ensures c.in_err-plan.ensures.exact))
 
--- they are
+-- The inputs are planned.
 pub returns-clause-exact : goal.returns-clause-exact
 returns-clause-exact g c = λ contents told.
     let words = c.args.words.now in
@@ -86,7 +86,7 @@ returns-clause-prepared g c =
       written = subst (λ (inputs : List Input). CanBeWritten inputs c.in_ok-plan.plan) c.as_slice-2.ensures c.in_ok-plan.ensures.written;
     }
 
--- ---- how much is read
+-- ---- bytes read
 
 pub returns-in_err-inputs-clause-octets : goal.returns-in_err-inputs-clause-octets
 returns-in_err-inputs-clause-octets g c =

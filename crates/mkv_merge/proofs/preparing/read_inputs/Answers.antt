@@ -14,14 +14,14 @@ use Rattle.mkv_merge.specs.Prepared.{reads_in}
 use Rattle.mkv_merge.proofs.PreparingLemmas.{GoesOn, files-more, pays-all, pays-more, read-at, read-end, read-place, refused-at}
 use Rattle.mkv_merge.proofs.preparing.read_inputs.Goals as goal
 
--- the words of the file are sound
+-- The file's part of the command line is valid.
 pub read_one-requires-clause-delays : goal.read_one-requires-clause-delays
 read_one-requires-clause-delays g c =
     let w = c.index-as_slice-input.result in
     let is : w ≡ get_or c.args.words.now.files c.loop-input.input w = c.index-as_slice-input.is ∙ ap (λ (files : List FileWords). get_or files c.loop-input.input w) c.as_slice.ensures in
     subst IsSoundFile (sym is) (c.requires.ready.sound.each c.loop-input.input w (omega arith))
 
--- what refuses the input refuses all
+-- A refusal of the input refuses the merge.
 pub returns-in_err-read-clause-exact : goal.returns-in_err-read-clause-exact
 returns-in_err-read-clause-exact g c = λ contents told.
     let p = err_from_is_err_and c.from_residual.result c.from_residual.ensures.1 in
@@ -32,7 +32,7 @@ returns-in_err-read-clause-exact g c = λ contents told.
     (λ bytes is. c.in_err-read.ensures.exact bytes (ap (λ standing. (g.R.Reads.files standing).content (get_or c.args.files.now c.loop-input.input (record { n = 0 })).n) c.loop-input.invariant.standing ∙ is))
     (c.loop-input.invariant.goes_on contents told))
 
--- the input wasn't read to its end
+-- The input wasn't read to its end.
 pub returns-in_err-read-clause-octets : goal.returns-in_err-read-clause-octets
 returns-in_err-read-clause-octets g c =
     let f = live_files g.R.Reads c.args.src.now in
@@ -44,7 +44,7 @@ returns-in_err-read-clause-octets g c =
     (ap (λ standing. (g.R.Reads.files standing).size (get_or c.args.files.now c.loop-input.input (record { n = 0 })).n) c.loop-input.invariant.standing)
     c.loop-input.invariant.octets c.read_one.ensures.octets)
 
--- there was no memory for it
+-- Memory ran out for the input.
 pub returns-in_err-push-clause-octets : goal.returns-in_err-push-clause-octets
 returns-in_err-push-clause-octets g c =
     let f = live_files g.R.Reads c.args.src.now in
@@ -56,7 +56,7 @@ returns-in_err-push-clause-octets g c =
     (ap (λ standing. (g.R.Reads.files standing).size (get_or c.args.files.now c.loop-input.input (record { n = 0 })).n) c.loop-input.invariant.standing)
     c.loop-input.invariant.octets c.read_one.ensures.octets)
 
--- one more is read
+-- One more input is read.
 pub loop-input-preserved : goal.loop-input-preserved
 loop-input-preserved g c = record {
   good = subst (All (IsInput (live_files g.R.Reads c.args.src.now))) (sym c.in_ok-push.ensures.ok)
@@ -85,7 +85,7 @@ loop-input-preserved g c = record {
       c.loop-input.invariant.octets c.read_one.ensures.octets;
 }
 
--- all are read
+-- All inputs are read.
 pub returns-clause-exact : goal.returns-clause-exact
 returns-clause-exact g c = λ contents told.
     read-end c.args.words.now contents c.loop-input.input c.loop-input.held (reads_in c.loop-input.inputs) (omega arith) (c.loop-input.invariant.goes_on contents told)

@@ -1,4 +1,4 @@
--- The first inputs are read, and so are those behind them.
+-- The first inputs are read, and the others follow.
 use Rattle.std.proofs.Common.{◌≡◌, ◌+◌, ◌*◌, ◌≤◌, List, ℕ, map, take}
 use Rattle.std.specs.List.{All}
 use Rattle.mkv_io.specs.Sources.{live_files}

@@ -8,14 +8,14 @@ use Rattle.mkv_merge.specs.Prepared.{reads_in}
 use Rattle.mkv_merge.proofs.TellingLemmas.{absent-begins, absent-ends, absent-next, files_left}
 use Rattle.mkv_merge.proofs.telling.say_absent.Goals as goal
 
--- no line was said yet
+-- No line was printed yet.
 pub loop-k-init : goal.loop-k-init
 loop-k-init g c = record {
   report = refl;
   way = absent-begins (g.P.Report.lines c.args.report.now) c.args.words.now c.args.inputs.now;
 }
 
--- a line couldn't be said
+-- A line couldn't be printed.
 pub returns-in_err-say_absent_of-clause-said : goal.returns-in_err-say_absent_of-clause-said
 returns-in_err-say_absent_of-clause-said g c =
     let here : c.loop-k.k < length c.args.words.now.files = omega arith in
@@ -26,7 +26,7 @@ returns-in_err-say_absent_of-clause-said g c =
     (absent-next (g.P.Report.lines c.args.report.now) (g.P.Report.lines c.loop-k.report) (lines_before c.args.words.now (reads_in c.args.inputs.now)) c.args.words.now.files c.args.inputs.now c.loop-k.k c.index-as_slice-k.result c.index-inputs-k.result here c.loop-k-test.true is c.index-inputs-k.is c.loop-k.invariant.way)
     c.in_err-say_absent_of.ensures.said)
 
--- those of another file were said
+-- The lines of one more file were printed.
 pub loop-k-preserved : goal.loop-k-preserved
 loop-k-preserved g c = record {
   report = search rules;
@@ -38,7 +38,7 @@ loop-k-preserved g c = record {
       c.in_ok-say_absent_of.ensures.said;
 }
 
--- all were said
+-- All lines were printed.
 pub returns-clause-said : goal.returns-clause-said
 returns-clause-said g c =
     let past : length c.args.words.now.files ≤ c.loop-k.k = omega arith in

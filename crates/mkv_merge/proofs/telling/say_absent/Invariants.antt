@@ -1,4 +1,4 @@
--- The lines of the first files were said.
+-- The lines of the first files were printed.
 use Rattle.std.proofs.Common.{◌≡◌, flat_map}
 use Rattle.mkv_lines.specs.Said.{SaysUpTo}
 use Rattle.mkv_merge.specs.Merge.{absent_lines, lines_before}

@@ -9,7 +9,7 @@ use Rattle.mkv_merge.specs.Merge.{absent_of}
 use Rattle.mkv_merge.proofs.TellingLemmas.{kept-said, kept-stops}
 use Rattle.mkv_merge.proofs.telling.say_absent_of.Goals as goal
 
--- a line couldn't be said
+-- A line couldn't be printed.
 pub returns-in_err-say-clause-said : goal.returns-in_err-say-clause-said
 returns-in_err-say-clause-said g c =
     let xs = c.args.file.now.named in
@@ -23,7 +23,7 @@ returns-in_err-say-clause-said g c =
     (kept-stops (no_track_line c.args.file.now.name) (λ m. nat_le c.args.count m) (g.P.Report.lines c.args.report.now) (g.P.Report.lines c.loop-number.report) (g.P.Report.lines c.say.new.report) (map (no_track_line c.args.file.now.name) (absent_of c.args.file.now c.args.count)) xs k n below is past c.loop-number.invariant.way
     (subst (λ (name : List ℕ). SaysPart (g.P.Report.lines c.loop-number.report) (g.P.Report.lines c.say.new.report) (no_track_line name n ∷ [])) c.as_str-name.ensures.same c.in_err-say.ensures.said))
 
--- another was said
+-- One more line was printed.
 pub loop-number-preserved : goal.loop-number-preserved
 loop-number-preserved g c = record {
   report = search rules;

@@ -1,4 +1,4 @@
--- The lines of the first numbers were said.
+-- The lines of the first numbers were printed.
 use Rattle.std.proofs.Common.{◌≡◌, nat_le, drop, filter, map}
 use Rattle.mkv_lines.specs.Line.{no_track_line}
 use Rattle.mkv_lines.specs.Said.{SaysUpTo}

@@ -9,7 +9,7 @@ use Rattle.mkv_merge.specs.Told.{damages_at, more_at, warnings_from}
 use Rattle.mkv_merge.proofs.TellingLemmas.{warnings-end, warnings-next}
 use Rattle.mkv_merge.proofs.telling.warn.Goals as goal
 
--- a damage couldn't be told
+-- A damaged place couldn't be printed.
 pub returns-in_err-warn_of-clause-said : goal.returns-in_err-warn_of-clause-said
 returns-in_err-warn_of-clause-said g c =
     let files = c.args.words.now.files in
@@ -23,7 +23,7 @@ returns-in_err-warn_of-clause-said g c =
     (warnings-next (g.P.Report.lines c.args.report.now) (g.P.Report.lines c.loop-input.report) (warnings_from c.args.summary.now 0 files) c.args.summary.now files k c.file-item.result c.as_str-name.result.now c.as_slice.result.now more below is c.as_str-name.ensures.same c.as_slice.ensures refl c.loop-input.invariant.way)
     c.in_err-warn_of.ensures.said)
 
--- or the number of the others
+-- The number of the other damaged places couldn't be printed.
 pub returns-in_err-warn_more-clause-said : goal.returns-in_err-warn_more-clause-said
 returns-in_err-warn_more-clause-said g c =
     let files = c.args.words.now.files in
@@ -39,7 +39,7 @@ returns-in_err-warn_more-clause-said g c =
     c.in_ok-warn_of.ensures.said)
     c.in_err-warn_more.ensures.said)
 
--- what is wrong with another input was told
+-- The warnings of one more input were printed.
 pub loop-input-preserved : goal.loop-input-preserved
 loop-input-preserved g c = record {
   report = search rules;
@@ -56,7 +56,7 @@ loop-input-preserved g c = record {
       c.in_ok-warn_more.ensures.said;
 }
 
--- all was told
+-- All warnings were printed.
 pub returns-clause-said : goal.returns-clause-said
 returns-clause-said g c =
     let past : length c.args.words.now.files ≤ c.loop-input.input = omega (arith, ap length c.as_slice-file-items.ensures) in

@@ -1,4 +1,4 @@
--- The warnings of the first inputs were said.
+-- The warnings of the first inputs were printed.
 use Rattle.std.proofs.Common.{◌≡◌, drop}
 use Rattle.mkv_lines.specs.Said.{SaysUpTo}
 use Rattle.mkv_merge.specs.Told.{warnings_from}

@@ -8,7 +8,7 @@ use Rattle.mkv_merge.specs.Told.{more_at}
 use Rattle.mkv_merge.proofs.TellingLemmas.{kept-said, kept-stops}
 use Rattle.mkv_merge.proofs.telling.warn_more.Goals as goal
 
--- a line couldn't be said
+-- A line couldn't be printed.
 pub returns-in_err-say-clause-said : goal.returns-in_err-say-clause-said
 returns-in_err-say-clause-said g c =
     let xs = c.args.more.now in
@@ -19,7 +19,7 @@ returns-in_err-say-clause-said g c =
     rw p.1
     (kept-stops (λ (d : MoreDamage). more_damages_line c.args.name.now d.count) (λ (d : MoreDamage). d.input == c.args.input) (g.P.Report.lines c.args.report.now) (g.P.Report.lines c.loop-each.report) (g.P.Report.lines c.say.new.report) (map (λ (d : MoreDamage). more_damages_line c.args.name.now d.count) (more_at c.args.input xs)) xs k x c.loop-each-test.true (get_or_default xs k _ _ c.loop-each-test.true) same c.loop-each.invariant.way c.in_err-say.ensures.said)
 
--- another was said
+-- One more line was printed.
 pub loop-each-preserved : goal.loop-each-preserved
 loop-each-preserved g c = record {
   report = search rules;

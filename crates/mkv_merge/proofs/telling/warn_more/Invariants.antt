@@ -1,4 +1,4 @@
--- The lines of the first counts were said.
+-- The lines of the first counts were printed.
 use Rattle.std.proofs.Common.{◌≡◌, drop, map}
 use Rattle.mkv_lines.specs.Line.{more_damages_line}
 use Rattle.mkv_lines.specs.Said.{SaysUpTo}

@@ -1,4 +1,4 @@
--- The warnings of the first damages were said.
+-- The warnings of the first damaged places were printed.
 use Rattle.std.proofs.Common.{◌≡◌, drop, map}
 use Rattle.mkv_lines.specs.Line.{warning_line}
 use Rattle.mkv_lines.specs.Said.{SaysUpTo}

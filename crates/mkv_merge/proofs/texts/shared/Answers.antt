@@ -5,7 +5,7 @@ use Rattle.mkv_merge.specs.Timed.{listed_in, listed_of}
 use Rattle.mkv_merge.proofs.TextsLemmas.{listed-more}
 use Rattle.mkv_merge.proofs.texts.shared.Goals as goal
 
--- what one file more lists
+-- The timestamps of one more file.
 pub loop-file-preserved : goal.loop-file-preserved
 loop-file-preserved c =
     listed-more c.loop-file.list c.share.new.list c.in-Some.file c.loop-file.file-iterator.rest.items c.next.new.self.rest.items c.into_iter-file-iterator.result.rest.items

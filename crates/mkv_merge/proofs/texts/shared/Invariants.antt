@@ -1,4 +1,4 @@
--- What the files so far list, and behind it what those list that are left.
+-- The timestamps of the first files are in the list, and the others follow.
 use Rattle.std.proofs.Common.{◌≡◌, ◌++◌, map}
 use Rattle.mkv_merge.specs.Timed.{listed_in, listed_of}
 use Rattle.mkv_merge.proofs.texts.shared.Given as goal

@@ -9,7 +9,7 @@ use Rattle.mkv_merge.specs.Timed.{shared_at, shared_from, untimed}
 use Rattle.mkv_merge.proofs.TextsLemmas.{same-more, timed-more}
 use Rattle.mkv_merge.proofs.texts.timed.Goals as goal
 
--- one input more
+-- One more input has its timestamps.
 pub loop-number-preserved : goal.loop-number-preserved
 loop-number-preserved c =
     let input : Input = c.in-Some.input in
@@ -26,7 +26,7 @@ loop-number-preserved c =
       same = same-more c.loop-number.list c.push.new.self input timed left rest all steps.0.0 c.loop-number.invariant.same refl c.in_ok-push.ensures.ok;
     }
 
--- all of them
+-- All inputs have their timestamps.
 pub returns : goal.returns
 returns c =
     let list : List Input = c.loop-number.list in

@@ -1,4 +1,4 @@
--- The inputs so far have their times, and behind them are those that are left.
+-- The first inputs have their timestamps, and the others follow.
 use Rattle.std.proofs.Common.{◌≡◌, ◌++◌, map}
 use Rattle.mkv_merge.specs.Prepared.{reads_in}
 use Rattle.mkv_merge.specs.Timed.{shared_from, untimed}

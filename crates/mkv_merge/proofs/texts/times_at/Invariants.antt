@@ -1,4 +1,4 @@
--- What those so far give to the input, and behind it what those give that are left.
+-- The timestamps that the first items give to the input are in the list, and the others follow.
 use Rattle.std.proofs.Common.{◌≡◌, ◌++◌, drop}
 use Rattle.merge_inputs.specs.Input.{listings_in}
 use Rattle.mkv_merge.specs.Timed.{shared_at}

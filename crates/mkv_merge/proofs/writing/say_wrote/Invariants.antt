@@ -1,4 +1,4 @@
--- The lines of the first outputs were said.
+-- The lines of the first outputs were printed.
 use Rattle.std.proofs.Common.{◌≡◌, drop, map}
 use Rattle.mkv_lines.specs.Line.{wrote_blocks_line}
 use Rattle.mkv_lines.specs.Said.{SaysUpTo}

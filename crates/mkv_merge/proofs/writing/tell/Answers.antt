@@ -8,7 +8,7 @@ use Rattle.mkv_merge.specs.Merge.{uuid_lines}
 use Rattle.mkv_merge.specs.Told.{warnings_from}
 use Rattle.mkv_merge.proofs.writing.tell.Goals as goal
 
--- a line of an output, or a warning of an input, couldn't be said
+-- The line of an output, or a warning of an input, couldn't be printed.
 pub returns-in_err-tell_outputs-clause-said : goal.returns-in_err-tell_outputs-clause-said
 returns-in_err-tell_outputs-clause-said g c =
     let p = err_from_is_err_and c.from_residual.result c.from_residual.ensures.1 in
@@ -17,7 +17,7 @@ returns-in_err-tell_outputs-clause-said g c =
     (map (λ (w : Written). wrote_blocks_line w.name w.blocks) c.args.summary.now.outputs ++ warnings_from c.args.summary.now 0 c.args.words.now.files)
     (uuid_lines c.args.words.now (length c.args.summary.now.outputs)) c.in_err-tell_outputs.ensures.said)
 
--- the warning of the number of identifiers couldn't be
+-- The warning of the number of identifiers couldn't be printed.
 pub returns-in_err-say_uuids-clause-said : goal.returns-in_err-say_uuids-clause-said
 returns-in_err-say_uuids-clause-said g c =
     let p = err_from_is_err_and c.from_residual-in_err-say_uuids.result c.from_residual-in_err-say_uuids.ensures.1 in

@@ -8,7 +8,7 @@ use Rattle.remux_plan.specs.declared.summary.Written.{Written}
 use Rattle.mkv_merge.specs.Told.{warnings_from}
 use Rattle.mkv_merge.proofs.writing.tell_outputs.Goals as goal
 
--- the line of an output couldn't be said
+-- The line of an output couldn't be printed.
 pub returns-in_err-say_wrote-clause-said : goal.returns-in_err-say_wrote-clause-said
 returns-in_err-say_wrote-clause-said g c =
     let p = err_from_is_err_and c.from_residual.result c.from_residual.ensures.1 in
@@ -16,7 +16,7 @@ returns-in_err-say_wrote-clause-said g c =
     (SaysPart-before (g.P.Report.lines c.args.report.now) (g.P.Report.lines c.say_wrote.new.report) (map (λ (w : Written). wrote_blocks_line w.name w.blocks) c.args.summary.now.outputs) (warnings_from c.args.summary.now 0 c.args.words.now.files)
     (subst (λ (ws : List Written). SaysPart (g.P.Report.lines c.args.report.now) (g.P.Report.lines c.say_wrote.new.report) (map (λ (w : Written). wrote_blocks_line w.name w.blocks) ws)) c.as_slice.ensures c.in_err-say_wrote.ensures.said))
 
--- a warning couldn't be said
+-- A warning couldn't be printed.
 pub returns-in_err-warn-clause-said : goal.returns-in_err-warn-clause-said
 returns-in_err-warn-clause-said g c =
     let p = err_from_is_err_and c.from_residual-in_err-warn.result c.from_residual-in_err-warn.ensures.1 in

@@ -13,7 +13,7 @@ use Rattle.mkv_merge.proofs.WritingLemmas.{many-inputs, merge-is, plan-good, pla
 use Rattle.mkv_merge.proofs.AskedLemmas.{merge-asks-made, merge-asks-none}
 use Rattle.mkv_merge.proofs.writing.write.Goals as goal
 
--- a warning of a track that isn't there couldn't be said
+-- The warning of an absent track couldn't be printed.
 pub returns-in_err-say_absent-clause-verdict : goal.returns-in_err-say_absent-clause-verdict
 returns-in_err-say_absent-clause-verdict g c = λ contents told.
     let p = err_from_is_err_and c.from_residual.result c.from_residual.ensures.1 in
@@ -31,7 +31,7 @@ returns-in_err-say_absent-clause-verdict g c = λ contents told.
 pub remux-requires : goal.remux-requires
 remux-requires g c = plan-good g.F.Reads g.F.Files c.args.files.now c.args.words.now c.args.ids.now c.args.prepared c.requires.words c.requires.inputs c.requires.prepared
 
--- an output couldn't be written
+-- An output couldn't be written.
 pub returns-in-Err-clause-verdict : goal.returns-in-Err-clause-verdict
 returns-in-Err-clause-verdict g c = λ contents told.
     let words = c.args.words.now in
@@ -45,7 +45,7 @@ returns-in-Err-clause-verdict g c = λ contents told.
     merge-left was now c.stop_of.result f words prepared.inputs prepared.plan (zip contents (reads_in prepared.inputs)) (merge-is f words c.args.ids.now contents prepared c.requires.prepared told many) said
     (c.in-Err.ensures.output (plan-told f words c.args.ids.now contents prepared c.requires.prepared told))
 
--- the outputs stand, and the rest is told
+-- The outputs are complete, and the remaining lines are printed.
 pub returns-clause-verdict : goal.returns-clause-verdict
 returns-clause-verdict g c = λ contents told.
     let words = c.args.words.now in
@@ -62,7 +62,7 @@ returns-clause-verdict g c = λ contents told.
     (merge-is f words c.args.ids.now contents prepared c.requires.prepared told many)
     (c.in-Ok.ensures.summary planned) missing said c.tell.ensures.said c.tell.ensures.status (c.in-Ok.ensures.output planned)
 
--- none is longer than a file may be
+-- No output is longer than a file may be.
 pub returns-clause-short : goal.returns-clause-short
 returns-clause-short g c = λ world is contents told.
     let words = c.args.words.now in
@@ -72,7 +72,7 @@ returns-clause-short g c = λ world is contents told.
     outputs-short (g.F.Files.names c.args.files.now) (g.F.Files.names c.remux.new.files) world c.tell.result f words prepared.inputs prepared.plan (zip contents (reads_in prepared.inputs))
     (merge-is f words c.args.ids.now contents prepared c.requires.prepared told many) is (c.in-Ok.ensures.output (plan-told f words c.args.ids.now contents prepared c.requires.prepared told))
 
--- ---- how much is read
+-- ---- bytes read
 
 pub returns-in-Err-clause-octets : goal.returns-in-Err-clause-octets
 returns-in-Err-clause-octets g c =
@@ -82,9 +82,9 @@ pub returns-clause-octets : goal.returns-clause-octets
 returns-clause-octets g c =
     plan-reads (live_files g.F.Reads c.args.files.now) c.args.words.now c.args.ids.now c.args.prepared (g.F.Reads.octets_read c.args.files.now) (g.F.Reads.octets_read c.remux.new.files) c.requires.prepared c.remux.ensures.octets
 
--- ---- what is asked for
+-- ---- calls for files
 
--- its outputs are made
+-- The outputs are made.
 pub returns-clause-asks : goal.returns-clause-asks
 returns-clause-asks g c = merge-asks-made g.F.Reads g.F.Files c.args.words.now c.args.prepared.inputs c.args.prepared.plan c.args.files.now c.remux.new.files c.requires.prepared.plan c.remux.ensures.kept
 
