@@ -1,4 +1,4 @@
--- Which names are opened and made for the files.
+-- The names that are opened and made for the files.
 use Rattle.std.proofs.Common.{◌≡◌, ◌≢◌, ◌⊎◌, inl, inr, ℕ, List, [], ◌∷◌, sym, subst}
 use Rattle.mkv_io.specs.Asked.{AsksOnly, IsNotAmong}
 use Rattle.mkv_io.specs.declared.asked.Asked.{Asked}
@@ -12,7 +12,7 @@ use Rattle.mkv_generate.specs.Asked.{AsksToGenerate, IsBesidesGenerate}
 use Rattle.mkv_generate.specs.Generate.{both_words, parts_words}
 use Rattle.lemmas.proofs.PlainLemmas.{bytes_eq-differ as other-name}
 
--- one of the two files is written
+-- One of the two files is written.
 pub file-asks : (names : Names) (name : List ℕ) (old new : List Asked) → (name ≡ names.pictures) ⊎ (name ≡ names.sounds) → AsksOnly [] (name ∷ []) old new → AsksToGenerate names old new
 file-asks names name old new is asks = asks-fewer (IsNotAmong [] (name ∷ [])) (IsBesidesGenerate names) old new (λ asked besides. each asked is besides) asks
   where
@@ -21,7 +21,7 @@ file-asks names name old new is asks = asks-fewer (IsNotAmong [] (name ∷ [])) 
     each (Made other) (inl same) besides = (subst (λ (n : List ℕ). n ≢ other) (sym same) besides.0.0, tt)
     each (Made other) (inr same) besides = (subst (λ (n : List ℕ). n ≢ other) (sym same) besides.0.1.0, tt)
 
--- the two files are merged
+-- The two files are merged.
 pub both-asks : (names : Names) (words : MergeWords) (old new : List Asked) → words ≡ both_words names → AsksToMerge (file_names words.files) words old new → AsksToGenerate names old new
 both-asks names words old new is asks =
     let P : MergeWords → Type 0 = λ w. AsksToMerge (file_names w.files) w old new in
@@ -31,7 +31,7 @@ both-asks names words old new is asks =
     each (Opened other) besides = (besides.0, (besides.1.0, tt))
     each (Made other) besides = other-name names.both other besides.0.1.1.0
 
--- what they were merged into is split
+-- The merged file is split.
 pub parts-asks : (names : Names) (words : MergeWords) (old new : List Asked) → words ≡ parts_words names → AsksToMerge (file_names words.files) words old new → AsksToGenerate names old new
 parts-asks names words old new is asks =
     let P : MergeWords → Type 0 = λ w. AsksToMerge (file_names w.files) w old new in

@@ -1,4 +1,4 @@
--- How much is read while the files of `generate` are made.
+-- The bytes that are read while the files of `generate` are made.
 use Rattle.std.proofs.Common.{◌≡◌, ◌≢◌, ℕ, ◌+◌, ◌≤◌, List, [], ◌∷◌, ◌++◌, length, map, Option, Some, Result, Ok, sym, ◌∙◌, ap, ap₂, subst, arith}
 use Rattle.std.specs.Prelude.{sum_by, unwrap_or}
 use Rattle.std.proofs.lemmas.List.Sums.{sum_by-cons}
@@ -26,7 +26,7 @@ use Rattle.requests.specs.Plain.{plain_file}
 use Rattle.mkv_generate.proofs.MakingLemmas.{both-found, both-one, both-there, parts-found, told-then}
 use Rattle.mkv_generate.proofs.TurnLemmas.{first-told, last-told, written-behind}
 
--- the contents of inputs that the names tell have their lengths
+-- The contents of inputs that are visible to the proof have their lengths.
 one-length : (world : List ℕ → Option (List ℕ)) (a x : List ℕ) → world a ≡ Some x → contents_length world (plain_file a ∷ []) ≡ sum_by (λ (bytes : List ℕ). length bytes) (x ∷ [])
 one-length world a x is =
     let here : length (unwrap_or (world a) []) ≡ length x = ap (λ (o : Option (List ℕ)). length (unwrap_or o [])) is in
@@ -59,13 +59,13 @@ module _ (mid : Names) (names : own.Names) (words : MergeWords) (same : words �
       (subst (λ (found : Result (List Source) Refusal). Q found (contents_length world' (both_words names).files)) (both-found world n names apart)
       (subst P same (reads world' (told-then before mid world files told writes))))
 
-  -- it is refused or stopped
+  -- The merge is refused or stopped.
   pub both-alone : ReadsBoth mid names old now
   both-alone = λ n before world told apart writes.
       let most = both-most n before world told apart writes in
       omega (arith, most)
 
-  -- it was done, and then the parts are made
+  -- The merge was done, and then the parts are made.
   pub both-more : (mid' : Names) (s : Summary) (new : ℕ) → ((world : List ℕ → Option (List ℕ)) → mid ≡ Some world → Merges mid mid' words (sources_alone world words) (Ok (merged.Written s))) → ReadsMerged mid' names now new → ReadsBoth mid names old new
   both-more mid' s new merges parts = λ n before world told apart writes.
       let files = two_files n names in
@@ -80,7 +80,7 @@ module _ (mid : Names) (names : own.Names) (words : MergeWords) (same : words �
       let behind : most_behind names (merge_of (both_words names) files) ≡ most_merged (parts_words names) (layouts made.outputs) = ap (most_behind names) r in
       omega (arith, first, second, behind)
 
--- ---- the merge of the one
+-- ---- the split of the merged file
 
 pub parts-alone : (mid : Names) (names : own.Names) (words : MergeWords) (old now : ℕ) → words ≡ parts_words names
     → ((world : List ℕ → Option (List ℕ)) → mid ≡ Some world → now ≤ old + most_of (sources_alone world words) (contents_length world words.files)) → ReadsMerged mid names old now

@@ -1,4 +1,4 @@
--- A block that is made is the one that its parts say.
+-- A generated block equals the block that its parts define.
 use Rattle.std.proofs.Common.{◌≡◌, ◌≤◌, ℕ, Bool, List, [], ◌∷◌, ◌++◌, length, map, sum, refl, sym, ap, subst, arith}
 use Rattle.lacing.specs.Writing.{FitsKind}
 use Rattle.lacing.specs.declared.kind.Lace.{Lace}
@@ -9,12 +9,12 @@ use Rattle.mkv_generate.specs.Blocks.{simple_block}
 use Rattle.mkv_generate.specs.Made.{HasParts, IsMade, simple_head}
 use Rattle.mkv_generate.specs.declared.blocks.Made.{Made}
 
--- without a prefix frames are as they are
+-- Frames with an empty prefix are unchanged.
 plain : (frames : List (List ℕ)) → map (λ (frame : List ℕ). [] ++ frame) frames ≡ frames
 plain [] = refl
 plain (frame ∷ frames) = ap (λ (rest : List (List ℕ)). frame ∷ rest) (plain frames)
 
--- a block of these parts, whose sizes fit
+-- A block with these parts is the defined one, if its sizes fit.
 pub made-is : (time : ℕ) (key : Bool) (kind : Lace) (octets sizes : List ℕ) (m : Made) → HasParts (simple_head time key kind) octets sizes m
     → 1 ≤ length sizes → length sizes ≤ 256 → FitsKind kind sizes → sum sizes ≤ MAX_BLOCK_LEN → length octets ≡ sum sizes
     → IsMade (simple_block time key kind sizes octets) m

@@ -1,4 +1,4 @@
--- The files of `generate`, one merge after the other.
+-- The files of `generate`, one merge after another.
 use Rattle.std.proofs.Common.{◌≡◌, ◌≢◌, ℕ, cond, ◌||◌, Bool, List, [], ◌∷◌, ◌++◌, length, map, append-nil, append_assoc, Option, Some, None, Result, Ok, Err, refl, sym, ◌∙◌, ap, ap₂, subst}
 use Rattle.std.specs.List.{enumerate_from}
 use Rattle.std.specs.Prelude.{is_none, option_map, unwrap_or}
@@ -42,7 +42,7 @@ use Rattle.mkv_generate.proofs.TurnLemmas.{drafts-append, first-told, in_turn-mo
 
 -- ---- the contents of the inputs
 
--- in a world that has the inputs, a merge is that of their contents
+-- If the files have the inputs, the merge is the merge of their contents.
 pub alone-is : (world : List ℕ → Option (List ℕ)) (words : MergeWords) (contents : List (List ℕ)) → (first_missing world (file_names words.files) ≡ None) × (contents_held world words ≡ contents) → sources_alone world words ≡ sources_apart words contents
 alone-is world words contents is = ap₂ (found (name_written words)) is.0 is.1 ∙ by_name (name_written words)
   where
@@ -62,11 +62,11 @@ two-held world a b x y first second = (
 one-held : (world : List ℕ → Option (List ℕ)) (a x : List ℕ) → world a ≡ Some x → (first_missing world (a ∷ []) ≡ None) × (map (λ name. unwrap_or (world name) []) (a ∷ []) ≡ x ∷ [])
 one-held world a x is = (ap (λ (p : Option (List ℕ)). cond (is_none p) (Some 0) None) is, ap (λ (p : Option (List ℕ)). unwrap_or p [] ∷ []) is)
 
--- what the names tell once outputs stand
+-- The files after outputs were written.
 pub told-then : (before now : Names) (world : List ℕ → Option (List ℕ)) (done : List PlannedOutput) → before ≡ Some world → WritesAll before now done → now ≡ Some (world_with world (map laid_out done))
 told-then before now world done told writes = writes.names ∙ ap (λ (names : Names). with_outputs names (map laid_out done)) told ∙ told-with world (map laid_out done)
 
--- the merge of the two files
+-- The merge of the two files.
 pub both-found : (world : List ℕ → Option (List ℕ)) (n : ℕ) (names : own.Names) → names.pictures ≢ names.sounds
     → sources_alone (world_with world (map laid_out (two_files n names))) (both_words names) ≡ sources_apart (both_words names) (map (λ (o : PlannedOutput). layout o.document) (two_files n names))
 both-found world n names apart =
@@ -78,12 +78,12 @@ both-found world n names apart =
 
 -- ---- merges
 
--- its outputs are those of the sources that were found
+-- The outputs are the outputs of the sources that were found.
 made-found : (words : MergeWords) (found : Result (List Source) Refusal) → made_outputs (and_then found (λ sources. Ok (made_of words sources))) ≡ outputs_found words found
 made-found words (Ok sources) = refl
 made-found words (Err why) = refl
 
--- what isn't split is one file
+-- A merge that isn't split has one output.
 pub both-one : (names : own.Names) (sources : List Source) → IsOneFile names.both (made_of (both_words names) sources)
 both-one names sources =
     let words = both_words names in
@@ -94,13 +94,13 @@ both-one names sources =
       named = refl;
     }
 
--- the merged file stands under its name
+-- The merged file has its name.
 pub both-there : (world : List ℕ → Option (List ℕ)) (n : ℕ) (names : own.Names) (file : PlannedOutput) → file.name ≡ names.both → world_with world (map laid_out (two_files n names ++ file ∷ [])) names.both ≡ Some (layout file.document)
 both-there world n names file named =
     ap (world_with world (map laid_out (two_files n names ++ file ∷ []))) (sym named)
     ∙ last-told world (map laid_out (two_files n names)) (laid_out file)
 
--- the merge of the one
+-- The split of the merged file.
 pub parts-found : (world : List ℕ → Option (List ℕ)) (n : ℕ) (names : own.Names) (outputs : List PlannedOutput) (file : PlannedOutput) → outputs ≡ file ∷ [] → file.name ≡ names.both
     → sources_alone (world_with world (map laid_out (two_files n names ++ outputs))) (parts_words names) ≡ sources_apart (parts_words names) (map (λ (o : PlannedOutput). layout o.document) outputs)
 parts-found world n names outputs file alone named = subst P (sym alone) base
@@ -111,9 +111,9 @@ parts-found world n names outputs file alone named = subst P (sym alone) base
     base : P (file ∷ [])
     base = alone-is (world_with world (map laid_out (two_files n names ++ file ∷ []))) (parts_words names) (layout file.document ∷ []) (one-held (world_with world (map laid_out (two_files n names ++ file ∷ []))) names.both (layout file.document) (both-there world n names file named))
 
--- ---- what stands on the way
+-- ---- files on the way
 
--- the outputs that the verdict has behind the merged file
+-- the outputs of the result after the merged file
 abbrev parts_behind : own.Names → Result MergeMade Refusal → List PlannedOutput
 parts_behind names (Ok both) = made_outputs (merge_of (parts_words names) both.outputs)
 parts_behind names (Err why) = []
@@ -126,12 +126,12 @@ both-outputs : (n : ℕ) (names : own.Names) (files : List PlannedOutput) (r : R
 both-outputs n names files (Ok both) = parts-outputs n names files both (merge_of (parts_words names) both.outputs)
 both-outputs n names files (Err why) = ap (λ (os : List PlannedOutput). in_turn (drafts_of os)) (sym (append-nil (files ++ []) ∙ append-nil files))
 
--- some first outputs of the verdict
+-- Some first outputs of the result are written.
 leaves-first : (before new : Names) (v : WrittenOutputs) (os more : List PlannedOutput) → v ≡ in_turn (drafts_of (os ++ more)) → AreWrittenInOrder before new (drafts_of os) → Leaves before new v
 leaves-first before new v os more is stands =
     subst (Leaves before new) (sym is) (subst (AreWrittenInOrder before new) (sym (drafts-append os more)) (in_turn-more before new (drafts_of os) (drafts_of more) stands))
 
--- the two files stand, or some first ones of them
+-- The two files are complete, or some first ones are.
 pub files-left : (before new : Names) (n : ℕ) (names : own.Names) → AreWrittenInOrder before new (drafts_of (two_files n names)) → Leaves before new (verdict_of n names).outputs
 files-left before new n names stands =
     let files = two_files n names in
@@ -139,14 +139,14 @@ files-left before new n names stands =
     leaves-first before new (verdict_of n names).outputs files (made_outputs r ++ parts_behind names r)
     (both-outputs n names files r ∙ ap (λ (os : List PlannedOutput). in_turn (drafts_of os)) (append_assoc files (made_outputs r) (parts_behind names r))) stands
 
--- and some of the merged one
+-- Some first outputs of the merge are complete, too.
 both-left : (before mid new : Names) (n : ℕ) (names : own.Names) → WritesAll before mid (two_files n names) → AreWrittenInOrder mid new (drafts_of (made_outputs (merge_of (both_words names) (two_files n names)))) → Leaves before new (verdict_of n names).outputs
 both-left before mid new n names writes stands =
     let files = two_files n names in
     let r = merge_of (both_words names) files in
     leaves-first before new (verdict_of n names).outputs (files ++ made_outputs r) (parts_behind names r) (both-outputs n names files r) (stopped-behind before mid new files (made_outputs r) writes stands)
 
--- and some of the parts
+-- Some first parts are complete, too.
 parts-left : (before mid new : Names) (n : ℕ) (names : own.Names) (both : MergeMade) → merge_of (both_words names) (two_files n names) ≡ Ok both → WritesAll before mid (two_files n names ++ both.outputs)
     → AreWrittenInOrder mid new (drafts_of (made_outputs (merge_of (parts_words names) both.outputs))) → Leaves before new (verdict_of n names).outputs
 parts-left before mid new n names both is writes stands =
@@ -158,12 +158,12 @@ parts-left before mid new n names both is writes stands =
 -- ---- the merge of the two files
 
 module _ (mid new : Names) (names : own.Names) (words : MergeWords) (same : words ≡ both_words names) where
-  -- there is no memory for more
+  -- Memory ran out.
   pub both-begun : (why : CommandEnd) → new ≡ mid → MakesBoth mid new names (Err why)
   both-begun why still = λ n before world told apart writes.
       both-left before mid new n names writes (subst (λ (now : Names). AreWrittenInOrder mid now (drafts_of (made_outputs (merge_of (both_words names) (two_files n names))))) (sym still) (AreWrittenInOrder-none mid _))
 
-  -- it is refused
+  -- The merge is refused.
   pub both-refused : (why : Refusal) → ((world : List ℕ → Option (List ℕ)) → mid ≡ Some world → Merges mid new words (sources_alone world words) (Ok (merged.Refused why))) → MakesBoth mid new names (Ok (Refused words why))
   both-refused why merges = λ n before world told apart writes.
       let files = two_files n names in
@@ -179,7 +179,7 @@ module _ (mid new : Names) (names : own.Names) (words : MergeWords) (same : word
       }) in
       subst P (sym same) base (merges world' now)
 
-  -- it is stopped
+  -- The merge is stopped.
   pub both-stopped : (why : CommandEnd) → ((world : List ℕ → Option (List ℕ)) → mid ≡ Some world → Merges mid new words (sources_alone world words) (Err why)) → MakesBoth mid new names (Err why)
   both-stopped why merges = λ n before world told apart writes.
       let files = two_files n names in
@@ -191,7 +191,7 @@ module _ (mid new : Names) (names : own.Names) (words : MergeWords) (same : word
       both-left before mid new n names writes (subst (λ (o : List PlannedOutput). AreWrittenInOrder mid new (drafts_of o)) os m) in
       subst P (sym same) base (merges world' now)
 
-  -- it was done, and then the parts are made
+  -- The merge was done, and then the parts are made.
   pub both-made : (mid' : Names) (s : Summary) (result : Result Outcome CommandEnd) → ((world : List ℕ → Option (List ℕ)) → mid ≡ Some world → Merges mid mid' words (sources_alone world words) (Ok (merged.Written s)))
       → MakesParts mid' new names (record { words = words; summary = s }) result → MakesBoth mid new names result
   both-made mid' s result merges parts = λ n before world told apart writes.
@@ -205,15 +205,15 @@ module _ (mid new : Names) (names : own.Names) (words : MergeWords) (same : word
       (written-behind before mid mid' files (merge_outputs (both_words names) m.sources) writes m.writes) in
       subst P (sym same) base (merges world' now) parts
 
--- ---- the merge of the one
+-- ---- the split of the merged file
 
 module _ (mid new : Names) (names : own.Names) (words : MergeWords) (same : words ≡ parts_words names) (both : Done) where
-  -- there is no memory for more
+  -- Memory ran out.
   pub parts-begun : (why : CommandEnd) → new ≡ mid → MakesParts mid new names both (Err why)
   parts-begun why still = λ n before world made told is done one writes.
       parts-left before mid new n names made is writes (subst (λ (now : Names). AreWrittenInOrder mid now (drafts_of (made_outputs (merge_of (parts_words names) made.outputs)))) (sym still) (AreWrittenInOrder-none mid _))
 
-  -- it is refused
+  -- The merge is refused.
   pub parts-refused : (why : Refusal) → ((world : List ℕ → Option (List ℕ)) → mid ≡ Some world → Merges mid new words (sources_alone world words) (Ok (merged.Refused why))) → MakesParts mid new names both (Ok (Refused words why))
   parts-refused why merges = λ n before world made told is done one writes.
       let files = two_files n names in
@@ -230,7 +230,7 @@ module _ (mid new : Names) (names : own.Names) (words : MergeWords) (same : word
       }) in
       subst P (sym same) base (merges world' now)
 
-  -- it is stopped
+  -- The merge is stopped.
   pub parts-stopped : (why : CommandEnd) → ((world : List ℕ → Option (List ℕ)) → mid ≡ Some world → Merges mid new words (sources_alone world words) (Err why)) → MakesParts mid new names both (Err why)
   parts-stopped why merges = λ n before world made told is done one writes.
       let files = two_files n names in
@@ -242,7 +242,7 @@ module _ (mid new : Names) (names : own.Names) (words : MergeWords) (same : word
       parts-left before mid new n names made is writes (subst (λ (o : List PlannedOutput). AreWrittenInOrder mid new (drafts_of o)) os m) in
       subst P (sym same) base (merges world' now)
 
-  -- it was done
+  -- The merge was done.
   pub parts-made : (s : Summary) → ((world : List ℕ → Option (List ℕ)) → mid ≡ Some world → Merges mid new words (sources_alone world words) (Ok (merged.Written s))) → MakesParts mid new names both (Ok (Made both (record { words = words; summary = s })))
   parts-made s merges = λ n before world made told is done one writes.
       let files = two_files n names in

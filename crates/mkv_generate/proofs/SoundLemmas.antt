@@ -1,4 +1,4 @@
--- The words of both merges keep their limits.
+-- The command lines of both merges keep their limits.
 use Rattle.std.proofs.Common.{◌≡◌, ◌≢◌, ℕ, List, [], ◌∷◌, get_or, refl, sym, ap, subst, arith}
 use Rattle.std.proofs.lemmas.List.Elements.{All-cons, All-nil}
 use Rattle.requests.specs.Sound.{IsSoundFile, IsSoundMerge}
@@ -7,7 +7,7 @@ use Rattle.mkv_generate.specs.declared.names.Names as own
 use Rattle.mkv_generate.specs.Generate.{both_words, names_of, parts_words}
 use Rattle.requests.specs.Plain.{plain_file}
 
--- a file of which nothing is said
+-- An input without options keeps its limits.
 file-sound : (name : List ℕ) → IsSoundFile (plain_file name)
 file-sound name = record { delays = λ k d below. absurd (omega arith) }
 
@@ -35,11 +35,11 @@ parts-sound names = record {
   each = All-cons IsSoundFile (plain_file names.both) [] (file-sound names.both) (All-nil IsSoundFile);
 }
 
--- the same of words that are these
+-- The same for an equal command line.
 pub sound-as : (words these : MergeWords) → words ≡ these → IsSoundMerge these → IsSoundMerge words
 sound-as words these same sound = subst IsSoundMerge (sym same) sound
 
--- behind one prefix two ends that differ make two names
+-- Different ends after one prefix make different names.
 pub names-apart : (prefix : List ℕ) → (names_of prefix).pictures ≢ (names_of prefix).sounds
 names-apart [] same = let second : 97 ≡ 98 = ap (λ (name : List ℕ). get_or name 1 0) same in absurd (omega (arith, second))
 names-apart (x ∷ prefix) same = names-apart prefix (let behind : (names_of prefix).pictures ≡ (names_of prefix).sounds = cc in behind)

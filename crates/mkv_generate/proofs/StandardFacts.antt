@@ -1,4 +1,4 @@
--- Some of the blocks: computed, so that a wrong definition does not check.
+-- Some of the blocks, computed: a wrong definition doesn't check.
 use Rattle.std.proofs.Common.{◌≡◌, ℕ, true, false, [], ◌∷◌, length, map, refl}
 use Rattle.output_model.specs.OutputBlock.{OutputBlock}
 use Rattle.merge_model.specs.Merged.{merged}

@@ -1,4 +1,4 @@
--- What the command comes to.
+-- The result of the command.
 use Rattle.std.proofs.Common.{◌≡◌, ℕ, List, [], ◌∷◌, ◌++◌, Option, Result, Ok, Err, IfOk, inl, refl, sym, ◌∙◌, ap, subst, arith}
 use Rattle.mkv_io.specs.Faults.{HasIncreased}
 use Rattle.mkv_io.specs.Lines.{with_lines}
@@ -22,7 +22,7 @@ use Rattle.mkv_generate.specs.Generate.{MergeMade, both_words, merge_of, parts_w
 use Rattle.remux_plan.specs.Parts.{PlannedOutput}
 use Rattle.mkv_generate.specs.Outcome.{HasMade, lines_of, status_for}
 
--- no line is said before the files
+-- No line is printed before the files.
 parts-before : (n : ℕ) (names : own.Names) (files : List PlannedOutput) (both : MergeMade) (r : Result MergeMade Refusal) → (with_parts n names files both r).before ≡ []
 parts-before n names files both (Ok parts) = refl
 parts-before n names files both (Err why) = refl
@@ -34,14 +34,14 @@ both-before n names files (Err why) = refl
 pub none-before : (n : ℕ) (names : own.Names) → (verdict_of n names).before ≡ []
 none-before n names = both-before n names (two_files n names) (merge_of (both_words names) (two_files n names))
 
--- the files couldn't all be made
+-- The files couldn't all be made.
 pub make-stopped : (old new : Seen) (n : ℕ) (names : own.Names) (why : CommandEnd) → new.lines ≡ old.lines → Leaves old.names new.names (verdict_of n names).outputs → Reaches old new (Err why) (verdict_of n names)
 make-stopped old new n names why lines leaves = inl (
   subst (λ (now : Option (List (List ℕ))). SaysPart old.lines now (verdict_of n names).before) (sym lines) (SaysPart-none old.lines (verdict_of n names).before),
   leaves,
 )
 
--- they stand, and it is told
+-- The files are complete, and the lines are printed.
 pub make-told : (old new : Seen) (n : ℕ) (names : own.Names) (outcome : Outcome) (r : Result Status CommandEnd) → HasMade old.names new.names n outcome (verdict_of n names) → Says old.lines new.lines (lines_of n outcome) r
     → IfOk r (λ (s : Status). s ≡ status_for outcome) → Reaches old new r (verdict_of n names)
 make-told old new n names outcome r made says status =
@@ -57,17 +57,17 @@ make-told old new n names outcome r made says status =
     by-answer (Ok s) is = is ∙ sym made.status
     by-answer (Err why) is = tt
 
--- ---- faults
+-- ---- failures
 
 module _ {S R : Type 0} (r : Ghosts S) (f : writing.Ghosts S) (p : ReportGhosts R) (a b : S) (said now : R) where
-  -- the files couldn't be made
+  -- The files couldn't be made.
   pub stopped-cause : (T : Type 0) (why : CommandEnd) → HasStopCause {T = Outcome} (files_counts r f a) (files_counts r f b) (Err why) → HasStopCause {T = T} (seen r f.writing_faults f.names p a said).counts (seen r f.writing_faults f.names p b said).counts (Err why)
   stopped-cause T stop.Memory same = ap (λ (c : Counts). record c { report = p.faults said }) same
   stopped-cause T stop.Files cause = (cause.0, refl)
   stopped-cause T stop.Disk cause = cause
   stopped-cause T stop.Report cause = absurd (let risen : HasIncreased 0 0 = cause.0 in let rose = risen.rose in omega arith)
 
-  -- they were made, and it is told
+  -- The files were made, and the lines are printed.
   pub told-cause : (outcome : Outcome) (result : Result Status CommandEnd) → HasStopCause {T = Outcome} (files_counts r f a) (files_counts r f b) (Ok outcome) → HasSayCause (p.faults said) (p.faults now) result
       → HasStopCause (seen r f.writing_faults f.names p a said).counts (seen r f.writing_faults f.names p b now).counts result
   told-cause outcome (Ok s) same cause = λ i. record { reading = (same i).reading; writing = (same i).writing; report = cause i }

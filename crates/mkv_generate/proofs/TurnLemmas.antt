@@ -1,4 +1,4 @@
--- Outputs that are written one behind the other: what stands of them.
+-- Outputs that are written in sequence: the files at each moment.
 use Rattle.std.proofs.Common.{◌≡◌, ◌≢◌, ℕ, List, [], ◌∷◌, ◌++◌, map, Option, Some, Result, Ok, Err, inl, refl, sym, ◌∙◌, ap, subst}
 use Rattle.std.proofs.lemmas.List.{map-append}
 use Rattle.std.proofs.lemmas.List.Elements.{All-append, All-cons, All-nil}
@@ -18,7 +18,7 @@ use Rattle.mkv_generate.specs.Generate.{made_file, two_files}
 
 -- ---- drafts
 
--- the first of some drafts are the first of more
+-- The first of some drafts are the first of more drafts.
 AreDrafted-more : (os : List Output) (ds more : List Draft) → AreDrafted os ds → AreDrafted os (ds ++ more)
 AreDrafted-more [] ds more are = tt
 AreDrafted-more (o ∷ []) [] more are = absurd are
@@ -29,7 +29,7 @@ AreDrafted-more (o ∷ (next ∷ os)) (d ∷ ds) more are = (are.0, AreDrafted-m
 pub in_turn-more : (old new : Names) (ds more : List Draft) → AreWrittenInOrder old new ds → AreWrittenInOrder old new (ds ++ more)
 in_turn-more old new ds more stands = record { stand = stands.stand; drafted = AreDrafted-more stands.stand ds more stands.drafted; names = stands.names }
 
--- behind drafts that are whole
+-- Complete drafts may come before.
 AreDrafted-behind : (done more : List Draft) (os : List Output) → AreDrafted os more → AreDrafted (outputs_of done ++ os) (done ++ more)
 AreDrafted-behind [] more os are = are
 AreDrafted-behind (d ∷ done) more os are = step (outputs_of done ++ os) (AreDrafted-behind done more os are)
@@ -44,11 +44,11 @@ with_outputs-append names (x ∷ xs) ys = with_outputs-append (with_content name
 
 -- ---- outputs
 
--- drafts of some outputs, and of others behind them
+-- The drafts of two lists of outputs in sequence.
 pub drafts-append : (xs ys : List PlannedOutput) → drafts_of (xs ++ ys) ≡ drafts_of xs ++ drafts_of ys
 drafts-append xs ys = map-append (λ (o : PlannedOutput). draft_of o.name o.document) xs ys
 
--- outputs stand whole, and what stands of those behind them stands in turn
+-- Outputs are complete, and later ones are written in order.
 pub stopped-behind : (old mid new : Names) (done more : List PlannedOutput) → WritesAll old mid done → AreWrittenInOrder mid new (drafts_of more) → AreWrittenInOrder old new (drafts_of (done ++ more))
 stopped-behind old mid new done more writes stands =
     let before : mid ≡ with_outputs old (outputs_of (drafts_of done)) = writes.names ∙ sym (ap (with_outputs old) writes.become) in
@@ -58,7 +58,7 @@ stopped-behind old mid new done more writes stands =
       names = stands.names ∙ ap (λ (names : Names). with_outputs names stands.stand) before ∙ sym (with_outputs-append old (outputs_of (drafts_of done)) stands.stand);
     })
 
--- and those behind them, too
+-- Later outputs are complete, too.
 pub written-behind : (old mid new : Names) (done more : List PlannedOutput) → WritesAll old mid done → WritesAll mid new more → WritesAll old new (done ++ more)
 written-behind old mid new done more first next = record {
   names =
@@ -73,14 +73,14 @@ written-behind old mid new done more first next = record {
       All-append (λ (each : PlannedOutput). IsShort each.document) done more (first.short world told) (next.short (world_with world (map laid_out done)) then);
 }
 
--- ---- what the names tell then
+-- ---- contents of the names afterwards
 
--- the last output of a name counts
+-- The last output with a name counts.
 pub last-told : (world : List ℕ → Option (List ℕ)) (done : List Output) (o : Output) → world_with world (done ++ o ∷ []) o.name ≡ Some o.content
 last-told world [] o = changed_at-same world o.name (λ _. Some o.content)
 last-told world (d ∷ done) o = last-told (changed_at d.name (λ _. Some d.content) world) done o
 
--- another one behind it doesn't
+-- A later output with another name doesn't.
 pub first-told : (world : List ℕ → Option (List ℕ)) (a b : Output) → a.name ≢ b.name → world_with world (a ∷ (b ∷ [])) a.name ≡ Some a.content
 first-told world a b apart =
     changed_at-other (changed_at a.name (λ _. Some a.content) world) b.name a.name (λ _. Some b.content) apart
@@ -88,7 +88,7 @@ first-told world a b apart =
 
 -- ---- the two files
 
--- one output
+-- One output.
 pub one-written : (old new : Names) (o : PlannedOutput) → WritesLayout old new o.name o.document → WritesAll old new (o ∷ [])
 one-written old new o writes = record {
   names = writes.names;
@@ -96,11 +96,11 @@ one-written old new o writes = record {
   short = λ world told. All-cons (λ (each : PlannedOutput). IsShort each.document) o [] (writes.short world told) (All-nil (λ (each : PlannedOutput). IsShort each.document));
 }
 
--- the first couldn't be written
+-- The first file couldn't be written.
 pub one-stopped : (old new : Names) (n : ℕ) (names : own.Names) → AreWrittenInOrder old new (draft_of names.pictures (file_of Pictures n) ∷ []) → AreWrittenInOrder old new (drafts_of (two_files n names))
 one-stopped old new n names stands = in_turn-more old new (draft_of names.pictures (file_of Pictures n) ∷ []) (draft_of names.sounds (file_of Sounds n) ∷ []) stands
 
--- the first was
+-- The first file was written.
 pub two-written : {T : Type 0} (old mid new : Names) (n : ℕ) (names : own.Names) (result : Result T RemuxEnd) → WritesLayout old mid names.pictures (file_of Pictures n) → Writes mid new names.sounds (file_of Sounds n) result
     → WritesOutputs old new (two_files n names) result
 two-written old mid new n names (Ok done) first next =

@@ -1,4 +1,4 @@
--- The blocks of the two files that `generate` makes: this project's.
+-- The blocks of the two files that `generate` makes. They are this project's.
 use Rattle.std.specs.Prelude.{ℕ, ◌+◌, ◌*◌, ◌%◌, ◌==◌, Bool, true, false, if◌then◌else◌, List, [], ◌∷◌, map, None}
 use Rattle.std.specs.List.{range_with_len}
 use Rattle.lacing.specs.declared.kind.Lace.{Lace}
@@ -8,11 +8,11 @@ use Rattle.output_model.specs.OutputBlock.{OutputBlock}
 use Rattle.mkv_generate.specs.declared.blocks.MediaKind.{MediaKind}
 use Rattle.mkv_generate.specs.declared.blocks.MediaKind.TheVariants.{Pictures, Sounds}
 
--- so many octets, each one more than the one before it, and 0 behind 255
+-- `count` bytes that count up from `first`; 0 follows 255
 abbrev pub counting : ℕ → ℕ → List ℕ
 counting first count = map (λ n. n % 256) (range_with_len first count)
 
--- a SimpleBlock at so many milliseconds, whose octets are cut into frames of these sizes; it stands in no output yet
+-- a SimpleBlock at `time` milliseconds, whose bytes are cut into frames of the sizes `sizes`; it is in no output yet
 abbrev pub simple_block : ℕ → Bool → Lace → List ℕ → List ℕ → OutputBlock
 simple_block time key kind sizes octets = record {
   lane = 0;
@@ -28,15 +28,15 @@ simple_block time key kind sizes octets = record {
   kept = [];
 }
 
--- The picture of a number comes 40 ms behind the one before it. One in 25 is key. It is a frame of 8 octets and up to 100 more.
+-- the size of the picture number `i`: 8 to 108 bytes in one frame. Pictures follow each other by 40 ms, and every 25th is a keyframe.
 abbrev pub picture_size : ℕ → ℕ
 picture_size i = 8 + 37 * i % 101
 
 abbrev pub picture : ℕ → OutputBlock
 picture i = simple_block (40 * i) (i % 25 == 0) lace.None (picture_size i ∷ []) (counting i (picture_size i))
 
--- The sound of a number comes 20 ms behind the one before it, and is key. One in three is a lace of frames of 4 and 6 octets, each other one
--- a frame of 5.
+-- the sound number `i`. Sounds follow each other by 20 ms, and each is a keyframe. Every third is a lace of frames of 4 and 6 bytes, and each
+-- other one a frame of 5 bytes.
 abbrev pub sound : ℕ → OutputBlock
 sound i =
     if i % 3 == 0 then simple_block (20 * i) true lace.Xiph (4 ∷ 6 ∷ []) (counting (3 * i) 10)
@@ -46,7 +46,7 @@ abbrev pub block_of : MediaKind → ℕ → OutputBlock
 block_of Pictures i = picture i
 block_of Sounds i = sound i
 
--- For each picture there are two sounds.
+-- the number of blocks in the file for `n` pictures; there are two sounds for each picture
 abbrev pub count_of : MediaKind → ℕ → ℕ
 count_of Pictures n = n
 count_of Sounds n = 2 * n

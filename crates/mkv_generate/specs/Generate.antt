@@ -1,4 +1,4 @@
--- What `generate` comes to: its files, and its line. All of it is this project's.
+-- The result of `generate`: its files, and its line. All of it is this project's.
 use Rattle.std.specs.Prelude.{ℕ, ◌++◌, ◌||◌, Bool, List, [], ◌∷◌, codes, length, map, flat_map, Some, None, Result, Ok, Err}
 use Rattle.std.specs.List.{enumerate_from}
 use Rattle.output_model.specs.Document.{layout}
@@ -31,7 +31,7 @@ use Rattle.mkv_generate.specs.declared.names.Names.{Names}
 use Rattle.mkv_generate.specs.Blocks.{blocks_of}
 use Rattle.mkv_generate.specs.Files.{file_of}
 
--- ---- the names
+-- ---- names
 
 abbrev pub names_of : List ℕ → Names
 names_of prefix = record {
@@ -49,17 +49,17 @@ made_file medium n name = record { name = name; blocks = blocks_of medium n; doc
 abbrev pub two_files : ℕ → Names → List PlannedOutput
 two_files n names = made_file Pictures n names.pictures ∷ made_file Sounds n names.sounds ∷ []
 
--- ---- what is made of them
+-- ---- files that are made from them
 
--- both files in one
+-- the command line that merges both files
 abbrev pub both_words : Names → MergeWords
 both_words names = plain_words names.both None (plain_file names.pictures ∷ plain_file names.sounds ∷ [])
 
--- that one in parts of ten seconds
+-- the command line that splits the merged file into parts of ten seconds
 abbrev pub parts_words : Names → MergeWords
 parts_words names = plain_words names.parts (Some (Duration 10000000000)) (plain_file names.both ∷ [])
 
--- A merge: its outputs, what is warned of the files that it reads, and whether one of them is damaged.
+-- A merge: its outputs, the warnings about the files that it reads, and whether one of them is damaged.
 pub record MergeMade : Type 0 where
   pub outputs : List PlannedOutput
   pub warned : List (List ℕ)
@@ -72,18 +72,18 @@ made_of words sources = record {
   damaged = has_damage sources;
 }
 
--- a merge of these documents, or what refuses it; no sidecar is looked at
+-- the merge of the documents `files`, or its refusal; no journal is looked at
 abbrev pub merge_of : MergeWords → List PlannedOutput → Result MergeMade Refusal
 merge_of words files = and_then (sources_apart words (map (λ (o : PlannedOutput). layout o.document) files)) (λ sources. Ok (made_of words sources))
 
--- its outputs; there are none of one that is refused
+-- the outputs of the merge, or none if it is refused
 abbrev pub made_outputs : Result MergeMade Refusal → List PlannedOutput
 made_outputs (Ok made) = made.outputs
 made_outputs (Err why) = []
 
--- ---- the verdict
+-- ---- result
 
--- what is known of the first of some outputs; of the merged file, since a merge that isn't split writes one
+-- the facts about the first of some outputs, which is the merged file: a merge that isn't split writes one file
 abbrev pub first_written : List Written → Written
 first_written [] = record { name = []; blocks = 0; clusters = 0; cues = 0 }
 first_written (file ∷ more) = file
@@ -91,18 +91,18 @@ first_written (file ∷ more) = file
 abbrev pub line_for : ℕ → Written → ℕ → List ℕ
 line_for n both parts = generated_line n both.blocks both.clusters both.cues parts
 
--- these files, one after the other, and these lines
+-- the result with these files, written in sequence, and these lines
 abbrev pub comes_to : Status → List PlannedOutput → List (List ℕ) → Verdict
 comes_to status files lines = record { status = status; lines = lines; before = []; outputs = in_turn (drafts_of files) }
 
--- with the parts, or without where they are refused; what is warned of stands behind the line
+-- the result with the parts, or without them if they are refused; warnings follow the line
 abbrev pub with_parts : ℕ → Names → List PlannedOutput → MergeMade → Result MergeMade Refusal → Verdict
 with_parts n names files both (Ok parts) =
     comes_to (warned_if (both.damaged || parts.damaged)) (files ++ both.outputs ++ parts.outputs)
     (line_for n (first_written (map written_of both.outputs)) (length parts.outputs) ∷ both.warned ++ parts.warned)
 with_parts n names files both (Err why) = comes_to Refused (files ++ both.outputs) (line_of (parts_words names) why ∷ [])
 
--- with the merged file and the parts, or without where that is refused
+-- the result with the merged file and the parts, or without them if the merge is refused
 abbrev pub with_both : ℕ → Names → List PlannedOutput → Result MergeMade Refusal → Verdict
 with_both n names files (Ok both) = with_parts n names files both (merge_of (parts_words names) both.outputs)
 with_both n names files (Err why) = comes_to Refused files (line_of (both_words names) why ∷ [])
@@ -110,15 +110,15 @@ with_both n names files (Err why) = comes_to Refused files (line_of (both_words 
 abbrev pub verdict_of : ℕ → Names → Verdict
 verdict_of n names = with_both n names (two_files n names) (merge_of (both_words names) (two_files n names))
 
--- What `generate N PREFIX` comes to, whatever the names hold.
+-- the result of `generate N PREFIX`, with any files present
 abbrev pub generate_verdict : ℕ → List ℕ → Verdict
 generate_verdict n prefix = verdict_of n (names_of prefix)
 
--- Where the names are told, making the files of these names has reached its verdict, or stopped on the way.
+-- If the names are visible to the proof, the making of the files ends with its result, or was stopped on the way.
 abbrev pub MakesNamed : {F P : Type 0} → ReadsGhosts F → FilesGhosts F → ReportGhosts P → F → F → P → P → Result Status CommandEnd → ℕ → Names → Type 0
 MakesNamed r f p files files' report report' result n names =
     IfVisible (f.names files) (λ world. Fulfils r f p files files' report report' result (verdict_of n names))
 
--- The same of `generate N PREFIX`.
+-- `MakesNamed` holds for `generate N PREFIX`.
 abbrev pub Generates : {F P : Type 0} → ReadsGhosts F → FilesGhosts F → ReportGhosts P → F → F → P → P → Result Status CommandEnd → ℕ → List ℕ → Type 0
 Generates r f p files files' report report' result n prefix = MakesNamed r f p files files' report report' result n (names_of prefix)

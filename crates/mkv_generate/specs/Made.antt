@@ -1,4 +1,4 @@
--- A block that is made, as it is handed out.
+-- A generated block, as it is passed by reference.
 use Rattle.std.specs.Prelude.{◌≡◌, ℕ, Bool, false, List, [], None}
 use Rattle.lacing.specs.declared.kind.Lace.{Lace}
 use Rattle.output_model.specs.declared.heads.OutHead.{OutHead}
@@ -6,7 +6,7 @@ use Rattle.output_model.specs.OutputBlock.{IsLent, Lent, OutputBlock, lent_block
 use Rattle.cluster_writer.specs.Lent.{lent}
 use Rattle.mkv_generate.specs.declared.blocks.Made.{Made}
 
--- what a SimpleBlock says of itself at so many milliseconds
+-- the head of a SimpleBlock at `time` milliseconds
 abbrev pub simple_head : ℕ → Bool → Lace → OutHead
 simple_head time key kind = record {
   tick = time;
@@ -19,17 +19,17 @@ simple_head time key kind = record {
   lace = kind;
 }
 
--- It says this of itself, and has these octets, in frames of these sizes.
+-- The block has the head `own` and the bytes `all`, in frames of the sizes `parts`.
 pub record HasParts (own : OutHead) (all parts : List ℕ) (m : Made) : Type 0 where
   pub head : m.head ≡ own
   pub octets : m.octets.items ≡ all
   pub sizes : m.sizes.items ≡ parts
 
--- what it hands out
+-- the block by reference
 abbrev pub lent_made : Made → Lent
 lent_made m = lent m.head [] m.octets.items m.sizes.items [] []
 
--- It is this block, within what may be handed out.
+-- `m` is the block `b`, within the limits of a borrowed block.
 pub record IsMade (b : OutputBlock) (m : Made) : Type 0 where
   pub is : lent_block (lent_made m) ≡ b
   pub can : IsLent (lent_made m)

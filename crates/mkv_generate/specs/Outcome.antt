@@ -1,4 +1,4 @@
--- What `generate` has made, and what it tells of it.
+-- The files that `generate` has made, and the lines that report them.
 use Rattle.std.specs.Prelude.{◌≡◌, ◌≢◌, ℕ, ◌||◌, List, [], ◌∷◌, ◌++◌, length, map, Option, Some, Result, Ok, Err}
 use Rattle.mkv_io.specs.Names.{Names}
 use Rattle.mkv_outputs.specs.Outputs.{with_outputs}
@@ -19,9 +19,9 @@ use Rattle.mkv_generate.specs.declared.making.Outcome.TheVariants.{Refused, Made
 use Rattle.mkv_generate.specs.declared.names.Names as own
 use Rattle.mkv_generate.specs.Generate.{MergeMade, both_words, first_written, line_for, merge_of, two_files, verdict_of}
 
--- ---- what is told of it
+-- ---- lines
 
--- what is warned of the files that a merge read
+-- the warnings about the files that a merge read
 abbrev pub warned_of : Done → List (List ℕ)
 warned_of d = warnings_from d.summary 0 d.words.files
 
@@ -33,38 +33,38 @@ abbrev pub status_for : Outcome → Status
 status_for (Refused words why) = status.Refused
 status_for (Made both parts) = warned_if (is_some_of both.summary.damages || is_some_of parts.summary.damages)
 
--- ---- what was made
+-- ---- files
 
--- What is known of a merge that was done is what is defined.
+-- The summary of the completed merge `d` equals the defined merge `m`.
 pub record IsDone (m : MergeMade) (d : Done) : Type 0 where
   pub outputs : d.summary.outputs ≡ map written_of m.outputs
   pub warned : warned_of d ≡ m.warned
   pub damaged : is_some_of d.summary.damages ≡ m.damaged
 
--- The merged file is one, and has its name.
+-- The merge has one output, with the name `name`.
 pub record IsOneFile (name : List ℕ) (m : MergeMade) : Type 0 where
   pub file : PlannedOutput
   pub alone : m.outputs ≡ file ∷ []
   pub named : file.name ≡ name
 
--- All outputs of the verdict stand, and its status and lines are those of the outcome.
+-- All outputs of the result are complete, and the outcome has its status and lines.
 pub record HasMade (old new : Names) (n : ℕ) (outcome : Outcome) (v : Verdict) : Type 0 where
   pub whole : new ≡ with_outputs old (list_of v.outputs)
   pub lines : v.lines ≡ lines_of n outcome
   pub status : v.status ≡ status_for outcome
 
--- Where it is stopped some first outputs stand whole, and the next one as a draft.
+-- The files are made as defined. After a stop some first outputs are complete, and the next one is a draft.
 abbrev pub Makes : Names → Names → ℕ → own.Names → Result Outcome CommandEnd → Type 0
 Makes old new n names (Ok outcome) = HasMade old new n outcome (verdict_of n names)
 Makes old new n names (Err why) = Leaves old new (verdict_of n names).outputs
 
--- So it is where the two files and the merged one stand, which is this.
+-- `Makes` holds if the two files and the merged file `both` are complete.
 abbrev pub MakesParts : Names → Names → own.Names → Done → Result Outcome CommandEnd → Type 0
 MakesParts old new names both result =
     (n : ℕ) (before : Names) (world : List ℕ → Option (List ℕ)) (made : MergeMade) → before ≡ Some world → merge_of (both_words names) (two_files n names) ≡ Ok made → IsDone made both → IsOneFile names.both made
     → WritesAll before old (two_files n names ++ made.outputs) → Makes before new n names result
 
--- So it is where the two files stand.
+-- `Makes` holds if the two files are complete.
 abbrev pub MakesBoth : Names → Names → own.Names → Result Outcome CommandEnd → Type 0
 MakesBoth old new names result =
     (n : ℕ) (before : Names) (world : List ℕ → Option (List ℕ)) → before ≡ Some world → names.pictures ≢ names.sounds → WritesAll before old (two_files n names) → Makes before new n names result

@@ -1,4 +1,4 @@
--- What becomes of a file that is written.
+-- The state of a file while it is written.
 use Rattle.std.specs.Prelude.{◌≡◌, ℕ, List, ◌∷◌, [], Result, Ok, Err}
 use Rattle.mkv_io.specs.Names.{Names}
 use Rattle.mkv_io.specs.declared.reads.Reads.{Ghosts}
@@ -17,24 +17,24 @@ use Rattle.mkv_generate.specs.declared.blocks.MediaKind.{MediaKind}
 use Rattle.mkv_generate.specs.Blocks.{block_of}
 use Rattle.mkv_generate.specs.Files.{lane_blocks, rule_of}
 
--- An output of a medium is on the way, whatever is counted of it, and these blocks are left.
+-- The output of the kind `medium` is incomplete, and the blocks `left` remain; nothing is stated about its counts.
 pub record IsOnTheWay {S : Type 0} (r : Ghosts S) (f : writing.Ghosts S) (before : Names) (name : List ℕ) (medium : MediaKind) (d : Document) (files : S) (o : OpenOutput) (g : Gathered) (left : List OutputBlock) : Type 0 where
   pub counts : Counts
   pub stands : Stands r f before name (rule_of medium ∷ []) d files o g counts left
 
--- It has all its Clusters.
+-- The output has all its Clusters.
 pub record IsWhole {S : Type 0} (r : Ghosts S) (f : writing.Ghosts S) (before : Names) (name : List ℕ) (d : Document) (files : S) (o : OpenOutput) : Type 0 where
   pub counts : Counts
   pub has : HasAll r f before name d files o counts
 
--- The block of a number was the first of those that were left, and the others are left; after a refusal the output stands as a draft.
+-- The block number `i` was the first remaining block, and the others remain. After a refusal the output is a draft.
 abbrev pub AddsOne : {S T : Type 0} → Ghosts S → writing.Ghosts S → MediaKind → ℕ → S → S → OpenOutput → OpenOutput → Gathered → Gathered → Result T RemuxEnd → Type 0
 AddsOne r f medium i old new o o' g g' (Ok _) =
     (before : Names) (name : List ℕ) (d : Document) (left : List OutputBlock) → IsOnTheWay r f before name medium d old o g (in_lane 1 (block_of medium i) ∷ left) → IsOnTheWay r f before name medium d new o' g' left
 AddsOne r f medium i old new o o' g g' (Err _) =
     (before : Names) (name : List ℕ) (d : Document) (left : List OutputBlock) → IsOnTheWay r f before name medium d old o g (in_lane 1 (block_of medium i) ∷ left) → StandsDrafted before (f.names new) (draft_of name d)
 
--- All blocks of the file of a number were added.
+-- All blocks of the file for `n` pictures were added. After a refusal the output is a draft.
 abbrev pub AddsAll : {S T : Type 0} → Ghosts S → writing.Ghosts S → MediaKind → ℕ → S → S → OpenOutput → OpenOutput → Gathered → Result T RemuxEnd → Type 0
 AddsAll r f medium n old new o o' g (Ok _) =
     (before : Names) (name : List ℕ) (d : Document) → d.cues ≡ cues_for (is_cue (rule_of medium ∷ [])) d.front d.clusters → IsOnTheWay r f before name medium d old o g (lane_blocks medium n) → IsWhole r f before name d new o'

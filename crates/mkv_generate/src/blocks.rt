@@ -1,4 +1,4 @@
-//! The blocks of the two files.
+//! Blocks of the two generated files.
 
 ghost use Rattle.std.specs.Prelude.{◌≡◌, ◌==◌, ◌+◌, ◌*◌, ◌%◌, ◌<◌, ◌≤◌, ◌^◌, ◌∷◌, [], true};
 ghost use Rattle.lacing.specs.declared.kind.Lace.TheVariants as lace_kind;
@@ -14,7 +14,7 @@ use cluster_writer::BlockRef;
 use lacing::Lace;
 use output_model::OutHead;
 
-/// A block: what it says of itself, the octets of its frames, and their sizes.
+/// Generated block: its head, the bytes of its frames, and their sizes.
 #[derive(Drop)]
 pub(crate) struct Made {
     head: OutHead,
@@ -23,7 +23,7 @@ pub(crate) struct Made {
 }
 
 impl Made {
-    /// The block as it is put into a Cluster: the first lane has it.
+    /// Returns the block by reference for a Cluster, on output track 1.
     pub(crate) fn lent(&self) -> BlockRef<'_>
         requires { IsLent (lent_made self.now) }
         ensures block { block_put result ≡ in_lane 1 (lent_block (lent_made self.now)) }
@@ -48,7 +48,7 @@ impl Made {
     }
 }
 
-// What a SimpleBlock says of itself at so many milliseconds.
+// Returns the head of a SimpleBlock at `time` milliseconds.
 fn simple_head(time: u32, key: bool, lace: Lace) -> OutHead
     ensures { result ≡ simple_head time key lace }
 {
@@ -65,7 +65,7 @@ fn simple_head(time: u32, key: bool, lace: Lace) -> OutHead
     }
 }
 
-// A block of one frame.
+// Returns a block of one frame.
 fn single(head: OutHead, octets: ArrayVec<u8, MAX_COUNTING>, size: u32) -> Made
     ensures { HasParts head octets.items (size ∷ []) result }
 {
@@ -78,7 +78,7 @@ fn single(head: OutHead, octets: ArrayVec<u8, MAX_COUNTING>, size: u32) -> Made
     }
 }
 
-// A block of two frames.
+// Returns a block of two frames.
 fn laced(head: OutHead, octets: ArrayVec<u8, MAX_COUNTING>, first: u32, second: u32) -> Made
     ensures { HasParts head octets.items (first ∷ second ∷ []) result }
 {
@@ -92,7 +92,7 @@ fn laced(head: OutHead, octets: ArrayVec<u8, MAX_COUNTING>, first: u32, second: 
     }
 }
 
-/// The picture of a number, from 0: 40 ms behind the one before it, and one in 25 is key.
+/// Returns the picture number `i`, from 0. Pictures follow each other by 40 ms, and every 25th is a keyframe.
 pub(crate) fn picture(i: u32) -> Made
     requires { i < 2 ^ 20 }
     ensures { IsMade (picture i) result }
@@ -102,7 +102,7 @@ pub(crate) fn picture(i: u32) -> Made
     single(head, counting(i, size), size)
 }
 
-/// The sound of a number, from 0: 20 ms behind the one before it. One in three is a lace of two frames.
+/// Returns the sound number `i`, from 0. Sounds follow each other by 20 ms, and every third is a lace of two frames.
 pub(crate) fn sound(i: u32) -> Made
     requires { i < 2 ^ 20 }
     ensures { IsMade (sound i) result }
@@ -119,7 +119,7 @@ pub(crate) fn sound(i: u32) -> Made
     }
 }
 
-/// What a file has.
+/// Kind of the blocks in a generated file.
 #[derive(Clone, Copy, Debug, PartialEq, Eq)]
 pub enum MediaKind {
     Pictures,
@@ -127,7 +127,7 @@ pub enum MediaKind {
 }
 
 impl MediaKind {
-    /// How many blocks the file of a number has: for each picture there are two sounds.
+    /// Returns the number of blocks in the file for `n` pictures. There are two sounds for each picture.
     pub(crate) fn count(self, n: u32) -> u32
         requires { n < 2 ^ 20 }
         ensures { result ≡ count_of self n }
@@ -138,7 +138,7 @@ impl MediaKind {
         }
     }
 
-    /// The block of a number, from 0.
+    /// Returns the block number `i`, from 0.
     pub(crate) fn block(self, i: u32) -> Made
         requires { i < 2 ^ 20 }
         ensures { IsMade (block_of self i) result }

@@ -1,4 +1,4 @@
-//! A file with one track.
+//! A generated file with one track.
 
 ghost use Rattle.std.specs.Prelude.{◌≡◌, ◌≤◌, ◌<◌, ◌^◌, [], ◌∷◌, OnOk};
 ghost use Rattle.mkv_io.specs.Ends.{HasRemuxCause};
@@ -17,7 +17,7 @@ use output_model::{ClusterLimits, CueRule};
 use remuxer::{add_block, add_rest};
 use std::alloc::Global;
 
-// Where the Clusters of a merge end whose words say nothing of them.
+// Returns the default limits of a Cluster in a merge.
 fn default_limits() -> ClusterLimits
     ensures { result ≡ default_limits }
 {
@@ -28,7 +28,7 @@ fn default_limits() -> ClusterLimits
     }
 }
 
-// Which blocks of a medium get a cue point.
+// Returns the rule that decides which blocks of the file get a cue point.
 fn rule_of(medium: MediaKind) -> CueRule
     ensures { result ≡ rule_of medium }
 {
@@ -38,7 +38,7 @@ fn rule_of(medium: MediaKind) -> CueRule
     }
 }
 
-// Adds the block of a number.
+// Adds the block number `i`.
 fn add_one<F: Files>(
     files: &mut F,
     out: &mut OutFile,
@@ -60,7 +60,7 @@ fn add_one<F: Files>(
     Ok(())
 }
 
-// Adds all blocks of the file of a number.
+// Adds all blocks of the file for `n` pictures.
 fn add_all<F: Files>(
     files: &mut F,
     out: &mut OutFile,
@@ -83,7 +83,7 @@ fn add_all<F: Files>(
     add_rest(files, out, buffer)
 }
 
-/// Writes the file of a medium for a number. Whatever is answered, no file of it is open.
+/// Writes the file of the kind `medium` for `n` pictures. The file is closed in any case.
 pub(crate) fn write_file<F: Files>(
     alloc: Global,
     files: &mut F,

@@ -1,4 +1,4 @@
-//! What stands in front of the Clusters of the two files: RFC 9559, section 5.1.4 (Tracks Element).
+//! Elements before the Clusters of the two generated files: RFC 9559, section 5.1.4 (Tracks Element).
 
 ghost use Rattle.std.specs.Prelude.{◌≡◌, IfOk};
 ghost use Rattle.track_records.specs.Entry.{IsWholeEntry};
@@ -12,10 +12,10 @@ use output_model::Front;
 use output_records::{info_of, tracks_of};
 use std::alloc::{AllocError, Global};
 
-/// The nanoseconds of a tick.
+/// Nanoseconds per tick.
 pub(crate) const SCALE: u64 = 1_000_000;
 
-// The TrackType of a medium.
+// Returns the TrackType of `medium`.
 fn type_of(medium: MediaKind) -> u64
     ensures { result ≡ type_of medium }
 {
@@ -25,7 +25,7 @@ fn type_of(medium: MediaKind) -> u64
     }
 }
 
-// The CodecID of a medium.
+// Returns the CodecID of `medium`.
 fn codec_of(medium: MediaKind) -> &'static str
     ensures { result.now ≡ codec_of medium }
 {
@@ -35,7 +35,7 @@ fn codec_of(medium: MediaKind) -> &'static str
     }
 }
 
-// A track, whose number and identifier are 1.
+// Returns a TrackEntry whose number and identifier are 1.
 fn track_of(alloc: Global, medium: MediaKind) -> Result<Tree, AllocError>
     ensures exact { IfOk result (λ entry. entry ≡ track_of medium) }
     ensures whole { IfOk result IsWholeEntry }
@@ -48,7 +48,7 @@ fn track_of(alloc: Global, medium: MediaKind) -> Result<Tree, AllocError>
     Ok(entry)
 }
 
-/// What stands in front of the Clusters of a file with one track.
+/// Returns the elements before the Clusters of a file with one track.
 pub(crate) fn front_of(alloc: Global, medium: MediaKind) -> Result<Front, AllocError>
     ensures { IfOk result (IsFrontOf medium) }
 {

@@ -1,4 +1,4 @@
-//! The command.
+//! The command `generate`.
 
 ghost use Rattle.std.specs.Prelude.{◌≡◌, ◌≢◌, ◌≤◌, IfOk};
 ghost use Rattle.mkv_lines.specs.Command.{HasEnded};
@@ -19,7 +19,7 @@ use mkv_merge::{refuse, warn};
 use remux_plan::Written;
 use std::alloc::{AllocError, Global};
 
-// The line of the files: what the merged one has, and how many parts it was split into.
+// Returns the line about the files: the contents of the merged file, and the number of parts.
 fn line_of(n: u32, outputs: &[Written], parts: usize) -> Line<'static>
     ensures { text_of result ≡ line_for n (first_written outputs.now) parts }
 {
@@ -36,7 +36,7 @@ fn line_of(n: u32, outputs: &[Written], parts: usize) -> Line<'static>
     }
 }
 
-// Says the line of the files, and warns of what is wrong with those that were read.
+// Prints the line about the files, and warns of damage in the files that were read.
 fn say_all<P: Report>(
     alloc: Global,
     n: u32,
@@ -57,7 +57,7 @@ fn say_all<P: Report>(
     warn(alloc, &parts.words, &parts.summary, report)
 }
 
-// Tells of all files.
+// Prints the lines about all files.
 fn tell_all<P: Report>(
     alloc: Global,
     n: u32,
@@ -78,7 +78,7 @@ fn tell_all<P: Report>(
     }
 }
 
-// Tells what the files came to.
+// Prints the result: the lines about the files, or the refusal of a merge.
 fn tell<P: Report>(
     alloc: Global,
     n: u32,
@@ -96,7 +96,7 @@ fn tell<P: Report>(
     }
 }
 
-// Makes the files of these names, and tells of them.
+// Generates the files with the names `names` and prints the result.
 fn generate<F: Files, P: Report>(
     alloc: Global,
     n: u32,
@@ -117,10 +117,11 @@ fn generate<F: Files, P: Report>(
     }
 }
 
-/// Makes two files of a number, whose names begin with the prefix, merges them into one, and splits that into parts. No sidecar
-/// is looked at.
+/// Runs `generate`: makes two files for `n` pictures, whose names begin with `prefix`, merges them into one, and
+/// splits that file into parts. Looks at no journal.
 ///
-/// After a refusal the files that were written stand; so do some first ones after a fault, and the next one may stand in part.
+/// After a refusal the files that were written remain. After an I/O failure some first files remain, and the next one
+/// may be incomplete.
 pub fn generate_of<F: Files, P: Report>(
     alloc: Global,
     n: u32,

@@ -1,7 +1,7 @@
 #![tactic(auto)]
 
-//! The command `generate`, which makes two files of a number, merges them into one, and splits that: what it writes is the same
-//! everywhere.
+//! The command `generate`, which makes two files, merges them into one, and splits the merged file. Its output is the
+//! same on every system.
 
 mod blocks;
 mod counting;

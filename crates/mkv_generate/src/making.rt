@@ -1,4 +1,4 @@
-//! The files are made.
+//! Making of the files.
 
 ghost use Rattle.std.specs.Prelude.{◌≡◌, ◌≢◌, ◌<◌, ◌≤◌, ◌^◌};
 ghost use Rattle.mkv_io.specs.Ends.{HasRemuxCause};
@@ -23,19 +23,19 @@ use remux_plan::Summary;
 use requests::MergeWords;
 use std::alloc::{AllocError, Global};
 
-/// A merge that was done: its words, and what is known of it.
+/// A completed merge: its command line and its summary.
 #[derive(Drop)]
 pub struct Done {
     pub words: MergeWords,
     pub summary: Summary,
 }
 
-/// What the files came to.
+/// Result of making the files.
 #[derive(Drop)]
 pub enum Outcome {
-    /// The merge of these words is refused, which reads files that were written before.
+    /// The merge with the command line `words` is refused. It reads files that were written before.
     Refused { words: MergeWords, why: Refusal },
-    /// All stand.
+    /// All files are complete.
     Made { both: Done, parts: Done },
 }
 
@@ -63,7 +63,7 @@ fn write_files<F: Files>(
     write_file(alloc, files, names.sounds.as_str(), MediaKind::Sounds, n)
 }
 
-// Splits the file that was merged, as these words say.
+// Splits the merged file with the command line `words`.
 fn merge_parts<F: Files>(
     alloc: Global,
     names: &Names,
@@ -89,7 +89,7 @@ fn merge_parts<F: Files>(
     }
 }
 
-// Splits the file that was merged.
+// Splits the merged file.
 fn make_parts<F: Files>(
     alloc: Global,
     names: &Names,
@@ -108,7 +108,7 @@ fn make_parts<F: Files>(
     }
 }
 
-// Merges the two files, as these words say, and splits what they are merged into.
+// Merges the two files with the command line `words`, and splits the merged file.
 fn merge_both<F: Files>(
     alloc: Global,
     names: &Names,
@@ -129,7 +129,7 @@ fn merge_both<F: Files>(
     }
 }
 
-// Merges the two files, and splits what they are merged into.
+// Merges the two files, and splits the merged file.
 fn make_both<F: Files>(alloc: Global, names: &Names, files: &mut F) -> Result<Outcome, CommandEnd>
     ensures makes { MakesBoth (F.names files.old) (F.names files.new) names.now result }
     ensures octets { ReadsBoth (F.names files.old) names.now (F.octets_read files.old) (F.octets_read files.new) }
@@ -143,7 +143,7 @@ fn make_both<F: Files>(alloc: Global, names: &Names, files: &mut F) -> Result<Ou
     }
 }
 
-/// Makes the two files of a number, merges them, and splits what they are merged into.
+/// Makes the two files for `n` pictures, merges them, and splits the merged file.
 pub(crate) fn make<F: Files>(
     alloc: Global,
     n: u32,

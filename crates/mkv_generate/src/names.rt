@@ -1,4 +1,4 @@
-//! The names of the files that are made.
+//! Names of the generated files.
 
 ghost use Rattle.std.specs.Prelude.{◌≡◌, ◌++◌, IfOk};
 ghost use Rattle.mkv_generate.specs.Generate.{names_of};
@@ -6,7 +6,7 @@ ghost use Rattle.mkv_generate.specs.Generate.{names_of};
 use mkv_io::Text;
 use std::alloc::{AllocError, Global};
 
-/// The names of the two files, of the one that is merged of them, and that of which those of its parts are made.
+/// Names of the two files and of the merged file, and the name from which the names of its parts are formed.
 #[derive(Drop)]
 pub struct Names {
     pub pictures: Text,
@@ -15,7 +15,7 @@ pub struct Names {
     pub parts: Text,
 }
 
-// A name that begins and ends so.
+// Returns the name that consists of `prefix` and `end`.
 fn name_of(alloc: Global, prefix: &str, end: &str) -> Result<Text, AllocError>
     ensures { IfOk result (λ name. name ≡ prefix.now ++ end.now) }
 {
@@ -26,7 +26,7 @@ fn name_of(alloc: Global, prefix: &str, end: &str) -> Result<Text, AllocError>
 }
 
 impl Names {
-    /// Those that begin with a prefix.
+    /// Returns the names that begin with `prefix`.
     pub(crate) fn new(alloc: Global, prefix: &str) -> Result<Names, AllocError>
         ensures { IfOk result (λ names. names ≡ names_of prefix.now) }
     {

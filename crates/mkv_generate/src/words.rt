@@ -1,4 +1,4 @@
-//! The words of the two merges.
+//! Command lines of the two merges.
 
 ghost use Rattle.std.specs.Prelude.{◌≡◌, IfOk};
 ghost use Rattle.mkv_generate.specs.Generate.{both_words, parts_words};
@@ -10,10 +10,10 @@ use mkv_io::{List, Text};
 use requests::{FileWords, MergeWords, Select, SplitWords};
 use std::alloc::{AllocError, Global};
 
-/// Nanoseconds of a part.
+/// Duration of a part, in nanoseconds.
 const PART: u64 = 10_000_000_000;
 
-// A file of a merge, all of which is taken.
+// Returns an input of a merge without options.
 fn plain_file(alloc: Global, name: &Text) -> Result<FileWords, AllocError>
     ensures { IfOk result (λ file. file ≡ plain_file name.now) }
 {
@@ -38,7 +38,7 @@ fn plain_file(alloc: Global, name: &Text) -> Result<FileWords, AllocError>
     })
 }
 
-// What `merge -o OUTPUT FILE ..` says, or with a split `merge -o OUTPUT --split SPLIT FILE ..`.
+// Returns the command line `merge -o OUTPUT FILE ..`, or with a split `merge -o OUTPUT --split SPLIT FILE ..`.
 fn plain_words(
     alloc: Global,
     output: &Text,
@@ -62,7 +62,7 @@ fn plain_words(
     })
 }
 
-/// Both files in one.
+/// Returns the command line that merges both files.
 pub(crate) fn both_words(alloc: Global, names: &Names) -> Result<MergeWords, AllocError>
     ensures { IfOk result (λ words. words ≡ both_words names.now) }
 {
@@ -72,7 +72,7 @@ pub(crate) fn both_words(alloc: Global, names: &Names) -> Result<MergeWords, All
     plain_words(alloc, &names.both, None, files)
 }
 
-/// That one in parts of ten seconds.
+/// Returns the command line that splits the merged file into parts of ten seconds.
 pub(crate) fn parts_words(alloc: Global, names: &Names) -> Result<MergeWords, AllocError>
     ensures { IfOk result (λ words. words ≡ parts_words names.now) }
 {

@@ -9,7 +9,7 @@ use Rattle.mkv_generate.specs.Made.{HasParts, IsMade}
 use Rattle.mkv_generate.proofs.MadeLemmas.{made-is}
 use Rattle.mkv_generate.proofs.blocks.sound.Goals as goal
 
--- a lace
+-- The sound is a lace.
 pub returns-then-i-eq0 : goal.returns-then-i-eq0
 returns-then-i-eq0 c =
     let i = c.args.i in
@@ -22,7 +22,7 @@ returns-then-i-eq0 c =
     subst (λ (b : Bool). IsMade (if b then laced else alone) made) (sym (eq-eqb (c.args.i % 3) 0 c.if-i-eq0.true))
     (made-is (20 * i) true lace.Xiph (counting (3 * i) 10) (4 ∷ 6 ∷ []) made has (omega arith) (omega arith) tt (omega arith) (omega (arith, long)))
 
--- a frame
+-- The sound is one frame.
 pub returns-else-i-eq0 : goal.returns-else-i-eq0
 returns-else-i-eq0 c =
     let i = c.args.i in

@@ -2,7 +2,7 @@ use Rattle.std.proofs.Common.{◌+◌, ◌%◌, ℕ, ◌++◌, ◌∷◌, [], Li
 use Rattle.std.proofs.lemmas.List.FromFn.{map-range_with_len_more}
 use Rattle.mkv_generate.proofs.counting.counting.Goals as goal
 
--- one octet more
+-- One more byte is appended.
 pub loop-k-preserved : goal.loop-k-preserved
 loop-k-preserved c =
     let more = map-range_with_len_more (λ (n : ℕ). n % 256) c.args.first c.loop-k.k (c.args.first + c.loop-k.k) refl in

@@ -1,4 +1,4 @@
--- So many octets stand there.
+-- The first `k` bytes are there.
 use Rattle.std.proofs.Common.{◌≡◌}
 use Rattle.arrayvec.specs.ArrayVec.{array_vec_len}
 use Rattle.mkv_generate.specs.Blocks.{counting}

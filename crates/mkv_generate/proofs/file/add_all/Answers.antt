@@ -16,7 +16,7 @@ loop-i-init g c = record {
   way = λ before name d way. way;
 }
 
--- a block was added
+-- A block was added.
 pub loop-i-preserved : goal.loop-i-preserved
 loop-i-preserved g c =
     let inv = c.loop-i.invariant in
@@ -31,7 +31,7 @@ loop-i-preserved g c =
           added.adds before name d (lane_left c.args.medium (c.loop-i.i + 1) c.count-count.result) (subst P (next-left c.args.medium c.loop-i.i c.count-count.result c.loop-i-test.true) (inv.way before name d way));
     }
 
--- one couldn't be
+-- A block couldn't be added.
 pub returns-in_err-add_one-clause-adds : goal.returns-in_err-add_one-clause-adds
 returns-in_err-add_one-clause-adds g c =
     let p = err_from_is_err_and c.from_residual.result c.from_residual.ensures.1 in
@@ -42,7 +42,7 @@ returns-in_err-add_one-clause-adds g c =
     c.in_err-add_one.ensures.adds before name d (lane_left c.args.medium (c.loop-i.i + 1) c.count-count.result)
     (subst P (next-left c.args.medium c.loop-i.i c.count-count.result c.loop-i-test.true) (inv.way before name d (subst Q (all-left c.args.medium c.args.n c.count-count.result c.count-count.ensures) way))))
 
--- the last Cluster is written
+-- The last Cluster is written.
 pub returns-clause-adds : goal.returns-clause-adds
 returns-clause-adds g c =
     let inv = c.loop-i.invariant in

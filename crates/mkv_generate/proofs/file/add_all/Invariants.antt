@@ -1,4 +1,4 @@
--- The blocks from the next one on are left, whatever stood before.
+-- The blocks from the number `i` on remain, with any files before.
 use Rattle.std.proofs.Common.{◌≡◌, ℕ, List, ◌∷◌, []}
 use Rattle.mkv_io.specs.Names.{Names}
 use Rattle.mkv_io.specs.Writing.{WritesOnly}

@@ -8,14 +8,14 @@ use Rattle.cluster_writer.specs.Lent.{block_of}
 use Rattle.mkv_generate.proofs.FileLemmas.{one-added, one-refused}
 use Rattle.mkv_generate.proofs.file.add_one.Goals as goal
 
--- it couldn't be added
+-- The block couldn't be added.
 pub returns-in_err-add_block-clause-adds : goal.returns-in_err-add_block-clause-adds
 returns-in_err-add_block-clause-adds g c =
     let p = err_from_is_err_and c.from_residual.result c.from_residual.ensures.1 in
     let same = c.lent.ensures.block ∙ ap (in_lane 1) c.block-block.ensures.is in
     rw p.1 (one-refused g.F.Reads g.F.Files c.args.medium c.args.i c.args.files.now c.add_block.new.files c.args.out.now c.add_block.new.out c.args.buffer.now c.add_block.new.buffer (block_of c.lent.result) c.takes-cued.result same (Unit {0}) c.in_err-add_block.field-0.0 c.in_err-add_block.ensures.adds)
 
--- it was added
+-- The block was added.
 pub returns-clause-adds : goal.returns-clause-adds
 returns-clause-adds g c =
     let same = c.lent.ensures.block ∙ ap (in_lane 1) c.block-block.ensures.is in

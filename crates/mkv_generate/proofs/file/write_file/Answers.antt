@@ -12,11 +12,11 @@ use Rattle.mkv_generate.proofs.FileLemmas.{file-begun, file-finished, file-refus
 use Rattle.mkv_generate.proofs.file.write_file.Given.{Over}
 use Rattle.mkv_generate.proofs.file.write_file.Goals as goal
 
--- what holds of all files
+-- The facts about all files
 of_files : (g : Over) → HoldsOfFiles g.F.Reads g.F.Files
 of_files g = record { short = g.met.F.Reads.short; told_size = λ x. g.met.F.Reads.told_size (g.F.Reads.standing x); named = g.met.F.Files.named }
 
--- there is no memory for what stands in front, nor for a Cluster
+-- Memory ran out for the elements before the Clusters, or for a Cluster.
 pub returns-in_err-front-clause-writes : goal.returns-in_err-front-clause-writes
 returns-in_err-front-clause-writes g c =
     let p = err_from_is_err_and c.from_residual.result c.from_residual.ensures.1 in
@@ -27,13 +27,13 @@ returns-in_err-buffer-clause-writes g c =
     let p = err_from_is_err_and c.from_residual-in_err-buffer.result c.from_residual-in_err-buffer.ensures.1 in
     rw p.1 (AreWrittenInOrder-none (g.F.Files.names c.args.files.now) _)
 
--- it couldn't be begun
+-- The file couldn't be begun.
 pub returns-in_err-out-clause-writes : goal.returns-in_err-out-clause-writes
 returns-in_err-out-clause-writes g c =
     let p = err_from_is_err_and c.from_residual-in_err-out.result c.from_residual-in_err-out.ensures.1 in
     rw p.1 (file-refused (live_files g.F.Reads c.args.files.now) c.args.medium c.args.n c.args.name.now c.in_ok-front.front (g.F.Files.names c.args.files.now) (g.F.Files.names c.begin.new.files) c.in_ok-front.ensures c.in_err-out.ensures.err)
 
--- it couldn't be finished
+-- The file couldn't be finished.
 pub returns-in_err-finish_with-in-Ok-clause-writes : goal.returns-in_err-finish_with-in-Ok-clause-writes
 returns-in_err-finish_with-in-Ok-clause-writes g c =
     let p = err_from_is_err_and c.from_residual-in_err-finish_with-in-Ok.result c.from_residual-in_err-finish_with-in-Ok.ensures.1 in
@@ -45,7 +45,7 @@ returns-in_err-finish_with-in-Ok-clause-writes g c =
     let begun = file-begun g.F.Reads g.F.Files c.args.medium c.args.n c.args.name.now front a b o buffer c.in_ok-front.ensures c.in_ok-out.ensures.ok c.in_ok-out.ensures.cues c.in_ok-buffer.ensures.empty (c.in_ok-buffer.ensures.limits ∙ c.default_limits.ensures) in
     rw p.1 (file-finished g.F.Reads g.F.Files c.args.medium c.args.n c.args.name.now front a b o buffer c.in_ok-front.ensures c.add_all.new.files c.finish_with.new.files c.add_all.new.out (Err c.in_err-finish_with-in-Ok.field-0.0) begun c.in-Ok.ensures.adds (of_files g) c.in_err-finish_with-in-Ok.ensures.finishes c.in_err-finish_with-in-Ok.ensures.ended)
 
--- it was finished
+-- The file was finished.
 pub returns-in-Ok-clause-writes : goal.returns-in-Ok-clause-writes
 returns-in-Ok-clause-writes g c =
     let a = c.args.files.now in
@@ -56,7 +56,7 @@ returns-in-Ok-clause-writes g c =
     let begun = file-begun g.F.Reads g.F.Files c.args.medium c.args.n c.args.name.now front a b o buffer c.in_ok-front.ensures c.in_ok-out.ensures.ok c.in_ok-out.ensures.cues c.in_ok-buffer.ensures.empty (c.in_ok-buffer.ensures.limits ∙ c.default_limits.ensures) in
     file-finished g.F.Reads g.F.Files c.args.medium c.args.n c.args.name.now front a b o buffer c.in_ok-front.ensures c.add_all.new.files c.finish_with.new.files c.add_all.new.out (Ok c.in_ok-finish_with-in-Ok.field-0) begun c.in-Ok.ensures.adds (of_files g) c.in_ok-finish_with-in-Ok.ensures.finishes c.in_ok-finish_with-in-Ok.ensures.ended
 
--- it was given up
+-- The file was given up.
 pub returns-clause-writes : goal.returns-clause-writes
 returns-clause-writes g c =
     let a = c.args.files.now in

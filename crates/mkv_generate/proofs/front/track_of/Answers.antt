@@ -1,4 +1,4 @@
--- The entry has each of its children behind the others.
+-- The entry has each child after the others.
 use Rattle.std.proofs.Common.{ℕ, List, ◌∷◌, [], ◌∙◌, ap₂}
 use Rattle.mkv_schema.specs.declared.ids.TheConstants.{TRACK_ENTRY, TRACK_NUMBER, TRACK_UID, TRACK_TYPE, CODEC_ID}
 use Rattle.ebml_numbers.specs.Number.{uint_octets}

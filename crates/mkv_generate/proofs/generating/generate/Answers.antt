@@ -4,7 +4,7 @@ use Rattle.mkv_lines.specs.declared.status.Status.{Status}
 use Rattle.mkv_generate.proofs.TellingLemmas.{make-stopped, make-told, stopped-cause, told-cause}
 use Rattle.mkv_generate.proofs.generating.generate.Goals as goal
 
--- the files stand, and it is told
+-- The files are complete, and the lines are printed.
 pub returns-in-Ok-clause-verdict : goal.returns-in-Ok-clause-verdict
 returns-in-Ok-clause-verdict g c = λ world told.
     make-told (seen_in g.F.Reads g.F.Files g.P.Report c.args.files.now c.args.report.now)
@@ -18,7 +18,7 @@ returns-in-Ok-clause-ended g c = record {
   cause = told-cause g.F.Reads g.F.Files g.P.Report c.args.files.now c.make.new.files c.args.report.now c.tell.new.report c.in-Ok.outcome c.tell.result c.in-Ok.ensures.cause c.tell.ensures.cause;
 }
 
--- they couldn't all be made
+-- The files couldn't all be made.
 pub returns-in-Err-clause-verdict : goal.returns-in-Err-clause-verdict
 returns-in-Err-clause-verdict g c = λ world told.
     make-stopped (seen_in g.F.Reads g.F.Files g.P.Report c.args.files.now c.args.report.now)

@@ -8,7 +8,7 @@ use Rattle.mkv_generate.specs.Generate.{first_written, line_for}
 use Rattle.mkv_generate.specs.Outcome.{warned_of}
 use Rattle.mkv_generate.proofs.generating.say_all.Goals as goal
 
--- the line couldn't be said
+-- The line couldn't be printed.
 pub returns-in_err-say-clause-said : goal.returns-in_err-say-clause-said
 returns-in_err-say-clause-said g c =
     let p = err_from_is_err_and c.from_residual.result c.from_residual.ensures.1 in
@@ -19,7 +19,7 @@ returns-in_err-say-clause-said g c =
     (SaysPart-before (g.P.Report.lines c.args.report.now) (g.P.Report.lines c.say.new.report) (line_for c.args.n (first_written both.summary.outputs) (length parts.summary.outputs) ∷ []) (warned_of both ++ warned_of parts)
     (subst (λ (text : List ℕ). SaysPart (g.P.Report.lines c.args.report.now) (g.P.Report.lines c.say.new.report) (text ∷ [])) line c.in_err-say.ensures.said))
 
--- a warning of the first merge couldn't be
+-- A warning of the first merge couldn't be printed.
 pub returns-in_err-warn-clause-said : goal.returns-in_err-warn-clause-said
 returns-in_err-warn-clause-said g c =
     let p = err_from_is_err_and c.from_residual-in_err-warn.result c.from_residual-in_err-warn.ensures.1 in
@@ -32,7 +32,7 @@ returns-in_err-warn-clause-said g c =
     (SaysPart-before (g.P.Report.lines c.args.report.now) (g.P.Report.lines c.warn.new.report) (text ∷ warned_of both) (warned_of parts)
     (SaysPart-behind (g.P.Report.lines c.args.report.now) (g.P.Report.lines c.say.new.report) (g.P.Report.lines c.warn.new.report) (text ∷ []) (warned_of both) said c.in_err-warn.ensures.said))
 
--- the others
+-- The warnings of the second merge follow.
 pub returns-clause-said : goal.returns-clause-said
 returns-clause-said g c =
     let both = c.args.both.now in

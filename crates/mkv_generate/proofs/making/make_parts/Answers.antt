@@ -4,7 +4,7 @@ use Rattle.mkv_generate.specs.Generate.{parts_words}
 use Rattle.mkv_generate.proofs.MakingLemmas.{parts-begun}
 use Rattle.mkv_generate.proofs.making.make_parts.Goals as goal
 
--- there is no memory for the words
+-- Memory ran out for the command line.
 pub returns-in-Err-clause-makes : goal.returns-in-Err-clause-makes
 returns-in-Err-clause-makes g c =
     let names = g.F.Files.names c.args.files.now in

@@ -22,7 +22,7 @@ pub returns-in-Err-clause-makes : goal.returns-in-Err-clause-makes
 returns-in-Err-clause-makes g c =
     both-stopped (g.F.Files.names c.args.files.now) (g.F.Files.names c.merge_files.new.files) c.args.names.now c.args.words c.requires c.in-Err.why c.in-Err.ensures.merges
 
--- ---- how much is read
+-- ---- bytes read
 
 pub returns-in-Ok-Written-clause-octets : goal.returns-in-Ok-Written-clause-octets
 returns-in-Ok-Written-clause-octets g c =
@@ -38,7 +38,7 @@ pub returns-in-Err-clause-octets : goal.returns-in-Err-clause-octets
 returns-in-Err-clause-octets g c =
     both-alone (g.F.Files.names c.args.files.now) c.args.names.now c.args.words c.requires (g.F.Reads.octets_read c.args.files.now) (g.F.Reads.octets_read c.merge_files.new.files) c.merge_files.ensures.octets
 
--- ---- which names are opened and made
+-- ---- names that are opened and made
 
 pub returns-in-Ok-Written-clause-asks : goal.returns-in-Ok-Written-clause-asks
 returns-in-Ok-Written-clause-asks g c = λ name besides unasked.

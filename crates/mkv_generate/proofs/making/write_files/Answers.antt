@@ -7,7 +7,7 @@ use Rattle.mkv_generate.proofs.AskedLemmas.{file-asks}
 use Rattle.mkv_generate.proofs.TurnLemmas.{one-stopped, two-written}
 use Rattle.mkv_generate.proofs.making.write_files.Goals as goal
 
--- the first couldn't be written
+-- The first file couldn't be written.
 pub returns-in_err-write_file-clause-writes : goal.returns-in_err-write_file-clause-writes
 returns-in_err-write_file-clause-writes g c =
     let p = err_from_is_err_and c.from_residual.result c.from_residual.ensures.1 in
@@ -23,7 +23,7 @@ returns-clause-writes g c =
 pub returns-clause-live : goal.returns-clause-live
 returns-clause-live g c = λ file. c.write_file-2.ensures.kept.live file ∙ c.in_ok-write_file.ensures.kept.live file
 
--- ---- which names are made
+-- ---- names that are made
 
 pub returns-in_err-write_file-clause-asks : goal.returns-in_err-write_file-clause-asks
 returns-in_err-write_file-clause-asks g c =
