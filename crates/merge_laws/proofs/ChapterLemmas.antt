@@ -1,4 +1,4 @@
--- What goes into a part of Chapters that can be written can be written too, where it isn't too long.
+-- The Chapters of a part can be written if they aren't too long and the whole Chapters can be written.
 use Rattle.std.proofs.Common.{◌≡◌, ◌≤◌, ℕ, zero, suc, ◌+◌, ◌==◌, ◌&&◌, ◌^◌, nat_lt, max, Bool, true, false, cond, if◌then◌else◌, List, [], ◌∷◌, ◌++◌, length, find, flat_map, Option, Some, None, IfSome, eqb-true, sym, ap, subst, refl, arith, unwrap_or}
 use Rattle.std.specs.List.{range_with_len}
 use Rattle.std.proofs.lemmas.Bool.{le-leb}
@@ -28,7 +28,7 @@ use Rattle.merge_laws.proofs.EntryLemmas.{master-with}
 
 -- ---- a time
 
--- of numbers up to a limit the first that passes, or the limit
+-- The first number that passes the test, or the limit, is at most the limit.
 first-most : (p : ℕ → Bool) (n a most : ℕ) → a + n ≤ most + 1 → unwrap_or (find p (range_with_len a n)) most ≤ most
 first-most p zero a most few = omega arith
 first-most p (suc n) a most few = split (p a) (first-most p n (a + 1) most (omega arith))
@@ -37,12 +37,12 @@ first-most p (suc n) a most few = split (p a) (first-most p n (a + 1) most (omeg
     split true rest = omega arith
     split false rest = rest
 
--- an integer that is made has eight octets at most
+-- An integer that is made has at most eight bytes.
 uint-short : (value : ℕ) → length (uint_octets value) ≤ 8
 unfolding uint_width
 uint-short value = omega (arith, length-uint_octets value, first-most (λ w. nat_lt value (256 ^ w)) 8 1 8 (omega arith))
 
--- so it stands where the table has one
+-- It is valid as a child if the table has an integer there.
 time-stands : (id value : ℕ) → IsUintIn CHAPTER_ATOM id → StandsIn CHAPTER_ATOM (uint_leaf id value)
 time-stands id value is =
     let zero_stands = uint-stands CHAPTER_ATOM id 0 is (omega arith) in
@@ -61,7 +61,7 @@ set-end : (s : Stretch) (n : Node) (o : Option ℕ) → IsRead CHAPTER_ATOM n �
 set-end s n None read = sets-none n read
 set-end s n (Some time) read = set-time n CHAPTER_TIME_END (within s time) read end
 
--- An atom takes the place of another with the times of that in a stretch.
+-- An atom with the times of a period may replace another atom.
 times-may : (s : Stretch) (n inner : Node) → IsRead CHAPTER_ATOM n → IsRead CHAPTER_ATOM inner → MayReplace n inner → MayReplace n (set_each (times_within s n) inner)
 times-may s n inner read inner_read may =
     let begun : Node = set_in (uint_leaf CHAPTER_TIME_START (within s (start_of n))) inner in
@@ -69,9 +69,9 @@ times-may s n inner read inner_read may =
     let own_end : Option ℕ = integer_in CHAPTER_TIME_END n in
     may-sets n inner begun (set_each (end_within s own_end) begun) (uint_leaf CHAPTER_TIME_START (within s (start_of n)) ∷ []) (end_within s own_end) read may begins (set-end s begun own_end begins.read)
 
--- ---- Elements of a parent
+-- ---- children of a parent
 
--- They stand in it, and aren't deeper than so many masters.
+-- The elements `ns` are valid in `parent`, and at most `deep` masters are nested in them.
 record StandWithin (parent deep : ℕ) (ns : List Node) : Type 0 where
   stand : AllStandIn parent (nodes_of ns)
   shallow : depth_all (nodes_of ns) ≤ deep
@@ -90,9 +90,9 @@ within-append parent d e (m ∷ ms) ns front behind =
     let shallow = rest.shallow in
     record { stand = (front.stand.0, rest.stand); shallow = omega arith }
 
--- ---- what goes into a stretch
+-- ---- the part of Chapters in a period
 
--- of a master whose children that go in stand there
+-- A master stays valid if its selected children are valid in it.
 master-stands : (s : Stretch) (parent id at : ℕ) (kids : Nodes) (next : Option ℕ) → StandsIn parent (master id at kids) → StandWithin id (depth_all kids) (cut_among s kids)
     → StandWithin parent (depth (master id at kids)) (cut_at s (master id at kids) next)
 master-stands s parent id at kids next stands inside = of (id == CHAPTER_ATOM) refl (takes s (start_of n) (end_of n next))
@@ -146,7 +146,7 @@ editions-stand s (n ∷ ns) stand =
 
 -- ---- a record
 
--- A record that can be written where it isn't too long.
+-- `n` is a record that can be written if it isn't too long.
 pub record IsRecordIfShort (own : ℕ) (n : Node) : Type 0 where
   pub read : IsRead own n
   pub deep : depth n ≤ deepest
@@ -172,7 +172,7 @@ cut-stands s (master id at kids) is = of (flat_map (edition_within s) (list_of k
           deep = omega arith;
         }
 
--- So are the Chapters of a part, split or not.
+-- The Chapters of a part are such a record, split or not.
 pub chapters-stand : (split : Bool) (s : Stretch) (chapters : Option Node) → IfSome chapters (IsRecord CHAPTERS) → IfSome (chapters_of split chapters s) (IsRecordIfShort CHAPTERS)
 chapters-stand true s None are = tt
 chapters-stand true s (Some n) are = cut-stands s n are

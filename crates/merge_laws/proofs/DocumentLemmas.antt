@@ -1,4 +1,4 @@
--- The document of each output of a merge is sound.
+-- The document of each output of a merge is valid.
 use Rattle.std.proofs.Common.{◌≡◌, ◌<◌, ◌≤◌, ℕ, ◌^◌, Bool, true, false, if◌then◌else◌, List, [], ◌∷◌, ◌++◌, length, length-append, append_assoc, map, max, Option, Some, None, IfSome, refl, sym, ap, subst, ◌∙◌, arith, unwrap_or}
 use Rattle.std.specs.List.{All}
 use Rattle.std.specs.Str.{IsUtf8}
@@ -59,9 +59,9 @@ use Rattle.merge_laws.proofs.ChapterLemmas.{IsRecordIfShort, chapters-stand, rec
 use Rattle.merge_laws.proofs.LaneLemmas.{lanes-length}
 use Rattle.merge_laws.proofs.TracksLemmas.{taken-lanes, taken-plain, taken-tracks}
 
--- ---- how long the records are
+-- ---- lengths of the records
 
--- what stands behind the area is a part of the file
+-- The elements after the area are a part of the file.
 behind-short : (d : Document) → length (joined (elements_behind_area d)) ≤ length (layout d)
 behind-short d =
     let rest : List ℕ = joined (elements_behind_area d) in
@@ -70,7 +70,7 @@ behind-short d =
     let ebml : List ℕ = octets_of (ebml_element d.front.webm) in
     omega (arith, length-append ebml (id_octets SEGMENT ++ (size ++ (area ++ rest))), length-append (id_octets SEGMENT) (size ++ (area ++ rest)), length-append size (area ++ rest), length-append area rest)
 
--- so are Info and Tracks
+-- Info and Tracks are a part, too.
 module _ (d : Document) where
   others : List Element
   others = attachments_elements d.front.attachments ++ (clusters_elements d.clusters ++ back_elements d)
@@ -89,11 +89,11 @@ module _ (d : Document) where
       let e : Element = tree_element d.front.tracks in
       omega (arith, behind-short d, length-append (octets_of first) (joined (e ∷ others)), length-append (octets_of e) (joined others), length-append (header_of e) e.body)
 
--- what stands last is a part of all
+-- The last elements are a part of all.
 last-short : (xs ys : List Element) → length (joined ys) ≤ length (joined (xs ++ ys))
 last-short xs ys = omega (arith, ap length (flat_map-append octets_of xs ys), length-append (joined xs) (joined ys))
 
--- so are Chapters
+-- Chapters are a part, too.
 chapters-short : (d : Document) → IfSome d.chapters (λ (n : Node). length (content n) ≤ length (layout d))
 chapters-short d =
     let middle : List Element = clusters_elements d.clusters in
@@ -107,7 +107,7 @@ chapters-short d =
         let e : Element = tree_element n in
         omega (arith, length-append (octets_of e) (joined (tree_elements d.tags)), length-append (header_of e) e.body)
 
--- an AttachedFile is a part of its Attachments
+-- An AttachedFile is a part of its Attachments.
 each-short : (most : ℕ) (ns : List Node) → length (joined (map tree_element ns)) ≤ most → All (λ (n : Node). length (content n) ≤ most) ns
 each-short most [] within = All-nil (λ (n : Node). length (content n) ≤ most)
 each-short most (n ∷ ns) within =
@@ -123,7 +123,7 @@ inside-short (n ∷ ns) =
     let e : Element = master_element ATTACHMENTS (map tree_element (n ∷ ns)) in
     omega (arith, length-append (octets_of e) [], length-append (header_of e) e.body)
 
--- and these of the file
+-- Attachments are a part of the file.
 files-short : (d : Document) → All (λ (n : Node). length (content n) ≤ length (layout d)) d.front.attachments
 files-short d =
     let first : Element = tree_element d.front.info in
@@ -135,11 +135,11 @@ files-short d =
 
 -- ---- an AttachedFile
 
--- FileData is any octets
+-- FileData may have any bytes.
 data-stands : (bytes : List ℕ) → StandsIn ATTACHED_FILE (leaf FILE_DATA 0 bytes)
 data-stands bytes = record { id_stands = file_data-valid; no_master = no_master-in FILE_DATA; value = file_data-value bytes }
 
--- With data it is one too, unless it is too long.
+-- With data it is valid, too, unless it is too long.
 filled-attachment : (entry : Node) (bytes : List ℕ) → IsAttachment entry → length (content (with_data bytes entry)) ≤ longest → IsAttachment (with_data bytes entry)
 filled-attachment (leaf id at body) bytes is short = let never = is.is.master in absurd (cc)
 filled-attachment (master id at kids) bytes is short =
@@ -183,7 +183,7 @@ info-stands scale (o ∷ octets) small text = (
 
 -- ---- an Info with identifiers
 
--- any octets are a SegmentUUID, a PrevUUID or a NextUUID
+-- A SegmentUUID, PrevUUID or NextUUID may have any bytes.
 own-stands : (uuid : ℕ) → StandsIn INFO (uuid_leaf SEGMENT_UUID uuid)
 unfolding entry_of table is_id
 own-stands uuid = record { id_stands = refl; no_master = refl; value = refl }
@@ -196,7 +196,7 @@ next-stands : (uuid : ℕ) → StandsIn INFO (uuid_leaf NEXT_UUID uuid)
 unfolding entry_of table is_id
 next-stands uuid = record { id_stands = refl; no_master = refl; value = refl }
 
--- what is given stands in front of what stands there, and so deep
+-- The elements `ns` are valid children of Info without children of their own.
 record StandsFlat (ns : List Node) : Type 0 where
   stand : AllStandIn INFO (nodes_of ns)
   flat : depth_all (nodes_of ns) ≡ 0
@@ -212,16 +212,16 @@ uuids-flat u ns others =
     ∙ ap (λ (ms : List Node). given (uuid_leaf SEGMENT_UUID) u.own ++ ms) (append_assoc (given (uuid_leaf PREV_UUID) u.before) (given (uuid_leaf NEXT_UUID) u.next) ns)))
     (given-flat SEGMENT_UUID own-stands u.own _ (given-flat PREV_UUID before-stands u.before _ (given-flat NEXT_UUID next-stands u.next ns others)))
 
--- what stands behind the scale
+-- the children of Info after the scale
 abbrev behind_scale : List ℕ → List Node
 behind_scale title = title_elements title ++ (leaf MUXING_APP 0 application ∷ leaf WRITING_APP 0 application ∷ [])
 
--- the Info with its identifiers
+-- The Info has its identifiers.
 own-info : (u : PartUuids) (scale : ℕ) (title : List ℕ) → with_uuids u (output_info scale title) ≡ master INFO 0 (nodes_of (uint_leaf TIMESTAMP_SCALE scale ∷ (uuid_elements u ++ behind_scale title)))
 unfolding with_uuids
 own-info u scale title = ap (λ (ns : List Node). master INFO 0 (nodes_of (uint_leaf TIMESTAMP_SCALE scale ∷ (uuid_elements u ++ ns)))) (list-nodes (behind_scale title))
 
--- It is a record too,
+-- It is a record, too.
 pub own-record : (u : PartUuids) (scale : ℕ) (title : List ℕ) → scale < 2 ^ 64 → IsUtf8 title → length (content (with_uuids u (output_info scale title))) ≤ longest → IsRecord INFO (with_uuids u (output_info scale title))
 own-record u scale title small text =
     subst (λ (n : Node). length (content n) ≤ longest → IsRecord INFO n) (sym (own-info u scale title))
@@ -236,11 +236,11 @@ own-record u scale title small text =
     behind-flat [] = refl
     behind-flat (o ∷ octets) = refl
 
--- of the same scale.
+-- It keeps its scale.
 pub own-scale : (u : PartUuids) (scale : ℕ) (title : List ℕ) → scale_of (with_uuids u (output_info scale title)) ≡ scale_of (output_info scale title)
 own-scale u scale title = ap scale_of (own-info u scale title)
 
--- ---- what is asked of the title
+-- ---- conditions on the title
 
 title-first : (P : List ℕ → Type 0) → P [] → (sources : List Source) → All (λ (s : Source). P s.1.title) sources → P (first_title (reads_of sources))
 title-first P none [] each = none
@@ -254,13 +254,13 @@ title-given : (P : List ℕ → Type 0) (given : Option (List ℕ)) (other : Lis
 title-given P None other text rest = rest
 title-given P (Some title) other text rest = text
 
--- What holds of the title that the words give, and of that of each source, holds of the title of the merge.
+-- A fact about the title on the command line and the title of each source holds for the title of the merge.
 pub title-is : (P : List ℕ → Type 0) → P [] → (words : MergeWords) (sources : List Source) → IfSome words.title P → All (λ (s : Source). P s.1.title) sources → P (title_of words (reads_of sources))
 title-is P none words sources given each = title-given P words.title (first_title (reads_of sources)) given (title-first P none sources each)
 
 -- ---- Tracks
 
--- What holds of each track of the sources holds of those that begin lanes.
+-- A fact about each track of the sources holds for the tracks that begin output tracks.
 pub tracks-are : (P : TakenTrack → Type 0) (sources : List Source) → All (λ (s : Source). All P s.1.taken) sources → All P (tracks_taken (reads_of sources))
 tracks-are P [] each = All-nil P
 tracks-are P (s ∷ ss) each =
@@ -271,18 +271,18 @@ tracks-are P (s ∷ ss) each =
     of true tracks = All-nil P
     of false tracks = tracks
 
--- They are such as can be written.
+-- These tracks can be written.
 pub all-tracks : (sources : List Source) → All IsReadSource sources → All IsReadTrack (tracks_taken (reads_of sources))
 all-tracks sources each = tracks-are IsReadTrack sources (All-weaker IsReadSource (λ (s : Source). All IsReadTrack s.1.taken) (λ s is. is.tracks) sources each)
 
 -- ---- the document
 
--- the document of the part of a number, with these attached files
+-- the document of the part `number`, with the attached files `files`
 abbrev pub document_with : MergeWords → List Source → ℕ → List Node → Part → Document
 document_with words sources number files part =
     document_of (limits_of words) (rules_given (reads_of sources)) (record (front_of words sources) { info = with_uuids (uuids_at words.uuids words.link number) (front_of words sources).info; attachments = files }) (chapters_in words sources part) (tags_of (reads_of sources)) part.blocks
 
--- what stands of the Chapters in a part
+-- The Chapters in a part can be written if they aren't too long.
 part-chapters : (words : MergeWords) (sources : List Source) (part : Part) → HaveRecords sources → IfSome (chapters_in words sources part) (IsRecordIfShort CHAPTERS)
 part-chapters words sources part have = chapters-stand (is_split words) (stretch_of words.scale part.start part.end) (chapters_of (reads_of sources)) have.chapters
 
@@ -305,15 +305,15 @@ module _ (words : MergeWords) (sources : List Source) (sound : IsSoundMerge word
   lanes-as_many : length (tracks.entries_of (tracks_of_output (reads_of sources))) ≡ length (lanes_selected words sources)
   lanes-as_many = taken-lanes (tracks_taken (reads_of sources)) (all-tracks sources are.each) tracks-few ∙ sym (lanes-length words.scale sources)
 
-  -- Its tracks have frames as they stand.
+  -- Its tracks have unchanged frames.
   pub document-plain : All HasNoEncodings (tracks.entries_of (tracks_of_output (reads_of sources)))
   document-plain = taken-plain (tracks_taken (reads_of sources)) (all-tracks sources are.each) tracks-few
 
-  -- The scale of its Info is that of the words.
+  -- The scale of its Info is the scale on the command line.
   pub document-scale : (number : ℕ) → scale_of (with_uuids (uuids_at words.uuids words.link number) (info_of words (reads_of sources))) ≡ words.scale
   document-scale number = own-scale (uuids_at words.uuids words.link number) words.scale (title_of words (reads_of sources)) ∙ info-scale words.scale (title_of words (reads_of sources)) scale-small
 
-  -- It is sound, where its records can be written and its blocks are those of the lanes.
+  -- It is valid if its records can be written and its blocks belong to the output tracks.
   pub document-sound : (number : ℕ) (files : List Node) (part : Part) → HaveRecords sources → All IsFilled files → All (IsOf (length (lanes_selected words sources))) part.blocks
       → length (layout (document_with words sources number files part)) ≤ LONGEST_FILE → IsSoundDocument (document_with words sources number files part)
   document-sound number files part have filled blocks short =

@@ -1,4 +1,4 @@
--- An entry that is written of a track that was read is a track.
+-- The written entry of a track that was read is an entry of a track.
 use Rattle.std.proofs.Common.{◌≡◌, ◌<◌, ℕ, ◌^◌, ◌==◌, Bool, true, false, List, [], ◌∷◌, ◌++◌, find, Option, Some, None, IsSome, IfSome, refl, sym, ap, subst, ◌∙◌, arith, unwrap_or}
 use Rattle.std.specs.List.{All, filter}
 use Rattle.std.specs.Option.{option_map}
@@ -29,9 +29,9 @@ use Rattle.merge_inputs.specs.Taken.{IsTaken}
 use Rattle.merge_inputs.specs.declared.taken.TakenTrack.{TakenTrack}
 use Rattle.merge_laws.specs.Merge.{HasNoEncodings}
 
--- ---- what can be written of a change
+-- ---- changes that can be written
 
--- A number, an identifier and texts that an entry can have.
+-- The change `c` has a number, an identifier and texts that an entry can have.
 pub record CanBeSet (c : TrackChange) : Type 0 where
   pub some : 0 < c.number
   pub number : c.number < 2 ^ 64
@@ -39,16 +39,16 @@ pub record CanBeSet (c : TrackChange) : Type 0 where
   pub name : IfSome c.name IsUtf8
   pub language : IfSome c.language IsUtf8
 
--- ---- an entry stays whole
+-- ---- an entry stays valid
 
--- a leaf that was made, and stands in an entry
+-- `n` is a leaf that was made, and is valid in an entry.
 record IsMadeLeaf (n : Node) : Type 0 where
   id : ℕ
   body : List ℕ
   is : n ≡ leaf id 0 body
   stands : StandsIn TRACK_ENTRY (leaf id 0 body)
 
--- with other children a master stays one
+-- A master with other children is still a master.
 pub master-with : (n : Node) (ns : List Node) → IsMaster n → IsMaster (with_children n ns)
 master-with (leaf id at body) ns is = absurd (cc)
 master-with (master id at kids) ns is = refl
@@ -68,7 +68,7 @@ removed-whole : (id : ℕ) (entry : Node) → IsWholeEntry entry → IsWholeEntr
 removed-whole id entry whole =
     whole-removed entry (removed_in id entry) whole id refl (master-with entry (without id (children entry)) whole.master) (λ sound. sound-remove entry id whole.master sound)
 
--- ---- what a change sets
+-- ---- children that a change sets
 
 text-made : (id : ℕ) (o : Option (List ℕ)) → ((text : List ℕ) → IsUtf8 text → StandsIn TRACK_ENTRY (leaf id 0 text)) → IfSome o IsUtf8 → All IsMadeLeaf (given (leaf id 0) o)
 text-made id None stands utf8 = All-nil IsMadeLeaf
@@ -100,7 +100,7 @@ children-made c can =
     (flag-made FLAG_DEFAULT c.flag_default (λ value small. uint-stands TRACK_ENTRY FLAG_DEFAULT value row.flag_default small)))
     (flag-made FLAG_FORCED c.flag_forced (λ value small. uint-stands TRACK_ENTRY FLAG_FORCED value row.flag_forced small))
 
--- What is written of a whole entry is one.
+-- The written form of a valid entry is valid.
 pub written-whole : (c : TrackChange) (entry : Node) → CanBeSet c → IsWholeEntry entry → IsWholeEntry (written_entry c entry)
 written-whole c entry can whole = sets-whole (children_set c) (removed_each (ids_removed c.language) entry) (children-made c can) (bare c.language)
   where
@@ -110,17 +110,17 @@ written-whole c entry can whole = sets-whole (children_set c) (removed_each (ids
 
 -- ---- an entry stays a track
 
--- it is a master, since it has children
+-- It is a master, since it has children.
 master-of : (n : Node) → IsSome (first_child TRACK_TYPE n) → IsMaster n
 master-of (leaf id at body) some = absurd (cc)
 master-of (master id at kids) some = refl
 
--- The entry of a track that was taken is whole.
+-- The entry of a selected track is valid.
 pub taken-whole : (t : TakenTrack) → IsTaken t → IsWholeEntry t.track.entry
 taken-whole t is = record { id = is.entry.id; master = master-of t.track.entry is.track.type; sound = is.entry.sound; room = is.room }
 
 module _ (c : TrackChange) where
-  -- The first of an ID that isn't changed stays.
+  -- The first child with an ID that isn't changed stays.
   pub first-kept : (id i at : ℕ) (kids : Nodes) → ((ns : List Node) → filter (λ n. id_of n == id) (entry_list c ns) ≡ filter (λ n. id_of n == id) ns)
       → first_child id (written_entry c (master i at kids)) ≡ first_child id (master i at kids)
   first-kept id i at kids keeps =
@@ -129,7 +129,7 @@ module _ (c : TrackChange) where
       ap (first_child id) (written-master c i at kids) ∙ ap (find (λ n. id_of n == id)) (list-nodes all)
       ∙ find-filter (λ n. id_of n == id) all ∙ ap first_in (keeps old) ∙ sym (find-filter (λ n. id_of n == id) old)
 
-  -- So does the first TrackType.
+  -- The first TrackType stays, too.
   pub type-kept : (i at : ℕ) (kids : Nodes) → first_child TRACK_TYPE (written_entry c (master i at kids)) ≡ first_child TRACK_TYPE (master i at kids)
   type-kept i at kids = first-kept TRACK_TYPE i at kids (λ ns. part-others c ns TRACK_TYPE refl refl refl refl refl refl refl refl)
 
@@ -152,7 +152,7 @@ pub written-number : (c : TrackChange) (entry : Node) → CanBeSet c → IsWhole
 written-number c (leaf id at body) can whole = let never = whole.master in absurd (cc)
 written-number c (master id at kids) can whole = number-set c id at kids can
 
--- Nothing says that its frames were changed.
+-- It has no ContentEncodings.
 pub written-plain : (c : TrackChange) (entry : Node) → IsWholeEntry entry → HasNoEncodings (written_entry c entry)
 written-plain c (leaf id at body) whole = let never = whole.master in absurd (cc)
 written-plain c (master id at kids) whole =
@@ -160,7 +160,7 @@ written-plain c (master id at kids) whole =
     ap (first_child CONTENT_ENCODINGS) (written-master c id at kids) ∙ ap (find (λ n. id_of n == CONTENT_ENCODINGS)) (list-nodes all)
     ∙ find-filter (λ n. id_of n == CONTENT_ENCODINGS) all ∙ ap first_in (part-encodings c (list_of kids))
 
--- What is written of a track is one.
+-- The written entry of a track is an entry of a track.
 pub written-track : (c : TrackChange) (entry : Node) → CanBeSet c → IsWholeEntry entry → IsTrack entry → IsTrack (written_entry c entry)
 written-track c (leaf id at body) can whole track = let never = whole.master in absurd (cc)
 written-track c (master id at kids) can whole track =

@@ -1,4 +1,4 @@
--- The blocks of an output are read as they were written, wherever they stand.
+-- The blocks of an output are read as they were written, at any offsets.
 use Rattle.std.proofs.Common.{◌≡◌, ℕ, ◌+◌, false, List, [], ◌∷◌, ◌++◌, length, map, flat_map, refl, sym, ap, ap₂, ◌∙◌}
 use Rattle.std.proofs.lemmas.List.{map-append}
 use Rattle.block_format.specs.Block.{Block}
@@ -20,7 +20,7 @@ use Rattle.output_laws.proofs.LayoutLemmas.{layout-read}
 use Rattle.output_laws.proofs.MergedClusterLemmas.{clusters-hold}
 use Rattle.merge_laws.specs.Merge.{without_place}
 
--- blocks of a Cluster, behind its Timestamp
+-- The blocks of a Cluster, after its Timestamp.
 cluster-exact : (scale timestamp p : ℕ) (bs : List OutputBlock) → map without_place (blocks_in_place scale timestamp p bs) ≡ map (block_in_place scale 0) bs
 cluster-exact scale timestamp p [] = refl
 cluster-exact scale timestamp p (b ∷ bs) =

@@ -1,4 +1,4 @@
--- What a source gives to its lanes can be placed.
+-- The blocks that a source gives to its output tracks can be placed.
 use Rattle.std.proofs.Common.{◌<◌, ◌≤◌, ℕ, ◌+◌, ◌^◌, ◌==◌, List, [], ◌∷◌, length, filter, get_or, Option, Some, None, IfSome, nat_abs, refl, sym, ap, subst, arith}
 use Rattle.std.specs.Prelude.{ℤ, pos}
 use Rattle.std.proofs.lemmas.Int.{ints}
@@ -30,7 +30,7 @@ use Rattle.merge_plan.specs.Plan.{Source, given_from, given_of, append_offset, p
 use Rattle.merge_laws.specs.Sources.{HasEntriesWithin, IsReadSource, IsReadTrack}
 use Rattle.merge_laws.proofs.TextLemmas.{entry-read}
 
--- Blocks as a reader finds them, how they are placed, and how long a frame lasts that doesn't say it.
+-- The blocks are as a reader finds them; their placing and the default duration of a frame are within their limits.
 pub record CanBePlaced (g : Given) : Type 0 where
   pub blocks : All IsReadBlock g.blocks
   pub placing : IsPlacing g.placing
@@ -41,7 +41,7 @@ taken-placing shift t fits is =
     let few = usable-few t.track.entry (first_damage (usable_causes t.track.entry)) (prefix_of t.track.entry) refl is.usable refl in
     record { delay = is.near; shift = fits; prefix = few }
 
--- a time from a file is a block's, whatever the file lists
+-- A timestamp from a file is small enough for a block, for any file.
 clamped-small : (t : ℤ) → nat_abs (clamped t) < TOO_LARGE_TIME
 clamped-small t = grind (arith, ints)
 
@@ -50,7 +50,7 @@ unfolding time_at
 time_at-small (Each ts) k = clamped-small (time_in ts k)
 time_at-small (Runs rs) k = clamped-small (pos (time_along 0 rs k))
 
--- a block at another time, as it was read
+-- A block with another timestamp is still as a reader finds it.
 at-time : (time : ℤ) (b : Block) → nat_abs time < TOO_LARGE_TIME → IsReadBlock b → IsReadBlock (record b { time = time })
 at-time time b small is = record {
   small = let own = is.small in record { time = small; duration = own.duration; references = own.references; few = own.few; frames = own.frames; kept = own.kept };
@@ -80,7 +80,7 @@ link-placed times shift (Entries entries) bytes t fits octets within track = rec
   default = tt;
 }
 
--- So is all that a source gives.
+-- All blocks of a source can be placed.
 pub given-placed : (s : Source) → IsReadSource s → All CanBePlaced (given_of s)
 given-placed s is =
     All-map CanBePlaced (given_from s.1.times (append_offset s.1) s.1.blocks s.0) s.1.taken

@@ -1,4 +1,4 @@
--- The lanes of a merge are sound.
+-- The output tracks of a merge are valid.
 use Rattle.std.proofs.Common.{◌≡◌, ◌≤◌, ℕ, ◌+◌, Bool, true, false, if◌then◌else◌, List, [], ◌∷◌, length, map, flat_map, length-append, Option, Some, None, refl, sym, ap, ap₂, ◌∙◌}
 use Rattle.std.specs.List.{All}
 use Rattle.std.proofs.lemmas.List.{length-map}
@@ -18,7 +18,7 @@ use Rattle.merge_plan.proofs.ChainLemmas.{begins, lanes-all, lanes-first}
 use Rattle.merge_laws.specs.Sources.{IsReadSource}
 use Rattle.merge_laws.proofs.GivenLemmas.{CanBePlaced, given-placed}
 
--- ---- how blocks are placed
+-- ---- placed blocks
 
 no-lane : (scale : ℕ) (p : Placing) (b : Block) → All HasNoLane (placed scale p b)
 no-lane scale p b = split (delayed p b)
@@ -27,10 +27,10 @@ no-lane scale p b = split (delayed p b)
     split None = All-nil HasNoLane
     split (Some t) = All-cons HasNoLane (output_block scale p.prefix (t + p.shift) b) [] refl (All-nil HasNoLane)
 
--- ---- a fact of what each block becomes
+-- ---- a fact about each placed block
 
 module _ (P : OutputBlock → Type 0) (scale : ℕ) (holds : (p : Placing) (b : Block) → IsPlacing p → IsReadBlock b → All P (placed scale p b)) where
-  -- it holds of all that a link gives
+  -- It holds for all blocks of a link.
   GivenHolds : Given → Type 0
   GivenHolds g = All P (given_blocks scale g)
 
@@ -43,7 +43,7 @@ module _ (P : OutputBlock → Type 0) (scale : ℕ) (holds : (p : Placing) (b : 
   unfolding GivenHolds
   source-holds s is = All-weaker CanBePlaced GivenHolds (λ g can. blocks-hold g.placing g.blocks can.placing can.blocks) (given_of s) (given-placed s is)
 
-  -- so it does of all of a lane
+  -- It holds for all blocks of an output track.
   lane-holds : (gs : List Given) → All GivenHolds gs → All P (lane_blocks scale gs)
   unfolding GivenHolds
   lane-holds [] all = All-nil P
@@ -59,15 +59,15 @@ module _ (P : OutputBlock → Type 0) (scale : ℕ) (holds : (p : Placing) (b : 
       (All-weaker (All GivenHolds) (λ (gs : List Given). All P (lane_blocks scale gs)) lane-holds (lanes_given sources)
       (lanes-all GivenHolds (λ (s : Source). is_appended s.1) given_of IsReadSource source-holds sources each))
 
--- Each block of a lane is sound.
+-- Each block of an output track is valid.
 pub lanes-sound : (scale : ℕ) (sources : List Source) → LEAST_SCALE ≤ scale → All IsReadSource sources → All (All IsSoundBlock) (map (lane_blocks scale) (lanes_given sources))
 lanes-sound scale sources least each = lanes-hold IsSoundBlock scale (λ p b placing read. placed-sound scale p b least placing read) sources each
 
--- None has a lane yet.
+-- No block has an output track yet.
 pub lanes-free : (scale : ℕ) (sources : List Source) → All IsReadSource sources → All (All HasNoLane) (map (lane_blocks scale) (lanes_given sources))
 lanes-free scale sources each = lanes-hold HasNoLane scale (λ p b placing read. no-lane scale p b) sources each
 
--- ---- how many there are
+-- ---- number of output tracks
 
 -- a source that is appended
 abbrev goes_on : Source → Bool
@@ -84,14 +84,14 @@ begun-count (s ∷ ss) =
     of true = refl
     of false = length-map s.1.taken (given_from s.1.times (append_offset s.1) s.1.blocks s.0)
 
--- one for each lane, and for each link that begins one
+-- 1 for each output track, and for each link that begins one
 abbrev of_lane : List Given → ℕ
 of_lane gs = 0
 
 abbrev of_link : Given → ℕ
 of_link g = 0
 
--- There is one for each track that begins one.
+-- There is one for each track that begins an output track.
 pub lanes-count : (sources : List Source) → length (lanes_given sources) ≡ length (tracks_taken (reads_of sources))
 lanes-count sources =
     sym (length-map (lanes_given sources) of_lane)
@@ -99,6 +99,6 @@ lanes-count sources =
     ∙ length-map (flat_map (begins goes_on given_of) sources) of_link
     ∙ begun-count sources
 
--- So it is of their blocks.
+-- The lists of their blocks have the same number.
 pub lanes-length : (scale : ℕ) (sources : List Source) → length (map (lane_blocks scale) (lanes_given sources)) ≡ length (tracks_taken (reads_of sources))
 lanes-length scale sources = length-map (lanes_given sources) (lane_blocks scale) ∙ lanes-count sources

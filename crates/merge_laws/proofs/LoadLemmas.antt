@@ -17,7 +17,7 @@ use Rattle.mkv_merge.specs.Merge.{blocks_of, split_of}
 use Rattle.merge_laws.specs.Merge.{KeepsLimit}
 
 module _ (starts : List ℕ) (scale : ℕ) (drives : ℕ → Bool) (blocks : List OutputBlock) where
-  -- how these words split
+  -- the split of the command line
   abbrev split_by : Option SplitWords → Split
   split_by words = record { spec = spec_of words starts; size = size_of words; scale = scale; drives = drives }
 

@@ -1,4 +1,4 @@
--- What is written of a merge holds it.
+-- The outputs of a merge hold it.
 use Rattle.std.proofs.Common.{◌≡◌, ◌≢◌, ◌≤◌, ℕ, false, List, [], ◌∷◌, length, map, Option, Some, Result, Ok, Err, IfOk, refl, sym, ap, ap₂, ◌∙◌}
 use Rattle.std.specs.List.{All}
 use Rattle.std.specs.Str.{IsUtf8}
@@ -53,7 +53,7 @@ use Rattle.merge_laws.proofs.SourceLemmas.{sources-read}
 
 -- ---- lists of outputs
 
--- the draft of an output becomes these
+-- the contents of the draft of an output
 abbrev Becomes : PlannedOutput → Type 0
 Becomes o = patched (opened o.document) (draft_of o.name o.document).patches ≡ layout o.document
 
@@ -62,7 +62,7 @@ drafts-laid [] become = refl
 drafts-laid (o ∷ os) become =
     ap₂ (λ (content : List ℕ) (others : List Output). record { name = o.name; content = content } ∷ others) (All-head Becomes o os become) (drafts-laid os (All-tail Becomes o os become))
 
--- ---- what is written
+-- ---- written documents
 
 module _ (words : MergeWords) (sources : List Source) (sound : IsSoundMerge words) (texts : AreTexts words) (are : AreSources words sources) (have : HaveRecords sources) where
   module _ (number : ℕ) (files : List Node) (part : Part) (filled : All IsFilled files) (is : IsPartOf words sources part) where
@@ -97,20 +97,20 @@ module _ (words : MergeWords) (sources : List Source) (sound : IsSoundMerge word
   pub documents-sound : All (λ (o : PlannedOutput). length (layout o.document) ≤ LONGEST_FILE → IsSoundDocument o.document) (outputs_of words sources)
   documents-sound = outputs-hold words sources sound are (λ (o : PlannedOutput). length (layout o.document) ≤ LONGEST_FILE → IsSoundDocument o.document) have sound-one
 
-  -- What is written of it holds the output,
+  -- The written bytes hold the output.
   pub layouts-hold : All (λ (o : PlannedOutput). length (layout o.document) ≤ LONGEST_FILE → HoldsOutput words o (layout o.document)) (outputs_of words sources)
   layouts-hold = outputs-hold words sources sound are (λ (o : PlannedOutput). length (layout o.document) ≤ LONGEST_FILE → HoldsOutput words o (layout o.document)) have holds-one
 
-  -- and where nothing is split, all lanes.
+  -- They hold all output tracks, if the merge isn't split.
   layouts-hold_lanes : All (λ (o : PlannedOutput). length (layout o.document) ≤ LONGEST_FILE → HoldsLanes words sources o (layout o.document)) (outputs_of words sources)
   layouts-hold_lanes = outputs-hold words sources sound are (λ (o : PlannedOutput). length (layout o.document) ≤ LONGEST_FILE → HoldsLanes words sources o (layout o.document)) have lanes-one
 
   drafts-become : outputs_of_drafts (drafts_of (outputs_of words sources)) ≡ map laid_out (outputs_of words sources)
   drafts-become = drafts-laid (outputs_of words sources) (outputs-hold words sources sound are Becomes have becomes-one)
 
--- ---- a verdict that was reached
+-- ---- a result that was reached
 
--- A command that has come to what a merge of sound records comes to, and wasn't refused, has written it.
+-- A command that ends with the result of a merge of valid records, and wasn't refused, has written the merge.
 pub verdict-merged : (world : List ℕ → Option (List ℕ)) (words : MergeWords) (old new : Seen) (s : Status) → old.names ≡ Some world → HoldsOctets world → IsSoundMerge words → AreTexts words
     → IfOk (sources_of world words) (CanBeReadAgain words) → s ≢ status.Refused → s ≡ (merge_verdict world words).status → IsDone old new (merge_verdict world words) → IsMerged world words new.names
 verdict-merged world words old new s told holds sound texts found other = split (sources_of world words) refl found
@@ -133,7 +133,7 @@ verdict-merged world words old new s told holds sound texts found other = split 
           loads = loads-kept words sources sound;
         }
 
--- So has a run whose words ask for it.
+-- A run of this command line has written the merge, too.
 pub run-merged : (old new : Seen) (words : List (List ℕ)) (asked : MergeWords) (world : List ℕ → Option (List ℕ)) (s : Status) → All IsUtf8 words → old.names ≡ Some world → HoldsOctets world → command words ≡ Ok (Merge asked)
     → IfOk (sources_of world asked) (CanBeReadAgain asked) → s ≢ status.Refused → s ≡ (merge_verdict world asked).status → IsDone old new (merge_verdict world asked) → IsMerged world asked new.names
 run-merged old new words asked world s utf8 told holds is = verdict-merged world asked old new s told holds (command-sound words (Merge asked) is) (asked-texts words asked utf8 is)

@@ -1,4 +1,4 @@
--- The outputs of a merge: what holds of each, by its part.
+-- The outputs of a merge: facts about each, by its part.
 use Rattle.std.proofs.Common.{◌≡◌, ℕ, ◌+◌, ◌==◌, Bool, true, false, if◌then◌else◌, List, [], ◌∷◌, length, map, Option, None, is_some, refl, sym, ap, subst, ◌∙◌}
 use Rattle.std.specs.List.{All, enumerate_from}
 use Rattle.std.proofs.lemmas.List.Elements.{All-nil, All-cons, All-head, All-map, All-tail, All-weaker}
@@ -27,13 +27,13 @@ use Rattle.merge_laws.proofs.DocumentLemmas.{document_with}
 use Rattle.merge_laws.proofs.LaneLemmas.{lanes-sound}
 use Rattle.merge_laws.proofs.PartLemmas.{blocks_by_part, parts-cut, parts-sound}
 
--- ---- what isn't split
+-- ---- a merge that isn't split
 
--- the part that begins at the start and has no end
+-- the part from the start without an end
 abbrev whole_of : MergeWords → List Source → Part
 whole_of words sources = record { start = 0; end = None; blocks = blocks_of words sources }
 
--- a part has all blocks as they are
+-- The part has all blocks unchanged.
 abbrev HasAll : MergeWords → List Source → Part → Type 0
 HasAll words sources part = part.blocks ≡ blocks_of words sources
 
@@ -48,7 +48,7 @@ one-output words sources whole =
 
 -- ---- all together
 
--- the blocks of outputs, output by output
+-- the blocks of outputs, one list for each output
 abbrev blocks_by_output : List PlannedOutput → List (List OutputBlock)
 blocks_by_output outputs = map (λ (o : PlannedOutput). o.blocks) outputs
 
@@ -64,11 +64,11 @@ outputs-parts words sources =
 
 -- ---- each output
 
--- the output of the part of a number, with these attached files
+-- the output of the part `number`, with the attached files `files`
 abbrev pub output_with : MergeWords → List Source → ℕ → List Node → Part → PlannedOutput
 output_with words sources number files part = record { name = name_of (is_split words) words.output number; blocks = part.blocks; document = document_with words sources number files part }
 
--- A part has sound blocks of the lanes that are selected, and where nothing is split, all of them.
+-- The part has valid blocks of the selected output tracks, and all of them if the merge isn't split.
 pub record IsPartOf (words : MergeWords) (sources : List Source) (part : Part) : Type 0 where
   pub blocks : All (IsOf (length (lanes_selected words sources))) part.blocks
   pub whole : words.split ≡ None → HasAll words sources part
@@ -86,7 +86,7 @@ module _ (words : MergeWords) (sources : List Source) (sound : IsSoundMerge word
       All-cons (λ (one : ℕ × Part). IsPartOf words sources one.1) (number, part) (enumerate_from (number + 1) ps) (All-head (IsPartOf words sources) part ps each)
       (numbered-are (number + 1) ps (All-tail (IsPartOf words sources) part ps each))
 
-  -- What holds of the output of each part, whatever files are attached, holds of all.
+  -- A fact about the output of each part, with any attached files, holds for all outputs.
   pub outputs-hold : (P : PlannedOutput → Type 0) → HaveRecords sources
       → ((number : ℕ) (files : List Node) (part : Part) → All IsFilled files → IsPartOf words sources part → P (output_with words sources number files part)) → All P (outputs_of words sources)
   outputs-hold P have holds =

@@ -1,4 +1,4 @@
--- The parts of a merged list are those of its sections that are written, and their blocks are sound, where those of the list are.
+-- The parts of a merged list are its written sections. Their blocks are valid if the blocks of the list are.
 use Rattle.std.proofs.Common.{◌≡◌, ap, refl, ℕ, ◌+◌, ◌-◌, Bool, true, false, if◌then◌else◌, List, [], ◌∷◌, length, map, flat_map, length-append, sym, subst, arith}
 use Rattle.std.specs.List.{All, filter}
 use Rattle.std.proofs.lemmas.List.{get_or-append-add, get_or_append_left}
@@ -11,7 +11,7 @@ use Rattle.merge_laws.specs.Merge.{ArePartsOf, blocks_in_part}
 
 -- ---- the parts together
 
--- the blocks of parts, part by part
+-- the blocks of parts, one list for each part
 abbrev pub blocks_by_part : List Part → List (List OutputBlock)
 blocks_by_part ps = map (λ (p : Part). p.blocks) ps
 
@@ -27,14 +27,14 @@ parts-written s (x ∷ xs) = of (is_written s x) (parts-written s xs)
 pub parts-cut : (s : Split) (blocks : List OutputBlock) → ArePartsOf s blocks (blocks_by_part (parts s blocks))
 parts-cut s blocks = record { sections = sections s blocks; are = sections-cut s blocks; written = parts-written s (sections s blocks) }
 
--- ---- what holds of each block
+-- ---- facts about each block
 
 module _ (lanes : ℕ) where
-  -- sound blocks, each in one of the lanes
+  -- valid blocks, each on one of the output tracks
   abbrev AreOf : List OutputBlock → Type 0
   AreOf bs = All (IsOf lanes) bs
 
-  -- those of a list of sections are those of each
+  -- If the blocks of a list of sections are valid, the blocks of each section are.
   each-of : (xs : List Section) → AreOf (flat_map (λ (x : Section). x.blocks) xs) → All (λ (x : Section). AreOf x.blocks) xs
   each-of [] are = All-nil (λ (x : Section). AreOf x.blocks)
   each-of (x ∷ xs) are =
@@ -58,6 +58,6 @@ module _ (lanes : ℕ) where
           All-cons (λ (p : Part). AreOf p.blocks) (part_of x (next_start xs)) (parts_in s xs) (part-sound x (All-head (λ (y : Section). AreOf y.blocks) x xs are)) rest
       of false rest = rest
 
-  -- So they are those of each part.
+  -- The blocks of each part are valid, too.
   pub parts-sound : (s : Split) (blocks : List OutputBlock) → All (IsOf lanes) blocks → All (λ (p : Part). All (IsOf lanes) p.blocks) (parts s blocks)
   parts-sound s blocks are = each-part s (sections s blocks) (each-of (sections s blocks) (subst AreOf (sym (sections-cut s blocks).whole) are))

@@ -1,4 +1,4 @@
--- Sources that stand in place aren't later than a lane's link may be.
+-- The append offset of each source is at most a link's limit.
 use Rattle.std.proofs.Common.{◌≡◌, ◌≤◌, ◌<◌, ℕ, suc, ◌+◌, ◌*◌, ◌^◌, List, [], ◌∷◌, length, Option, Some, None, IfSome, nat_abs, refl, arith}
 use Rattle.std.specs.Prelude.{ℤ, pos, negsuc, ◌+ℤ◌}
 use Rattle.std.specs.List.{All}
@@ -20,9 +20,9 @@ use Rattle.merge_plan.specs.Plan.{Source, given_of}
 use Rattle.merge_laws.specs.Sources.{IsReadSource}
 use Rattle.merge_laws.proofs.GivenLemmas.{CanBePlaced, given-placed}
 
--- ---- where a block ends
+-- ---- the end of a block
 
--- where it starts with a delay
+-- The start of a block with a delay.
 starts-small : (time delay : ℤ) (t : ℕ) → nat_abs time < TOO_LARGE_TIME → nat_abs delay < 2 ^ 55 → since_start (time +ℤ delay) ≡ Some t → t < 2 ^ 56 + 2 ^ 55
 starts-small time delay t small near is = of (time +ℤ delay) refl is
   where
@@ -30,7 +30,7 @@ starts-small time delay t small near is = of (time +ℤ delay) refl is
     of (pos n) sum is = let same : n ≡ t = cc in omega (arith, ints)
     of (negsuc n) sum is = absurd (cc)
 
--- so many frames that each last less than 2^48 nanoseconds
+-- The total duration of `n` frames of less than 2^48 nanoseconds.
 frames-small : (n d : ℕ) → n ≤ 256 → d < 2 ^ 48 → n * d ≤ 2 ^ 56
 frames-small n d few short = mul-le n d 256 (2 ^ 48) few (omega arith)
 
@@ -52,7 +52,7 @@ block-small p b placing default read = split (delayed p b) refl
     split None is = omega arith
     split (Some time) is = omega (arith, lasts, starts-small b.time p.delay time read.small.time placing.delay is)
 
--- ---- where a source ends
+-- ---- the end of a source
 
 last-small : (p : Placing) (bs : List Block) → IsPlacing p → IfSome p.default_duration (λ (d : ℕ). d < 2 ^ 48) → All IsReadBlock bs → last_end p bs ≤ MAX_END
 last-small p [] placing default read = omega arith
@@ -68,7 +68,7 @@ ends-small (g ∷ gs) can =
 source-small : (s : Source) → IsReadSource s → file_end (given_of s) ≤ MAX_END
 source-small s is = ends-small (given_of s) (given-placed s is)
 
--- ---- where sources begin
+-- ---- the starts of sources
 
 begun-later : (time : ℕ) (o : Option ℕ) → unwrap_or (option_map (λ _. time) o) 0 ≤ time
 begun-later time None = omega arith
@@ -91,6 +91,6 @@ placed-from k time (s ∷ ss) few fits read =
     let end : end_of (begun_at time s) ≤ suc k * MAX_END = omega (arith, begun-later time s.1.shift, source-small (begun_at time s) one) in
     All-cons IsReadSource (begun_at time s) (in_place_from (end_of (begun_at time s)) ss) one (placed-from (suc k) (end_of (begun_at time s)) ss (omega arith) end (All-tail IsReadSource s ss read))
 
--- Sources of which each stands in its place are such as can be written.
+-- Sources with their append offsets can be written.
 pub placed-read : (sources : List Source) → length sources ≤ MAX_LINKS → All IsReadSource sources → All IsReadSource (in_place sources)
 placed-read sources few read = placed-from 0 0 sources (omega arith) (omega arith) read

@@ -1,4 +1,4 @@
--- What is read of the inputs of a merge can be written.
+-- The inputs of a merge, as they are read, can be written.
 use Rattle.std.proofs.Common.{◌≡◌, ◌<◌, ◌≤◌, ℕ, suc, ◌+◌, ◌^◌, ◌==◌, Bool, true, false, not, ◌&&◌, ◌||◌, if◌then◌else◌, cond, List, [], ◌∷◌, ◌++◌, length, find, map, Option, Some, None, IfSome, Result, Ok, Err, inl, inr, ◌⊎◌, eqb-true, refl, sym, ap, subst, ◌∙◌, arith, unwrap_or}
 use Rattle.std.specs.List.{All, AllByRecursion, list_all, zip}
 use Rattle.std.specs.Option.{option_map, option_map_or}
@@ -87,9 +87,9 @@ use Rattle.merge_laws.proofs.PlaceLemmas.{placed-read}
 use Rattle.merge_laws.proofs.TextLemmas.{entries-within, text-read, text-uids, text-usable}
 use Rattle.merge_laws.proofs.TreeLemmas.{HasChildrenRead, tree_of-children, entries-octets, uid-small, IsOfOctets}
 
--- ---- an Element that was read as a tree
+-- ---- an element that was read as a tree
 
--- what is found passes
+-- The item that is found passes the test.
 find-passes : {A : Type 0} (p : A → Bool) (xs : List A) (x : A) → find p xs ≡ Some x → p x ≡ true
 find-passes p [] x found = absurd (cc)
 find-passes p (y ∷ ys) x found = split (p y) refl found (find-passes p ys x)
@@ -98,7 +98,7 @@ find-passes p (y ∷ ys) x found = split (p y) refl found (find-passes p ys x)
     split true is found rest = let same : y ≡ x = cc in ap p (sym same) ∙ is
     split false is found rest = rest found
 
--- A sound tree of an ID, of octets.
+-- `tree` is a valid tree with the ID `id`, made of bytes.
 record IsReadTree (id : ℕ) (tree : Node) : Type 0 where
   sound : IsSoundOf id tree
   children : HasChildrenRead tree
@@ -124,7 +124,7 @@ tree-read id bytes segment tree octets is = split (first_of id (segment_run byte
 
 -- ---- the tracks
 
--- What was read of tracks: each identifier has 64 bits.
+-- The tracks were read, and each identifier has 64 bits.
 record AreReadTracks (list : List Track) : Type 0 where
   read : AreRead list
   uids : All (λ (t : Track). t.uid < 2 ^ 64) list
@@ -173,7 +173,7 @@ title-text (Some info) read = split (first_child TITLE info) refl
     split None found = IsUtf8-nil
     split (Some n) found = IsUtf8-from_is_utf8 (text_of (tree.body_of n)) (value n found title-in.kind)
 
--- it has no zero octet
+-- The title has no zero byte.
 text-whole : (body : List ℕ) → HasNoZero (text_of body)
 text-whole [] = refl
 text-whole (o ∷ body) = subst HasNoZero (sym (take_while-cons (λ octet. not (octet == 0)) o body)) (of (not (o == 0)) refl (text-whole body))
@@ -217,9 +217,9 @@ records-read bytes segment r octets is =
     let made : record { info = info.0; tracks = list.0; attachments = attached.0; chapters = chapters.0; tags = tags.0 } ≡ r = cc (tags.1.1) in
     subst AreReadRecords made (record { title = good-title bytes segment info.0 octets info.1.0; tracks = good-tracks bytes segment list.0 octets list.1.0 })
 
--- ---- the tracks that are taken
+-- ---- the selected tracks
 
--- what is given to an ID
+-- The value that is given to an ID is text.
 given-text : (id : ℕ) (pairs : List (ℕ × List ℕ)) → All (λ (given : ℕ × List ℕ). IsUtf8 given.1) pairs → IfSome (value_for id pairs) IsUtf8
 given-text id [] all = tt
 given-text id (pair ∷ pairs) all = split (pair.0 == id) (given-text id pairs (All-tail (λ (given : ℕ × List ℕ). IsUtf8 given.1) pair pairs all))
@@ -228,12 +228,12 @@ given-text id (pair ∷ pairs) all = split (pair.0 == id) (given-text id pairs (
     split true rest = All-head (λ (given : ℕ × List ℕ). IsUtf8 given.1) pair pairs all
     split false rest = rest
 
--- The texts that are given to a track.
+-- The texts that are given to the track `t` are valid.
 record HasTextsGiven (t : TakenTrack) : Type 0 where
   name : IfSome t.name IsUtf8
   language : IfSome t.language IsUtf8
 
--- What holds of each track that the words take, with what they say of it, holds of those that are taken.
+-- A fact about each track that the command line selects, with its options, holds for the selected tracks.
 pub taken-all : (P : TakenTrack → Type 0) (words : FileWords) (id : ℕ) (list : List Track) → ((k : ℕ) (t : Track) → is_taken words k t.kind ≡ true → P (taken_track words k t)) → All P (taken_from words id list)
 taken-all P words id [] each = All-nil P
 taken-all P words id (t ∷ ts) each =
@@ -273,7 +273,7 @@ no-unusable : (o : Option Damage) → option_map Damaged o ≡ None → o ≡ No
 no-unusable None is = refl
 no-unusable (Some d) is = absurd (cc)
 
--- one that isn't later yet isn't too late
+-- The append offset of an input before it is placed is small enough.
 unmoved-place : (words : FileWords) → unwrap_or (unmoved words) 0 ≤ MAX_SHIFT
 unmoved-place words = of words.appended
   where
@@ -281,7 +281,7 @@ unmoved-place words = of words.appended
     of true = omega arith
     of false = omega arith
 
--- tracks that were read, and those that are taken of them
+-- The tracks that were read and selected can be written.
 taken-read : (words : FileWords) (list : List Track) → IsSoundFile words → HasTexts words → AreReadTracks list → first_unusable (taken_from words 0 list) ≡ None → All IsReadTrack (taken_from words 0 list)
 taken-read words list sound has tracks usable =
     let taken : List TakenTrack = taken_from words 0 list in
@@ -326,7 +326,7 @@ input-read words webm held bytes read octets sound has = of (is_srt words.name b
     of true is = srt-read words bytes read octets sound has is
     of false is = file-read words webm held bytes read octets sound has is
 
--- The words take of a file tracks that it has.
+-- The command line selects tracks that the file has.
 pub input-taken : (words : FileWords) (webm : Bool) (held : ℕ) (bytes : List ℕ) (read : InputRead) → input_of words webm held bytes ≡ Ok read → (list : List Track) × (taken_from words 0 list ≡ read.taken)
 input-taken words webm held bytes read = of (is_srt words.name bytes)
   where
@@ -349,7 +349,7 @@ pub numbered-ok : (k : ℕ) (found : Result InputRead InputRefusal) (read : Inpu
 numbered-ok k (Ok one) read is = ap (λ (i : InputRead). Ok i) (cc)
 numbered-ok k (Err why) read is = absurd (cc)
 
--- what is read of files with these contents
+-- Inputs that are read from files with these contents can be written.
 inputs-read : (webm : Bool) (k held : ℕ) (files : List FileWords) (contents : List (List ℕ)) (reads : List InputRead) → length contents ≡ length files → All AreOctets contents → All IsSoundFile files → All HasTexts files
     → inputs_from webm k held (zip files contents) ≡ Ok reads → All IsReadSource (zip contents reads)
 inputs-read webm k held [] [] reads same octets sound has is =
@@ -393,7 +393,7 @@ chaptered-read webm file.Missing contents reads each = each
 chaptered-read webm (file.Refused why) contents reads each = each
 chaptered-read webm (file.Read chapters) contents reads each = first-chaptered (kept_one (not webm) (Some chapters)) contents reads each
 
--- ---- inputs with times
+-- ---- inputs with timestamp files
 
 times-source : (bytes : List ℕ) (read : InputRead) (times : List (ℕ × Listing)) → IsReadSource (bytes, read) → IsReadSource (bytes, with_listings times read)
 times-source bytes read times is = record { octets = is.octets; entries = is.entries; title = is.title; whole = is.whole; tracks = is.tracks; place = is.place }
@@ -426,7 +426,7 @@ unplanned : (why : Option PlanRefusal) → option_map Plan why ≡ None → why 
 unplanned None is = refl
 unplanned (Some why) is = absurd (cc)
 
--- nothing that may refuse a merge stands
+-- No refusal holds.
 none-stands : (causes : List (Option Refusal)) → first_cause causes ≡ None → AllByRecursion (λ (cause : Option Refusal). cause ≡ None) causes
 none-stands [] is = tt
 none-stands (None ∷ causes) is = (refl, none-stands causes is)
@@ -436,8 +436,8 @@ all-found : (reads : Result (List InputRead) Refusal) → result_err reads ≡ N
 all-found (Ok reads) is = refl
 all-found (Err why) is = absurd (cc)
 
--- What the sources of a merge were read of: of each file what it holds; then they got the Chapters and the times of text files, and were put
--- in place.
+-- The sources of a merge were read: each from the content of its file. Then they got the Chapters and timestamps of text files, and their append
+-- offsets.
 pub record WereRead (world : List ℕ → Option (List ℕ)) (words : MergeWords) (sources : List Source) : Type 0 where
   pub given : TextFiles
   pub found : List InputRead
@@ -445,7 +445,7 @@ pub record WereRead (world : List ℕ → Option (List ℕ)) (words : MergeWords
   pub placed : in_place (zip (contents_held world words) (timed_from given.times 0 (chaptered with_chapters words.webm given.chapters found))) ≡ sources
   pub unrefused : plan_refusal words (reads_of sources) ≡ None
 
--- The sources of a merge were read so.
+-- The sources of a merge were read in this way.
 pub were-read : (world : List ℕ → Option (List ℕ)) (words : MergeWords) (sources : List Source) → sources_of world words ≡ Ok sources → WereRead world words sources
 were-read world words sources is =
     let contents = contents_held world words in

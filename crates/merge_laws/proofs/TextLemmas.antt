@@ -1,4 +1,4 @@
--- The entries of a SubRip text are within its limits, and its track can be taken.
+-- The entries of a SubRip text are within its limits, and its track can be selected.
 use Rattle.std.proofs.Common.{◌≡◌, ℕ, ◌+◌, ◌*◌, ◌<◌, ◌≤◌, ◌^◌, ◌==◌, nat_lt, nat_le, Bool, true, false, ◌&&◌, ◌||◌, if◌then◌else◌, List, [], ◌∷◌, ◌++◌, length, take, drop, Option, Some, None, IfSome, Ok, Err, codes, append-nil, refl, ap, subst, ◌∙◌, arith}
 use Rattle.std.specs.Prelude.{slice_index, option_and_then}
 use Rattle.std.specs.Char.{digit_value, is_ascii_digit}
@@ -44,14 +44,14 @@ use Rattle.requests.specs.declared.merge.FileWords.{FileWords}
 use Rattle.merge_inputs.specs.Select.{is_taken}
 use Rattle.merge_inputs.specs.Taken.{first_unusable, taken_from, taken_track}
 
--- ---- what may be missing
+-- ---- optional values
 
--- what is made of it
+-- A fact about a value gives a fact about its result.
 then-some : {A B : Type 0} (Q : A → Type 0) (P : B → Type 0) (o : Option A) (f : A → Option B) → IfSome o Q → ((x : A) → Q x → IfSome (f x) P) → IfSome (option_and_then f o) P
 then-some Q P None f is more = tt
 then-some Q P (Some x) f is more = more x is
 
--- so it is of what is there, whatever it is
+-- The same, if the fact holds for any value.
 then-any : {A B : Type 0} (P : B → Type 0) (o : Option A) (f : A → Option B) → ((x : A) → IfSome (f x) P) → IfSome (option_and_then f o) P
 then-any P None f more = tt
 then-any P (Some x) f more = more x
@@ -111,7 +111,7 @@ clock-small word =
     then-some (λ (n : ℕ). n < 60000) (λ (c : ℕ × List ℕ). c.0 < latest) (seconds m.1) _ (seconds-small m.1) (λ rest short.
     omega arith)))))
 
--- an entry ends within 10,000 hours
+-- The entry ends within 10,000 hours.
 abbrev IsEarly : Entry → Type 0
 IsEarly e = e.start + e.duration < latest
 
@@ -178,7 +178,7 @@ entries-within bytes es = of (nat_lt MAX_SRT_LEN (length bytes)) refl
     of true long is = absurd (cc)
     of false long is = good (first_bad (lines_of bytes)) (grind (arith, nat_tests)) is
 
--- Each is a block as a reader finds it.
+-- Each entry is a block as a reader finds it.
 pub entry-read : (e : Entry) → IsEntryWithin MAX_SRT_LEN e → IsReadBlock (entry_block e)
 entry-read e is =
     let early = is.0 in
@@ -229,7 +229,7 @@ text-sound = record {
 only : (P : Track → Type 0) → P (track_of text_entry) → All P (track_of text_entry ∷ [])
 only P is = All-cons P (track_of text_entry) [] is (All-nil P)
 
--- It is what its entry says,
+-- The track has the values of its entry.
 pub text-read : AreRead (track_of text_entry ∷ [])
 text-read = record {
   said = only (λ (t : Track). t ≡ track_of t.entry) refl;
@@ -238,11 +238,11 @@ text-read = record {
   room = only (λ (t : Track). HasRoom t.entry) (omega arith);
 }
 
--- with an identifier of 64 bits,
+-- Its identifier has 64 bits.
 pub text-uids : All (λ (t : Track). t.uid < 2 ^ 64) (track_of text_entry ∷ [])
 text-uids = only (λ (t : Track). t.uid < 2 ^ 64) (omega (arith, says.uid))
 
--- and its frames can be used.
+-- Its frames can be used.
 pub text-usable : (words : FileWords) → first_unusable (taken_from words 0 (track_of text_entry ∷ [])) ≡ None
 text-usable words = of (is_taken words 0 (track_of text_entry).kind)
   where

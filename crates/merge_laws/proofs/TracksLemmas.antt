@@ -1,4 +1,4 @@
--- The Tracks of a merge are tracks, numbered from 1 on.
+-- The Tracks of a merge are valid, with tracks numbered from 1 on.
 use Rattle.std.proofs.Common.{◌≡◌, ◌≢◌, ◌<◌, ◌≤◌, ℕ, zero, suc, ◌+◌, ◌^◌, ◌==◌, cond, List, [], ◌∷◌, length, map, filter, get_or, refl, sym, ap, subst, ◌∙◌, arith, None}
 use Rattle.std.specs.List.{All, AllPairs}
 use Rattle.std.proofs.lemmas.List.{length-map}
@@ -30,7 +30,7 @@ use Rattle.merge_laws.proofs.EntryLemmas.{CanBeSet, taken-whole, written-whole, 
 
 -- ---- the entries
 
--- An entry that was written.
+-- The entry was written.
 record IsWritten (entry : Node) : Type 0 where
   whole : IsWholeEntry entry
   track : IsTrack entry
@@ -66,7 +66,7 @@ entries-length number [] (t ∷ taken) same = absurd (omega arith)
 entries-length number (uid ∷ uids) [] same = absurd (omega arith)
 entries-length number (uid ∷ uids) (t ∷ taken) same = ap suc (entries-length (number + 1) uids taken (omega arith))
 
--- There are as many as tracks were taken.
+-- There is one entry for each selected track.
 pub entries-count : (taken : List TakenTrack) → length (entries_of taken) ≡ length taken
 entries-count taken = entries-length 1 (uids_of taken) taken (length-uids taken)
 
@@ -85,7 +85,7 @@ counted-apart n ns count i j d before inside same =
 
 -- ---- the Tracks
 
--- a TrackEntry
+-- `n` is a TrackEntry.
 abbrev IsOne : Node → Type 0
 IsOne n = id_of n ≡ TRACK_ENTRY
 
@@ -95,19 +95,19 @@ filter-entries (e ∷ es) all =
     ap (λ (i : ℕ). cond (i == TRACK_ENTRY) (e ∷ filter (λ n. id_of n == TRACK_ENTRY) es) (filter (λ n. id_of n == TRACK_ENTRY) es)) (All-head IsOne e es all)
     ∙ ap (λ l. e ∷ l) (filter-entries es (All-tail IsOne e es all))
 
--- All entries of a Tracks Element that is made of them are found in it.
+-- All entries of a Tracks element that is made from them are found in it.
 pub entries-all : (es : List Node) → All IsOne es → track.entries_of (output_tracks es) ≡ es
 entries-all es all = ap (filter (λ n. id_of n == TRACK_ENTRY)) (list-nodes es) ∙ filter-entries es all
 
 written-all : (es : List Node) → All IsWritten es → track.entries_of (output_tracks es) ≡ es
 written-all es all = entries-all es (All-weaker IsWritten IsOne (λ e w. w.whole.id) es all)
 
--- Whole entries stand in it,
+-- Valid entries are valid in it.
 pub all-stand : (es : List Node) → All IsWholeEntry es → AllStandIn TRACKS (nodes_of es)
 all-stand [] all = tt
 all-stand (e ∷ es) all = (entry-stands e (All-head IsWholeEntry e es all), all-stand es (All-tail IsWholeEntry e es all))
 
--- and fit into it.
+-- They aren't too deep for it.
 pub all-low : (es : List Node) → All IsWholeEntry es → depth_all (nodes_of es) < deepest
 all-low [] all = omega arith
 all-low (e ∷ es) all =
@@ -136,7 +136,7 @@ tracks-of es all count few short =
       few = subst R (sym is) few;
     }
 
--- ---- of tracks that were taken
+-- ---- the selected tracks
 
 module _ (taken : List TakenTrack) (read : All IsReadTrack taken) (few : length taken ≤ MAX_LANES) where
   uids-small : All (λ uid. uid < 2 ^ 64) (uids_of taken)
@@ -146,20 +146,20 @@ module _ (taken : List TakenTrack) (read : All IsReadTrack taken) (few : length 
       let own : All (λ uid. uid < 2 ^ 64) ids = All-map (λ uid. uid < 2 ^ 64) (λ (t : TakenTrack). t.track.uid) taken (All-weaker IsReadTrack (λ (t : TakenTrack). t.track.uid < 2 ^ 64) (λ t r. r.uid) taken read) in
       numbers-fit ids (2 ^ 64) own (omega arith)
 
-  -- They are tracks.
+  -- The entries make a valid Tracks element.
   pub taken-tracks : length (content (output_tracks (entries_of taken))) ≤ longest → output.AreTracks (output_tracks (entries_of taken))
   taken-tracks short =
       let all = entries-written 1 (uids_of taken) taken (omega arith) (omega arith) uids-small read in
       let count = entries-numbers 1 (uids_of taken) taken (omega arith) (omega arith) uids-small read in
       tracks-of (entries_of taken) all count (omega (arith, entries-count taken)) short
 
-  -- Nothing says that their frames were changed.
+  -- No entry has ContentEncodings.
   pub taken-plain : All HasNoEncodings (track.entries_of (output_tracks (entries_of taken)))
   taken-plain =
       let all = entries-written 1 (uids_of taken) taken (omega arith) (omega arith) uids-small read in
       subst (All HasNoEncodings) (sym (written-all (entries_of taken) all)) (All-weaker IsWritten HasNoEncodings (λ e w. w.plain) (entries_of taken) all)
 
-  -- Each is a lane.
+  -- Each entry is one output track.
   pub taken-lanes : length (track.entries_of (output_tracks (entries_of taken))) ≡ length taken
   taken-lanes =
       let all = entries-written 1 (uids_of taken) taken (omega arith) (omega arith) uids-small read in

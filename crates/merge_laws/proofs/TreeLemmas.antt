@@ -1,4 +1,4 @@
--- A tree that was read isn't too deep, and the bodies of its Elements are octets.
+-- A tree that was read isn't too deep, and the bodies of its elements are bytes.
 use Rattle.std.proofs.Common.{◌≡◌, ℕ, zero, suc, ◌-◌, ◌<◌, ◌≤◌, ◌^◌, ◌==◌, Bool, true, false, cond, if◌then◌else◌, List, [], ◌∷◌, length, find, Option, Some, None, Ok, refl, sym, ap, subst, ◌∙◌, arith, unwrap_or}
 use Rattle.std.specs.List.{All}
 use Rattle.std.specs.Option.{option_map}
@@ -26,9 +26,9 @@ use Rattle.tree_format.proofs.ReadingLemmas.{grove-more, grove-end, header_at-fi
 use Rattle.tree_format.proofs.ChildLemmas.{first_child-short, first_child-sound}
 use Rattle.file_format.specs.Entry.{entries_of, uid_of}
 
--- ---- octets
+-- ---- bytes
 
--- the bodies of an Element and of what is inside are octets
+-- The bodies of an element and of the elements inside are bytes.
 abbrev mutual
   pub IsOfOctets : Node → Type 0
   IsOfOctets (leaf id at body) = AreOctets body
@@ -38,9 +38,9 @@ abbrev mutual
   AreOfOctets none = Unit {0}
   AreOfOctets (node n ns) = IsOfOctets n × AreOfOctets ns
 
--- ---- what is read
+-- ---- results of reading
 
--- an Element no deeper than there was room for
+-- The element `n` is at most as deep as `room`.
 record IsRead (room : ℕ) (n : Node) : Type 0 where
   shallow : depth n ≤ room
   octets : IsOfOctets n
@@ -102,7 +102,7 @@ grove-read (suc n) room left parent p (o ∷ octets) g few bytes is =
     let P : Grove → Type 0 = λ x. AreRead room (nodes_of x.trees) in
     subst P same (record { shallow = omega arith; octets = (first.octets, rest.octets) })
 
--- The children of a tree that was read leave room for it, and their bodies are octets.
+-- The children of the tree `n` leave room for it, and their bodies are bytes.
 pub record HasChildrenRead (n : Node) : Type 0 where
   pub shallow : depth_all (nodes_of (children n)) < deepest
   pub octets : AreOfOctets (nodes_of (children n))
@@ -126,9 +126,9 @@ tree_of-children id offset base nodes body n bytes is = split (nodes == 0) is
         let found = and_then-ok (grove (deepest - 1) (nodes - 1) id base body) (as_root id offset) n is in
         of_grove found.0 found.1.0 found.1.1
 
--- ---- an integer of them
+-- ---- integers among them
 
--- each child
+-- Each child.
 each-octets : (ns : List Node) → AreOfOctets (nodes_of ns) → All IsOfOctets ns
 each-octets [] hold = All-nil IsOfOctets
 each-octets (n ∷ ns) hold = All-cons IsOfOctets n ns hold.0 (each-octets ns hold.1)
@@ -136,7 +136,7 @@ each-octets (n ∷ ns) hold = All-cons IsOfOctets n ns hold.0 (each-octets ns ho
 pub entries-octets : (tracks : Node) → HasChildrenRead tracks → All IsOfOctets (entries_of tracks)
 entries-octets tracks read = All-filter (λ n. id_of n == TRACK_ENTRY) IsOfOctets (children tracks) (each-octets (children tracks) read.octets)
 
--- the first that passes a test
+-- The first child that passes a test.
 find-octets : (p : Node → Bool) (ns : List Node) (m : Node) → AreOfOctets (nodes_of ns) → find p ns ≡ Some m → IsOfOctets m
 find-octets p [] m hold found = absurd (cc)
 find-octets p (n ∷ ns) m hold found = split (p n) (find-octets p ns m hold.1) found
@@ -153,7 +153,7 @@ body-octets : (n : Node) → IsOfOctets n → AreOctets (body_of n)
 body-octets (leaf id at body) hold = hold
 body-octets (master id at kids) hold = λ i. omega arith
 
--- eight octets hold a number below 2^64
+-- A number of eight bytes is below 2^64.
 uint-small : (body : List ℕ) → AreOctets body → length body ≤ 8 → uint_of body < 2 ^ 64
 uint-small body bytes short =
     let below : uint_of body < 256 ^ length body = big_from-lt 0 (length body) body bytes in
@@ -168,7 +168,7 @@ value-small : (body : List ℕ) → AreOctets body → length body ≤ 8 → uin
 value-small [] bytes short = let none : unwrap_or (uint_default TRACK_UID) 0 ≡ 0 = ap (λ o. unwrap_or o 0) uid-none in omega arith
 value-small (o ∷ octets) bytes short = uint-small (o ∷ octets) bytes short
 
--- The identifier of an entry that was read is one of 64 bits.
+-- The identifier of an entry that was read has 64 bits.
 pub uid-small : (entry : Node) → IsSound entry → HasUint (id_of entry) TRACK_UID → IsOfOctets entry → uid_of entry < 2 ^ 64
 uid-small entry sound has hold = split (first_child TRACK_UID entry) refl
   where

@@ -1,4 +1,4 @@
--- What is written of a merge can be read, and holds it.
+-- Laws: the outputs of a merge can be read, and hold the merge.
 use Rattle.std.specs.Prelude.{◌≡◌, ◌≤◌, ℕ, List, [], ◌∷◌, Option, None, Ok, length, map, All}
 use Rattle.mkv_io.specs.declared.outside.TheConstants.{LONGEST_FILE}
 use Rattle.output_model.specs.Document.{layout}
@@ -14,34 +14,34 @@ use Rattle.merge_laws.specs.Merge.{HoldsOutput, lanes_selected}
 use Rattle.requests.specs.Texts.{AreTexts}
 use Rattle.merge_laws.specs.Sources.{AreSources, HoldsOctets}
 
--- The sources of a merge are octets whose tracks can be written.
+-- The sources of a merge consist of bytes, and their tracks can be written.
 abbrev pub SourcesAreRead : Type 0
 SourcesAreRead =
     (world : List ℕ → Option (List ℕ)) (words : MergeWords) (sources : List Source) → HoldsOctets world → IsSoundMerge words → AreTexts words
     → sources_of world words ≡ Ok sources → AreSources words sources
 
--- The blocks that are selected of them can be written.
+-- The blocks that are selected from the sources can be written.
 abbrev pub SelectedBlocksAreSound : Type 0
 SelectedBlocksAreSound =
     (words : MergeWords) (sources : List Source) → IsSoundMerge words → AreSources words sources → All (All IsSoundBlock) (lanes_selected words sources)
 
--- The document of each output can be written, where its records can and it has 2^48 octets at most.
+-- The document of each output can be written if its records can, and if it has at most 2^48 bytes.
 abbrev pub MergedDocumentsAreSound : Type 0
 MergedDocumentsAreSound =
     (words : MergeWords) (sources : List Source) → IsSoundMerge words → AreTexts words → AreSources words sources → HaveRecords sources
     → All (λ (o : PlannedOutput). length (layout o.document) ≤ LONGEST_FILE → IsSoundDocument o.document) (outputs_of words sources)
 
--- What is written of each holds it, where it has 2^48 octets at most.
+-- The bytes of each output hold it, if they are at most 2^48.
 abbrev pub LayoutsHoldOutputs : Type 0
 LayoutsHoldOutputs =
     (words : MergeWords) (sources : List Source) → IsSoundMerge words → AreTexts words → AreSources words sources → HaveRecords sources
     → All (λ (o : PlannedOutput). length (layout o.document) ≤ LONGEST_FILE → HoldsOutput words o (layout o.document)) (outputs_of words sources)
 
--- the name of an output, and its blocks
+-- the name of an output with its blocks
 abbrev pub name_and_blocks : PlannedOutput → List ℕ × List OutputBlock
 name_and_blocks o = (o.name, o.blocks)
 
--- What isn't split comes to one output, which has the merged list as it is.
+-- A merge that isn't split has one output, whose blocks are the unchanged merged list.
 abbrev pub WholeMergesAreOne : Type 0
 WholeMergesAreOne =
     (words : MergeWords) (sources : List Source) → words.split ≡ None

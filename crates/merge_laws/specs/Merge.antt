@@ -1,4 +1,4 @@
--- Contents that hold a merge. What a content holds is RFC 9559's; which merge that is to be is this project's.
+-- Contents that hold a merge. RFC 9559 defines contents; this project defines the merge that they must hold.
 use Rattle.std.specs.Prelude.{◌≡◌, ⊤, ℕ, false, List, All, IfSome, Option, None, Some, Ok, filter, length, map}
 use Rattle.mkv_io.specs.Names.{Names}
 use Rattle.mkv_io.specs.Told.{IfVisible}
@@ -32,73 +32,72 @@ use Rattle.mkv_lines.specs.declared.status.Status.{Status}
 use Rattle.mkv_lines.specs.declared.status.Status.TheVariants.{Done, Warned}
 use Rattle.merge_laws.specs.Sources.{HoldsOctets}
 
--- ---- what is selected, and what is read
+-- ---- selected blocks, and blocks that are read
 
--- the blocks that are selected, lane by lane: those of each track that is taken which stand outside any damage, at their own times or at
--- those of a file, with its delay, in ticks of the output, and with what header stripping took back in front of each frame
+-- the selected blocks, one output track after another: the blocks of each selected track outside any damage. Each has its own timestamp or the
+-- timestamp file's, with its delay, in ticks of the output. The bytes that header stripping removed are before each frame again.
 abbrev pub lanes_selected : MergeWords → List Source → List (List OutputBlock)
 lanes_selected words sources = map (lane_blocks words.scale) (lanes_given sources)
 
--- the blocks and damages that are read of a content, without a reader's limits, in the Segment that an output's document has
+-- the events in the content `bytes` of an output, read without a reader's limits, in the Segment of the output's document
 abbrev pub events_read : PlannedOutput → List ℕ → List Event
 events_read o bytes = file_events false bytes (header_of_segment o.document)
 
--- a block, wherever it stands
+-- a block without its offset
 abbrev pub without_place : Block → Block
 without_place b = record b { offset = 0 }
 
--- the blocks that are read of such a content, wherever they stand
+-- the blocks in the content of an output, without their offsets
 abbrev pub blocks_held : PlannedOutput → List ℕ → List Block
 blocks_held o bytes = map without_place (blocks_found (events_read o bytes))
 
--- no ContentEncodings stand in an entry, so the frames of its track are as they stand
+-- The entry has no ContentEncodings, so the frames of its track are stored unchanged.
 abbrev pub HasNoEncodings : Node → Type 0
 HasNoEncodings entry = first_child CONTENT_ENCODINGS entry ≡ None
 
 -- ---- the merge
 
--- A content holds an output. Read by the format's definition, without a reader's limits, it is the output's document: undamaged,
--- with its scale, its records, its Seeks, and its cue points, each at its block. The frames of its tracks are as they stand. The
--- blocks that it has are the output's, each once and in its order: with their frames, laces and flags, and with times, durations and
--- references of so many nanoseconds as their ticks have.
+-- The content `bytes` holds the output `o`. Read by the format's definition, without a reader's limits, it is the output's document: undamaged,
+-- with its scale, records, Seeks, and cue points, each at its block. The frames of its tracks are stored unchanged. Its blocks are the output's,
+-- each once and in order. They keep their frames, laces and flags; timestamps, durations and references have the nanoseconds of their ticks.
 pub record HoldsOutput (words : MergeWords) (o : PlannedOutput) (bytes : List ℕ) : Type 0 where
   pub document : IsReadAs o.document bytes
   pub plain : All HasNoEncodings (entries_of o.document.front.tracks)
   pub blocks : blocks_held o bytes ≡ map (block_in_place words.scale 0) o.blocks
 
--- Of a merge that isn't split a content has, lane by lane, the blocks that were selected.
+-- If the merge isn't split, the content has the selected blocks of each output track.
 abbrev pub HoldsLanes : MergeWords → List Source → PlannedOutput → List ℕ → Type 0
 HoldsLanes words sources o bytes =
     words.split ≡ None → lanes_read words.scale 1 (length (lanes_given sources)) (events_read o bytes) ≡ lanes_selected words sources
 
--- ---- the parts
+-- ---- parts
 
--- the blocks of a section in the part that it is, whose ticks count from the section's start
+-- the blocks of a section in its part; their ticks count from the section's start
 abbrev pub blocks_in_part : Section → List OutputBlock
 blocks_in_part x = map (in_part x.start) x.blocks
 
--- The blocks of parts, part by part, come from a merged list: sections are that list, one behind the other, with cuts between them and
--- nowhere else; and the parts are those of the sections that are written, in their order.
+-- The lists `blocks` are the blocks of parts of the merged list. The list is divided into sections with cuts between them and nowhere else; the
+-- parts are the written sections, in order.
 pub record ArePartsOf (s : Split) (merged : List OutputBlock) (blocks : List (List OutputBlock)) : Type 0 where
   pub sections : List Section
   pub are : AreSections s merged sections
   pub written : blocks ≡ map blocks_in_part (filter (is_written s) sections)
 
--- Parts that end at a load: each but the last has come to the limit, and in each the load before each block at which it might be cut, so
--- also before the last of them, is below it.
+-- Parts that end at a load keep the limit. Each part except the last reaches it. In each part the load before each block at which a cut is
+-- possible is below it, also before the last such block.
 pub record KeepsLimit (s : Split) (blocks : List OutputBlock) (limit : ℕ) : Type 0 where
   pub full : AllButLast (IsFull limit) (parts s blocks)
   pub small : All (IsSmall s limit) (parts s blocks)
 
 -- ---- the whole
 
--- an output as it is written: the octets of its document under its name
+-- an output as it is written: its name, and the bytes of its document
 abbrev pub laid_out : PlannedOutput → Output
 laid_out o = record { name = o.name; content = layout o.document }
 
--- A merge was written in a world of names: its outputs are laid out, octet for octet, and every other name has what it had before. What
--- the sources give besides tracks and blocks can be read again, and identifiers have 64 bits. Each output holds what it is to hold, and one that isn't split all
--- lanes; together they are the parts of the merged list; and parts that end at a load keep its limit.
+-- A merge was written, if the files were `world`. Its outputs have exactly the bytes of their documents, and every other name keeps its content.
+-- The records of the sources can be read again, and identifiers have 64 bits. Each output holds its blocks and document; one that isn't split
+-- holds all output tracks. Together the outputs are the parts of the merged list, and parts that end at a load keep its limit.
 pub record IsMerged (world : List ℕ → Option (List ℕ)) (words : MergeWords) (new : Names) : Type 0 where
   pub sources : List Source
   pub taken : sources_of world words ≡ Ok sources
@@ -111,12 +110,12 @@ pub record IsMerged (world : List ℕ → Option (List ℕ)) (words : MergeWords
 
 -- ---- a run
 
--- The merge that these words ask for was written, where the names were told and what they hold is octets.
+-- The merge of the command line `words` was written, if the names were visible to the proof and all contents are bytes.
 abbrev pub HasMerged : Names → List (List ℕ) → Names → Type 0
 HasMerged old words new =
     IfVisible old (λ world. HoldsOctets world → (merge : MergeWords) → command words ≡ Ok (Merge merge) → IsMerged world merge new)
 
--- So it was where a run ended well, with a warning or without.
+-- `HasMerged` holds if a run ended well, with a warning or without.
 abbrev pub MergesWell : Names → List (List ℕ) → Names → Status → Type 0
 MergesWell old words new Done = HasMerged old words new
 MergesWell old words new Warned = HasMerged old words new

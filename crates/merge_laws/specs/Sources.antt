@@ -1,4 +1,4 @@
--- What a merge is made of, as far as it can be written: RFC 9559, section 5.1.4 (Tracks Element).
+-- The sources of a merge, as far as they can be written: RFC 9559, section 5.1.4 (Tracks Element).
 use Rattle.std.specs.Prelude.{◌≡◌, ◌<◌, ◌≤◌, ◌^◌, ◌==◌, ◌||◌, ⊤, ℕ, Bool, true, List, Option, None, Some, All, IfSome}
 use Rattle.std.specs.Str.{IsUtf8}
 use Rattle.ebml_numbers.specs.Number.{AreOctets}
@@ -15,17 +15,18 @@ use Rattle.merge_plan.specs.Front.{reads_of}
 use Rattle.merge_plan.specs.Plan.{Source, append_offset}
 use Rattle.merge_plan.specs.Refusal.{plan_refusal}
 
--- what files hold is octets
+-- The contents of all files are bytes.
 abbrev pub HoldsOctets : (List ℕ → Option (List ℕ)) → Type 0
 HoldsOctets world = (name bytes : List ℕ) → world name ≡ Some bytes → AreOctets bytes
 
--- ---- what is read
+-- ---- results of reading
 
--- a TrackType of which a merge takes tracks
+-- a TrackType whose tracks a merge can select
 abbrev pub is_taken_type : ℕ → Bool
 is_taken_type type = type == VIDEO_TRACK || type == AUDIO_TRACK || type == SUBTITLE_TRACK
 
--- A track that was taken, whose entry can be written: it is of a type that a merge takes, its identifier has 64 bits, and what is given to it is text.
+-- The entry of the selected track `t` can be written. A merge can select its type, its identifier has 64 bits, and the given name and language
+-- are text.
 pub record IsReadTrack (t : TakenTrack) : Type 0 where
   pub taken : IsTaken t
   pub kind : is_taken_type t.track.kind ≡ true
@@ -33,13 +34,13 @@ pub record IsReadTrack (t : TakenTrack) : Type 0 where
   pub name : IfSome t.name IsUtf8
   pub language : IfSome t.language IsUtf8
 
--- Each entry of a text ends within 10,000 hours and is no longer than a text may be.
+-- Each entry of a text ends within 10,000 hours and is at most as long as a text may be.
 abbrev pub HasEntriesWithin : BlocksRead → Type 0
 HasEntriesWithin (Clusters segment scale) = ⊤
 HasEntriesWithin (Entries entries) = All (IsEntryWithin MAX_SRT_LEN) entries
 
--- A source of octets, whose title is a text without a zero octet and whose entries, if it is a SubRip text, are within its limits; its
--- tracks can be written, and it isn't later than a lane's link may be.
+-- The source `s` consists of bytes, and its title is a text without a zero byte. The entries of a SubRip text are within their limits. Its tracks
+-- can be written, and its append offset is at most a link's limit.
 pub record IsReadSource (s : Source) : Type 0 where
   pub octets : AreOctets s.0
   pub entries : HasEntriesWithin s.1.blocks
@@ -48,7 +49,7 @@ pub record IsReadSource (s : Source) : Type 0 where
   pub tracks : All IsReadTrack s.1.taken
   pub place : append_offset s.1 ≤ MAX_SHIFT
 
--- So is each source of a merge, and nothing refuses them together.
+-- Each source of a merge is valid, and nothing refuses them together.
 pub record AreSources (words : MergeWords) (sources : List Source) : Type 0 where
   pub each : All IsReadSource sources
   pub unrefused : plan_refusal words (reads_of sources) ≡ None

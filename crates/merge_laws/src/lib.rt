@@ -1,11 +1,11 @@
 #![tactic(auto)]
 
-//! What a merge writes can be read and holds it: RFC 8794, section 8 (EBML Document), and RFC 9559, sections 5.1 (Segment
-//! Element) and 10 (Cluster Blocks). Laws alone: no code that reads or writes stands on this crate.
+//! Laws: the outputs of a merge can be read and hold the merge. See RFC 8794, section 8 (EBML Document), and RFC
+//! 9559, sections 5.1 (Segment Element) and 10 (Cluster Blocks). No code that reads or writes depends on this crate.
 
 ghost use Rattle.merge_laws.specs.Laws.{LayoutsHoldOutputs, MergedDocumentsAreSound, SelectedBlocksAreSound, SourcesAreRead, WholeMergesAreOne};
 
-/// What is read of the inputs of a merge can be written.
+/// Inputs of a merge, as they are read, can be written.
 pub fn sources_are_read()
     ensures { SourcesAreRead }
 {}
@@ -20,12 +20,12 @@ pub fn merged_documents_are_sound()
     ensures { MergedDocumentsAreSound }
 {}
 
-/// What isn't split is one output.
+/// A merge that isn't split has one output.
 pub fn whole_merges_are_one()
     ensures { WholeMergesAreOne }
 {}
 
-/// What is written of each output holds it.
+/// The bytes of each output hold it.
 pub fn layouts_hold_outputs()
     ensures { LayoutsHoldOutputs }
 {}
