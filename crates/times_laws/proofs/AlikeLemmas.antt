@@ -1,4 +1,4 @@
--- Sources that give the same.
+-- Sources with the same blocks.
 use Rattle.std.proofs.Common.{◌≡◌, ◌<◌, ℕ, zero, suc, ◌+◌, ◌==◌, Bool, true, false, if◌then◌else◌, List, [], ◌∷◌, ◌++◌, map, refl, sym, ap, ap₂, subst, ◌∙◌, arith, None}
 use Rattle.std.proofs.lemmas.Bool.Decides.{nat_tests}
 use Rattle.std.specs.List.{zip}
@@ -15,7 +15,7 @@ use Rattle.mkv_merge.specs.Texts.{listings_at, timed_from, with_listings}
 use Rattle.times_laws.proofs.BareLemmas.{AreAlike, bare, untimed}
 use Rattle.times_laws.proofs.GivenLemmas.{GivesTheSame}
 
--- A source is the other but for the times that files list, and gives the same wherever it begins.
+-- The sources `new` and `old` differ only in the timestamps of files, and have the same blocks with any append offset.
 pub record IsAlike (new old : Source) : Type 0 where
   pub bare : bare new ≡ bare old
   pub given : (shift : ℕ) → map (given_from new.1.times shift new.1.blocks new.0) new.1.taken ≡ map (given_from old.1.times shift old.1.blocks old.0) old.1.taken
@@ -30,9 +30,9 @@ all-same : (sources : List Source) → AllAlike sources sources
 all-same [] = tt
 all-same (s ∷ ss) = (record { bare = refl; given = λ shift. refl }, all-same ss)
 
--- ---- each in its place
+-- ---- sources with append offsets
 
--- one that begins at this time
+-- The same for sources that begin at the time `time`.
 begun-alike : (time : ℕ) (new old : Source) → IsAlike new old → given_of (begun_at time new) ≡ given_of (begun_at time old)
 begun-alike time new old is =
     ap (λ (s : Source). map (given_from new.1.times (append_offset (begun_at time s).1) new.1.blocks new.0) new.1.taken) is.bare ∙ is.given (append_offset (begun_at time old).1)
@@ -53,24 +53,24 @@ placed-alike time (n ∷ new) (o ∷ old) are =
       given = ap₂ (λ (g : List Given) (gs : List (List Given)). g ∷ gs) (begun-alike time n o are.0) (ap (λ (e : ℕ). map given_of (in_place_from e new)) ends ∙ rest.given);
     }
 
--- ---- what is known at one place of a list
+-- ---- a fact at one place of a list
 
 abbrev pub At : {A : Type 0} → ℕ → (A → Type 0) → List A → Type 0
 At k P [] = Unit {0}
 At zero P (x ∷ xs) = P x
 At (suc k) P (x ∷ xs) = At k P xs
 
--- ---- inputs that were given times
+-- ---- inputs with timestamps of files
 
 timed-bare : (files : List TimesFile) (n : ℕ) (reads : List InputRead) → map untimed (timed_from files n reads) ≡ map untimed reads
 timed-bare files n [] = refl
 timed-bare files n (i ∷ is) = ap (λ (rest : List InputRead). untimed i ∷ rest) (timed-bare files (suc n) is)
 
--- whatever files were given
+-- The inputs are the same without timestamps, for any files.
 pub timed-same : (new old : List TimesFile) (n : ℕ) (reads : List InputRead) → map untimed (timed_from new n reads) ≡ map untimed (timed_from old n reads)
 timed-same new old n reads = timed-bare new n reads ∙ sym (timed-bare old n reads)
 
--- one that gives the same with these times besides
+-- An input with one more listing has the same blocks.
 one-alike : (id : ℕ) (times : Listing) (before behind : List (ℕ × Listing)) (bytes : List ℕ) (i : InputRead) → value_for id behind ≡ None → GivesTheSame id times bytes i
     → IsAlike (bytes, with_listings (before ++ (id, times) ∷ behind) i) (bytes, with_listings (before ++ behind) i)
 one-alike id times before behind bytes i none is = record { bare = refl; given = λ shift. by_place shift (is_appended i) }
@@ -79,7 +79,7 @@ one-alike id times before behind bytes i none is = record { bare = refl; given =
     by_place shift true = refl
     by_place shift false = is.given before behind shift none
 
--- Files of times list these times for the track of this ID of one input besides, and none behind them for the same track.
+-- The files `new` list the timestamps `times` for the track `id` of an input besides those of `old`. No later file lists any for the same track.
 pub record ListsMore (input id : ℕ) (times : Listing) (new old : List TimesFile) : Type 0 where
   pub before : List (ℕ × Listing)
   pub behind : List (ℕ × Listing)
@@ -89,7 +89,7 @@ pub record ListsMore (input id : ℕ) (times : Listing) (new old : List TimesFil
   pub others : (other : ℕ) → (input == other) ≡ false → listings_at other new ≡ listings_at other old
 
 module _ (input id : ℕ) (times : Listing) (new old : List TimesFile) (more : ListsMore input id times new old) where
-  -- behind that input nothing changes
+  -- Nothing changes after that input.
   behind : (n : ℕ) (reads : List InputRead) → input < n → timed_from new n reads ≡ timed_from old n reads
   behind n [] past = refl
   behind n (i ∷ is) past =

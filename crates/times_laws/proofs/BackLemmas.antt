@@ -1,4 +1,4 @@
--- Files of times that are written are read back.
+-- Timestamp files that are written are read back.
 use Rattle.std.proofs.Common.{◌≡◌, ℕ, suc, ◌+◌, ◌^◌, ◌<◌, ℤ, nat_abs, Bool, true, false, not, ◌&&◌, List, [], ◌∷◌, ◌++◌, length, map, Ok, refl, ◌∙◌, ap, arith, append_assoc, All}
 use Rattle.std.proofs.lemmas.Bool.Decides.{nat_tests}
 use Rattle.std.specs.Prelude.{◌==◌, codes, slice_index, flat_map}
@@ -50,7 +50,7 @@ lines_written (t ∷ ts) are =
     let joined : time_line t ++ rest ≡ words t ++ (10 ∷ rest) = simp append_assoc in
     ap lines joined ∙ (line_first (words t) rest (words_line t are.0) ∙ ap (λ ls. words t ∷ ls) (lines_written ts are.1))
 
--- ---- times
+-- ---- timestamps
 counts : (w : List ℕ) → 0 < length w → (slice_index w 0 == 35) ≡ false → is_passed w ≡ false
 counts w some other =
     let filled : (length w == 0) ≡ false = grind (arith, nat_tests) in

@@ -1,4 +1,4 @@
--- What comes of inputs whatever times files list for their tracks.
+-- Results that don't depend on the timestamps that files list.
 use Rattle.std.proofs.Common.{◌≡◌, ℕ, ◌+◌, List, [], ◌∷◌, length, map, Option, refl, sym, ap, ap₂, ◌∙◌}
 use Rattle.std.specs.List.{enumerate_from, zip}
 use Rattle.std.specs.Option.{option_map, option_or}
@@ -18,14 +18,14 @@ use Rattle.merge_plan.specs.Plan.{Source, given_of, inputs_given, lanes_given, n
 use Rattle.merge_plan.specs.Records.{first_title, is_appended, kept_anywhere, records_from, records_in, records_of, title_or, tracks_begun, tracks_taken, uids_at, uids_behind, uids_of}
 use Rattle.merge_plan.proofs.ChainLemmas.{enumerate-map, lanes-map}
 
--- an input without the times of files, and a source
+-- an input without the timestamps of files; `bare` is a source without them
 abbrev pub untimed : InputRead → InputRead
 untimed i = record i { times = [] }
 
 abbrev pub bare : Source → Source
 bare s = (s.0, untimed s.1)
 
--- ---- what is read of inputs
+-- ---- inputs as they are read
 
 pub reads-bare : (sources : List Source) → reads_of (map bare sources) ≡ map untimed (reads_of sources)
 reads-bare [] = refl
@@ -62,7 +62,7 @@ numbers-bare n reads =
     ∙ lanes-map (λ (each : ℕ × InputRead). is_appended each.1) numbers_of (λ (each : ℕ × InputRead). (each.0, untimed each.1)) numbers_of (λ (m : ℕ). m) (λ each. sym (map-id (numbers_of each))) (enumerate_from n reads)
     ∙ maps-id (inputs_given n reads)
 
--- ---- what sources give
+-- ---- results of sources
 
 uids-bare : (reads : List InputRead) → file_uids (map untimed reads) ≡ file_uids reads
 uids-bare reads = ap (λ (files : List AttachedFile). renumbered (map (λ (a : AttachedFile). a.uid) files)) (flat_map-map (λ (i : InputRead). i.attachments) untimed reads)
@@ -71,7 +71,7 @@ pub attachments-bare : (sources : List Source) → attachments_of (map bare sour
 attachments-bare sources =
     ap₂ attached_from (ap file_uids (reads-bare sources) ∙ uids-bare (reads_of sources)) (flat_map-map files_in bare sources)
 
--- Sources are these but for the times that files list, and give the same to their lanes.
+-- The sources `new` and `old` differ only in the timestamps of files, and give the same blocks to their output tracks.
 pub record AreAlike (new old : List Source) : Type 0 where
   pub bare : map bare new ≡ map bare old
   pub given : map given_of new ≡ map given_of old
@@ -80,7 +80,7 @@ pairs : (sources : List Source) → zip (map bare sources) (map given_of sources
 pairs [] = refl
 pairs (s ∷ ss) = ap (λ (rest : List (Source × List Given)). (bare s, given_of s) ∷ rest) (pairs ss)
 
--- lanes, by what is seen of each source
+-- The output tracks depend only on the visible parts of each source.
 lanes-seen : (sources : List Source) → lanes_by (λ (p : Source × List Given). is_appended p.0.1) (λ (p : Source × List Given). p.1) (zip (map bare sources) (map given_of sources)) ≡ lanes_given sources
 lanes-seen sources =
     ap (lanes_by (λ (p : Source × List Given). is_appended p.0.1) (λ (p : Source × List Given). p.1)) (pairs sources)
@@ -102,7 +102,7 @@ attachments-same new old are = sym (attachments-bare new) ∙ ap attachments_of 
 pub length-same : (new old : List Source) → AreAlike new old → length new ≡ length old
 length-same new old are = sym (length-map new bare) ∙ ap length are.bare ∙ length-map old bare
 
--- what comes of reads that are these but for the times
+-- A result that ignores timestamps is the same for inputs that differ only in them.
 module _ {X : Type 0} (f : List InputRead → X) (whatever : (reads : List InputRead) → f (map untimed reads) ≡ f reads) where
   pub same-of : (new old : List InputRead) → map untimed new ≡ map untimed old → f new ≡ f old
   same-of new old are = sym (whatever new) ∙ ap f are ∙ whatever old

@@ -1,4 +1,4 @@
--- Blocks that are given the times of their first frames.
+-- Blocks that get the timestamps of their first frames.
 use Rattle.std.proofs.Common.{◌≡◌, ℕ, if◌then◌else◌, map, ap, ap₂, ◌∙◌, suc, ◌+◌, ◌*◌, ◌^◌, ◌<◌, ◌≤◌, ℤ, pos, negsuc, ◌+ℤ◌, nat_abs, Bool, true, false, cond, nat_lt, List, [], ◌∷◌, ◌++◌, length, get_or, refl, arith, append_assoc, length-append, All}
 use Rattle.std.proofs.Math.IntN.{+ℤ_idr}
 use Rattle.std.proofs.Math.Nat.{mul-le-mul}
@@ -22,17 +22,17 @@ use Rattle.times_laws.specs.Given.{of_track, IsOfTimes, IsTimedBlock, OwnTimesCh
 use Rattle.times_laws.specs.Laws.{put_times}
 use Rattle.times_laws.proofs.BackLemmas.{AreSmall, small_read_back}
 
--- ---- the times that are written
--- those of frames, from the i-th of a block of this time on
+-- ---- written timestamps
+-- the timestamps of frames, from the frame number `i` of a block on
 abbrev times_from : ℕ → ℤ → ℕ → List (List ℕ) → List ℤ
 times_from step time i [] = []
 times_from step time i (frame ∷ frames) = (time +ℤ pos (i * step)) ∷ times_from step time (i + 1) frames
 
--- of the frames of a block, if it is one of this track
+-- the timestamps of the frames of a block, if the block is on the track
 abbrev times_for : ℕ → ℕ → Block → List ℤ
 times_for step number b = if b.track == number then times_from step b.time 0 b.frames else []
 
--- of all frames of a track among blocks
+-- the timestamps of all frames of a track
 abbrev times_of : ℕ → ℕ → List Block → List ℤ
 times_of step number blocks = flat_map (λ (b : Block). times_for step number b) blocks
 
@@ -60,13 +60,13 @@ entries-lines : (o : TrackOutput) (n : ℕ) (fs : List Frame) → o.form ≡ for
 entries-lines o n [] is = refl
 entries-lines o n (f ∷ fs) is = ap₂ (λ (line rest : List ℕ). line ++ rest) (entry-line o n f is) (entries-lines o (n + 1) fs is)
 
--- what an extraction writes of a track
+-- The content that an extraction writes for a track.
 written : (o : TrackOutput) (bs : List Block) → IsOfTimes o → content_of o bs ≡ put_times (times_of o.step o.track bs)
 written o bs is =
     ap₂ (λ (head rest : List ℕ). head ++ rest) is.head (entries-lines o 1 (frames_of o.step o.track bs) is.form ∙ ap (flat_map time_line) (times-blocks o.step o.track bs))
 
--- ---- a time that stands in a list
--- one below 2^56 ns stays
+-- ---- a timestamp in a list
+-- A timestamp of less than 2^56 ns in size stays.
 kept : (t : ℤ) → nat_abs t < 2 ^ 56 → clamped t ≡ t
 kept (pos n) small = omega (arith, ints, clamps)
 kept (negsuc n) small = omega (arith, ints, clamps)
@@ -103,7 +103,7 @@ all_timed : (bs : List Block) → All IsTimedBlock bs → AllTimed bs
 all_timed [] all = tt
 all_timed (b ∷ bs) all = (all 0 b (omega arith), all_timed bs (λ k d less. all (suc k) d (omega arith)))
 
--- behind those of the blocks before
+-- The blocks keep their timestamps, after the listed timestamps of earlier blocks.
 keeps : (step number : ℕ) (done : List ℤ) (bs : List Block) → AllTimed bs → retimed (Each (done ++ times_of step number bs)) (length done) (of_track number bs) ≡ of_track number bs
 keeps step number done [] timed = refl
 keeps step number done (b ∷ bs) timed = by_track (b.track == number) (keeps step number done bs timed.1) (keeps step number (done ++ times_from step b.time 0 b.frames) bs timed.1)

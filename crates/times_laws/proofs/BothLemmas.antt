@@ -3,7 +3,7 @@ use Rattle.std.proofs.Common.{◌≡◌, Option, Some, None, Result, Ok, Err, re
 use Rattle.mkv_io.specs.Results.{and_then, unless}
 use Rattle.mkv_merge.specs.declared.refusal.Refusal.{Refusal}
 
--- Both come to something, and what they come to is so; or both are refused for the same.
+-- Both have results with the property, or both are refused for the same reason.
 abbrev pub Both : {A : Type 0} → (A → A → Type 0) → Result A Refusal → Result A Refusal → Type 0
 Both P (Ok x) (Ok y) = P x y
 Both P (Ok x) (Err why) = ⊥

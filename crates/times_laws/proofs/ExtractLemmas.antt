@@ -1,4 +1,4 @@
--- What an extraction wrote of the times of a track.
+-- The content that an extraction wrote for the timestamps of a track.
 use Rattle.std.proofs.Common.{◌≡◌, ℕ, Bool, true, false, List, [], ◌∷◌, ◌++◌, map, Option, Some, None, Result, Ok, Err, refl, sym, ap, subst}
 use Rattle.std.specs.Prelude.{ok_or, option_map, slice_get}
 use Rattle.mkv_io.specs.Results.{and_then, unless}
@@ -28,11 +28,11 @@ use Rattle.mkv_extract.specs.Names.{first_written}
 use Rattle.mkv_extract.specs.Read.{FileRead, first_unusable, read_of, read_with}
 use Rattle.times_laws.specs.GivenBack.{World, WritesTimes, times_job}
 
--- times, as an extraction writes them
+-- the coding of a timestamp output
 abbrev pub times_coding : Coding
 times_coding = record { head = times_head; form = Time }
 
--- This content lists the times of the track of this ID in a file.
+-- `content` lists the timestamps of the track `id` in the file `bytes`.
 pub record ListsTimes (bytes : List ℕ) (id : ℕ) (content : List ℕ) : Type 0 where
   pub outline : Outlined
   pub records : FileRecords
@@ -44,11 +44,11 @@ pub record ListsTimes (bytes : List ℕ) (id : ℕ) (content : List ℕ) : Type 
   pub written : content_of (output_with name entry times_coding) (blocks_of (file_events true bytes outline.segment)) ≡ content
 
 module _ (name out : List ℕ) (id : ℕ) (content : List ℕ) where
-  -- what comes of the job is this output alone
+  -- The job has only this output.
   abbrev Writes : Verdict → Type 0
   Writes v = v.outputs ≡ at_once (output out content ∷ [])
 
-  -- of a file of which this was read
+  -- The same for a file that was read.
   abbrev Takes : List ℕ → FileRead → Type 0
   Takes bytes file = at_once (frames_taken name (times_job id out) file (file_events true bytes file.segment)).outputs ≡ at_once (output out content ∷ [])
 
@@ -71,7 +71,7 @@ module _ (name out : List ℕ) (id : ℕ) (content : List ℕ) where
   there None pending None is = absurd (cc)
   there (Some other) pending o is = absurd (cc)
 
-  -- the output of the track, if there is one
+  -- The output of the track, if the track exists.
   one : (o : Option Node) (blocks : List Block) → at_once (outputs_of (output_for Times (record { id = id; name = out }) o ++ []) blocks) ≡ at_once (output out content ∷ [])
       → (entry : Node) × ((o ≡ Some entry) × (content_of (output_with out entry times_coding) blocks ≡ content))
   one (Some entry) blocks is =
@@ -98,7 +98,7 @@ module _ (name out : List ℕ) (id : ℕ) (content : List ℕ) where
         written = own.1.1;
       }
 
--- an extraction that writes it has read a file of which it lists the times
+-- An extraction that writes `content` has read a file whose timestamps it lists.
 pub extracted : (before : World) (name : List ℕ) (id : ℕ) (content : List ℕ) → WritesTimes before name id content → (bytes : List ℕ) × ((before name ≡ Some bytes) × ListsTimes bytes id content)
 extracted before name id content writes =
     let out : List ℕ = writes.0 in

@@ -1,4 +1,4 @@
--- Files of times, with one more of them.
+-- Timestamp files, with one more file.
 use Rattle.std.proofs.Common.{◌≡◌, ◌<◌, ◌≤◌, ℕ, zero, suc, ◌+◌, ◌-◌, ◌==◌, Bool, true, false, if◌then◌else◌, nat_lt, List, [], ◌∷◌, ◌++◌, length, map, Option, Some, None, Result, Ok, Err, refl, sym, ap, ap₂, subst, ◌∙◌, arith, append_assoc, eq-eqb, ◌&&◌, ◌||◌, filter, inl, inr, ◌⊎◌, length-append}
 use Rattle.std.specs.Prelude.{cond, is_some, min}
 use Rattle.std.specs.List.{All, find, slice_get}
@@ -24,13 +24,13 @@ use Rattle.merge_inputs.specs.Taken.{value_for}
 use Rattle.times_laws.specs.GivenBack.{HasOption, World, is_timed, is_too_long, set_input}
 use Rattle.times_laws.proofs.AlikeLemmas.{ListsMore}
 
--- ---- which files are named
+-- ---- named files
 
--- A file isn't named for the track that this one is for.
+-- The second file isn't for the track of the first one.
 abbrev pub IsOther : TimesName → TimesName → Type 0
 IsOther n m = (m.input == n.input && m.id == n.id) ≡ false
 
--- The files that are named, with one more; none of those behind it is for the same track.
+-- `new` has one more named file than `old`; no later file is for the same track.
 pub record IsNamedMore (n : TimesName) (new old : List TimesName) : Type 0 where
   pub before : List TimesName
   pub behind : List TimesName
@@ -45,11 +45,11 @@ named-from first (w ∷ ws) =
     (All-map (λ (m : TimesName). first ≤ m.input) (named_of first) w.times (λ k d below. omega arith))
     (All-weaker (λ (m : TimesName). suc first ≤ m.input) (λ (m : TimesName). first ≤ m.input) (λ m above. omega arith) (named_from (suc first) ws) (named-from (suc first) ws))
 
--- those of later inputs
+-- The files of later inputs are for other tracks.
 later : (n : TimesName) (m : TimesName) → suc n.input ≤ m.input → IsOther n m
 later n m above = let input : (m.input == n.input) ≡ false = grind (arith, nat_tests) in ap (λ (b : Bool). b && m.id == n.id) input
 
--- those of the same input behind it
+-- Later files of the same input are for other tracks.
 own-behind : (n : TimesName) (pairs : List (ℕ × List ℕ)) → is_timed n.id pairs ≡ false → All (IsOther n) (map (named_of n.input) pairs)
 own-behind n [] none = All-nil (IsOther n)
 own-behind n (p ∷ ps) none = by_id (p.0 == n.id) refl none (own-behind n ps)
@@ -94,13 +94,13 @@ named-more first (suc k) id name new own (w ∷ ws) option found =
       alone = rest.alone;
     })
 
--- ---- what they give
+-- ---- results of the files
 
--- how many of these files are too long
+-- the number of files that are too long
 abbrev pub count_long : List TimesFile → ℕ
 count_long files = length (filter (λ (f : TimesFile). is_too_long f.given) files)
 
--- one more, if it is
+-- One more file counts if it is too long.
 count-cons : (f : TimesFile) (files : List TimesFile) (b : Bool) → is_too_long f.given ≡ b → count_long (f ∷ files) ≡ (if b then suc (count_long files) else count_long files)
 count-cons f files b is = ap (λ (c : Bool). length (if c then f ∷ filter long files else filter long files)) is ∙ by_test b
   where
@@ -117,14 +117,14 @@ count-append before behind =
     ∙ length-append (filter (λ (f : TimesFile). is_too_long f.given) before) (filter (λ (f : TimesFile). is_too_long f.given) behind)
 
 module _ (world : World) where
-  -- behind files there is so much room
+  -- Some room is left after the files.
   times-behind : (room : ℕ) (before : List TimesName) → (left : ℕ) × ((behind : List TimesName) → times_from world room (before ++ behind) ≡ times_from world room before ++ times_from world left behind)
   times-behind room [] = (room, λ behind. refl)
   times-behind room (m ∷ ms) =
       let rest = times-behind (room - size_with (world m.name)) ms in
       (rest.0, λ behind. ap (λ (fs : List TimesFile). record { named = m; given = given_with room (world m.name) } ∷ fs) (rest.1 behind))
 
-  -- With less room a file gives the same, or is too long where it wasn't.
+  -- With less room a file has the same result, or becomes too long.
   given-less : (room less : ℕ) (o : Option (List ℕ)) → less ≤ room
       → (given_with less o ≡ given_with room o) ⊎ ((is_too_long (given_with less o) ≡ true) × (is_too_long (given_with room o) ≡ false))
   given-less room less None fits = inl refl
@@ -146,7 +146,7 @@ module _ (world : World) where
           let long : min room MAX_TIMES_LEN < length bytes = grind (arith, nat_tests) in
           absurd (omega arith)
 
-  -- With less room as many are too long, or more.
+  -- With less room at least as many files are too long.
   count-less : (room less : ℕ) (names : List TimesName) → less ≤ room → count_long (times_from world room names) ≤ count_long (times_from world less names)
   count-less room less [] fits = omega arith
   count-less room less (m ∷ ms) fits =
@@ -177,7 +177,7 @@ module _ (world : World) where
           let two = count-cons (file less) fewer true is.0 in
           omega (arith, one, two, rest)
 
-  -- Where as many are too long with less room, files give what they give.
+  -- If equally many files are too long with less room, the results are the same.
   times-less : (room less : ℕ) (names : List TimesName) → less ≤ room → count_long (times_from world less names) ≡ count_long (times_from world room names) → times_from world less names ≡ times_from world room names
   times-less room less [] fits same = refl
   times-less room less (m ∷ ms) fits same =
@@ -209,7 +209,7 @@ module _ (world : World) where
           let most = count-less (room - size_with (world m.name)) (less - size_with (world m.name)) ms (omega arith) in
           absurd (omega (arith, one, two, same, most))
 
-  -- a file that isn't too long and lists times
+  -- The result of a file that isn't too long and lists timestamps.
   given-read : (room : ℕ) (bytes : List ℕ) (times : Listing) → is_too_long (given_with room (Some bytes)) ≡ false → listing bytes ≡ Ok times → given_with room (Some bytes) ≡ Read times
   given-read room bytes times short is = by_test (nat_lt (min room MAX_TIMES_LEN) (length bytes)) short
     where
@@ -217,7 +217,7 @@ module _ (world : World) where
       by_test true none = absurd (cc)
       by_test false none = ap (λ (r : Result Listing ℕ). given_by (unless_bad r)) is
 
-  -- those of other tracks list nothing for this one
+  -- Files for other tracks list nothing for this track.
   none-listed : (n : TimesName) (room : ℕ) (names : List TimesName) → All (IsOther n) names → value_for n.id (listings_at n.input (times_from world room names)) ≡ None
   none-listed n room [] other = refl
   none-listed n room (m ∷ ms) other =
@@ -232,9 +232,9 @@ module _ (world : World) where
       by_input true (Refused why) is none = none
       by_input true (Read times) is none = ap (λ (b : Bool). if b then Some times else value_for n.id rest) is ∙ none
 
--- ---- one more among them
+-- ---- one more file
 
--- Files of times with one more that lists these times, behind which none lists any for the same track.
+-- `new` has one more file than `old`, which lists the timestamps `times`. No later file lists any for the same track.
 pub record AreMore (n : TimesName) (times : Listing) (new old : List TimesFile) : Type 0 where
   pub before : List TimesFile
   pub behind : List TimesFile
@@ -268,7 +268,7 @@ times-more world n new old bytes times names holds is same = by_length (is_too_l
     old_is : times_from world MAX_ALL_TIMES_LEN old ≡ front ++ times_from world left names.behind
     old_is = ap (times_from world MAX_ALL_TIMES_LEN) names.old_is ∙ split.1 names.behind
 
-    -- so many are too long from this file on
+    -- The numbers of files that are too long are equal from this file on.
     counts : count_long (file ∷ times_from world less names.behind) ≡ count_long (times_from world left names.behind)
     counts =
         let with_it = ap count_long new_is ∙ count-append front (file ∷ times_from world less names.behind) in
@@ -296,7 +296,7 @@ module _ (n : TimesName) (times : Listing) where
   abbrev file : TimesFile
   file = record { named = n; given = Read times }
 
-  -- it refuses nothing
+  -- The file adds no refusal.
   passed : (why : TimesFile → Option Refusal) → why file ≡ None → (before behind : List TimesFile) → refusal_of_first why (before ++ file ∷ behind) ≡ refusal_of_first why (before ++ behind)
   passed why none before behind =
       let p : TimesFile → Bool = λ f. is_some (why f) in
@@ -312,7 +312,7 @@ module _ (n : TimesName) (times : Listing) where
     pub missing-more : missing_times new ≡ missing_times old
     missing-more = ap missing_times are.new_is ∙ passed missing_by refl are.before are.behind ∙ ap missing_times (sym are.old_is)
 
-    -- what files list for an input
+    -- The timestamps that the files list for an input.
     listed-parts : (input : ℕ) → listings_at input new ≡ listings_at input are.before ++ ((if n.input == input then (n.id, times) ∷ [] else []) ++ listings_at input are.behind)
     listed-parts input =
         ap (listings_at input) are.new_is

@@ -1,4 +1,4 @@
--- What an input gives where the times of one of its tracks are given back to it.
+-- The blocks of an input are the same if a track gets its own timestamps.
 use Rattle.std.proofs.Common.{◌≡◌, ◌<◌, ℕ, ◌^◌, ◌==◌, Bool, true, false, if◌then◌else◌, List, [], ◌∷◌, ◌++◌, length, map, Option, Some, None, IfSome, unwrap_or, Ok, inl, inr, ◌⊎◌, eqb-true, refl, sym, ap, ap₂, subst, ◌∙◌, arith}
 use Rattle.std.specs.List.{All, slice_get}
 use Rattle.std.specs.Option.{option_map}
@@ -35,9 +35,9 @@ use Rattle.merge_plan.specs.Plan.{given_for, given_from, placing_for}
 use Rattle.times_laws.proofs.ExtractLemmas.{ListsTimes, times_coding}
 use Rattle.times_laws.proofs.ReadLemmas.{IsReadAs, IsSaid, StandsAt, at-place, input-read, taken-stand, tracks-said}
 
--- ---- the value of an ID
+-- ---- value for an ID
 
--- With one more pair among them the value is what it was; or there was none, and it's that of the pair.
+-- With one more pair the value for an ID is the same; or there was none, and it is the pair's value.
 value-more : {T : Type 0} (k id : ℕ) (x : T) (before behind : List (ℕ × T)) → value_for id behind ≡ None
     → (value_for k (before ++ (id, x) ∷ behind) ≡ value_for k (before ++ behind))
     ⊎ ((value_for k (before ++ behind) ≡ None) × ((value_for k (before ++ (id, x) ∷ behind) ≡ Some x) × (id ≡ k)))
@@ -70,9 +70,9 @@ short : (duration : Option ℕ) → IfSome duration (λ d. d < 2 ^ 48) → unwra
 short None is = omega arith
 short (Some d) is = is
 
--- ---- what is given back
+-- ---- given timestamps
 
--- Times leave blocks where they stand.
+-- The timestamps that `content` lists leave the blocks unchanged.
 pub record ListsOwn (content : List ℕ) (number : ℕ) (blocks : List Block) : Type 0 where
   pub times : Listing
   pub read : listing content ≡ Ok times
@@ -82,7 +82,7 @@ some-same : {X : Type 0} (a b : X) → Some a ≡ Some b → a ≡ b
 some-same a b is = cc
 
 module _ (bytes content : List ℕ) (id : ℕ) (octets : AreOctets bytes) (w : ListsTimes bytes id content) where
-  -- The track that the extraction took.
+  -- The track that was extracted.
   pub record Extracted : Type 0 where
     pub track : Track
     pub found : slice_get w.records.tracks id ≡ Some track
@@ -114,14 +114,14 @@ module _ (bytes content : List ℕ) (id : ℕ) (octets : AreOctets bytes) (w : L
       (record { head = refl; form = refl; step = short (default_duration_of w.entry) lasts }) (file-timed bytes w.outline.segment octets) in
       record { times = own.times; read = ap listing (sym w.written) ∙ own.read; same = own.same }
 
--- ---- what a track gives
+-- ---- blocks of a track
 
 module _ (id : ℕ) (times : Listing) (bytes : List ℕ) (segment : Header) (r : FileRecords) (track : Track) where
-  -- the blocks and damages of the file
+  -- the events of the file
   abbrev events : List Event
   events = events_of (with_limits (scale_of_info r.info)) bytes segment
 
-  -- with these times among those that are listed, and without them
+  -- The blocks with and without the listed timestamps.
   module _ (before behind : List (ℕ × Listing)) (shift : ℕ) where
     abbrev more : List (ℕ × Listing)
     more = before ++ (id, times) ∷ behind
@@ -152,15 +152,15 @@ module _ (id : ℕ) (times : Listing) (bytes : List ℕ) (segment : Header) (r :
     given-all (t ∷ ts) one stand =
         ap₂ (λ (g : Given) (gs : List Given). g ∷ gs) (one t (All-head (StandsAt r.tracks) t ts stand)) (given-all ts one (All-tail (StandsAt r.tracks) t ts stand))
 
--- ---- what an input gives
+-- ---- blocks of an input
 
--- An input has a track of this ID, and gives to its lanes what it gave, where these times of the track are listed besides.
+-- The input has a track `id`, and gives the same blocks to its output tracks if `times` are listed for it besides.
 pub record GivesTheSame (id : ℕ) (times : Listing) (bytes : List ℕ) (i : InputRead) : Type 0 where
   pub there : id < i.count
   pub given : (before behind : List (ℕ × Listing)) (shift : ℕ) → value_for id behind ≡ None
       → map (given_from (before ++ (id, times) ∷ behind) shift i.blocks bytes) i.taken ≡ map (given_from (before ++ behind) shift i.blocks bytes) i.taken
 
--- A listing that a content has for a file whose track it is of: an input that is read of the file gives the same.
+-- `content` has a listing for the track `id` of the file `bytes`. An input that is read from the file gives the same blocks with it.
 pub record GivesBack (bytes content : List ℕ) (id : ℕ) : Type 0 where
   pub times : Listing
   pub read : listing content ≡ Ok times
@@ -171,7 +171,7 @@ module _ (bytes content : List ℕ) (id : ℕ) (octets : AreOctets bytes) (w : L
   abbrev merged : List Block
   merged = blocks_of (events_of (with_limits (scale_of_info w.records.info)) bytes w.outline.segment)
 
-  -- what was read has the parts of the records
+  -- If the listed timestamps leave the blocks of the track unchanged, an input that is read from the file gives the same blocks.
   whole : (times : Listing) (x : Extracted bytes content id octets w) → timed (Some times) 0 (of_track x.track.number merged) ≡ of_track x.track.number merged
       → (words : FileWords) (i : InputRead) → IsReadAs words w.outline.segment w.records i → GivesTheSame id times bytes i
   whole times x same words i is =

@@ -1,4 +1,4 @@
--- The inputs of a merge whose words name one more file of times.
+-- The inputs of a merge whose command line names one more timestamp file.
 use Rattle.std.proofs.Common.{◌≡◌, ℕ, zero, suc, ◌+◌, Bool, if◌then◌else◌, List, [], ◌∷◌, ◌++◌, map, Some, Result, Ok, Err, refl, sym, ap, ap₂, subst, ◌∙◌, unwrap_or}
 use Rattle.std.specs.List.{slice_get, zip}
 use Rattle.mkv_io.specs.Faults.{counted}
@@ -26,14 +26,14 @@ use Rattle.times_laws.specs.GivenBack.{World, set_input, untold}
 use Rattle.times_laws.proofs.BothLemmas.{Both, both-same, both-then, both-weaker}
 use Rattle.times_laws.proofs.AlikeLemmas.{At}
 
--- ---- what is read of an input
+-- ---- result of reading an input
 
 module _ (file : FileWords) where
   taken-untold : (k : ℕ) (tracks : List Track) → taken_from (untold file) k tracks ≡ taken_from file k tracks
   taken-untold k [] = refl
   taken-untold k (t ∷ ts) = ap (λ (rest : List TakenTrack). taken_one file k t ++ rest) (taken-untold (k + 1) ts)
 
-  -- it doesn't matter which files of times are named, nor for which tracks
+  -- It doesn't depend on the named timestamp files, nor on their tracks.
   input-untold : (webm : Bool) (held : ℕ) (bytes : List ℕ) → input_of (untold file) webm held bytes ≡ input_of file webm held bytes
   input-untold webm held bytes =
       ap₂ (λ (text other : Result InputRead InputRefusal). if is_srt file.name bytes then text else other) (text (srt_text bytes)) (described (outline_of held bytes))
@@ -57,7 +57,7 @@ module _ (file : FileWords) where
 input-same : (new old : FileWords) (webm : Bool) (held : ℕ) (bytes : List ℕ) → untold new ≡ untold old → input_of new webm held bytes ≡ input_of old webm held bytes
 input-same new old webm held bytes same = sym (input-untold new webm held bytes) ∙ ap (λ (file : FileWords). input_of file webm held bytes) same ∙ input-untold old webm held bytes
 
--- ---- the names
+-- ---- names
 
 pub names-same : (k : ℕ) (new own : FileWords) (files : List FileWords) → new.name ≡ own.name → slice_get files k ≡ Some own → file_names (set_input k new files) ≡ file_names files
 names-same k new own [] name found = refl
@@ -66,18 +66,18 @@ names-same (suc k) new own (f ∷ fs) name found = ap (λ (rest : List (List ℕ
 
 -- ---- the contents of inputs
 
--- what these names hold
+-- the contents of the names `names`
 abbrev pub held_by : World → List (List ℕ) → List (List ℕ)
 held_by world names = map (λ (name : List ℕ). unwrap_or (world name) []) names
 
--- the inputs that are read are the same, and one of them is such as every input that is read of its file
+-- The inputs that are read are the same, and one of them has the property of every input that is read from its file.
 module _ (world : World) (webm : Bool) (timed own : FileWords) (alike : untold timed ≡ untold own) (Good : Source → Type 0)
     (good : (held : ℕ) (i : InputRead) → input_of own webm held (unwrap_or (world own.name) []) ≡ Ok i → Good (unwrap_or (world own.name) [], i)) where
-  -- what that file holds
+  -- the content of that file
   abbrev bytes : List ℕ
   bytes = unwrap_or (world own.name) []
 
-  -- an input that was read, and those behind it
+  -- the result for an input that was read, and for the inputs after it
   abbrev from_one : ℕ → ℕ → List (FileWords × List ℕ) → InputRead → Result (List InputRead) Refusal
   from_one n held files read = and_then (inputs_from webm (suc n) (counted held read.held) files) (λ (reads : List InputRead). Ok (read ∷ reads))
 
@@ -108,7 +108,7 @@ module _ (world : World) (webm : Bool) (timed own : FileWords) (alike : untold t
   abbrev pub AreRead : ℕ → List (List ℕ) → List InputRead → List InputRead → Type 0
   AreRead k contents new old = (new ≡ old) × At k Good (zip contents old)
 
-  -- with the option in front of its file, and behind that file
+  -- The results are the same if the first input has the option.
   first-same : (n held : ℕ) (files : List (FileWords × List ℕ)) (contents : List (List ℕ))
       → Both (AreRead 0 (bytes ∷ contents)) (and_then (numbered n (input_of timed webm held bytes)) (from_one n held files)) (and_then (numbered n (input_of own webm held bytes)) (from_one n held files))
   first-same n held files contents =

@@ -1,4 +1,4 @@
--- The times of a track that are given back change nothing.
+-- Timestamps that are given back to their track change nothing.
 use Rattle.std.proofs.Common.{◌≡◌, ℕ, ◌+◌, List, [], Option, Some, IfSome, Ok, sym, ap, subst, ◌∙◌, arith, unwrap_or, filter, length, map}
 use Rattle.std.proofs.lemmas.List.{length-map}
 use Rattle.ebml_numbers.specs.Number.{AreOctets}
@@ -15,7 +15,7 @@ use Rattle.times_laws.proofs.FilesLemmas.{AreMore, IsNamedMore, count_long, list
 use Rattle.times_laws.proofs.SourcesLemmas.{sources-both}
 use Rattle.times_laws.proofs.VerdictLemmas.{verdict-same}
 
--- the same files are too long, so as many are
+-- The same files are too long, so their numbers are equal.
 counted : (new old : List TimesFile) → map (λ (f : TimesFile). f.named) (filter (λ (f : TimesFile). is_too_long f.given) new) ≡ map (λ (f : TimesFile). f.named) (filter (λ (f : TimesFile). is_too_long f.given) old) → count_long new ≡ count_long old
 counted new old same =
     sym (length-map (filter (λ (f : TimesFile). is_too_long f.given) new) (λ (f : TimesFile). f.named)) ∙ ap length same ∙ length-map (filter (λ (f : TimesFile). is_too_long f.given) old) (λ (f : TimesFile). f.named)

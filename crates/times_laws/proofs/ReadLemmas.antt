@@ -1,4 +1,4 @@
--- What a merge reads of a file, by what an extraction has read of it.
+-- An input as a merge reads it, compared with an extraction from the same file.
 use Rattle.std.proofs.Common.{◌≡◌, ◌<◌, ℕ, suc, ◌+◌, ◌^◌, Bool, true, false, not, ◌&&◌, if◌then◌else◌, nat_eq, List, [], ◌∷◌, length, map, get_or, Option, Some, None, IfSome, Result, Ok, Err, refl, sym, ap, subst, ◌∙◌, arith}
 use Rattle.std.specs.List.{All, slice_get, starts_with}
 use Rattle.std.proofs.lemmas.List.Elements.{All-append, All-cons, All-map, All-nil}
@@ -33,7 +33,7 @@ pub use Rattle.lemmas.proofs.PlainLemmas.{All-get as at-place}
 header-same : (found : Result Header Damage) (a b : Header) → found ≡ Ok a → found ≡ Ok b → a ≡ b
 header-same found a b is is' = let same : Ok a ≡ Ok b = sym is ∙ is' in cc
 
--- the Segment, whatever earlier inputs held
+-- The Segment doesn't depend on the size of earlier inputs.
 pub segment-same : (bytes : List ℕ) (held held' : ℕ) (x y : Outlined) → outline_of held bytes ≡ Ok x → outline_of held' bytes ≡ Ok y → x.segment ≡ y.segment
 unfolding outline_of
 segment-same bytes held held' x y is is' =
@@ -47,7 +47,7 @@ segment-same bytes held held' x y is is' =
     let segment : s.0 ≡ t.0 = header-same (segment_of bytes f.0) s.0 t.0 (ap (segment_of bytes) (sym header) ∙ s.1.0) t.1.0 in
     ap (λ (o : Outlined). o.segment) (sym made.1) ∙ segment ∙ ap (λ (o : Outlined). o.segment) made'.1
 
--- a file with an outline begins as an EBML header does
+-- A file with an outline begins as an EBML header does.
 begins : (bytes : List ℕ) (held : ℕ) (x : Outlined) → outline_of held bytes ≡ Ok x → begins_ebml bytes ≡ true
 unfolding outline_of ebml_header
 begins bytes held x is =
@@ -68,7 +68,7 @@ not-srt name bytes is = by_name (is_srt_name name)
 
 -- ---- the tracks
 
--- A track is what its entry says.
+-- The track `t` has the values of its entry.
 pub record IsSaid (t : Track) : Type 0 where
   pub number : t.number ≡ number_of t.entry
   pub duration : IfSome (default_duration_of t.entry) (λ d. d < 2 ^ 48)
@@ -94,13 +94,13 @@ tracks-said bytes segment r is =
     let made : record { info = info.0; tracks = list.0; attachments = attached.0; chapters = chapters.0; tags = tags.0 } ≡ r = cc (tags.1.1) in
     subst (λ (each : FileRecords). All IsSaid each.tracks) made (good-said segment found.0 list.0 found.1.1)
 
--- ---- the tracks that are taken
+-- ---- selected tracks
 
--- A track that is taken stands at the place of its ID.
+-- A selected track is at the place of its ID.
 abbrev pub StandsAt : List Track → TakenTrack → Type 0
 StandsAt all t = slice_get all t.id ≡ Some t.track
 
--- those from one on, where so many stand before it
+-- The same for the tracks after the first `k`.
 stand-from : (words : FileWords) (all : List Track) (k : ℕ) (ts : List Track) → ((j : ℕ) → slice_get all (k + j) ≡ slice_get ts j) → All (StandsAt all) (taken_from words k ts)
 stand-from words all k [] are = All-nil (StandsAt all)
 stand-from words all k (t ∷ ts) are =
@@ -120,7 +120,7 @@ taken-stand words tracks = stand-from words tracks 0 tracks (λ j. let same : 0 
 
 -- ---- an input
 
--- What is read of a file with these records and this Segment.
+-- `i` is read from a file with these records and this Segment.
 pub record IsReadAs (words : FileWords) (segment : Header) (r : FileRecords) (i : InputRead) : Type 0 where
   pub blocks : i.blocks ≡ Clusters segment (scale_of_info r.info)
   pub count : i.count ≡ length r.tracks

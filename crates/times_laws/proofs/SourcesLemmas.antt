@@ -1,4 +1,4 @@
--- The sources of a merge whose words name one more file of times.
+-- The sources of a merge whose command line names one more timestamp file.
 use Rattle.std.proofs.Common.{◌≡◌, ◌<◌, ℕ, zero, suc, Bool, ◌&&◌, List, [], ◌∷◌, ◌++◌, map, Option, Some, None, Result, Ok, Err, refl, sym, ap, subst, not, is_none, unwrap_or, arith}
 use Rattle.std.specs.List.{slice_get, zip}
 use Rattle.std.specs.Option.{option_map, option_or}
@@ -71,7 +71,7 @@ module _ (id : ℕ) (times : Listing) where
   chaptered-gives webm (chapter_file.Refused why) k contents reads is = is
   chaptered-gives webm (chapter_file.Read chapters) k contents reads is = first-chapters (kept_one (not webm) (Some chapters)) k contents reads is
 
--- ---- the track is there
+-- ---- the track exists
 
 abbrev pub Has : ℕ → Source → Type 0
 Has id s = id < s.1.count
@@ -88,7 +88,7 @@ placed-has id k time [] has = tt
 placed-has id zero time (s ∷ ss) has = has
 placed-has id (suc k) time (s ∷ ss) has = placed-has id k (end_of (begun_at time s)) ss has
 
--- ---- what refuses them
+-- ---- refusals
 
 plan-bare : (words : MergeWords) (reads : List InputRead) → plan_refusal words (map untimed reads) ≡ plan_refusal words reads
 plan-bare words reads = λ i.
@@ -97,7 +97,7 @@ plan-bare words reads = λ i.
 
 -- ---- the sources
 
--- Sources give the same, and one of them has the track.
+-- The sources `new` and `old` give the same blocks, and one of them has the track.
 pub record AreGiven (n : TimesName) (new old : List Source) : Type 0 where
   pub alike : AreAlike new old
   pub has : At n.input (Has n.id) old
@@ -108,7 +108,7 @@ module _ (world : World) (words : MergeWords) (n : TimesName) (times : Listing) 
     (refuses : times_refusal (times_files world (with_input n.input new_words words).files) ≡ times_refusal (times_files world words.files))
     (misses : missing_times (times_files world (with_input n.input new_words words).files) ≡ missing_times (times_files world words.files))
     (lists : ListsMore n.input n.id times (times_files world (with_input n.input new_words words).files) (times_files world words.files)) where
-  -- the words with the option, and what the text files give
+  -- the command line with the option; `more_texts` is the result of its text files
   abbrev more : MergeWords
   more = with_input n.input new_words words
 
@@ -124,7 +124,7 @@ module _ (world : World) (words : MergeWords) (n : TimesName) (times : Listing) 
   abbrev Good : Source → Type 0
   Good s = GivesTheSame n.id times s.0 s.1
 
-  -- What is read gives the same, and is the same but for times.
+  -- The inputs `new` and `old` give the same blocks, and differ only in timestamps.
   record AreTimed (new old : List InputRead) : Type 0 where
     alike : AllAlike (zip contents new) (zip contents old)
     same : map untimed new ≡ map untimed old
@@ -136,7 +136,7 @@ module _ (world : World) (words : MergeWords) (n : TimesName) (times : Listing) 
   inputs-both : Both Same (inputs_of more contents) (inputs_of words contents)
   inputs-both = inputs-same world words.webm new_words own own_alike Good gives n.input 0 0 words.files found
 
-  -- they are refused alike, and what is found is the same
+  -- Both are refused for the same reason, or their inputs are the same.
   found-both : (new old : Result (List InputRead) Refusal) → Both Same new old → (result_err new ≡ result_err old) × Same (found_in new) (found_in old)
   found-both (Ok new) (Ok old) same = (refl, same)
   found-both (Ok new) (Err why) never = absurd never
@@ -167,7 +167,7 @@ module _ (world : World) (words : MergeWords) (n : TimesName) (times : Listing) 
     has = placed-has n.id n.input 0 (zip contents (reads_with words texts contents)) timed-both.has;
   }
 
-  -- the same refuses them
+  -- The refusals are the same.
   read-both : refusals_read more more_texts contents ≡ refusals_read words texts contents
   read-both = λ i.
       both.0 i
@@ -178,11 +178,11 @@ module _ (world : World) (words : MergeWords) (n : TimesName) (times : Listing) 
       (reads-same (sources_in more more_texts contents) (sources_in words texts contents) placed-given.alike) i)
       ∷ []
 
-  -- the names are the same
+  -- The names are the same.
   names : file_names more.files ≡ file_names words.files
   names = names-same n.input new_words own words.files (ap (λ (file : FileWords). file.name) own_alike) found
 
-  -- what may refuse a merge of these words, whose inputs have these names
+  -- the refusals of the merge, if its inputs have these names
   abbrev refusals_by : List (List ℕ) → List (Option Refusal)
   refusals_by all =
       option_map OutputIsInput (first_written more) ∷ option_map Missing (first_missing world all) ∷ missing_text more_texts

@@ -1,4 +1,4 @@
--- What a merge comes to whose sources give the same.
+-- The result of a merge whose sources give the same blocks.
 use Rattle.std.proofs.Common.{◌≡◌, ◌<◌, ℕ, zero, suc, ◌+◌, ◌==◌, nat_le, Bool, true, false, ◌||◌, if◌then◌else◌, List, [], ◌∷◌, ◌++◌, length, map, filter, flat_map, Result, Ok, Err, refl, ap, ◌∙◌, arith, unwrap_or, not, eqb-true, sym, Some, ap₂}
 use Rattle.std.specs.List.{enumerate_from, list_any, range_with_len, slice_get, zip}
 use Rattle.std.specs.Option.{option_map_or}
@@ -40,13 +40,13 @@ use Rattle.times_laws.proofs.AlikeLemmas.{At}
 use Rattle.times_laws.proofs.BothLemmas.{Both}
 use Rattle.times_laws.proofs.SourcesLemmas.{AreGiven, Has}
 
--- the damages of the input of this number, by the inputs of links and what these give
+-- the damage of the input number `k`, by the inputs of links and their blocks
 abbrev met_by : List (List ℕ) → List (List Given) → ℕ → List Damage
 met_by numbers given k = first_met k (links_met numbers given)
 
--- ---- the tracks that aren't there
+-- ---- absent tracks
 
--- a track that isn't counted needn't be named
+-- A track that isn't counted needn't be named.
 filter-others : (p : ℕ → Bool) (id : ℕ) (ids : List ℕ) → p id ≡ false → filter p (others id ids) ≡ filter p ids
 filter-others p id [] none = refl
 filter-others p id (x ∷ xs) none = by_id (x == id) refl (filter-others p id xs none)
@@ -57,14 +57,14 @@ filter-others p id (x ∷ xs) none = by_id (x == id) refl (filter-others p id xs
         rest ∙ sym (ap (λ (b : Bool). if b then x ∷ filter p xs else filter p xs) out)
     by_id false is rest = ap (λ (ids : List ℕ). if p x then x ∷ ids else ids) rest
 
--- one that is there isn't told
+-- A track that exists isn't reported.
 absent-same : (id count : ℕ) (new old : FileWords) → others id new.named ≡ others id old.named → id < count → absent_of new count ≡ absent_of old count
 absent-same id count new old same there =
     let out : nat_le count id ≡ false = grind (arith, nat_tests) in
     sym (filter-others (λ (n : ℕ). nat_le count n) id new.named out) ∙ ap (filter (λ (n : ℕ). nat_le count n)) same ∙ filter-others (λ (n : ℕ). nat_le count n) id old.named out
 
 module _ (id : ℕ) (new own : FileWords) (named : others id new.named ≡ others id own.named) (name_is : new.name ≡ own.name) where
-  -- what is told of the input that has the option
+  -- The absent tracks of the input with the option.
   absent-own : (f : FileWords) (i : InputRead) → Some f ≡ Some own → id < i.count → absent (new, i) ≡ absent (f, i)
   absent-own f i found there = let same : own ≡ f = cc in absent-same id i.count new own named there ∙ ap (λ (file : FileWords). absent_of file i.count) same
 
@@ -89,7 +89,7 @@ module _ (id : ℕ) (new own : FileWords) (named : others id new.named ≡ other
       ap (λ (ids : List ℕ). is_some_of ids || list_any (λ (g : FileWords × InputRead). is_some_of (absent g)) (zip fs (reads_of ss))) (absent-own f s.1 found has)
   any-there (suc k) (f ∷ fs) (s ∷ ss) found has = ap (λ (rest : Bool). is_some_of (absent (f, s.1)) || rest) (any-there k fs ss found has)
 
-  -- ---- the names of inputs
+  -- ---- names of inputs
 
   warned-same : (numbers : List (List ℕ)) (given : List (List Given)) (j k : ℕ) (files : List FileWords) → slice_get files k ≡ Some own
       → flat_map (λ (each : ℕ × FileWords). damages_warned each.1.name (met_by numbers given each.0)) (enumerate_from j (set_input k new files))
@@ -116,13 +116,13 @@ any-bare [] reads = refl
 any-bare (f ∷ fs) [] = refl
 any-bare (f ∷ fs) (i ∷ is) = ap (λ (rest : Bool). is_some_of (absent (f, i)) || rest) (any-bare fs is)
 
--- ---- the verdict
+-- ---- result
 
 module _ (words : MergeWords) (n : TimesName) (timed own : FileWords) (named : others n.id timed.named ≡ others n.id own.named) (name_is : timed.name ≡ own.name) (found : slice_get words.files n.input ≡ Some own) where
   abbrev more : MergeWords
   more = with_input n.input timed words
 
-  -- outputs, by what they are made of
+  -- the outputs, by their components
   abbrev outputs_by : List TakenTrack → List InputRecords → List ℕ → List Node → List (List Given) → List PlannedOutput
   outputs_by taken records title attachments given =
       map (λ (each : ℕ × Part). record {
@@ -134,7 +134,7 @@ module _ (words : MergeWords) (n : TimesName) (timed own : FileWords) (named : o
       })
       (enumerate_from 1 (parts (record { spec = spec_of words.split (starts_in (merged_chapters records)); size = size_of words.split; scale = words.scale; drives = drives_by (drivers_by (map is_video taken)) }) (merged (map (lane_blocks words.scale) given))))
 
-  -- a verdict, by what it is made of
+  -- a result, by its components
   abbrev verdict_by : Bool → Bool → List (List ℕ) → List (List ℕ) → List PlannedOutput → Verdict
   verdict_by missing damaged before warned outputs = record {
     status = warned_if (missing || damaged || has_other_count words (length outputs));
@@ -184,7 +184,7 @@ module _ (words : MergeWords) (n : TimesName) (timed own : FileWords) (named : o
     pub merged-same : merged_verdict more new ≡ merged_verdict words old
     merged-same = λ i. verdict_by (missing i) (damaged i) (before i) (warned i) (outputs i)
 
-  -- the line of a refusal
+  -- The line of a refusal.
   pub line-same : (why : Refusal) → line_of more why ≡ line_of words why
   line-same (OutputIsInput name) = refl
   line-same (Missing input) = ap missing_line (name-same n.id timed own named name_is n.input input words.files found)

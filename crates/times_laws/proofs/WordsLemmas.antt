@@ -1,4 +1,4 @@
--- A time that is written is read back.
+-- A timestamp that is written is read back.
 use Rattle.std.proofs.Common.{◌≡◌, ℕ, suc, ◌+◌, ◌*◌, ◌/◌, ◌%◌, ◌^◌, ◌<◌, ◌≤◌, ℤ, pos, negsuc, nat_abs, Bool, true, false, not, ◌&&◌, cond, nat_lt, nat_le, List, [], ◌∷◌, ◌++◌, length, Some, None, refl, ◌∙◌, ap, arith}
 use Rattle.std.proofs.Math.Nat.{pow-le-pow_right, div-div-eq-div-mul}
 use Rattle.std.proofs.lemmas.Grind.{common_steps}
@@ -37,7 +37,7 @@ says d small = grind (arith, nat_tests, common_steps)
 abbrev glyphs : (a b c d e f : ℕ) → List ℕ
 glyphs a b c d e f = (48 + a) ∷ (48 + b) ∷ (48 + c) ∷ (48 + d) ∷ (48 + e) ∷ (48 + f) ∷ []
 
--- six numbers below ten, as digits
+-- The six numbers are digits below ten.
 pub record AreDigits (a b c d e f : ℕ) : Type 0 where
   pub first : a < 10
   pub second : b < 10
@@ -52,7 +52,7 @@ glyphs_all a b c d e f are = rw (glyph a are.first, glyph b are.second, glyph c 
 glyphs_say : (a b c d e f : ℕ) → AreDigits a b c d e f → digits_value 10 (glyphs a b c d e f) ≡ ((((a * 10 + b) * 10 + c) * 10 + d) * 10 + e) * 10 + f
 glyphs_say a b c d e f are = rw (says a are.first, says b are.second, says c are.third, says d are.fourth, says e are.fifth, says f are.sixth) (omega arith)
 
--- the digits of a number below 1,000,000
+-- The digits of a number below 1,000,000.
 pub record Six (r : ℕ) : Type 0 where
   pub are : AreDigits (r / 100000) (r / 10000 % 10) (r / 1000 % 10) (r / 100 % 10) (r / 10 % 10) (r % 10)
   pub whole : (((((r / 100000) * 10 + r / 10000 % 10) * 10 + r / 1000 % 10) * 10 + r / 100 % 10) * 10 + r / 10 % 10) * 10 + r % 10 ≡ r
@@ -116,8 +116,8 @@ size_written n small = split (n % 1000000 == 0) refl
         let below : nat_lt n (2 ^ 57) ≡ true = grind (arith, nat_tests) in
         rw parts (rw (digits_whole 12 (n / 1000000) (omega arith) (omega arith) few) (rw (fraction_six (n % 1000000) (omega arith)) (rw (whole, below) refl)))
 
--- ---- a time
--- what stands behind the whole milliseconds
+-- ---- a timestamp
+-- the digits after the whole milliseconds
 abbrev tail_of : Bool → ℕ → List ℕ
 tail_of b n = cond b [] (codes "." ++ six_digits (n % 1000000))
 
@@ -125,7 +125,7 @@ in_parts : (b : Bool) (n : ℕ) → cond b (decimal (n / 1000000)) (decimal (n /
 in_parts true n = grind (arith, common_steps)
 in_parts false n = refl
 
--- the first octet is a digit
+-- The first byte is a digit.
 pub size_first : (o n : ℕ) → is_ascii_digit o ≡ false → n < 2 ^ 57 → (slice_index (milliseconds n) 0 == o) ≡ false
 size_first o n other small =
     let b = n % 1000000 == 0 in
@@ -147,7 +147,7 @@ size_lacks o n other point small =
     let b = n % 1000000 == 0 in
     rw (in_parts b n) (lacks_both o (decimal (n / 1000000)) (tail_of b n) (decimal_lacks o (n / 1000000) other (omega arith)) (tail_lacks o b n other point))
 
--- a line's octets without its end
+-- the bytes of a line without its end
 abbrev pub words : ℤ → List ℕ
 words t = sign t ++ milliseconds (nat_abs t)
 

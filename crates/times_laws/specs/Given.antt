@@ -1,4 +1,4 @@
--- The times that an extraction writes of a track, given back to it.
+-- The timestamps that an extraction writes for a track, given back to the track.
 use Rattle.std.specs.Prelude.{◌≡◌, ◌<◌, ◌≤◌, ℕ, ◌^◌, ◌==◌, nat_abs, All, List, length, filter, Some, Ok}
 use Rattle.block_format.specs.Block.{Block}
 use Rattle.ext_times.specs.Listing.{Listing, listing}
@@ -12,19 +12,19 @@ use Rattle.extractors.specs.declared.track_output.TrackOutput.{TrackOutput}
 abbrev pub of_track : ℕ → List Block → List Block
 of_track number blocks = filter (λ (b : Block). b.track == number) blocks
 
--- An output of the times of a track, where a frame lasts less than 2^48 ns, or isn't known to last.
+-- `o` is a timestamp output of a track whose frames have a default duration of less than 2^48 ns, or none.
 pub record IsOfTimes (o : TrackOutput) : Type 0 where
   pub head : o.head ≡ times_head
   pub form : o.form ≡ form.Time
   pub step : o.step < 2 ^ 48
 
--- A block as a file with limits has it: 1 to 256 frames, and a time below 2^56 ns in size.
+-- `b` is a block as a file with limits has it: 1 to 256 frames, and a timestamp of less than 2^56 ns in size.
 pub record IsTimedBlock (b : Block) : Type 0 where
   pub some : 1 ≤ length b.frames
   pub most : length b.frames ≤ 256
   pub small : nat_abs b.time < 2 ^ 56
 
--- What is written of a track is a file of times, at which each of its blocks stands where it stood.
+-- The content that is written for a track is a timestamp file, with which each block of the track keeps its timestamp.
 pub record ChangesNothing (o : TrackOutput) (blocks : List Block) : Type 0 where
   pub times : Listing
   pub read : listing (content_of o blocks) ≡ Ok times

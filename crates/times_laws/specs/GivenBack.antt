@@ -1,4 +1,4 @@
--- The times of a track that were taken out of a file, given back to it in a merge.
+-- The timestamps that were extracted from a track, given back to it in a merge.
 use Rattle.std.specs.Prelude.{◌≡◌, ℕ, zero, suc, ◌==◌, Bool, true, false, not, List, [], ◌∷◌, ◌++◌, filter, map, slice_get, Option, Some, IfSome}
 use Rattle.std.specs.List.{list_any}
 use Rattle.ebml_numbers.specs.Number.{AreOctets}
@@ -19,26 +19,26 @@ use Rattle.mkv_extract.specs.Extract.{extract_verdict}
 use Rattle.mkv_merge.specs.Merge.{merge_verdict}
 use Rattle.mkv_merge.specs.Read.{first_written}
 
--- what the files of a world hold, by their names
+-- the contents of files, by their names
 abbrev pub World : Type 0
 World = List ℕ → Option (List ℕ)
 
 -- ---- the option
 
--- the words of an input but for the files of times and the tracks that they name
+-- an input's part of the command line without timestamp files and the tracks that they name
 abbrev pub untold : FileWords → FileWords
 untold file = record file { times = []; named = [] }
 
--- tracks that are named, but for this one
+-- the named tracks except `id`
 abbrev pub others : ℕ → List ℕ → List ℕ
 others id named = filter (λ k. not (k == id)) named
 
--- one of these files of times is for the track of this ID
+-- one of the timestamp files `times` is for the track `id`
 abbrev pub is_timed : ℕ → List (ℕ × List ℕ) → Bool
 is_timed id times = list_any (λ (pair : ℕ × List ℕ). pair.0 == id) times
 
--- The words of an input have `--timestamps ID:NAME` among its options, and are else these: they name the same other files of
--- times, none behind it for the same track, and the same other tracks.
+-- `new` is `old` with `--timestamps ID:NAME` added among the options. Both name the same other timestamp files and the same other tracks; no
+-- later file is for the same track.
 pub record HasOption (id : ℕ) (name : List ℕ) (new old : FileWords) : Type 0 where
   pub before : List (ℕ × List ℕ)
   pub behind : List (ℕ × List ℕ)
@@ -48,13 +48,13 @@ pub record HasOption (id : ℕ) (name : List ℕ) (new old : FileWords) : Type 0
   pub named : others id new.named ≡ others id old.named
   pub alike : untold new ≡ untold old
 
--- files with these words for the one of this number
+-- the inputs with `new` as the input with this number
 abbrev pub set_input : ℕ → FileWords → List FileWords → List FileWords
 set_input number new [] = []
 set_input zero new (file ∷ files) = new ∷ files
 set_input (suc number) new (file ∷ files) = file ∷ set_input number new files
 
--- the words of a merge with these for one of its inputs
+-- the command line of a merge with `new` as the input number `number`
 abbrev pub with_input : ℕ → FileWords → MergeWords → MergeWords
 with_input number new words = record words { files = set_input number new words.files }
 
@@ -64,12 +64,12 @@ with_input number new words = record words { files = set_input number new words.
 abbrev pub times_job : ℕ → List ℕ → Job
 times_job id out = Tracks Times (record { id = id; name = out } ∷ [])
 
--- It writes this content.
+-- The command writes the content `content`.
 abbrev pub WritesTimes : World → List ℕ → ℕ → List ℕ → Type 0
 WritesTimes world file id content = (out : List ℕ) × ((extract_verdict world file (times_job id out)).outputs ≡ at_once (output out content ∷ []))
 
--- These words of an input have an option that gives a track the times of a file. It holds what an extraction wrote of that track,
--- when the input, which is made of octets, was as it is now.
+-- The options `new` of an input give a track the timestamps of a file. That file holds the result of an extraction from the same track. The input
+-- consists of bytes and hasn't changed since the extraction.
 pub record IsTakenOut (before world : World) (words : MergeWords) (n : TimesName) (new : FileWords) : Type 0 where
   pub input : FileWords
   pub content : List ℕ
@@ -80,26 +80,26 @@ pub record IsTakenOut (before world : World) (words : MergeWords) (n : TimesName
   pub written : WritesTimes before input.name n.id content
   pub holds : world n.name ≡ Some content
 
--- a file of times isn't taken since it is too long, for itself or with those before it
+-- a timestamp file is refused because it is too long, by itself or together with the files before it
 abbrev pub is_too_long : TimesGiven → Bool
 is_too_long Missing = false
 is_too_long (Refused TooLarge) = true
 is_too_long (Refused (Bad line)) = false
 is_too_long (Read times) = false
 
--- those of the files that words name of which it is so
+-- the timestamp files that are too long
 abbrev pub too_long : World → List FileWords → List TimesName
 too_long world files = map (λ (f : TimesFile). f.named) (filter (λ (f : TimesFile). is_too_long f.given) (times_files world files))
 
--- The option refuses nothing by a name or by a length: the same name that is read is an output's, if any is, and the same files of
--- times are too long.
+-- The option adds no refusal by a name or a length. The first name of a file that is read which an output could have is the same, and so are the
+-- timestamp files that are too long.
 pub record IsAllowed (world : World) (words : MergeWords) (n : TimesName) (new : FileWords) : Type 0 where
   pub name : first_written (with_input n.input new words) ≡ first_written words
   pub length : too_long world (with_input n.input new words).files ≡ too_long world words.files
 
 -- ---- the law
 
--- Given back, they change neither the status of a merge nor its lines nor its outputs.
+-- Timestamps that are given back change neither the status of a merge, nor its lines, nor its outputs.
 abbrev pub TimesGivenBackChangeNothing : Type 0
 TimesGivenBackChangeNothing =
     (before world : World) (words : MergeWords) (n : TimesName) (new : FileWords) → IsTakenOut before world words n new → IsAllowed world words n new
