@@ -125,6 +125,8 @@ verdict-merged world words old new s told holds sound texts found other = split 
           sources = sources;
           taken = is;
           records = have;
+          short = can.short;
+          sound = λ k d below. documents-sound words sources sound texts are have k d below (can.short k d below);
           written = done.names ∙ ap (λ names. with_outputs names (outputs_of_drafts (drafts_of outputs))) told
               ∙ ap (with_outputs (Some world)) (drafts-become words sources sound texts are have);
           holds = λ k d below. layouts-hold words sources sound texts are have k d below (can.short k d below);

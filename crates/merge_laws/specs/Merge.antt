@@ -13,6 +13,7 @@ use Rattle.block_format.specs.Events.{blocks_of as blocks_found}
 use Rattle.file_format.specs.FileBlocks.{file_events}
 use Rattle.output_model.specs.Document.{layout}
 use Rattle.output_model.specs.OutputBlock.{OutputBlock}
+use Rattle.output_model.specs.Sound.{IsSoundDocument}
 use Rattle.output_laws.specs.Places.{block_in_place}
 use Rattle.output_laws.specs.Reading.{header_of_segment, IsReadAs}
 use Rattle.merge_model.specs.Lanes.{lane_blocks}
@@ -27,7 +28,7 @@ use Rattle.merge_plan.specs.Plan.{Source, lanes_given}
 use Rattle.mkv_args.specs.Words.{command}
 use Rattle.mkv_args.specs.declared.command.Command.TheVariants.{Merge}
 use Rattle.mkv_merge.specs.Merge.{blocks_of, outputs_of, sources_of, split_of}
-use Rattle.mkv_merge.specs.Records.{HaveRecords}
+use Rattle.mkv_merge.specs.Records.{AreShort, HaveRecords}
 use Rattle.mkv_lines.specs.declared.status.Status.{Status}
 use Rattle.mkv_lines.specs.declared.status.Status.TheVariants.{Done, Warned}
 use Rattle.merge_laws.specs.Sources.{HoldsOctets}
@@ -96,12 +97,14 @@ abbrev pub laid_out : PlannedOutput → Output
 laid_out o = record { name = o.name; content = layout o.document }
 
 -- A merge was written, if the files were `world`. Its outputs have exactly the bytes of their documents, and every other name keeps its content.
--- The records of the sources can be read again, and identifiers have 64 bits. Each output holds its blocks and document; one that isn't split
--- holds all output tracks. Together the outputs are the parts of the merged list, and parts that end at a load keep its limit.
+-- The records of the sources can be read again, and identifiers have 64 bits. Each output has at most 2^48 bytes, and its document is valid.
+-- Each output holds its blocks and document; one that isn't split holds all output tracks. Together the outputs are the parts of the merged list, and parts that end at a load keep its limit.
 pub record IsMerged (world : List ℕ → Option (List ℕ)) (words : MergeWords) (new : Names) : Type 0 where
   pub sources : List Source
   pub taken : sources_of world words ≡ Ok sources
   pub records : HaveRecords sources
+  pub short : AreShort words sources
+  pub sound : All (λ (o : PlannedOutput). IsSoundDocument o.document) (outputs_of words sources)
   pub written : new ≡ with_outputs (Some world) (map laid_out (outputs_of words sources))
   pub holds : All (λ (o : PlannedOutput). HoldsOutput words o (layout o.document)) (outputs_of words sources)
   pub lanes : All (λ (o : PlannedOutput). HoldsLanes words sources o (layout o.document)) (outputs_of words sources)
