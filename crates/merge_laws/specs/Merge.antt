@@ -97,8 +97,9 @@ abbrev pub laid_out : PlannedOutput → Output
 laid_out o = record { name = o.name; content = layout o.document }
 
 -- A merge was written, if the files were `world`. Its outputs have exactly the bytes of their documents, and every other name keeps its content.
--- The records of the sources can be read again, and identifiers have 64 bits. Each output has at most 2^48 bytes, and its document is valid.
--- Each output holds its blocks and document; one that isn't split holds all output tracks. Together the outputs are the parts of the merged list, and parts that end at a load keep its limit.
+-- The records of the sources can be read again, and identifiers have 64 bits. Each output has at most 2^48 bytes, and its document is valid. Each
+-- output holds its blocks and document; one that isn't split holds all output tracks. Together the outputs are the parts of the merged list, and
+-- parts that end at a load keep its limit.
 pub record IsMerged (world : List ℕ → Option (List ℕ)) (words : MergeWords) (new : Names) : Type 0 where
   pub sources : List Source
   pub taken : sources_of world words ≡ Ok sources
