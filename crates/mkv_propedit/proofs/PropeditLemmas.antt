@@ -36,7 +36,7 @@ use Rattle.edit_changes.specs.declared.refusal.Refusal.{Refusal}
 use Rattle.mkv_io.specs.Results.{and_then}
 use Rattle.edit_changes.specs.Plan.{edited, recorded as record_for}
 use Rattle.edit_plan.proofs.RecordLemmas.{writes_of-recorded}
-use Rattle.mkv_propedit.specs.Left.{HasMadeCause, IsBeingEdited, IsEdit, IsUnderway, LeavesEdited, LeavesPlanned, StaysOpen}
+use Rattle.mkv_propedit.specs.Left.{HasMadeCause, IsEdit, IsUnderway, LeavesEdited, LeavesPlanned, LeftByEdit, LeftByPlan, StaysOpen}
 use Rattle.mkv_propedit.specs.Propedit.{propedit_on, propedit_verdict, told, unless_begun}
 
 -- ---- a journal without a pending edit
@@ -111,6 +111,22 @@ module _ (M : List ℕ) (found : List ℕ → Result (List Write) Refusal) where
   leaves-planned S p status.NoMemory q quiet is leaves = leaves
   leaves-planned S p status.Outside q quiet is leaves = leaves
 
+  -- A crash image of the execution of the plan is one of an edit.
+  pub planned-image : (S m t : List ℕ) (p : Planned) (e : Status) → state S ≡ Quiet → record_from (found M) ≡ Ok p → LeftByPlan e p M S m t → LeftByEdit e found M S m t
+  planned-image S m t p status.Done quiet is image = inr (underway S m t p quiet is image)
+  planned-image S m t p status.Warned quiet is image = inr (underway S m t p quiet is image)
+  planned-image S m t p status.Refused quiet is image = image
+  planned-image S m t p status.NoMemory quiet is image = image
+  planned-image S m t p status.Outside quiet is image = inr (underway S m t p quiet is image)
+
+  -- The two files as they were are a crash image, whatever the status.
+  pub still-image : (S m t : List ℕ) (e : Status) → (m ≡ M) × (t ≡ S) → LeftByEdit e found M S m t
+  still-image S m t status.Done same = inl same
+  still-image S m t status.Warned same = inl same
+  still-image S m t status.Refused same = same
+  still-image S m t status.NoMemory same = same
+  still-image S m t status.Outside same = inl same
+
 -- ---- crash images
 
 module _ {D : Type 0} (r : reads.Ghosts D) (d : Ghosts D) where
@@ -123,29 +139,29 @@ module _ {D : Type 0} (r : reads.Ghosts D) (d : Ghosts D) where
   stays-then old mid new n more left read later = record { opened = later.opened ∙ left.opened; octets = omega arith }
 
 module _ {D : Type 0} (d : Ghosts D) (found : List ℕ → Result (List Write) Refusal) where
-  abbrev pub Edits : D → D → Type 0
-  Edits old new = LeavesOnly d.moment d.left_since old new (IsBeingEdited found (d.pair old).media.reads (d.pair old).sidecar.reads)
+  abbrev pub Edits : Status → D → D → Type 0
+  Edits e old new = LeavesOnly d.moment d.left_since old new (LeftByEdit e found (d.pair old).media.reads (d.pair old).sidecar.reads)
 
   -- This is a call that leaves the pair.
-  pub left-moment : (old new : D) → IsSynced (d.pair old) → LeavesOnly d.moment d.left_since old new (IsPairImage (d.pair old)) → Edits old new
-  left-moment old new synced run =
-      weaker d.moment d.left_since old new (IsPairImage (d.pair old)) (IsBeingEdited found (d.pair old).media.reads (d.pair old).sidecar.reads)
-      (λ m s image. inl (both_image (d.pair old) m s synced image)) run
+  pub left-moment : (e : Status) (old new : D) → IsSynced (d.pair old) → LeavesOnly d.moment d.left_since old new (IsPairImage (d.pair old)) → Edits e old new
+  left-moment e old new synced run =
+      let M = (d.pair old).media.reads in let S = (d.pair old).sidecar.reads in
+      weaker d.moment d.left_since old new (IsPairImage (d.pair old)) (LeftByEdit e found M S) (λ m s image. still-image M found S m s e (both_image (d.pair old) m s synced image)) run
 
   -- An edit follows a call that leaves the pair.
   pub edit-then : (old mid new : D) (s : Status) → AtRest d old → (IsTrue d.told → d.pair mid ≡ d.pair old) → (IsTrue d.told → LeavesOnly d.moment d.left_since old mid (IsPairImage (d.pair old))) → IsEdit d found mid new s → IsEdit d found old new s
   edit-then old mid new s rest pair run edit = record {
     pair = λ told. subst (λ (p : Pair). LeavesEdited s found p.media.reads p.sidecar.reads (d.pair new)) (pair told) (edit.pair told);
     any_moment = λ told.
-        joined d.moment d.left_since old mid new (IsBeingEdited found (d.pair old).media.reads (d.pair old).sidecar.reads) (left-moment old mid (rest told) (run told))
-        (subst (λ (p : Pair). LeavesOnly d.moment d.left_since mid new (IsBeingEdited found p.media.reads p.sidecar.reads)) (pair told) (edit.any_moment told));
+        joined d.moment d.left_since old mid new (LeftByEdit s found (d.pair old).media.reads (d.pair old).sidecar.reads) (left-moment s old mid (rest told) (run told))
+        (subst (λ (p : Pair). LeavesOnly d.moment d.left_since mid new (LeftByEdit s found p.media.reads p.sidecar.reads)) (pair told) (edit.any_moment told));
   }
 
   -- Nothing was edited, and the pair is left.
   pub edit-none : (old new : D) (s : Status) → AtRest d old → ((M S : List ℕ) (p : Pair) → p ≡ both M S → LeavesEdited s found M S p) → (IsTrue d.told → d.pair new ≡ d.pair old) → (IsTrue d.told → LeavesOnly d.moment d.left_since old new (IsPairImage (d.pair old))) → IsEdit d found old new s
   edit-none old new s rest leaves pair run = record {
     pair = λ told. leaves (d.pair old).media.reads (d.pair old).sidecar.reads (d.pair new) (pair told ∙ rest told);
-    any_moment = λ told. left-moment old new (rest told) (run told);
+    any_moment = λ told. left-moment s old new (rest told) (run told);
   }
 
   -- The same holds for a disk that isn't touched.
@@ -172,6 +188,16 @@ module _ {A E : Type 0} (before now : ℕ) where
   made-left p M S q line old new (Ok u) (Err stop.Disk) is cause says = tt
   made-left p M S q line old new (Ok u) (Err stop.Report) is cause says = tt
   made-left p M S q line old new (Err e) result is cause says = subst (λ (r : Result Status CommandEnd). LeavesPlanned (status_of r) p M S q) (sym cause.0) tt
+
+  -- A crash image of an execution is one by its status: once it is made, memory doesn't run out.
+  pub made-image : (p : Planned) (M S m t line : List ℕ) (old new : ReportLines) (made : Result A E) (result : Result Status CommandEnd) → HasMadeCause made before now result → SaysVerdict old new result (done (line ∷ []))
+      → IsEditing p M m t → LeftByPlan (status_of result) p M S m t
+  made-image p M S m t line old new (Ok u) (Ok s) cause says image = subst (λ (e : Status). LeftByPlan e p M S m t) (sym says.0) image
+  made-image p M S m t line old new (Ok u) (Err stop.Memory) cause says image = absurd (cause.1 refl)
+  made-image p M S m t line old new (Ok u) (Err stop.Files) cause says image = image
+  made-image p M S m t line old new (Ok u) (Err stop.Disk) cause says image = image
+  made-image p M S m t line old new (Ok u) (Err stop.Report) cause says image = image
+  made-image p M S m t line old new (Err e) result cause says image = subst (λ (r : Result Status CommandEnd). LeftByPlan (status_of r) p M S m t) (sym cause.0) image
 
   pub made-stop : {D T : Type 0} (r : reads.Ghosts D) (d : Ghosts D) (old new : D) (made : Result A E) (result : Result T CommandEnd) → r.reading_faults new ≡ r.reading_faults old
       → HasCause (λ _. true) (d.writing_faults old) (d.writing_faults new) made → HasMadeCause made before now result → HasDiskStop r d old new before now result

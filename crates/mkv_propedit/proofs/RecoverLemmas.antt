@@ -24,11 +24,11 @@ use Rattle.sidecar_edit.specs.declared.outcome.RecoverEnd.TheVariants.{BadSideca
 use Rattle.sidecar_edit.specs.Fields.{writes_in}
 use Rattle.sidecar_edit.specs.Recovery.{is_disk_fault, recovered, recovery, when_applied}
 use Rattle.sidecar_edit.specs.Writes.{applied}
-use Rattle.sidecar_edit.specs.Recovering.{IsRecovered, IsRecovering, KeepsUnlessApplied}
+use Rattle.sidecar_edit.specs.Recovering.{IsRecovered, IsRecovering, KeepsUnlessApplied, LeftBy}
 use Rattle.sidecar_edit.proofs.GateLemmas.{both_image}
 use Rattle.sidecar_edit.proofs.RecoverLemmas.{recovering-same}
 use Rattle.mkv_propedit.specs.Recover.{DiskWorld, disk_world, recover_verdict, told, verdict_on}
-use Rattle.mkv_propedit.specs.Recovery.{HasDiskStop, HasTellCause, IsRecovery, LeavesPair, sidecar_after}
+use Rattle.mkv_propedit.specs.Recovery.{HasDiskStop, HasTellCause, IsRecovery, LeavesPair, LeftByRecovery, sidecar_after}
 
 -- ---- messages
 
@@ -110,35 +110,52 @@ module _ {D : Type 0} (r : reads.Ghosts D) (d : Ghosts D) where
 
 -- ---- crash images
 
+module _ (M S m t : List ℕ) where
+  -- The two files as they were are a crash image, whatever the status.
+  pub still-image : (e : Status) → (m ≡ M) × (t ≡ S) → LeftByRecovery e M S m t
+  still-image status.Done same = recovering-same M S m t same
+  still-image status.Warned same = recovering-same M S m t same
+  still-image status.Refused same = same
+  still-image status.NoMemory same = same
+  still-image status.Outside same = recovering-same M S m t same
+
+  -- A crash image of a recovery is one by its status: once an edit is completed, memory doesn't run out.
+  pub recovered-image : (name : List ℕ) (p : Pair) (before now : ℕ) (old new : ReportLines) (outcome : Result Recovered RecoverEnd) (result : Result Status CommandEnd) → IsRecovered M S outcome p
+      → HasTellCause outcome before now result → SaysVerdict old new result (told name outcome) → IsRecovering M S m t → LeftByRecovery (status_of result) M S m t
+  recovered-image name p before now old new (Ok Applied) (Ok s) is cause says image = subst (λ (e : Status). LeftByRecovery e M S m t) (sym says.0) image
+  recovered-image name p before now old new (Ok Applied) (Err stop.Memory) is cause says image = absurd (cause.1 refl)
+  recovered-image name p before now old new (Ok Applied) (Err stop.Files) is cause says image = image
+  recovered-image name p before now old new (Ok Applied) (Err stop.Disk) is cause says image = image
+  recovered-image name p before now old new (Ok Applied) (Err stop.Report) is cause says image = image
+  recovered-image name p before now old new (Ok Nothing) result is cause says image = still-image (status_of result) (subst (λ (o : Result Recovered RecoverEnd). LeftBy o M S m t) is image)
+  recovered-image name p before now old new (Err (BadSidecar offset)) result is cause says image = still-image (status_of result) (subst (λ (o : Result Recovered RecoverEnd). LeftBy o M S m t) is image)
+  recovered-image name p before now old new (Err (Foreign mark kept found)) result is cause says image = still-image (status_of result) (subst (λ (o : Result Recovered RecoverEnd). LeftBy o M S m t) is image)
+  recovered-image name p before now old new (Err DiskFault) result is cause says image = subst (λ (r : Result Status CommandEnd). LeftByRecovery (status_of r) M S m t) (sym cause.0) image
+
 module _ {D : Type 0} (d : Ghosts D) where
-  abbrev pub Recovers : D → D → Type 0
-  Recovers old new = LeavesOnly d.moment d.left_since old new (IsRecovering (d.pair old).media.reads (d.pair old).sidecar.reads)
+  abbrev pub Recovers : Status → D → D → Type 0
+  Recovers e old new = LeavesOnly d.moment d.left_since old new (LeftByRecovery e (d.pair old).media.reads (d.pair old).sidecar.reads)
 
   -- This is a call that leaves the pair.
-  pub opened-moment : (old new : D) → IsSynced (d.pair old) → LeavesOnly d.moment d.left_since old new (IsPairImage (d.pair old)) → Recovers old new
-  opened-moment old new synced run =
+  pub opened-moment : (e : Status) (old new : D) → IsSynced (d.pair old) → LeavesOnly d.moment d.left_since old new (IsPairImage (d.pair old)) → Recovers e old new
+  opened-moment e old new synced run =
       let M = (d.pair old).media.reads in let S = (d.pair old).sidecar.reads in
-      weaker d.moment d.left_since old new (IsPairImage (d.pair old)) (IsRecovering M S) (λ m s image. recovering-same M S m s (both_image (d.pair old) m s synced image)) run
-
-  -- The disk isn't touched.
-  pub untouched : (old new : D) → IsSynced (d.pair old) → ((m s : List ℕ) → d.left_since old (d.moment old) m s → IsPairImage (d.pair old) m s) → new ≡ old → Recovers old new
-  untouched old new synced only same =
-      subst (λ x. Recovers old x) (sym same) (opened-moment old old synced (stays d.moment d.left_since old (IsPairImage (d.pair old)) only))
+      weaker d.moment d.left_since old new (IsPairImage (d.pair old)) (LeftByRecovery e M S) (λ m s image. still-image M S m s e (both_image (d.pair old) m s synced image)) run
 
   -- A recovery follows a call that leaves the pair.
   pub recovery-then : (old mid new : D) (s : Status) → AtRest d old → (IsTrue d.told → d.pair mid ≡ d.pair old) → (IsTrue d.told → LeavesOnly d.moment d.left_since old mid (IsPairImage (d.pair old))) → IsRecovery d mid new s → IsRecovery d old new s
   recovery-then old mid new s rest pair run recovery = record {
     pair = λ told. subst (λ (p : Pair). LeavesPair s p.media.reads p.sidecar.reads (d.pair new)) (pair told) (recovery.pair told);
     any_moment = λ told.
-        joined d.moment d.left_since old mid new (IsRecovering (d.pair old).media.reads (d.pair old).sidecar.reads) (opened-moment old mid (rest told) (run told))
-        (subst (λ (p : Pair). LeavesOnly d.moment d.left_since mid new (IsRecovering p.media.reads p.sidecar.reads)) (pair told) (recovery.any_moment told));
+        joined d.moment d.left_since old mid new (LeftByRecovery s (d.pair old).media.reads (d.pair old).sidecar.reads) (opened-moment s old mid (rest told) (run told))
+        (subst (λ (p : Pair). LeavesOnly d.moment d.left_since mid new (LeftByRecovery s p.media.reads p.sidecar.reads)) (pair told) (recovery.any_moment told));
   }
 
   -- Nothing was recovered, and the pair is left.
   pub recovery-none : (old new : D) (s : Status) → AtRest d old → ((M S : List ℕ) (p : Pair) → p ≡ both M S → LeavesPair s M S p) → (IsTrue d.told → d.pair new ≡ d.pair old) → (IsTrue d.told → LeavesOnly d.moment d.left_since old new (IsPairImage (d.pair old))) → IsRecovery d old new s
   recovery-none old new s rest leaves pair run = record {
     pair = λ told. leaves (d.pair old).media.reads (d.pair old).sidecar.reads (d.pair new) (pair told ∙ rest told);
-    any_moment = λ told. opened-moment old new (rest told) (run told);
+    any_moment = λ told. opened-moment s old new (rest told) (run told);
   }
 
   -- The same holds for a disk that isn't touched.

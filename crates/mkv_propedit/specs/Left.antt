@@ -17,7 +17,7 @@ use Rattle.sidecar_edit.specs.Fields.{IsMadeFor, IsPlan, Planned, body_of, write
 use Rattle.sidecar_edit.specs.Gate.{state}
 use Rattle.sidecar_edit.specs.Recovery.{IsQuiet, recovered}
 use Rattle.sidecar_edit.specs.Writes.{Write, applied}
-use Rattle.sidecar_edit.specs.Leaves.{IsRecoverable}
+use Rattle.sidecar_edit.specs.Leaves.{IsEditing, IsRecoverable}
 use Rattle.edit_changes.specs.declared.refusal.Refusal.{Refusal}
 use Rattle.edit_changes.specs.Plan.{plan_of, recorded}
 use Rattle.mkv_io.specs.Sources.{file_size}
@@ -61,12 +61,19 @@ pub record IsUnderway (found : List ℕ → Result (List Write) Refusal) (M S m 
 abbrev pub IsBeingEdited : (List ℕ → Result (List Write) Refusal) → List ℕ → List ℕ → List ℕ → List ℕ → Type 0
 IsBeingEdited found M S m s = ((m ≡ M) × (s ≡ S)) ⊎ IsUnderway found M S m s
 
+-- A crash image of an edit of file `M` beside journal `S` that ended with status `e`: both as they were if it was refused or ran out of memory,
+-- else an image of an edit.
+abbrev pub LeftByEdit : Status → (List ℕ → Result (List Write) Refusal) → List ℕ → List ℕ → List ℕ → List ℕ → Type 0
+LeftByEdit status.Refused found M S m s = (m ≡ M) × (s ≡ S)
+LeftByEdit status.NoMemory found M S m s = (m ≡ M) × (s ≡ S)
+LeftByEdit e found M S m s = IsBeingEdited found M S m s
+
 -- ---- after the end and at any moment
 
 -- The effect of an edit on the two files after its end, and the crash images at any moment.
 pub record IsEdit {D : Type 0} (d : Ghosts D) (found : List ℕ → Result (List Write) Refusal) (old new : D) (s : Status) : Type 0 where
   pub pair : OfReads d old (λ M S. LeavesEdited s found M S (d.pair new))
-  pub any_moment : AnyMoment d old new (IsBeingEdited found)
+  pub any_moment : AnyMoment d old new (LeftByEdit s found)
 
 -- The same for a name: the pair is open under it, or couldn't be opened.
 pub record IsEditOf {D : Type 0} (r : reads.Ghosts D) (d : Ghosts D) (name : List ℕ) (found : List ℕ → Result (List Write) Refusal) (old new : D) (s : Status) : Type 0 where
@@ -95,6 +102,12 @@ abbrev pub LeavesPlanned : Status → Planned → List ℕ → List ℕ → Pair
 LeavesPlanned status.Done plan M S p = p ≡ both (applied M (writes_of plan)) (0 ∷ [])
 LeavesPlanned status.Outside plan M S p = Unit {0}
 LeavesPlanned s plan M S p = p ≡ both M S
+
+-- A crash image of the execution of `plan` for file `M` beside journal `S` that ended with status `e`: both as they were if it ran out of memory.
+abbrev pub LeftByPlan : Status → Planned → List ℕ → List ℕ → List ℕ → List ℕ → Type 0
+LeftByPlan status.Refused plan M S m s = (m ≡ M) × (s ≡ S)
+LeftByPlan status.NoMemory plan M S m s = (m ≡ M) × (s ≡ S)
+LeftByPlan e plan M S m s = IsEditing plan M m s
 
 -- Printing the result is stopped by the disk if the disk failed; if not, memory for the message exists.
 abbrev pub HasMadeCause : {A E T : Type 0} → Result A E → ℕ → ℕ → Result T CommandEnd → Type 0

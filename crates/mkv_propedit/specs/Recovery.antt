@@ -29,10 +29,16 @@ LeavesPair status.Done M S p = p ≡ both (recovered M S) (sidecar_after (recove
 LeavesPair status.Outside M S p = Unit {0}
 LeavesPair s M S p = p ≡ both M S
 
+-- A crash image of a recovery of file `M` with journal `S` that ended with status `e`: both as they were if it ran out of memory.
+abbrev pub LeftByRecovery : Status → List ℕ → List ℕ → List ℕ → List ℕ → Type 0
+LeftByRecovery status.Refused M S m s = (m ≡ M) × (s ≡ S)
+LeftByRecovery status.NoMemory M S m s = (m ≡ M) × (s ≡ S)
+LeftByRecovery e M S m s = IsRecovering M S m s
+
 -- The effect of a recovery on the two files after its end, and the crash images at any moment of it.
 pub record IsRecovery {D : Type 0} (d : Ghosts D) (old new : D) (s : Status) : Type 0 where
   pub pair : OfReads d old (λ M S. LeavesPair s M S (d.pair new))
-  pub any_moment : AnyMoment d old new IsRecovering
+  pub any_moment : AnyMoment d old new (LeftByRecovery s)
 
 -- The pair wasn't opened, and nothing has changed: it doesn't exist, or a call failed.
 pub record IsUnopened {D : Type 0} (r : reads.Ghosts D) (d : Ghosts D) (name : List ℕ) (old new : D) (s : Status) : Type 0 where

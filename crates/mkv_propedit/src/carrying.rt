@@ -14,7 +14,7 @@ ghost use Rattle.mkv_propedit.specs.Recovery.{HasDiskStop};
 ghost use Rattle.sidecar_edit.specs.Fields.{writes_of};
 ghost use Rattle.sidecar_edit.specs.Writes.{applied};
 ghost use Rattle.sidecar_edit.specs.Leaves.{IsEditing};
-ghost use Rattle.mkv_propedit.specs.Left.{IsPlannedFor, LeavesPlanned};
+ghost use Rattle.mkv_propedit.specs.Left.{IsPlannedFor, LeavesPlanned, LeftByPlan};
 
 use crate::telling::{line_text, tell};
 use mkv_disk::Disk;
@@ -38,7 +38,7 @@ pub fn edit_planned<D: Disk, R: Report>(
     ensures verdict { SaysVerdict (R.lines report.old) (R.lines report.new) result (done (text_of line.now ∷ [])) }
     ensures ordinary { IfOk result IsOrdinary }
     ensures pair { OfReads D.Disk.own disk.old (λ M S. LeavesPlanned (status_of result) plan.now M S (D.pair disk.new)) }
-    ensures any_moment { AnyMoment D.Disk.own disk.old disk.new (λ M S m s. IsEditing plan.now M m s) }
+    ensures any_moment { AnyMoment D.Disk.own disk.old disk.new (LeftByPlan (status_of result) plan.now) }
     ensures only { OnlyWrites D.Reads D.Disk.own disk.old disk.new }
     ensures cause { HasDiskStop D.Reads D.Disk.own disk.old disk.new (R.faults report.old) (R.faults report.new) result }
     ensures last { SaysLast (R.lines report.old) (R.lines report.new) result }

@@ -143,16 +143,16 @@ module _ {D : Type 0} (r : reads.Ghosts D) (d : disks.Ghosts D) (a b : D) (readi
 -- ---- what a crash leaves
 
 -- a disk that isn't touched is left as it was
-untouched : {D : Type 0} (d : disks.Ghosts D) (old new : D) → AtRest d old → ((m s : List ℕ) → IsTrue d.told → d.left_since old (d.moment old) m s → IsPairImage (d.pair old) m s) → new ≡ old → AnyMoment d old new (LeftOnTheWay nothing)
-untouched d old now rest only same = λ told.
-    subst (λ x. LeavesOnly d.moment d.left_since old x (LeftOnTheWay nothing (d.pair old).media.reads (d.pair old).sidecar.reads)) (sym same)
-    (stays d.moment d.left_since old (LeftOnTheWay nothing (d.pair old).media.reads (d.pair old).sidecar.reads) (λ m s left. both_image (d.pair old) m s (rest told) (only m s told left)))
+untouched : {D : Type 0} (e : Status) (d : disks.Ghosts D) (old new : D) → AtRest d old → ((m s : List ℕ) → IsTrue d.told → d.left_since old (d.moment old) m s → IsPairImage (d.pair old) m s) → new ≡ old → AnyMoment d old new (LeftOnTheWay nothing e)
+untouched e d old now rest only same = λ told.
+    subst (λ x. LeavesOnly d.moment d.left_since old x (LeftOnTheWay nothing e (d.pair old).media.reads (d.pair old).sidecar.reads)) (sym same)
+    (stays d.moment d.left_since old (LeftOnTheWay nothing e (d.pair old).media.reads (d.pair old).sidecar.reads) (λ m s left. both_image (d.pair old) m s (rest told) (only m s told left)))
 
 -- a crash leaves what it may on the way of what is done
 pub touches-moment : {F D : Type 0} (r : reads.Ghosts D) (d : disks.Ghosts D) (reach : Reach) (before after : F) (old new : D) (s : Status)
-    → AtRest d old → ((m s : List ℕ) → IsTrue d.told → d.left_since old (d.moment old) m s → IsPairImage (d.pair old) m s) → Touches r d reach before after old new s → AnyMoment d old new (LeftOnTheWay reach)
-touches-moment r d nothing before after was now s rest only touches = untouched d was now rest only touches.1
-touches-moment r d files before after was now s rest only touches = untouched d was now rest only touches
+    → AtRest d old → ((m s : List ℕ) → IsTrue d.told → d.left_since old (d.moment old) m s → IsPairImage (d.pair old) m s) → Touches r d reach before after old new s → AnyMoment d old new (LeftOnTheWay reach s)
+touches-moment r d nothing before after was now s rest only touches = untouched s d was now rest only touches.1
+touches-moment r d files before after was now s rest only touches = untouched s d was now rest only touches
 touches-moment r d (recovered name) before after was now s rest only touches = touches.1.leaves.any_moment
 touches-moment r d (edited name edits) before after was now s rest only touches = touches.1.leaves.any_moment
 touches-moment r d (indexed name) before after was now s rest only touches = touches.1.leaves.any_moment

@@ -48,5 +48,5 @@ ReadsToObey r f s d files files' disk disk' command =
     ReadsWithin (f.names files) (disk_world d disk) command (r.octets_read files + s.octets_read disk) (r.octets_read files' + s.octets_read disk')
 
 -- A crash at any moment leaves what it may on the way, where nothing was pending.
-abbrev pub CrashLeaves : {D : Type 0} → DiskGhosts D → D → D → Reach → Type 0
-CrashLeaves d old new reach = AtRest d old → AnyMoment d old new (LeftOnTheWay reach)
+abbrev pub CrashLeaves : {D : Type 0} → DiskGhosts D → D → D → Reach → Status → Type 0
+CrashLeaves d old new reach e = AtRest d old → AnyMoment d old new (LeftOnTheWay reach e)

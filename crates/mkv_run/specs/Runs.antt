@@ -107,9 +107,10 @@ pub record Runs (words : List (List ℕ)) (before after : Outside) (s : Status) 
   -- Merging such an output again, by itself and without options, gives the same bytes, if the first merge used only default options.
   pub merge_is_repeatable : MergesAgain before.names words after.names s
   -- A crash at any moment leaves the file and its journal as they were, or as an edit or a recovery can leave them on its way; either way
-  -- `recover` makes the old file or the edited one of them. This is promised if the disk is visible to the proof and had nothing left to sync.
+  -- `recover` makes the old file or the edited one of them. If the run is refused or out of memory, it leaves them as they were. This is
+  -- promised if the disk is visible to the proof and had nothing left to sync.
   pub survives_crashes : IsTrue before.tells → IsSynced before.disk.pair
-      → CrashLeavesOnly before after (LeftOnTheWay (reach_in (command words)) before.disk.pair.media.reads before.disk.pair.sidecar.reads)
+      → CrashLeavesOnly before after (LeftOnTheWay (reach_in (command words)) s before.disk.pair.media.reads before.disk.pair.sidecar.reads)
 
 -- The exit status `code` of the program is the number of a status with which a run ends.
 pub record Exits (words : List (List ℕ)) (before after : Outside) (code : ℕ) : Type 0 where

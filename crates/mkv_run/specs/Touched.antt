@@ -7,9 +7,8 @@ use Rattle.word_values.specs.declared.usage.Usage.{Usage}
 use Rattle.mkv_args.specs.declared.command.Command.{Command}
 use Rattle.mkv_args.specs.declared.command.Command.TheVariants.{Explain, Extract, Generate, Help, Identify, Info, Merge, Propedit, Recover, Reindex, Version}
 use Rattle.mkv_lines.specs.declared.status.Status.{Status}
-use Rattle.sidecar_edit.specs.Recovering.{IsRecovering}
-use Rattle.mkv_propedit.specs.Recovery.{IsRecoveryOf}
-use Rattle.mkv_propedit.specs.Left.{IsBeingEdited, IsEditOf, writes_of_edits}
+use Rattle.mkv_propedit.specs.Recovery.{IsRecoveryOf, LeftByRecovery}
+use Rattle.mkv_propedit.specs.Left.{IsEditOf, LeftByEdit, writes_of_edits}
 use Rattle.mkv_propedit.specs.Reindex.{writes_of_index}
 use Rattle.mkv_run.specs.Kept.{EditKeepsRest, IndexKeepsRest}
 use Rattle.mkv_lines.specs.Code.{status_of}
@@ -64,9 +63,9 @@ abbrev pub Touched : {F D : Type 0} → reads.Ghosts D → disks.Ghosts D → Re
 Touched r d reach old new disk disk_now result = Touches r d reach old new disk disk_now (status_of result)
 
 -- What a crash at any moment of it may leave of a file M beside a sidecar S.
-abbrev pub LeftOnTheWay : Reach → List ℕ → List ℕ → List ℕ → List ℕ → Type 0
-LeftOnTheWay nothing M S m s = (m ≡ M) × (s ≡ S)
-LeftOnTheWay files M S m s = (m ≡ M) × (s ≡ S)
-LeftOnTheWay (recovered file) M S m s = IsRecovering M S m s
-LeftOnTheWay (edited file edits) M S m s = IsBeingEdited (writes_of_edits edits) M S m s
-LeftOnTheWay (indexed file) M S m s = IsBeingEdited writes_of_index M S m s
+abbrev pub LeftOnTheWay : Reach → Status → List ℕ → List ℕ → List ℕ → List ℕ → Type 0
+LeftOnTheWay nothing e M S m s = (m ≡ M) × (s ≡ S)
+LeftOnTheWay files e M S m s = (m ≡ M) × (s ≡ S)
+LeftOnTheWay (recovered file) e M S m s = LeftByRecovery e M S m s
+LeftOnTheWay (edited file edits) e M S m s = LeftByEdit e (writes_of_edits edits) M S m s
+LeftOnTheWay (indexed file) e M S m s = LeftByEdit e writes_of_index M S m s

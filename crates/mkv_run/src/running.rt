@@ -86,7 +86,7 @@ fn run_to_end<F: Files, D: Disk, R: Report>(
 
     // What a crash at any moment leaves of the two files of the disk, where nothing was pending: after an edit they come to
     // the file as it was or as it is to be, and where one is recovered to what they came to.
-    ensures any_moment { CrashLeaves D.Disk.own disk.old disk.new (reach_for words.now.items) }
+    ensures any_moment { CrashLeaves D.Disk.own disk.old disk.new (reach_for words.now.items) result }
 {
     outputs_are_written_again();
     match carry_out(alloc, words, files, disk, report) {

@@ -1,4 +1,4 @@
-use Rattle.std.proofs.Common.{◌≡◌, ◌∙◌, IsTrue, Ok, List, ℕ, inr, sym, subst, arith}
+use Rattle.std.proofs.Common.{◌≡◌, ◌∙◌, IsTrue, Ok, List, ℕ, sym, subst, arith}
 use Rattle.mkv_disk.specs.Moments.{LeavesOnly}
 use Rattle.mkv_disk.specs.Pair.{IsPairImage, Pair}
 use Rattle.mkv_disk.proofs.MomentsLemmas.{weaker}
@@ -10,8 +10,8 @@ use Rattle.mkv_propedit.proofs.RecoverLemmas.{said-stop, stop-then}
 use Rattle.sidecar_edit.specs.declared.held.Gate.TheVariants.{Quiet}
 use Rattle.sidecar_edit.specs.Gate.{state}
 use Rattle.mkv_propedit.specs.Change.{record_of_change, writes_of_change}
-use Rattle.mkv_propedit.specs.Left.{IsBeingEdited, IsPlannedFor}
-use Rattle.mkv_propedit.proofs.PropeditLemmas.{edit-none, edit-then, leaves-planned, quiet-state, reads-moment, record-made, refused-left, underway}
+use Rattle.mkv_propedit.specs.Left.{IsPlannedFor, LeftByEdit, LeftByPlan}
+use Rattle.mkv_propedit.proofs.PropeditLemmas.{edit-none, edit-then, leaves-planned, quiet-state, reads-moment, record-made, planned-image, refused-left}
 use Rattle.mkv_propedit.proofs.changing.change_quiet.Given.{Over}
 use Rattle.mkv_propedit.proofs.changing.change_quiet.Goals as goal
 
@@ -64,7 +64,8 @@ returns-in-Ok-clause-edit g c =
     edit-then d found a b new (status_of c.edit_planned.result) c.requires.ready.at_rest (λ tells. left.pair) (reads g a b same) (record {
       pair = λ tells. leaves-planned M found S plan (status_of c.edit_planned.result) (d.pair new) (quiet tells) (is tells) (c.edit_planned.ensures.pair tells);
       any_moment = λ tells.
-          weaker d.moment d.left_since b new _ (IsBeingEdited found M S) (λ m s editing. inr (underway M found S m s plan (quiet tells) (is tells) editing)) (c.edit_planned.ensures.any_moment tells);
+          let e = status_of c.edit_planned.result in
+          weaker d.moment d.left_since b new (LeftByPlan e plan M S) (LeftByEdit e found M S) (λ m t image. planned-image M found S m t plan e (quiet tells) (is tells) image) (c.edit_planned.ensures.any_moment tells);
     })
 
 pub returns-in-Ok-clause-stays : goal.returns-in-Ok-clause-stays

@@ -20,5 +20,5 @@ returns g c =
       output_holds_the_merge = did.merged.well;
       merge_is_repeatable = did.merged.again;
       survives_crashes = λ told synced. crash-seen g.F.Reads g.F.Files g.D.Reads g.D.Disk g.R.Report c.args.files.now c.run_to_end.new.files c.args.disk.now c.run_to_end.new.disk
-          c.args.report.now c.run_to_end.new.report g.met.D.Disk.pair_stands g.met.D.Disk.opened_stands (LeftOnTheWay reach pair.media.reads pair.sidecar.reads) (did.any_moment (λ is. synced) told);
+          c.args.report.now c.run_to_end.new.report g.met.D.Disk.pair_stands g.met.D.Disk.opened_stands (LeftOnTheWay reach c.run_to_end.result pair.media.reads pair.sidecar.reads) (did.any_moment (λ is. synced) told);
     }
