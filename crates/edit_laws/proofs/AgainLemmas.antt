@@ -1,4 +1,4 @@
--- What is written of Info and Tracks is read again, in its normal form.
+-- Info and Tracks are read in their normal form after they are written.
 use Rattle.std.proofs.Common.{◌≡◌, ◌<◌, ◌≤◌, ℕ, ◌+◌, List, length, flat_map, Option, Some, Result, Ok, refl, sym, ◌∙◌, ap, arith}
 use Rattle.std.specs.Option.{option_map}
 use Rattle.mkv_io.specs.declared.damage.Damage.{Damage}
@@ -17,7 +17,7 @@ use Rattle.output_model.specs.Element.{Element, HoldsAt, octets_of, header_in_pl
 use Rattle.output_model.proofs.ReadLemmas.{body_of-read}
 use Rattle.meta_records.specs.Records.{tree_at}
 
--- A master whose children can be written and read again.
+-- A master with the ID `id` and the children `nodes` can be written and read again.
 pub record CanBeRead (id : ℕ) (nodes : List Node) : Type 0 where
   pub stand : AllStandIn id (nodes_of nodes)
   pub shallow : depth_all (nodes_of nodes) < deepest

@@ -1,4 +1,4 @@
--- One of a list.
+-- An item of a list.
 use Rattle.std.proofs.Common.{inl, inr, ◌≡◌, ◌⊎◌, Bool, true, false, if◌then◌else◌, List, [], ◌∷◌, ◌++◌, find, All, Some, refl, sym, ◌∙◌, ap, subst}
 use Rattle.std.proofs.lemmas.List.Elements.{All-head, All-tail}
 
@@ -6,7 +6,7 @@ abbrev pub IsAmong : {X : Type 0} → List X → X → Type 0
 IsAmong [] x = ⊥
 IsAmong (y ∷ ys) x = (y ≡ x) ⊎ IsAmong ys x
 
--- what all have, one has
+-- A fact about all items holds for one.
 pub all-among : {X : Type 0} (P : X → Type 0) (xs : List X) (x : X) → All P xs → IsAmong xs x → P x
 all-among P [] x all among = absurd among
 all-among P (y ∷ ys) x all (inl same) = subst P same (All-head P y ys all)
@@ -21,7 +21,7 @@ pub among-right : {X : Type 0} (xs ys : List X) (x : X) → IsAmong ys x → IsA
 among-right [] ys x among = among
 among-right (y ∷ xs) ys x among = inr (among-right xs ys x among)
 
--- the first that passes a test
+-- The first item that passes a test.
 pub first-among : {X : Type 0} (passes : X → Bool) (xs : List X) (x : X) → find passes xs ≡ Some x → IsAmong xs x × (passes x ≡ true)
 first-among passes [] x found = absurd (cc)
 first-among passes (y ∷ ys) x found = of (first-among passes ys x) (passes y) refl found

@@ -1,4 +1,4 @@
--- A file whose Cues are written anew holds what it held, and its index.
+-- A file whose Cues are rewritten holds its old content and its index.
 use Rattle.std.proofs.Common.{inl, inr, ◌≡◌, ◌⊎◌, ◌≤◌, ℕ, ◌+◌, ◌-◌, ◌==◌, ◌&&◌, nat_lt, Bool, true, false, if◌then◌else◌, List, [], ◌∷◌, ◌++◌, length, map, filter, flat_map, All, Option, Some, None, Result, Ok, Err, refl, sym, ◌∙◌, ap, ap₂, subst, arith}
 use Rattle.std.specs.Bool.{⊤}
 use Rattle.std.specs.List.{Contains}
@@ -50,13 +50,13 @@ use Rattle.edit_laws.proofs.ItemLemmas.{names}
 
 -- ---- an undamaged file
 
--- what was found are blocks, and nothing is wrong
+-- Only blocks were found, and no damage.
 abbrev AreBlocks : List Found → Type 0
 AreBlocks [] = ⊤
 AreBlocks (Ok b ∷ found) = AreBlocks found
 AreBlocks (Err d ∷ found) = ⊥
 
--- No damage ends level 1, and none stands in a Cluster.
+-- No damage ends level 1, and no Cluster has any.
 record AreUndamaged (r : Rules) (bytes : List ℕ) (e : ℕ) (list : List Header) (wrong : Option Damage) : Type 0 where
   level : wrong ≡ None
   clusters : (h : Header) → (h.id == CLUSTER) ≡ true → IsAmong list h → AreBlocks (found_in r bytes e h)
@@ -98,7 +98,7 @@ events-undamaged : (r : Rules) (bytes : List ℕ) (segment : Header) → damages
 unfolding events_of
 events-undamaged r bytes segment is = among-undamaged r bytes (segment_bound bytes segment) (segment_run bytes segment).list (segment_run bytes segment).damage is
 
--- what is alike and has no damage is the same
+-- Lists that are alike and have no damage are equal.
 alike-same : (xs ys : List Found) → AreBlocks xs → AreAlike xs ys → xs ≡ ys
 alike-same [] [] are alike = refl
 alike-same [] (y ∷ ys) are alike = absurd alike
@@ -107,9 +107,9 @@ alike-same (Ok x ∷ xs) (Ok y ∷ ys) are alike = ap₂ (λ (b : Block) (bs : L
 alike-same (Ok x ∷ xs) (Err d ∷ ys) are alike = absurd alike
 alike-same (Err d ∷ xs) ys are alike = absurd are
 
--- ---- the points
+-- ---- cue points
 
--- the Cluster before a place is one of the list
+-- The Cluster before a place is in the list.
 before-ahead : (at : ℕ) (list : List Header) (c : Header) → cluster_before at list ≡ Some c → IsAmong list c
 before-ahead at [] c is = absurd (cc)
 before-ahead at (h ∷ hs) c is = of (cluster_before at hs) (before-ahead at hs c) (h.id == CLUSTER && nat_lt h.offset at) is
@@ -119,12 +119,12 @@ before-ahead at (h ∷ hs) c is = of (cluster_before at hs) (before-ahead at hs 
     of None further true is = inl (cc)
     of None further false is = absurd (cc)
 
--- the scale of what was read of an Info
+-- the scale of an Info that was read
 abbrev scale_read : Result (Option Node) Damage → ℕ
 scale_read (Ok info) = scale_of_info info
 scale_read (Err d) = DEFAULT_SCALE
 
--- The scale is that of the first Info as a tree.
+-- The scale of a file is the scale of its first Info as a tree.
 scale-tree : (bytes : List ℕ) (segment : Header) → file_scale bytes segment ≡ scale_read (first_tree INFO bytes segment)
 unfolding file_scale
 scale-tree bytes segment = of (first_of INFO (segment_run bytes segment).list)
@@ -155,7 +155,7 @@ module _ (bytes : List ℕ) (f : EditableFile) (is : indexable bytes ≡ Ok f) w
   first : AreFirst bytes segment f.trees
   first = trees-first bytes segment f.trees (indexable-whole bytes f is).trees
 
-  -- a point of the old file points at the same block in the new one
+  -- A cue point of the old file points at the same block in the new one.
   point-holds : (new : List ℕ) (h : HoldsCues bytes new f.outline (index_points bytes segment f.trees.tracks)) (b : Block) (at : IsAtTick bytes segment b) → is_indexed (indexed_tracks f.trees.tracks) b ≡ true
       → PointsAt scale new h.rest.segment (point_in scale segment.body b at.cluster) at.cluster b
   point-holds new h b at indexed =
@@ -175,7 +175,7 @@ module _ (bytes : List ℕ) (f : EditableFile) (is : indexable bytes ≡ Ok f) w
         time = indexed-time bytes segment (indexed_tracks f.trees.tracks) b at indexed;
       }
 
-  -- the SeekHead tells where the first Elements are
+  -- The SeekHead has the Seeks of the first elements.
   tells-of : (new : List ℕ) (h : HoldsCues bytes new f.outline (index_points bytes segment f.trees.tracks)) → HasSeeksOf index_ids bytes new segment h.rest.segment
   tells-of new h =
       let w = h.seeks in
@@ -227,7 +227,7 @@ module _ (bytes : List ℕ) (f : EditableFile) (is : indexable bytes ≡ Ok f) w
       (cues-hold bytes are_octets short f.outline ws op (op.damage ∙ undamaged.level) (in-order (length bytes) 0 ws plan.sound.order) outside (subst (λ l. number_of CUES l ≤ 1) op.others alone) points
       (ap (λ l. writes_of_parts index_ids true bytes f.outline (cues_parts l (first_of CUES l) (new_cues points))) (sym op.others) ∙ written))
 
--- A file whose Cues are written anew holds what it held, and its index.
+-- A file whose Cues are rewritten holds its old content and its index.
 pub index-whole : NewIndexIsWhole
 index-whole old f x are_octets short outside found is =
     let points = index_points old f.outline.segment f.trees.tracks in

@@ -1,4 +1,4 @@
--- The attached files of an Attachments Element that two contents share.
+-- The attached files of an Attachments element that two contents share.
 use Rattle.std.proofs.Common.{is_none, ◌≡◌, ◌==◌, ℕ, ◌+◌, Bool, true, false, if◌then◌else◌, List, [], ◌∷◌, map, filter, flat_map, All, Option, Some, None, Result, Ok, Err, refl, sym, ◌∙◌, ap, subst}
 use Rattle.std.specs.Option.{is_some, option_map_or}
 use Rattle.std.proofs.lemmas.List.Elements.{All-head, All-tail, All-filter, All-weaker}
@@ -38,7 +38,7 @@ module _ (a b : List ℕ) where
   list-same : (h : Header) → IsHeld a b h → (children_of b h).list ≡ (children_of a h).list
   list-same h own = sym (children-held h own).alike.list
 
-  -- ---- what an AttachedFile says
+  -- ---- children of an AttachedFile
 
   leaf-same : (h : Header) → IsHeld a b h → leaf_of b h ≡ leaf_of a h
   leaf-same h own = ap (λ (o : List ℕ). leaf h.id 0 (if h.id == FILE_DATA then [] else o)) (shared-body a b h own.shared)
@@ -57,7 +57,7 @@ module _ (a b : List ℕ) where
       ap (λ (n : Node). record { uid = uint_in FILE_UID n; at = option_map_or (λ (d : Header). d.body) (data_in b h) 0; len = option_map_or (λ (d : Header). known d.size) (data_in b h) 0; entry = n }) (entry-same h own)
       ∙ ap (λ (o : Option Header). record { uid = uint_in FILE_UID (entry_of a h); at = option_map_or (λ (d : Header). d.body) o 0; len = option_map_or (λ (d : Header). known d.size) o 0; entry = entry_of a h }) (data-same h own)
 
-  -- ---- what is met
+  -- ---- results
 
   ended-met : (one two : Option Damage) → is_some one ≡ is_some two → AreAlike (ended one) (ended two)
   ended-met None None same = tt

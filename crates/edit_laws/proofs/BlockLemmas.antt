@@ -1,4 +1,4 @@
--- What a child of a Cluster gives, where two contents share its octets.
+-- The blocks of a child of a Cluster, if two contents share its bytes.
 use Rattle.std.proofs.Common.{◌≡◌, ◌≤◌, ℕ, ◌*◌, ◌==◌, not, Bool, true, false, if◌then◌else◌, List, [], ◌∷◌, ◌++◌, length, map, filter, find, flat_map, All, Option, Some, None, Result, Ok, Err, refl, sym, ◌∙◌, ap, ap₂, subst, arith}
 use Rattle.std.specs.Bool.{⊤}
 use Rattle.std.specs.Option.{is_some, option_map}
@@ -21,7 +21,7 @@ use Rattle.edit_laws.proofs.AmongLemmas.{all-among, first-among}
 use Rattle.edit_laws.proofs.SameLemmas.{AreSame, same-part}
 use Rattle.edit_laws.proofs.RunLemmas.{AreAlikeRuns, runs-alike, run-inside, StandsInside}
 
--- ---- what two functions that agree make of a list
+-- ---- two functions that agree on a list
 
 pub find-same : {X : Type 0} (p q : X → Bool) (xs : List X) → All (λ x. p x ≡ q x) xs → find p xs ≡ find q xs
 find-same p q [] same = refl
@@ -45,9 +45,9 @@ flat_map-same : {X A : Type 0} (f g : X → List A) (xs : List X) → All (λ x.
 flat_map-same f g [] same = refl
 flat_map-same f g (x ∷ xs) same = ap₂ (λ y ys. y ++ ys) (All-head (λ x. f x ≡ g x) x xs same) (flat_map-same f g xs (All-tail (λ x. f x ≡ g x) x xs same))
 
--- ---- what is found
+-- ---- results
 
--- the same ones, up to the first thing that is wrong
+-- The lists are equal up to the first damage.
 abbrev pub AreAlike : {X : Type 0} → List (Result X Damage) → List (Result X Damage) → Type 0
 AreAlike [] [] = ⊤
 AreAlike [] (y ∷ ys) = ⊥
@@ -57,7 +57,7 @@ AreAlike (Ok x ∷ xs) (Err d ∷ ys) = ⊥
 AreAlike (Err c ∷ xs) (Ok y ∷ ys) = ⊥
 AreAlike (Err c ∷ xs) (Err d ∷ ys) = ⊤
 
--- the same block, or something that is wrong
+-- Both are the same block, or both are damage.
 abbrev IsAlike : Found → Found → Type 0
 IsAlike x y = AreAlike (x ∷ []) (y ∷ [])
 
@@ -79,9 +79,9 @@ alike-append (Ok x ∷ xs) (Err d ∷ ys) us vs one two = absurd one
 alike-append (Err c ∷ xs) (Ok y ∷ ys) us vs one two = absurd one
 alike-append (Err c ∷ xs) (Err d ∷ ys) us vs one two = tt
 
--- ---- an Element that two contents share
+-- ---- an element that two contents share
 
--- its header and its body are the same
+-- The header and the body of `h` are the same in `a` and `b`.
 pub record IsShared (a b : List ℕ) (h : Header) : Type 0 where
   pub same : AreSame a b h.offset (stated_end h)
   pub header : h.offset ≤ h.body
@@ -154,7 +154,7 @@ module _ (a b : List ℕ) (children : List Header) (shared : All (IsShared a b) 
       (All-weaker (IsShared a b) (λ h. not (is_known_value parent h.id (body_of b h)) ≡ not (is_known_value parent h.id (body_of a h)))
       (λ h is. ap (λ o. not (is_known_value parent h.id o)) (shared-body a b h is)) children shared))
 
--- the block of these children, and the Block among them
+-- The block of the children, and the Block among them.
 behind-children : (r : Rules) (a b : List ℕ) (timestamp : ℕ) (h : Header) (children : List Header) → All (IsShared a b) children
     → and_then (block_or h (first_of BLOCK children)) (group_among r b timestamp h.offset children) ≡ and_then (block_or h (first_of BLOCK children)) (group_among r a timestamp h.offset children)
 behind-children r a b timestamp h children shared = of (first_of BLOCK children) refl
@@ -164,7 +164,7 @@ behind-children r a b timestamp h children shared = of (first_of BLOCK children)
     of None is = refl
     of (Some block) is = among-same a b children shared r timestamp h.offset block (all-among (IsShared a b) children block shared (first-among (λ c. c.id == BLOCK) children block is).0)
 
--- with the children of a run, or what refuses them
+-- The same with the children of a run, or its damage.
 children-alike : (r : Rules) (a b : List ℕ) (timestamp : ℕ) (h : Header) (x y : Run) → AreAlikeRuns x y → All (IsShared a b) x.list
     → IsAlike (and_then (unless (group_refusal a x) x.list) (λ children. and_then (block_or h (first_of BLOCK children)) (group_among r a timestamp h.offset children)))
     (and_then (unless (group_refusal b y) y.list) (λ children. and_then (block_or h (first_of BLOCK children)) (group_among r b timestamp h.offset children)))
@@ -201,7 +201,7 @@ group-alike r a b timestamp h within within' shared = of (timestamp_for r timest
 
 -- ---- the children of a Cluster
 
--- an Element that two contents share, and which ends within both
+-- Two contents share the element `h`, which ends within both.
 pub record IsHeld (a b : List ℕ) (h : Header) : Type 0 where
   pub shared : IsShared a b h
   pub left : stated_end h ≤ length a

@@ -1,4 +1,4 @@
--- The blocks of a Cluster whose octets two contents share.
+-- The blocks of a Cluster whose bytes two contents share.
 use Rattle.std.proofs.Common.{◌≡◌, ◌≤◌, ℕ, Bool, true, false, if◌then◌else◌, List, [], ◌∷◌, ◌++◌, length, All, Option, Some, None, Ok, Err, refl, sym, ◌∙◌, ap, subst, arith}
 use Rattle.std.specs.Option.{is_some}
 use Rattle.std.proofs.lemmas.List.Elements.{All-head, All-tail, All-weaker}
@@ -39,7 +39,7 @@ known-alike r a b e e' h known ends within within' same =
     (subst (λ x. AreAlike (found_in_run r a None (children_in in_master a h.body (end_in e h))) (found_in_run r b None (children_in in_master b h.body x))) (sym ends)
     (known-run r a b h.body (end_in e h) within within' same))
 
--- ---- one of unknown size, in which more Elements stand
+-- ---- a Cluster of unknown size that contains more elements
 
 none-found : (r : Rules) (bytes : List ℕ) (timestamp : Option ℕ) (hs : List Header) → All IsOutside hs → found_among r bytes timestamp hs ≡ []
 none-found r bytes timestamp [] none = refl
@@ -83,7 +83,7 @@ blocks-then closed (Err c ∷ xs) (Ok y ∷ ys) us vs alike rest = absurd alike
 blocks-then true (Err c ∷ xs) (Err d ∷ ys) us vs alike rest = rest
 blocks-then false (Err c ∷ xs) (Err d ∷ ys) us vs alike rest = refl
 
--- nor are there damages where there were none
+-- There is no damage if there was none before.
 pub undamaged-then : (closed closed' : Bool) (xs ys : List Found) (us vs : List Event) → AreAlike xs ys → (damages_of us ≡ [] → damages_of vs ≡ []) → damages_of (events_then closed xs us) ≡ [] → damages_of (events_then closed' ys vs) ≡ []
 undamaged-then closed closed' [] [] us vs alike rest none = rest none
 undamaged-then closed closed' [] (y ∷ ys) us vs alike rest none = absurd alike

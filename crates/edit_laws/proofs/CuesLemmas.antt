@@ -1,4 +1,4 @@
--- The Cues of a file with a new index: in the room of the old one, behind the old end, or none.
+-- The Cues of a file with a new index: in the room of the old one, after the old end, or none.
 use Rattle.std.proofs.Common.{inl, inr, ◌≡◌, ◌<◌, ◌≤◌, ℕ, ◌+◌, ◌-◌, ◌^◌, ◌==◌, ◌||◌, nat_lt, Bool, true, false, if◌then◌else◌, List, [], ◌∷◌, append-nil, length, map, replicate, All, Option, Some, None, Ok, refl, sym, ◌∙◌, ap, ap₂, subst, arith}
 use Rattle.std.specs.List.{cons_option, list_any}
 use Rattle.std.specs.Prelude.{IfSome, filter_map}
@@ -54,11 +54,11 @@ cues-valid : is_id CUES ≡ true
 unfolding is_id
 cues-valid = refl
 
--- the Cues of points
+-- the Cues element of points
 abbrev cues_of : List CuePoint → Element
 cues_of points = element CUES (joined (map point_element points))
 
--- A Cues that goes is one that has no room: in its place a Void is written, and nothing goes to the end of the file.
+-- A Cues that is removed is treated as one without room: a Void is written in its place, and nothing goes to the end of the file.
 abbrev gone : ℕ → Element
 gone room = record { id = CUES; width = 7; body = replicate room 0 }
 
@@ -87,9 +87,9 @@ gone-item others h room first short =
       };
     }
 
--- ---- its part
+-- ---- its part of the plan
 
--- one part, of no other ID
+-- A single part is a plan without a second part of its ID.
 one-part : (list : List Header) (p : Part) → IsPartOf list p → ArePartsOf list (p ∷ [])
 one-part list p is = record { few = omega arith; parts = All-cons (IsPartOf list) p [] is (All-nil (IsPartOf list)); distinct = λ i j d less below. absurd (omega arith) }
 
@@ -105,10 +105,9 @@ pub new-own : (points : List CuePoint) → IfSome (new_cues points) (λ e. e.id 
 new-own [] = tt
 new-own (p ∷ ps) = refl
 
--- ---- what the file then holds
+-- ---- new content
 
--- What a content holds of which a SeekHead and the Cues are written anew: what stays, a Cues of these points, and a SeekHead that
--- tells where they are.
+-- The content `new` holds the rest of `old`. It has a Cues element with the points `points`, or none, and a SeekHead with the new places.
 pub record HoldsCues (old new : List ℕ) (o : FileOutline) (points : List CuePoint) : Type 0 where
   pub items : List Item
   pub added : List Element
@@ -129,11 +128,11 @@ untouched-by head items added own are behind id level other seek cues = record {
   behind = All-weaker (λ (d : Element). d.id ≡ CUES) (λ (d : Element). (d.id == id) ≡ false) (λ d is. ap (λ n. n == id) is ∙ cues) added behind;
 }
 
--- what is written as the first Cues is the Cues that is read
+-- The Cues that is written is the Cues that is read.
 written-are : (new : List ℕ) (list : List Header) (p : CuePoint) (ps : List CuePoint) → IsWritten new CUES (joined (map point_element (p ∷ ps))) list → CuesAre new list (p ∷ ps)
 written-are new list p ps is = (header_in_place is.place is.element, is.first, body_of-read new is.place is.element is.held ∙ is.spells)
 
--- a Cues that stands alone behind the old end
+-- A Cues is the only element after the old end.
 alone-written : (new : List ℕ) (place : ℕ) (body : List ℕ) → HoldsAt new place (joined (element CUES body ∷ [])) → IsWritten new CUES body (headers_in_place place (element CUES body ∷ []))
 alone-written new place body held = record {
   place = place;
@@ -146,18 +145,18 @@ alone-written new place body held = record {
 
 -- ---- the SeekHead
 
--- what two functions that agree on each keep
+-- Two functions that agree on each item keep the same items.
 filter_map-same : {A B : Type 0} (f g : A → Option B) (xs : List A) → All (λ x. f x ≡ g x) xs → filter_map f xs ≡ filter_map g xs
 filter_map-same f g [] same = refl
 filter_map-same f g (x ∷ xs) same = ap₂ cons_option (All-head (λ x. f x ≡ g x) x xs same) (filter_map-same f g xs (All-tail (λ x. f x ≡ g x) x xs same))
 
--- the six IDs that the SeekHead tells of
+-- A fact about the six IDs that the SeekHead lists.
 six : (P : ℕ → Type 0) → P INFO → P TRACKS → P ATTACHMENTS → P CUES → P CHAPTERS → P TAGS → All P index_ids
 six P info tracks attachments cues chapters tags =
     All-cons P INFO (TRACKS ∷ ATTACHMENTS ∷ CUES ∷ CHAPTERS ∷ TAGS ∷ []) info (All-cons P TRACKS (ATTACHMENTS ∷ CUES ∷ CHAPTERS ∷ TAGS ∷ []) tracks
     (All-cons P ATTACHMENTS (CUES ∷ CHAPTERS ∷ TAGS ∷ []) attachments (All-cons P CUES (CHAPTERS ∷ TAGS ∷ []) cues (All-cons P CHAPTERS (TAGS ∷ []) chapters (All-cons P TAGS [] tags (All-nil P))))))
 
--- ---- what moves
+-- ---- moves
 
 abbrev cues_moves : ℕ → ℕ → Element → List Part
 cues_moves place room e = cues_part place room (Some e) ∷ []
@@ -187,14 +186,14 @@ module _ (bytes : List ℕ) (are_octets : AreOctets bytes) (short : length bytes
   abbrev new : List ℕ
   new = applied bytes ws
 
-  -- the SeekHead is no Cues
+  -- The SeekHead isn't a Cues.
   no-cues : (head : Item) → head.element.id ≡ SEEK_HEAD → All (λ (i : Item). (i.element.id == CUES) ≡ false) (head ∷ [])
   no-cues head own = All-cons (λ (i : Item). (i.element.id == CUES) ≡ false) head [] (ap (λ n. n == CUES) own) (All-nil (λ (i : Item). (i.element.id == CUES) ≡ false))
 
   none-listed : first_of CUES others ≡ None → first_of CUES list ≡ None
   none-listed none = sym (first_in-others CUES list refl) ∙ none
 
-  -- the Seeks that are written are those of the new list
+  -- The written Seeks are the Seeks of the new list.
   module _ (ps : List Part) (s : SeekHeadAt) (is : seek_head_of bytes o ≡ Some s) (items : List Item) (added : List Element) (rest : HoldsRest bytes new o list items added)
       (untouched : (id : ℕ) → ends_cluster id ≡ true → (id == CLUSTER) ≡ false → (SEEK_HEAD == id) ≡ false → (CUES == id) ≡ false → IsUntouched items added id)
       (moved : elements_moving ps ≡ added) (written : IsWritten new SEEK_HEAD (seek_head index_ids o ps (Some s)).body rest.list)
@@ -229,17 +228,17 @@ module _ (bytes : List ℕ) (are_octets : AreOctets bytes) (short : length bytes
       seeks = seeks-written;
     }
 
-  -- a Seek of a Cues, where it stands at a place
+  -- the Seek of a Cues at a place, or none
   abbrev seek_at : ℕ → ℕ → Option Seek
   seek_at id place = Some (record { id = id; position = place - o.segment.body })
 
-  -- the Seek of a Cues that stands behind the old end
+  -- The Seek of a Cues after the old end.
   added-seek : (body : List ℕ) (ns : List Header) → first_of CUES ns ≡ first_of CUES (headers_in_place (length bytes) (element CUES body ∷ []))
       → seek_at CUES o.total ≡ option_map (seek_to o.segment.body) (first_of CUES ns)
   added-seek body ns first =
       ap (seek_at CUES) op.total ∙ sym (ap (option_map (seek_to o.segment.body)) first)
 
-  -- there is none, and none is written
+  -- There was no Cues, and none is written.
   none-still : first_of CUES others ≡ None → writes_of_parts index_ids true bytes o [] ≡ Ok ws → HoldsCues bytes new o []
   none-still none made =
       let plan = writes-planned bytes o index_ids [] ws op made in
@@ -250,7 +249,7 @@ module _ (bytes : List ℕ) (are_octets : AreOctets bytes) (short : length bytes
       holds [] plan.0 plan.1 (head ∷ []) [] rest untouched refl (rest.stays head (inl refl) plan.2.reaches).0 (λ id other. refl)
       (ap (option_map (seek_to o.segment.body)) (ap (first_of CUES) op.others ∙ none ∙ sym lacks)) [] lacks
 
-  -- there is none, and one is written behind the old end
+  -- There was no Cues, and one is written after the old end.
   none-new : (p : CuePoint) (ps : List CuePoint) → first_of CUES others ≡ None → writes_of_parts index_ids true bytes o (cues_moves 0 0 (cues_of (p ∷ ps))) ≡ Ok ws → HoldsCues bytes new o (p ∷ ps)
   none-new p ps none made =
       let e = cues_of (p ∷ ps) in
@@ -270,7 +269,7 @@ module _ (bytes : List ℕ) (are_octets : AreOctets bytes) (short : length bytes
       holds parts plan.0 plan.1 (head ∷ []) (e ∷ []) rest untouched moved.1 (rest.stays head (inl refl) plan.2.reaches).0 (λ id other. rw other refl) (added-seek e.body rest.list joins)
       (p ∷ ps) (written-are new rest.list p ps (written-first new CUES e.body (headers_in_place (length bytes) (e ∷ [])) rest.list joins (alone-written new (length bytes) e.body rest.held)))
 
-  -- there is one
+  -- There was a Cues.
   module _ (h : Header) (found : first_of CUES others ≡ Some h) where
     abbrev space : ℕ
     space = span_of h others
@@ -284,14 +283,14 @@ module _ (bytes : List ℕ) (are_octets : AreOctets bytes) (short : length bytes
     space-short : space ≤ 2 ^ 48
     space-short = (let reaches = last-within bytes are_octets short o ws op undamaged order outside_all in let all = inside in omega arith)
 
-    -- the Seek of a Cues in its room
+    -- The Seek of a Cues in its room.
     placed-seek : (ns : List Header) (body : List ℕ) (w : IsWritten new CUES body ns) → w.place ≡ h.offset → option_map (seek_to o.segment.body) (first_of CUES o.others) ≡ option_map (seek_to o.segment.body) (first_of CUES ns)
     placed-seek ns body w place =
         ap (option_map (seek_to o.segment.body)) (ap (first_of CUES) op.others ∙ found)
         ∙ ap₂ seek_at (first-own CUES others h found ∙ sym w.own) (sym place)
         ∙ sym (ap (option_map (seek_to o.segment.body)) w.first)
 
-    -- none is written, so it goes
+    -- No Cues is written, so the old one is removed.
     one-gone : writes_of_parts index_ids true bytes o (cues_part h.offset space None ∷ []) ≡ Ok ws → HoldsCues bytes new o []
     one-gone made =
         let part = cues_part h.offset space None in
@@ -311,7 +310,7 @@ module _ (bytes : List ℕ) (are_octets : AreOctets bytes) (short : length bytes
         holds (part ∷ []) plan.0 plan.1 (head ∷ item ∷ []) [] rest untouched refl (rest.stays head (inl refl) plan.2.reaches).0 (λ id other. rw other refl)
         (sym (ap (option_map (seek_to o.segment.body)) lacks)) [] lacks
 
-    -- one is written, in its room or behind the old end
+    -- A Cues is written, in the old room or after the old end.
     module _ (p : CuePoint) (ps : List CuePoint) (made : writes_of_parts index_ids true bytes o (cues_moves h.offset (span_of h (others_of (segment_run bytes o.segment).list)) (cues_of (p ∷ ps))) ≡ Ok ws) where
       abbrev e : Element
       e = cues_of (p ∷ ps)
@@ -370,7 +369,7 @@ module _ (bytes : List ℕ) (are_octets : AreOctets bytes) (short : length bytes
       one-anew : HoldsCues bytes new o (p ∷ ps)
       one-anew = elim (cases_lt space (length (octets_of e))) [ inl long ↦ moves-on long | inr fits ↦ fits-in fits ]
 
-  -- Whatever is written of the Cues, the file then has a Cues of these points, and no other.
+  -- In each case the file then has a Cues element with the points, and no other.
   pub cues-hold : (points : List CuePoint) → writes_of_parts index_ids true bytes o (cues_parts others (first_of CUES others) (new_cues points)) ≡ Ok ws → HoldsCues bytes new o points
   cues-hold points made = of points (first_of CUES others) refl made
     where

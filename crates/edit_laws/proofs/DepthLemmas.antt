@@ -1,4 +1,4 @@
--- A master that is read is no deeper than one may be.
+-- The depth of a master that is read is at most the maximum.
 use Rattle.std.proofs.Common.{◌≡◌, ◌≤◌, ℕ, zero, suc, ◌-◌, ◌==◌, Bool, true, false, if◌then◌else◌, List, [], ◌∷◌, length, Ok, refl, sym, ◌∙◌, subst, arith}
 use Rattle.mkv_io.specs.declared.damage.Kind.TheVariants.{BadValue, TooMany}
 use Rattle.mkv_schema.specs.declared.element.Header.{Header}
@@ -55,7 +55,7 @@ grove-within (suc n) room left parent p (o ∷ octets) g few is =
     let P : Grove → Type 0 = λ x. depth_all (nodes_of x.trees) ≤ room in
     subst P same (omega arith)
 
--- What is known of a tree that was read.
+-- `n` is a tree with the ID `id` that was read.
 pub record IsOfTree (id : ℕ) (n : Node) : Type 0 where
   pub own : id_of n ≡ id
   pub master : IsMaster n

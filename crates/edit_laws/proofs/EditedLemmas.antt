@@ -1,4 +1,4 @@
--- Whatever edits write, the file holds what they make of it.
+-- The file holds the edited trees, with any writes of the edits.
 use Rattle.std.proofs.Common.{◌≡◌, ◌≤◌, ℕ, Bool, true, false, if◌then◌else◌, List, [], ◌∷◌, length, flat_map, All, None, Result, Ok, Err, refl, sym, ◌∙◌, ap, subst, arith}
 use Rattle.std.specs.List.{list_any}
 use Rattle.ebml_numbers.specs.Number.{AreOctets}
@@ -27,7 +27,7 @@ use Rattle.edit_laws.proofs.SectionLemmas.{AreFirst, trees-first}
 use Rattle.edit_laws.proofs.PlannedLemmas.{in-order, writes-planned}
 use Rattle.edit_laws.proofs.OutcomeLemmas.{moved-away, stayed}
 
--- the trees of a file that can be edited
+-- The trees of a file that can be edited.
 editable-trees : (bytes : List ℕ) (f : EditableFile) → editable bytes ≡ Ok f → (f.outline.damage ≡ None) × (trees_of bytes f.outline.segment ≡ Ok f.trees)
 editable-trees bytes f is =
     let first = and_then-ok (outline_in 0 bytes) _ f is in
@@ -71,14 +71,14 @@ module _ (bytes : List ℕ) (are_octets : AreOctets bytes) (short : length bytes
       of true any is = moves-away any is
       of false still is = stays still is
 
--- what edits write
+-- The writes of edits.
 planned-writes : (bytes : List ℕ) (edits : List Edit) (f : EditableFile) (t : Trees) (ws : List Write) → editable bytes ≡ Ok f → edited_trees edits f.trees ≡ Ok t → plan_of bytes edits ≡ Ok ws → writes_of_parts edit_ids false bytes f.outline (parts f.outline.others edits t) ≡ Ok ws
 unfolding plan_of
 planned-writes bytes edits f t ws found made is =
     sym (ap (λ (x : Result EditableFile Damage). and_then (if_editable x) (λ f. and_then (edited_trees edits f.trees) (λ t. writes_of_parts edit_ids false bytes f.outline (parts f.outline.others edits t)))) found
     ∙ ap (λ (x : Result Trees Refusal). and_then x (λ t. writes_of_parts edit_ids false bytes f.outline (parts f.outline.others edits t))) made) ∙ is
 
--- An edited file holds what the old one held, but for what the edits change.
+-- An edited file holds the content of the old file, except for what the edits change.
 pub nothing-else : EditsChangeNothingElse
 nothing-else old new edits f t are_octets short outside_all found made is = of (plan_of old edits) refl is
   where

@@ -1,4 +1,4 @@
--- A file to which something can be added: its Segment and its last Cluster end where it does.
+-- A file that can grow: its Segment and its last Cluster end at the end of the file.
 use Rattle.std.proofs.Common.{inl, inr, ◌≡◌, ◌⊎◌, ◌<◌, ◌≤◌, ℕ, ◌+◌, ◌-◌, ◌==◌, max, Bool, true, false, ◌||◌, if◌then◌else◌, List, [], ◌∷◌, ◌++◌, length, map, All, Option, Some, None, filter, count_by, not, nat_lt, refl, sym, ◌∙◌, ap, subst, arith}
 use Rattle.std.specs.Option.{option_map_or, option_or}
 use Rattle.std.proofs.lemmas.Bool.{cases_lt}
@@ -34,9 +34,9 @@ use Rattle.edit_laws.proofs.RoomLemmas.{last-there}
 use Rattle.edit_laws.proofs.WriteLemmas.{AreOf, extent-within, moves_from, of-moves, of-moving}
 use Rattle.lemmas.proofs.PlainLemmas.{map-none}
 
--- ---- nothing refuses it at the end
+-- ---- nothing at the end refuses it
 
--- an end that is known is the file's
+-- A known end is the end of the file.
 other-none : (total : ℕ) (h : Header) → other_end total h ≡ None → is_unknown h.size ≡ false → stated_end h ≡ total
 other-none total h none known = of (is_unknown h.size) (stated_end h == total) known refl none
   where
@@ -67,7 +67,7 @@ can-grow o is =
 
 module _ (bytes : List ℕ) (o : FileOutline) (op : IsOpened bytes o) (undamaged : o.damage ≡ None) (grow : CanGrow o) (inside : o.segment.body ≤ length bytes)
     (run : run_of (level bytes o.segment.size (segment_bound bytes o.segment)) o.segment.body ≡ whole (segment_run bytes o.segment).list (segment_run bytes o.segment).end) where
-  -- the Segment reaches to the end of the file
+  -- The Segment reaches to the end of the file.
   pub bound-total : segment_bound bytes o.segment ≡ length bytes
   bound-total = of (is_unknown o.segment.size) refl
     where
@@ -81,7 +81,7 @@ module _ (bytes : List ℕ) (o : FileOutline) (op : IsOpened bytes o) (undamaged
   over : run_of (level bytes o.segment.size (segment_bound bytes o.segment)) (segment_run bytes o.segment).end ≡ ends_at (segment_run bytes o.segment).end
   over = (tiled (level bytes o.segment.size (segment_bound bytes o.segment)) o.segment.body (segment_run bytes o.segment).end (segment_run bytes o.segment).list (advances-level bytes o.segment.size (segment_bound bytes o.segment)) run).ends
 
-  -- and so do its Elements
+  -- Its elements reach to the end of the file.
   pub last-total : (segment_run bytes o.segment).end ≡ length bytes
   last-total = of (is_unknown o.segment.size) refl (sym op.end ∙ grow.end ∙ op.total)
     where
@@ -104,7 +104,7 @@ module _ (bytes : List ℕ) (o : FileOutline) (op : IsOpened bytes o) (undamaged
             | inr reached ↦ omega arith
           ]
 
-  -- each Element ends in the file
+  -- Each element ends in the file.
   pub ends-total : (h : Header) (m : ℕ) → Stands (level bytes o.segment.size (segment_bound bytes o.segment)) h.offset h m → IsAmong (segment_run bytes o.segment).list h → stated_end h ≤ length bytes
   ends-total h m stands ahead = of (h.id == CLUSTER) refl (is_unknown h.size) refl
     where
@@ -134,7 +134,7 @@ module _ (bytes : List ℕ) (o : FileOutline) (op : IsOpened bytes o) (undamaged
 
 -- ---- the size of the Segment, and the end of the file
 
--- the size that is written stands in front of the body
+-- The written size is before the body.
 pub touches-size : (segment : Header) (end k : ℕ) → WritesOctet (size_writes segment end) k → (segment.offset + length (id_octets SEGMENT) ≤ k) × (k < segment.body)
 touches-size segment end k touched = of (is_unknown segment.size) touched
   where
@@ -147,7 +147,7 @@ pub order-front : (old from : ℕ) (xs ys : List Write) → InOrder old from (xs
 order-front old from [] ys order = tt
 order-front old from (x ∷ xs) ys order = (order.0, order.1, order.2, order-front old (end_of x) xs ys order.3)
 
--- where all but the last write stay inside the file, it ends where the last does
+-- If all writes except the last stay inside the file, the file ends where the last write ends.
 pub extent-last : (old : ℕ) (xs : List Write) (w : Write) → InOrder old 0 (xs ++ w ∷ []) → ((k : ℕ) → WritesOctet xs k → k < old) → old ≤ end_of w → extent old (xs ++ w ∷ []) ≡ end_of w
 extent-last old xs w order inside past =
     append old xs ∙ ap (λ n. max n (end_of w)) (extent-within old 0 old xs (order-front old 0 xs (w ∷ []) order) inside) ∙ (let is : max old (end_of w) ≡ end_of w = omega arith in is)
@@ -156,7 +156,7 @@ extent-last old xs w order inside past =
     append n [] = refl
     append n (x ∷ xs) = append (max n (end_of x)) xs
 
--- what all items have, what moves has
+-- A fact about all items holds for each that moves.
 pub moving-all : (Q : Element → Type 0) (list : List Header) (ps : List Part) (is : List Item) → AreOf list ps is → All (λ (i : Item). Q i.element) is → All Q (elements_moving ps)
 moving-all Q list ps is are all = subst (All Q) (sym (of-moving list ps is are)) (kept is all)
   where
@@ -226,7 +226,7 @@ alone-first id (g ∷ gs) h other few found = of (alone-first id gs h other) (g.
     of further false same later =
         All-cons (λ (g : Header). (g.id == id) ≡ true → g ≡ h) g gs (λ own. absurd (cc)) (further (fewer (g.id == CLUSTER) refl) later)
 
--- where an ID has no twin, at most one Element is of it
+-- If no other element has the ID, at most one element has it.
 pub twin-none : (list : List Header) (id : ℕ) → twin_of list id ≡ None → number_of id list ≤ 1
 twin-none list id none = of (nat_lt 1 (number_of id list)) refl none
   where
@@ -234,14 +234,14 @@ twin-none list id none = of (nat_lt 1 (number_of id list)) refl none
     of true is none = absurd (cc)
     of false is none = grind (arith, nat_tests)
 
--- nothing that moves has a twin
+-- No element that moves has a second one with its ID.
 pub twins-none : (list : List Header) (ps : List Part) → twin_refusal list ps ≡ None → All (λ (p : Part). number_of p.id list ≤ 1) ps
 twins-none list [] none = All-nil (λ (p : Part). number_of p.id list ≤ 1)
 twins-none list (p ∷ ps) none =
     let both = or-none (twin_of list p.id) (twin_refusal list ps) none in
     All-cons (λ (p : Part). number_of p.id list ≤ 1) p ps (twin-none list p.id both.0) (twins-none list ps both.1)
 
--- so an item that moves has none
+-- An item that moves is the only one with its ID.
 pub twin-of : (list : List Header) (ps : List Part) (is : List Item) (i : Item) → AreOf list ps is → All (λ (p : Part). number_of p.id list ≤ 1) (moving ps) → IsAmong is i → span_of i.header list < length (octets_of i.element) → number_of i.element.id list ≤ 1
 twin-of list ps [] i are all member long = absurd member
 twin-of list [] (j ∷ js) i are all member long = absurd are
@@ -259,7 +259,7 @@ twin-of list (p ∷ ps) (j ∷ js) i are all member long = of (λ rest. twin-of 
         absurd (let wrong : moves_from list i ≡ true = grind (arith, nat_tests) in cc)
     of further false is all (inr later) = further all later long
 
--- and what moves has it
+-- An element that moves is found.
 pub moves-found : (list : List Header) (ps : List Part) (is : List Item) (i : Item) (place : ℕ) → AreOf list ps is → IsAmong is i → span_of i.header list < length (octets_of i.element) → (g : Header) × (first_of i.element.id (headers_in_place place (elements_moving ps)) ≡ Some g)
 moves-found list ps is i place are member long =
     let there = found is place member in

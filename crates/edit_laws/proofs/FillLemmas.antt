@@ -1,4 +1,4 @@
--- What stands in a room once it is filled.
+-- The content of a room after it is filled.
 use Rattle.std.proofs.Common.{inl, inr, ◌≡◌, ◌≢◌, ◌⊎◌, ℕ, ◌+◌, ◌-◌, ◌*◌, ◌^◌, ◌<◌, ◌≤◌, ◌==◌, nat_lt, nat_le, Bool, true, false, if◌then◌else◌, List, [], ◌∷◌, ◌++◌, append-nil, length, replicate, All, Some, None, refl, sym, ◌∙◌, ap, ap₂, subst, arith}
 use Rattle.std.specs.Option.{unwrap_or}
 use Rattle.std.specs.Int.Count.{count_leading_zeros}
@@ -24,9 +24,9 @@ void-valid : is_id VOID ≡ true
 unfolding is_id
 void-valid = refl
 
--- ---- a Void whose body is what stood there
+-- ---- a Void whose body is the old bytes
 
--- a Void stands at a place, with so many octets
+-- The content `new` has a Void of `total` bytes at `at`.
 pub record HasVoid (new : List ℕ) (at total : ℕ) : Type 0 where
   pub void : Element
   pub id : void.id ≡ VOID
@@ -68,7 +68,7 @@ void-of new at total width most some wide least short fits within held =
         ∙ between-split new at (at + (width + 1)) (at + total) (omega arith) (omega arith)
         ∙ ap (λ l. l ++ body) (ap (octets_between new at) (sym mid) ∙ held ∙ sym head-is)
 
--- where the header of a Void was written
+-- The header of a Void was written.
 pub void-there : (new : List ℕ) (at total : ℕ) → 2 ≤ total → total ≤ 2 ^ 50 → at + total ≤ length new → HoldsAt new at (void_header total) → HasVoid new at total
 void-there new at total some short within held = of (nat_le total 128) refl held
   where
@@ -83,13 +83,13 @@ void-there new at total some short within held = of (nat_le total 128) refl held
         let len : length (replicate {A = ℕ} (total - 9) 0) ≡ total - 9 = length-replicate (total - 9) 0 in
         void-of new at total 8 (2 ^ 50) (omega arith) (omega arith) (omega arith) short (let fit : 2 ^ 50 - 9 < all_ones 8 = omega arith in fit) within (subst (λ n. HoldsAt new at (id_octets VOID ++ size_octets n 8)) len there)
 
--- ---- an Element, or a Void in its place
+-- ---- an element, or a Void in its place
 
--- what stands there is the Element, which has room, or one Void in the place of an Element that has none
+-- The room has the element, or a single Void if the element has no room.
 abbrev pub Stands : Element → List Element → ℕ → Element → Type 0
 Stands now voids room e = ((now.id ≡ e.id) × (now.body ≡ e.body) × (length (octets_of e) ≤ room)) ⊎ ((now.id ≡ VOID) × (voids ≡ []) × (room < length (octets_of e)))
 
--- What fills a room: an Element of this ID and body with a Void behind it or none, or one Void.
+-- The room of `room` bytes at `at` has the element `e`, with a Void after it or none; or it has one Void.
 pub record IsFilled (new : List ℕ) (at room : ℕ) (e : Element) : Type 0 where
   pub now : Element
   pub voids : List Element
@@ -102,7 +102,7 @@ pub record IsFilled (new : List ℕ) (at room : ℕ) (e : Element) : Type 0 wher
 joined-two : (d v : Element) → joined (d ∷ v ∷ []) ≡ octets_of d ++ octets_of v
 joined-two d v = ap (λ l. octets_of d ++ l) (append-nil (octets_of v))
 
--- an Element that can take one octet more for its size
+-- The size of the element `e` can be written with one more byte.
 pub record CanWiden (e : Element) : Type 0 where
   pub own : IsElement e
   pub wide : e.width + 1 ≤ 8
@@ -164,7 +164,7 @@ filled new at room e can some short within held =
         let another : room ≢ length (octets_of e) + 1 = grind (arith, nat_tests) in
         with-void (omega arith) there
 
--- ---- an Element of few octets
+-- ---- a short element
 
 pub small-widen : (id : ℕ) (body : List ℕ) → is_id id ≡ true → length body ≤ 2 ^ 25 → CanWiden (element id body)
 small-widen id body valid short =

@@ -1,4 +1,4 @@
--- The EBML header of contents that have the same octets up to the Segment.
+-- The EBML header of contents with the same bytes up to the Segment.
 use Rattle.std.proofs.Common.{inl, inr, ◌≡◌, ◌<◌, ◌≤◌, ℕ, zero, suc, ◌+◌, ◌-◌, nat_lt, nat_eq, ◌==◌, not, Bool, true, false, ◌&&◌, ◌||◌, if◌then◌else◌, List, [], ◌∷◌, length, take, drop, All, Option, Some, None, Result, Ok, Err, refl, sym, ◌∙◌, ap, ap₂, arith}
 use Rattle.std.specs.List.{starts_with}
 use Rattle.std.specs.Option.{option_map, option_map_or}
@@ -32,7 +32,7 @@ use Rattle.edit_laws.proofs.HeaderLemmas.{announced-inside, outside, found-sound
 use Rattle.edit_laws.proofs.RunLemmas.{StandsInside, run-inside}
 use Rattle.edit_laws.proofs.BlockLemmas.{find-same}
 
--- ---- a master that is read whole depends on its own octets
+-- ---- a master that is read whole depends only on its own bytes
 
 size-tree : (parent total total' p e id at : ℕ) (read : Result SizeRead NumFault) → with_size (in_tree parent) total p e id at read ≡ with_size (in_tree parent) total' p e id at read
 size-tree parent total total' p e id at (Err (fault.More n)) = refl
@@ -77,11 +77,11 @@ tree-within (suc n) parent a b p e few same =
         let end : p < end_in e h = grind arith in
         ap (in_front h) (further (end_in e h) end (omega arith))
 
--- so do its children
+-- Its children depend only on them, too.
 tree-same : (parent : ℕ) (a b : List ℕ) (p e : ℕ) → AreSame a b p e → tree-run parent b p e ≡ tree-run parent a p e
 tree-same parent a b p e same = tree-within (e - p) parent a b p e (omega arith) same
 
--- ---- what is asked of the children
+-- ---- conditions on the children
 
 module _ (a b : List ℕ) (list : List Header) (same : All (λ h. body_of b h ≡ body_of a h) list) where
   value-same : {A : Type 0} (id : ℕ) (f : List ℕ → A) (none : A) → option_map_or (λ h. f (body_of b h)) (first_of id list) none ≡ option_map_or (λ h. f (body_of a h)) (first_of id list) none
@@ -130,7 +130,7 @@ children-causes a b h same =
 
 -- ---- the header itself
 
--- a body that ends within a parent and a file does so where both are longer
+-- A body that ends within its parent and the file does so, too, if both are longer.
 pub sound-longer : (may_open : ℕ → Bool) (total total' e e' : ℕ) (h : Header) → body_damage (outside may_open) total e h ≡ None → stated_end h ≤ e' → e' ≤ total' → body_damage (outside may_open) total' e' h ≡ None
 sound-longer may_open total total' e e' h sound ends within =
     of (is_unknown h.size) (may_open h.id) (nat_lt total' (stated_end h)) (nat_lt e' (stated_end h)) (le-ltb _ _ (omega arith)) (le-ltb _ _ ends) sound
@@ -146,7 +146,7 @@ sound-longer may_open total total' e e' h sound ends within =
     of false may false true no_past no_over sound = absurd (cc)
     of false may false false no_past no_over sound = refl
 
--- the octets that a content begins with
+-- The first bytes of a content.
 starts-same : (a b : List ℕ) → take 4 b ≡ take 4 a → starts_with nat_eq b ebml_mark ≡ starts_with nat_eq a ebml_mark
 starts-same a b same = sym (starts-take b) ∙ ap (λ l. starts_with nat_eq l ebml_mark) same ∙ starts-take a
   where
@@ -157,7 +157,7 @@ starts-same a b same = sym (starts-take b) ∙ ap (λ l. starts_with nat_eq l eb
     starts-take (x ∷ y ∷ z ∷ []) = refl
     starts-take (x ∷ y ∷ z ∷ u ∷ l) = refl
 
--- The EBML header is the same in contents that have the same octets up to a place behind it.
+-- The EBML header is the same in contents with the same bytes up to a place after it.
 pub header-same : (a b : List ℕ) (h : Header) (x : ℕ) → AreSame a b 0 x → 4 ≤ x → stated_end h ≤ x → x ≤ length a → length a ≤ length b → ebml_header a ≡ Ok h → ebml_header b ≡ Ok h
 unfolding ebml_header
 header-same a b h x same some ends within longer is = of (starts_with nat_eq a ebml_mark) refl is
@@ -190,7 +190,7 @@ header-same a b h x same some ends within longer is = of (starts_with nat_eq a e
         found (Err d) is_it refused = absurd (cc)
         found (Ok g) is_it sound = behind starts g is_it sound
 
--- the EBML header's ID has four octets
+-- The ID of the EBML header has four bytes.
 mark-width : width 0x1A ≡ 4
 unfolding count_leading_zeros
 mark-width = refl

@@ -1,4 +1,4 @@
--- An Element depends on the octets of its header, and on where its parent and the file end.
+-- An element depends on the bytes of its header, and on the ends of its parent and the file.
 use Rattle.std.proofs.Common.{◌≡◌, ◌≤◌, ℕ, ◌+◌, ◌-◌, Bool, false, List, length, take, drop, Option, Some, None, Result, Ok, Err, refl, sym, ◌∙◌, ap, arith}
 use Rattle.std.proofs.lemmas.List.{drop-take, take-take}
 use Rattle.ebml_numbers.specs.declared.number.IdRead.{IdRead}
@@ -15,11 +15,11 @@ use Rattle.mkv_schema.proofs.ElementLemmas.{element_at-placed}
 use Rattle.output_model.proofs.HeldLemmas.{between-take}
 use Rattle.edit_laws.proofs.SameLemmas.{AreSame}
 
--- a place outside of the masters that are read whole, where these IDs may be open
+-- a place outside the masters that are read whole; `may_open` has the IDs that may have an unknown size
 abbrev pub outside : (ℕ → Bool) → Setting
 outside may_open = record { may_open = may_open; display = false; read_whole = false }
 
--- ---- what was read of a header
+-- ---- a header that was read
 
 record Read (octets : List ℕ) (p : ℕ) (h : Header) : Type 0 where
   pub id : IdRead
@@ -51,19 +51,19 @@ read_of : (may_open : ℕ → Bool) (octets : List ℕ) (total p e : ℕ) (h : H
 unfolding element_in
 read_of may_open octets total p e h found = read_id may_open octets total p e h (id_at octets) refl found
 
--- nothing is wrong with the body of an Element that was found
+-- The body of an element that was found has no damage.
 pub found-sound : (may_open : ℕ → Bool) (bytes : List ℕ) (p e : ℕ) (h : Header) → element_at (outside may_open) bytes p e ≡ Ok h → body_damage (outside may_open) (length bytes) e h ≡ None
 found-sound may_open bytes p e h found = (read_of may_open (octets_between bytes p e) (length bytes) p e h found).1
 
--- fewer of the same octets are the same
+-- The first of equal bytes are equal.
 take-fewer : (m n : ℕ) (a b : List ℕ) → m ≤ n → take n a ≡ take n b → take m a ≡ take m b
 take-fewer m n a b few same = sym (take-take m n a few) ∙ ap (take m) same ∙ take-take m n b few
 
--- behind the first of them too
+-- The bytes after them are equal, too.
 drop-same : (m n : ℕ) (a b : List ℕ) → take (m + n) a ≡ take (m + n) b → take n (drop m a) ≡ take n (drop m b)
 drop-same m n a b same = sym (drop-take m n a) ∙ ap (drop m) same ∙ drop-take m n b
 
--- Where the octets of a header are the same, the same Element stands, if nothing is wrong with its body there.
+-- If the bytes of a header are the same, the element is the same, unless its body is damaged there.
 element_in-same : (may_open may_open' : ℕ → Bool) (o o' : List ℕ) (total total' p e e' : ℕ) (h : Header) → element_in (outside may_open) o total p e ≡ Ok h → take (h.body - p) o' ≡ take (h.body - p) o → body_damage (outside may_open') total' e' h ≡ None → element_in (outside may_open') o' total' p e' ≡ Ok h
 unfolding element_in
 element_in-same may_open may_open' o o' total total' p e e' h found same sound =
@@ -78,7 +78,7 @@ element_in-same may_open may_open' o o' total total' p e e' h found same sound =
     ∙ ap (λ k. with_body made k) (ap (λ k. body_damage (outside may_open') total' e' k) (sym r.made) ∙ sound)
     ∙ ap (λ k. Ok k) (sym r.made)
 
--- the octets of a header are the first of those up to an end
+-- The bytes of a header are the first bytes up to an end.
 header-octets : (bytes : List ℕ) (p q e : ℕ) → p ≤ q → q ≤ e → take (q - p) (octets_between bytes p e) ≡ octets_between bytes p q
 header-octets bytes p q e before inside =
     let near : q ≡ p + (q - p) = omega arith in
@@ -87,8 +87,8 @@ header-octets bytes p q e before inside =
     ∙ sym (between-take bytes p (q - p) (e - p) (omega arith))
     ∙ ap (octets_between bytes p) (sym near)
 
--- An Element of which the header's octets are the same stands in the other content too, if nothing is wrong with its
--- body there, wherever its parent ends and whatever may be open.
+-- If the bytes of its header are the same, the other content has the element, too, unless its body is damaged there. The end of its parent and
+-- the IDs of unknown size don't matter.
 pub found-same : (may_open may_open' : ℕ → Bool) (a b : List ℕ) (p e e' : ℕ) (h : Header) → p ≤ e → element_at (outside may_open) a p e ≡ Ok h → h.body ≤ e' → AreSame a b p h.body → body_damage (outside may_open') (length b) e' h ≡ None → element_at (outside may_open') b p e' ≡ Ok h
 found-same may_open may_open' a b p e e' h before found inside same sound =
     let placed = element_at-placed (outside may_open) a p e h before found in
@@ -96,7 +96,7 @@ found-same may_open may_open' a b p e e' h before found inside same sound =
     element_in-same may_open may_open' (octets_between a p e) (octets_between b p e') (length a) (length b) p e e' h found
     (header-octets b p h.body e' later inside ∙ same ∙ sym (header-octets a p h.body e later placed.within)) sound
 
--- ---- an ID is told, wherever a body ends
+-- ---- an ID is found for any end of a body
 
 id-of_body : (h : Header) (found : Option Kind) → id_of (with_body h found) ≡ h.id
 id-of_body h None = refl
@@ -112,11 +112,11 @@ id_in-same may_open may_open' o total p e h found =
     ∙ id-of_body made (body_damage (outside may_open') total e made)
     ∙ ap (λ (k : Header). k.id) (sym r.made)
 
--- the ID of an Element is the same wherever it may be open
+-- The ID of an element doesn't depend on the IDs of unknown size.
 pub id-same : (may_open may_open' : ℕ → Bool) (bytes : List ℕ) (p e : ℕ) (h : Header) → element_at (outside may_open) bytes p e ≡ Ok h → id_of (element_at (outside may_open') bytes p e) ≡ h.id
 id-same may_open may_open' bytes p e h found = id_in-same may_open may_open' (octets_between bytes p e) (length bytes) p e h found
 
--- so is the ID at a place where a damage was found
+-- The same for the ID at a damaged place.
 id_in-either : (may_open may_open' : ℕ → Bool) (o : List ℕ) (total p e : ℕ) → id_of (element_in (outside may_open') o total p e) ≡ id_of (element_in (outside may_open) o total p e)
 unfolding element_in
 id_in-either may_open may_open' o total p e = of-id (id_at o)
@@ -136,7 +136,7 @@ id_in-either may_open may_open' o total p e = of-id (id_at o)
 pub id-either : (may_open may_open' : ℕ → Bool) (bytes : List ℕ) (p e : ℕ) → id_of (element_at (outside may_open') bytes p e) ≡ id_of (element_at (outside may_open) bytes p e)
 id-either may_open may_open' bytes p e = id_in-either may_open may_open' (octets_between bytes p e) (length bytes) p e
 
--- a header has the octets that its ID announces
+-- A header has the bytes that its ID announces.
 pub announced-inside : (may_open : ℕ → Bool) (bytes : List ℕ) (p e : ℕ) (h : Header) → element_at (outside may_open) bytes p e ≡ Ok h → p + announced (octets_between bytes p e) ≤ h.body
 announced-inside may_open bytes p e h found =
     let r = (read_of may_open (octets_between bytes p e) (length bytes) p e h found).0 in

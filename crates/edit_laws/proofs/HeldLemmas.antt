@@ -1,4 +1,4 @@
--- What two contents hold whose Elements of level 1 became others.
+-- The elements of level 1 in a content after some are rewritten.
 use Rattle.std.proofs.Common.{◌≡◌, ℕ, ◌+◌, ◌==◌, Bool, true, false, if◌then◌else◌, List, [], ◌∷◌, length, flat_map, All, Option, Some, None, Ok, refl, sym, ◌∙◌, ap, arith}
 use Rattle.std.specs.Option.{option_map}
 use Rattle.std.proofs.lemmas.Bool.Decides.{nat_tests}
@@ -29,7 +29,7 @@ use Rattle.edit_laws.specs.Laws.{normal_form}
 use Rattle.edit_laws.proofs.AgainLemmas.{CanBeRead, again}
 use Rattle.edit_laws.proofs.ItemLemmas.{names}
 
--- An Element that is written stands in a content, at a place, as the first of its ID in a list.
+-- The content `new` has an element with the ID `id` and the body `body`, which is the first with its ID in `list`.
 pub record IsWritten (new : List ℕ) (id : ℕ) (body : List ℕ) (list : List Header) : Type 0 where
   pub place : ℕ
   pub element : Element
@@ -38,11 +38,11 @@ pub record IsWritten (new : List ℕ) (id : ℕ) (body : List ℕ) (list : List 
   pub own : element.id ≡ id
   pub spells : element.body ≡ body
 
--- it does so in each list of which it is the first
+-- The same for each list whose first element with the ID is this one.
 pub written-first : (new : List ℕ) (id : ℕ) (body : List ℕ) (hs ns : List Header) → first_of id ns ≡ first_of id hs → IsWritten new id body hs → IsWritten new id body ns
 written-first new id body hs ns same is = record { place = is.place; element = is.element; first = same ∙ is.first; held = is.held; own = is.own; spells = is.spells }
 
--- the first of an ID among Elements that are written one behind the other
+-- The first element with an ID among elements that are written in sequence.
 pub first-written : (new : List ℕ) (id : ℕ) (body : List ℕ) (p : ℕ) (ds : List Element) → HoldsAt new p (joined ds) → All (λ (d : Element). d.id ≡ id → d.body ≡ body) ds → (g : Header) → first_of id (headers_in_place p ds) ≡ Some g → IsWritten new id body (headers_in_place p ds)
 first-written new id body p [] held spells g found = absurd (cc)
 first-written new id body p (d ∷ ds) held spells g found =
@@ -64,7 +64,7 @@ first-written new id body p (d ∷ ds) held spells g found =
         written-first new id body (headers_in_place (p + length (octets_of d)) ds) (headers_in_place p (d ∷ ds))
         (ap (λ (b : Bool). if b then Some (header_in_place p d) else first_of id (headers_in_place (p + length (octets_of d)) ds)) same) (further is)
 
--- it is read as it was written
+-- It is read as it was written.
 pub written-again : (new : List ℕ) (now : Header) (list : List Header) (end : ℕ) → segment_run new now ≡ whole list end → (id : ℕ) (nodes : List Node) → CanBeRead id nodes → IsWritten new id (flat_map octets nodes) list
     → normal_form id new now ≡ Ok (Some (octets (master id 0 (nodes_of nodes))))
 written-again new now list end run id nodes can is =
@@ -77,7 +77,7 @@ module _ (t : Edit) (listed : IsListed t t.list t.start) (was now : Header)
   pub now-is : segment_run t.new now ≡ whole listed.list listed.end
   now-is = new_run ∙ listed.run
 
-  -- ---- the blocks
+  -- ---- blocks
 
   pub same-blocks : (r : Rules) → events_among r t.new t.now_end t.behind None ≡ [] → All (λ (s : Spot). (s.header.id == CLUSTER) ≡ false) t.spots → blocks_of (events_of r t.new now) ≡ blocks_of (events_of r t.old was)
   unfolding events_of
@@ -95,7 +95,7 @@ module _ (t : Edit) (listed : IsListed t t.list t.start) (was now : Header)
       ∙ damages-stay t r tail spots t.list listed.list listed.becomes
       (sym (ap (λ (x : Run). damages_of (events_in_run r t.old (segment_bound t.old was) x)) old_run ∙ ap (λ e. damages_of (events_among r t.old e t.list None)) old_bound) ∙ none)
 
-  -- ---- what isn't written anew
+  -- ---- elements that aren't rewritten
 
   module _ (id : ℕ) (level : ends_cluster id ≡ true) (other : (id == CLUSTER) ≡ false) (spots : All (λ (s : Spot). (s.header.id == id) ≡ false) t.spots) (behind : first_of id t.behind ≡ None) where
     first-same : first_of id (segment_run t.new now).list ≡ first_of id (segment_run t.old was).list
@@ -121,10 +121,10 @@ module _ (t : Edit) (listed : IsListed t t.list t.start) (was now : Header)
       of None none is = is
       of (Some h) some is = files-same t.old t.new h files (first-held ATTACHMENTS names.attachments.level refl spots behind h some) is
 
-  -- ---- what is written anew
+  -- ---- elements that are rewritten
 
   module _ (s : Spot) (member : IsAmong t.spots s) (spot : IsSpot t s) (id : ℕ) (body : List ℕ) (own : s.header.id ≡ id) (level : ends_cluster id ≡ true) (single : All (λ (o : Spot). o.header ≡ s.header → o ≡ s) t.spots) (first : first_of id t.list ≡ Some s.header) where
-    -- in its place
+    -- The element is in its place.
     abbrev pub in-place : s.now.id ≡ id → s.now.body ≡ body → IsWritten t.new id body listed.list
     in-place same spells = record {
       place = s.header.offset;

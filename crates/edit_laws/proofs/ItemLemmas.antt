@@ -1,4 +1,4 @@
--- What is written anew at level 1, as the two contents have it.
+-- The rewritten elements of level 1, in both contents.
 use Rattle.std.proofs.Common.{inl, inr, ◌≡◌, ◌⊎◌, ◌<◌, ◌≤◌, ℕ, ◌+◌, ◌==◌, true, false, List, [], ◌∷◌, length, get_or, All, Some, None, refl, sym, ◌∙◌, ap, subst, arith}
 use Rattle.std.specs.Bool.{⊤}
 use Rattle.std.specs.Option.{unwrap_or}
@@ -34,19 +34,19 @@ use Rattle.edit_laws.proofs.FillLemmas.{IsFilled, CanWiden, filled}
 use Rattle.edit_laws.proofs.RoomLemmas.{tiles-stand, room-voids, first-there, ahead-behind}
 use Rattle.edit_laws.specs.Laws.{IsOutside}
 
--- an Element that is written anew: its header, and what is written of it
+-- an element that is rewritten: its old header, and the new element
 pub record Item : Type 0 where
   pub header : Header
   pub element : Element
 
--- what can be written anew at level 1
+-- An element with the ID `id` can be rewritten at level 1.
 pub record IsName (id : ℕ) : Type 0 where
   pub cluster : (id == CLUSTER) ≡ false
   pub void : (id == VOID) ≡ false
   pub level : ends_cluster id ≡ true
   pub inner : is_level0 id ≡ false
 
--- in its room, or a Void there
+-- the write of the element in its room, or of a Void there
 abbrev pub write_of : List Header → Item → Write
 write_of others i = write i.header.offset (unwrap_or (fitted i.element (span_of i.header others)) (void_header (span_of i.header others)))
 
@@ -55,17 +55,17 @@ pub record IsItem (others : List Header) (i : Item) : Type 0 where
   pub name : IsName i.element.id
   pub widen : CanWiden i.element
 
--- no two of them have one ID
+-- No two items have the same ID.
 abbrev pub AreDistinct : List Item → Type 0
 AreDistinct [] = ⊤
 AreDistinct (i ∷ is) = All (λ (j : Item). (j.element.id == i.element.id) ≡ false) is × AreDistinct is
 
--- an octet is in the room of one of them
+-- The byte is in the room of an item.
 abbrev pub IsInside : List Header → List Item → ℕ → Type 0
 IsInside others [] k = ⊥
 IsInside others (i ∷ is) k = ((i.header.offset ≤ k) × (k < i.header.offset + span_of i.header others)) ⊎ IsInside others is k
 
--- Elements of level 1 that are written anew, or stay.
+-- The IDs of elements of level 1 that are rewritten, or stay.
 pub record AreNames : Type 0 where
   pub info : IsName INFO
   pub tracks : IsName TRACKS
@@ -95,7 +95,7 @@ pub goes-on : (size : Size) (id : ℕ) → is_level0 id ≡ false → ends_segme
 goes-on (Known n) id is = refl
 goes-on Unknown id is = is
 
--- each of some Elements that stand one behind the other
+-- A fact about each of several elements in sequence.
 tiles-all : (bytes : List ℕ) (size : Size) (e p q : ℕ) (hs : List Header) (P : Header → Type 0) → Tiles (level bytes size e) p hs q
     → ((h : Header) (m : ℕ) → Stands (level bytes size e) h.offset h m → IsAmong hs h → P h) → All P hs
 tiles-all bytes size e p q [] P tiles each = All-nil P
@@ -104,13 +104,13 @@ tiles-all bytes size e p q (h ∷ hs) P (m, stands, rest) each =
     All-cons P h hs (each h m (subst (λ k. Stands (level bytes size e) k h m) (sym at) stands) (inl refl))
     (tiles-all bytes size e m q hs P rest (λ g k there ahead. each g k there (inr ahead)))
 
--- An Element can stand in the other content too.
+-- The element `h` can be in the other content, too.
 pub record CanKeep (a b : List ℕ) (e e' : ℕ) (h : Header) : Type 0 where
   pub sound : body_damage in_segment (length b) e' h ≡ None
   pub ends : is_unknown h.size ≡ false → end_in e' h ≡ end_in e h
   pub closed : is_closed (length b) h ≡ is_closed (length a) h
 
--- The old Elements of level 1 become the new ones, where items are written anew: each of these has a spot of its own.
+-- The old elements of level 1 become the new ones, and each rewritten item has its own spot.
 pub record IsAnew (t : Edit) (items : List Item) : Type 0 where
   pub listed : IsListed t t.list t.start
   pub edit : IsEdit t
@@ -141,7 +141,7 @@ module _ (bytes : List ℕ) (size now_size : Size) (start e now_end last : ℕ) 
   grows : length bytes ≤ length new
   grows = omega (arith, len, extent_grows (length bytes) ws)
 
-  -- ---- one of them
+  -- ---- one item
 
   abbrev pub Filled : Item → Type 0
   Filled i = IsFilled new i.header.offset (span_of i.header others) i.element
@@ -213,7 +213,7 @@ module _ (bytes : List ℕ) (size now_size : Size) (start e now_end last : ℕ) 
       of own name (inl (same, body, fits)) = inl (same ∙ sym own, ap ends_cluster own ∙ name.level)
       of own name (inr (void, alone, long)) = inr (void, alone)
 
-  -- ---- all of them
+  -- ---- all items
 
   spots-are : (is : List Item) (are : All (IsItem others) is) (one : All (λ (i : Item). IsAmong ws (write_of others i)) is) → All (IsSpot edit) (spots is are one)
   spots-are [] are one = All-nil (IsSpot edit)
@@ -221,7 +221,7 @@ module _ (bytes : List ℕ) (size now_size : Size) (start e now_end last : ℕ) 
       All-cons (IsSpot edit) _ _ (spot-is i (All-head (IsItem others) i is are) (fill i (All-head (IsItem others) i is are) (All-head (λ (i : Item). IsAmong ws (write_of others i)) i is one)))
       (spots-are is (All-tail (IsItem others) i is are) (All-tail (λ (i : Item). IsAmong ws (write_of others i)) i is one))
 
-  -- they end where their rooms do
+  -- The spots end where their rooms do.
   ends-are : (is : List Item) (are : All (IsItem others) is) (one : All (λ (i : Item). IsAmong ws (write_of others i)) is) → All (λ (s : Spot). end_of s ≡ behind_voids (stated_end s.header) others) (spots is are one)
   ends-are [] are one = All-nil (λ (s : Spot). end_of s ≡ behind_voids (stated_end s.header) others)
   ends-are (i ∷ is) are one =
@@ -237,7 +237,7 @@ module _ (bytes : List ℕ) (size now_size : Size) (start e now_end last : ℕ) 
       All-cons (λ (s : Spot). IsAmong list s.header) _ _ (first-there bytes size e i.element.id start last list i.header tiles first).ahead
       (ahead-are is (All-tail (IsItem others) i is are) (All-tail (λ (i : Item). IsAmong ws (write_of others i)) i is one))
 
-  -- each has its own
+  -- Each item has its own spot.
   spot-in : (is : List Item) (are : All (IsItem others) is) (one : All (λ (i : Item). IsAmong ws (write_of others i)) is) (i : Item) → IsAmong is i → (f : Filled i) × IsAmong (spots is are one) (spot i f)
   spot-in [] are one i member = absurd member
   spot-in (j ∷ js) are one i (inl same) =
@@ -250,14 +250,14 @@ module _ (bytes : List ℕ) (size now_size : Size) (start e now_end last : ℕ) 
   header-id : (i : Item) → IsItem others i → i.header.id ≡ i.element.id
   header-id i is = first-own i.element.id others i.header is.first
 
-  -- what their IDs have
+  -- A fact about the IDs of the items holds for the spots.
   ids-are : (P : ℕ → Type 0) (is : List Item) (are : All (IsItem others) is) (one : All (λ (i : Item). IsAmong ws (write_of others i)) is) → All (λ (i : Item). P i.element.id) is → All (λ (s : Spot). P s.header.id) (spots is are one)
   ids-are P [] are one all = All-nil (λ (s : Spot). P s.header.id)
   ids-are P (i ∷ is) are one all =
       All-cons (λ (s : Spot). P s.header.id) _ _ (subst P (sym (header-id i (All-head (IsItem others) i is are))) (All-head (λ (i : Item). P i.element.id) i is all))
       (ids-are P is (All-tail (IsItem others) i is are) (All-tail (λ (i : Item). IsAmong ws (write_of others i)) i is one) (All-tail (λ (i : Item). P i.element.id) i is all))
 
-  -- no two have one header
+  -- No two spots have the same header.
   single-in : (is : List Item) (are : All (IsItem others) is) (one : All (λ (i : Item). IsAmong ws (write_of others i)) is) → AreDistinct is → (s : Spot) → IsAmong (spots is are one) s → All (λ (o : Spot). o.header ≡ s.header → o ≡ s) (spots is are one)
   single-in [] are one distinct s member = absurd member
   single-in (i ∷ is) are one distinct s (inl same) =
@@ -277,7 +277,7 @@ module _ (bytes : List ℕ) (size now_size : Size) (start e now_end last : ℕ) 
       (λ header. let ids : s.header.id ≡ i.element.id = sym (ap (λ (g : Header). g.id) header) ∙ own in absurd (let here : (s.header.id == i.element.id) ≡ true = grind (arith, nat_tests) in cc))
       (single-in is (All-tail (IsItem others) i is are) (All-tail (λ (i : Item). IsAmong ws (write_of others i)) i is one) distinct.1 s later)
 
-  -- where none of them reaches, no octet is written
+  -- No byte is written between two places without an item.
   none-inside : (p q k : ℕ) (is : List Item) (are : All (IsItem others) is) (one : All (λ (i : Item). IsAmong ws (write_of others i)) is)
       → All (λ (s : Spot). (q ≤ s.header.offset) ⊎ (end_of s ≤ p)) (spots is are one) → p ≤ k → k < q → IsInside others is k → ⊥
   none-inside p q k [] are one clear from to inside = inside
@@ -302,7 +302,7 @@ module _ (bytes : List ℕ) (size now_size : Size) (start e now_end last : ℕ) 
         ]
       ])
 
-  -- The new content is the old one, but for what is written anew and what stands behind it.
+  -- The new content equals the old one, except for rewritten elements and elements after the old end.
   module _ (now_within : now_end ≤ length new) (stops : (id : ℕ) → ends_segment now_size id ≡ ends_segment size id)
       (keep : (h : Header) (m : ℕ) → Stands (level bytes size e) h.offset h m → IsAmong list h → CanKeep bytes new e now_end h)
       (blocks : (h : Header) → IsAmong list h → ends_cluster h.id ≡ false → IsOutside h)

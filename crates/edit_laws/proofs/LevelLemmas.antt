@@ -1,4 +1,4 @@
--- Level 1 of two contents that differ in the rooms of some of its Elements, and behind the end.
+-- Level 1 of two contents that differ only in the rooms of some elements, and after the old end.
 use Rattle.std.proofs.Common.{inl, inr, ◌≡◌, ◌⊎◌, ◌<◌, ◌≤◌, ℕ, ◌+◌, nat_lt, min, ◌==◌, Bool, true, false, if◌then◌else◌, List, [], ◌∷◌, ◌++◌, length, length-append, append-nil, find, get_or, All, Option, Some, None, Ok, refl, sym, ◌∙◌, ap, subst, arith}
 use Rattle.std.proofs.lemmas.Bool.{cases_lt, le-ltb, cond-false, false_from_ne_true}
 use Rattle.std.proofs.lemmas.Bool.Decides.{nat_tests}
@@ -27,10 +27,9 @@ use Rattle.edit_laws.proofs.ClusterLemmas.{known-alike, open-alike}
 use Rattle.edit_laws.proofs.TileLemmas.{Way, level, inner, run_of, advances-level, advances-inner, Stands, Tiles, whole, run-step, run-stops, run-tiled, tiled, stands-placed, tiles-end, inner-within, ahead-later}
 use Rattle.edit_laws.specs.Laws.{IsOutside}
 
--- ---- what is written anew
+-- ---- rewritten elements
 
--- An Element of level 1 that is written anew: its old header; what stands in its place now, itself or a Void; and the
--- Voids behind that.
+-- A rewritten element of level 1: its old header; the new element or a Void in its place; and the Voids after that.
 pub record Spot : Type 0 where
   pub header : Header
   pub now : Element
@@ -39,12 +38,12 @@ pub record Spot : Type 0 where
 abbrev pub all_now : Spot → List Element
 all_now s = s.now ∷ s.voids
 
--- the place behind them
+-- the place after the spot
 abbrev pub end_of : Spot → ℕ
 end_of s = s.header.offset + length (joined (all_now s))
 
--- Two contents, the sizes of their Segments, where the bodies of these start and end, the old Elements of level 1, those
--- that are written anew, where the old ones end, and what stands there now.
+-- An edit: the two contents, the sizes of their Segments, where the bodies start and end, the old elements of level 1, the rewritten ones, the
+-- new elements after the old end, and the end of the old list.
 pub record Edit : Type 0 where
   pub old : List ℕ
   pub new : List ℕ
@@ -70,7 +69,7 @@ old_inner t = inner t.old t.end
 abbrev pub new_inner : Edit → Way
 new_inner t = inner t.new t.now_end
 
--- An Element is written anew, in its place or at the end.
+-- The spot `s` is a rewritten element, in its place or at the end.
 pub record IsSpot (t : Edit) (s : Spot) : Type 0 where
   pub inside : s.header.offset < t.end
   pub found : element_at in_segment t.old s.header.offset t.end ≡ Ok s.header
@@ -87,7 +86,7 @@ pub record IsSpot (t : Edit) (s : Spot) : Type 0 where
   pub voids : All (λ (d : Element). d.id ≡ VOID) s.voids
   pub stays : ((s.now.id ≡ s.header.id) × (ends_cluster s.header.id ≡ true)) ⊎ ((s.now.id ≡ VOID) × (s.voids ≡ []))
 
--- An old Element that isn't written anew can stand where it stood; in the room of one that is it is a Void.
+-- The old element `h` can stay in its place if it isn't rewritten. In the room of a rewritten one it is a Void.
 pub record IsOld (t : Edit) (h : Header) : Type 0 where
   pub sound : body_damage in_segment (length t.new) t.now_end h ≡ None
   pub ends : is_unknown h.size ≡ false → end_in t.now_end h ≡ end_in t.end h
@@ -95,11 +94,11 @@ pub record IsOld (t : Edit) (h : Header) : Type 0 where
   pub block : ends_cluster h.id ≡ false → IsOutside h
   pub room : (s : Spot) → IsAmong t.spots s → s.header.offset < h.offset → h.offset < end_of s → (h.id ≡ VOID) × (stated_end h ≤ end_of s)
 
--- no spot reaches in between two places
+-- No spot reaches in between two places.
 abbrev pub IsClear : Edit → ℕ → ℕ → Type 0
 IsClear t p q = All (λ (s : Spot). (q ≤ s.header.offset) ⊎ (end_of s ≤ p)) t.spots
 
--- The new content is the old one, but for what is written anew and what stands behind it.
+-- The new content equals the old one, except for rewritten elements and elements after the old end.
 pub record IsEdit (t : Edit) : Type 0 where
   pub same : (p q : ℕ) → t.start ≤ p → p ≤ q → q ≤ t.end → IsClear t p q → AreSame t.old t.new p q
   pub longer : t.end ≤ t.now_end
@@ -112,9 +111,9 @@ pub record IsEdit (t : Edit) : Type 0 where
   pub behind : run_of (new_level t) t.last ≡ whole t.behind (run_of (new_level t) t.last).end
   pub closes : run_of (new_inner t) t.last ≡ ends_at t.last
 
--- ---- what becomes of the Elements
+-- ---- what becomes of the elements
 
--- An Element stays where it is, with its blocks if it is a Cluster, and else with all its octets.
+-- The element `h` stays in its place, with its blocks if it is a Cluster, and otherwise with all its bytes.
 pub record IsKept (t : Edit) (h : Header) : Type 0 where
   pub found : element_at in_segment t.new h.offset t.now_end ≡ Ok h
   pub apart : All (λ (s : Spot). (s.header.offset == h.offset) ≡ false) t.spots
@@ -122,29 +121,29 @@ pub record IsKept (t : Edit) (h : Header) : Type 0 where
   pub closed : is_closed (length t.new) h ≡ is_closed (length t.old) h
   pub held : (h.id == CLUSTER) ≡ false → IsHeld t.old t.new h
 
--- It is no longer listed: a Void in a room that is used, or what a Cluster of unknown size holds now.
+-- The element is no longer listed: a Void in a used room, or an element that a Cluster of unknown size contains now.
 abbrev pub IsGone : Edit → Header → Type 0
 IsGone t h = (ends_cluster h.id ≡ false) ⊎ ((s : Spot) × IsAmong t.spots s × IsSpot t s × (s.header ≡ h) × (s.now.id ≡ VOID))
 
--- What becomes of an Element in front of others: it stays, is written anew, or is gone.
+-- The change of an element before others: it stays, is rewritten, or is gone.
 pub data Turn (t : Edit) (h : Header) (ks ns : List Header) : Type 0 where
   kept : IsKept t h → ns ≡ h ∷ ks → Turn t h ks ns
   now : (s : Spot) → IsAmong t.spots s → IsSpot t s → s.header ≡ h → ns ≡ headers_in_place s.header.offset (all_now s) ++ ks → Turn t h ks ns
   gone : IsGone t h → ns ≡ ks → Turn t h ks ns
 
--- Old Elements become new ones, behind which stands what is added.
+-- The old elements become the new ones, and the added elements follow.
 abbrev pub Becomes : Edit → List Header → List Header → Type 0
 Becomes t [] ns = ns ≡ t.behind
 Becomes t (h ∷ hs) ns = (ks : List Header) × Turn t h ks ns × Becomes t hs ks
 
--- The Elements from a place on become those that the new content lists from there on.
+-- The elements from a place on become the elements that the new content lists from there on.
 pub record IsListed (t : Edit) (hs : List Header) (q : ℕ) : Type 0 where
   pub list : List Header
   pub end : ℕ
   pub run : run_of (new_level t) q ≡ whole list end
   pub becomes : Becomes t hs list
 
--- So they do where a Cluster of unknown size stands in front of them: it holds those that no longer end it.
+-- The same after a Cluster of unknown size, which contains the elements that no longer end it.
 pub record IsInside (t : Edit) (hs : List Header) (q : ℕ) : Type 0 where
   pub more : List Header
   pub end : ℕ
@@ -162,14 +161,14 @@ pub void-goes : ends_cluster VOID ≡ false
 unfolding entry_of table
 void-goes = refl
 
--- an ID that a Cluster can hold is none that ends it
+-- An ID that a Cluster can contain differs from each ID that ends it.
 pub goes-other : (a id : ℕ) → ends_cluster a ≡ false → ends_cluster id ≡ true → (a == id) ≡ false
 goes-other a id goes ends = false_from_ne_true (a == id) (λ same. let is : a ≡ id = grind (arith, nat_tests) in let wrong : true ≡ false = sym ends ∙ ap ends_cluster (sym is) ∙ goes in cc)
 
 void-none : (h : Header) → h.id ≡ VOID → IsOutside h
 void-none h is = record { timestamp = ap (λ n. n == TIMESTAMP) is; simple = ap (λ n. n == SIMPLE_BLOCK) is; group = ap (λ n. n == BLOCK_GROUP) is }
 
--- nothing is wrong with a body of known size that ends with its parent or before
+-- A body of known size that ends with its parent or before has no damage.
 sound-known : (may_open : ℕ → Bool) (total e : ℕ) (h : Header) → is_unknown h.size ≡ false → stated_end h ≤ e → e ≤ total → body_damage (outside may_open) total e h ≡ None
 sound-known may_open total e h known ends within =
     let short : nat_lt e (stated_end h) ≡ false = le-ltb _ _ ends in
@@ -182,18 +181,18 @@ Lists-level bytes size e = record { plain = refl; advances = advances-level byte
 Lists-inner : (bytes : List ℕ) (e : ℕ) → Lists in_master ends_cluster (λ h. Ok (end_in e h)) bytes e
 Lists-inner bytes e = record { plain = refl; advances = advances-inner bytes e; next_is = λ h known. refl }
 
--- where the next one begins
+-- The start of the next element.
 pub next-known : (bytes : List ℕ) (size : Size) (p e q : ℕ) (h : Header) → Stands (level bytes size e) p h q → is_unknown h.size ≡ false → end_in e h ≡ q
 next-known bytes size p e q h stands known =
     let is : Ok (end_in e h) ≡ Ok q = sym (cond-false (is_unknown h.size) _ (Ok (end_in e h)) known) ∙ stands.next in cc
 
--- an Element that isn't a Cluster has a known size, and ends within its parent
+-- An element that isn't a Cluster has a known size, and ends within its parent.
 pub whole-known : (bytes : List ℕ) (size : Size) (p e q : ℕ) (h : Header) → Stands (level bytes size e) p h q → (h.id == CLUSTER) ≡ false → (is_unknown h.size ≡ false) × (stated_end h ≤ e)
 whole-known bytes size p e q h stands other =
     let is = element_in-whole in_segment (octets_between bytes p e) (length bytes) p e h stands.found in
     (is.known other, is.inside other)
 
--- the children of a Cluster of unknown size end without damage
+-- The children of a Cluster of unknown size end without damage.
 open-whole : (bytes : List ℕ) (size : Size) (p e q : ℕ) (h : Header) → Stands (level bytes size e) p h q → is_unknown h.size ≡ true → open_cluster bytes h.body e ≡ whole (open_cluster bytes h.body e).list q
 open-whole bytes size p e q h stands unknown = with-end (open_cluster bytes h.body e) (open_cluster bytes h.body e).damage refl goes
   where
@@ -204,7 +203,7 @@ open-whole bytes size p e q h stands unknown = with-end (open_cluster bytes h.bo
     with-end run None none goes = let end : run.end ≡ q = cc in ap (λ d. record { list = run.list; damage = d; end = run.end }) none ∙ ap (λ k. whole run.list k) end
     with-end run (Some d) some goes = absurd (cc)
 
--- Elements of level 1 end where their Segment may at most.
+-- Elements of level 1 end within the bound of their Segment.
 pub level-within : (bytes : List ℕ) (size : Size) (e p q : ℕ) (hs : List Header) → Tiles (level bytes size e) p hs q → p ≤ e → q ≤ e
 level-within bytes size e p q [] tiles inside = omega (arith, tiles)
 level-within bytes size e p q (h ∷ hs) (m, stands, rest) inside = level-within bytes size e m q hs rest (of (is_unknown h.size) refl)
@@ -223,7 +222,7 @@ module _ (t : Edit) (is : IsEdit t) where
     pub tiles : Tiles (new_inner t) p hs q
     pub held : All (IsHeld t.old t.new) hs
 
-  -- children that stand where nothing is written anew stand there still
+  -- Children stay in their places if nothing is rewritten there.
   held-children : (p q : ℕ) (hs : List Header) → Tiles (old_inner t) p hs q → AreSame t.old t.new p q → AreHeld p hs q
   held-children p q [] tiles same = record { tiles = tiles; held = All-nil (IsHeld t.old t.new) }
   held-children p q (h ∷ hs) (m, stands, rest) same =
@@ -255,13 +254,13 @@ module _ (t : Edit) (is : IsEdit t) where
         held = All-cons (IsHeld t.old t.new) h hs (record { shared = shared; left = omega arith; right = omega arith }) further.held;
       }
 
-  -- ---- where one is
+  -- ---- places in both lists
 
-  -- a place of the old list and the one of the new list, which may be behind it where Voids of a room are passed over
+  -- `IsAt` relates a place of the old list to its place in the new list, which may be after it: Voids of a room are skipped.
   abbrev IsAt : ℕ → ℕ → Type 0
   IsAt p q = (p ≡ q) ⊎ ((s : Spot) × IsAmong t.spots s × IsSpot t s × (s.header.offset < p) × (p ≤ q) × (q ≡ end_of s))
 
-  -- what is written anew is behind, or still ahead
+  -- The rewritten element was passed, or is still to come.
   abbrev Await : ℕ → List Header → Spot → Type 0
   Await q hs s = (end_of s ≤ q) ⊎ IsAmong hs s.header
 
@@ -271,11 +270,11 @@ module _ (t : Edit) (is : IsEdit t) where
   abbrev Goes : List Header → ℕ → Type 0
   Goes hs q = IsListed t hs q × IsInside t hs q
 
-  -- one that is gone changes nothing of the others
+  -- An element that is gone changes nothing for the others.
   not-listed : (h : Header) (hs : List Header) (q : ℕ) → IsGone t h → IsListed t hs q → IsListed t (h ∷ hs) q
   not-listed h hs q is-gone rest = record { list = rest.list; end = rest.end; run = rest.run; becomes = (rest.list, gone is-gone refl, rest.becomes) }
 
-  -- ---- an Element of level 1 that a Cluster can hold
+  -- ---- an element of level 1 that a Cluster can contain
 
   child : (bytes : List ℕ) (p e q : ℕ) (h : Header) → element_at in_segment bytes p e ≡ Ok h → p < e → stated_end h ≤ e → e ≤ length bytes → is_unknown h.size ≡ false → ends_cluster h.id ≡ false → end_in e h ≡ q → Stands (inner bytes e) p h q
   child bytes p e q h there before ends within known goes next =
@@ -287,7 +286,7 @@ module _ (t : Edit) (is : IsEdit t) where
         next = ap (λ k. Ok k) next;
       }
 
-  -- ---- an Element that is written anew
+  -- ---- a rewritten element
 
   module _ (s : Spot) (member : IsAmong t.spots s) (spot : IsSpot t s) (h : Header) (own : s.header ≡ h) (hs : List Header) where
     abbrev headers : List Header
@@ -302,7 +301,7 @@ module _ (t : Edit) (is : IsEdit t) where
       becomes = (rest.list, now s member spot own refl, rest.becomes);
     }
 
-    -- what stands there now
+    -- The element that is there now.
     first-found : element_at in_master t.new s.header.offset t.now_end ≡ Ok (header_in_place s.header.offset s.now)
     first-found =
         let len = length-append (octets_of s.now) (joined s.voids) in
@@ -363,7 +362,7 @@ module _ (t : Edit) (is : IsEdit t) where
     placed : StandsAt p t.end h
     placed = element_at-placed in_segment t.old p t.end h (omega (arith, stands.inside)) stands.found
 
-    -- its header ends before the next Element begins
+    -- Its header ends before the next element begins.
     header-inside : h.body ≤ m
     header-inside = of (is_unknown h.size) refl
       where
@@ -391,7 +390,7 @@ module _ (t : Edit) (is : IsEdit t) where
     stands-now : (q : ℕ) → behind_in_segment t.new t.now_end h ≡ Ok q → Stands (new_level t) p h q
     stands-now q next = record { inside = (let inside = stands.inside in let longer = is.longer in omega arith); found = found; goes = is.stops h.id ∙ stands.goes; next = next }
 
-    -- an Element of known size
+    -- An element of known size.
 
     module _ (known : is_unknown h.size ≡ false) where
       next-is : end_in t.end h ≡ m
@@ -433,7 +432,7 @@ module _ (t : Edit) (is : IsEdit t) where
                 right = omega arith;
               }
 
-    -- a Cluster of unknown size
+    -- A Cluster of unknown size.
 
     listed-open : is_unknown h.size ≡ true → IsInside t hs m → IsListed t (h ∷ hs) p
     listed-open unknown further =
@@ -464,7 +463,7 @@ module _ (t : Edit) (is : IsEdit t) where
           );
         }
 
-    -- a Cluster of unknown size that stands in front of it
+    -- A Cluster of unknown size before the element.
 
     inside-here : IsListed t (h ∷ hs) p → IsInside t hs m → IsInside t (h ∷ hs) p
     inside-here here more = of (ends_cluster h.id) refl
@@ -498,9 +497,9 @@ module _ (t : Edit) (is : IsEdit t) where
         of true ends = stops ends
         of false goes = goes_on goes
 
-  -- ---- all of them
+  -- ---- all elements
 
-  -- what is awaited behind an Element
+  -- The spots that are still to come after an element.
   await-behind : (q m : ℕ) (h : Header) (hs : List Header) → q ≤ m → All (λ (s : Spot). h ≡ s.header → end_of s ≤ m) t.spots → AreAwaited q (h ∷ hs) → AreAwaited m hs
   await-behind q m h hs later own awaited = λ k s below. of (get_or t.spots k s) (own k s below) (awaited k s below)
     where
@@ -517,7 +516,7 @@ module _ (t : Edit) (is : IsEdit t) where
       of further true same some = absurd (cc)
       of further false same rest = All-cons (λ x. passes x ≡ false) x xs same (further rest)
 
-  -- An Element where all before it are settled.
+  -- An element whose predecessors are all done.
   module _ (p m : ℕ) (from : t.start ≤ p) (h : Header) (hs : List Header) (stands : Stands (old_level t) p h m) (rest : Tiles (old_level t) m hs t.last) (old : IsOld t h) (awaited : AreAwaited p (h ∷ hs))
       (further : (q : ℕ) → IsAt m q → AreAwaited q hs → Goes hs q) where
     place : h.offset ≡ p
@@ -526,7 +525,7 @@ module _ (t : Edit) (is : IsEdit t) where
     step : p < m
     step = (stands-placed (old_level t) p m h (advances-level t.old t.size t.end) stands).1
 
-    -- one that is written anew
+    -- A rewritten element.
     at-spot : (s : Spot) → IsAmong t.spots s → IsSpot t s → All (λ (other : Spot). s.header ≡ other.header → end_of s ≡ end_of other) t.spots → s.header.offset ≡ p → Goes (h ∷ hs) p
     at-spot s member spot single same_place =
         let there : element_at in_segment t.old p t.end ≡ Ok s.header = subst (λ k. element_at in_segment t.old k t.end ≡ Ok s.header) same_place spot.found in
@@ -545,7 +544,7 @@ module _ (t : Edit) (is : IsEdit t) where
           subst (IsInside t (h ∷ hs)) same_place (inside-now s member spot h own hs (listed-now s member spot h own hs go.0) go.1),
         )
 
-    -- one that isn't
+    -- An element that isn't rewritten.
     at-other : m ≤ t.end → All (λ (s : Spot). (s.header.offset == h.offset) ≡ false) t.spots → Goes (h ∷ hs) p
     at-other inside apart =
         let go = further m (inl refl)
@@ -569,7 +568,7 @@ module _ (t : Edit) (is : IsEdit t) where
             at-spot s first.0 (all-among (IsSpot t) t.spots s is.spots first.0)
             (all-among (λ (s : Spot). All (λ (other : Spot). s.header ≡ other.header → end_of s ≡ end_of other) t.spots) t.spots s is.single first.0) (same ∙ place)
 
-  -- The Elements from a place on become those that the new content lists from there on.
+  -- The elements from a place on become the elements that the new content lists from there on.
   goes-from : (hs : List Header) (p q : ℕ) → t.start ≤ p → t.last ≤ t.end → Tiles (old_level t) p hs t.last → All (IsOld t) hs → IsAt p q → AreAwaited q hs → Goes hs q
   goes-from [] p q from short tiles old at awaited = done (at-end at)
     where
@@ -600,7 +599,7 @@ module _ (t : Edit) (is : IsEdit t) where
           let inside : m ≤ t.end = (let last = tiles-end (old_level t) m t.last hs (advances-level t.old t.size t.end) rest in omega arith) in
           subst (Goes (h ∷ hs)) same (goes-here p m from h hs stands rest own (subst (λ k. AreAwaited k (h ∷ hs)) (sym same) awaited) further inside)
 
-      -- a Void in a room that is used
+      -- A Void in a used room.
       passed : ((k : ℕ) → IsAt m k → AreAwaited k hs → Goes hs k) → (s : Spot) → IsAmong t.spots s → IsSpot t s → s.header.offset < p → p < q → q ≡ end_of s → Goes (h ∷ hs) q
       passed further s member spot after before end =
           let at = step.0 in
@@ -627,7 +626,7 @@ module _ (t : Edit) (is : IsEdit t) where
             | inr past ↦ here further (omega arith)
           ]
 
-  -- The old Elements of level 1 become the new ones.
+  -- The old elements of level 1 become the new ones.
   pub level-becomes : t.last ≤ t.end → run_of (old_level t) t.start ≡ whole t.list t.last → All (λ (s : Spot). IsAmong t.list s.header) t.spots → IsListed t t.list t.start
   level-becomes short run ahead =
       let tiles = tiled (old_level t) t.start t.last t.list (advances-level t.old t.size t.end) run in

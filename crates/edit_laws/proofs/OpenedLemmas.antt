@@ -1,4 +1,4 @@
--- What an outline says of the file that it was read from.
+-- An outline and the file that it was read from.
 use Rattle.std.proofs.Common.{◌≡◌, ℕ, List, [], length, Ok, refl, sym, subst}
 use Rattle.mkv_schema.specs.Outline.{Outlined, ebml_header, limits_from, outline_of, outlined, segment_end, segment_of, segment_run}
 use Rattle.mkv_schema.proofs.OutlineLemmas.{and_then-ok, unless-ok}

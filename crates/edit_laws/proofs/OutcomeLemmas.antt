@@ -1,4 +1,4 @@
--- What a file holds behind edits, of which nothing moves, or something does.
+-- The content of a file after edits, with or without a moved element.
 use Rattle.std.proofs.Common.{inl, inr, ◌≡◌, ◌⊎◌, ◌<◌, ◌≤◌, ℕ, ◌+◌, ◌^◌, ◌==◌, max, nat_lt, Bool, true, false, ◌||◌, if◌then◌else◌, List, [], ◌∷◌, ◌++◌, length, flat_map, All, Option, Some, None, IfSome, Result, Ok, refl, sym, ◌∙◌, ap, ap₂, subst, arith}
 use Rattle.std.specs.List.{list_any}
 use Rattle.std.specs.Prelude.{filter_map}
@@ -53,9 +53,9 @@ use Rattle.edit_laws.proofs.SectionLemmas.{AreFirst, first-fit, fit-octets, info
 use Rattle.edit_laws.proofs.TreeLemmas.{AreFit, IsFit, fit-all, info-stays, tracks-stay}
 use Rattle.edit_laws.proofs.WriteLemmas.{AreOf, few-parts, item_at, items-are, items_of, of-append, of-part, of-still, of-writes}
 
--- ---- what can be written anew
+-- ---- elements that can be rewritten
 
--- items are of their ID
+-- The items have the ID `id`.
 pub items-id : (written : Bool) (id : ℕ) (list : List Header) (nodes : List Node) → All (λ (i : Item). i.element.id ≡ id) (items_of written id list nodes)
 items-id false id list nodes = All-nil (λ (i : Item). i.element.id ≡ id)
 items-id true id list nodes = of (first_of id list) refl
@@ -64,7 +64,7 @@ items-id true id list nodes = of (first_of id list) refl
     of None is = All-nil (λ (i : Item). i.element.id ≡ id)
     of (Some h) is = All-cons (λ (i : Item). i.element.id ≡ id) (item_at nodes h) [] (first-own id list h is) (All-nil (λ (i : Item). i.element.id ≡ id))
 
--- there is one, or none
+-- There is one item, or none.
 pub item-cases : (written : Bool) (id : ℕ) (list : List Header) (nodes : List Node)
     → (((written ≡ false) ⊎ (first_of id list ≡ None)) × (items_of written id list nodes ≡ [])) ⊎ ((h : Header) × (first_of id list ≡ Some h) × (items_of written id list nodes ≡ item_at nodes h ∷ []))
 item-cases false id list nodes = inl (inl refl, refl)
@@ -75,7 +75,7 @@ item-cases true id list nodes = of (first_of id list) refl
     of None is = inl (inr is, refl)
     of (Some h) is = inr (h, is, refl)
 
--- items of two IDs are distinct
+-- Items of two IDs are distinct.
 pub two-distinct : (one other : Bool) (a b : ℕ) (list : List Header) (ns ms : List Node) → (b == a) ≡ false → AreDistinct (items_of one a list ns ++ items_of other b list ms)
 two-distinct one other a b list ns ms differ = of (items_of one a list ns) (items-id one a list ns) (few one a ns)
   where
@@ -100,7 +100,7 @@ two-distinct one other a b list ns ms differ = of (items_of one a list ns) (item
         (All-weaker (λ (j : Item). j.element.id ≡ b) (λ (j : Item). (j.element.id == i.element.id) ≡ false) (λ j is. ap (λ n. n == i.element.id) is ∙ ap (λ n. b == n) own ∙ differ) rest (items-id other b list ms), alone rest (few other b ms))
     of (i ∷ j ∷ js) ids short = absurd (omega arith)
 
--- where nothing moves, nothing is appended
+-- If nothing moves, nothing is appended.
 appended-none : (ps : List Part) → list_any moves ps ≡ false → appended ps ≡ []
 appended-none [] none = refl
 appended-none (p ∷ ps) none = of (appended-none ps) (moves p) none
@@ -109,7 +109,7 @@ appended-none (p ∷ ps) none = of (appended-none ps) (moves p) none
     of further true is = absurd (cc)
     of further false is = further is
 
--- few nodes stand in each part
+-- Each part has few nodes.
 pub nodes-none : (len : ℕ) (ps : List Part) → too_large len ps ≡ None → most_nodes ps ≤ MAX_NODES
 nodes-none len ps is = of (nat_lt MAX_NODES (most_nodes ps)) (nat_lt MAX_WRITTEN len) refl is
   where
@@ -130,7 +130,7 @@ all-right : {X : Type 0} (P : X → Type 0) (xs ys : List X) → All P (xs ++ ys
 all-right P [] ys all = all
 all-right P (x ∷ xs) ys all = all-right P xs ys (All-tail P x (xs ++ ys) all)
 
--- the nodes of a part that is written
+-- The nodes of a part that is written.
 part-nodes : (written : Bool) (id : ℕ) (list : List Header) (nodes : List Node) (i : Item) → items_of written id list nodes ≡ i ∷ [] → kept_all (nodes_of nodes) + 1 ≤ most_nodes (part_of written id list nodes)
 part-nodes false id list nodes i is = absurd (cc)
 part-nodes true id list nodes i is = of (first_of id list) is
@@ -185,7 +185,7 @@ module _ (bytes : List ℕ) (are_octets : AreOctets bytes) (short : length bytes
   pub distinct : AreDistinct items
   distinct = two-distinct (are_of_info edits) (are_of_tracks edits) INFO TRACKS others (info_nodes t.info) t.tracks refl
 
-  -- ---- what is written can be read
+  -- ---- written elements can be read
 
   module _ (few : All (λ (i : Item). length (octets_of i.element) ≤ 2 ^ 24) items) (nodes : most_nodes ps ≤ MAX_NODES) where
     pub are : All (IsItem others) items
@@ -218,12 +218,12 @@ module _ (bytes : List ℕ) (are_octets : AreOctets bytes) (short : length bytes
         let most = both-nodes.1 in
         record { stand = stands.0; shallow = stands.1; short = omega arith; few = omega arith }
 
-  -- ---- what is read of Info and Tracks
+  -- ---- Info and Tracks that are read
 
   in-list : (id : ℕ) (h : Option Header) → (id == CLUSTER) ≡ false → first_of id others ≡ h → first_of id list ≡ h
   in-list id h other is = sym (first_in-others id list other) ∙ is
 
-  -- there was an Info where there is one, and none where there is none
+  -- The list has an Info if and only if the trees have one.
   info-was : (h : Option Header) → first_of INFO list ≡ h → is_some h ≡ is_some f.trees.info
   info-was None is =
       let read : Ok None ≡ Ok f.trees.info = sym (ap (tree_at bytes) is) ∙ first.info in
@@ -281,7 +281,7 @@ module _ (bytes : List ℕ) (are_octets : AreOctets bytes) (short : length bytes
         | inr lacks ↦ absurd (let read : Ok None ≡ Ok (Some first.whole) = sym (ap (tree_at bytes) (in-list TRACKS None refl lacks)) ∙ first.tracks in cc)
       ]
 
-  -- no Info and no Tracks has another ID
+  -- No item has an ID other than Info and Tracks.
   neither : (id : ℕ) → (INFO == id) ≡ false → (TRACKS == id) ≡ false → All (λ (i : Item). (i.element.id == id) ≡ false) items
   neither id one two = All-append (λ (i : Item). (i.element.id == id) ≡ false) infos tracks
       (All-weaker (λ (i : Item). i.element.id ≡ INFO) (λ (i : Item). (i.element.id == id) ≡ false) (λ i is. ap (λ n. n == id) is ∙ one) infos (items-id (are_of_info edits) INFO others (info_nodes t.info)))
@@ -296,7 +296,7 @@ module _ (bytes : List ℕ) (are_octets : AreOctets bytes) (short : length bytes
       (All-weaker (λ (i : Item). i.element.id ≡ INFO) (λ (i : Item). (i.element.id == TRACKS) ≡ false) (λ i is. ap (λ n. n == TRACKS) is) infos (items-id (are_of_info edits) INFO others (info_nodes t.info)))
       (subst (All (λ (i : Item). (i.element.id == TRACKS) ≡ false)) (sym none) (All-nil (λ (i : Item). (i.element.id == TRACKS) ≡ false)))
 
-  -- what an Info that is written spells, and so with Tracks
+  -- The body of a written Info; below the same for Tracks.
   info-spells : (h : Header) → infos ≡ item_at (info_nodes t.info) h ∷ [] → All (λ (i : Item). i.element.id ≡ INFO → i.element.body ≡ flat_map octets (info_nodes t.info)) items
   info-spells h item = All-append (λ (i : Item). i.element.id ≡ INFO → i.element.body ≡ flat_map octets (info_nodes t.info)) infos tracks
       (subst (All (λ (i : Item). i.element.id ≡ INFO → i.element.body ≡ flat_map octets (info_nodes t.info))) (sym item) (All-cons (λ (i : Item). i.element.id ≡ INFO → i.element.body ≡ flat_map octets (info_nodes t.info)) (item_at (info_nodes t.info) h) [] (λ own. refl) (All-nil (λ (i : Item). i.element.id ≡ INFO → i.element.body ≡ flat_map octets (info_nodes t.info)))))
@@ -307,9 +307,9 @@ module _ (bytes : List ℕ) (are_octets : AreOctets bytes) (short : length bytes
       (All-weaker (λ (i : Item). i.element.id ≡ INFO) (λ (i : Item). i.element.id ≡ TRACKS → i.element.body ≡ flat_map octets t.tracks) (λ i is own. absurd (let same : INFO ≡ TRACKS = sym is ∙ own in omega arith)) infos (items-id (are_of_info edits) INFO others (info_nodes t.info)))
       (subst (All (λ (i : Item). i.element.id ≡ TRACKS → i.element.body ≡ flat_map octets t.tracks)) (sym item) (All-cons (λ (i : Item). i.element.id ≡ TRACKS → i.element.body ≡ flat_map octets t.tracks) (item_at t.tracks h) [] (λ own. refl) (All-nil (λ (i : Item). i.element.id ≡ TRACKS → i.element.body ≡ flat_map octets t.tracks))))
 
-  -- ---- what the file holds then
+  -- ---- new content of the file
 
-  -- where these Elements of level 1 are written anew and these stand behind the old end, and the parts are found among them
+  -- The items are rewritten, other elements follow the old end, and the parts are found among both.
   module _ (new : List ℕ) (all : List Item) (added : List Element) (rest : HoldsRest bytes new f.outline list all added)
       (few : All (λ (i : Item). length (octets_of i.element) ≤ 2 ^ 24) items) (nodes : most_nodes ps ≤ MAX_NODES)
       (untouched : (id : ℕ) → ends_cluster id ≡ true → (id == CLUSTER) ≡ false → (SEEK_HEAD == id) ≡ false → All (λ (i : Item). (i.element.id == id) ≡ false) items → IsUntouched all added id)
@@ -375,14 +375,14 @@ module _ (bytes : List ℕ) (are_octets : AreOctets bytes) (short : length bytes
           | inr has ↦ (rest-still.stays (item_at nodes h) member has).0
         ])
 
-    -- What the file holds where nothing moves.
+    -- The content of the file if nothing moves.
     pub stayed : HoldsEdited bytes (applied bytes ws) f t
     stayed =
         holds (applied bytes ws) items [] rest-still few nodes
         (λ id level other seek none. record { level = level; other = other; written = none; behind = All-nil (λ (d : Element). (d.id == id) ≡ false) })
         written-still
 
-  -- ---- something moves
+  -- ---- an element moves
 
   module _ (s : SeekHeadAt) (planned : IsPlanned f.outline edit_ids ps ws s others) (any : list_any moves ps ≡ true) (moved_first : Element) (moved_more : List Element) (moved_are : elements_moving ps ≡ moved_first ∷ moved_more) where
     abbrev seeks : Element
@@ -414,7 +414,7 @@ module _ (bytes : List ℕ) (are_octets : AreOctets bytes) (short : length bytes
     part-items : All (IsItem others) items
     part-items = are few-moving nodes-moving
 
-    -- what holds of all items holds of what moves
+    -- A fact about all items holds for the moved elements.
     of-items : (Q : Element → Type 0) → All (λ (i : Item). Q i.element) items → All Q (moved_first ∷ moved_more)
     of-items Q is = subst (All Q) moved_are (moving-all Q others ps items are-of is)
 
@@ -447,6 +447,6 @@ module _ (bytes : List ℕ) (are_octets : AreOctets bytes) (short : length bytes
           | inr has ↦ subst (λ n. IsWritten grown n (flat_map octets nodes) rest-away.list) own (rest-away.stays (item_at nodes h) (inr member) has).0
         ]
 
-    -- What the file holds where something moves.
+    -- The content of the file if an element moves.
     pub moved-away : HoldsEdited bytes grown f t
     moved-away = holds grown all (moved_first ∷ moved_more) rest-away few-moving nodes-moving untouched-away written-away

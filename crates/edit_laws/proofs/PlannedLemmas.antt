@@ -1,4 +1,4 @@
--- What stays where parts are written, and the SeekHead that tells where they are.
+-- The content that stays if parts are written with a SeekHead that has their places.
 use Rattle.std.proofs.Common.{◌≡◌, ◌≤◌, ℕ, ◌+◌, ◌^◌, ◌==◌, Bool, true, false, if◌then◌else◌, List, [], ◌∷◌, ◌++◌, length, map, All, Option, Some, None, Result, Ok, Err, refl, sym, ◌∙◌, ap, ap₂, subst, arith}
 use Rattle.std.specs.List.{list_any}
 use Rattle.std.specs.Option.{option_and_then, unwrap_or}
@@ -39,16 +39,16 @@ use Rattle.edit_laws.proofs.RestLemmas.{HoldsRest, rest-moves, rest-stays, small
 use Rattle.edit_laws.proofs.WriteLemmas.{fitted-long, item-some, writes_of}
 use Rattle.edit_laws.specs.Laws.{IsOutside}
 
--- ---- the places of writes
+-- ---- places of writes
 
--- the places of a record are those of the writes
+-- The places of a record are the places of its writes.
 pub in-order : (old from : ℕ) (ws : List Write) → AreInOrder old from (map place ws) → InOrder old from ws
 in-order old from [] order = tt
 in-order old from (w ∷ ws) order = (order.0, order.1, order.2, in-order old (w.at + length w.bytes) ws order.3)
 
--- ---- what isn't refused
+-- ---- no refusal
 
--- Nothing refuses parts and a SeekHead, which tells of these IDs, where the Elements of level 1 are these.
+-- Nothing refuses the parts `ps` and a SeekHead with Seeks of `ids`; `list` are the elements of level 1.
 pub record IsPlanned (o : FileOutline) (ids : List ℕ) (ps : List Part) (ws : List Write) (s : SeekHeadAt) (list : List Header) : Type 0 where
   pub head : first_of SEEK_HEAD list ≡ Some s.header
   pub large : too_large (length_moving o ps (seek_head ids o ps (Some s)) (span_of s.header list)) ps ≡ None
@@ -97,7 +97,7 @@ writes-planned bytes o ids ps ws op made = of (seek_head_of bytes o) refl made
 
 -- ---- the old SeekHead
 
--- What stands in a SeekHead that is written anew are the children of the first one, as a tree.
+-- The children of a rewritten SeekHead are taken from the first SeekHead, as a tree.
 pub record IsHead (bytes : List ℕ) (o : FileOutline) (s : SeekHeadAt) : Type 0 where
   pub tree : Node
   pub read : first_tree SEEK_HEAD bytes o.segment ≡ Ok (Some tree)
@@ -130,7 +130,7 @@ head-read bytes o s op is = of (first_of SEEK_HEAD o.others) refl is
     of None none is = absurd (cc)
     of (Some h) first is = before h first _ is
 
--- ---- what stays
+-- ---- content that stays
 
 module _ (bytes : List ℕ) (are_octets : AreOctets bytes) (short : length bytes ≤ LONGEST_FILE) (o : FileOutline) (ws : List Write) (op : IsOpened bytes o) (undamaged : o.damage ≡ None)
     (order : InOrder (length bytes) 0 ws) (outside_all : All IsOutside (segment_run bytes o.segment).list) (ids : List ℕ) (ps : List Part) (s : SeekHeadAt)
@@ -169,7 +169,7 @@ module _ (bytes : List ℕ) (are_octets : AreOctets bytes) (short : length bytes
   middle-is : ascending (write s.header.offset (unwrap_or (fitted seeks space) []) ∷ part_writes ps) ≡ ascending (writes_of others (head_item ∷ items))
   middle-is = ap₂ (λ w vs. ascending (w ∷ vs)) head-write writes_are
 
-  -- Nothing stands behind the old end.
+  -- Nothing follows the old end.
   pub rest-beside : list_any moves ps ≡ false → HoldsRest bytes (applied bytes ws) o list (head_item ∷ items) []
   rest-beside still =
       rest-stays bytes are_octets short o ws op undamaged order outside_all (head_item ∷ items) all-are (other, distinct)
@@ -178,7 +178,7 @@ module _ (bytes : List ℕ) (are_octets : AreOctets bytes) (short : length bytes
       else ascending (write s.header.offset (unwrap_or (fitted seeks space) []) ∷ part_writes ps)) still)
       ∙ planned.writes)
 
-  -- What moves stands there.
+  -- The moved elements follow the old end.
   module _ (any : list_any moves ps ≡ true) (first : Element) (more : List Element) (moved : elements_moving ps ≡ first ∷ more)
       (elements : All IsElement (first ∷ more)) (names : All (λ (d : Element). IsName d.id) (first ∷ more)) where
     appended-is : appended ps ≡ joined (first ∷ more)

@@ -1,4 +1,4 @@
--- Each point of a file that can be indexed points at a block of it.
+-- Each cue point of a file that can be indexed points at a block of it.
 use Rattle.std.proofs.Common.{◌≡◌, ◌≤◌, ℕ, zero, suc, ◌+◌, ◌-◌, ◌/◌, ◌==◌, Bool, true, false, ◌&&◌, if◌then◌else◌, List, [], ◌∷◌, ◌++◌, filter, take, Some, None, Ok, ℤ, pos, negsuc, refl, sym, ap, subst, arith}
 use Rattle.std.specs.Prelude.{is_some, slice_get, unwrap_or}
 use Rattle.std.specs.List.{All, AllZip, flat_map, list_any}
@@ -30,7 +30,7 @@ use Rattle.edit_laws.proofs.TickLemmas.{times-ticks}
 
 -- ---- a file that can be indexed
 
--- It was read from this, no damage is told of it, and its scale is at least 1.
+-- The file `f` was read from `bytes`, no damage is reported for it, and its scale is at least 1.
 pub record IsWhole (bytes : List ℕ) (f : EditableFile) : Type 0 where
   pub outline : outline_in 0 bytes ≡ Ok f.outline
   pub trees : trees_of bytes f.outline.segment ≡ Ok f.trees
@@ -54,14 +54,14 @@ indexable-whole bytes f is =
       scale = (trees-scale bytes outline.0.segment trees.0 trees.1.0).some;
     })
 
--- Limits hide nothing of it.
+-- Limits change nothing for such a file.
 pub hidden-none : LimitsHideNothing
 hidden-none bytes f is =
     limits-change_nothing (file_scale bytes f.outline.segment) bytes f.outline.segment (indexable-whole bytes f is).undamaged
 
--- ---- the point of a block
+-- ---- cue point of a block
 
--- A block that stands in a Cluster, at a whole tick.
+-- The block `b` is in a Cluster, at a whole tick.
 pub record IsAtTick (bytes : List ℕ) (segment : Header) (b : Block) : Type 0 where
   pub cluster : Header
   pub stands : StandsIn (without_limits (file_scale bytes segment)) bytes segment b cluster
@@ -76,7 +76,7 @@ since : (z : ℤ) → is_some (since_start z) ≡ true → since_start z ≡ Som
 since (pos t) is = refl
 since (negsuc n) is = absurd (cc)
 
--- the time of a block that gets a point
+-- The timestamp of an indexed block.
 pub indexed-time : (bytes : List ℕ) (segment : Header) (numbers : List ℕ) (b : Block) (at : IsAtTick bytes segment b) → is_indexed numbers b ≡ true
     → b.time ≡ nanoseconds (file_scale bytes segment) (pos (unwrap_or (since_start b.time) 0 / file_scale bytes segment))
 indexed-time bytes segment numbers b at is = at.time _ (since b.time (second b.key (is_some (since_start b.time)) (list_any (λ n. n == b.track) numbers) is))
@@ -97,7 +97,7 @@ point-at bytes segment numbers b at is =
       time = indexed-time bytes segment numbers b at is;
     }
 
--- what each of the points has that blocks get
+-- A fact about each cue point of indexed blocks.
 points-have : (P : CuePoint → Type 0) (bytes : List ℕ) (segment : Header) (numbers : List ℕ) (blocks : List Block) → All (IsAtTick bytes segment) blocks
     → ((b : Block) (at : IsAtTick bytes segment b) → is_indexed numbers b ≡ true → P (point_in (file_scale bytes segment) segment.body b at.cluster))
     → All P (points_among (file_scale bytes segment) segment.body (segment_run bytes segment).list numbers blocks)
@@ -114,7 +114,7 @@ points-have P bytes segment numbers (b ∷ bs) each has = split (points-have P b
     split rest true is = All-append P _ _ (here is) rest
     split rest false is = rest
 
--- ---- each block has its point
+-- ---- each block has its cue point
 
 take-zip : {A B : Type 0} (R : A → B → Type 0) (n : ℕ) (xs : List A) (ys : List B) → AllZip R xs ys → AllZip R (take n xs) (take n ys)
 take-zip R zero xs ys zip = tt
@@ -135,7 +135,7 @@ each-point bytes segment (b ∷ bs) each =
     let P : List CuePoint → Type 0 = λ ps. AllZip (IsPointOf bytes segment) (b ∷ bs) (ps ++ flat_map (points_to scale segment.body list) bs) in
     subst P (sym own) (record { cluster = first.0; stands = first.1; point = refl }, each-point bytes segment bs (All-tail S b bs each))
 
--- The points of a file are those of the first blocks that get one.
+-- The cue points of a file belong to the first indexed blocks.
 pub block-point : EachBlockHasItsPoint
 block-point bytes segment tracks =
     let S : Block → Type 0 = λ x. (cluster : Header) × StandsIn (with_limits (file_scale bytes segment)) bytes segment x cluster in
@@ -143,14 +143,14 @@ block-point bytes segment tracks =
     (each-point bytes segment (indexed_blocks bytes segment tracks)
     (All-filter (is_indexed (indexed_tracks tracks)) S (blocks_of (file_events true bytes segment)) (blocks-stand (with_limits (file_scale bytes segment)) bytes segment)))
 
--- ---- each point has its block
+-- ---- each cue point has its block
 
--- what holds of each, and what holds besides
+-- Two facts about each block give a third one.
 both : (P Q R : Block → Type 0) → ((b : Block) → P b → Q b → R b) → (bs : List Block) → All P bs → All Q bs → All R bs
 both P Q R more [] ps qs = All-nil R
 both P Q R more (b ∷ bs) ps qs = All-cons R b bs (more b (All-head P b bs ps) (All-head Q b bs qs)) (both P Q R more bs (All-tail P b bs ps) (All-tail Q b bs qs))
 
--- what each point of a file that can be indexed has
+-- A fact about each cue point of a file that can be indexed.
 pub each-has : (P : CuePoint → Type 0) (bytes : List ℕ) (f : EditableFile) → indexable bytes ≡ Ok f
     → ((b : Block) (at : IsAtTick bytes f.outline.segment b) → is_indexed (indexed_tracks f.trees.tracks) b ≡ true → P (point_in (file_scale bytes f.outline.segment) f.outline.segment.body b at.cluster))
     → All P (index_points bytes f.outline.segment f.trees.tracks)
@@ -168,7 +168,7 @@ each-has P bytes f is has =
     (points-have P bytes segment numbers (blocks_of (file_events true bytes segment))
     (All-same (IsAtTick bytes segment) (blocks_of (file_events true bytes segment)) (blocks_of unlimited) (sym (ap blocks_of (hidden-none bytes f is))) at) has)
 
--- Each point of a file that can be indexed points at a block of it.
+-- Each cue point of a file that can be indexed points at a block of it.
 pub points-point_at : PointsPointAtBlocks
 points-point_at bytes f is =
     each-has (PointsAtBlock (file_scale bytes f.outline.segment) bytes f.outline.segment) bytes f is

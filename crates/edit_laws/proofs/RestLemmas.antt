@@ -1,4 +1,4 @@
--- What stays of a content of which some Elements of level 1 are written anew, with others behind its old end or none.
+-- The content that stays if some elements of level 1 are rewritten, with or without elements after the old end.
 use Rattle.std.proofs.Common.{inl, inr, ◌≡◌, ◌⊎◌, ◌<◌, ◌≤◌, ℕ, ◌+◌, ◌-◌, ◌^◌, ◌==◌, min, Bool, true, false, if◌then◌else◌, List, [], ◌∷◌, ◌++◌, length, length-append, append-nil, All, None, Some, Ok, refl, sym, ◌∙◌, ap, ap₂, subst, arith}
 use Rattle.std.proofs.lemmas.List.Elements.{All-nil, All-head, All-weaker}
 use Rattle.ebml_numbers.specs.declared.number.Size.{Size}
@@ -52,23 +52,22 @@ use Rattle.edit_laws.proofs.StayLemmas.{same-length, same-outside, stays, stays-
 use Rattle.edit_laws.proofs.WriteLemmas.{inside-room, one-ascending, one-items, touches-append, touches-ascending, touches-items, writes_of}
 use Rattle.edit_laws.specs.Laws.{IsOutside}
 
--- ---- what stays
+-- ---- content that stays
 
--- No Element of an ID, one that ends a Cluster and isn't its own, is written anew or stands behind the old end.
+-- No element with the ID `id` is rewritten or follows the old end. The ID ends a Cluster and isn't the Cluster's own.
 pub record IsUntouched (items : List Item) (added : List Element) (id : ℕ) : Type 0 where
   pub level : ends_cluster id ≡ true
   pub other : (id == CLUSTER) ≡ false
   pub written : All (λ (i : Item). (i.element.id == id) ≡ false) items
   pub behind : All (λ (d : Element). (d.id == id) ≡ false) added
 
--- A Cluster of the old content stands in the new one too, and gives the same blocks.
+-- The Cluster `h` of the old content is in the new one, too, and gives the same blocks.
 pub record HoldsCluster (old new : List ℕ) (was now h : Header) : Type 0 where
   pub found : element_at in_segment new h.offset (segment_bound new now) ≡ Ok h
   pub alike : (r : Rules) → AreAlike (found_in r old (segment_bound old was) h) (found_in r new (segment_bound new now) h)
 
--- What a content holds where these Elements of level 1 of the old one are written anew, and these stand behind its old end:
--- an undamaged level 1; Clusters, blocks and what else isn't written anew as they were, at their places, and no damage where
--- none was; and what is written anew in its place, or else, where it is the only one of its ID, behind the old end or nowhere.
+-- The new content holds the rest of the old one. Level 1 is undamaged. Clusters, blocks and other elements that aren't rewritten stay in their
+-- places, and no damage is added. A rewritten element is in its place; or, if it is the only one with its ID, after the old end or nowhere.
 pub record HoldsRest (old new : List ℕ) (o : FileOutline) (was : List Header) (items : List Item) (added : List Element) : Type 0 where
   pub segment : Header
   pub ebml : ebml_header new ≡ Ok o.ebml
@@ -92,15 +91,15 @@ pub record HoldsRest (old new : List ℕ) (o : FileOutline) (was : List Header) 
 
 -- ---- items
 
--- an Element of few octets can be written anew
+-- A short element can be rewritten.
 pub small-item : (others : List Header) (id : ℕ) (body : List ℕ) (h : Header) → IsName id → is_id id ≡ true → first_of id others ≡ Some h → length (octets_of (element id body)) ≤ 2 ^ 24 → IsItem others (record { header = h; element = element id body })
 small-item others id body h name valid first few =
     let all = length-octets_of (element id body) in
     record { first = first; name = name; widen = small-widen id body valid (omega arith) }
 
--- ---- octets
+-- ---- bytes
 
--- octets that stand one behind the other
+-- Two sequences of bytes follow each other.
 held-join : (bytes : List ℕ) (p : ℕ) (a b : List ℕ) → HoldsAt bytes p a → HoldsAt bytes (p + length a) b → HoldsAt bytes p (a ++ b)
 held-join bytes p a b one two =
     let len = length-append a b in
@@ -115,7 +114,7 @@ held-nothing bytes p = let len = length-octets_between bytes p (p + 0) in of (oc
     of [] is = refl
     of (x ∷ xs) is = absurd (omega arith)
 
--- ---- what the new list gives
+-- ---- results of the new list
 
 module _ (t : Edit) (o : FileOutline) (items : List Item) (added : List Element) (now : Header) (anew : IsAnew t items)
     (old_run : segment_run t.old o.segment ≡ whole t.list t.last) (new_run : segment_run t.new now ≡ run_of (new_level t) t.start)
@@ -143,7 +142,7 @@ module _ (t : Edit) (o : FileOutline) (items : List Item) (added : List Element)
             (subst (λ e. AreAlike (found_in r t.old t.end h) (found_in r t.new e h)) (sym new_bound) (keeps.alike r));
       }
 
-  -- one that is written anew
+  -- A rewritten element.
   module _ (i : Item) (member : IsAmong items i) where
     is : IsItem (others_of t.list) i
     is = all-among (IsItem (others_of t.list)) items i are member
@@ -251,7 +250,7 @@ module _ (bytes : List ℕ) (are_octets : AreOctets bytes) (short : length bytes
   pub stand : Stand segment.body last others
   stand = tiles-stand bytes segment.size end segment.body last list (tiled (level bytes segment.size end) segment.body last list (advances-level bytes segment.size end) run).tiles
 
-  -- the list ends within the file
+  -- The list ends within the file.
   pub last-within : last ≤ length bytes
   last-within =
       let reaches = level-within bytes segment.size end segment.body last list (tiled (level bytes segment.size end) segment.body last list (advances-level bytes segment.size end) run).tiles begins in
@@ -265,7 +264,7 @@ module _ (bytes : List ℕ) (are_octets : AreOctets bytes) (short : length bytes
   blocks : (h : Header) → IsAmong list h → ends_cluster h.id ≡ false → IsOutside h
   blocks h ahead goes = all-among IsOutside list h outside_all ahead
 
-  -- ---- nothing stands behind the old end
+  -- ---- nothing follows the old end
 
   module _ (items : List Item) (are : All (IsItem others) items) (distinct : AreDistinct items) (is_ws : ascending (writes_of others items) ≡ ws) where
     one : All (λ (i : Item). IsAmong ws (write_of others i)) items
@@ -302,7 +301,7 @@ module _ (bytes : List ℕ) (are_octets : AreOctets bytes) (short : length bytes
     front-part : AreSame bytes new 0 segment.offset
     front-part = same-part bytes new 0 segment.body 0 segment.offset (omega arith) (omega arith) (omega (arith, body-later)) front-same
 
-    -- What stays where nothing stands behind the old end.
+    -- The content that stays if nothing follows the old end.
     pub rest-stays : HoldsRest bytes new o list items []
     rest-stays =
         rest-of edit-is o items [] segment
@@ -313,7 +312,7 @@ module _ (bytes : List ℕ) (are_octets : AreOctets bytes) (short : length bytes
         (segment-same bytes new o.ebml segment segment seg (omega (arith, len)) front-part there seg.own)
         refl
 
-  -- ---- something stands there
+  -- ---- elements follow the old end
 
   module _ (items : List Item) (are : All (IsItem others) items) (distinct : AreDistinct items) (grow : CanGrow o) (first : Element) (more : List Element)
       (elements : All IsElement (first ∷ more)) (names : All (λ (d : Element). IsName d.id) (first ∷ more)) (few : length (joined (first ∷ more)) ≤ 2 ^ 24)
@@ -339,7 +338,7 @@ module _ (bytes : List ℕ) (are_octets : AreOctets bytes) (short : length bytes
         (All-weaker (λ (i : Item). IsAmong (writes_of others items) (write_of others i)) (λ (i : Item). IsAmong (front ++ middle ++ tail_write ∷ []) (write_of others i))
         (λ i is. among-left (front ++ middle) (tail_write ∷ []) (write_of others i) (among-right front middle (write_of others i) (one-ascending (writes_of others items) (write_of others i) is))) items (one-items others items))
 
-    -- where an octet is written
+    -- The places of written bytes.
     where-written : (k : ℕ) → WritesOctet ws k → ((segment.offset + length (id_octets SEGMENT) ≤ k) × (k < segment.body)) ⊎ ((total ≤ k) ⊎ IsInside others items k)
     where-written k touched = elim (touches-append (front ++ middle) (tail_write ∷ []) k (subst (λ (vs : List Write). WritesOctet vs k) (sym is_ws) touched)) [
       | inl before ↦ elim (touches-append front middle k before) [
@@ -355,7 +354,7 @@ module _ (bytes : List ℕ) (are_octets : AreOctets bytes) (short : length bytes
     touch-moving : (k : ℕ) → WritesOctet ws k → (k < segment.body) ⊎ ((total ≤ k) ⊎ IsInside others items k)
     touch-moving k touched = elim (where-written k touched) [ inl size ↦ inl size.1 | inr rest ↦ inr rest ]
 
-    -- ---- how long the file is
+    -- ---- length of the file
 
     inside-front : (k : ℕ) → WritesOctet (front ++ middle) k → k < total
     inside-front k touched = elim (touches-append front middle k touched) [
@@ -407,7 +406,7 @@ module _ (bytes : List ℕ) (are_octets : AreOctets bytes) (short : length bytes
 
     -- ---- the Segment
 
-    -- the Segment that stands there now: its size is written anew where it is known
+    -- the Segment of the new content: a known size is rewritten
     record IsNow (now : Header) : Type 0 where
       there : element_at at_level_0 new segment.offset (length new) ≡ Ok now
       own : now.id ≡ SEGMENT
@@ -555,6 +554,6 @@ module _ (bytes : List ℕ) (are_octets : AreOctets bytes) (short : length bytes
           (segment-same bytes new o.ebml segment now seg (omega (arith, grown-len)) front-clear is.there is.own)
           is.body
 
-    -- What stays where these Elements stand behind the old end.
+    -- The content that stays if these elements follow the old end.
     pub rest-moves : HoldsRest bytes new o list items (first ∷ more)
     rest-moves = rest-now now-is.0 now-is.1

@@ -1,4 +1,4 @@
--- What an edited content still holds at level 1.
+-- The content of an edited file at level 1 that is still there.
 use Rattle.std.proofs.Common.{inl, inr, ◌≡◌, ◌⊎◌, ℕ, ◌+◌, ◌==◌, Bool, true, false, if◌then◌else◌, List, [], ◌∷◌, ◌++◌, length, All, Some, None, refl, sym, ◌∙◌, ap, subst, arith}
 use Rattle.std.proofs.lemmas.Bool.Decides.{nat_tests}
 use Rattle.std.proofs.lemmas.List.Elements.{All-head, All-tail, All-cons, All-weaker}
@@ -14,14 +14,14 @@ use Rattle.edit_laws.proofs.BlockLemmas.{IsHeld}
 use Rattle.edit_laws.proofs.ClusterLemmas.{blocks-then, undamaged-then}
 use Rattle.edit_laws.proofs.LevelLemmas.{Spot, Edit, all_now, IsSpot, IsKept, IsGone, Becomes, Turn, kept, now, gone, cluster-ends, void-goes, goes-other}
 
--- IDs that differ from one of an Element
+-- An ID that differs from an element's ID.
 other-id : (a b id : ℕ) → a ≡ b → (b == id) ≡ false → (a == id) ≡ false
 other-id a b id same other = ap (λ n. n == id) same ∙ other
 
 void-other : (id : ℕ) → ends_cluster id ≡ true → (VOID == id) ≡ false
 void-other id ends = goes-other VOID id void-goes ends
 
--- no Element written has an ID
+-- No written element has the ID.
 abbrev HasNot : ℕ → List Element → Type 0
 HasNot id ds = All (λ (d : Element). (d.id == id) ≡ false) ds
 
@@ -32,7 +32,7 @@ first-skips id p (d ∷ ds) ns none =
     ∙ first-skips id (p + length (octets_of d)) ds ns (All-tail (λ (d : Element). (d.id == id) ≡ false) d ds none)
 
 module _ (t : Edit) where
-  -- what is written anew has the old ID, or is a Void
+  -- A rewritten element has the old ID, or is a Void.
   not-now : (id : ℕ) (s : Spot) → IsSpot t s → (VOID == id) ≡ false → ((s.now.id ≡ VOID) ⊎ ((s.header.id == id) ≡ false)) → HasNot id (all_now s)
   not-now id s spot void other = λ k d below. of k d below
     where
@@ -48,7 +48,7 @@ module _ (t : Edit) where
       of : HasNot id (all_now s)
       of = All-cons (λ (d : Element). (d.id == id) ≡ false) s.now s.voids first (All-weaker (λ (d : Element). d.id ≡ VOID) (λ (d : Element). (d.id == id) ≡ false) (λ d is. other-id d.id VOID id is void) s.voids spot.voids)
 
-  -- ---- the blocks
+  -- ---- blocks
 
   pub events-skip : (r : Rules) (p : ℕ) (ds : List Element) (ns : List Header) → HasNot CLUSTER ds → events_among r t.new t.now_end (headers_in_place p ds ++ ns) None ≡ events_among r t.new t.now_end ns None
   events-skip r p [] ns none = refl
@@ -57,7 +57,7 @@ module _ (t : Edit) where
       else events_among r t.new t.now_end (headers_in_place (p + length (octets_of d)) ds ++ ns) None) (All-head (λ (d : Element). (d.id == CLUSTER) ≡ false) d ds none)
       ∙ events-skip r (p + length (octets_of d)) ds ns (All-tail (λ (d : Element). (d.id == CLUSTER) ≡ false) d ds none)
 
-  -- no Cluster is written anew
+  -- No Cluster is rewritten.
   spot-cluster : (s : Spot) → IsSpot t s → HasNot CLUSTER (all_now s)
   spot-cluster s spot = not-now CLUSTER s spot refl (inr spot.cluster)
 
@@ -71,7 +71,7 @@ module _ (t : Edit) where
   blocks-stay r none spots [] ns is = ap blocks_of (sym (ap (λ l. events_among r t.new t.now_end l None) is ∙ none))
   blocks-stay r none spots (h ∷ hs) ns (ks, turn, rest) = of (blocks-stay r none spots hs ks rest) turn
     where
-      -- what stands in front gives no blocks
+      -- The element before gives no blocks.
       none-here : blocks_of (events_among r t.old t.end hs None) ≡ blocks_of (events_among r t.new t.now_end ks None) → (h.id == CLUSTER) ≡ false → blocks_of (events_among r t.old t.end (h ∷ hs) None) ≡ blocks_of (events_among r t.new t.now_end ks None)
       none-here behind other =
           ap (λ (b : Bool). blocks_of (if b then events_then (is_closed (length t.old) h) (found_in r t.old t.end h) (events_among r t.old t.end hs None) else events_among r t.old t.end hs None)) other ∙ behind
@@ -89,7 +89,7 @@ module _ (t : Edit) where
           ∙ sym (ap (λ l. blocks_of (events_among r t.new t.now_end l None)) is ∙ ap blocks_of (events-skip r s.header.offset (all_now s) ks (spot-cluster s spot)))
       of behind (gone is-gone is) = none-here behind (gone-other CLUSTER h cluster-ends spots is-gone) ∙ ap (λ l. blocks_of (events_among r t.new t.now_end l None)) (sym is)
 
-  -- Where the old ones have no damage, the new ones have none.
+  -- If the old elements have no damage, the new ones have none.
   pub damages-stay : (r : Rules) → events_among r t.new t.now_end t.behind None ≡ [] → All (λ (s : Spot). (s.header.id == CLUSTER) ≡ false) t.spots → (hs ns : List Header) → Becomes t hs ns
       → damages_of (events_among r t.old t.end hs None) ≡ [] → damages_of (events_among r t.new t.now_end ns None) ≡ []
   damages-stay r none spots [] ns is old = ap (λ l. damages_of (events_among r t.new t.now_end l None)) is ∙ ap damages_of none
@@ -112,9 +112,9 @@ module _ (t : Edit) where
           ∙ further (undamaged (ap (λ (g : Header). g.id == CLUSTER) (sym own) ∙ spot.cluster))
       of further (gone is-gone is) = ap (λ l. damages_of (events_among r t.new t.now_end l None)) is ∙ further (undamaged (gone-other CLUSTER h cluster-ends spots is-gone))
 
-  -- ---- the first Element of an ID
+  -- ---- the first element with an ID
 
-  -- of an ID that isn't written anew it is the same
+  -- If no element with the ID is rewritten, the first one is the same.
   pub first-stays : (id : ℕ) → ends_cluster id ≡ true → All (λ (s : Spot). (s.header.id == id) ≡ false) t.spots → first_of id t.behind ≡ None → (hs ns : List Header) → Becomes t hs ns → first_of id ns ≡ first_of id hs
   first-stays id ends others none [] ns is = ap (first_of id) is ∙ none
   first-stays id ends others none (h ∷ hs) ns (ks, turn, rest) = of (first-stays id ends others none hs ks rest) turn
@@ -130,7 +130,7 @@ module _ (t : Edit) where
           ∙ skip behind (other-id h.id s.header.id id (ap (λ (g : Header). g.id) (sym own)) other)
       of behind (gone is-gone is) = ap (first_of id) is ∙ skip behind (gone-other id h ends others is-gone)
 
-  -- where there was none, it is the first that stands behind the old end
+  -- If there was none, it is the first one after the old end.
   pub first-behind : (id : ℕ) → ends_cluster id ≡ true → All (λ (s : Spot). (s.header.id == id) ≡ false) t.spots → (hs ns : List Header) → Becomes t hs ns → first_of id hs ≡ None → first_of id ns ≡ first_of id t.behind
   first-behind id ends others [] ns is none = ap (first_of id) is
   first-behind id ends others (h ∷ hs) ns (ks, turn, rest) none = of (first-behind id ends others hs ks rest) (h.id == id) refl none turn
@@ -143,7 +143,7 @@ module _ (t : Edit) where
           ap (first_of id) is ∙ first-skips id s.header.offset (all_now s) ks (not-now id s spot (void-other id ends) (inr differs)) ∙ further nothing
       of further false other nothing (gone is-gone is) = ap (first_of id) is ∙ further nothing
 
-  -- a Cluster stays where it is
+  -- A Cluster stays in its place.
   pub cluster-kept : (h : Header) → (h.id == CLUSTER) ≡ true → (hs ns : List Header) → Becomes t hs ns → IsAmong hs h → IsKept t h
   cluster-kept h cluster [] ns is ahead = absurd ahead
   cluster-kept h cluster (g ∷ hs) ns (ks, turn, rest) ahead = of (cluster-kept h cluster hs ks rest) ahead
@@ -161,7 +161,7 @@ module _ (t : Edit) where
       of further (inl same) = here turn same
       of further (inr later) = further later
 
-  -- and its octets are
+  -- The bytes of the first element stay, too.
   pub held-stays : (id : ℕ) (g : Header) → ends_cluster id ≡ true → (id == CLUSTER) ≡ false → All (λ (s : Spot). (s.header.id == id) ≡ false) t.spots → (hs ns : List Header) → Becomes t hs ns → first_of id hs ≡ Some g → IsHeld t.old t.new g
   held-stays id g ends other others [] ns is found = absurd (cc)
   held-stays id g ends other others (h ∷ hs) ns (ks, turn, rest) found = of (held-stays id g ends other others hs ks rest) (h.id == id) refl found
@@ -175,10 +175,10 @@ module _ (t : Edit) where
       of further true same is = let is_it : h ≡ g = cc in subst (IsHeld t.old t.new) is_it (own same turn)
       of further false same later = further later
 
-  -- ---- what is written anew
+  -- ---- rewritten elements
 
   module _ (s : Spot) (member : IsAmong t.spots s) (spot : IsSpot t s) (id : ℕ) (is_its : s.header.id ≡ id) (ends : ends_cluster id ≡ true) (single : All (λ (o : Spot). o.header ≡ s.header → o ≡ s) t.spots) where
-    -- an Element that stays isn't the one that is written anew
+    -- An element that stays isn't the rewritten one.
     kept-other : (h : Header) → IsKept t h → h ≡ s.header → ⊥
     kept-other h keeps same =
         let differs : (s.header.offset == h.offset) ≡ false = all-among (λ (o : Spot). (o.header.offset == h.offset) ≡ false) t.spots s keeps.apart member in
@@ -189,7 +189,7 @@ module _ (t : Edit) where
     void-it : (VOID == id) ≡ false
     void-it = void-other id ends
 
-    -- one that is written in its place is the first of its ID
+    -- A rewritten element in its place is the first one with its ID.
     pub first-now : s.now.id ≡ s.header.id → (hs ns : List Header) → Becomes t hs ns → first_of id hs ≡ Some s.header → first_of id ns ≡ Some (header_in_place s.header.offset s.now)
     first-now same [] ns is found = absurd (cc)
     first-now same (h ∷ hs) ns (ks, turn, rest) found = of (first-now same hs ks rest) turn (h.id == id) refl found
@@ -216,7 +216,7 @@ module _ (t : Edit) where
             absurd (let not_void = spot.void in let is_void : (s.header.id == VOID) ≡ true = grind (arith, nat_tests) in cc)
         of further (gone is-gone is) false test later = ap (first_of id) is ∙ further later
 
-    -- one that moves, and is the only one of its ID, is the first behind the old end
+    -- A moved element that is the only one with its ID is the first one after the old end.
     pub first-moved : s.now.id ≡ VOID → (hs ns : List Header) → All (λ (h : Header). (h.id == id) ≡ true → h ≡ s.header) hs → Becomes t hs ns → first_of id ns ≡ first_of id t.behind
     first-moved void [] ns alone is = ap (first_of id) is
     first-moved void (h ∷ hs) ns alone (ks, turn, rest) = of (first-moved void hs ks (All-tail (λ (h : Header). (h.id == id) ≡ true → h ≡ s.header) h hs alone) rest) turn (h.id == id) refl

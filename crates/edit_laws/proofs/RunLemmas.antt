@@ -1,4 +1,4 @@
--- The children of a master whose octets two contents share.
+-- The children of a master whose bytes two contents share.
 use Rattle.std.proofs.Common.{inl, inr, ◌≡◌, ◌<◌, ◌≤◌, ℕ, zero, suc, ◌+◌, ◌-◌, nat_lt, ◌==◌, not, Bool, true, false, ◌&&◌, ◌||◌, if◌then◌else◌, List, [], ◌∷◌, length, All, Option, Some, None, Result, Ok, Err, refl, sym, ◌∙◌, ap, subst, arith}
 use Rattle.std.specs.Option.{is_some}
 use Rattle.std.proofs.lemmas.Bool.{cases_lt, le-ltb}
@@ -19,9 +19,9 @@ use Rattle.mkv_schema.proofs.ElementLemmas.{element_at-placed, element_in-whole}
 use Rattle.mkv_schema.proofs.ElementsLemmas.{Advances-known, elements-end, elements-more}
 use Rattle.edit_laws.proofs.SameLemmas.{AreSame, same-part}
 
--- ---- one Element
+-- ---- one element
 
--- the same Element, or a damage of the same ID
+-- Both are the same element, or damage with the same ID.
 abbrev pub AreAlike : Result Header Damage → Result Header Damage → Type 0
 AreAlike (Ok g) (Ok h) = g ≡ h
 AreAlike (Ok g) (Err d) = ⊥
@@ -35,8 +35,8 @@ cut-id total id p end = of (nat_lt total end)
     of true = refl
     of false = refl
 
--- what is wrong with a body, by whether its size is unknown, it passes the file's end, its ID may be open somewhere, its
--- parent ends with the file, and it passes its parent's end
+-- the damage of a body. The tests are: its size is unknown, it passes the file's end, its ID may have an unknown size, its parent ends with the
+-- file, it passes its parent's end.
 abbrev judged : Bool → Bool → Bool → Bool → Bool → Option Kind
 judged unknown past may last over =
     if unknown && not false then Some UnknownSize else
@@ -77,15 +77,15 @@ in-alike : (o : List ℕ) (total total' p e : ℕ) → e ≤ total → e ≤ tot
 unfolding element_in
 in-alike o total total' p e within within' = id-alike o total total' p e (id_in in_master o) within within'
 
--- a child of a master that ends within both contents
+-- A child of a master that ends within both contents.
 pub element-alike : (a b : List ℕ) (p e : ℕ) → e ≤ length a → e ≤ length b → AreSame a b p e → AreAlike (element_at in_master a p e) (element_at in_master b p e)
 element-alike a b p e within within' same =
     subst (λ o. AreAlike (element_at in_master a p e) (element_in in_master o (length b) p e)) (sym same)
     (in-alike (octets_between a p e) (length a) (length b) p e within within')
 
--- ---- a run of them
+-- ---- a run of elements
 
--- the same Elements, which end at one place, with a damage or without
+-- Both runs have the same elements and the same end, and both have damage or none.
 pub record AreAlikeRuns (x y : Run) : Type 0 where
   pub list : x.list ≡ y.list
   pub damage : is_some x.damage ≡ is_some y.damage
@@ -137,13 +137,13 @@ alike-within (suc n) stops a b p e few within within' same =
       | inr past ↦ alike-past stops a b p e past
     ]
 
--- Children of a body that two contents share are the same in both.
+-- The children of a body that two contents share are the same in both.
 pub runs-alike : (stops : ℕ → Bool) (a b : List ℕ) (p e : ℕ) → e ≤ length a → e ≤ length b → AreSame a b p e → AreAlikeRuns (children stops a p e) (children stops b p e)
 runs-alike stops a b p e within within' same = alike-within (e - p) stops a b p e (omega arith) within within' same
 
--- ---- they stand inside
+-- ---- elements inside a body
 
--- an Element stands between two places, its header and its body
+-- The header and the body of `h` are between `p` and `e`.
 pub record StandsInside (p e : ℕ) (h : Header) : Type 0 where
   pub from : p ≤ h.offset
   pub header : h.offset < h.body
@@ -152,7 +152,7 @@ pub record StandsInside (p e : ℕ) (h : Header) : Type 0 where
 inside-later : (p q e : ℕ) (h : Header) → p ≤ q → StandsInside q e h → StandsInside p e h
 inside-later p q e h later inside = let from = inside.from in record { from = omega arith; header = inside.header; to = inside.to }
 
--- where no Element may be open
+-- No element may have an unknown size.
 module _ (s : Setting) (shut : (id : ℕ) → s.may_open id ≡ false) (stops : ℕ → Bool) (bytes : List ℕ) (e : ℕ) where
   inside-past : (p : ℕ) → e ≤ p → All (StandsInside p e) (elements s stops (λ h. Ok (end_in e h)) bytes p e).list
   inside-past p past = rw (elements-end s stops (λ h. Ok (end_in e h)) bytes p e past) (All-nil (StandsInside p e))
@@ -181,6 +181,6 @@ module _ (s : Setting) (shut : (id : ℕ) → s.may_open id ≡ false) (stops : 
       stopped inside further true = All-nil (StandsInside p e)
       stopped inside further false = goes_on inside further (element_at s bytes p e) refl
 
-  -- Each child stands inside its master's body.
+  -- Each child is inside its master's body.
   pub run-inside : (p : ℕ) → All (StandsInside p e) (elements s stops (λ h. Ok (end_in e h)) bytes p e).list
   run-inside p = inside-within (e - p) p (omega arith)

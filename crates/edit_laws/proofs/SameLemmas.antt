@@ -1,4 +1,4 @@
--- Contents that have the same octets between two places.
+-- Contents with the same bytes between two places.
 use Rattle.std.proofs.Common.{inl, inr, ◌≡◌, ◌⊎◌, ◌<◌, ◌≤◌, ℕ, ◌+◌, ◌-◌, max, List, [], ◌∷◌, length, take, drop, get_or, sym, ◌∙◌, ap, arith}
 use Rattle.std.specs.Bool.{⊤}
 use Rattle.std.proofs.lemmas.List.{ext_get_or, get_or-take, get_or-drop}
@@ -11,11 +11,11 @@ use Rattle.sidecar_edit.specs.Writes.{Write, end_of, applied, extent, Fits, Writ
 use Rattle.sidecar_edit.proofs.RedoLemmas.{applied_elsewhere, length-applied, extent_grows, length-overwritten, overwritten_inside}
 use Rattle.edit_laws.proofs.AmongLemmas.{IsAmong}
 
--- two contents have the same octets from a place up to another
+-- The contents have the same bytes from a place up to another.
 abbrev pub AreSame : List ℕ → List ℕ → ℕ → ℕ → Type 0
 AreSame a b p q = octets_between b p q ≡ octets_between a p q
 
--- so do they between places between these
+-- The same for places between them.
 pub same-part : (a b : List ℕ) (p q s t : ℕ) → p ≤ s → s ≤ t → t ≤ q → AreSame a b p q → AreSame a b s t
 same-part a b p q s t from between to same = part b ∙ ap (λ l. take (t - s) (drop (s - p) l)) same ∙ sym (part a)
   where
@@ -30,11 +30,11 @@ same-part a b p q s t from between to same = part b ∙ ap (λ l. take (t - s) (
         ∙ ap (λ k. take (t - s) (octets_between bytes k q)) mid
         ∙ ap (take (t - s)) (between-drop bytes p (s - p) q)
 
--- one octet of those between two places
+-- A byte between two places.
 octet-between : (bytes : List ℕ) (p q k : ℕ) → p + k < q → get_or (octets_between bytes p q) k 0 ≡ get_or bytes (p + k) 0
 octet-between bytes p q k inside = get_or-drop p (take q bytes) k 0 ∙ get_or-take q bytes (p + k) 0 inside
 
--- contents with the same octets, one by one
+-- Contents with the same bytes, one by one.
 pub same-each : (a b : List ℕ) (p q : ℕ) → q ≤ length a → q ≤ length b → ((k : ℕ) → p ≤ k → k < q → get_or b k 0 ≡ get_or a k 0) → AreSame a b p q
 same-each a b p q left right each =
     let one = length-octets_between b p q in
@@ -42,13 +42,13 @@ same-each a b p q left right each =
     ext_get_or 0 (octets_between b p q) (octets_between a p q) (omega arith)
     (λ k inside. octet-between b p q k (omega arith) ∙ each (p + k) (omega arith) (omega arith) ∙ sym (octet-between a p q k (omega arith)))
 
--- ---- what writes leave
+-- ---- bytes that writes leave
 
--- no write reaches in between two places
+-- No write reaches in between two places.
 abbrev pub IsClear : List Write → ℕ → ℕ → Type 0
 IsClear ws p q = (k : ℕ) → p ≤ k → k < q → WritesOctet ws k → ⊥
 
--- where no write reaches, all is as it was
+-- Bytes that no write reaches stay.
 pub same-clear : (ws : List Write) (file : List ℕ) (p q : ℕ) → Fits (length file) ws → q ≤ length file → IsClear ws p q → AreSame file (applied file ws) p q
 same-clear ws file p q fits inside clear =
     let size = length-applied file ws fits in
@@ -58,12 +58,12 @@ same-clear ws file p q fits inside clear =
 
 -- ---- writes in order
 
--- Each has octets and begins where the one before it ends or behind, and none begins past the file's end.
+-- Each write has bytes and begins at the previous one's end or later. None begins past the end of the file.
 abbrev pub InOrder : ℕ → ℕ → List Write → Type 0
 InOrder old from [] = ⊤
 InOrder old from (w ∷ ws) = (1 ≤ length w.bytes) × (from ≤ w.at) × (w.at ≤ max old from) × InOrder old (end_of w) ws
 
--- none of them reaches in front of the first
+-- No write reaches before the first one.
 pub order-before : (old from k : ℕ) (ws : List Write) → InOrder old from ws → k < from → WritesOctet ws k → ⊥
 order-before old from k [] order before touched = touched
 order-before old from k (w ∷ ws) order before (inl here) = let begins = order.1 in let at = here.0 in omega arith
@@ -94,7 +94,7 @@ order-octet old from (v ∷ vs) file w k long starts order one begins ends =
         ∙ overwritten_inside file v.at v.bytes k at (omega arith) (omega arith)
         ∙ ap (λ (x : Write). get_or x.bytes (k - x.at) 0) same
 
--- What is written stands there afterwards.
+-- Written bytes are there afterwards.
 pub order-held : (old : ℕ) (ws : List Write) (file : List ℕ) (w : Write) → old ≡ length file → InOrder old 0 ws → IsAmong ws w → end_of w ≤ length (applied file ws) → HoldsAt (applied file ws) w.at w.bytes
 order-held old ws file w whole order one inside =
     let len = length-octets_between (applied file ws) w.at (end_of w) in
@@ -103,7 +103,7 @@ order-held old ws file w whole order one inside =
     ∙ order-octet old 0 ws file w (w.at + k) (omega arith) (omega arith) order one (omega arith) (omega arith)
     ∙ ap (λ n. get_or w.bytes n 0) (let same : w.at + k - w.at ≡ k = omega arith in same))
 
--- it ends within the new content
+-- A write ends within the new content.
 pub order-end : (old from n : ℕ) (ws : List Write) (w : Write) → InOrder old from ws → IsAmong ws w → end_of w ≤ extent n ws
 order-end old from n [] w order one = absurd one
 order-end old from n (v ∷ vs) w order (inl same) =

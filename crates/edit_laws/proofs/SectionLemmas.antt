@@ -1,4 +1,4 @@
--- Info and Tracks of a file, before and behind edits.
+-- Info and Tracks of a file, before and after edits.
 use Rattle.std.proofs.Common.{◌≡◌, ◌<◌, ◌≤◌, ℕ, ◌+◌, List, [], ◌∷◌, All, Option, Some, None, IfSome, Ok, refl, sym, ◌∙◌, ap, subst, arith}
 use Rattle.std.specs.Option.{is_some}
 use Rattle.std.proofs.lemmas.List.Elements.{All-nil, All-cons, All-head, All-tail}
@@ -30,9 +30,9 @@ use Rattle.edit_plan.proofs.PartLemmas.{first-own}
 use Rattle.edit_laws.proofs.DepthLemmas.{tree_of-deep}
 use Rattle.edit_laws.proofs.TreeLemmas.{AreFit, IsFit, Once, of_info, of_tracks, numbered-ok, once-is, then-ok}
 
--- ---- what was read
+-- ---- trees that were read
 
--- What the trees of a file were read from.
+-- The trees `t` were read from the first elements of the Segment.
 pub record AreFirst (bytes : List ℕ) (segment : Header) (t : Trees) : Type 0 where
   pub info : first_tree INFO bytes segment ≡ Ok t.info
   pub whole : Node
@@ -68,7 +68,7 @@ trees-first bytes segment t is =
       attached = files.1.0;
     })
 
--- a tree that was read is one of its ID
+-- A tree that was read has its ID.
 read-fit : (id : ℕ) (bytes : List ℕ) (h : Header) (n : Node) → AreOctets bytes → h.id ≡ id → tree_of h.id h.offset (body_of bytes h) h.body MAX_NODES ≡ Ok n → IsFit id deepest n
 read-fit id bytes h n are own is =
     let of = tree_of-deep h.id h.offset h.body MAX_NODES (body_of bytes h) n is in
@@ -89,7 +89,7 @@ first-fit id bytes segment n are is = of (first_of id (segment_run bytes segment
         let same : Some read.0 ≡ n = (let last = read.1.1 in cc) in
         subst (λ (x : Option Node). IfSome x (IsFit id deepest)) same (read-fit id bytes h read.0 are (first-own id (segment_run bytes segment).list h some) read.1.0)
 
--- children that stand in a master
+-- Children that are valid in a master.
 all-stand : (parent : ℕ) (ns : Nodes) (most : ℕ) → AllStandIn parent ns → depth_all ns < most → All (λ (n : Node). StandsIn parent n × (depth n < most)) (list_of ns)
 all-stand parent none most stand deep = All-nil (λ (n : Node). StandsIn parent n × (depth n < most))
 all-stand parent (node n ns) most stand deep = All-cons (λ (n : Node). StandsIn parent n × (depth n < most)) n (list_of ns) (stand.0, omega arith) (all-stand parent ns most stand.1 (omega arith))
@@ -115,7 +115,7 @@ trees-fit bytes segment t are first = record {
         let deep = fit.deep in
         subst (All (λ (n : Node). StandsIn TRACKS n × (depth n < deepest))) (sym is) (all-stand TRACKS kids deepest sound (omega arith))
 
--- ---- what is to be written
+-- ---- elements to write
 
 pub info-stands : (n : Node) → IsFit INFO deepest n → AllStandIn INFO (nodes_of (children n)) × (depth_all (nodes_of (children n)) < deepest)
 info-stands (leaf id at body) fit = let never = fit.master in absurd (cc)
@@ -133,9 +133,9 @@ fit-octets id (master own at kids) fit = ap (λ (ks : Nodes). octets (master id 
 pub tracks-stand : (t : Trees) → AreFit t → AllStandIn TRACKS (nodes_of t.tracks) × (depth_all (nodes_of t.tracks) < deepest)
 tracks-stand t fit = stand-all TRACKS t.tracks deepest fit.tracks (omega arith)
 
--- ---- where there is an Info, or none
+-- ---- with an Info or without
 
--- Where there was one there is one, and where there was none there is none.
+-- The edited trees have an Info if and only if the old ones have.
 pub info-there : (k : ℕ) (es : List Edit) (t u : Trees) → edited_from k es t ≡ Ok u → is_some t.info ≡ is_some u.info
 info-there k [] t u is = let same : t ≡ u = cc in ap (λ (x : Trees). is_some x.info) same
 info-there k (e ∷ es) t u is =

@@ -1,4 +1,4 @@
--- The Segment of contents that have the same octets up to it.
+-- The Segment of contents with the same bytes up to it.
 use Rattle.std.proofs.Common.{◌≡◌, ◌<◌, ◌≤◌, ℕ, nat_lt, min, ◌==◌, Bool, true, false, if◌then◌else◌, List, [], ◌∷◌, append-nil, length, Option, Some, None, Ok, Err, refl, sym, ◌∙◌, ap, subst, arith}
 use Rattle.std.proofs.lemmas.Bool.Decides.{nat_tests}
 use Rattle.mkv_schema.specs.declared.ids.TheConstants.{SEGMENT}
@@ -17,14 +17,14 @@ use Rattle.edit_laws.proofs.HeaderLemmas.{found-sound, found-same}
 use Rattle.edit_laws.proofs.HeadLemmas.{sound-longer}
 use Rattle.edit_laws.proofs.TileLemmas.{Way, run_of, AdvancesIn, Tiles, whole, run-step, run-stops, run-tiled, tiled, tiles-end}
 
--- the Elements in front of the Segment
+-- the elements before the Segment
 abbrev outer : List ℕ → Way
 outer bytes = record { setting = at_level_0; stops = λ id. id == SEGMENT; next = λ h. Ok (end_in (length bytes) h); bytes = bytes; end = length bytes }
 
 advances-outer : (bytes : List ℕ) → AdvancesIn (outer bytes)
 advances-outer bytes = Advances-known at_level_0 bytes (length bytes)
 
--- they stand in the other content too
+-- The other content has them, too.
 outer-tiles : (a b : List ℕ) (p q x : ℕ) (hs : List Header) → Tiles (outer a) p hs q → q ≤ x → x ≤ length a → length a ≤ length b → AreSame a b 0 x → Tiles (outer b) p hs q
 outer-tiles a b p q x [] tiles before within longer same = tiles
 outer-tiles a b p q x (h ∷ hs) (m, stands, rest) before within longer same =
@@ -48,7 +48,7 @@ outer-tiles a b p q x (h ∷ hs) (m, stands, rest) before within longer same =
       outer-tiles a b m q x hs rest before within longer same,
     )
 
--- What is known of a Segment that was found.
+-- `segment` is the Segment that was found in `a`.
 pub record IsSegment (a : List ℕ) (ebml segment : Header) : Type 0 where
   pub found : element_at at_level_0 a segment.offset (length a) ≡ Ok segment
   pub inside : segment.offset < length a
@@ -94,7 +94,7 @@ segment-is a ebml segment is = of (before_segment a (stated_end ebml)) refl (bef
     of run is_run None none there = behind run is_run none (nat_lt run.end (length a)) refl there
     of run is_run (Some d) some there = absurd (cc)
 
--- The Segment of the other content is the one that stands there.
+-- The Segment of the other content is the one that is there.
 pub segment-same : (a b : List ℕ) (ebml segment now : Header) → IsSegment a ebml segment → length a ≤ length b → AreSame a b 0 segment.offset
     → element_at at_level_0 b segment.offset (length b) ≡ Ok now → now.id ≡ SEGMENT → segment_of b ebml ≡ Ok now
 unfolding segment_of

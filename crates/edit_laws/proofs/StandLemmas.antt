@@ -1,4 +1,4 @@
--- The Cluster in which each block of a file stands: RFC 9559, section 5.1.3 (Cluster Element).
+-- The Cluster that contains each block of a file: RFC 9559, section 5.1.3 (Cluster Element).
 use Rattle.std.proofs.Common.{◌≡◌, ◌==◌, ◌≤◌, ◌<◌, ℕ, zero, suc, ◌+◌, ◌-◌, nat_lt, Bool, true, false, if◌then◌else◌, List, [], ◌∷◌, ◌++◌, length, Option, Some, None, Result, Ok, Err, inl, inr, refl, sym, ◌∙◌, subst, append_assoc, arith}
 use Rattle.std.specs.Bool.{⊤}
 use Rattle.std.specs.List.{All, Contains}
@@ -23,7 +23,7 @@ use Rattle.reindex.proofs.ClustersLemmas.{before-none}
 use Rattle.reindex.proofs.PlaceLemmas.{FoundBetween, between-ends, found-between, found-somewhere}
 use Rattle.edit_laws.specs.IndexLaws.{StandsIn, BlocksStandInClusters}
 
--- A block stands in a Cluster of a list, which begins at p or behind it.
+-- The block `b` is in a Cluster of `list`, which begins at `p` or later.
 record StandsAmong (r : Rules) (bytes : List ℕ) (e p : ℕ) (list : List Header) (b : Block) : Type 0 where
   cluster : Header
   before : cluster_before b.offset list ≡ Some cluster
@@ -33,22 +33,22 @@ record StandsAmong (r : Rules) (bytes : List ℕ) (e p : ℕ) (list : List Heade
   found : Contains (found_in r bytes e cluster) (Ok b)
   inside : cluster.body ≤ b.offset
 
--- ---- the Clusters before a place
+-- ---- Clusters before a place
 
--- a Cluster is the one before each place behind its header, up to the next Element
+-- A Cluster is the last one before each place after its header, up to the next element.
 before-first : (at : ℕ) (h : Header) (hs : List Header) → h.id ≡ CLUSTER → h.offset < at → cluster_before at hs ≡ None → cluster_before at (h ∷ hs) ≡ Some h
 before-first at h hs is behind none =
     let test : (h.id == CLUSTER) ≡ true = grind (arith, nat_tests) in
     let past : nat_lt h.offset at ≡ true = grind (arith, nat_tests) in
     rw (none, test, past) refl
 
--- an Element in front changes nothing
+-- An earlier element changes nothing.
 before-more : (at : ℕ) (h c : Header) (hs : List Header) → cluster_before at hs ≡ Some c → cluster_before at (h ∷ hs) ≡ Some c
 before-more at h c hs is = rw is refl
 
--- ---- what is found in a Cluster
+-- ---- contents of a Cluster
 
--- what holds of the blocks that are found, as far as no damage is
+-- A fact about the blocks that are found, as far as there is no damage.
 FoundAre : (Block → Type 0) → List Found → Type 0
 FoundAre P [] = ⊤
 FoundAre P (Ok b ∷ found) = P b × FoundAre P found
@@ -153,7 +153,7 @@ level-stand (suc n) r bytes size p e few =
     stopped inside further true = All-nil (StandsAmong r bytes e p [])
     stopped inside further false = goes_on inside further (element_at in_segment bytes p e) refl
 
--- Each block of a file stands in the last Cluster that begins before it.
+-- Each block of a file is in the last Cluster that begins before it.
 pub blocks-stand : BlocksStandInClusters
 unfolding events_of
 blocks-stand r bytes segment =

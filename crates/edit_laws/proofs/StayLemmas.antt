@@ -1,4 +1,4 @@
--- Edits of which nothing stands behind the old end: the new content is as long as the old one, and its Segment ends where it did.
+-- Edits without an element after the old end: the new content is as long as the old one, and its Segment ends at the same place.
 use Rattle.std.proofs.Common.{inl, inr, ◌≡◌, ◌⊎◌, ◌<◌, ◌≤◌, ℕ, Bool, true, false, List, [], length, All, Ok, refl, sym, ◌∙◌, ap, ap₂, arith}
 use Rattle.std.proofs.lemmas.Bool.{cases_lt, or_right}
 use Rattle.ebml_numbers.specs.declared.number.Size.{Size}
@@ -50,7 +50,7 @@ module _ (bytes : List ℕ) (size : Size) (start e last : ℕ) (list : List Head
       length-applied bytes ws (order-fits (length bytes) 0 (length bytes) ws (omega arith) (omega arith) order)
       ∙ extent-within (length bytes) 0 (length bytes) ws order (λ k touched. let is = touched-inside k touched in let before = is.1 in let most = reaches in omega arith)
 
-  -- where no room is, all is as it was
+  -- Outside the rooms nothing changes.
   pub same-outside : (p q : ℕ) → q ≤ length bytes → (q ≤ start) ⊎ (last ≤ p) → AreSame bytes new p q
   same-outside p q inside out =
       same-clear ws bytes p q (order-fits (length bytes) 0 (length bytes) ws (omega arith) (omega arith) order) inside
@@ -67,7 +67,7 @@ module _ (bytes : List ℕ) (size : Size) (start e last : ℕ) (list : List Head
     closed = ap (λ n. is_closed n h) same-length;
   }
 
-  -- what stands behind the list is as it was
+  -- The bytes after the list stay.
   behind-same : (may_open : ℕ → Bool) → element_at (outside may_open) new last e ≡ element_at (outside may_open) bytes last e
   behind-same may_open = ap₂ (λ o n. element_in (outside may_open) o n last e) (same-outside last e within (inr (omega arith))) same-length
 
@@ -77,7 +77,7 @@ module _ (bytes : List ℕ) (size : Size) (start e last : ℕ) (list : List Head
   tail : run_of (level new size e) last ≡ ends_at last
   tail = end-same (level bytes size e) (level new size e) last (advances-level bytes size e) (advances-level new size e) refl (behind-same ((in_segment).may_open)) (λ id. refl) ended
 
-  -- what ends the list ends a Cluster of unknown size too: the end of the Segment, or an ID of level 0
+  -- The end of the list also ends a Cluster of unknown size: it is the end of the Segment, or an ID of level 0.
   stops-cluster : (z : Size) (id : ℕ) → ends_segment z id ≡ true → ends_cluster id ≡ true
   stops-cluster (Known n) id is = absurd (cc)
   stops-cluster Unknown id is = or_right (is_level1 id) (is_level0 id) is

@@ -1,4 +1,4 @@
--- The times of blocks are whole ticks: RFC 9559, section 11 (Timestamps).
+-- The timestamps of blocks are whole ticks: RFC 9559, section 11 (Timestamps).
 use Rattle.std.proofs.Common.{◌≡◌, ◌≤◌, ℕ, zero, suc, ◌+◌, ◌-◌, ◌*◌, ◌/◌, List, Option, Some, None, Ok, ℤ, pos, negsuc, sym, ◌∙◌, ap, arith}
 use Rattle.std.proofs.Math.Nat.{add-mul}
 use Rattle.std.proofs.lemmas.Nat.{div-mul-add}
@@ -14,7 +14,7 @@ use Rattle.merge_model.specs.Ticks.{since_start}
 use Rattle.output_laws.proofs.WalkLemmas.{each-block}
 use Rattle.edit_laws.specs.IndexLaws.{TimesAreTicks}
 
--- so many ticks that don't stand before the start are as many nanoseconds, and no rest
+-- Ticks from the start on are a whole number of ticks in nanoseconds, without a remainder.
 whole-ticks : (s : ℕ) (z : ℤ) (t : ℕ) → 1 ≤ s → since_start (nanoseconds s z) ≡ Some t → nanoseconds s z ≡ nanoseconds s (pos (t / s))
 whole-ticks s (pos k) t some is =
     let same : k * s ≡ t = cc in
@@ -31,7 +31,7 @@ whole-ticks s (negsuc k) t some is =
     neg zero = pos zero
     neg (suc n) = negsuc n
 
--- the time of a block is whole ticks
+-- The timestamp of the block `b` is whole ticks of `s` nanoseconds.
 record HasTicks (s : ℕ) (b : Block) : Type 0 where
   ticks : ℤ
   is : b.time ≡ nanoseconds s ticks
@@ -62,7 +62,7 @@ group-ticks r bytes ts h b is =
 HasTicks-whole : (s : ℕ) (b : Block) → 1 ≤ s → HasTicks s b → (t : ℕ) → since_start b.time ≡ Some t → b.time ≡ nanoseconds s (pos (t / s))
 HasTicks-whole s b some ticks t is = ticks.is ∙ whole-ticks s ticks.ticks t some (sym (ap since_start ticks.is) ∙ is)
 
--- The time of a block that doesn't stand before the start is a whole number of ticks.
+-- The timestamp of a block from the start on is a whole number of ticks.
 pub times-ticks : TimesAreTicks
 times-ticks r bytes segment some =
     each-block (λ (b : Block). (t : ℕ) → since_start b.time ≡ Some t → b.time ≡ nanoseconds r.scale (pos (t / r.scale))) r bytes

@@ -1,4 +1,4 @@
--- Elements that stand one behind the other.
+-- Elements in sequence.
 use Rattle.std.proofs.Common.{inl, inr, ◌≡◌, ◌<◌, ◌≤◌, ℕ, Bool, true, false, if◌then◌else◌, List, [], ◌∷◌, Some, None, Result, Ok, Err, refl, sym, ◌∙◌, ap, subst, arith}
 use Rattle.std.proofs.lemmas.Bool.{cases_lt}
 use Rattle.ebml_numbers.specs.declared.number.Size.{Size}
@@ -11,7 +11,7 @@ use Rattle.mkv_schema.proofs.ElementsLemmas.{Advances, Advances-known, Advances-
 use Rattle.output_model.specs.Element.{all_in_front}
 use Rattle.edit_laws.proofs.AmongLemmas.{IsAmong}
 
--- How Elements are listed: where they stand, which IDs end them, where the next one begins, the content, and the end.
+-- The way in which elements are listed: the setting, the IDs that end the list, the start of the next element, the content, and the end.
 pub record Way : Type 0 where
   pub setting : Setting
   pub stops : ℕ → Bool
@@ -19,7 +19,7 @@ pub record Way : Type 0 where
   pub bytes : List ℕ
   pub end : ℕ
 
--- those of level 1
+-- the elements of level 1
 abbrev pub level : List ℕ → Size → ℕ → Way
 level bytes size e = record { setting = in_segment; stops = ends_segment size; next = behind_in_segment bytes e; bytes = bytes; end = e }
 
@@ -27,7 +27,7 @@ level bytes size e = record { setting = in_segment; stops = ends_segment size; n
 abbrev pub inner : List ℕ → ℕ → Way
 inner bytes e = record { setting = in_master; stops = ends_cluster; next = λ h. Ok (end_in e h); bytes = bytes; end = e }
 
--- those from a place on
+-- the elements from a place on
 abbrev pub run_of : Way → ℕ → Run
 run_of w p = elements w.setting w.stops w.next w.bytes p w.end
 
@@ -40,14 +40,14 @@ advances-level bytes size e = Advances-segment bytes e
 pub advances-inner : (bytes : List ℕ) (e : ℕ) → AdvancesIn (inner bytes e)
 advances-inner bytes e = Advances-known in_master bytes e
 
--- An Element stands at a place, and the next one is looked for at another.
+-- The element `h` is at `p`, and the next one is searched at `q`.
 pub record Stands (w : Way) (p : ℕ) (h : Header) (q : ℕ) : Type 0 where
   pub inside : p < w.end
   pub found : element_at w.setting w.bytes p w.end ≡ Ok h
   pub goes : w.stops h.id ≡ false
   pub next : w.next h ≡ Ok q
 
--- These stand one behind the other from a place up to another.
+-- The elements follow each other from a place up to another.
 abbrev pub Tiles : Way → ℕ → List Header → ℕ → Type 0
 Tiles w p [] q = p ≡ q
 Tiles w p (h ∷ hs) q = (m : ℕ) × Stands w p h m × Tiles w m hs q
@@ -56,7 +56,7 @@ Tiles w p (h ∷ hs) q = (m : ℕ) × Stands w p h m × Tiles w m hs q
 abbrev pub whole : List Header → ℕ → Run
 whole hs q = record { list = hs; damage = None; end = q }
 
--- one Element, and then the others
+-- One element, and then the others.
 pub run-step : (w : Way) (p q : ℕ) (h : Header) → AdvancesIn w → Stands w p h q → run_of w p ≡ in_front h (run_of w q)
 run-step w p q h advances stands =
     elements-more w.setting w.stops w.next w.bytes p w.end advances stands.inside
@@ -64,20 +64,20 @@ run-step w p q h advances stands =
     ∙ ap (λ (b : Bool). if b then ends_at p else behind p h (w.next h) (run_of w)) stands.goes
     ∙ ap (λ n. behind p h n (run_of w)) stands.next
 
--- where an ID ends the list, nothing is listed
+-- An ID that ends the list lists nothing.
 pub run-stops : (w : Way) (p : ℕ) → AdvancesIn w → p < w.end → w.stops (id_of (element_at w.setting w.bytes p w.end)) ≡ true → run_of w p ≡ ends_at p
 run-stops w p advances inside stops =
     elements-more w.setting w.stops w.next w.bytes p w.end advances inside
     ∙ ap (λ (b : Bool). if b then ends_at p else step p w.next (element_at w.setting w.bytes p w.end) (run_of w)) stops
 
--- Elements that stand one behind the other are listed first.
+-- Elements in sequence are listed first.
 pub run-tiled : (w : Way) (p : ℕ) (hs : List Header) (q : ℕ) → AdvancesIn w → Tiles w p hs q → run_of w p ≡ all_in_front hs (run_of w q)
 run-tiled w p [] q advances same = ap (run_of w) same
 run-tiled w p (h ∷ hs) q advances (m, stands, rest) = run-step w p m h advances stands ∙ ap (in_front h) (run-tiled w m hs q advances rest)
 
--- ---- what is listed stands so
+-- ---- listed elements follow each other
 
--- what a place of a list has
+-- the cases of a place in a list
 data Place (w : Way) (p : ℕ) (hs : List Header) (q : ℕ) : Type 0 where
   over : hs ≡ [] → p ≡ q → run_of w p ≡ ends_at p → Place w p hs q
   more : (h : Header) (m : ℕ) (rest : List Header) → hs ≡ h ∷ rest → Stands w p h m → run_of w m ≡ whole rest q → Place w p hs q
@@ -114,7 +114,7 @@ place-of w p q hs advances run =
         (sym (elements-more w.setting w.stops w.next w.bytes p w.end advances inside
         ∙ ap (λ (b : Bool). if b then ends_at p else step p w.next (element_at w.setting w.bytes p w.end) (run_of w)) is) ∙ run)
 
--- What is listed without damage stands one behind the other, and the list ends where it says.
+-- Elements that are listed without damage follow each other, and the list ends at `q`.
 pub record IsTiled (w : Way) (p : ℕ) (hs : List Header) (q : ℕ) : Type 0 where
   pub tiles : Tiles w p hs q
   pub ends : run_of w q ≡ ends_at q
@@ -137,14 +137,14 @@ tiled w p q (g ∷ gs) advances run = of (λ m is. tiled w m q gs advances is) (
         let behind = further m (run ∙ ap (λ l. whole l q) (sym both.1)) in
         record { tiles = (m, subst (λ k. Stands w p k m) (sym both.0) stands, behind.tiles); ends = behind.ends }
 
--- ---- where they stand
+-- ---- places of elements
 
 pub stands-placed : (w : Way) (p q : ℕ) (h : Header) → AdvancesIn w → Stands w p h q → (h.offset ≡ p) × (p < q)
 stands-placed w p q h advances stands =
     let placed = element_at-placed w.setting w.bytes p w.end h (omega (arith, stands.inside)) stands.found in
     (placed.offset, advances.on p h q stands.inside stands.found stands.next)
 
--- a list ends behind the place where it begins
+-- A list ends at its start or later.
 pub tiles-end : (w : Way) (p q : ℕ) (hs : List Header) → AdvancesIn w → Tiles w p hs q → p ≤ q
 tiles-end w p q [] advances same = omega (arith, same)
 tiles-end w p q (h ∷ hs) advances (m, stands, rest) =
@@ -164,9 +164,9 @@ ahead-later w p q (h ∷ hs) g advances (m, stands, rest) (inr later) =
     let behind = ahead-later w m q hs g advances rest later in
     omega arith
 
--- ---- where a list ends
+-- ---- end of a list
 
--- before the end of its parent an ID ends it
+-- Before the end of its parent an ID ends the list.
 pub end-stops : (w : Way) (p : ℕ) → AdvancesIn w → run_of w p ≡ ends_at p → p < w.end → w.stops (id_of (element_at w.setting w.bytes p w.end)) ≡ true
 end-stops w p advances ended inside = of (w.stops (id_of (element_at w.setting w.bytes p w.end))) refl
   where
@@ -184,7 +184,7 @@ end-stops w p advances ended inside = of (w.stops (id_of (element_at w.setting w
         let more = elements-more w.setting w.stops w.next w.bytes p w.end advances inside ∙ ap (λ (b : Bool). if b then ends_at p else step p w.next (element_at w.setting w.bytes p w.end) (run_of w)) is in
         absurd (found (element_at w.setting w.bytes p w.end) (sym more ∙ ended))
 
--- where the octets behind it are the same, and the file is as long, the other list ends there too
+-- If the bytes after the list are the same, and the file is equally long, the other list ends there, too.
 pub end-same : (v w : Way) (p : ℕ) → AdvancesIn v → AdvancesIn w → v.end ≡ w.end → element_at w.setting w.bytes p w.end ≡ element_at v.setting v.bytes p v.end → ((id : ℕ) → w.stops id ≡ v.stops id) → run_of v p ≡ ends_at p → run_of w p ≡ ends_at p
 end-same v w p left right ends same stops ended =
     elim (cases_lt p w.end) [
@@ -192,7 +192,7 @@ end-same v w p left right ends same stops ended =
       | inr past ↦ elements-end w.setting w.stops w.next w.bytes p w.end past
     ]
 
--- children end where their master may at most
+-- Children end within their master.
 pub inner-within : (bytes : List ℕ) (e p q : ℕ) (hs : List Header) → Tiles (inner bytes e) p hs q → p ≤ e → q ≤ e
 inner-within bytes e p q [] tiles inside = omega (arith, tiles)
 inner-within bytes e p q (h ∷ hs) (m, stands, rest) inside =

@@ -1,4 +1,4 @@
--- What edits make of trees stands where they stand, and is no deeper.
+-- Edited trees are valid in their places, and not too deep.
 use Rattle.std.proofs.Common.{◌≡◌, ◌<◌, ◌≤◌, ℕ, zero, suc, ◌+◌, ◌-◌, ◌==◌, ◌^◌, not, Bool, true, false, ◌&&◌, if◌then◌else◌, List, [], ◌∷◌, ◌++◌, length, Option, Some, None, IfSome, Result, Ok, Err, slice_get, slice_set, slice_index, slice_index_or, refl, sym, ◌∙◌, ap, subst, arith}
 use Rattle.std.specs.List.{All, list_all}
 use Rattle.std.specs.Str.{is_utf8, IsUtf8, IsAscii}
@@ -34,7 +34,7 @@ use Rattle.edit_changes.specs.Properties.{IsOfKind, IsPropertyOf, section_of}
 use Rattle.edit_changes.proofs.PropertyLemmas.{property-stands}
 use Rattle.edit_changes.proofs.SelectLemmas.{entry-sound, entry-master, entry-stands, place-entry}
 
--- ---- what a value is
+-- ---- values
 
 list-ascii : (passes : ℕ → Bool) (bs : List ℕ) → ((c : ℕ) → passes c ≡ true → c < 128) → list_all passes bs ≡ true → IsAscii bs
 list-ascii passes [] small all i = omega arith
@@ -68,7 +68,7 @@ uint-leaf parent id least most n octets small stands is =
     let most_is = w.1 in
     subst (λ o. StandsIn parent (leaf id 0 o)) w.2 (uint-stands parent id w.0 stands (omega arith))
 
--- the octets of a value are a leaf's of its property
+-- The bytes of a value are valid in a leaf of its property.
 leaf-stands : (parent id : ℕ) (kind : ValueKind) (value octets : List ℕ) → IsOfKind parent id kind → value_of kind value ≡ Some octets → StandsIn parent (leaf id 0 octets)
 leaf-stands parent id Words value octets stands is =
     text-leaf parent id value octets (is_words value) stands is (λ words. IsUtf8-from_is_utf8 value (and_parts (is_utf8 value) (list_all is_not_zero value) words).0)
@@ -83,7 +83,7 @@ leaf-stands parent id Flag value octets stands is = uint-leaf parent id 0 1 (num
 
 -- ---- one Info or TrackEntry
 
--- A master that was read, or made of one: it isn't too deep.
+-- `n` is a valid master with the ID `id` that was read or edited, and its depth is at most `most`.
 pub record IsFit (id most : ℕ) (n : Node) : Type 0 where
   pub own : id_of n ≡ id
   pub master : IsMaster n
@@ -152,7 +152,7 @@ fit-edited e most n m fit is = of (property_of (is_info e.place) e.name) (proper
 
 -- ---- all trees
 
--- An Info is one, and what stands in Tracks may stand there and has room.
+-- The Info is valid, and the children of Tracks are valid there and not too deep.
 pub record AreFit (t : Trees) : Type 0 where
   pub info : IfSome t.info (IsFit INFO deepest)
   pub tracks : All (λ (n : Node). StandsIn TRACKS n × (depth n < deepest)) t.tracks
@@ -169,7 +169,7 @@ get-all P ns k n all at = subst P (own-get ns k n at) (all k n (slice_get_within
     own-get (m ∷ ns) zero n at = cc at
     own-get (m ∷ ns) (suc k) n at = own-get ns k n at
 
--- What one edit makes of trees: another Info, or another entry of Tracks.
+-- The result of one edit of trees: another Info, or another entry of Tracks.
 pub data Once (e : Edit) (t u : Trees) : Type 0 where
   of_info : is_info e.place ≡ true → (n m : Node) → t.info ≡ Some n → edited_node e n ≡ Ok m → record { info = Some m; tracks = t.tracks } ≡ u → Once e t u
   of_tracks : is_info e.place ≡ false → (k : ℕ) (n m : Node) → place_of e.place t.tracks ≡ Some k → slice_get t.tracks k ≡ Some n → edited_node e n ≡ Ok m
@@ -223,16 +223,16 @@ pub numbered-ok : {A : Type 0} (k : ℕ) (r : Result A EditRefusal) (x : A) → 
 numbered-ok k (Ok y) x is = let same : y ≡ x = cc in ap (λ z. Ok z) same
 numbered-ok k (Err w) x is = absurd (cc)
 
--- What edits make of trees is fit where they are.
+-- Edited trees are valid in their places.
 pub fit-all : (k : ℕ) (es : List Edit) (t u : Trees) → AreFit t → edited_from k es t ≡ Ok u → AreFit u
 fit-all k [] t u fit is = subst AreFit (cc) fit
 fit-all k (e ∷ es) t u fit is =
     let made = then-ok (numbered (k + 1) (edited_once e t)) (edited_from (k + 1) es) u is in
     fit-all (k + 1) es made.0 u (fit-once e t made.0 fit (once-is e t made.0 (numbered-ok (k + 1) (edited_once e t) made.0 made.1.0))) made.1.1
 
--- ---- what edits aren't about
+-- ---- trees without edits
 
--- without an edit of Info it stays
+-- Info stays without an edit of it.
 pub info-stays : (k : ℕ) (es : List Edit) (t u : Trees) → are_of_info es ≡ false → edited_from k es t ≡ Ok u → u.info ≡ t.info
 info-stays k [] t u none is = let same : t ≡ u = cc in ap (λ (x : Trees). x.info) (sym same)
 info-stays k (e ∷ es) t u none is =
@@ -244,7 +244,7 @@ info-stays k (e ∷ es) t u none is =
     once x other (of_info own n m at made same) = absurd (cc)
     once x other (of_tracks own k n m place at made same) = sym (ap (λ (y : Trees). y.info) same)
 
--- and without an edit of Tracks that does
+-- Tracks stay without an edit of them.
 pub tracks-stay : (k : ℕ) (es : List Edit) (t u : Trees) → are_of_tracks es ≡ false → edited_from k es t ≡ Ok u → u.tracks ≡ t.tracks
 tracks-stay k [] t u none is = let same : t ≡ u = cc in ap (λ (x : Trees). x.tracks) (sym same)
 tracks-stay k (e ∷ es) t u none is =

@@ -1,4 +1,4 @@
--- What edits write, by the Elements that are written anew.
+-- The writes of edits, by the rewritten elements.
 use Rattle.std.proofs.Common.{inl, inr, ◌≡◌, ◌⊎◌, ◌<◌, ◌≤◌, ℕ, ◌+◌, ◌-◌, ◌^◌, ◌==◌, ◌||◌, nat_lt, nat_le, max, Bool, true, false, if◌then◌else◌, List, [], ◌∷◌, ◌++◌, length, map, flat_map, All, Option, Some, None, refl, sym, ◌∙◌, ap, ap₂, subst, arith}
 use Rattle.std.specs.Bool.{⊤}
 use Rattle.std.specs.List.{cons_option, list_any}
@@ -28,7 +28,7 @@ use Rattle.edit_laws.proofs.SameLemmas.{InOrder}
 use Rattle.edit_laws.proofs.FillLemmas.{small-widen}
 use Rattle.edit_laws.proofs.ItemLemmas.{Item, IsName, IsItem, IsInside, write_of}
 
--- ---- by their places
+-- ---- writes by their places
 
 touches-inserted : (w : Write) (vs : List Write) (k : ℕ) → WritesOctet (inserted w vs) k → WritesOctet (w ∷ vs) k
 touches-inserted w [] k touched = touched
@@ -72,7 +72,7 @@ one-ascending [] w one = one
 one-ascending (v ∷ vs) w (inl own) = one-inserted w v (ascending vs) (inl own)
 one-ascending (v ∷ vs) w (inr later) = one-inserted w v (ascending vs) (inr (one-ascending vs w later))
 
--- where writes stay in front of an end, the file grows no longer
+-- The file doesn't grow if all writes end before its end.
 pub extent-within : (old from n : ℕ) (ws : List Write) → InOrder old from ws → ((k : ℕ) → WritesOctet ws k → k < n) → extent n ws ≡ n
 extent-within old from n [] order inside = refl
 extent-within old from n (w ∷ ws) order inside =
@@ -81,7 +81,7 @@ extent-within old from n (w ∷ ws) order inside =
     let same : max n (end_of w) ≡ n = omega arith in
     ap (λ k. extent k ws) same ∙ extent-within old (end_of w) n ws order.3 (λ k touched. inside k (inr touched))
 
--- ---- what is written of items
+-- ---- writes of items
 
 abbrev pub writes_of : List Header → List Item → List Write
 writes_of list is = map (write_of list) is
@@ -93,7 +93,7 @@ module _ (q e : ℕ) (list : List Header) (stand : Stand q e list) where
       let wide = (is_id-bounds i.element.id own.id_stands).0 in
       let all = length-octets_of i.element in let head = length-header_of i.element in omega arith
 
-  -- it is no longer than the room
+  -- The write is at most as long as the room.
   item-most : (i : Item) → IsItem list i → length (write_of list i).bytes ≤ span_of i.header list
   item-most i is =
       let room = first-room i.element.id q e list i.header stand is.first in
@@ -104,7 +104,7 @@ module _ (q e : ℕ) (list : List Header) (stand : Stand q e list) where
   touches-items (i ∷ is) k are (inl (begins, ends)) = let most = item-most i (All-head (IsItem list) i is are) in inl (begins, omega arith)
   touches-items (i ∷ is) k are (inr later) = inr (touches-items is k (All-tail (IsItem list) i is are) later)
 
-  -- an octet of a room stands in front of the end of the list
+  -- A byte of a room is before the end of the list.
   pub inside-room : (is : List Item) (k : ℕ) → All (IsItem list) is → IsInside list is k → (q ≤ k) × (k < e)
   inside-room [] k are inside = absurd inside
   inside-room (i ∷ is) k are (inr later) = inside-room is k (All-tail (IsItem list) i is are) later
@@ -120,16 +120,16 @@ one-items list (i ∷ is) =
     All-cons (λ (j : Item). IsAmong (writes_of list (i ∷ is)) (write_of list j)) i is (inl refl)
     (All-weaker (λ (j : Item). IsAmong (writes_of list is) (write_of list j)) (λ (j : Item). IsAmong (writes_of list (i ∷ is)) (write_of list j)) (λ j one. inr one) is (one-items list is))
 
--- ---- the Info and the Tracks that are written anew, as items
+-- ---- rewritten Info and Tracks as items
 
--- an Element of level 1 with new children
+-- an element of level 1 with new children
 abbrev pub item_at : List Node → Header → Item
 item_at nodes h = record { header = h; element = element h.id (flat_map octets nodes) }
 
 abbrev pub items_of : Bool → ℕ → List Header → List Node → List Item
 items_of written id list nodes = if written then option_map_or (λ h. item_at nodes h ∷ []) (first_of id list) [] else []
 
--- The part of an item: the old one stands where it does, and has its room.
+-- The part `p` belongs to the item `i`: it has the place and the room of the old element.
 pub record IsOf (list : List Header) (p : Part) (i : Item) : Type 0 where
   pub id : p.id ≡ i.element.id
   pub place : p.place ≡ i.header.offset
@@ -137,14 +137,14 @@ pub record IsOf (list : List Header) (p : Part) (i : Item) : Type 0 where
   pub some : 1 ≤ p.room
   pub new : p.element ≡ Some i.element
 
--- parts are those of items
+-- The parts belong to the items.
 abbrev pub AreOf : List Header → List Part → List Item → Type 0
 AreOf list [] [] = ⊤
 AreOf list [] (i ∷ is) = ⊥
 AreOf list (p ∷ ps) [] = ⊥
 AreOf list (p ∷ ps) (i ∷ is) = IsOf list p i × AreOf list ps is
 
--- an item is longer than its room
+-- The item is longer than its room.
 abbrev pub moves_from : List Header → Item → Bool
 moves_from list i = nat_lt (span_of i.header list) (length (octets_of i.element))
 
@@ -196,7 +196,7 @@ of-writes list (p ∷ ps) (i ∷ is) are =
     ∙ ap (λ (new : Option Element). write i.header.offset (unwrap_or (option_and_then (λ e. fitted e (span_of i.header list)) new) (void_header (span_of i.header list)))) are.0.new)
     (of-writes list ps is are.1)
 
--- one that doesn't move has room
+-- An item that doesn't move has room.
 pub of-still : (list : List Header) (ps : List Part) (is : List Item) → AreOf list ps is → list_any moves ps ≡ false → All (λ (i : Item). span_of i.header list < length (octets_of i.element) → ⊥) is
 of-still list [] [] are none = All-nil (λ (i : Item). span_of i.header list < length (octets_of i.element) → ⊥)
 of-still list [] (i ∷ is) are none = absurd are
@@ -210,7 +210,7 @@ of-still list (p ∷ ps) (i ∷ is) are none = of (of-still list ps is are.1) (m
         let fits : length (octets_of i.element) ≤ span_of i.header list = grind (arith, nat_tests) in
         All-cons (λ (i : Item). span_of i.header list < length (octets_of i.element) → ⊥) i is (λ long. omega arith) (further rest)
 
--- ---- they have few octets
+-- ---- items are short
 
 pub fitted-long : (e : Element) (room : ℕ) (other : List ℕ) → length (octets_of e) ≤ room → length (octets_of e) ≤ length (unwrap_or (fitted e room) other)
 fitted-long e room other fits = of (nat_lt room (length (octets_of e))) (room == length (octets_of e)) (room == length (octets_of e) + 1) refl
@@ -260,7 +260,7 @@ few-parts list (p ∷ ps) (i ∷ is) are =
     more : (j : Item) → length (octets_of j.element) ≤ length_in_place ps + length (appended ps) → length (octets_of j.element) ≤ length_in_place (p ∷ ps) + length (appended (p ∷ ps))
     more j few = (let both = moved (moves p) refl in let two = both.1 in omega (arith, sum))
 
--- items of Info or Tracks can be written anew
+-- Items of Info or Tracks can be rewritten.
 pub items-are : (written : Bool) (id : ℕ) (list : List Header) (nodes : List Node) → IsName id → is_id id ≡ true → All (λ (i : Item). length (octets_of i.element) ≤ 2 ^ 24) (items_of written id list nodes) → All (IsItem list) (items_of written id list nodes)
 items-are false id list nodes name valid few = All-nil (IsItem list)
 items-are true id list nodes name valid few = of (first_of id list) refl few

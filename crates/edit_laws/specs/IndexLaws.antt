@@ -1,4 +1,4 @@
--- What the index of a file says of it: RFC 9559, sections 5.1.5 (Cues Element), 11 (Timestamps) and 16 (Segment Position).
+-- The relation of a file's index to the file: RFC 9559, sections 5.1.5 (Cues Element), 11 (Timestamps) and 16 (Segment Position).
 use Rattle.std.specs.Prelude.{◌≡◌, ◌≤◌, ◌/◌, ℕ, pos, true, List, [], ◌++◌, length, map, filter, filter_map, flat_map, take, None, Some, Ok}
 use Rattle.std.specs.List.{All, AllZip, Contains}
 use Rattle.std.specs.Option.{option_map}
@@ -35,7 +35,7 @@ use Rattle.reindex.specs.Index.{indexable}
 use Rattle.reindex.specs.Plan.{Index, index_ids, index_of}
 use Rattle.reindex.specs.Points.{cluster_before, index_points, indexed_tracks, is_indexed, point_in}
 
--- A block is one of those that this Cluster of the Segment gives, and no other Cluster begins between the two.
+-- `cluster` is a Cluster of the Segment and contains the block `b`; no other Cluster begins between them.
 pub record StandsIn (r : Rules) (bytes : List ℕ) (segment : Header) (b : Block) (cluster : Header) : Type 0 where
   pub before : cluster_before b.offset (segment_run bytes segment).list ≡ Some cluster
   pub is_cluster : cluster.id ≡ CLUSTER
@@ -44,52 +44,52 @@ pub record StandsIn (r : Rules) (bytes : List ℕ) (segment : Header) (b : Block
   pub found : Contains (found_in r bytes (segment_bound bytes segment) cluster) (Ok b)
   pub inside : cluster.body ≤ b.offset
 
--- Each block of a file stands in the last Cluster that begins before it.
+-- Each block of a file is in the last Cluster that begins before it.
 abbrev pub BlocksStandInClusters : Type 0
 BlocksStandInClusters =
     (r : Rules) (bytes : List ℕ) (segment : Header)
     → All (λ (b : Block). (cluster : Header) × StandsIn r bytes segment b cluster) (blocks_of (events_of r bytes segment))
 
--- The time of a block that doesn't stand before the start is a whole number of ticks.
+-- The timestamp of a block from the start on is a whole number of ticks.
 abbrev pub TimesAreTicks : Type 0
 TimesAreTicks =
     (r : Rules) (bytes : List ℕ) (segment : Header) → 1 ≤ r.scale
     → All (λ (b : Block). (t : ℕ) → since_start b.time ≡ Some t → b.time ≡ nanoseconds r.scale (pos (t / r.scale))) (blocks_of (events_of r bytes segment))
 
--- Of a file that can be indexed a reader without limits finds what one with limits finds, at the same scale.
+-- In a file that can be indexed, a reader without limits finds the same events as a reader with limits, at the same scale.
 abbrev pub LimitsHideNothing : Type 0
 LimitsHideNothing =
     (bytes : List ℕ) (f : EditableFile) → indexable bytes ≡ Ok f
     → events_of (without_limits (file_scale bytes f.outline.segment)) bytes f.outline.segment ≡ file_events true bytes f.outline.segment
 
--- the blocks of a file that get a point
+-- the blocks of a file that get a cue point
 abbrev pub indexed_blocks : List ℕ → Header → List Node → List Block
 indexed_blocks bytes segment tracks = filter (is_indexed (indexed_tracks tracks)) (blocks_of (file_events true bytes segment))
 
--- This is the point of a block, in the Cluster in which the block stands.
+-- `p` is the cue point of the block `b`, in the Cluster that contains it.
 pub record IsPointOf (bytes : List ℕ) (segment : Header) (b : Block) (p : CuePoint) : Type 0 where
   pub cluster : Header
   pub stands : StandsIn (with_limits (file_scale bytes segment)) bytes segment b cluster
   pub point : p ≡ point_in (file_scale bytes segment) segment.body b cluster
 
--- The points of a file are those of the first of these blocks, one for each, in the order of the file.
+-- The cue points of a file belong to the first of its indexed blocks, one to each, in the order of the file.
 abbrev pub EachBlockHasItsPoint : Type 0
 EachBlockHasItsPoint =
     (bytes : List ℕ) (segment : Header) (tracks : List Node)
     → AllZip (IsPointOf bytes segment) (take MAX_CUES (indexed_blocks bytes segment tracks)) (index_points bytes segment tracks)
 
--- Each point of a file that can be indexed points at a block of it.
+-- Each cue point of a file that can be indexed points at a block of it.
 abbrev pub PointsPointAtBlocks : Type 0
 PointsPointAtBlocks =
     (bytes : List ℕ) (f : EditableFile) → indexable bytes ≡ Ok f
     → All (PointsAtBlock (file_scale bytes f.outline.segment) bytes f.outline.segment) (index_points bytes f.outline.segment f.trees.tracks)
 
--- the Seeks of the first Elements of these IDs, each where there is one, in a Segment whose body begins there
+-- the Seeks of the first elements with the IDs `ids`, as far as they exist, in a Segment whose body begins at `base`
 abbrev pub first_seeks : List ℕ → ℕ → List Header → List Seek
 first_seeks ids base list = filter_map (λ id. option_map (seek_to base) (first_of id list)) ids
 
--- The first SeekHead of the new content has the Seek of the first Element of each of these IDs, and then what stood in that of
--- the old one and is no Seek of one of these.
+-- The first SeekHead of `new` has a Seek of the first element with each of `ids`. Then follow the children of the old SeekHead except Seeks of
+-- these IDs.
 pub record HasSeeksOf (ids : List ℕ) (old new : List ℕ) (was now : Header) : Type 0 where
   pub header : Header
   pub first : first_of SEEK_HEAD (segment_run new now).list ≡ Some header
@@ -98,9 +98,9 @@ pub record HasSeeksOf (ids : List ℕ) (old new : List ℕ) (was now : Header) :
   pub body : body_of new header
       ≡ joined (map seek_element (first_seeks ids now.body (segment_run new now).list)) ++ flat_map octets (filter (stays ids) (children old_head))
 
--- What a file with a new index holds, where the old one was this: the EBML header, the first Info, Tracks, Chapters and Tags, the
--- attached files and the blocks are the old ones, at their places; the Cues is of these points, each of which points at its block; the
--- SeekHead has a Seek of the first Info, Tracks, Attachments, Cues, Chapters and Tags; and nothing is damaged.
+-- The file `new` with a new index holds the content of `old`. The EBML header, the first Info, Tracks, Chapters and Tags, the attached files and
+-- the blocks are the old ones, at their places. The Cues has the points `points`, and each points at its block. The SeekHead has a Seek of the
+-- first Info, Tracks, Attachments, Cues, Chapters and Tags. There is no damage.
 pub record HoldsIndex (old new : List ℕ) (f : EditableFile) (points : List CuePoint) : Type 0 where
   pub segment : Header
   pub ebml : ebml_header new ≡ Ok f.outline.ebml
@@ -118,7 +118,7 @@ pub record HoldsIndex (old new : List ℕ) (f : EditableFile) (points : List Cue
   pub points_at : All (PointsAtBlock (file_scale new segment) new segment) points
   pub seeks : HasSeeksOf index_ids old new f.outline.segment segment
 
--- A file whose Cues are written anew holds what it held, and its index.
+-- A file whose Cues are rewritten holds its old content and its index.
 abbrev pub NewIndexIsWhole : Type 0
 NewIndexIsWhole =
     (old : List ℕ) (f : EditableFile) (x : Index) → AreOctets old → length old ≤ LONGEST_FILE

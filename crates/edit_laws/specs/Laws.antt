@@ -1,4 +1,4 @@
--- What edits leave of a file: RFC 9559, section 5.1 (Segment Element).
+-- The content of a file after edits: RFC 9559, section 5.1 (Segment Element).
 use Rattle.std.specs.Prelude.{◌≡◌, ◌≤◌, ℕ, ◌==◌, false, List, length, Option, Some, None, Result, Ok}
 use Rattle.std.specs.List.{All}
 use Rattle.std.specs.Option.{option_map}
@@ -21,22 +21,22 @@ use Rattle.edit_changes.specs.Change.{edited_trees}
 use Rattle.edit_changes.specs.Records.{EditableFile, editable}
 use Rattle.edit_changes.specs.Plan.{edited}
 
--- the first Element of level 1 of an ID, in its normal form, or the damage inside it
+-- the normal form of the first element with the ID `id` at level 1, or the damage inside it
 abbrev pub normal_form : ℕ → List ℕ → Header → Result (Option (List ℕ)) Damage
 normal_form id bytes segment = and_then (first_tree id bytes segment) (λ n. Ok (option_map octets n))
 
--- the normal form of a Tracks with these children
+-- the normal form of a Tracks element with the children `tracks`
 abbrev pub tracks_octets : List Node → List ℕ
 tracks_octets tracks = octets (master TRACKS 0 (nodes_of tracks))
 
--- An Element of level 1 is neither a Timestamp nor a block, which stand in Clusters alone.
+-- An element at level 1 is neither a Timestamp nor a block; these belong only into Clusters.
 pub record IsOutside (h : Header) : Type 0 where
   pub timestamp : (h.id == TIMESTAMP) ≡ false
   pub simple : (h.id == SIMPLE_BLOCK) ≡ false
   pub group : (h.id == BLOCK_GROUP) ≡ false
 
--- What an edited file holds, where the old one was this and its trees became these: the Info and the Tracks are the edited
--- ones, the attached files, Chapters and Tags are the old ones, at their places, and so are the blocks, whatever a tick is.
+-- The edited file `new` holds the content of `old`, with the edited trees `t`. Info and Tracks are the edited ones. The attached files, Chapters
+-- and Tags are the old ones, at their places, and so are the blocks, with any scale.
 pub record HoldsEdited (old new : List ℕ) (f : EditableFile) (t : Trees) : Type 0 where
   pub segment : Header
   pub ebml : ebml_header new ≡ Ok f.outline.ebml
@@ -49,7 +49,7 @@ pub record HoldsEdited (old new : List ℕ) (f : EditableFile) (t : Trees) : Typ
   pub tags : first_tree TAGS new segment ≡ first_tree TAGS old f.outline.segment
   pub blocks : (r : Rules) → blocks_of (events_of r new segment) ≡ blocks_of (events_of r old f.outline.segment)
 
--- An edited file holds what the old one held, but for what the edits change.
+-- An edited file holds the content of the old file, except for what the edits change.
 abbrev pub EditsChangeNothingElse : Type 0
 EditsChangeNothingElse =
     (old new : List ℕ) (edits : List Edit) (f : EditableFile) (t : Trees) → AreOctets old → length old ≤ LONGEST_FILE
