@@ -1,4 +1,4 @@
--- Lines without an arrow are no lines of times; and lines of times that are written are read back.
+-- A line without an arrow isn't a line of times. A written line of times is read back.
 use Rattle.std.proofs.Common.{◌≡◌, ℕ, zero, suc, ◌+◌, ◌*◌, ◌/◌, ◌%◌, ◌<◌, ◌≤◌, true, false, List, [], ◌∷◌, ◌++◌, length, take, drop, Option, Some, None, refl, ap, arith, append_assoc, append-nil, inl, inr, codes, option_and_then, option_map, ◌==◌, le-leb}
 use Rattle.std.proofs.lemmas.Grind.{common_steps}
 use Rattle.std.specs.List.{list_all, position, prefix_len}
@@ -23,13 +23,13 @@ pub arrow_none : has_arrow [] ≡ false
 unfolding has_arrow
 arrow_none = refl
 
--- what stands behind octets of a text without an arrow has none
+-- The rest of a text without an arrow has none.
 pub arrow_drop : (k : ℕ) (w : List ℕ) → has_arrow w ≡ false → has_arrow (drop k w) ≡ false
 arrow_drop zero w none = none
 arrow_drop (suc k) [] none = arrow_none
 arrow_drop (suc k) (b ∷ bs) none = arrow_drop k bs (arrow_next b bs none)
 
--- no `-`, no arrow
+-- A text without `-` has no arrow.
 pub lacks_arrow : (w : List ℕ) → lacks 45 w ≡ true → has_arrow w ≡ false
 unfolding has_arrow
 lacks_arrow [] none = refl
@@ -58,7 +58,7 @@ no_arrow_in_front w none =
     elim (cases_Bool (bytes_eq (take 5 w) (codes " --> "))) [ inl is ↦ absurd (let e = arrow_behind w is in cc) | inr is ↦ rw is refl ]
 
 -- ---- no times without an arrow
--- a fact of what an option holds
+-- A fact about the value of an option.
 abbrev Holds : {A : Type 0} → (A → Type 0) → Option A → Type 0
 Holds P None = Unit {0}
 Holds P (Some x) = P x
@@ -99,7 +99,7 @@ times_none : {B : Type 0} (start : Option (ℕ × List ℕ)) (more : ℕ × List
 times_none None more holds = refl
 times_none (Some s) more holds = rw (no_arrow_in_front s.1 holds) refl
 
--- a line without an arrow has no times
+-- A line without an arrow has no times.
 pub no_times : (w : List ℕ) → has_arrow w ≡ false → times w ≡ None
 unfolding times
 no_times w none = times_none (clock w) _ (clock_holds w none)

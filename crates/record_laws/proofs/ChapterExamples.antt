@@ -1,4 +1,4 @@
--- What of small Chapters Elements goes into a stretch of time, computed, so that a wrong definition does not check.
+-- Parts of small Chapters elements in a period of time, computed: a wrong definition doesn't check.
 use Rattle.std.proofs.Common.{◌≡◌, ℕ, ◌+◌, List, [], ◌∷◌, ◌++◌, length, codes, option_map, Option, Some, None, Result, Ok, refl}
 use Rattle.std.specs.Int.Count.{count_leading_zeros}
 use Rattle.std.specs.Str.{is_utf8, chars}
@@ -15,12 +15,12 @@ use Rattle.record_changes.specs.declared.stretch.Stretch.{Stretch}
 use Rattle.record_changes.specs.Cut.{cut}
 use Rattle.tree_format.specs.Node.{Node}
 
--- what is made of an Element of this ID that is read of octets, which lack its header
+-- the result of `f` for an element with this ID that is read from bytes without its header
 unfoldable pub made_of : {A : Type 0} → ℕ → (Node → A) → List ℕ → Result A Damage
 unfolding is_utf8 chars encode grove grove_within element_in id_at size_at entry_of table count_leading_zeros uint_width least_size_width
 made_of id make body = and_then (tree_of id 0 body 5 65536) (λ tree. Ok (make tree))
 
--- ---- Elements, each of fewer than 127 octets
+-- ---- elements, each of fewer than 127 bytes
 
 abbrev pub edition : List ℕ → List ℕ
 edition body = 0x45 ∷ 0xB9 ∷ (0x80 + length body) ∷ body
@@ -34,7 +34,7 @@ edition_uid n = 0x45 ∷ 0xBC ∷ 0x81 ∷ n ∷ []
 abbrev pub chapter_uid : ℕ → List ℕ
 chapter_uid n = 0x73 ∷ 0xC4 ∷ 0x81 ∷ n ∷ []
 
--- a ChapterTimeStart, and a ChapterTimeEnd
+-- a ChapterTimeStart; below, a ChapterTimeEnd
 abbrev pub start : List ℕ → List ℕ
 start octets = 0x91 ∷ (0x80 + length octets) ∷ octets
 
@@ -82,17 +82,17 @@ two_atoms = lasting zero_s two_and_a_half_s ++ lasting two_and_a_half_s three_s
 abbrev pub endless : List ℕ
 endless = atom (start zero_s) ++ atom (start one_s)
 
--- from 0 to 2 seconds, and in it one to 0.5 seconds and one from 1 second to 2 seconds
+-- from 0 to 2 seconds; inside it one to 0.5 seconds, and one from 1 second to 2 seconds
 abbrev pub nested : List ℕ
 nested = atom (start zero_s ++ end two_s ++ lasting zero_s half_s ++ lasting one_s two_s)
 
--- an edition with an identifier and the endless ones
+-- an edition with an identifier and the atoms without ends
 abbrev named : List ℕ
 named = edition (edition_uid 8 ++ endless)
 
--- ---- what goes into a stretch
+-- ---- parts in a period
 
--- up to a time, between two times, and from a time on
+-- the period up to a time; below, between two times, and from a time on
 abbrev before : ℕ → Stretch
 before limit = record { from = 0; to = Some limit }
 
@@ -102,43 +102,43 @@ between begin limit = record { from = begin; to = Some limit }
 abbrev onward : ℕ → Stretch
 onward begin = record { from = begin; to = None }
 
--- what of a Chapters Element goes into a stretch, both without its header
+-- the part of a Chapters element in a period, both without its header
 abbrev cut_to : Stretch → List ℕ → Result (Option (List ℕ)) Damage
 cut_to s body = made_of 0x1043A770 (λ tree. option_map content (cut s tree)) body
 
--- one edition becomes another, and nothing is left of one
+-- One edition becomes another; below, an edition is left out.
 abbrev becomes : Stretch → List ℕ → List ℕ → Type 0
 becomes s old new = cut_to s (edition old) ≡ Ok (Some (edition new))
 
 abbrev is_left_out : Stretch → List ℕ → Type 0
 is_left_out s old = cut_to s (edition old) ≡ Ok None
 
--- what of the nested ones goes into the time from 0.5 seconds on, counted from there
+-- the part of the nested atoms in the time from 0.5 seconds on, counted from there
 abbrev nested_onward : List ℕ
 nested_onward = atom (start zero_s ++ end one_and_a_half_s ++ lasting half_s one_and_a_half_s)
 
 pub record AreCut : Type 0 where
-  -- before 2 seconds: the first one, which now ends there
+  -- Before 2 seconds there is the first atom, which now ends there.
   pub first_part : becomes (before 2000000000) two_atoms (lasting zero_s two_s)
-  -- from 2 seconds on: both, counted from there
+  -- From 2 seconds on there are both, counted from there.
   pub second_part : becomes (onward 2000000000) two_atoms (lasting zero_s half_s ++ lasting half_s one_s)
-  -- what starts where the stretch ends isn't in it
+  -- An atom that starts at the end of the period isn't in it.
   pub starts_at_limit : becomes (before 2500000000) two_atoms (lasting zero_s two_and_a_half_s)
-  -- nor is what ends where it begins
+  -- An atom that ends at its start isn't in it.
   pub ends_at_begin : becomes (onward 2500000000) two_atoms (lasting zero_s half_s)
-  -- an atom without an end lasts up to the next one, and gets no end
+  -- An atom without an end lasts up to the next one, and gets no end.
   pub lasts_to_next : becomes (onward 500000000) endless (atom (start zero_s) ++ atom (start half_s))
   pub next_at_begin : becomes (onward 1000000000) endless (atom (start zero_s))
-  -- the last one never ends
+  -- The last atom without an end never ends.
   pub never_ends : becomes (between 2000000000 3000000000) endless (atom (start zero_s))
-  -- a start that is missing is 0, and comes last
+  -- A missing start is 0, and is added last.
   pub missing_start : becomes (before 1) (atom intro) (atom (intro ++ start zero_s))
-  -- atoms inside one are cut alike, and are left out with it
+  -- Atoms inside one are cut in the same way, and are left out with it.
   pub inside : becomes (onward 500000000) nested nested_onward
   pub left_out_with_it : is_left_out (onward 2000000000) (atom (start zero_s ++ end two_s ++ lasting two_s three_s))
-  -- an edition that has no atom then is left out; what else another has stays
+  -- An edition without an atom in the period is left out; other children of an edition stay.
   pub empty_edition : cut_to (onward 0) (edition (edition_uid 7) ++ named) ≡ Ok (Some named)
-  -- where no atom goes into the stretch, nothing is left
+  -- If no atom is in the period, nothing is left.
   pub nothing_left : is_left_out (onward 3000000000) two_atoms
 
 pub cuts : AreCut

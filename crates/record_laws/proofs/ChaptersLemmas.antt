@@ -18,7 +18,7 @@ use Rattle.mkv_io.proofs.OctetsLemmas.{digits_lack, cut_behind, lacks_both}
 use Rattle.record_laws.proofs.DigitsLemmas.{two_all, padded_all, digits_two, digits_three, sixtieth_two, digits_padded}
 use Rattle.record_laws.proofs.LineLemmas.{ends_both, line_first, behind_front, parts_of, stamp_lacks, stamp_ends}
 
--- a time of fewer than 100 hours is read back
+-- A time of less than 100 hours is read back.
 time_written : (ms : ℕ) → ms < 360000000 → time_of (stamp 46 ms) ≡ Some (ms * 1000000)
 unfolding time_of stamp
 time_written ms early =
@@ -82,7 +82,7 @@ name_is_line k name few line =
       no_return = name_ends front name line.no_return;
     }
 
--- what is written of a chapter is two lines
+-- A written chapter is two lines.
 pair_lines : (k start : ℕ) (name rest : List ℕ) → k < 10000 → start / 1000000 < 360000000 → IsLine name →
     lines (put_pair k start name ++ rest) ≡ time_line k (start / 1000000) ∷ name_line k name ∷ lines rest
 unfolding put_pair

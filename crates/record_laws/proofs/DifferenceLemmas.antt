@@ -1,4 +1,4 @@
--- What is told of two entries.
+-- Differences between two entries.
 use Rattle.std.proofs.Common.{◌≡◌, ℕ, true, not, cond, List, [], ◌∷◌, All, find, Option, Some, None, refl, ap, ◌∙◌, inl, inr, option_map}
 use Rattle.std.proofs.lemmas.List.Elements.{All-nil, All-cons, All-head, All-tail}
 use Rattle.std.proofs.lemmas.Slice.Eq.{bytes_eq-Decides}

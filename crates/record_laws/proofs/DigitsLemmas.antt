@@ -55,7 +55,7 @@ digits_decimal n large small =
     let short = length-decimal-le 4 n (omega arith) (omega arith) fits in
     rw (le-leb 2 (length (decimal n)) (decimal_long n large fits), le-leb (length (decimal n)) 4 short, decimal_all n fits, (decimal_is_IsNumeral n fits).1) refl
 
--- a number of at least two digits
+-- A number of at least two digits.
 pub digits_padded : (n : ℕ) → n < 10000 → digits 2 4 (two_or_more n) ≡ Some n
 digits_padded n small = elim (cases_Bool (nat_lt n 100)) [
   | inl is ↦ rw is (digits_two 2 4 n (omega arith) (omega arith) (ltb-true n 100 is))

@@ -1,4 +1,4 @@
--- Editions with identifiers keep them, and are written as they were, once they were read.
+-- Editions with identifiers keep them, and are written as they were after they are read.
 use Rattle.std.proofs.Common.{◌≡◌, ◌<◌, ℕ, ◌+◌, ◌^◌, ◌==◌, cond, List, [], ◌∷◌, ◌++◌, length, map, flat_map, refl, sym, ap, ap₂, ◌∙◌, length-append, All, slice_index}
 use Rattle.std.proofs.lemmas.List.{length-map, map-append}
 use Rattle.std.proofs.lemmas.List.Elements.{All-head, All-tail}
@@ -17,12 +17,12 @@ use Rattle.record_laws.proofs.AtomLemmas.{atoms-set, uids-placed_all, uids_among
 use Rattle.record_laws.proofs.NumberLemmas.{numbers-join, numbers-long, numbers_at, uids-among, value-set}
 use Rattle.record_laws.proofs.StayLemmas.{all-stay, master-again}
 
--- An edition, as a child of Chapters.
+-- `n` is an edition, as a child of Chapters.
 pub record IsEdition (n : Node) : Type 0 where
   pub id : id_of n ≡ EDITION_ENTRY
   pub master : IsMaster n
 
--- the children of one with identifiers
+-- the children of an edition with identifiers
 abbrev kids_of : ℕ → List ℕ → ℕ → Nodes → List Node
 kids_of uid uids k kids = with_child (uint_leaf EDITION_UID uid) (numbered_among uids k kids)
 
@@ -67,7 +67,7 @@ module _ (uids : List ℕ) (small : (k : ℕ) → slice_index uids k < 2 ^ 64) w
       ∙ uids-among uids small kids k
       ∙ ap (λ (ks : Nodes). numbers_at uids k (length (atoms_among ks))) (sym (nodes-list kids))
 
-  -- there are as many atoms
+  -- The number of atoms is the same.
   edition-count : (uid k p : ℕ) (n : Node) → IsMaster n → length (atoms_inside (placed p (numbered_edition uid uids k n))) ≡ length (atoms_inside n)
   edition-count uid k p n is = count-inside (placed p (numbered_edition uid uids k n)) ∙ ap length (edition-inner uid k p n is) ∙ numbers-long uids k (length (atoms_inside n))
 
@@ -83,17 +83,17 @@ module _ (uids : List ℕ) (small : (k : ℕ) → slice_index uids k < 2 ^ 64) w
       ∙ ap (kept_octets id) (octets_all-flat again ∙ master-again uids k EDITION_UID uid ns q refl refl (all-stay uids small kids k) ∙ sym (octets_all-flat all))
       ∙ sym (ap octets (edition-is uid uids k id at kids))
 
-  -- ---- editions one behind the other
+  -- ---- editions in sequence
 
   module _ (own : List ℕ) (fits : (j : ℕ) → slice_index own j < 2 ^ 64) where
-    -- the first of them is read, and then the others
+    -- The first edition is read, and then the others.
     read-first : (j k p : ℕ) (e : Node) (es : List Node) → IsEdition e
         → read_of p (numbered_editions own uids j k (e ∷ es)) ≡ placed p (numbered_edition (slice_index own j) uids k e) ∷ read_of (p + length (octets (numbered_edition (slice_index own j) uids k e))) (numbered_editions own uids (j + 1) (k + length (atoms_inside e)) es)
     read-first j k p e es is =
         read-step p (numbered_edition (slice_index own j) uids k e) (numbered_editions own uids (j + 1) (k + length (atoms_inside e)) es)
         (ap is_filler (edition-id (slice_index own j) uids k e ∙ is.id))
 
-    -- all of them are editions
+    -- All of them are editions.
     pub editions-part : (j k p : ℕ) (es : List Node) → All IsEdition es → part EDITION_ENTRY (read_of p (numbered_editions own uids j k es)) ≡ read_of p (numbered_editions own uids j k es)
     editions-part j k p [] are = refl
     editions-part j k p (e ∷ es) are =
@@ -106,7 +106,7 @@ module _ (uids : List ℕ) (small : (k : ℕ) → slice_index uids k < 2 ^ 64) w
         ∙ ap (λ (l : List Node). one ∷ l) (editions-part (j + 1) (k + length (atoms_inside e)) (p + length (octets (numbered_edition (slice_index own j) uids k e))) es (All-tail IsEdition e es are))
         ∙ sym (read-first j k p e es is)
 
-    -- they have the EditionUIDs that were given
+    -- They have the EditionUIDs that were given.
     pub editions-own : (j k p : ℕ) (es : List Node) → All IsEdition es → map (value_in EDITION_UID) (read_of p (numbered_editions own uids j k es)) ≡ numbers_at own j (length es)
     editions-own j k p [] are = refl
     editions-own j k p (e ∷ es) are =
@@ -115,7 +115,7 @@ module _ (uids : List ℕ) (small : (k : ℕ) → slice_index uids k < 2 ^ 64) w
         ∙ ap₂ (λ u (us : List ℕ). u ∷ us) (edition-uid (slice_index own j) k p e is.master (fits j))
         (editions-own (j + 1) (k + length (atoms_inside e)) (p + length (octets (numbered_edition (slice_index own j) uids k e))) es (All-tail IsEdition e es are))
 
-    -- and their atoms the ChapterUIDs
+    -- Their atoms have the ChapterUIDs.
     pub editions-inner : (j k p : ℕ) (es : List Node) → All IsEdition es → map (value_in CHAPTER_UID) (flat_map atoms_inside (read_of p (numbered_editions own uids j k es))) ≡ numbers_at uids k (length (flat_map atoms_inside es))
     editions-inner j k p [] are = refl
     editions-inner j k p (e ∷ es) are =
@@ -129,7 +129,7 @@ module _ (uids : List ℕ) (small : (k : ℕ) → slice_index uids k < 2 ^ 64) w
         ∙ sym (numbers-join uids k (length (atoms_inside e)) (length (flat_map atoms_inside es)))
         ∙ ap (numbers_at uids k) (sym (length-append (atoms_inside e) (flat_map atoms_inside es)))
 
-    -- and with these they are written as they were
+    -- With these they are written as they were.
     pub editions-again : (j k p : ℕ) (es : List Node) → All IsEdition es → flat_map octets (numbered_editions own uids j k (read_of p (numbered_editions own uids j k es))) ≡ flat_map octets (numbered_editions own uids j k es)
     editions-again j k p [] are = refl
     editions-again j k p (e ∷ es) are =

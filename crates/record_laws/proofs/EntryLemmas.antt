@@ -24,7 +24,7 @@ abbrev without_each : List ℕ → List Node → List Node
 without_each [] ns = ns
 without_each (id ∷ ids) ns = without_each ids (without id ns)
 
--- the children that are written of an entry's
+-- the children of the entry that are written
 abbrev pub entry_list : TrackChange → List Node → List Node
 entry_list c ns = with_each (children_set c) (without_each (ids_removed c.language) ns)
 
@@ -42,7 +42,7 @@ written-master c id at kids =
     ∙ ap (set_each (children_set c)) (removed-master (ids_removed c.language) id at (list_of kids))
     ∙ set-master (children_set c) id at (without_each (ids_removed c.language) (list_of kids))
 
--- ---- what a change leaves of an ID
+-- ---- children with an ID after a change
 
 part-with_each : (id : ℕ) (cs ns : List Node) → HasNone id cs → part id (with_each cs ns) ≡ part id ns
 part-with_each id [] ns others = refl
@@ -57,7 +57,7 @@ flag-id : (own id : ℕ) → (own == id) ≡ false → (b : Bool) → (id_of (fl
 flag-id own id other true = other
 flag-id own id other false = other
 
--- what a user gives
+-- the children that the user's options give
 abbrev options : TrackChange → List Node
 options c = given (leaf NAME 0) c.name ++ given (leaf LANGUAGE 0) c.language ++ given (flag_leaf FLAG_DEFAULT) c.flag_default ++ given (flag_leaf FLAG_FORCED) c.flag_forced
 
@@ -69,7 +69,7 @@ none-options id c name language default forced =
     (none-given id (flag_leaf FLAG_DEFAULT) c.flag_default (flag-id FLAG_DEFAULT id default)))
     (none-given id (flag_leaf FLAG_FORCED) c.flag_forced (flag-id FLAG_FORCED id forced))
 
--- number and identifier come first, then what a user gives
+-- Number and identifier come first, and then the children that the user's options give.
 entry_list-is : (c : TrackChange) (ns : List Node)
     → entry_list c ns ≡ with_each (options c) (with_child (uint_leaf TRACK_UID c.uid) (with_child (uint_leaf TRACK_NUMBER c.number) (without_each (ids_removed c.language) ns)))
 entry_list-is c ns = refl
@@ -93,7 +93,7 @@ module _ (c : TrackChange) (ns : List Node) where
       ∙ part-other TRACK_NUMBER (uint_leaf TRACK_UID c.uid) (with_child (uint_leaf TRACK_NUMBER c.number) bare) refl
       ∙ part-set (uint_leaf TRACK_NUMBER c.number) bare
 
-  -- of another ID all stays
+  -- Children with another ID stay.
   pub part-others : (id : ℕ) → (TRACK_NUMBER == id) ≡ false → (TRACK_UID == id) ≡ false → (NAME == id) ≡ false → (LANGUAGE == id) ≡ false → (FLAG_DEFAULT == id) ≡ false → (FLAG_FORCED == id) ≡ false
       → (CONTENT_ENCODINGS == id) ≡ false → (LANGUAGE_BCP47 == id) ≡ false → part id (entry_list c ns) ≡ part id ns
   unfolding bare
@@ -122,7 +122,7 @@ module _ (c : TrackChange) (ns : List Node) where
       gone (Some language) =
           part-without CONTENT_ENCODINGS LANGUAGE_BCP47 (without CONTENT_ENCODINGS ns) refl ∙ part-none CONTENT_ENCODINGS (without CONTENT_ENCODINGS ns) (none-without CONTENT_ENCODINGS ns)
 
-  -- ---- once more
+  -- ---- the second time
 
   list-again : (q : ℕ) → flat_map octets (entry_list (plain c.number c.uid) (read_of q (entry_list c ns))) ≡ flat_map octets (entry_list c ns)
   list-again q =

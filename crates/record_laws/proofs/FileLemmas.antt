@@ -24,7 +24,7 @@ use Rattle.record_laws.proofs.NumberLemmas.{value-set}
 
 -- ---- a number that is set in a master
 
--- read at a place, it is written as it was with the same number
+-- A master with the number that is read at a place is written as it was with the same number.
 set-again : (id value p : ℕ) (n : Node) → IsMaster n → is_filler id ≡ false → octets (set_in (uint_leaf id value) (placed p (set_in (uint_leaf id value) n))) ≡ octets (set_in (uint_leaf id value) n)
 set-again id value p (leaf i at body) is kept = absurd (cc)
 set-again id value p (master own at kids) is kept =
@@ -34,7 +34,7 @@ set-again id value p (master own at kids) is kept =
     let only : HasOnly child (read_of q all) = part-read id q all kept ∙ ap (map octets) (part-set child (list_of kids)) in
     ap (kept_octets own) (octets_all-flat (with_child child (read_of q all)) ∙ same-only child (read_of q all) only ∙ octets-read q all ∙ sym (octets_all-flat all))
 
--- and has this number
+-- It has this number.
 no-default : uint_default FILE_UID ≡ None
 unfolding entry_of table
 no-default = refl

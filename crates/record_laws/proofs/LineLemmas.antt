@@ -19,7 +19,7 @@ use Rattle.mkv_io.proofs.OctetsLemmas.{digits_lack, lacks_both, lacks_parts}
 use Rattle.record_laws.proofs.DigitsLemmas.{two_all, three_all, padded_all}
 use Rattle.lemmas.proofs.PlainLemmas.{lines-more as part_more}
 
--- ---- what a text lacks
+-- ---- bytes that a text lacks
 pub lacks_more : (o b : ℕ) (w : List ℕ) → (b == o) ≡ false → lacks o w ≡ true → lacks o (b ∷ w) ≡ true
 lacks_more o b w other none = and_from (not (b == o)) (lacks o w) (rw other refl) none
 
@@ -44,7 +44,7 @@ ends_both (x ∷ z ∷ zs) y ys = let more = ends_both (z ∷ zs) y ys in let fi
 stripped : (x : List ℕ) → ends_with_return x ≡ false → strip_carriage_return x ≡ x
 stripped x none = rw none refl
 
--- a text of one line that LF ends is a line
+-- A text of one line before an LF is a line.
 pub line_first : (x rest : List ℕ) → IsLine x → lines (x ++ (10 ∷ rest)) ≡ x ∷ lines rest
 line_first x rest line =
     let is_lf : ℕ → Bool = λ b. b == 10 in
@@ -54,14 +54,14 @@ line_first x rest line =
     let same = stripped x line.no_return in
     rw split (rw same at more)
 
--- ---- what stands in front
+-- ---- a prefix
 pub behind_front : (front rest : List ℕ) → behind front (front ++ rest) ≡ Some rest
 behind_front front rest =
     let e : take (length front) (front ++ rest) ≡ front = grind (arith, common_steps) in
     rw (e, (bytes_eq-Decides front front).1 refl, drop-append_seam front rest) refl
 
 -- ---- a time
--- its parts
+-- the parts of the time
 pub record Parts (ms h m s t : ℕ) : Type 0 where
   pub minutes : m < 60
   pub seconds : s < 60
@@ -75,7 +75,7 @@ parts_of ms =
     let s = ms / 1000 in let m = ms / 60000 in
     record { minutes = omega arith; seconds = omega arith; thousandths = omega arith; whole = omega arith }
 
--- the octets of a time are digits, colons and the point
+-- The bytes of a time are digits, colons and the point.
 pub stamp_lacks : (o point ms : ℕ) → is_ascii_digit o ≡ false → (58 == o) ≡ false → (point == o) ≡ false → ms < 2 ^ 64 → lacks o (stamp point ms) ≡ true
 unfolding stamp
 stamp_lacks o point ms other colon at small =
@@ -90,7 +90,7 @@ stamp_lacks o point ms other colon at small =
     let from_minutes = lacks_both o (two_digits (ms / 60000 % 60)) (58 ∷ seconds) m (lacks_more o 58 seconds colon from_seconds) in
     lacks_both o (two_or_more (ms / 3600000)) (58 ∷ minutes) h (lacks_more o 58 minutes colon from_minutes)
 
--- it ends with a digit
+-- It ends with a digit.
 pub digit_no_return : (n : ℕ) → (digit n == 13) ≡ false
 digit_no_return n = grind (arith, nat_tests)
 

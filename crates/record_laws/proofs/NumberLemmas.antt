@@ -1,4 +1,4 @@
--- The identifiers that were given are those that are read.
+-- The identifiers that were given are the ones that are read.
 use Rattle.std.proofs.Common.{◌≡◌, ◌<◌, ℕ, zero, suc, ◌+◌, ◌^◌, ◌==◌, Bool, true, false, if◌then◌else◌, List, [], ◌∷◌, ◌++◌, length, map, Option, refl, sym, ap, ap₂, ◌∙◌, arith, length-append, find, slice_index}
 use Rattle.std.specs.Option.{option_map_or}
 use Rattle.std.proofs.lemmas.List.{length-map, map-append}
@@ -18,7 +18,7 @@ use Rattle.record_laws.proofs.AtomLemmas.{atoms-atom, atoms-set, uids_among, uid
 
 -- ---- numbers in a list
 
--- so many of them, from the k-th on
+-- `n` of the numbers `uids`, from the one at `k` on
 abbrev pub numbers_at : List ℕ → ℕ → ℕ → List ℕ
 numbers_at uids k zero = []
 numbers_at uids k (suc n) = slice_index uids k ∷ numbers_at uids (k + 1) n
@@ -84,7 +84,7 @@ module _ (uids : List ℕ) (small : (k : ℕ) → slice_index uids k < 2 ^ 64) w
       ∙ ap (map (value_in CHAPTER_UID)) (atoms-none (master id at kids) is)
       ∙ ap (λ (l : List Node). numbers_at uids k (length l)) (sym (atoms-none (master id at kids) is))
 
-  -- they have the numbers from the k-th on
+  -- The atoms have the numbers from the one at `k` on.
   pub uids-among : (ns : Nodes) (k : ℕ) → uids_among (nodes_of (numbered_among uids k ns)) ≡ numbers_at uids k (length (atoms_among ns))
   uids-among none k = refl
   uids-among (node (leaf id at body) ns) k = let same : k + 0 ≡ k = omega arith in uids-among ns (k + 0) ∙ ap (λ (j : ℕ). numbers_at uids j (length (atoms_among ns))) same
@@ -99,6 +99,6 @@ module _ (uids : List ℕ) (small : (k : ℕ) → slice_index uids k < 2 ^ 64) w
   uids-numbered (leaf id at body) k = refl
   uids-numbered (master id at kids) k = uids-own k id at kids (λ j. uids-among kids j) (id == CHAPTER_ATOM) refl
 
-  -- there are as many
+  -- The number of atoms is the same.
   pub count-numbered : (n : Node) (k : ℕ) → length (atoms_at (numbered uids k n)) ≡ length (atoms_at n)
   count-numbered n k = sym (length-map (atoms_at (numbered uids k n)) (value_in CHAPTER_UID)) ∙ ap length (uids-numbered n k) ∙ numbers-long uids k (length (atoms_at n))

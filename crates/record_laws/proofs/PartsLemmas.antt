@@ -1,4 +1,4 @@
--- The lines of a text, and what is read of them.
+-- The lines of a text, and the text that is read from them.
 use Rattle.std.proofs.Common.{◌≡◌, ℕ, ◌<◌, true, false, List, [], ◌∷◌, ◌++◌, length, refl, sym, ◌∙◌, ap, arith, append_assoc, inl, inr, ◌==◌}
 use Rattle.std.proofs.lemmas.List.Splits.{join_with_byte-slice_split, length-slice_split}
 use Rattle.std.specs.List.{onto_first, join_with_byte, AllByRecursion}
@@ -23,7 +23,7 @@ lines_lack [] = (refl, tt)
 lines_lack (x ∷ xs) =
     elim (cases_Bool (x == 10)) [ inl is ↦ rw is (refl, lines_lack xs) | inr is ↦ rw is (onto_lack x (lines_in xs) is (lines_lack xs)) ]
 
--- ---- the last line has octets
+-- ---- the last line has bytes
 abbrev pub IsFilled : List (List ℕ) → Type 0
 IsFilled [] = ⊥
 IsFilled (l ∷ []) = 0 < length l
@@ -47,7 +47,7 @@ lines_filled x (y ∷ ys) none =
     let rest = lines_filled y ys (sym (break_more x y ys) ∙ none) in
     elim (cases_Bool (x == 10)) [ inl is ↦ rw is (front_filled [] (lines_in (y ∷ ys)) rest) | inr is ↦ rw is (onto_filled x (lines_in (y ∷ ys)) rest) ]
 
--- ---- what is read of the lines and an empty one
+-- ---- text of the lines and an empty one
 onto_more : (l m : List ℕ) (ms : List (List ℕ)) → onto_lines l (m ∷ ms) ≡ l ∷ m ∷ ms
 onto_more [] m ms = refl
 onto_more (b ∷ bs) m ms = refl
@@ -62,13 +62,13 @@ trimmed_filled [] filled = absurd filled
 trimmed_filled (l ∷ []) filled = onto_last l filled
 trimmed_filled (l ∷ m ∷ ms) filled = let rest = trimmed_filled (m ∷ ms) filled in ap (onto_lines l) rest ∙ onto_more l m ms
 
--- the text of its lines and an empty one is the text
+-- The text of its lines and an empty one is the text.
 pub text_back : (w : List ℕ) → ends_with_break w ≡ false → text_of (lines_in w ++ ([] ∷ [])) ≡ w
 unfolding trimmed
 text_back [] none = refl
 text_back (x ∷ xs) none = ap (join_with_byte 10) (trimmed_filled (lines_in (x ∷ xs)) (lines_filled x xs none)) ∙ join_with_byte-slice_split 10 (x ∷ xs)
 
--- ---- the lines of a text that is written
+-- ---- lines of a written text
 lines_joined : (l : List ℕ) (ls : List (List ℕ)) (rest : List ℕ) → AllByRecursion IsLine (l ∷ ls) → lines (join_with_byte 10 (l ∷ ls) ++ (10 ∷ rest)) ≡ (l ∷ ls) ++ lines rest
 lines_joined l [] rest are = line_first l rest are.0
 lines_joined l (m ∷ ms) rest are =
@@ -86,7 +86,7 @@ empty_line rest = line_first [] rest (record { no_break = refl; no_return = refl
 some_lines : (w : List ℕ) → 0 < length (lines_in w)
 some_lines w = let long = length-slice_split (λ b. b == 10) w in omega arith
 
--- a text with an empty line behind it
+-- The lines of a text that is followed by an empty line.
 pub text_lines : (w rest : List ℕ) → AllByRecursion IsLine (lines_in w) → lines (w ++ (10 ∷ 10 ∷ rest)) ≡ lines_in w ++ ([] ∷ lines rest)
 text_lines w rest are =
     let back = join_with_byte-slice_split 10 w in

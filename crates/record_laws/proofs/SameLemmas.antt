@@ -1,4 +1,4 @@
--- What is read of what is written, and a child in the place of its like.
+-- Elements that are read after writing, and a child that replaces an equal one.
 use Rattle.std.proofs.Common.{◌≡◌, inl, inr, ℕ, ◌+◌, ◌==◌, Bool, true, false, cond, List, [], ◌∷◌, ◌++◌, length, map, flat_map, refl, sym, ap, ap₂, ◌∙◌, arith, ne_eqb}
 use Rattle.std.proofs.lemmas.List.Concat.{flat_map-append}
 use Rattle.std.proofs.lemmas.List.Elements.{All-nil, All-cons, filter-append}
@@ -13,16 +13,16 @@ use Rattle.tree_format.proofs.PlacedLemmas.{octets_all-placed}
 use Rattle.record_laws.specs.Again.{read_of}
 use Rattle.tree_format.specs.Values.{integer_of}
 
--- Exactly one child of the ID of n, which is written as n is.
+-- Exactly one child has the ID of `n`, and it is written as `n` is.
 abbrev pub HasOnly : Node → List Node → Type 0
 HasOnly n ns = map octets (part (id_of n) ns) ≡ octets n ∷ []
 
--- where nothing is written of an ID, there is no child of it
+-- If nothing is written for an ID, no child has it.
 pub none-part : (id : ℕ) (ns : List Node) → map octets (part id ns) ≡ [] → HasNone id ns
 none-part id [] is = All-nil (λ k. (id_of k == id) ≡ false)
 none-part id (n ∷ ns) is = grind (arith, none-part id ns, All-cons (λ k. (id_of k == id) ≡ false) n ns)
 
--- where it is the only one already, nothing changes that is written
+-- If it is the only one already, the written bytes stay.
 pub same-only : (n : Node) (ns : List Node) → HasOnly n ns → flat_map octets (with_child n ns) ≡ flat_map octets ns
 same-only n ns only = elim (split-first (id_of n) ns) [
   | inl lacks ↦ absurd (let never : [] ≡ octets n ∷ [] = sym (ap (map octets) (part-none (id_of n) ns lacks)) ∙ only in cc)
@@ -40,7 +40,7 @@ same-only n ns only = elim (split-first (id_of n) ns) [
       ∙ ap (flat_map octets) (sym s.whole)
 ]
 
--- ---- what is read of what is written
+-- ---- elements that are read after writing
 
 pub placed-octets : (n : Node) (p : ℕ) → octets (placed p n) ≡ octets n
 placed-octets (leaf id at body) p = refl
@@ -54,15 +54,15 @@ pub integer-placed : (n : Node) (p : ℕ) → integer_of (placed p n) ≡ intege
 integer-placed (leaf id at body) p = refl
 integer-placed (master id at kids) p = refl
 
--- what is left out has another ID than what isn't
+-- An ID that is left out differs from one that isn't.
 pub filler-other : (own id : ℕ) → is_filler own ≡ true → is_filler id ≡ false → (own == id) ≡ false
 filler-other own id filler kept = ne_eqb own id (λ same. let never : true ≡ false = sym filler ∙ ap is_filler same ∙ kept in absurd (cc))
 
--- an Element is read, and then the others
+-- An element is read, and then the others.
 pub read-step : (p : ℕ) (n : Node) (ns : List Node) → is_filler (id_of n) ≡ false → read_of p (n ∷ ns) ≡ placed p n ∷ read_of (p + length (octets n)) ns
 read-step p n ns kept = rw kept refl
 
--- what doesn't change where an Element stands is the same of the children of an ID
+-- A function that ignores places has the same values for the children with an ID.
 pub part-placed : {A : Type 0} (f : Node → A) → ((n : Node) (p : ℕ) → f (placed p n) ≡ f n) → (id : ℕ) (ns : Nodes) (p : ℕ) → is_filler id ≡ false
     → map f (part id (list_of (placed_all p ns))) ≡ map f (part id (list_of ns))
 part-placed f same id none p kept = refl

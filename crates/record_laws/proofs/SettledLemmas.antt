@@ -18,13 +18,13 @@ use Rattle.record_laws.specs.Chapters.{AreChapters, ChaptersStay, chapter_number
 use Rattle.record_laws.proofs.EditionLemmas.{IsEdition, editions-again, editions-inner, editions-own, editions-part}
 use Rattle.record_laws.proofs.NumberLemmas.{numbers-all, numbers_at}
 
--- where each is small, so is one at any place
+-- If each number is small, the one at any place is.
 pub small-at : (ns : List ℕ) → All (λ n. n < 2 ^ 64) ns → (k : ℕ) → slice_index ns k < 2 ^ 64
 small-at [] small k = omega arith
 small-at (n ∷ ns) small zero = All-head (λ m. m < 2 ^ 64) n ns small
 small-at (n ∷ ns) small (suc k) = small-at ns (All-tail (λ m. m < 2 ^ 64) n ns small) k
 
--- the editions among some Elements, where they are masters
+-- The editions among some elements, if they are masters.
 editions-are : (ns : List Node) → All IsMaster (part EDITION_ENTRY ns) → All IsEdition (part EDITION_ENTRY ns)
 editions-are [] masters = All-nil IsEdition
 editions-are (n ∷ ns) masters = elim (cases_Bool (id_of n == EDITION_ENTRY)) [
@@ -41,11 +41,11 @@ editions-are (n ∷ ns) masters = elim (cases_Bool (id_of n == EDITION_ENTRY)) [
 abbrev list_in : Node → List Node
 list_in chapters = numbered_editions (edition_numbers chapters) (chapter_numbers chapters) 0 0 (editions_of chapters)
 
--- where they stand, where it stands at a place
+-- the place of its editions if the element is at a place
 abbrev inside_of : ℕ → ℕ → Node → ℕ
 inside_of id place chapters = place + length (header_octets id (length (octets_all (nodes_of (list_in chapters)))))
 
--- there is a number for each
+-- There is a number for each.
 all-numbers : (f : Node → ℕ) (ns : List Node) → numbers_at (renumbered (map f ns)) 0 (length ns) ≡ renumbered (map f ns)
 all-numbers f ns = ap (numbers_at (renumbered (map f ns)) 0) (sym (numbers-settle.each (map f ns) ∙ length-map ns f)) ∙ numbers-all (renumbered (map f ns))
 
@@ -69,7 +69,7 @@ module _ (id at place : ℕ) (kids : Nodes) (are : AreChapters (master id at kid
       ∙ editions-inner (chapter_numbers c) (small-at (chapter_numbers c) are.chapter_numbers) (edition_numbers c) (small-at (edition_numbers c) are.edition_numbers) 0 0 (inside_of id place c) (editions_of c) (editions-are (list_of kids) are.editions)
       ∙ all-numbers (value_in CHAPTER_UID) (atoms_of c)
 
-  -- renumbering again changes none
+  -- Renumbering again changes none.
   editions-still : edition_numbers (placed place (settled (master id at kids))) ≡ edition_numbers (master id at kids)
   editions-still = ap renumbered editions-keep ∙ numbers-settle.stays (edition_numbers (master id at kids)) (numbers-settle.settled (edition_uids (master id at kids)))
 

@@ -1,4 +1,4 @@
--- Chapters that are later, and where chapters start, computed, so that a wrong definition does not check.
+-- Chapters with an append offset, and the starts of chapters, computed: a wrong definition doesn't check.
 use Rattle.std.proofs.Common.{◌≡◌, ℕ, List, [], ◌∷◌, ◌++◌, replicate, Result, Ok, refl}
 use Rattle.mkv_io.specs.declared.damage.Damage.{Damage}
 use Rattle.tree_format.specs.NormalForm.{content}
@@ -8,7 +8,7 @@ use Rattle.record_laws.proofs.ChapterExamples.{edition, atom, edition_uid, start
 
 -- ---- chapters
 
--- an edition with the chapter `Intro` at 0, in its octets, and the same with the chapter at 20 milliseconds
+-- the bytes of an edition with the chapter `Intro` at 0; below, the same with the chapter at 20 milliseconds
 abbrev pub one_chapter : List ℕ
 one_chapter =
     (0x45 ∷ 0xB9 ∷ 0x9C ∷ []) ++
@@ -31,47 +31,47 @@ two_editions from to = edition (lasting from to) ++ edition (lasting from to)
 abbrev last : List ℕ
 last = replicate 8 0xFF
 
--- ---- chapters that are later
+-- ---- chapters with an append offset
 
--- what a Chapters Element becomes whose chapters are so much later, both without its header
+-- the Chapters element with an append offset, both without its header
 abbrev later : ℕ → List ℕ → Result (List ℕ) Damage
 later by body = made_of 0x1043A770 (λ tree. content (shifted by tree)) body
 
--- an edition becomes another by half a second
+-- An edition becomes another if half a second is added.
 abbrev becomes : List ℕ → List ℕ → Type 0
 becomes old new = later 500000000 (edition old) ≡ Ok (edition new)
 
 pub record AreLater : Type 0 where
-  -- a start takes the octets that it then needs
+  -- A start takes the bytes that it then needs.
   pub one : later 20000000 one_chapter ≡ Ok later_chapter
-  -- an end is later too, in every edition
+  -- An end gets the offset, too, in every edition.
   pub ends : later 500000000 (two_editions zero_s half_s) ≡ Ok (two_editions half_s one_s)
-  -- a start that is missing was 0, and comes last
+  -- A missing start was 0, and is added last.
   pub missing_start : becomes (atom intro) (atom (intro ++ start half_s))
-  -- a missing end isn't added, and what is no atom stays
+  -- A missing end isn't added, and elements other than atoms stay.
   pub others_stay : becomes (edition_uid 7 ++ atom (start zero_s)) (edition_uid 7 ++ atom (start half_s))
-  -- atoms inside an atom are later too
+  -- Atoms inside an atom get the offset, too.
   pub inside : becomes (atom (start zero_s ++ atom (start half_s))) (atom (start half_s ++ atom (start one_s)))
   pub missing_inside : becomes (atom (start zero_s ++ atom intro)) (atom (start half_s ++ atom (intro ++ start half_s)))
-  -- no time is later than the last one
+  -- No time is later than the last one.
   pub no_later_than_last : becomes (lasting zero_s last) (lasting half_s last)
 
 pub laters : AreLater
 unfolding made_of
 laters = assumption refl
 
--- ---- where chapters start
+-- ---- starts of chapters
 
--- the starts of a Chapters Element's chapters
+-- the starts of a Chapters element's chapters
 abbrev starts : List ℕ → Result (List ℕ) Damage
 starts body = made_of 0x1043A770 top_starts body
 
 pub record AreStarts : Type 0 where
-  -- in the order of the atoms; one that is missing is 0
+  -- They are in the order of the atoms; a missing one is 0.
   pub top : starts (edition (atom (start one_s) ++ atom intro)) ≡ Ok (1000000000 ∷ 0 ∷ [])
-  -- without those of atoms inside atoms
+  -- Atoms inside atoms aren't included.
   pub none_inside : starts (edition nested) ≡ Ok (0 ∷ [])
-  -- of the first edition alone
+  -- Only the first edition is included.
   pub first_edition : starts (edition (atom (start half_s)) ++ edition endless) ≡ Ok (500000000 ∷ [])
   pub no_edition : starts [] ≡ Ok []
 

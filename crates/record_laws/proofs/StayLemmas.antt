@@ -1,4 +1,4 @@
--- Atoms with identifiers are written as they were, once they were read.
+-- Atoms with identifiers are written as they were after they are read.
 use Rattle.std.proofs.Common.{◌≡◌, ◌<◌, inl, inr, ℕ, ◌+◌, ◌^◌, ◌==◌, Bool, true, false, List, [], ◌∷◌, ◌++◌, length, map, flat_map, refl, sym, ap, ap₂, subst, ◌∙◌, arith, length-append, eqb-true}
 use Rattle.std.specs.Prelude.{⊤, slice_index}
 use Rattle.std.proofs.lemmas.Bool.{cases_Bool}
@@ -16,21 +16,21 @@ use Rattle.record_changes.specs.ChapterIdentifiers.{numbered, numbered_among}
 use Rattle.record_laws.proofs.AtomLemmas.{atoms-none, count-placed, filler-none}
 use Rattle.record_laws.proofs.NumberLemmas.{count-numbered, numbered-atom, numbered-none}
 
--- An Element stays: where it is read, its atoms with the identifiers from the k-th on are written as they were.
+-- The element stays: after it is read, its atoms with the identifiers from the one at `k` on are written as they were.
 abbrev pub Stays : List ℕ → ℕ → Node → Type 0
 Stays uids k n = (p : ℕ) → octets (numbered uids k (placed p n)) ≡ octets n
 
--- So do Elements one behind the other.
+-- The same for elements in sequence.
 abbrev pub AllStay : List ℕ → ℕ → List Node → Type 0
 AllStay uids k [] = ⊤
 AllStay uids k (n ∷ ns) = Stays uids k n × AllStay uids (k + length (atoms_at n)) ns
 
--- ---- lists of Elements that stay
+-- ---- lists of elements that stay
 
 stay-at : (uids : List ℕ) (j k : ℕ) (ns : List Node) → j ≡ k → AllStay uids j ns → AllStay uids k ns
 stay-at uids j k ns same stay = subst (λ (i : ℕ). AllStay uids i ns) same stay
 
--- nothing is written of what is left out
+-- An element that is left out has no bytes.
 pub octets-filler : (n : Node) → is_filler (id_of n) ≡ true → octets n ≡ []
 octets-filler (leaf id at body) is = rw is refl
 octets-filler (master id at kids) is = rw is refl
@@ -64,7 +64,7 @@ stay-back uids k (x ∷ xs) ys stay =
     let same : k + length (atoms_at x) + length (flat_map atoms_at xs) ≡ k + length (atoms_at x ++ flat_map atoms_at xs) = omega (arith, length-append (atoms_at x) (flat_map atoms_at xs)) in
     stay-at uids (k + length (atoms_at x) + length (flat_map atoms_at xs)) (k + length (atoms_at x ++ flat_map atoms_at xs)) ys same (stay-back uids (k + length (atoms_at x)) xs ys stay.1)
 
--- an Element of another ID than an atom's has none inside
+-- An element with another ID than an atom's has no atom inside.
 not-atom : (id : ℕ) (n : Node) → (id == CHAPTER_ATOM) ≡ false → (id_of n == id) ≡ true → atoms_at n ≡ []
 not-atom id n other is = atoms-none n (rw (eqb-true (id_of n) id is) other)
 
@@ -77,7 +77,7 @@ stay-without uids k id (n ∷ ns) other stay =
       | inr is ↦ rw is (stay.0, rest)
     ]
 
--- a number that is set beside them
+-- A number that is set beside them.
 pub stay-set : (uids : List ℕ) (k id value : ℕ) (ns : List Node) → (id == CHAPTER_ATOM) ≡ false → AllStay uids k ns → AllStay uids k (with_child (uint_leaf id value) ns)
 stay-set uids k id value ns other stay = elim (split-first id ns) [
   | inl lacks ↦ subst (AllStay uids k) (sym (with_child-none (uint_leaf id value) ns lacks)) (stay-join uids k ns (uint_leaf id value ∷ []) stay ((λ p. refl), tt))
@@ -91,7 +91,7 @@ stay-set uids k id value ns other stay = elim (split-first id ns) [
       ((λ p. refl), stay-without uids (at + 0) id s.back other (stay-at uids (at + length (atoms_at s.first)) (at + 0) s.back same back.1)))
 ]
 
--- ---- Elements with identifiers
+-- ---- elements with identifiers
 
 numbered-id : (uids : List ℕ) (k : ℕ) (n : Node) → id_of (numbered uids k n) ≡ id_of n
 numbered-id uids k (leaf id at body) = refl
@@ -102,7 +102,7 @@ numbered-same : (uids : List ℕ) (k id : ℕ) (n : Node) → (id == CHAPTER_ATO
 numbered-same uids k id (leaf i at body) other is = refl
 numbered-same uids k id (master i at kids) other is = numbered-none uids k i at kids (rw (eqb-true i id is) other)
 
--- those of another ID are the same
+-- The elements with another ID are the same.
 pub part-numbered : (uids : List ℕ) (id k : ℕ) (ns : Nodes) → (id == CHAPTER_ATOM) ≡ false → part id (numbered_among uids k ns) ≡ part id (list_of ns)
 part-numbered uids id k none other = refl
 part-numbered uids id k (node n ns) other =
@@ -112,8 +112,8 @@ part-numbered uids id k (node n ns) other =
       | inr is ↦ rw (numbered-id uids k n, is) rest
     ]
 
--- A master whose only child of an ID is this number, and whose other children stay, is written as it was: they are read at a place, their
--- atoms get the identifiers from the k-th on, and the number is set again.
+-- A master is written as it was if this number is its only child with the ID, and its other children stay. They are read at a place, their atoms
+-- get the identifiers from the one at `k` on, and the number is set again.
 pub master-again : (uids : List ℕ) (k own value : ℕ) (ns : List Node) (q : ℕ) → (own == CHAPTER_ATOM) ≡ false → is_filler own ≡ false → AllStay uids k ns
     → flat_map octets (with_child (uint_leaf own value) (numbered_among uids k (placed_all q (nodes_of (with_child (uint_leaf own value) ns))))) ≡ flat_map octets (with_child (uint_leaf own value) ns)
 master-again uids k own value ns q other kept stay =

@@ -1,4 +1,4 @@
--- Small SubRip files that are read, computed, so that a wrong definition does not check.
+-- Small SubRip files that are read, computed: a wrong definition doesn't check.
 use Rattle.std.proofs.Common.{◌≡◌, ℕ, List, [], ◌∷◌, ◌++◌, codes, Ok, Err, refl}
 use Rattle.std.specs.Str.{is_utf8, chars}
 use lib.Utf8.{encode}
@@ -17,21 +17,21 @@ text (l ∷ ls) = l ++ 10 ∷ text ls
 abbrev entry : ℕ → ℕ → List ℕ → Entry
 entry from lasting words = record { start = from; duration = lasting; text = words }
 
--- one of two lines, from 1 second to 2.5 seconds
+-- an entry of two lines, from 1 second to 2.5 seconds
 abbrev pub example_text : List ℕ
 example_text = text (codes "1" ∷ codes "00:00:01,000 --> 00:00:02,500" ∷ codes "Hi" ∷ codes "you" ∷ [] ∷ [])
 
 abbrev hi_read : Entry
 hi_read = entry 1000000000 1500000000 (codes "Hi" ++ 10 ∷ codes "you")
 
--- one from 0.5 seconds to 1.5 seconds
+-- an entry from 0.5 seconds to 1.5 seconds
 abbrev early : List ℕ
 early = text (codes "7 " ∷ codes "00:00:00.500 --> 00:00:01.500 X1:40" ∷ codes "a" ∷ [] ∷ codes "b" ∷ [])
 
 abbrev early_read : Entry
 early_read = entry 500000000 1000000000 (codes "a" ++ 10 ∷ 10 ∷ codes "b")
 
--- one from 1 second to 1 second, with the mark of UTF-8 in front, CRLF behind lines, and nothing behind the last one
+-- an entry from 1 second to 1 second, with a UTF-8 mark first, CRLF after lines, and nothing after the last one
 abbrev marked : List ℕ
 marked =
     (239 ∷ 187 ∷ 191 ∷ []) ++
@@ -39,26 +39,26 @@ marked =
     codes "00:00:01,000 --> 00:00:01,000" ++ (13 ∷ 10 ∷ []) ++
     codes "a"
 
--- one of a millisecond whose text is a number
+-- an entry of a millisecond whose text is a number
 abbrev numbered : List ℕ
 numbered = text (codes "1" ∷ codes "00:00:00,000 --> 00:00:00,001" ∷ codes "2" ∷ [])
 
--- one at the latest time that four digits of hours tell, without a text
+-- an entry at the latest time with four digits of hours, without a text
 abbrev latest_of_all : List ℕ
 latest_of_all = text (codes "1" ∷ codes "9999:59:59,999 --> 9999:59:59,999" ∷ [])
 
 pub record AreEntries : Type 0 where
-  -- the lines of a text have LF between them; empty ones at its end go
+  -- The lines of a text have LF between them; empty ones at its end are removed.
   pub one : srt example_text ≡ Ok (hi_read ∷ [])
-  -- empty lines inside stay, a point may stand for a comma, a space behind the number, and words behind the times
+  -- Inner empty lines stay. A point may replace a comma, a space may follow the number, and words may follow the times.
   pub between : srt early ≡ Ok (early_read ∷ [])
-  -- entries are in the order of their starts, whatever their numbers
+  -- Entries are in the order of their starts, with any numbers.
   pub sorted : srt (example_text ++ early) ≡ Ok (early_read ∷ hi_read ∷ [])
-  -- the mark in front says nothing, CRLF ends a line, and the last line needs no end; an entry may end where it starts
+  -- The mark at the start is ignored, CRLF ends a line, and the last line needs no end. An entry may end at its start.
   pub with_mark : srt marked ≡ Ok (entry 1000000000 0 (codes "a") ∷ [])
-  -- a number line without a time line behind it is text
+  -- A number line without a time line after it is text.
   pub number : srt numbered ≡ Ok (entry 0 1000000 (codes "2") ∷ [])
-  -- hours may have four digits, and a text may be missing
+  -- Hours may have four digits, and a text may be missing.
   pub latest : srt latest_of_all ≡ Ok (entry 35999999999000000 0 [] ∷ [])
 
 pub entries_read : AreEntries
@@ -66,17 +66,17 @@ unfolding srt head before_head trimmed entries has_arrow first_bad seconds clock
 entries_read = record { one = refl; between = refl; sorted = refl; with_mark = refl; number = refl; latest = refl }
 
 pub record AreBadLines : Type 0 where
-  -- a line before the first number line
+  -- A line comes before the first number line.
   pub front : srt (text (codes "x" ∷ [])) ≡ Err 1
-  -- a number line there has no time line behind it
+  -- The first number line has no time line after it.
   pub no_times : srt (text (codes "1" ∷ codes "a" ∷ [])) ≡ Err 1
-  -- an entry ends before it starts
+  -- An entry ends before it starts.
   pub backward : srt (text (codes "1" ∷ codes "00:00:02,000 --> 00:00:01,999" ∷ [])) ≡ Err 2
-  -- an arrow stands in a text
+  -- A text has an arrow.
   pub arrow : srt (example_text ++ text (codes "a-->b" ∷ [])) ≡ Err 6
-  -- minutes are below 60: the line is no time line
+  -- Minutes must be below 60, so the line isn't a time line.
   pub minutes : srt (example_text ++ text (codes "2" ∷ codes "00:60:00,000 --> 01:00:00,000" ∷ [])) ≡ Err 7
-  -- a line isn't UTF-8: it stands before the one with an arrow, and is told
+  -- A line isn't UTF-8; it comes before one with an arrow, and is reported.
   pub not_utf8 : srt (example_text ++ text ((0xFF ∷ []) ∷ codes "-->" ∷ [])) ≡ Err 6
 
 pub bad_lines : AreBadLines

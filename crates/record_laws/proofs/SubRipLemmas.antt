@@ -1,4 +1,4 @@
--- Entries of SubRip that are written are read back.
+-- SubRip entries that are written are read back.
 use Rattle.std.proofs.Common.{◌≡◌, ℕ, zero, suc, ◌+◌, ◌-◌, ◌*◌, ◌/◌, ◌%◌, ◌^◌, ◌<◌, ◌≤◌, pos, true, false, List, [], ◌∷◌, ◌++◌, length, Some, None, Ok, refl, sym, ◌∙◌, ap, arith, lit<, append_assoc, inl, inr, codes, le-ltb}
 use Rattle.std.proofs.lemmas.Grind.{common_steps}
 use Rattle.std.proofs.lemmas.Bool.Decides.{nat_tests}
@@ -62,7 +62,7 @@ stamp_low ms small =
     let b = low_both m (58 ∷ seconds) (digits_low m (two_all (ms / 60000 % 60))) (lit< tt, a) in
     low_both h (58 ∷ minutes) (digits_low h (padded_all (ms / 3600000) (omega arith))) (lit< tt, b)
 
--- ---- the line of a number
+-- ---- number line
 digits_end : (ds : List ℕ) → list_all is_ascii_digit ds ≡ true → ends_with_return ds ≡ false
 digits_end [] all = refl
 digits_end (b ∷ []) all = digit_is_not 13 b refl (and_parts (is_ascii_digit b) true all).0
@@ -77,7 +77,7 @@ number_is_number k few =
     let one : 0 < 9 = omega arith in
     number_line (decimal k) (decimal_all k small) (decimal_is_IsNumeral k small).0.0 (length-decimal-le 9 k one few small)
 
--- ---- the line of times
+-- ---- time line
 abbrev time_line : ℕ → ℕ → List ℕ
 time_line a b = stamp 44 a ++ (codes " --> " ++ stamp 44 b)
 
@@ -95,7 +95,7 @@ time_utf8 a b early late =
     low_utf8 (time_line a b) (low_both (stamp 44 a) (codes " --> " ++ stamp 44 b) (stamp_low a early)
     (low_both (codes " --> ") (stamp 44 b) (lit< tt, (lit< tt, (lit< tt, (lit< tt, (lit< tt, tt))))) (stamp_low b late)))
 
--- ---- the lines of a text
+-- ---- lines of a text
 are_lines : (ls : List (List ℕ)) → AllByRecursion LacksBreak ls → AllByRecursion IsPlainLine ls → AllByRecursion IsLine ls
 are_lines [] lack plain = tt
 are_lines (l ∷ ls) lack plain = (record { no_break = lack.0; no_return = plain.0.no_return }, are_lines ls lack.1 plain.1)
@@ -232,7 +232,7 @@ front_good (e ∷ es) k plain few =
     rw (entry_lines k e small plain.0 (put_entries (k + 1) es))
     (entry_good k e small plain.0 Front 1 (lines (put_entries (k + 1) es)) (number_good k e small plain.0).0 (λ m. none_bad es (k + 1) m plain.1 (omega arith)))
 
--- ---- what ascends is sorted
+-- ---- a list in order is sorted
 sorted_back : (es : List Entry) → Ascend es → by_start es ≡ es
 sorted_back [] asc = refl
 sorted_back (e ∷ []) asc = refl

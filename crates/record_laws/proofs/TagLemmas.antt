@@ -20,11 +20,11 @@ use Rattle.record_changes.specs.declared.uid_map.TagKeep.{TagKeep}
 use Rattle.record_laws.specs.Tags.{AreSmall, KeepsTarget, TagsStay, keep_all}
 use Rattle.record_laws.proofs.StayLemmas.{octets-filler}
 
--- ---- Elements one behind the other, of which each is written as it was
+-- ---- elements in sequence, each of which is written as it was
 
--- facts of what is read of Elements that have a fact
+-- A fact about elements gives a fact about them after they are read.
 module _ (P : Node → Type 0) (Q : Node → Type 0) (f : Node → List Node) (so : (n : Node) (q : ℕ) → P n → Q (placed q n) → flat_map octets (f (placed q n)) ≡ octets n) where
-  -- what is made of each is written as it was
+  -- The elements that are made from each are written as they were.
   each-again : (ns : List Node) (q : ℕ) → All P ns → All Q (read_of q ns) → flat_map octets (flat_map f (read_of q ns)) ≡ flat_map octets ns
   each-again [] q all read = refl
   each-again (n ∷ ns) q all read = elim (cases_Bool (is_filler (id_of n))) [
@@ -40,11 +40,11 @@ module _ (P : Node → Type 0) (Q : Node → Type 0) (f : Node → List Node) (s
 
 -- ---- a child of Targets
 
--- A target has the fewest octets.
+-- The target has the fewest bytes.
 abbrev IsShort : Node → Type 0
 IsShort n = is_target n ≡ true → octets (uint_leaf (id_of n) (integer_of n)) ≡ octets n
 
--- a target keeps its identifier
+-- The target keeps its identifier.
 abbrev KeepsIf : (ℕ → ℕ → Option ℕ) → Node → Type 0
 KeepsIf numbers n = is_target n ≡ true → KeepsTarget numbers n
 
@@ -52,7 +52,7 @@ target-placed : (n : Node) (q : ℕ) → is_target (placed q n) ≡ is_target n
 target-placed (leaf id at body) q = refl
 target-placed (master id at kids) q = refl
 
--- one that is written has
+-- A written target has the fewest bytes.
 written-short : (numbers : ℕ → ℕ → Option ℕ) (n : Node) → AreSmall numbers → All IsShort (written_target numbers n)
 written-short numbers n small = elim (cases_Bool (is_target n)) [
   | inl is ↦ rw is (made (number_of numbers n) (small (id_of n) (integer_of n)))
@@ -89,7 +89,7 @@ keeps-if again (n ∷ ns) keep = elim (cases_Bool (is_target n)) [
 
 -- ---- a child of a Tag
 
--- The targets in it have the fewest octets.
+-- The targets in the child have the fewest bytes.
 abbrev IsShortPart : Node → Type 0
 IsShortPart n = (id_of n == TARGETS) ≡ true → All IsShort (children n)
 
@@ -101,7 +101,7 @@ part-short numbers (master id at kids) small = elim (cases_Bool (id == TARGETS))
   | inr is ↦ rw is (λ targets. absurd (let never : true ≡ false = sym targets ∙ is in cc))
 ]
 
--- its targets keep their identifiers
+-- The targets in the child keep their identifiers.
 abbrev KeepsPart : (ℕ → ℕ → Option ℕ) → Node → Type 0
 KeepsPart again n = All (KeepsTarget again) (targets_in n)
 
@@ -124,7 +124,7 @@ part-again again (master id at kids) q short keeps = elim (cases_Bool (id == TAR
 
 -- ---- a Tag
 
--- The targets in it have the fewest octets.
+-- The targets in the Tag have the fewest bytes.
 record IsShortTag (n : Node) : Type 0 where
   tag : id_of n ≡ TAG
   parts : All IsShortPart (children n)
@@ -144,7 +144,7 @@ All-back : (P : Node → Type 0) (xs ys : List Node) → All P (xs ++ ys) → Al
 All-back P [] ys all = all
 All-back P (x ∷ xs) ys all = All-back P xs ys (All-tail P x (xs ++ ys) all)
 
--- its targets keep their identifiers
+-- The targets in the Tag keep their identifiers.
 abbrev KeepsTag : (ℕ → ℕ → Option ℕ) → Node → Type 0
 KeepsTag again n = All (KeepsTarget again) (flat_map targets_in (children n))
 
@@ -165,7 +165,7 @@ tag-again again (master id at kids) q short keeps =
     ∙ each-again IsShortPart (KeepsPart again) (λ (m : Node). written_part again m ∷ []) (λ m p one keep. append-nil (octets (written_part again (placed p m))) ∙ part-again again m p one keep) (list_of kids) there short.parts each
     ∙ sym (octets_all-flat (list_of kids)) ∙ ap octets_all (nodes-list kids))
 
--- what names something names what is written
+-- A Tag with specific targets names an element that is written.
 aims-written : (again : ℕ → ℕ → Option ℕ) (ns : List Node) → All (KeepsTarget again) ns → (not (list_any (λ (n : Node). true) ns) || list_any (λ (n : Node). is_some (number_of again n)) ns) ≡ true
 aims-written again [] all = refl
 aims-written again (n ∷ ns) all = ap (λ (o : Option ℕ). is_some o || list_any (λ (m : Node). is_some (number_of again m)) ns) (All-head (KeepsTarget again) n ns all)

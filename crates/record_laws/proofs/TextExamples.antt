@@ -1,4 +1,4 @@
--- Entries of SubRip and simple chapters that are written, computed, so that a wrong definition does not check.
+-- SubRip entries and simple chapters that are written, computed: a wrong definition doesn't check.
 use Rattle.std.proofs.Common.{◌≡◌, ℕ, List, [], ◌∷◌, ◌++◌, codes, refl, pos, negsuc}
 use Rattle.std.specs.Fmt.{digits}
 use Rattle.text_formats.specs.Pieces.{stamp}
@@ -18,13 +18,13 @@ abbrev hundredth : List ℕ
 hundredth = text (codes "CHAPTER100=100:00:00.000" ∷ codes "CHAPTER100NAME=" ∷ [])
 
 pub record AreEntries : Type 0 where
-  -- a number, the times, the text, and an empty line
+  -- An entry has a number, the times, the text, and an empty line.
   pub one : put_srt 1 (pos 1000000000) 1500000000 (codes "Hi" ++ 10 ∷ codes "you") ≡ example_text
-  -- milliseconds of the start and of the end are rounded down
+  -- Milliseconds of the start and of the end are rounded down.
   pub rounded : put_srt 12 (pos 1999999) 2000000 [] ≡ bare (codes "12") (codes "00:00:00,001 --> 00:00:00,003")
-  -- a time before 0 is written as 0; here the start is a second before it
+  -- A time before 0 is written as 0; here the start is a second before it.
   pub negative : put_srt 1 (negsuc 999999999) 1500000000 [] ≡ bare (codes "1") (codes "00:00:00,000 --> 00:00:00,500")
-  -- hours have at least two digits, and more where they need them
+  -- Hours have at least two digits, and more if they need them.
   pub hours : put_srt 1 (pos 359999999000000) 1000000 [] ≡ bare (codes "1") (codes "99:59:59,999 --> 100:00:00,000")
 
 pub entries : AreEntries
@@ -32,11 +32,11 @@ unfolding put_srt stamp digits
 entries = record { one = refl; rounded = refl; negative = refl; hours = refl }
 
 pub record AreChapters : Type 0 where
-  -- a line with the time, and one with the name
+  -- A chapter has a line with the time, and one with the name.
   pub one : put_pair 1 0 (codes "Intro") ≡ intro
-  -- milliseconds are rounded down
+  -- Milliseconds are rounded down.
   pub rounded : put_pair 12 3723004999999 (codes "a") ≡ twelfth
-  -- numbers and hours have at least two digits, and more where they need them
+  -- Numbers and hours have at least two digits, and more if they need them.
   pub hundred : put_pair 100 360000000000000 [] ≡ hundredth
 
 pub chapters : AreChapters

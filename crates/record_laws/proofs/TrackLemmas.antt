@@ -22,7 +22,7 @@ use Rattle.record_laws.specs.Again.{plain, plain_changes, written_entries, read_
 use Rattle.record_laws.proofs.EntryLemmas.{entry_list, written-master, part-uid, entries-stay}
 use Rattle.record_laws.proofs.SameLemmas.{integer-placed, part-placed, read-step}
 
--- ---- the first of an ID is the first of all of that ID
+-- ---- the first child with an ID is the first of all with that ID
 
 abbrev pub first_in : {A : Type 0} → List A → Option A
 first_in [] = None
@@ -36,7 +36,7 @@ pub find-map : {A : Type 0} (f : Node → A) (p : Node → Bool) (ns : List Node
 find-map f p [] = refl
 find-map f p (n ∷ ns) = grind (arith, find-map f p ns)
 
--- ---- the integer of an ID that is written is the same where it stands
+-- ---- a written integer is the same at any place
 
 pub placed-integer : (id : ℕ) (ns : Nodes) (p : ℕ) → is_filler id ≡ false
     → option_map integer_of (find (λ n. id_of n == id) (list_of (placed_all p ns))) ≡ option_map integer_of (find (λ n. id_of n == id) (list_of ns))
@@ -44,7 +44,7 @@ placed-integer id ns p kept =
     find-map integer_of (λ n. id_of n == id) (list_of (placed_all p ns)) ∙ ap first_in (part-placed integer_of integer-placed id ns p kept)
     ∙ sym (find-map integer_of (λ n. id_of n == id) (list_of ns))
 
--- ---- an identifier that is written is read
+-- ---- a written identifier is read
 
 no-default : uint_default TRACK_UID ≡ None
 unfolding entry_of table
@@ -69,7 +69,7 @@ written-id : (c : TrackChange) (entry : Node) → IsMaster entry → id_of (writ
 written-id c (leaf id at body) is = absurd (cc)
 written-id c (master id at kids) is = ap id_of (written-master c id at kids)
 
--- ---- all of them
+-- ---- all tracks
 
 module _ (c : TrackChange) (entry : Node) (whole : IsWholeEntry entry) where
   is-entry : id_of (written_entry c entry) ≡ TRACK_ENTRY

@@ -1,4 +1,4 @@
--- What is written of records is written again as it was, once it was read: RFC 9559, section 5.1.4 (Tracks Element). That it stays is this project's.
+-- Tracks that were written and read are written as they were: RFC 9559, section 5.1.4 (Tracks Element). This is this project's promise.
 use Rattle.std.specs.Prelude.{◌≡◌, ◌<◌, ◌^◌, ℕ, ◌+◌, List, [], ◌∷◌, map, All, None}
 use Rattle.tree_format.specs.Node.{Node, nodes_of, list_of, IsMaster}
 use Rattle.tree_format.specs.NormalForm.{octets}
@@ -8,11 +8,11 @@ use Rattle.record_changes.specs.Identifiers.{renumbered}
 use Rattle.track_records.specs.declared.track_change.TrackChange.{TrackChange}
 use Rattle.track_records.specs.Entry.{written_entry, IsWholeEntry}
 
--- a change that gives a number and an identifier alone
+-- a change that gives only a number and an identifier
 abbrev pub plain : ℕ → ℕ → TrackChange
 plain number uid = record { number = number; uid = uid; name = None; language = None; flag_default = None; flag_forced = None }
 
--- An entry that was written, whatever was given, and is read at a place: with the same number and identifier it is written as it was.
+-- An entry that was written with any change, and read at any place, is written as it was with the same number and identifier.
 abbrev pub EntriesStay : Type 0
 EntriesStay =
     (c : TrackChange) (entry : Node) (place : ℕ) → IsMaster entry
@@ -20,30 +20,30 @@ EntriesStay =
 
 -- ---- all tracks
 
--- the entries that are written, each with its change
+-- the written entries, each with its change
 abbrev pub written_entries : List TrackChange → List Node → List Node
 written_entries [] entries = []
 written_entries (c ∷ cs) [] = []
 written_entries (c ∷ cs) (entry ∷ entries) = written_entry c entry ∷ written_entries cs entries
 
--- changes that number tracks from n on, and give them these identifiers alone
+-- changes that number tracks from `n` on, and give them only the identifiers `uids`
 abbrev pub plain_changes : ℕ → List ℕ → List TrackChange
 plain_changes n [] = []
 plain_changes n (uid ∷ uids) = plain n uid ∷ plain_changes (n + 1) uids
 
--- Changes number tracks from n on, and give them these identifiers.
+-- The changes number tracks from `n` on, and give them the identifiers `uids`.
 abbrev pub AreNumbered : ℕ → List ℕ → List TrackChange → Type 0
 AreNumbered n uids changes = (map (λ c. c.uid) changes ≡ uids) × (map (λ c. c.number) changes ≡ map (λ c. c.number) (plain_changes n uids))
 
--- what is read of Elements that are written from a place on
+-- the elements `ns` as they are read if they are written from `place` on
 abbrev pub read_of : ℕ → List Node → List Node
 read_of place ns = list_of (placed_all place (nodes_of ns))
 
--- the changes of a merge without options: numbers from 1 on, and the identifiers renumbered
+-- the entries after a merge without options: numbers from 1 on, and the identifiers renumbered
 abbrev pub merged_again : List Node → List Node
 merged_again entries = written_entries (plain_changes 1 (renumbered (map uid_of entries))) entries
 
--- The tracks of an output, which were numbered and renumbered and given whatever else, and were read, are written as they were.
+-- The tracks of an output are written as they were after they are read. They were numbered and renumbered, and given anything else.
 abbrev pub TracksStay : Type 0
 TracksStay =
     (changes : List TrackChange) (entries : List Node) (place : ℕ) → All IsWholeEntry entries → All (λ c. c.uid < 2 ^ 64) changes

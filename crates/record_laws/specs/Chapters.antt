@@ -1,4 +1,5 @@
--- Chapters that were given identifiers keep them when they are merged again: RFC 9559, section 5.1.7 (Chapters Element). That they stay is this project's.
+-- Chapters with the identifiers of a merge keep them when they are merged again: RFC 9559, section 5.1.7 (Chapters Element). This is this
+-- project's promise.
 use Rattle.std.specs.Prelude.{◌≡◌, ◌<◌, ◌^◌, ℕ, List, All}
 use Rattle.tree_format.specs.Node.{Node, IsMaster}
 use Rattle.tree_format.specs.NormalForm.{octets}
@@ -7,26 +8,25 @@ use Rattle.record_changes.specs.Identifiers.{renumbered}
 use Rattle.record_changes.specs.Atoms.{chapter_uids, edition_uids, editions_of}
 use Rattle.record_changes.specs.ChapterIdentifiers.{with_identifiers}
 
--- the EditionUIDs and the ChapterUIDs that a merge gives to chapters
+-- the EditionUIDs that a merge gives to chapters; `chapter_numbers` are the ChapterUIDs
 abbrev pub edition_numbers : Node → List ℕ
 edition_numbers chapters = renumbered (edition_uids chapters)
 
 abbrev pub chapter_numbers : Node → List ℕ
 chapter_numbers chapters = renumbered (chapter_uids chapters)
 
--- the chapters with these identifiers
+-- the chapters with the identifiers of a merge
 abbrev pub settled : Node → Node
 settled chapters = with_identifiers (edition_numbers chapters) (chapter_numbers chapters) chapters
 
--- Chapters and their editions are masters, and the identifiers have 64 bits.
+-- The chapters and their editions are masters, and the identifiers have 64 bits.
 pub record AreChapters (chapters : Node) : Type 0 where
   pub master : IsMaster chapters
   pub editions : All IsMaster (editions_of chapters)
   pub edition_numbers : All (λ n. n < 2 ^ 64) (edition_numbers chapters)
   pub chapter_numbers : All (λ n. n < 2 ^ 64) (chapter_numbers chapters)
 
--- What is read of chapters with identifiers, where they are written at a place, has these identifiers; and what a merge makes of
--- it is written as it was.
+-- Chapters with the identifiers of a merge have them when they are written and read at a place, and a merge writes them as they were.
 pub record ChaptersStay : Type 0 where
   pub editions : (chapters : Node) (place : ℕ) → AreChapters chapters → edition_uids (placed place (settled chapters)) ≡ edition_numbers chapters
   pub chapters : (chapters : Node) (place : ℕ) → AreChapters chapters → chapter_uids (placed place (settled chapters)) ≡ chapter_numbers chapters

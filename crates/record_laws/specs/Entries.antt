@@ -1,4 +1,4 @@
--- TrackEntries that are read, and what is told of two: RFC 9559, section 5.1.4 (Tracks Element).
+-- TrackEntries that are read, and the differences between two: RFC 9559, section 5.1.4 (Tracks Element).
 use Rattle.std.specs.Prelude.{◌≡◌, ◌<◌, ◌↔◌, All, None}
 use Rattle.mkv_schema.specs.declared.ids.TheConstants.{TRACKS}
 use Rattle.tree_format.specs.Node.{Node, nodes_of, children, depth_all, deepest}
@@ -8,11 +8,11 @@ use Rattle.track_records.specs.declared.fields.TheConstants.{FIELDS}
 use Rattle.track_records.specs.Entry.{IsWholeEntry}
 use Rattle.track_records.specs.Difference.{octets_at, first_difference}
 
--- The entries of a Tracks Element that was read are whole; and what is whole stands in one.
+-- The entries of a Tracks element that was read are valid, and each valid entry may be in one.
 pub record ReadEntriesAreWhole : Type 0 where
   pub read : (tracks : Node) → IsSoundOf TRACKS tracks → depth_all (nodes_of (children tracks)) < deepest → All IsWholeEntry (entries_of tracks)
   pub stands : (entry : Node) → IsWholeEntry entry → StandsIn TRACKS entry
 
--- No difference of two entries is told exactly where they have the same octets in every field.
+-- Two entries have no first difference if and only if they have the same bytes in every field.
 abbrev pub DifferencesAreTold : Type 0
 DifferencesAreTold = (a b : Node) → (first_difference a b ≡ None) ↔ All (λ f. octets_at f a ≡ octets_at f b) FIELDS

@@ -1,12 +1,12 @@
--- Texts that a text file can hold in a line of its own.
+-- Texts that fit into one line of a text file.
 use Rattle.std.specs.Prelude.{◌≡◌, ℕ, ◌-◌, ◌==◌, Bool, true, false, List, length, slice_index}
 use Rattle.mkv_io.specs.Octets.{lacks}
 
--- the last octet of a text is CR
+-- The last byte of the text is CR.
 abbrev pub ends_with_return : List ℕ → Bool
 ends_with_return text = slice_index text (length text - 1) == 13
 
--- A text is one line: it has no LF, and no CR at its end, which would be taken for the line's.
+-- The text is one line: it has no LF, and no CR at its end, which would belong to the line break.
 pub record IsLine (text : List ℕ) : Type 0 where
   pub no_break : lacks 10 text ≡ true
   pub no_return : ends_with_return text ≡ false

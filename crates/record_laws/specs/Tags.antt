@@ -1,4 +1,4 @@
--- Tags keep their targets when they are merged again: RFC 9559, section 5.1.8 (Tags Element). That they stay is this project's.
+-- Tags keep their targets when they are merged again: RFC 9559, section 5.1.8 (Tags Element). This is this project's promise.
 use Rattle.std.specs.Prelude.{◌≡◌, ◌<◌, ◌^◌, ℕ, true, List, flat_map, All, Option, Some, IfSome}
 use Rattle.tree_format.specs.Node.{Node, children}
 use Rattle.tree_format.specs.NormalForm.{octets}
@@ -7,7 +7,7 @@ use Rattle.tree_format.specs.Values.{integer_of}
 use Rattle.record_changes.specs.Tags.{number_of, targets_in, written_tags}
 use Rattle.record_changes.specs.declared.uid_map.TagKeep.{TagKeep}
 
--- nothing is left out
+-- the option that leaves out no Tag
 abbrev pub keep_all : TagKeep
 keep_all = record { tracks = true; global = true }
 
@@ -15,15 +15,15 @@ keep_all = record { tracks = true; global = true }
 abbrev pub targets_of : Node → List Node
 targets_of tags = flat_map (λ (tag : Node). flat_map targets_in (children tag)) (children tags)
 
--- What a target names keeps its identifier.
+-- The element that the target names keeps its identifier.
 abbrev pub KeepsTarget : (ℕ → ℕ → Option ℕ) → Node → Type 0
 KeepsTarget numbers target = number_of numbers target ≡ Some (integer_of target)
 
--- Numbers have 64 bits.
+-- The numbers have 64 bits.
 abbrev pub AreSmall : (ℕ → ℕ → Option ℕ) → Type 0
 AreSmall numbers = (id uid : ℕ) → IfSome (numbers id uid) (λ n. n < 2 ^ 64)
 
--- What is read of Tags that were written, whose targets then keep their identifiers, is written as it was.
+-- Tags that were written and read are written as they were, if their targets then keep their identifiers.
 abbrev pub TagsStay : Type 0
 TagsStay =
     (keep : TagKeep) (numbers again : ℕ → ℕ → Option ℕ) (tags : Node) (place : ℕ) → AreSmall numbers

@@ -1,16 +1,17 @@
-//! Laws of records that a merge wrote and that are merged again: they keep their identifiers, and are written as they were. No
-//! reader or writer stands on this crate: the calls, which do nothing, carry the laws.
+//! Laws on records that a merge wrote and that are merged again: they keep their identifiers, and are written as they
+//! were. No reader or writer depends on this crate. The functions do nothing; their contracts are the laws.
 
 ghost use Rattle.record_laws.specs.Chapters.{ChaptersStay};
 ghost use Rattle.record_laws.specs.Files.{FilesStay};
 ghost use Rattle.record_laws.specs.Tags.{TagsStay};
 
-/// Chapters that were given identifiers, written and read again, get the same ones, and are written as they were.
+/// Chapters with the identifiers of a merge, once written and read, have the same identifiers and are written as they
+/// were.
 pub fn chapters_stay()
     ensures { ChaptersStay }
 {}
 
-/// So do the entries of attached files, with their FileUIDs; their data is no part of this.
+/// Entries of attached files keep their FileUIDs and are written as they were; their data isn't part of this law.
 pub fn files_stay()
     ensures { FilesStay }
 {}

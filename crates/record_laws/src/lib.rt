@@ -1,7 +1,7 @@
 #![tactic(auto)]
 
-//! Laws of records and texts: above all that a merge of its own output changes nothing of them, and that what is written
-//! of texts is read back. The calls, which do nothing, carry them.
+//! Laws on records and texts. A merge of its own output leaves them unchanged, and written texts are read back. The
+//! functions do nothing; their contracts are the laws.
 
 mod again;
 mod records;

@@ -1,5 +1,5 @@
-//! Laws of what a merge makes of the records of its inputs: above all that a merge of its own output changes
-//! nothing of them. The calls, which do nothing, carry them.
+//! Laws on the tracks that a merge makes from its inputs: a merge of its own output leaves them unchanged. The
+//! functions do nothing; their contracts are the laws.
 
 ghost use Rattle.record_laws.specs.Again.{EntriesStay, TracksStay};
 ghost use Rattle.record_laws.specs.Entries.{ReadEntriesAreWhole, DifferencesAreTold};
@@ -14,12 +14,12 @@ pub fn tracks_stay()
     ensures { TracksStay }
 {}
 
-/// The entries of a Tracks Element that was read are whole, and what is written stands in one.
+/// The entries of a Tracks element that was read are valid, and each valid entry may be in one.
 pub fn read_entries_are_whole()
     ensures { ReadEntriesAreWhole }
 {}
 
-/// No difference is told exactly where all that has to be alike is.
+/// Two entries have no first difference if and only if all fields that must be alike are alike.
 pub fn differences_are_told()
     ensures { DifferencesAreTold }
 {}

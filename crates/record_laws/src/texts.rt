@@ -1,14 +1,14 @@
-//! What is written of texts is read back. No code that reads or writes stands on this crate.
+//! Written texts are read back. No code that reads or writes depends on this crate.
 
 ghost use Rattle.record_laws.specs.SimpleChapters.{ChaptersAreReadBack};
 ghost use Rattle.record_laws.specs.SubRip.{EntriesAreReadBack};
 
-/// What `put_srt` writes of entries is read back as these entries.
+/// Entries that `put_srt` writes are read back.
 pub fn entries_are_read_back()
     ensures { EntriesAreReadBack }
 {}
 
-/// What `put_pair` writes of chapters is read back as these chapters.
+/// Chapters that `put_pair` writes are read back.
 pub fn chapters_are_read_back()
     ensures { ChaptersAreReadBack }
 {}
