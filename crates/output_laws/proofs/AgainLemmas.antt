@@ -1,4 +1,4 @@
--- The lanes of an output that is read again.
+-- The tracks of an output that is read again.
 use Rattle.std.proofs.Common.{◌≡◌, ℕ, zero, suc, ◌+◌, ◌≤◌, ◌==◌, Bool, true, false, if◌then◌else◌, cond, List, [], ◌∷◌, ◌++◌, length, map, filter, flat_map, All, append-nil, refl, sym, ap, ap₂, ◌∙◌}
 use Rattle.std.proofs.lemmas.List.Concat.{flat_map-append}
 use Rattle.std.proofs.lemmas.List.Elements.{All-head, All-tail, filter-append}
@@ -30,13 +30,13 @@ pub blocks-all : (bs : List Block) → blocks_of (block_events bs) ≡ bs
 blocks-all [] = refl
 blocks-all (b ∷ bs) = ap (λ l. b ∷ l) (blocks-all bs)
 
--- ---- a lane
+-- ---- one output track
 
--- what the blocks of a track become
+-- the blocks of a track, placed on the output track
 abbrev lane_read : ℕ → ℕ → List Block → List OutputBlock
 lane_read scale k bs = flat_map (placed scale as_it_stands) (filter (λ (b : Block). b.track == k) bs)
 
--- a lane without its number
+-- the blocks of an output track without its number
 abbrev unnumbered : List OutputBlock → List OutputBlock
 unnumbered bs = map (in_lane 0) bs
 
@@ -58,7 +58,7 @@ map-append : (xs ys : List OutputBlock) → unnumbered (xs ++ ys) ≡ unnumbered
 map-append [] ys = refl
 map-append (x ∷ xs) ys = ap (λ l. in_lane 0 x ∷ l) (map-append xs ys)
 
--- the blocks of a lane, behind a Timestamp
+-- The blocks of an output track, after a Timestamp.
 lane_read-blocks : (scale k lanes timestamp p : ℕ) (bs : List OutputBlock) → 1 ≤ scale → All (IsSoundIn lanes timestamp) bs → lane_read scale k (blocks_in_place scale timestamp p bs) ≡ unnumbered (lane_of k bs)
 lane_read-blocks scale k lanes timestamp p [] some sound = refl
 lane_read-blocks scale k lanes timestamp p (b ∷ bs) some sound =
@@ -88,7 +88,7 @@ lanes_read-all scale k zero lanes p cs some sound = refl
 lanes_read-all scale k (suc n) lanes p cs some sound =
     ap₂ (λ l ls. l ∷ ls) (lane_blocks-one scale k (clusters_blocks scale p cs) ∙ lane_read-clusters scale k lanes p cs some sound) (lanes_read-all scale (suc k) n lanes p cs some sound)
 
--- ---- numbers come and go
+-- ---- numbers are added and removed
 
 unnumbered-lane : (k : ℕ) (bs : List OutputBlock) → All HasNoLane bs → unnumbered (map (in_lane k) bs) ≡ bs
 unnumbered-lane k [] none = refl

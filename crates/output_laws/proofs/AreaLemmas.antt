@@ -1,4 +1,4 @@
--- The area in front of an output has its length, and what is overwritten has the length of what overwrites it.
+-- The area has its length, and the last two writes don't change the length of an output.
 use Rattle.std.proofs.Common.{◌≡◌, ℕ, suc, ◌+◌, ◌-◌, ◌*◌, ◌<◌, ◌≤◌, nat_le, Bool, true, false, if◌then◌else◌, List, [], ◌∷◌, ◌++◌, length, map, replicate, All, IfSome, append-nil, length-append, Option, None, Some, refl, sym, ap, ◌∙◌, arith}
 use Rattle.std.proofs.lemmas.Bool.Decides.{nat_tests}
 use Rattle.std.proofs.lemmas.List.{length-replicate}
@@ -40,7 +40,7 @@ length-void total some = split (nat_le total 128) refl
 
 -- ---- Seeks
 
--- the octets of an Element with a short header, whose body is short
+-- The bytes of an element with a short header, whose body is short.
 length-element : (id : ℕ) (body : List ℕ) → length body < 127 → length (octets_of (element id body)) ≡ uint_width id + 1 + length body
 length-element id body short =
     let d : Element = element id body in
@@ -49,7 +49,7 @@ length-element id body short =
     let some = least.some in
     length-octets_of d ∙ omega (arith, length-header_of d)
 
--- its ID has four octets
+-- The ID of the Seek has four bytes.
 abbrev HasLongId : Seek → Type 0
 HasLongId s = uint_width s.id ≡ 4
 
@@ -72,7 +72,7 @@ length-seeks (s ∷ seeks) long =
     let rest = length-seeks seeks (All-tail HasLongId s seeks long) in
     length-append (octets_of (seek_element s)) (joined (map seek_element seeks)) ∙ omega arith
 
--- ---- the Elements that Seeks name
+-- ---- the elements that Seeks name
 
 abbrev IsLong : Element → Type 0
 IsLong e = uint_width e.id ≡ 4
@@ -108,7 +108,7 @@ length-seeks_from position (e ∷ es) = ap suc (length-seeks_from (position + le
 
 -- ---- the area
 
--- The records of a document have their IDs.
+-- The records of the document `d` have their IDs.
 pub record HasIds (d : Document) : Type 0 where
   pub info : id_of d.front.info ≡ INFO
   pub tracks : id_of d.front.tracks ≡ TRACKS
@@ -122,7 +122,7 @@ sound-ids d is = record { info = is.info.id; tracks = is.tracks.is.id; chapters 
     record-id own None is = tt
     record-id own (Some n) is = is.id
 
--- a SeekHead has 131 octets at most, so a Void is always left
+-- A SeekHead has at most 131 bytes, so a Void is always left.
 seek_head-short : (d : Document) → HasIds d → length (octets_of (seek_head (seeks_of d))) ≤ 131
 unfolding uint_width
 seek_head-short d is =
@@ -162,7 +162,7 @@ length-area d is = length-area_of d (sound-ids d is)
 length-open_area : length (joined open_area) ≡ AREA
 length-open_area = ap (λ (o : List ℕ). length o) (append-nil (octets_of (void_element AREA))) ∙ length-void AREA (omega arith)
 
--- ---- what is overwritten
+-- ---- overwritten bytes
 
 pub overwritten : (d : Document) → IsSoundDocument d → DifferInTwo d
 overwritten d is =

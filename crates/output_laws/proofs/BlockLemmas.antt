@@ -1,4 +1,4 @@
--- What is written of a block is read as that block.
+-- A written block is read as that block.
 use Rattle.std.proofs.Common.{◌≡◌, ℕ, ◌+◌, ◌*◌, ◌<◌, ◌==◌, Bool, true, false, if◌then◌else◌, pos, List, [], ◌∷◌, ◌++◌, length, map, filter, All, length-append, Some, None, Ok, refl, sym, ap, ◌∙◌, subst, arith}
 use Rattle.std.specs.List.{AllZip}
 use Rattle.std.specs.Option.{option_map}
@@ -31,7 +31,7 @@ use Rattle.output_laws.proofs.GroupLemmas.{parts, IsPart, parts-are, references-
 
 -- ---- a SimpleBlock
 
--- the block of a SimpleBlock that was written
+-- The block of a SimpleBlock that was written.
 simple-is : (scale timestamp p : ℕ) (b : OutputBlock) → b.group ≡ false → IsSimple b → simple_block_with scale timestamp p (content_of timestamp b) ≡ block_in_place scale p b
 simple-is scale timestamp p b alone is =
     let flags = simple_block_flags-read b in
@@ -65,7 +65,7 @@ simple_block-read scale bytes timestamp b p is alone stands =
 
 -- ---- a BlockGroup
 
--- the block of a group that was written, whose children stand in a content
+-- The block of a BlockGroup that was written, whose children are in a content.
 group-is : (scale : ℕ) (bytes : List ℕ) (timestamp p : ℕ) (b : OutputBlock) (kept : List Element) (children : List Header) → b.group ≡ true → IsGroup b → b.kept ≡ joined kept → All IsKeptElement kept
     → AllZip (IsRead bytes) children (parts (block_octets timestamp b) b.duration b.references kept)
     → group_with scale bytes timestamp p children (content_of timestamp b) ≡ block_in_place scale p b
@@ -132,9 +132,9 @@ block_group-read scale bytes timestamp b p sound grouped short stands =
     ∙ ap (λ r. and_then (at_place BLOCK p r) (λ c. in_time (without_limits scale) BLOCK (group_with scale bytes timestamp p (headers_in_place q ds) c))) (content-read MAX_LANES timestamp b (omega arith) sound)
     ∙ ap (λ x. Ok x) (group-is scale bytes timestamp p b kept (headers_in_place q ds) grouped is is.kept.1 are read)
 
--- ---- either
+-- ---- both kinds
 
--- a Block is no longer than its group
+-- A Block is at most as long as its group.
 content-short : (timestamp : ℕ) (b : OutputBlock) → length (group_octets timestamp b) < all_ones 8 → length (block_octets timestamp b) < all_ones 8
 content-short timestamp b short =
     let content = block_octets timestamp b in

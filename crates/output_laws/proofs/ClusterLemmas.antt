@@ -1,4 +1,4 @@
--- What is written of a Cluster gives its blocks.
+-- A written Cluster gives its blocks.
 use Rattle.std.proofs.Common.{◌≡◌, ℕ, ◌+◌, ◌^◌, ◌<◌, ◌≤◌, nat_lt, min, Bool, true, false, if◌then◌else◌, List, [], ◌∷◌, ◌++◌, length, All, length-append, append-nil, Some, None, Err, refl, ap, ap₂, ◌∙◌, arith}
 use Rattle.std.proofs.lemmas.Bool.{le-ltb}
 use Rattle.std.proofs.lemmas.List.Elements.{All-nil, All-cons, All-head, All-tail}
@@ -26,7 +26,7 @@ use Rattle.output_laws.proofs.BlockLemmas.{block-read}
 
 -- ---- sizes
 
--- where a size can tell the octets of Elements together, it can tell those of each
+-- If a size fits for elements together, it fits for each.
 pub sizes-joined : (es : List Element) → length (joined es) < all_ones 8 → All HasSize es
 sizes-joined [] short = All-nil HasSize
 sizes-joined (e ∷ es) short =
@@ -66,7 +66,7 @@ cluster-are_elements c low short =
 
 -- ---- its Timestamp
 
--- the first block's tick is below 2^63, so the Timestamp is
+-- The first block's tick is below 2^63, so the Timestamp is.
 timestamp-low : (lanes timestamp : ℕ) (bs : List OutputBlock) → BeginsAt timestamp bs → All (IsSoundIn lanes timestamp) bs → timestamp < 2 ^ 63
 timestamp-low lanes timestamp [] begins sound = absurd begins
 timestamp-low lanes timestamp (b ∷ bs) begins sound =
@@ -74,7 +74,7 @@ timestamp-low lanes timestamp (b ∷ bs) begins sound =
     let same : timestamp ≡ b.tick = begins in
     omega arith
 
--- ---- the blocks behind a Timestamp
+-- ---- the blocks after a Timestamp
 
 found_among-blocks : (scale : ℕ) (bytes : List ℕ) (timestamp : ℕ) (bs : List OutputBlock) (p : ℕ) → All (IsSoundIn MAX_LANES timestamp) bs → All HasSize (block_elements timestamp bs) → HoldsAt bytes p (joined (block_elements timestamp bs))
     → found_among (without_limits scale) bytes (Some timestamp) (headers_in_place p (block_elements timestamp bs)) ≡ found_blocks (blocks_in_place scale timestamp p bs)

@@ -1,4 +1,4 @@
--- The octets of a block spell what was written.
+-- The bytes of a written block are read as its content.
 use Rattle.std.proofs.Common.{◌≡◌, ℕ, ◌+◌, ◌-◌, ◌^◌, ◌<◌, ◌≤◌, ◌==◌, nat_le, nat_lt, Bool, true, false, ◌||◌, if◌then◌else◌, ℤ, pos, negsuc, List, [], ◌∷◌, ◌++◌, length, map, take, drop, slice_index, append-nil, append_assoc, Result, Ok, Err, refl, ap, ap₂, ◌∙◌, arith}
 use Rattle.std.specs.List.{concat}
 use Rattle.std.proofs.Math.Seq.{take-append_seam, drop-append_seam}
@@ -26,14 +26,14 @@ pub use Rattle.lemmas.proofs.PlainLemmas.{length-concat}
 
 -- ---- the frames
 
--- joined frames are cut by their sizes
+-- Joined frames are cut by their sizes.
 frames_cut-concat : (frames : List (List ℕ)) → frames_cut (map length frames) (concat frames) ≡ frames
 frames_cut-concat [] = refl
 frames_cut-concat (frame ∷ frames) =
     ap₂ (λ f fs. f ∷ fs) (take-append_seam frame (concat frames))
     (ap (frames_cut (map length frames)) (drop-append_seam frame (concat frames)) ∙ frames_cut-concat frames)
 
--- so are frames behind the head of their lace
+-- Frames after the head of their lace are cut, too.
 laced-read : (kind : Lace) (frames : List (List ℕ)) → CanLace kind (map length frames) → laced_frames kind (count_and_head kind (map length frames) ++ concat frames) ≡ Ok frames
 laced-read kind frames can =
     let sizes : List ℕ = map length frames in
@@ -45,7 +45,7 @@ laced-read kind frames can =
     ∙ ap (λ o. Ok (frames_cut sizes o)) (drop-append_seam (lace_head kind sizes) (concat frames))
     ∙ ap (λ fs. Ok fs) (frames_cut-concat frames)
 
--- without lacing the octets are one frame
+-- Without lacing the bytes are one frame.
 alone-read : (frames : List (List ℕ)) → length (map length frames) ≡ 1 → concat frames ∷ [] ≡ frames
 alone-read [] one = absurd (omega arith)
 alone-read (frame ∷ []) one = ap (λ f. f ∷ []) (append-nil frame)
@@ -59,7 +59,7 @@ frames-read lace.Ebml frames can = laced-read lace.Ebml frames can
 
 -- ---- the header
 
--- a track number of one octet, two octets of ticks, the flags, and what is behind
+-- A header has a track number of one byte, two bytes of ticks, and the flags; other bytes follow.
 header-read : (lane a b flags : ℕ) (behind : List ℕ) (frames : List (List ℕ)) → lane < 128 → frames_in (lace_of flags) behind ≡ Ok frames
     → content_in ((0x80 + lane) ∷ a ∷ b ∷ flags ∷ behind) ≡ Ok (record { track = lane; relative = int_of (a ∷ b ∷ []); flags = flags; frames = frames })
 unfolding content_in
@@ -88,7 +88,7 @@ spelled-read lane (negsuc n) flags rest frames low fits are =
 
 -- ---- the whole
 
--- 16 bits hold the ticks of a block that is near
+-- The ticks of a near block fit into 16 bits.
 near-fits : (tick timestamp : ℕ) → timestamp ≤ tick + 32768 → tick ≤ timestamp + 32767 → int_fits (pos tick -ℤ pos timestamp) 2 ≡ true
 near-fits tick timestamp before after = split (pos tick -ℤ pos timestamp) refl
   where
@@ -103,7 +103,7 @@ ticks-fit timestamp tick near =
     let after = parts.1 in
     near-fits tick timestamp (grind (arith, nat_tests)) (grind (arith, nat_tests))
 
--- the flags tell the kind of the lacing
+-- The flags have the kind of the lacing.
 lace-read : (b : OutputBlock) → lace_of (flags_of b) ≡ b.lace
 lace-read b = split b.group
   where
@@ -111,11 +111,11 @@ lace-read b = split b.group
     split true = (block_flags-read b).1
     split false = (simple_block_flags-read b).lace_is
 
--- what is written of a block
+-- the content of a written block
 abbrev pub content_of : ℕ → OutputBlock → Content
 content_of timestamp b = record { track = b.lane; relative = relative_to timestamp b; flags = flags_of b; frames = b.frames }
 
--- The body of a SimpleBlock or a Block spells its block.
+-- The body of a SimpleBlock or a Block is read as its block.
 pub content-read : (lanes timestamp : ℕ) (b : OutputBlock) → lanes < 128 → IsSoundIn lanes timestamp b → content_in (block_octets timestamp b) ≡ Ok (content_of timestamp b)
 content-read lanes timestamp b few is =
     let low = is.lane_most in
@@ -126,6 +126,6 @@ content-read lanes timestamp b few is =
     (ticks-fit timestamp b.tick is.near)
     (ap (λ kind. frames_in kind (frame_octets b.lace b.frames)) (lace-read b) ∙ frames-read b.lace b.frames is.sound.frames)
 
--- the ticks of a block are counted from its Timestamp, and the Timestamp from zero
+-- The ticks of a block count from its Timestamp, and the Timestamp from zero.
 pub ticks-read : (timestamp : ℕ) (b : OutputBlock) → pos timestamp +ℤ relative_to timestamp b ≡ pos b.tick
 ticks-read timestamp b = omega (arith, ints)

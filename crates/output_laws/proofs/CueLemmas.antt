@@ -27,13 +27,13 @@ use Rattle.output_laws.proofs.GroupLemmas.{IsElement-element}
 use Rattle.output_laws.proofs.ClusterLemmas.{cluster-read}
 use Rattle.output_laws.proofs.SegmentLemmas.{sizes-clusters, IsElement-segment}
 
--- each block is one of those that were found
+-- Each block is among the results.
 found-each : (fs : List Found) (bs : List Block) → All (Contains fs) (found_blocks bs) → All (λ (b : Block). Contains fs (Ok b)) bs
 found-each fs [] are = All-nil (λ (b : Block). Contains fs (Ok b))
 found-each fs (b ∷ bs) are =
     All-cons (λ (x : Block). Contains fs (Ok x)) b bs (All-head (Contains fs) (Ok b) (found_blocks bs) are) (found-each fs bs (All-tail (Contains fs) (Ok b) (found_blocks bs) are))
 
--- the points of a Cluster's blocks
+-- The cue points of a Cluster's blocks.
 points-in : (scale : ℕ) (bytes : List ℕ) (cued : OutputBlock → Bool) (segment cluster : Header) (c timestamp relative q : ℕ) (bs : List OutputBlock)
     → element_at in_segment bytes (segment.body + c) (segment_bound bytes segment) ≡ Ok cluster → cluster.id ≡ CLUSTER → q ≡ cluster.body + relative
     → All (λ (b : Block). Contains (found_in (without_limits scale) bytes (segment_bound bytes segment) cluster) (Ok b)) (blocks_in_place scale timestamp q bs)
@@ -52,7 +52,7 @@ points-in scale bytes cued segment cluster c timestamp relative q (b ∷ bs) sta
     chosen point true here = All-cons (PointsAtBlock scale bytes segment) point [] here (All-nil (PointsAtBlock scale bytes segment))
     chosen point false here = All-nil (PointsAtBlock scale bytes segment)
 
--- the points of Clusters
+-- The cue points of Clusters.
 points-from : (scale : ℕ) (bytes : List ℕ) (cued : OutputBlock → Bool) (segment : Header) (c : ℕ) (cs : List OutputCluster) → All (IsSoundCluster MAX_LANES) cs → All HasSize (clusters_elements cs) → HoldsAt bytes (segment.body + c) (joined (clusters_elements cs)) → segment.body + c + length (joined (clusters_elements cs)) ≤ segment_bound bytes segment
     → All (PointsAtBlock scale bytes segment) (points_from cued c cs)
 unfolding is_id

@@ -1,4 +1,4 @@
--- Where Clusters end.
+-- The ends of Clusters.
 use Rattle.std.proofs.Common.{◌≡◌, Bool, true, false, if◌then◌else◌, ◌⊎◌, inl, inr, List, [], ◌∷◌, ◌++◌, append-nil, append_assoc, refl, sym, subst, ap, ◌∙◌}
 use Rattle.output_model.specs.declared.heads.ClusterLimits.{ClusterLimits}
 use Rattle.output_model.specs.OutputBlock.{OutputBlock}
@@ -7,14 +7,14 @@ use Rattle.output_laws.specs.WholeLists.{AreCutWhole, EndsBefore, IsJoined}
 use Rattle.output_laws.specs.Merges.{ClustersAreCut}
 use Rattle.output_laws.proofs.MergedClusterLemmas.{begins-more}
 
--- ---- one of the blocks of a Cluster with a further block
+-- ---- a block of a Cluster with one more block
 
--- an empty list has nothing in it
+-- An empty list has no items.
 pub none-within : {X : Type 0} (ys zs : List X) (b : X) → [] ≡ ys ++ b ∷ zs → ⊥
 none-within [] zs b is = cc
 none-within (y ∷ ys) zs b is = cc
 
--- one of the blocks before the last, or the last
+-- `c` is a block before the last one, or the last one.
 record IsOld (xs ys : List OutputBlock) (c : OutputBlock) : Type 0 where
   behind : List OutputBlock
   is : xs ≡ ys ++ c ∷ behind
@@ -59,7 +59,7 @@ joined-more limits c b all here = record {
 
 -- ---- all Clusters
 
--- The first of the Clusters is the one that blocks were put to, with some of them.
+-- The first Cluster is the one to which blocks were added, with some of them.
 record GoesOn (limits : ClusterLimits) (c : OutputCluster) (cs : List OutputCluster) : Type 0 where
   first : OutputCluster
   others : List OutputCluster

@@ -10,16 +10,16 @@ use Rattle.block_format.specs.Events.{Event, block, damaged, stopped, Found, fou
 
 -- ---- a Cluster
 
--- of a Cluster's damages the first is told
+-- Only the first damage of a Cluster is reported.
 pub then-first_wrong : (closed : Bool) (found : List Found) (rest : List Event) → damages_of (events_then closed found rest) ≡ option_map_or (λ d. d ∷ (if closed then damages_of rest else [])) (first_wrong found) (damages_of rest)
 then-first_wrong closed [] rest = refl
 then-first_wrong closed (Ok b ∷ found) rest = then-first_wrong closed found rest
 then-first_wrong true (Err d ∷ found) rest = refl
 then-first_wrong false (Err d ∷ found) rest = refl
 
--- ---- what stops is the last
+-- ---- damage that ends the reading is the last event
 
--- nothing stands behind a damage that ends what is read
+-- Nothing follows damage that ends the reading.
 abbrev StopsLast : List Event → Type 0
 StopsLast [] = Unit {0}
 StopsLast (block b ∷ events) = StopsLast events
@@ -49,7 +49,7 @@ StopsLast-among r bytes e (h ∷ hs) wrong = split (h.id == CLUSTER) (StopsLast-
     split true rest = StopsLast-then (is_closed (length bytes) h) (found_in r bytes e h) (events_among r bytes e hs wrong) rest
     split false rest = rest
 
--- no event of a file follows one that ends what is read
+-- No event of a file follows one that ends the reading.
 pub stops-last : (r : Rules) (bytes : List ℕ) (segment : Header) (before behind : List Event) (d : Damage) → events_of r bytes segment ≡ before ++ stopped d ∷ behind → behind ≡ []
 unfolding events_of
 stops-last r bytes segment before behind d is =

@@ -6,30 +6,30 @@ use Rattle.block_format.specs.Content.{is_key, is_invisible, is_discardable, lac
 use Rattle.output_model.specs.OutputBlock.{OutputBlock}
 use Rattle.output_model.specs.Block.{flag, lace_bits, block_flags, simple_block_flags}
 
--- ---- of a Block
+-- ---- flags of a Block
 
 abbrev AreBlockFlags : Bool → Lace → Type 0
 AreBlockFlags invisible kind =
     let flags = flag 0x08 invisible + lace_bits kind in
     (is_invisible flags ≡ invisible) × (lace_of flags ≡ kind)
 
--- what each kind has
+-- A fact about each kind of lace.
 each-kind : (P : Lace → Type 0) → P lace.None → P lace.Xiph → P lace.Fixed → P lace.Ebml → (kind : Lace) → P kind
 each-kind P none xiph fixed ebml lace.None = none
 each-kind P none xiph fixed ebml lace.Xiph = xiph
 each-kind P none xiph fixed ebml lace.Fixed = fixed
 each-kind P none xiph fixed ebml lace.Ebml = ebml
 
--- each of the 8 octets is computed
+-- Each of the 8 values is computed.
 each-block : (invisible : Bool) (kind : Lace) → AreBlockFlags invisible kind
 each-block true = each-kind (AreBlockFlags true) (refl, refl) (refl, refl) (refl, refl) (refl, refl)
 each-block false = each-kind (AreBlockFlags false) (refl, refl) (refl, refl) (refl, refl) (refl, refl)
 
--- a Block of a group isn't shown, or is, and is laced as it was written
+-- A Block of a group keeps its flag for invisible and its lacing.
 pub block_flags-read : (b : OutputBlock) → (is_invisible (block_flags b) ≡ b.invisible) × (lace_of (block_flags b) ≡ b.lace)
 block_flags-read b = each-block b.invisible b.lace
 
--- ---- of a SimpleBlock
+-- ---- flags of a SimpleBlock
 
 pub record AreFlags (flags : ℕ) (key invisible discardable : Bool) (kind : Lace) : Type 0 where
   pub key_is : is_key flags ≡ key
@@ -42,7 +42,7 @@ AreSimpleFlags key discardable invisible kind =
     let flags = flag 0x80 key + flag 0x01 discardable + (flag 0x08 invisible + lace_bits kind) in
     (is_key flags ≡ key) × (is_invisible flags ≡ invisible) × (is_discardable flags ≡ discardable) × (lace_of flags ≡ kind)
 
--- each of the 32 octets is computed
+-- Each of the 32 values is computed.
 each-simple : (key discardable invisible : Bool) (kind : Lace) → AreSimpleFlags key discardable invisible kind
 each-simple true true true = each-kind (AreSimpleFlags true true true) (refl, refl, refl, refl) (refl, refl, refl, refl) (refl, refl, refl, refl) (refl, refl, refl, refl)
 each-simple true true false = each-kind (AreSimpleFlags true true false) (refl, refl, refl, refl) (refl, refl, refl, refl) (refl, refl, refl, refl) (refl, refl, refl, refl)

@@ -1,4 +1,4 @@
--- Frames that were read can be written, with octets in front of each.
+-- Frames that were read can be written, with bytes before each.
 use Rattle.std.proofs.Common.{◌≡◌, ℕ, ◌+◌, ◌*◌, ◌≤◌, List, [], ◌∷◌, length, map, sum, All, length-append, sym, ap, ap₂, ◌∙◌, subst, refl, arith}
 use Rattle.std.proofs.lemmas.List.{length-map}
 use Rattle.std.proofs.lemmas.List.Elements.{All-nil, All-cons, All-head, All-tail}
@@ -11,7 +11,7 @@ use Rattle.output_laws.specs.Blocks.{CanBeLaced}
 use Rattle.output_model.specs.declared.TheConstants.{MAX_PREFIX_LEN}
 use Rattle.output_model.specs.OutputBlock.{prefixed}
 
--- so many octets more for each
+-- the sizes, each increased by the same number of bytes
 abbrev longer_by : ℕ → List ℕ → List ℕ
 longer_by n sizes = map (λ size. n + size) sizes
 

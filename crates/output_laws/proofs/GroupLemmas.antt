@@ -1,4 +1,4 @@
--- What is written of a group is read as its parts.
+-- A written BlockGroup is read as its parts.
 use Rattle.std.proofs.Common.{◌≡◌, ℕ, ◌*◌, ◌^◌, ◌<◌, ◌==◌, Bool, true, false, not, ◌||◌, cond, ℤ, List, [], ◌∷◌, ◌++◌, length, map, filter, find, All, IfSome, append-nil, Option, Some, None, refl, ap, ap₂, ◌∙◌, arith}
 use Rattle.std.specs.Option.{option_map}
 use Rattle.std.proofs.lemmas.Bool.{le-leb}
@@ -16,7 +16,7 @@ use Rattle.output_model.specs.Element.{Element, IsElement, element}
 use Rattle.output_model.specs.Block.{duration_elements, reference_element}
 use Rattle.output_model.specs.Sound.{IsKeptElement}
 
--- ---- Elements with short headers
+-- ---- elements with short headers
 
 pub IsElement-element : (id : ℕ) (body : List ℕ) → is_id id ≡ true → length body < all_ones 8 → IsElement (element id body)
 IsElement-element id body valid short =
@@ -25,11 +25,11 @@ IsElement-element id body valid short =
 
 -- ---- the parts of a group
 
--- what stands in a group, with what is kept as Elements
+-- the children of a group; the kept children are elements
 abbrev pub parts : List ℕ → Option ℕ → List ℤ → List Element → List Element
 parts content duration references kept = element BLOCK content ∷ (duration_elements duration ++ map reference_element references) ++ kept
 
--- an ID that is kept is none of these
+-- An ID that is kept is none of the IDs of the other parts.
 none-of : (a b c : Bool) (rest : Bool) → not (a || (b || (c || rest))) ≡ true → (a ≡ false) × (b ≡ false) × (c ≡ false)
 none-of true b c rest is = absurd (cc)
 none-of false true c rest is = absurd (cc)
@@ -59,7 +59,7 @@ find-none {X = X} test (x ∷ xs) pass =
     ap (λ (b : Bool). cond b (Some x) (find test xs)) (All-head (λ (y : X). test y ≡ false) x xs pass)
     ∙ find-none test xs (All-tail (λ (y : X). test y ≡ false) x xs pass)
 
--- references all have their own ID
+-- All references have their own ID.
 references-pass : (test : ℕ → Bool) (t : Bool) (rs : List ℤ) → test REFERENCE_BLOCK ≡ t → All (λ (d : Element). test d.id ≡ t) (map reference_element rs)
 references-pass test t rs is = All-map (λ (d : Element). test d.id ≡ t) reference_element rs (λ k d below. is)
 
@@ -101,7 +101,7 @@ duration-parts scale content None rs kept small are =
     (All-weaker (λ (d : Element). is_kept d.id ≡ true) (λ (d : Element). (d.id == BLOCK_DURATION) ≡ false) (λ d is. (kept-other d.id is).1) kept are)))
 duration-parts scale content (Some ticks) rs kept small are = ap (λ n. Some (n * scale)) (uint_of-octets ticks (omega arith))
 
--- ---- what is kept
+-- ---- kept children
 
 pub kept-parts : (content : List ℕ) (duration : Option ℕ) (rs : List ℤ) (kept : List Element) → All (λ (d : Element). is_kept d.id ≡ true) kept
     → filter (λ (d : Element). is_kept d.id) (parts content duration rs kept) ≡ kept
@@ -117,7 +117,7 @@ kept-parts content duration rs kept are = front duration ∙ behind
     front None = refl
     front (Some ticks) = refl
 
--- ---- each is a value of its kind
+-- ---- each part is a valid value
 
 value-duration : (ticks : ℕ) → ticks < 2 ^ 63 → is_known_value BLOCK_GROUP BLOCK_DURATION (uint_octets ticks) ≡ true
 unfolding entry_of table
@@ -131,7 +131,7 @@ value-content : (content : List ℕ) → is_known_value BLOCK_GROUP BLOCK conten
 unfolding entry_of table
 value-content content = refl
 
--- an Element of a group that is read, and a value of its kind
+-- `d` is an element of a group that is read, and a valid value.
 pub record IsPart (d : Element) : Type 0 where
   pub is_element : IsElement d
   pub value : is_known_value BLOCK_GROUP d.id d.body ≡ true

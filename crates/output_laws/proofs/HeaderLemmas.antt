@@ -27,7 +27,7 @@ use Rattle.output_laws.proofs.GroupLemmas.{IsElement-element}
 use Rattle.output_model.specs.Document.{doc_type, ebml_element}
 use Rattle.lemmas.proofs.PlainLemmas.{map-or as map_or-is}
 
--- ---- what is computed of the two headers
+-- ---- both headers, computed
 
 abbrev ebml_children : Bool → List Element
 ebml_children webm =
@@ -71,7 +71,7 @@ computes false = record {
   size_length = refl;
 }
 
--- ---- what is read
+-- ---- results of reading
 
 first_of-or : {A : Type 0} (bytes : List ℕ) (value : List ℕ → A) (id : ℕ) (other : A) (hs : List Header) (ds : List Element) → AllZip (IsRead bytes) hs ds
     → option_map_or (λ (h : Header). value (body_of bytes h)) (first_of id hs) other ≡ option_map_or (λ (d : Element). value d.body) (find (λ (d : Element). d.id == id) ds) other
@@ -80,12 +80,12 @@ first_of-or bytes value id other hs ds are =
     ∙ ap (λ o. unwrap_or o other) (first_of-read bytes value id hs ds are)
     ∙ sym (map_or-is (λ (d : Element). value d.body) (find (λ (d : Element). d.id == id) ds) other)
 
--- nothing is wrong where each cause doesn't stand
+-- There is no damage if no cause of damage holds.
 causes-none : (b : Option Damage) (t v w m n : Bool) (d₀ d₁ d₂ d₃ d₄ : Damage) → b ≡ None → t ≡ false → v ≡ false → w ≡ false → m ≡ false → n ≡ false
     → first_damage (b ∷ None ∷ where_it t d₀ ∷ where_it v d₁ ∷ where_it w d₂ ∷ where_it m d₃ ∷ where_it n d₄ ∷ []) ≡ None
 causes-none b t v w m n d₀ d₁ d₂ d₃ d₄ eb et ev ew em en = rw (eb, et, ev, ew, em, en) refl
 
--- What is written of an EBML header is read as that.
+-- A written EBML header is read as that header.
 pub ebml-read : (webm : Bool) (tail : List ℕ) → header_without_limit (octets_of (ebml_element webm) ++ tail) ≡ Ok (header_in_place 0 (ebml_element webm))
 ebml-read webm tail =
     let facts = computes webm in

@@ -1,4 +1,4 @@
--- What was kept of a group that was read can be written and read again.
+-- The kept children of a BlockGroup that was read can be written and read again.
 use Rattle.std.proofs.Common.{◌≡◌, ℕ, ◌-◌, ◌≤◌, not, Bool, true, false, cond, List, [], ◌∷◌, length, filter, find, All, Option, Some, None, Ok, refl, sym, ap, ap₂, ◌∙◌, subst, arith}
 use Rattle.std.specs.List.{AllZip}
 use Rattle.std.proofs.lemmas.List.Elements.{All-nil, All-cons, All-head, All-tail}
@@ -21,14 +21,14 @@ use Rattle.output_model.proofs.WrittenLemmas.{children-written}
 use Rattle.output_model.specs.Sound.{IsKeptElement, AreKept}
 use Rattle.lemmas.proofs.PlainLemmas.{map-none as no-value}
 
--- ---- what stood behind an answer
+-- ---- facts after a result
 
 no-causes : (a b : Option Damage) → first_damage (a ∷ b ∷ []) ≡ None → (a ≡ None) × (b ≡ None)
 no-causes None None is = (refl, refl)
 no-causes None (Some d) is = absurd (cc)
 no-causes (Some d) b is = absurd (cc)
 
--- ---- where none fails a test, all pass
+-- ---- if no item fails a test, all pass
 
 find-all : (bytes : List ℕ) (passes : ℕ → List ℕ → Bool) (hs : List Header) (ds : List Element) → AllZip (IsRead bytes) hs ds → find (λ (h : Header). not (passes h.id (body_of bytes h))) hs ≡ None
     → All (λ (d : Element). passes d.id d.body ≡ true) ds
@@ -44,7 +44,7 @@ find-all bytes passes (h ∷ hs) (d ∷ ds) are none =
     split true is rest = (is, rest)
     split false is rest = absurd (cc)
 
--- those that are kept
+-- The kept children.
 kept-elements : (ds : List Element) → All IsElement ds → All (λ (d : Element). is_known_value BLOCK_GROUP d.id d.body ≡ true) ds → All IsKeptElement (filter (λ (d : Element). is_kept d.id) ds)
 kept-elements [] are values = All-nil IsKeptElement
 kept-elements (d ∷ ds) are values =
@@ -71,7 +71,7 @@ children-kept bytes h children octets within found =
     let values = find-all bytes (is_known_value BLOCK_GROUP) children ds read none in
     (filter (λ (d : Element). is_kept d.id) ds, octets_of-read bytes is_kept children ds read, kept-elements ds spelled.are values)
 
--- What is kept of a group that was read is Elements that can be kept.
+-- The kept children of a group that was read are elements that can be kept.
 pub group-kept : (r : Rules) (bytes : List ℕ) (timestamp : Option ℕ) (h : Header) (b : Block) → AreOctets bytes → stated_end h ≤ length bytes → block_group r bytes timestamp h ≡ Ok b → AreKept b.kept
 unfolding block_group
 group-kept r bytes timestamp h b octets within is =

@@ -1,4 +1,4 @@
--- Blocks that are found in a file say what their kind can say.
+-- Blocks that are found in a file have only fields of their kind.
 use Rattle.std.proofs.Common.{◌≡◌, ℕ, ◌≤◌, ◌==◌, true, false, List, [], ◌∷◌, length, Option, None, Ok, refl, sym, ap, subst}
 use Rattle.std.specs.List.{All}
 use Rattle.std.proofs.lemmas.List.{length-map}
@@ -66,7 +66,7 @@ group-kind r bytes timestamp h b octets within is =
       group = λ same. record { key = key; discardable = discardable; kept = kept };
     }
 
--- ---- what a child of a Cluster gives
+-- ---- blocks of a child of a Cluster
 
 pub found-kind : (r : Rules) (bytes : List ℕ) (timestamp : Option ℕ) (h : Header) (b : Block) → AreOctets bytes → stated_end h ≤ length bytes → found_at r bytes timestamp h ≡ Ok b ∷ [] → IsOfItsKind b
 found-kind r bytes timestamp h b octets within is =
@@ -75,7 +75,7 @@ found-kind r bytes timestamp h b octets within is =
 
 -- ---- the file
 
--- Each block of a file that is read with limits is found so.
+-- Each block of a file that is read with limits is as a reader finds it.
 pub all-read : (scale : ℕ) (bytes : List ℕ) (segment : Header) → AreOctets bytes → All IsReadBlock (blocks_of (events_of (with_limits scale) bytes segment))
 all-read scale bytes segment octets = λ k d below. record {
   small = all-small scale bytes segment octets k d below;

@@ -1,4 +1,4 @@
--- What is written of a document is read back.
+-- Written documents are read back.
 use Rattle.std.proofs.Common.{◌≡◌, ℕ, ◌+◌, ◌-◌, ◌≤◌, ◌==◌, nat_lt, min, Bool, false, if◌then◌else◌, List, [], ◌∷◌, ◌++◌, length, All, append-nil, append_assoc, length-append, None, Some, Ok, Err, refl, sym, ap, ◌∙◌, subst, arith}
 use Rattle.std.proofs.lemmas.Bool.{cond-true, lt-ltb}
 use Rattle.std.proofs.lemmas.List.Concat.{flat_map-append}
@@ -40,7 +40,7 @@ use Rattle.output_laws.proofs.ScaleLemmas.{scale-placed}
 
 -- ---- a document is an EBML header and a Segment
 
--- a Segment's body is the area and what stands behind it
+-- A Segment's body is the area and the elements after it.
 body-is : (d : Document) → joined (segment_elements (segment_of_document d)) ≡ joined (area_elements (seeks_of d)) ++ joined (elements_behind_area d)
 body-is d = flat_map-append octets_of (area_elements (seeks_of d)) (elements_behind_area d)
 
@@ -56,7 +56,7 @@ layout-is d is =
     ∙ ap (λ o. id_octets SEGMENT ++ (size_octets (length body) 8 ++ o)) (sym (body-is d))
     ∙ sym (append_assoc (id_octets SEGMENT) (size_octets (length body) 8) body))
 
--- ---- the Segment is sound
+-- ---- the Segment is valid
 
 segment-short : (d : Document) → IsSoundDocument d → HasSize (segment_element (segment_of_document d))
 segment-short d is =
@@ -65,14 +65,14 @@ segment-short d is =
     let short = is.short in
     omega (arith, length-append (octets_of (ebml_element d.front.webm)) (octets_of e), length-octets_of e)
 
--- an output may have more lanes than it has
+-- An output may have more output tracks than it has.
 wider-cluster : (few many : ℕ) (c : OutputCluster) → few ≤ many → IsSoundCluster few c → IsSoundCluster many c
 wider-cluster few many c fits is = record {
   begins = is.begins;
   blocks = All-weaker (IsSoundIn few c.timestamp) (IsSoundIn many c.timestamp) (λ b s. let most = s.lane_most in record { sound = s.sound; near = s.near; lane_some = s.lane_some; lane_most = omega arith }) c.blocks is.blocks;
 }
 
--- the parts of a document, each as short as can be
+-- The parts of the document `d`, each with its shortest header.
 record HasParts (d : Document) : Type 0 where
   info : IsShortest INFO (tree_element d.front.info)
   tracks : IsShortest TRACKS (tree_element d.front.tracks)
@@ -132,7 +132,7 @@ segment-sound d is =
           (All-append IsOther chapters tags (others-shortest CHAPTERS chapters refl refl has.chapters others.0) (others-shortest TAGS tags refl refl has.tags others.1));
     }
 
--- ---- the way to the Segment
+-- ---- the Segment is found
 
 segment-found : (front : List ℕ) (d : Element) (w : ℕ) → length front ≡ w → IsElement d → d.id ≡ SEGMENT → and_then (unless (before_segment (front ++ octets_of d) w).damage (before_segment (front ++ octets_of d) w)) (segment_behind (front ++ octets_of d)) ≡ Ok (header_in_place w d)
 segment-found front d w at is own =
@@ -151,7 +151,7 @@ segment-found front d w at is own =
     ∙ cond-true (nat_lt w e) (element_at at_level_0 bytes w e) (Err (damage NoSegment 0 e)) (lt-ltb _ _ (omega arith))
     ∙ found
 
--- the outline of a content that is an EBML header and then a Segment of Elements
+-- The outline of a content that is an EBML header and then a Segment of elements.
 outline-read : (webm : Bool) (d : Element) (es : List Element) → IsElement d → d.id ≡ SEGMENT → d.body ≡ joined es → All IsElement es
     → (let bytes : List ℕ = octets_of (ebml_element webm) ++ octets_of d in
     let w : ℕ = length (octets_of (ebml_element webm)) in

@@ -1,4 +1,4 @@
--- A reader's limits only add damages.
+-- A reader's limits only add damage.
 use Rattle.std.proofs.Common.{◌≡◌, ℕ, ◌==◌, Bool, true, false, if◌then◌else◌, List, [], ◌∷◌, ◌++◌, length, Option, Some, None, Ok, Err, refl, ap, ap₂, ◌∙◌}
 use Rattle.mkv_schema.specs.declared.ids.TheConstants.{CLUSTER, TIMESTAMP, SIMPLE_BLOCK, BLOCK_GROUP, BLOCK}
 use Rattle.mkv_io.specs.declared.damage.Damage.{Damage}
@@ -113,7 +113,7 @@ events-unlimited s bytes e (h ∷ hs) wrong none = split (events-unlimited s byt
         ap₂ (events_then (is_closed (length bytes) h)) (cluster-unlimited s bytes e h parts.0) (rest parts.1)
     split rest false is = rest is
 
--- Where limits tell no damage they change nothing.
+-- If reading with limits reports no damage, limits change nothing.
 pub limits-change_nothing : (scale : ℕ) (bytes : List ℕ) (segment : Header) → damages_of (events_of (with_limits scale) bytes segment) ≡ [] → events_of (without_limits scale) bytes segment ≡ events_of (with_limits scale) bytes segment
 unfolding events_of
 limits-change_nothing scale bytes segment none = events-unlimited scale bytes (segment_bound bytes segment) (segment_run bytes segment).list (segment_run bytes segment).damage none

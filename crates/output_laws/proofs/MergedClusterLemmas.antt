@@ -1,4 +1,4 @@
--- What Clusters hold, and that they are sound.
+-- The contents of Clusters, which are valid.
 use Rattle.std.proofs.Common.{◌≡◌, ℕ, ◌+◌, ◌-◌, ◌*◌, ◌≤◌, nat_le, Bool, true, false, ◌&&◌, if◌then◌else◌, List, [], ◌∷◌, ◌++◌, length, flat_map, All, append_assoc, refl, ap, ◌∙◌, arith}
 use Rattle.std.proofs.lemmas.Bool.{le-leb}
 use Rattle.std.proofs.lemmas.List.Elements.{All-nil, All-cons, All-head, All-tail, All-append}
@@ -25,13 +25,13 @@ pub clusters-hold : (limits : ClusterLimits) (bs : List OutputBlock) → flat_ma
 clusters-hold limits [] = refl
 clusters-hold limits (b ∷ bs) = cut-holds limits (begun b) bs
 
--- ---- each is sound
+-- ---- each Cluster is valid
 
--- a sound block in one of so many lanes
+-- a valid block on one of the output tracks
 abbrev pub IsOf : ℕ → OutputBlock → Type 0
 IsOf lanes b = IsIn IsSoundBlock 1 (lanes + 1) b
 
--- of four tests the second
+-- The second of four tests holds.
 second : (a b c d : Bool) → (a && b && c && d) ≡ true → b ≡ true
 second true true c d is = refl
 second true false c d is = absurd (cc)
@@ -84,9 +84,9 @@ pub clusters-sound : (lanes : ℕ) (limits : ClusterLimits) (bs : List OutputBlo
 clusters-sound lanes limits [] are = All-nil (IsSoundCluster lanes)
 clusters-sound lanes limits (b ∷ bs) are = cut-sound lanes limits (begun b) bs (begun-sound lanes b (All-head (IsOf lanes) b bs are)) (All-tail (IsOf lanes) b bs are)
 
--- ---- a block in a lane, or earlier
+-- ---- a block on another output track, or earlier
 
--- neither a block's lane counts, nor how early it is
+-- A valid block stays valid on another output track, or earlier.
 sound-in_output : (lane tick : ℕ) (b : OutputBlock) → tick ≤ b.tick → IsSoundBlock b → IsSoundBlock (in_output lane tick b)
 sound-in_output lane tick b early is = record {
   tick = (let small = is.tick in omega arith);
@@ -96,11 +96,11 @@ sound-in_output lane tick b early is = record {
   group = λ grouped. (let g = is.group grouped in record { key = g.key; discardable = g.discardable; duration = g.duration; references = g.references; kept = g.kept });
 }
 
--- So it is one of its lane where it is earlier.
+-- An earlier block is still a valid block of its output track.
 pub earlier-of : (lanes tick : ℕ) (b : OutputBlock) → tick ≤ b.tick → IsOf lanes b → IsOf lanes (in_output b.lane tick b)
 earlier-of lanes tick b early is = record { holds = sound-in_output b.lane tick b early is.holds; some = is.some; most = is.most }
 
--- Each block of a merged list is one of its lanes.
+-- Each block of a merged list is a valid block of its output track.
 pub merged-of : (lanes : List (List OutputBlock)) → All (All IsSoundBlock) lanes → All (IsOf (length lanes)) (merged lanes)
 merged-of lanes are = merged-hold IsSoundBlock lanes (λ j b is. sound-in_output j b.tick b (omega arith) is) are
 

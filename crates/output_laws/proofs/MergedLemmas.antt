@@ -1,4 +1,4 @@
--- The lanes of a merged list are those that were merged.
+-- The tracks of a merged list are the output tracks that were merged.
 use Rattle.std.proofs.Common.{◌≡◌, ℕ, suc, ◌+◌, ◌<◌, ◌≤◌, ◌==◌, nat_lt, max, Bool, true, false, cond, if◌then◌else◌, List, [], ◌∷◌, ◌++◌, length, map, filter, All, append-nil, append_assoc, refl, sym, ap, ap₂, ◌∙◌, arith}
 use Rattle.std.specs.Prelude.{⊤}
 use Rattle.std.proofs.lemmas.Bool.{cond-false, le-ltb, ltb-true, eq-eqb, ne_eqb}
@@ -11,7 +11,7 @@ use Rattle.output_laws.specs.Lanes.{lane_of, lanes_from, in_lanes}
 
 -- ---- lists whose order numbers rise
 
--- no order number is below m
+-- No order number is below `m`.
 abbrev pub AtLeast : ℕ → List Ordered → Type 0
 AtLeast m [] = ⊤
 AtLeast m (x ∷ xs) = (m ≤ x.order) × AtLeast m xs
@@ -24,7 +24,7 @@ pub at_least-less : (m n : ℕ) (xs : List Ordered) → m ≤ n → AtLeast n xs
 at_least-less m n [] less above = tt
 at_least-less m n (x ∷ xs) less above = let here = above.0 in (omega arith, at_least-less m n xs less above.1)
 
--- a block that isn't above the others stands in front of them
+-- A block that isn't above the others comes before them.
 insert-front : (x : Ordered) (xs : List Ordered) → AtLeast x.order xs → insert_by order_of x xs ≡ x ∷ xs
 insert-front x [] above = refl
 insert-front x (y ∷ ys) above = cond-false (nat_lt y.order x.order) (y ∷ insert_by order_of x ys) (x ∷ (y ∷ ys)) (le-ltb _ _ above.0)
@@ -53,7 +53,7 @@ pub sorted-rises : (xs : List Ordered) → Rises (sorted xs)
 sorted-rises [] = tt
 sorted-rises (x ∷ xs) = insert-rises x (sorted xs) (sorted-rises xs)
 
--- what rises is sorted
+-- A list whose order numbers rise is sorted.
 pub sorted-same : (xs : List Ordered) → Rises xs → sorted xs ≡ xs
 sorted-same [] rises = refl
 sorted-same (x ∷ xs) rises = ap (insert_by order_of x) (sorted-same xs rises.1) ∙ insert-front x xs rises.0
@@ -90,7 +90,7 @@ filter-insert p x (y ∷ ys) rises = split (filter-insert p x ys rises.1) (nat_l
         let more : x.order ≤ y.order = grind (arith, nat_tests) in
         in_front (p x) (more, at_least-less x.order y.order ys more rises.0)
 
--- A part of a sorted list is the part, sorted.
+-- A selected part of a sorted list is the sorted part.
 pub filter-sorted : (p : Ordered → Bool) (xs : List Ordered) → filter p (sorted xs) ≡ sorted (filter p xs)
 filter-sorted p [] = refl
 filter-sorted p (x ∷ xs) =
@@ -121,9 +121,9 @@ filter-none p (x ∷ xs) pass =
     ap (λ (b : Bool). cond b (x ∷ filter p xs) (filter p xs)) (All-head (λ (y : Ordered). p y ≡ false) x xs pass)
     ∙ filter-none p xs (All-tail (λ (y : Ordered). p y ≡ false) x xs pass)
 
--- ---- one lane
+-- ---- one output track
 
--- a lane with its order numbers and its number
+-- an output track with its order numbers and its number
 abbrev pub in_order : ℕ → List OutputBlock → List Ordered
 in_order n bs = map (ordered_in n) (ordered bs)
 
@@ -143,9 +143,9 @@ pub in_order-lane : (n : ℕ) (xs : List Ordered) → All (λ (x : Ordered). x.b
 in_order-lane n [] = All-nil (λ (x : Ordered). x.block.lane ≡ n)
 in_order-lane n (x ∷ xs) = All-cons (λ (y : Ordered). y.block.lane ≡ n) (ordered_in n x) (map (ordered_in n) xs) refl (in_order-lane n xs)
 
--- ---- all lanes
+-- ---- all output tracks
 
--- all lanes, one behind the other, from this number on
+-- all output tracks in sequence, numbered from this number on
 abbrev pub all_in_order : ℕ → List (List OutputBlock) → List Ordered
 all_in_order n lanes = lanes_joined (numbered n (map ordered lanes))
 
@@ -183,11 +183,11 @@ lanes-kept_behind n (lane ∷ lanes) front lower =
     (All-weaker (λ (x : Ordered). x.block.lane ≡ n) (λ (x : Ordered). x.block.lane < suc n) (λ x is. omega arith) own (in_order-lane n (ordered lane)))) in
     ap₂ (λ l ls. l ∷ ls) here later
 
--- The lanes of a merged list are those that were merged.
+-- The tracks of a merged list are the output tracks that were merged.
 pub lanes-kept : (lanes : List (List OutputBlock)) → lanes_from 1 (length lanes) (merged lanes) ≡ in_lanes 1 lanes
 lanes-kept lanes = lanes-kept_behind 1 lanes [] (All-nil (λ (x : Ordered). x.block.lane < 1))
 
--- ---- what holds of each block of each lane holds of each of the merged list
+-- ---- a fact about each block of each output track holds for each block of the merged list
 
 pub insert-all : (P : Ordered → Type 0) (x : Ordered) (xs : List Ordered) → P x → All P xs → All P (insert_by order_of x xs)
 insert-all P x [] own are = All-cons P x [] own (All-nil P)
@@ -211,7 +211,7 @@ in_order-all P n m (b ∷ bs) keeps are =
     All-cons (λ (x : Ordered). P x.block) (record { order = max m b.tick; block = in_lane n b }) (map (ordered_in n) (ordered_from (max m b.tick) bs)) (keeps b (All-head P b bs are))
     (in_order-all P n (max m b.tick) bs keeps (All-tail P b bs are))
 
--- a property that holds of a block in whichever of these lanes, with the lane's number
+-- The property holds for a block on any of these output tracks, with the track's number.
 pub record IsIn (P : OutputBlock → Type 0) (n k : ℕ) (b : OutputBlock) : Type 0 where
   pub holds : P b
   pub some : n ≤ b.lane

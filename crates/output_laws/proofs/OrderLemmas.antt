@@ -1,4 +1,4 @@
--- The blocks of an output are read in their order.
+-- The blocks of an output are read in order.
 use Rattle.std.proofs.Common.{◌≡◌, ℕ, ◌+◌, ◌≤◌, false, List, [], ◌∷◌, ◌++◌, length, map, flat_map, All, refl, ap, ap₂, ◌∙◌}
 use Rattle.std.proofs.lemmas.List.Concat.{flat_map-append}
 use Rattle.std.proofs.lemmas.List.Elements.{All-head, All-tail}
@@ -23,7 +23,7 @@ use Rattle.output_laws.proofs.TickLemmas.{placed-again}
 block-again : (scale p : ℕ) (b : OutputBlock) → 1 ≤ scale → IsSoundBlock b → block_read scale (block_in_place scale p b) ≡ b ∷ []
 block-again scale p b some sound = ap (map (in_lane b.lane)) (placed-again scale p b some sound)
 
--- behind a Timestamp
+-- The blocks after a Timestamp.
 blocks-again : (scale lanes timestamp p : ℕ) (bs : List OutputBlock) → 1 ≤ scale → All (IsSoundIn lanes timestamp) bs → flat_map (block_read scale) (blocks_in_place scale timestamp p bs) ≡ bs
 blocks-again scale lanes timestamp p [] some sound = refl
 blocks-again scale lanes timestamp p (b ∷ bs) some sound =

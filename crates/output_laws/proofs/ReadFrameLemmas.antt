@@ -1,4 +1,4 @@
--- The frames of a block that was read are some that its kind of lace can have.
+-- The frames of a block that was read are frames that its kind of lace can have.
 use Rattle.std.proofs.Common.{◌≡◌, ℕ, suc, ◌+◌, ◌≤◌, Bool, true, false, if◌then◌else◌, List, [], ◌∷◌, length, map, take, drop, sum, Option, Some, None, Result, Ok, Err, refl, sym, ap, ap₂, ◌∙◌, subst, arith}
 use Rattle.std.proofs.lemmas.List.{length-take, length-drop}
 use Rattle.std.proofs.lemmas.List.Sums.{sum_by-cons}
@@ -16,11 +16,11 @@ use Rattle.block_format.specs.Content.{Content, has_no_header, header_len, flags
 use Rattle.output_laws.specs.Blocks.{CanBeLaced}
 use Rattle.ebml_numbers.proofs.SpelledLemmas.{AreOctets-drop}
 
--- how many octets each frame has
+-- the number of bytes of each frame
 abbrev pub sizes_of : List (List ℕ) → List ℕ
 sizes_of frames = map (λ (frame : List ℕ). length frame) frames
 
--- the sizes of frames that were cut are those by which they were cut
+-- Frames that were cut have the sizes by which they were cut.
 sizes-cut : (sizes octets : List ℕ) → sum sizes ≤ length octets → sizes_of (frames_cut sizes octets) ≡ sizes
 sizes-cut [] octets fits = refl
 sizes-cut (size ∷ sizes) octets fits =
@@ -72,7 +72,7 @@ content-frames octets c is = split (has_no_header octets) (frames_in (lace_of (f
         let same : frames ≡ c.frames = cc in
         ap (λ f. frames_in (lace_of f) (data_in octets)) (sym flags) ∙ at ∙ ap (λ fs. Ok fs) same
 
--- Frames of a block that was read can be laced.
+-- The frames of a block that was read can be laced.
 pub content-laces : (octets : List ℕ) (c : Content) → AreOctets octets → length octets ≤ MAX_BLOCK_LEN → content_in octets ≡ Ok c → CanBeLaced (lace_of c.flags) (sizes_of c.frames)
 content-laces octets c bytes short is =
     let rest = length-drop (header_len octets) octets in

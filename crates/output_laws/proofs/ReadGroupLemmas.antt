@@ -1,4 +1,4 @@
--- What the children of a group have together.
+-- The total size of the children of a BlockGroup.
 use Rattle.std.proofs.Common.{◌≡◌, ℕ, zero, suc, ◌+◌, ◌-◌, ◌<◌, ◌≤◌, ◌==◌, nat_lt, Bool, true, false, if◌then◌else◌, cond, List, [], ◌∷◌, length, length-append, Some, Result, Ok, Err, refl, ap, arith}
 use Rattle.std.specs.List.{filter, flat_map}
 use Rattle.std.proofs.lemmas.Bool.Decides.{nat_tests}
@@ -11,12 +11,12 @@ use Rattle.mkv_schema.specs.Value.{body_of, first_of}
 use Rattle.mkv_schema.proofs.ElementLemmas.{element_at-placed, element_in-whole, length-octets_between}
 use Rattle.block_format.specs.Elements.{element_octets, is_kept, kept_of, group_run}
 
--- what Elements have together
+-- the total of a value of elements
 abbrev pub weight : (Header → ℕ) → List Header → ℕ
 weight f [] = 0
 weight f (h ∷ hs) = f h + weight f hs
 
--- Elements of a master have together no more than the master, where each has no more than its own octets
+-- The children of a master have together at most the master's size, if each has at most its own size.
 weight-within : (f : Header → ℕ) (bytes : List ℕ) (e : ℕ) → ((p : ℕ) (h : Header) → StandsAt p e h → f h ≤ stated_end h - p) → (n p : ℕ) → weight f (elements_within n in_master never (λ h. Ok (end_in e h)) bytes p e).list ≤ e - p
 unfolding elements_within
 weight-within f bytes e small zero p = omega arith
@@ -39,14 +39,14 @@ weight-within f bytes e small (suc n) p = split (weight-within f bytes e small n
     split rest false is = omega arith
     split rest true is = go rest (element_at in_master bytes p e) refl (grind (arith, nat_tests))
 
--- those of a group have no more than its body
+-- The children of a group have at most the size of its body.
 weight-group : (f : Header → ℕ) (bytes : List ℕ) (h : Header) → ((p : ℕ) (c : Header) → StandsAt p (stated_end h) c → f c ≤ stated_end c - p) → weight f (group_run bytes h).list ≤ known h.size
 unfolding elements
 weight-group f bytes h small =
     let sum = weight-within f bytes (stated_end h) small (stated_end h - h.body) h.body in
     omega arith
 
--- what is kept of them is no more
+-- The kept children have at most that.
 kept-weight : (bytes : List ℕ) (l : List Header) → length (kept_of bytes l) ≤ weight (λ c. length (element_octets bytes c)) l
 kept-weight bytes [] = omega arith
 kept-weight bytes (c ∷ cs) = split (is_kept c.id) (kept-weight bytes cs)
@@ -56,7 +56,7 @@ kept-weight bytes (c ∷ cs) = split (is_kept c.id) (kept-weight bytes cs)
     split true rest = let joined = length-append (element_octets bytes c) (kept_of bytes cs) in omega arith
     split false rest = omega arith
 
--- nor is one of them
+-- The first child with an ID has at most that.
 first-weight : (f : Header → ℕ) (id : ℕ) (l : List Header) (b : Header) → first_of id l ≡ Some b → f b ≤ weight f l
 first-weight f id [] b is = absurd (cc)
 first-weight f id (c ∷ cs) b is = split (c.id == id) is (first-weight f id cs b)
@@ -67,14 +67,14 @@ first-weight f id (c ∷ cs) b is = split (c.id == id) is (first-weight f id cs 
         omega arith
     split false found rest = let less = rest found in omega arith
 
--- what is kept of a group has no more octets than its body
+-- The kept children of a group have at most as many bytes as its body.
 pub kept-short : (bytes : List ℕ) (h : Header) → length (kept_of bytes (group_run bytes h).list) ≤ known h.size
 kept-short bytes h =
     let kept = kept-weight bytes (group_run bytes h).list in
     let all = weight-group (λ c. length (element_octets bytes c)) bytes h (λ p c placed. let offset = placed.offset in let octets = length-octets_between bytes c.offset (stated_end c) in omega arith) in
     omega arith
 
--- nor has its Block
+-- Its Block has at most as many bytes, too.
 pub block-short : (bytes : List ℕ) (h b : Header) (id : ℕ) → first_of id (group_run bytes h).list ≡ Some b → length (body_of bytes b) ≤ known h.size
 block-short bytes h b id is =
     let one = first-weight (λ c. length (body_of bytes c)) id (group_run bytes h).list b is in

@@ -14,22 +14,22 @@ use Rattle.output_laws.specs.Merges.{MergedIsInOrder}
 use Rattle.output_laws.proofs.CutLemmas.{none-within}
 use Rattle.output_laws.proofs.MergedLemmas.{AtLeast, Rises, all-above, all_in_order, at_least-less, filter-all, filter-blocks, filter-none, filter-sorted, in_order, in_order-lane, in_order-rises, insert-all, sorted-all, sorted-rises, sorted-same}
 
--- ---- by order number, and then by lane
+-- ---- by order number, and then by output track
 
--- one is lower, or as low and in no higher a lane
+-- The first one has a lower order number, or the same order number and at most the second one's track number.
 abbrev IsLower : Ordered → Ordered → Type 0
 IsLower x y = (x.order < y.order) ⊎ ((x.order ≡ y.order) × (x.block.lane ≤ y.block.lane))
 
--- its lane is no higher
+-- The track number of the first one is at most the second one's.
 abbrev IsUnder : Ordered → Ordered → Type 0
 IsUnder x y = x.block.lane ≤ y.block.lane
 
--- each is lower than all behind it
+-- Each item is lower than all later ones.
 abbrev AllLower : List Ordered → Type 0
 AllLower [] = ⊤
 AllLower (x ∷ xs) = All (IsLower x) xs × AllLower xs
 
--- each is in no higher a lane than all behind it
+-- Each item has at most the track number of each later one.
 abbrev AllUnder : List Ordered → Type 0
 AllUnder [] = ⊤
 AllUnder (x ∷ xs) = All (IsUnder x) xs × AllUnder xs
@@ -61,7 +61,7 @@ sorted-lower : (xs : List Ordered) → AllUnder xs → AllLower (sorted xs)
 sorted-lower [] under = tt
 sorted-lower (x ∷ xs) under = insert-lower x (sorted xs) (sorted-rises xs) (sorted-all (IsUnder x) xs under.0) (sorted-lower xs under.1)
 
--- a lane in front of higher ones
+-- An output track before tracks with greater numbers.
 append-under : (n : ℕ) (xs ys : List Ordered) → All (λ (x : Ordered). x.block.lane ≡ n) xs → All (λ (y : Ordered). n ≤ y.block.lane) ys → AllUnder ys → AllUnder (xs ++ ys)
 append-under n [] ys own above under = under
 append-under n (x ∷ xs) ys own above under =
@@ -80,7 +80,7 @@ all-under n (lane ∷ lanes) =
     (All-weaker (λ (x : Ordered). suc n ≤ x.block.lane) (λ (x : Ordered). n ≤ x.block.lane) (λ x is. omega (arith, is)) (all_in_order (suc n) lanes) (all-above (suc n) lanes))
     (all-under (suc n) lanes)
 
--- one of a list, and one behind it
+-- An item of a list, and a later one.
 lower-at : (xs ys zs : List Ordered) (x y : Ordered) → AllLower (xs ++ x ∷ (ys ++ y ∷ zs)) → IsLower x y
 lower-at [] ys zs x y lower = within ys lower.0
   where
@@ -91,7 +91,7 @@ lower-at (w ∷ xs) ys zs x y lower = lower-at xs ys zs x y lower.1
 
 -- ---- order numbers
 
--- the lane of a number among lanes, or nothing where there is none
+-- The output track with this number, or nothing if there is none.
 record IsLane (n k : ℕ) (lanes : List (List OutputBlock)) : Type 0 where
   lane : List OutputBlock
   is : filter (λ (x : Ordered). x.block.lane == n) (all_in_order k lanes) ≡ in_order n lane
@@ -131,7 +131,7 @@ lane-at n k (l ∷ lanes) = split (lane-at n (suc k) lanes) (k == n) refl
       is = both ∙ ap₂ (λ a b. a ++ b) (none-of n k (in_order k l) (in_order-lane k (ordered l)) is) later.is;
     }
 
--- in a lane, from any order number on
+-- An item of an output track, from any order number on.
 order-in : (n m : ℕ) (bs : List OutputBlock) (ys zs : List Ordered) (x : Ordered) → map (ordered_in n) (ordered_from m bs) ≡ ys ++ x ∷ zs
     → x.order ≡ max (max m (greatest_tick (blocks_in ys))) x.block.tick
 order-in n m [] ys zs x is = absurd (none-within ys zs x is)
@@ -147,12 +147,12 @@ order-in n m (b ∷ bs) (y ∷ ys) zs x is =
     let later : x.order ≡ max (max (max m b.tick) (greatest_tick (blocks_in ys))) x.block.tick = order-in n (max m b.tick) bs ys zs x rest in
     omega (arith, tick, later)
 
--- a part of a list that has a block
+-- A selected part of a list that has a block.
 filter-at : (p : Ordered → Bool) (xs ys : List Ordered) (x : Ordered) → p x ≡ true → filter p (xs ++ x ∷ ys) ≡ filter p xs ++ x ∷ filter p ys
 filter-at p xs ys x is =
     filter-append p xs (x ∷ ys) ∙ ap (λ (t : Bool). filter p xs ++ cond t (x ∷ filter p ys) (filter p ys)) is
 
--- The order number of a block in the sorted list is the greatest tick of its lane up to it.
+-- The order number of a block in the sorted list is the greatest tick of its output track up to it.
 order-at : (lanes : List (List OutputBlock)) (xs ys : List Ordered) (x : Ordered) → sorted (all_in_order 1 lanes) ≡ xs ++ x ∷ ys
     → x.order ≡ max (greatest_tick (lane_of x.block.lane (blocks_in xs))) x.block.tick
 order-at lanes xs ys x is =
@@ -183,7 +183,7 @@ place-less bs cs b c same =
 
 -- ---- the merged list
 
--- lower, and in a lane at an earlier place
+-- The rank is lower, and on the same output track its place is earlier.
 before-of : (k l m n i j : ℕ) → (k < l) ⊎ ((k ≡ l) × (m ≤ n)) → (m ≡ n → i < j) → IsBefore (record { order = k; lane = m; place = i }) (record { order = l; lane = n; place = j })
 before-of k l m n i j (inl less) place = inl less
 before-of k l m n i j (inr same) place = inr (same.0, split (nat_lt m n) refl)
@@ -211,7 +211,7 @@ sorted-before lanes xs ys zs x y is =
     (subst (λ (k : ℕ). (x.order < k) ⊎ ((x.order ≡ k) × (x.block.lane ≤ y.block.lane))) third lower))
     (place-less (blocks_in xs) (blocks_in ys) x.block y.block)
 
--- blocks with their order numbers, where the blocks are so many, one, and others
+-- The list `xs` has the blocks `before`, then `b`, then `behind`, with their order numbers.
 record Divides (xs : List Ordered) (before : List OutputBlock) (b : OutputBlock) (behind : List OutputBlock) : Type 0 where
   front : List Ordered
   own : Ordered

@@ -11,7 +11,7 @@ use Rattle.tree_format.specs.Standing.{placed, placed_all, placed_in}
 use Rattle.tree_format.specs.Values.{integer_of}
 use Rattle.file_format.specs.Info.{scale_of}
 
--- the integer of an ID that is written is the same where it stands
+-- A written integer is the same at any place.
 placed-integer : (id : ℕ) (ns : Nodes) (p : ℕ) → is_filler id ≡ false
     → option_map integer_of (find (λ n. id_of n == id) (list_of (placed_all p ns))) ≡ option_map integer_of (find (λ n. id_of n == id) (list_of ns))
 placed-integer id none p kept = refl
@@ -45,7 +45,7 @@ placed-integer id (node n ns) p kept = split (is_filler (id_of n)) refl (λ q. p
     split true filler rest = rest p ∙ sym (ap (λ (t : Bool). option_map integer_of (cond t (Some n) (find (λ k. id_of k == id) (list_of ns)))) (not_it (id_of n == id) refl filler))
     split false filler rest = here n p (p + length (octets n)) (rest (p + length (octets n)))
 
--- The scale of an Info is that of what is written of it.
+-- The scale of an Info is the scale of the written Info.
 pub scale-placed : (offset base : ℕ) (info : Node) → scale_of (placed_in offset base info) ≡ scale_of info
 scale-placed offset base (leaf id at body) = refl
 scale-placed offset base (master id at kids) = ap (λ o. unwrap_or o (unwrap_or (uint_default TIMESTAMP_SCALE) 0)) (placed-integer TIMESTAMP_SCALE kids base refl)

@@ -1,4 +1,4 @@
--- What is written of a Segment has its Elements, and gives the blocks of its Clusters.
+-- A written Segment has its elements, and gives the blocks of its Clusters.
 use Rattle.std.proofs.Common.{◌≡◌, ℕ, ◌+◌, ◌≤◌, min, Bool, if◌then◌else◌, List, [], ◌∷◌, ◌++◌, length, All, length-append, append-nil, append_assoc, None, Ok, refl, sym, ap, ap₂, ◌∙◌, subst, arith}
 use Rattle.std.proofs.lemmas.Bool.{cond-false}
 use Rattle.std.proofs.lemmas.List.Concat.{flat_map-append}
@@ -27,7 +27,7 @@ use Rattle.output_laws.proofs.ClusterLemmas.{sizes-joined, cluster-read}
 
 -- ---- level 1
 
--- the Elements of level 1 of a Segment whose size is known
+-- The elements of level 1 of a Segment of known size.
 Lists-segment : (bytes : List ℕ) (n e : ℕ) → Lists in_segment (ends_segment (Known n)) (behind_in_segment bytes e) bytes e
 Lists-segment bytes n e = record {
   plain = refl;
@@ -35,7 +35,7 @@ Lists-segment bytes n e = record {
   next_is = λ h known. cond-false (is_unknown h.size) _ (Ok (end_in e h)) known;
 }
 
--- A Segment whose body is Elements has these at level 1.
+-- A Segment whose body consists of elements has these at level 1.
 pub segment-read : (bytes : List ℕ) (d : Element) (ds : List Element) (p : ℕ) → IsElement d → d.body ≡ joined ds → All IsElement ds → HoldsAt bytes p (octets_of d)
     → segment_run bytes (header_in_place p d) ≡ record { list = headers_in_place (p + length (header_of d)) ds; damage = None; end = p + length (header_of d) + length (joined ds) }
 segment-read bytes d ds p is spells are stands =
@@ -52,7 +52,7 @@ segment-read bytes d ds p is spells are stands =
 
 -- ---- blocks and no damage
 
--- what a Cluster without damage gives stands before what follows
+-- The blocks of an undamaged Cluster come before the following ones.
 events_then-found : (closed : Bool) (bs : List Block) (rest : List Event) → events_then closed (found_blocks bs) rest ≡ block_events bs ++ rest
 events_then-found closed [] rest = refl
 events_then-found closed (b ∷ bs) rest = ap (λ es. block b ∷ es) (events_then-found closed bs rest)
@@ -61,7 +61,7 @@ block_events-append : (xs ys : List Block) → block_events (xs ++ ys) ≡ block
 block_events-append [] ys = refl
 block_events-append (x ∷ xs) ys = ap (λ es. block x ∷ es) (block_events-append xs ys)
 
--- Elements other than Clusters give nothing
+-- Elements other than Clusters give nothing.
 events-others : (r : Rules) (bytes : List ℕ) (e : ℕ) (ds rest : List Element) (p : ℕ) → All IsOther ds
     → events_among r bytes e (headers_in_place p (ds ++ rest)) None ≡ events_among r bytes e (headers_in_place (p + length (joined ds)) rest) None
 events-others r bytes e [] rest p are =
@@ -75,7 +75,7 @@ events-others r bytes e (d ∷ ds) rest p are =
     ∙ events-others r bytes e ds rest q (All-tail IsOther d ds are)
     ∙ ap (λ k. events_among r bytes e (headers_in_place k rest) None) end
 
--- Clusters give their blocks
+-- Clusters give their blocks.
 events-clusters : (scale : ℕ) (bytes : List ℕ) (e : ℕ) (cs : List OutputCluster) (rest : List Element) (p : ℕ) → All (IsSoundCluster MAX_LANES) cs → All HasSize (clusters_elements cs) → HoldsAt bytes p (joined (clusters_elements cs)) → p + length (joined (clusters_elements cs)) ≤ e
     → events_among (without_limits scale) bytes e (headers_in_place p (clusters_elements cs ++ rest)) None
     ≡ block_events (clusters_blocks scale p cs) ++ events_among (without_limits scale) bytes e (headers_in_place (p + length (joined (clusters_elements cs))) rest) None
@@ -101,7 +101,7 @@ events-clusters scale bytes e (c ∷ cs) rest p sound short stand ends =
 
 -- ---- a Segment
 
--- a size can tell the octets of each Cluster
+-- The size of each Cluster fits.
 pub sizes-clusters : (s : OutputSegment) → HasSize (segment_element s) → All HasSize (clusters_elements s.clusters)
 sizes-clusters s size =
     let middle : List Element = clusters_elements s.clusters in

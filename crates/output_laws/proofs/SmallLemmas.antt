@@ -33,7 +33,7 @@ no-cause : (t : Bool) (d : Damage) → where_it t d ≡ None → t ≡ false
 no-cause true d is = absurd (cc)
 no-cause false d is = refl
 
--- ---- times
+-- ---- timestamps
 
 none-of : (a b c : Bool) → (a || b || c) ≡ false → (a ≡ false) × (b ≡ false) × (c ≡ false)
 none-of true b c is = absurd (cc)
@@ -54,13 +54,13 @@ small-references (r ∷ rs) is =
     let parts = or_parts (is_too_large r) (list_any is_too_large rs) is in
     All-cons (λ z. nat_abs z < TOO_LARGE_TIME) r rs (small-time r parts.0) (small-references rs parts.1)
 
--- a block of few parts whose times aren't too large
+-- A block with few parts is small if its timestamps aren't too large.
 IsSmall-of : (b : Block) → has_too_large_time b ≡ false → length b.references ≤ MAX_REFERENCES → CanBeLaced b.lace (sizes_of b.frames) → length b.kept ≤ MAX_BLOCK_LEN → IsSmall b
 IsSmall-of b small few frames kept =
     let parts = none-of (is_too_large b.time) (option_map_or (λ d. is_too_large (pos d)) b.duration false) (list_any is_too_large b.references) small in
     record { time = small-time b.time parts.0; duration = small-duration b.duration parts.1; references = small-references b.references parts.2; few = few; frames = frames; kept = kept }
 
--- one that is in time
+-- A block whose timestamps aren't too large.
 IsSmall-in_time : (s id : ℕ) (made b : Block) → length made.references ≤ MAX_REFERENCES → CanBeLaced made.lace (sizes_of made.frames) → length made.kept ≤ MAX_BLOCK_LEN → in_time (with_limits s) id made ≡ Ok b → IsSmall b
 IsSmall-in_time s id made b few frames kept is =
     let good = unless-ok _ made b is in
@@ -100,7 +100,7 @@ simple-small s bytes ts h b octets is =
 
 -- ---- a BlockGroup
 
--- where none is one too many there are few
+-- If no reference is beyond the limit, there are few.
 few-references : (l : List Header) (n : ℕ) → slice_get l n ≡ None → length l ≤ n
 few-references l n none = elim (cases_lt n (length l)) [ inl more ↦ absurd (found l n more none) | inr few ↦ few ]
   where
@@ -143,7 +143,7 @@ group-small s bytes ts h b octets is =
 
 -- ---- the file
 
--- each block of a file is small
+-- Each block of a file is small.
 pub all-small : (scale : ℕ) (bytes : List ℕ) (segment : Header) → AreOctets bytes → All IsSmall (blocks_of (events_of (with_limits scale) bytes segment))
 all-small scale bytes segment octets =
     each-block IsSmall (with_limits scale) bytes (λ timestamp h b within. simple-small scale bytes timestamp h b octets) (λ timestamp h b within. group-small scale bytes timestamp h b octets) segment

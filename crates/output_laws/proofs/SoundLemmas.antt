@@ -1,4 +1,4 @@
--- What is made of a block that a reader finds is sound.
+-- A placed block is valid if a reader finds it.
 use Rattle.std.proofs.Common.{◌≡◌, ℕ, ◌+◌, ◌-◌, ◌*◌, ◌/◌, ◌^◌, ◌<◌, ◌≤◌, ◌==◌, nat_abs, ℤ, pos, negsuc, List, [], ◌∷◌, length, map, All, Option, Some, None, IfSome, refl, sym, ap, ◌∙◌, subst, arith}
 use Rattle.std.specs.Prelude.{◌+ℤ◌}
 use Rattle.std.specs.Option.{option_map}
@@ -23,7 +23,7 @@ use Rattle.lemmas.proofs.PlainLemmas.{abs-add as abs-sum, abs-sub as abs-less}
 
 -- ---- frames
 
--- one frame needs no lace
+-- One frame needs no lace.
 can-alone : (prefix : List ℕ) (frames : List (List ℕ)) (kind : Lace) → CanLace kind (map length (prefixed prefix frames)) → CanLace (lace_for frames kind) (map length (prefixed prefix frames))
 can-alone prefix [] kind can = can
 can-alone prefix (frame ∷ []) kind can = record { some = can.some; most = can.most; total = can.total; fits = refl }
@@ -36,7 +36,7 @@ one-alone prefix (frame ∷ (other ∷ frames)) kind one = absurd (omega arith)
 
 -- ---- ticks
 
--- a product grows with its second factor
+-- A product grows with its second factor.
 factor-le : (x s t : ℕ) → s ≤ t → x * s ≤ x * t
 factor-le x s t less =
     let more : t ≡ s + (t - s) = omega arith in
@@ -45,7 +45,7 @@ factor-le x s t less =
     grown : (x s k : ℕ) → x * s ≤ x * (s + k)
     grown x s k = grind arith
 
--- a tick has 1,000 nanoseconds at least
+-- A tick has at least 1,000 nanoseconds.
 quotient : (x s : ℕ) → LEAST_SCALE ≤ s → (x + s / 2) / s ≤ x / 1000 + 2
 quotient x s least =
     let q : ℕ = x / 1000 in
@@ -65,7 +65,7 @@ below-quotient x s least =
 tick-small : (s t : ℕ) → LEAST_SCALE ≤ s → t < 2 ^ 65 → tick_of s t < 2 ^ 61
 tick-small s t least low = let q = quotient t s least in omega arith
 
--- the same of a time that may stand before the start
+-- The same for a time that may be before the start.
 near-small : (s : ℕ) (z : ℤ) → LEAST_SCALE ≤ s → nat_abs z < 2 ^ 65 → nat_abs (tick_near s z) < 2 ^ 61
 near-small s (pos n) least low = tick-small s n least low
 near-small s (negsuc n) least low = split (negsuc n +ℤ pos (s / 2)) refl
@@ -129,7 +129,7 @@ block-sound scale t prefix b least low short read =
       });
     }
 
--- What is made of a block that a reader with limits finds is sound.
+-- A placed block is valid if a reader with limits finds it.
 pub placed-sound : (scale : ℕ) (p : Placing) (b : Block) → LEAST_SCALE ≤ scale → IsPlacing p → IsReadBlock b → All IsSoundBlock (placed scale p b)
 placed-sound scale p b least is read = split (delayed p b) refl
   where

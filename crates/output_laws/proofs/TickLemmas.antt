@@ -1,4 +1,4 @@
--- What is read of a written block is written as it was.
+-- A written block that is read is written as it was.
 use Rattle.std.proofs.Common.{◌≡◌, ℕ, zero, suc, ◌+◌, ◌-◌, ◌*◌, ◌/◌, ◌<◌, ◌≤◌, ℤ, pos, negsuc, List, [], ◌∷◌, ◌++◌, length, map, Option, Some, None, refl, sym, ap, ap₂, ◌∙◌, arith}
 use Rattle.std.specs.Prelude.{◌+ℤ◌, ◌-ℤ◌, ◌*ℤ◌}
 use Rattle.std.specs.Option.{option_map}
@@ -25,7 +25,7 @@ half s some = omega arith
 tick-whole : (s n : ℕ) → 1 ≤ s → tick_of s (n * s) ≡ n
 tick-whole s n some = div-mul-add n s (s / 2) (half s some)
 
--- the same of ticks that may stand before the start
+-- The same for ticks that may be before the start.
 near-whole : (s : ℕ) (z : ℤ) → 1 ≤ s → tick_near s (z *ℤ pos s) ≡ z
 near-whole s (pos n) some = ap (λ k. pos k) (tick-whole s n some)
 near-whole s (negsuc n) some =
@@ -48,7 +48,7 @@ near-whole s (negsuc n) some =
     rest : (m h : ℕ) → m ≡ n * s + (s - 1) → h < s → m - h ≡ n * s + (s - 1 - h)
     rest m h is low = omega arith
 
--- ---- from a time to another
+-- ---- from one time to another
 
 suc_ℤ-is : (z : ℤ) → suc_ℤ z ≡ z +ℤ pos 1
 suc_ℤ-is (pos n) = omega (arith, ints)
@@ -64,7 +64,7 @@ from_zero z = omega (arith, ints)
 swap : (a b c : ℤ) → (a +ℤ b) +ℤ c ≡ (a +ℤ c) +ℤ b
 swap a b c = omega (arith, ints)
 
--- a sum of ticks, scaled
+-- The scaled sum of ticks.
 scaled-sum : (s t : ℕ) (r : ℤ) → (pos t *ℤ pos s) +ℤ (r *ℤ pos s) ≡ (pos t +ℤ r) *ℤ pos s
 scaled-sum s zero r = ap (λ (a : ℤ). a +ℤ (r *ℤ pos s)) (zero-*ℤ (pos s)) ∙ from_zero (r *ℤ pos s) ∙ ap (λ (a : ℤ). a *ℤ pos s) (sym (from_zero r))
 scaled-sum s (suc t) r =
@@ -125,7 +125,7 @@ block-again scale place b some sound =
       kept = b.kept;
     }
 
--- What is read of a written block is written as it was.
+-- A written block that is read is written as it was.
 pub placed-again : (scale place : ℕ) (b : OutputBlock) → 1 ≤ scale → IsSoundBlock b → placed scale as_it_stands (block_in_place scale place b) ≡ in_lane 0 b ∷ []
 placed-again scale place b some sound =
     let read : Block = block_in_place scale place b in

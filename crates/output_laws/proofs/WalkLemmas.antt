@@ -1,4 +1,4 @@
--- What holds of each SimpleBlock and of each BlockGroup holds of each block of a file.
+-- A fact about each SimpleBlock and each BlockGroup holds for each block of a file.
 use Rattle.std.proofs.Common.{◌≡◌, ℕ, zero, suc, ◌-◌, ◌≤◌, ◌==◌, nat_lt, Bool, true, false, if◌then◌else◌, List, [], ◌∷◌, length, Option, Some, None, Result, Ok, Err, refl, arith}
 use Rattle.std.specs.List.{All}
 use Rattle.std.proofs.lemmas.List.Elements.{All-nil, All-cons, All-append, All-head, All-tail, All-weaker}
@@ -13,9 +13,9 @@ use Rattle.block_format.specs.Block.{Block}
 use Rattle.block_format.specs.Elements.{Rules, simple_block, block_group}
 use Rattle.block_format.specs.Events.{Found, Event, found_in_timestamp, found_at, timestamp_behind, found_among, found_behind, cluster_run, found_in, is_closed, events_then, events_among, events_of, blocks_of}
 
--- ---- where the children of a Cluster end
+-- ---- the ends of a Cluster's children
 
--- an Element ends up to a place
+-- The element ends at a place or before.
 abbrev EndsBy : ℕ → Header → Type 0
 EndsBy e h = stated_end h ≤ e
 
@@ -43,7 +43,7 @@ elements-within : (stops : ℕ → Bool) (bytes : List ℕ) (p e : ℕ) → All 
 unfolding elements
 elements-within stops bytes p e = ends-within (e - p) stops bytes p e
 
--- they end within the file
+-- They end within the file.
 cluster-within : (bytes : List ℕ) (e : ℕ) (h : Header) → e ≤ length bytes → All (EndsBy (length bytes)) (cluster_run bytes e h).list
 cluster-within bytes e h within = split (is_unknown h.size)
   where
@@ -54,9 +54,9 @@ cluster-within bytes e h within = split (is_unknown h.size)
     split true = later e (open_cluster bytes h.body e).list within (elements-within ends_cluster bytes h.body e)
     split false = later (end_in e h) (children_in in_master bytes h.body (end_in e h)).list (omega arith) (elements-within never bytes h.body (end_in e h))
 
--- ---- what is found
+-- ---- results
 
--- a fact of what is found, where it is a block
+-- The fact holds for the result if it is a block.
 abbrev pub IsFoundAs : (Block → Type 0) → Found → Type 0
 IsFoundAs P (Ok b) = P b
 IsFoundAs P (Err d) = Unit {0}
@@ -65,7 +65,7 @@ one-found : (P : Block → Type 0) (found : Found) → ((b : Block) → found �
 one-found P (Ok b) holds = All-cons (IsFoundAs P) (Ok b) [] (holds b refl) (All-nil (IsFoundAs P))
 one-found P (Err d) holds = All-cons (IsFoundAs P) (Err d) [] tt (All-nil (IsFoundAs P))
 
--- what holds of the block of a SimpleBlock and of a BlockGroup holds of what a child of a Cluster gives
+-- A fact about SimpleBlocks and BlockGroups holds for the block of each child of a Cluster.
 pub at-found : (P : Block → Type 0) (r : Rules) (bytes : List ℕ) (timestamp : Option ℕ) (h : Header) → ((b : Block) → simple_block r bytes timestamp h ≡ Ok b → P b) → ((b : Block) → block_group r bytes timestamp h ≡ Ok b → P b)
     → All (IsFoundAs P) (found_at r bytes timestamp h)
 at-found P r bytes timestamp h simple group = split (h.id == TIMESTAMP) (h.id == SIMPLE_BLOCK) (h.id == BLOCK_GROUP)
@@ -119,7 +119,7 @@ module _ (P : Block → Type 0) (r : Rules) (bytes : List ℕ)
       split true rest = then-found P (is_closed (length bytes) h) (found_in r bytes e h) (events_among r bytes e hs wrong) (cluster-found e h within) rest
       split false rest = rest
 
-  -- What holds of each block that a child of a Cluster gives holds of each block of the file.
+  -- A fact about each block of a child of a Cluster holds for each block of the file.
   pub each-block : (segment : Header) → All P (blocks_of (events_of r bytes segment))
   unfolding events_of
   each-block segment = among-found (segment_bound bytes segment) (segment_run bytes segment).list (segment_run bytes segment).damage (bound (is_unknown segment.size))

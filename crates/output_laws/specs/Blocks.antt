@@ -1,4 +1,4 @@
--- What a reader's limits change, how large a block is that is read with them, and which damages are told.
+-- The effect of a reader's limits, the size of a block that is read with them, and the damage that is reported.
 use Rattle.std.specs.Prelude.{◌≡◌, ◌≤◌, ◌<◌, ℕ, nat_abs, Bool, if◌then◌else◌, List, [], ◌∷◌, ◌++◌, length, map, sum}
 use Rattle.std.specs.List.{All}
 use Rattle.std.specs.Option.{IfSome, option_map_or}
@@ -12,33 +12,32 @@ use Rattle.block_format.specs.Block.{Block}
 use Rattle.block_format.specs.Elements.{Rules, with_limits, without_limits}
 use Rattle.block_format.specs.Events.{Event, stopped, Found, first_wrong, events_then, events_of, blocks_of, damages_of}
 
--- Where a file is read with limits and no damage of any kind is told, limits change nothing.
+-- If no damage of any kind is reported for a file that is read with limits, limits change nothing.
 abbrev pub LimitsChangeNothing : Type 0
 LimitsChangeNothing =
     (scale : ℕ) (bytes : List ℕ) (segment : Header) → damages_of (events_of (with_limits scale) bytes segment) ≡ []
     → events_of (without_limits scale) bytes segment ≡ events_of (with_limits scale) bytes segment
 
--- Behind a damage that ends what is read of a file no event follows.
+-- No event follows damage that ends the reading of a file.
 abbrev pub StopsAtTheEnd : Type 0
 StopsAtTheEnd =
     (r : Rules) (bytes : List ℕ) (segment : Header) (before behind : List Event) (d : Damage) → events_of r bytes segment ≡ before ++ stopped d ∷ behind → behind ≡ []
 
--- Of what is found in a Cluster the first damage alone is told. Behind it reading goes on where the Cluster is
--- closed.
+-- Only the first damage in a Cluster is reported. Reading goes on after the Cluster only if its size is known and it ends within the file.
 abbrev pub TellsTheFirstWrong : Type 0
 TellsTheFirstWrong =
     (closed : Bool) (found : List Found) (rest : List Event)
     → damages_of (events_then closed found rest) ≡ option_map_or (λ d. d ∷ (if closed then damages_of rest else [])) (first_wrong found) (damages_of rest)
 
--- 1 to 256 sizes that this kind can lace, of 32 MiB at most.
+-- `sizes` are 1 to 256 sizes of at most 32 MiB that can be laced by `kind`.
 pub record CanBeLaced (kind : Lace) (sizes : List ℕ) : Type 0 where
   pub some : 1 ≤ length sizes
   pub most : length sizes ≤ 256
   pub total : sum sizes ≤ MAX_BLOCK_LEN
   pub fits : FitsKind kind sizes
 
--- Its time, its duration and its references are below 2^56 nanoseconds; it has at most 64 references, frames that
--- its kind of lace can have, and at most 32 MiB of what else is kept.
+-- The timestamp, the duration and the references of `b` are below 2^56 nanoseconds. It has at most 64 references, frames that its kind of lace
+-- can have, and at most 32 MiB of other kept children.
 pub record IsSmall (b : Block) : Type 0 where
   pub time : nat_abs b.time < TOO_LARGE_TIME
   pub duration : IfSome b.duration (λ d. d < TOO_LARGE_TIME)

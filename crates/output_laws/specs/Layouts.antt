@@ -1,4 +1,4 @@
--- What is written of a document is read back.
+-- Written documents are read back.
 use Rattle.std.specs.Prelude.{◌≡◌, ℕ, List, length}
 use Rattle.output_model.specs.Element.{joined}
 use Rattle.output_model.specs.SeekHead.{area_elements, open_area}
@@ -6,21 +6,21 @@ use Rattle.output_model.specs.Document.{Document, elements_behind_area, seeks_of
 use Rattle.output_model.specs.Sound.{IsSoundDocument}
 use Rattle.output_laws.specs.Reading.{IsReadAs}
 
--- What is written of a sound document is read as that document.
+-- The bytes of a valid document are read as that document.
 abbrev pub LayoutsAreRead : Type 0
 LayoutsAreRead = (d : Document) → IsSoundDocument d → IsReadAs d (layout d)
 
--- the octets behind the area
+-- the bytes after the area
 abbrev pub behind_area : Document → List ℕ
 behind_area d = joined (elements_behind_area d)
 
--- Two octet strings are one file but for the Segment's size and the area, and these are as long in both.
+-- The file before and after the last two writes differs only in the Segment's size and in the area, which have the same lengths in both.
 pub record DifferInTwo (d : Document) : Type 0 where
   pub layout_is : layout d ≡ file_with d.front.webm (segment_size (length (behind_area d))) (area_elements (seeks_of d)) (behind_area d)
   pub opened_is : opened d ≡ file_with d.front.webm unknown_size open_area (behind_area d)
   pub size : length (segment_size (length (behind_area d))) ≡ length unknown_size
   pub area : length (joined (area_elements (seeks_of d))) ≡ length (joined open_area)
 
--- An output before its last two writes differs from the finished one in the Segment's size and in the area alone.
+-- An output before its last two writes differs from the finished one only in the Segment's size and in the area.
 abbrev pub OpenedIsOverwritten : Type 0
 OpenedIsOverwritten = (d : Document) → IsSoundDocument d → DifferInTwo d

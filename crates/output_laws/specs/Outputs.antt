@@ -1,4 +1,4 @@
--- What is written of blocks and Clusters is read back, and what was read of them can be written again.
+-- Written blocks and Clusters are read back, and blocks that were read can be written again.
 use Rattle.std.specs.Prelude.{◌≡◌, ◌≤◌, ℕ, ◌+◌, Bool, List, [], ◌∷◌, length, map, All, Option, Some, None, Ok}
 use Rattle.ebml_numbers.specs.Number.{AreOctets}
 use Rattle.mkv_schema.specs.declared.element.Header.{Header}
@@ -20,22 +20,21 @@ use Rattle.output_model.specs.Sound.{IsSoundIn, IsSoundCluster, AreKept}
 use Rattle.output_laws.specs.Places.{HasSize, block_in_place, found_blocks, block_events, cluster_blocks, OutputSegment, segment_elements, segment_element, IsSoundSegment, segment_blocks}
 use Rattle.output_laws.specs.Points.{PointsAtBlock}
 
--- The Element of a sound block, wherever it stands in a content, is read as that block, behind its Cluster's Timestamp.
+-- The element of a valid block, at any place of a content, is read as that block, after its Cluster's Timestamp.
 abbrev pub BlocksAreRead : Type 0
 BlocksAreRead =
     (scale : ℕ) (bytes : List ℕ) (timestamp : ℕ) (b : OutputBlock) (p : ℕ) → IsSoundIn MAX_LANES timestamp b → HasSize (block_element timestamp b)
     → HoldsAt bytes p (octets_of (block_element timestamp b))
     → found_at (without_limits scale) bytes (Some timestamp) (header_in_place p (block_element timestamp b)) ≡ Ok (block_in_place scale p b) ∷ []
 
--- A sound Cluster that stands in a content gives its blocks, whatever follows it.
+-- A valid Cluster in a content gives its blocks, with any bytes after it.
 abbrev pub ClustersAreRead : Type 0
 ClustersAreRead =
     (scale : ℕ) (bytes : List ℕ) (c : OutputCluster) (p e : ℕ) → IsSoundCluster MAX_LANES c → HasSize (cluster_element c)
     → HoldsAt bytes p (octets_of (cluster_element c)) → p + length (octets_of (cluster_element c)) ≤ e
     → found_in (without_limits scale) bytes e (header_in_place p (cluster_element c)) ≡ found_blocks (cluster_blocks scale p c)
 
--- The Elements of a Segment that stands at a place are those of level 1, without damage; its blocks are those of its
--- Clusters, without damage.
+-- The elements of the Segment at `p` are the elements of level 1, without damage. Its blocks are the blocks of its Clusters, without damage.
 pub record SegmentIsRead (scale : ℕ) (bytes : List ℕ) (s : OutputSegment) (p : ℕ) : Type 0 where
   pub level_1 : (segment_run bytes (header_in_place p (segment_element s))).list ≡ headers_in_place (p + length (header_of (segment_element s))) (segment_elements s)
   pub unbroken : (segment_run bytes (header_in_place p (segment_element s))).damage ≡ None
@@ -46,19 +45,19 @@ SegmentsAreRead =
     (scale : ℕ) (bytes : List ℕ) (s : OutputSegment) (p : ℕ) → IsSoundSegment s → HoldsAt bytes p (octets_of (segment_element s))
     → SegmentIsRead scale bytes s p
 
--- The point of each block of a sound Segment points at that block, whichever blocks have one.
+-- The cue point of each block of a valid Segment points at that block, for any choice of blocks with a point.
 abbrev pub PointsAreRead : Type 0
 PointsAreRead =
     (scale : ℕ) (bytes : List ℕ) (cued : OutputBlock → Bool) (s : OutputSegment) (p : ℕ) → IsSoundSegment s → HoldsAt bytes p (octets_of (segment_element s))
     → All (PointsAtBlock scale bytes (header_in_place p (segment_element s))) (points_from cued (length (joined s.front)) s.clusters)
 
--- What is kept of a group that was read can be written, and read again.
+-- The kept children of a BlockGroup that was read can be written, and read again.
 abbrev pub KeptCanBeWritten : Type 0
 KeptCanBeWritten =
     (r : Rules) (bytes : List ℕ) (timestamp : Option ℕ) (h : Header) (b : Block) → AreOctets bytes → stated_end h ≤ length bytes
     → block_group r bytes timestamp h ≡ Ok b → AreKept b.kept
 
--- Frames that were read with a reader's limits can be laced as they were, with 4,096 octets in front of each at most.
+-- Frames that were read with a reader's limits can be laced as they were, with at most 4,096 bytes before each.
 abbrev pub FramesCanBeWritten : Type 0
 FramesCanBeWritten =
     (kind : Lace) (prefix : List ℕ) (frames : List (List ℕ)) → CanBeLaced kind (map length frames) → length prefix ≤ MAX_PREFIX_LEN

@@ -1,4 +1,4 @@
--- What a cue point points at: RFC 9559, section 5.1.5 (Cues Element), and its chapter on Cues.
+-- The target of a cue point: RFC 9559, section 5.1.5 (Cues Element), and its chapter on Cues.
 use Rattle.std.specs.Prelude.{◌≡◌, ℕ, ◌+◌, pos, List, Contains, Ok}
 use Rattle.mkv_schema.specs.declared.ids.TheConstants.{CLUSTER}
 use Rattle.mkv_schema.specs.declared.element.Header.{Header}
@@ -9,8 +9,8 @@ use Rattle.block_format.specs.Elements.{without_limits}
 use Rattle.block_format.specs.Events.{found_in}
 use Rattle.output_model.specs.declared.places.CuePoint.{CuePoint}
 
--- So many octets inside the Segment stands a Cluster, and so many octets inside the Cluster one of its blocks, of this
--- lane and this tick.
+-- A cue point points at a block: its position in the Segment is a Cluster, and its position in the Cluster is a block on its output track at its
+-- tick.
 pub record PointsAt (scale : ℕ) (bytes : List ℕ) (segment : Header) (point : CuePoint) (cluster : Header) (block : Block) : Type 0 where
   pub stands : element_at in_segment bytes (segment.body + point.cluster) (segment_bound bytes segment) ≡ Ok cluster
   pub is_cluster : cluster.id ≡ CLUSTER
@@ -19,6 +19,6 @@ pub record PointsAt (scale : ℕ) (bytes : List ℕ) (segment : Header) (point :
   pub track : block.track ≡ point.lane
   pub time : block.time ≡ nanoseconds scale (pos point.tick)
 
--- it points at a block
+-- The cue point points at a block.
 abbrev pub PointsAtBlock : ℕ → List ℕ → Header → CuePoint → Type 0
 PointsAtBlock scale bytes segment point = (cluster : Header) × (block : Block) × PointsAt scale bytes segment point cluster block

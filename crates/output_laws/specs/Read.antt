@@ -7,34 +7,34 @@ use Rattle.output_model.specs.Sound.{AreKept}
 use Rattle.merge_model.specs.declared.limits.TheConstants.{MAX_SHIFT, TOO_LARGE_DELAY}
 use Rattle.merge_model.specs.Links.{Placing}
 
--- A SimpleBlock says nothing besides its frames and its flags.
+-- A SimpleBlock has only its frames and its flags.
 pub record IsReadSimple (b : Block) : Type 0 where
   pub duration : b.duration ≡ None
   pub references : b.references ≡ []
   pub kept : b.kept ≡ []
 
--- A group is key where it refers to nothing; nothing says that it may be left out.
+-- A BlockGroup is a keyframe if and only if it has no references; it isn't discardable.
 pub record IsReadGroup (b : Block) : Type 0 where
   pub key : b.key ≡ (length b.references == 0)
   pub discardable : b.discardable ≡ false
   pub kept : AreKept b.kept
 
--- What a block says besides its frames is what its kind can say.
+-- The fields of a block besides its frames are fields of its kind.
 pub record IsOfItsKind (b : Block) : Type 0 where
   pub simple : b.group ≡ false → IsReadSimple b
   pub group : b.group ≡ true → IsReadGroup b
 
--- A block as a reader with limits finds it.
+-- `b` is a block as a reader with limits finds it.
 pub record IsReadBlock (b : Block) : Type 0 where
   pub small : IsSmall b
   pub kind : IsOfItsKind b
 
--- A delay, a shift and what stands in front of frames are within the limits.
+-- The delay, the append offset and the bytes before frames are within the limits.
 pub record IsPlacing (p : Placing) : Type 0 where
   pub delay : nat_abs p.delay < TOO_LARGE_DELAY
   pub shift : p.shift ≤ MAX_SHIFT
   pub prefix : length p.prefix ≤ MAX_PREFIX_LEN
 
--- the least number of nanoseconds a tick that an output can have
+-- the minimum number of nanoseconds per tick that an output can have
 abbrev pub LEAST_SCALE : ℕ
 LEAST_SCALE = 1000

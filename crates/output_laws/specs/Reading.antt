@@ -23,9 +23,9 @@ use Rattle.output_model.specs.Document.{Document, ebml_element, front_elements, 
 use Rattle.output_laws.specs.Places.{OutputSegment, segment_elements, segment_element, segment_blocks, block_events}
 use Rattle.output_laws.specs.Points.{PointsAtBlock}
 
--- ---- where a document's Elements stand
+-- ---- places of a document's elements
 
--- the area and what stands in front, the Clusters, and what stands behind them
+-- the Segment of a document: the area and other elements before the Clusters, the Clusters, and the elements after them
 abbrev pub segment_of_document : Document → OutputSegment
 segment_of_document d = record {
   front = area_elements (seeks_of d) ++ front_elements d.front;
@@ -36,18 +36,18 @@ segment_of_document d = record {
 abbrev pub header_of_ebml : Document → Header
 header_of_ebml d = header_in_place 0 (ebml_element d.front.webm)
 
--- the Segment stands behind the EBML header
+-- the place of the Segment, after the EBML header
 abbrev pub segment_place : Document → ℕ
 segment_place d = length (octets_of (ebml_element d.front.webm))
 
 abbrev pub header_of_segment : Document → Header
 header_of_segment d = header_in_place (segment_place d) (segment_element (segment_of_document d))
 
--- the Elements of level 1
+-- the elements of level 1
 abbrev pub level_1_of : Document → List Header
 level_1_of d = headers_in_place (header_of_segment d).body (segment_elements (segment_of_document d))
 
--- the outline of a document that has so many octets
+-- the outline of a document with `total` bytes
 abbrev pub outline_of_document : Document → ℕ → Outlined
 outline_of_document d total = record { ebml = header_of_ebml d; segment = header_of_segment d; list = level_1_of d; damage = None; end = total }
 
@@ -55,35 +55,35 @@ outline_of_document d total = record { ebml = header_of_ebml d; segment = header
 abbrev pub blocks_of_document : Document → List Block
 blocks_of_document d = segment_blocks (scale_of d.front.info) (segment_place d) (segment_of_document d)
 
--- ---- its records
+-- ---- records
 
--- An Element of a content is a record: without a reader's limits it is read as that record's tree in normal form, in
--- which each Element has its own place.
+-- The element `h` of a content is the record `n`: without a reader's limits it is read as its tree in normal form, in which each element has its
+-- own place.
 pub record IsRecordAt (bytes : List ℕ) (h : Header) (n : Node) : Type 0 where
   pub id : h.id ≡ id_of n
   pub read : tree_without_limits h.id h.offset (body_of bytes h) h.body ≡ Ok (placed_in h.offset h.body n)
 
--- The first Element of an ID is this record; where there is no record, there is no such Element.
+-- The first element with an ID is this record; without a record no element has the ID.
 abbrev pub FirstIs : List ℕ → List Header → ℕ → Option Node → Type 0
 FirstIs bytes list id None = first_of id list ≡ None
 FirstIs bytes list id (Some n) = (h : Header) × (first_of id list ≡ Some h) × IsRecordAt bytes h n
 
--- the children of a master are these records, without damage
+-- The children of the master `h` are the records `ns`, without damage.
 pub record ChildrenAre (bytes : List ℕ) (h : Header) (ns : List Node) : Type 0 where
   pub unbroken : (children_in in_master bytes h.body (stated_end h)).damage ≡ None
   pub are : AllZip (IsRecordAt bytes) (children_in in_master bytes h.body (stated_end h)).list ns
 
--- The children of the first Attachments are these AttachedFiles; where there are none, there is no Attachments.
+-- The children of the first Attachments are these AttachedFiles; without AttachedFiles there is no Attachments.
 abbrev pub AttachmentsAre : List ℕ → List Header → List Node → Type 0
 AttachmentsAre bytes list [] = first_of ATTACHMENTS list ≡ None
 AttachmentsAre bytes list (n ∷ ns) = (h : Header) × (first_of ATTACHMENTS list ≡ Some h) × ChildrenAre bytes h (n ∷ ns)
 
--- The first Cues has these points as its body; where there are none, there is no Cues.
+-- The first Cues has these points as its body; without points there is no Cues.
 abbrev pub CuesAre : List ℕ → List Header → List CuePoint → Type 0
 CuesAre bytes list [] = first_of CUES list ≡ None
 CuesAre bytes list (p ∷ ps) = (h : Header) × (first_of CUES list ≡ Some h) × (body_of bytes h ≡ joined (map point_element (p ∷ ps)))
 
--- Of the Elements of level 1 these are the document's records, and its cue points.
+-- The elements of level 1 have the document's records and its cue points.
 pub record RecordsAre (bytes : List ℕ) (list : List Header) (d : Document) : Type 0 where
   pub info : FirstIs bytes list INFO (Some d.front.info)
   pub tracks : FirstIs bytes list TRACKS (Some d.front.tracks)
@@ -92,18 +92,18 @@ pub record RecordsAre (bytes : List ℕ) (list : List Header) (d : Document) : T
   pub chapters : FirstIs bytes list CHAPTERS d.chapters
   pub tags : FirstIs bytes list TAGS d.tags
 
--- ---- its Seeks
+-- ---- Seeks
 
--- So many octets inside the Segment stands an Element of this ID.
+-- The position of the Seek in the Segment is an element with its ID.
 abbrev pub SeeksElement : List ℕ → Header → Seek → Type 0
 SeeksElement bytes segment s =
     (h : Header) × (element_at in_segment bytes (segment.body + s.position) (segment_bound bytes segment) ≡ Ok h) × (h.id ≡ s.id)
 
 -- ---- the whole
 
--- A content is read as a document, without a reader's limits: it has the document's outline, which no damage ends; its
--- scale, its records and its cue points are the document's; its blocks are those of the Clusters, without damage; each Seek names
--- where its Element stands; and each cue point points at its block.
+-- The content `bytes` is read as the document `d`, without a reader's limits. It has the document's outline, which no damage ends. Its scale,
+-- records and cue points are the document's, and its blocks are the blocks of the Clusters, without damage. Each Seek has the position of its
+-- element, and each cue point points at its block.
 pub record IsReadAs (d : Document) (bytes : List ℕ) : Type 0 where
   pub outline : outline_without_limits bytes ≡ Ok (outline_of_document d (length bytes))
   pub scale : scale_without_limits bytes (header_of_segment d) ≡ scale_of d.front.info

@@ -1,5 +1,5 @@
-//! What is written of a whole output is read back by the format's definitions (RFC 8794, section 8, EBML Document, and
-//! RFC 9559, section 5.1, Segment Element). Laws alone: no code that reads or writes stands on this crate.
+//! Laws on whole outputs: they are read back by the format's definitions (RFC 8794, section 8, EBML Document, and RFC
+//! 9559, section 5.1, Segment Element). No code that reads or writes depends on this crate.
 
 ghost use Rattle.output_laws.specs.Layouts.{LayoutsAreRead, OpenedIsOverwritten};
 
@@ -8,7 +8,7 @@ pub fn layouts_are_read()
     ensures { LayoutsAreRead }
 {}
 
-/// An output before its last two writes differs from the finished one in the Segment's size and in the area alone.
+/// An output before its last two writes differs from the finished one only in the Segment's size and in the area.
 pub fn opened_is_overwritten()
     ensures { OpenedIsOverwritten }
 {}

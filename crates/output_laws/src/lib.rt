@@ -1,8 +1,8 @@
 #![tactic(auto)]
 
-//! What is written is read back by the format's definitions, and what was read can be written again: blocks and Clusters,
-//! whole outputs and merges (RFC 9559, sections 5.1, Segment Element, and 10, Cluster Blocks). Laws alone: no code that
-//! reads or writes stands on this crate.
+//! Laws: outputs are read back by the format's definitions, and blocks that were read can be written again. They
+//! treat blocks and Clusters, whole outputs, and merges (RFC 9559, sections 5.1, Segment Element, and 10, Cluster
+//! Blocks). No code that reads or writes depends on this crate.
 
 mod blocks;
 mod layouts;

@@ -1,20 +1,20 @@
-//! What is written of blocks and Clusters is read back by the format's definitions (RFC 9559, sections 5.1.3, Cluster
-//! Element, 5.1.5, Cues Element, and 10, Cluster Blocks), and what was read of them can be written again. Laws alone:
-//! no code that reads or writes stands on this crate.
+//! Laws on written blocks and Clusters: they are read back by the format's definitions (RFC 9559, sections 5.1.3,
+//! Cluster Element, 5.1.5, Cues Element, and 10, Cluster Blocks). Blocks that were read can be written again. No code
+//! that reads or writes depends on this crate.
 
 ghost use Rattle.output_laws.specs.Outputs.{BlocksAreRead, ClustersAreRead, FramesCanBeWritten, KeptCanBeWritten, PointsAreRead, SegmentsAreRead};
 
-/// A written block is read as that block, wherever it stands.
+/// A written block is read as that block, at any place.
 pub fn blocks_are_read()
     ensures { BlocksAreRead }
 {}
 
-/// A written Cluster gives its blocks, whatever follows it.
+/// A written Cluster gives its blocks, with any bytes after it.
 pub fn clusters_are_read()
     ensures { ClustersAreRead }
 {}
 
-/// A written Segment has its Elements at level 1, and gives the blocks of its Clusters, without damage.
+/// A written Segment has its elements at level 1, and gives the blocks of its Clusters, without damage.
 pub fn segments_are_read()
     ensures { SegmentsAreRead }
 {}
@@ -24,12 +24,12 @@ pub fn points_are_read()
     ensures { PointsAreRead }
 {}
 
-/// What is kept of a group that was read can be written again.
+/// The kept children of a BlockGroup that was read can be written again.
 pub fn kept_can_be_written()
     ensures { KeptCanBeWritten }
 {}
 
-/// The frames of a block that was read can be written again, with octets in front of each.
+/// The frames of a block that was read can be written again, with bytes before each.
 pub fn frames_can_be_written()
     ensures { FramesCanBeWritten }
 {}
