@@ -32,7 +32,7 @@ use Rattle.remerge_laws.proofs.StandLemmas.{children-decide}
 abbrev IsEdition : Node → Type 0
 IsEdition n = id_of n ≡ EDITION_ENTRY
 
--- what is numbered is a master where it stands
+-- A numbered edition is a master after writing.
 edition-master : (uid : ℕ) (uids : List ℕ) (k : ℕ) (e : Node) → IsEdition e → StandsIn CHAPTERS (numbered_edition uid uids k e) → IsMaster e
 edition-master uid uids k (leaf id at body) own stands =
     let never : true ≡ false = sym edition-in ∙ ap (is_master_in CHAPTERS) (sym own) ∙ stands.no_master in absurd (cc)
@@ -84,7 +84,7 @@ module _ (stay : ChaptersStay) (reads : List InputRead) (again : InputRead) (has
   empty-is [] long = refl
   empty-is (e ∷ es) long = absurd (omega (arith, long))
 
-  -- what has as many identifiers as it had has an edition where it had one
+  -- Chapters with equally many identifiers still have an edition if they had one.
   still-some : (anew : Node) → edition_uids anew ≡ edition_numbers joined → (editions_of joined ≡ [] → ⊥) → editions_of anew ≡ [] → ⊥
   still-some anew uids some none =
       let nought : length (edition_uids anew) ≡ 0 = ap (λ (es : List Node). length (map (value_in EDITION_UID) es)) none in
@@ -106,7 +106,7 @@ module _ (stay : ChaptersStay) (reads : List InputRead) (again : InputRead) (has
       of ks same [] there = absurd (there refl)
       of ks same (e ∷ es) there = record { id = refl; some = refl; same = sym same }
 
-  -- the Chapters, by the editions that were numbered
+  -- the Chapters, by their numbered editions
   abbrev made_of : List Node → Option Node
   made_of es = unless_empty (settled joined) (numbered_editions (edition_numbers joined) (chapter_numbers joined) 0 0 es)
 

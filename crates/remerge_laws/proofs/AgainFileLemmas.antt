@@ -46,7 +46,7 @@ filled-master n is = subst IsMaster (sym is.is) (data-master is.octets is.entry 
 filled-id : (n : Node) → IsFilled n → id_of n ≡ ATTACHED_FILE
 filled-id n is = ap id_of is.is ∙ data-id is.octets is.entry ∙ is.attachment.is.id
 
--- its FileUID is its only one
+-- Its FileUID is its only one.
 one-uid : (uid : ℕ) (bytes : List ℕ) (entry : Node) → IsMaster (with_data bytes (set_in (uint_leaf FILE_UID uid) entry))
     → part FILE_UID (children (with_data bytes (set_in (uint_leaf FILE_UID uid) entry))) ≡ uint_leaf FILE_UID uid ∷ []
 one-uid uid bytes (leaf id at body) is = let never : true ≡ false = is in absurd (cc)
@@ -60,7 +60,7 @@ is-numbered : (uid : ℕ) (f : AttachedFile × List ℕ) → uid < 2 ^ 64 → Is
 is-numbered uid f small is =
     let whole = filled-master (attached uid f) is in record { master = whole; uid = uid; small = small; one = one-uid uid f.1 f.0.entry whole }
 
--- ---- all of them
+-- ---- all attached files
 
 abbrev Small : ℕ → Type 0
 Small n = n < 2 ^ 64
@@ -110,7 +110,7 @@ module _ (sources : List Source) (have : HaveFiles sources) where
 
 -- ---- merged again
 
--- what is written of one source
+-- The written files of one source.
 written-alone : (bytes : List ℕ) (uids : List ℕ) (files : List AttachedFile)
     → attached_from uids (map (λ (a : AttachedFile). (a, octets_from bytes a.at a.len)) files) ≡ written_files bytes uids files
 written-alone bytes [] files = refl
@@ -124,7 +124,7 @@ alone s =
     (append-nil s.1.attachments) (append-nil (files_in s))
     ∙ written-alone s.0 (renumbered (map (λ (a : AttachedFile). a.uid) s.1.attachments)) s.1.attachments
 
--- AttachedFiles of which all octets are one
+-- AttachedFiles whose bytes are all equal.
 all-alike : (bytes : List ℕ) (uids : List ℕ) (files : List AttachedFile) (ns : List Node) → All IsFilled ns → AllZip (IsFileOf bytes) ns files
     → map octets (written_files bytes uids files) ≡ map octets ns → AllZip AreAlike ns (written_files bytes uids files)
 all-alike bytes [] files [] filled are same = tt

@@ -14,7 +14,7 @@ use Rattle.remerge_laws.specs.AgainInfo.{InfoIsWrittenAgain}
 use Rattle.remerge_laws.specs.Placed.{MayStandAs}
 use Rattle.remerge_laws.proofs.PlacedLemmas.{body-placed, first-placed, map_or-is}
 
--- the title of an Info that is written, read by a reader
+-- the title of a written Info, as a reader reads it
 abbrev text_there : Node → List ℕ
 text_there n = text_of (body_of n)
 

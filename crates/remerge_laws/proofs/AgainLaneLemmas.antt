@@ -1,4 +1,4 @@
--- The lanes of an output are merged again as they were.
+-- The output tracks of an output are merged again as they were.
 use Rattle.std.proofs.Common.{◌≡◌, ℕ, ◌+◌, ◌==◌, Bool, true, false, ◌||◌, if◌then◌else◌, ℤ, pos, List, [], ◌∷◌, ◌++◌, length, map, filter, flat_map, find, zip, All, Option, None, Some, refl, sym, ap, ap₂, subst, ◌∙◌, append-nil, suc, arith}
 use Rattle.std.specs.Prelude.{is_some}
 use Rattle.std.specs.Option.{option_map_or, unwrap_or}
@@ -31,12 +31,12 @@ use Rattle.remerge_laws.specs.AgainLanes.{IsReadOfOutput, IsTakenPlain, LanesAre
 
 -- ---- one source
 
--- each of its tracks is a lane
+-- Each of its tracks is one output track.
 columns-alone : (place : ℕ) (row : List Given) → columns_from place row [] ≡ map (λ (g : Given). g ∷ []) row
 columns-alone place [] = refl
 columns-alone place (g ∷ row) = ap (λ (more : List (List Given)). (g ∷ []) ∷ more) (columns-alone (place + 1) row)
 
--- what the tracks give, where nothing is later and no file lists times
+-- the blocks of the tracks, without an append offset or timestamp files
 abbrev plain_given : Header → ℕ → List ℕ → List TakenTrack → List Given
 plain_given segment scale bytes taken = map (given_from [] 0 (Clusters segment scale) bytes) taken
 
@@ -48,9 +48,9 @@ given-alone bytes segment scale again blocks alone times =
     ∙ columns-alone 0 (map (given_from again.times 0 again.blocks bytes) again.taken)
     ∙ ap₂ (λ (ts : List (ℕ × Listing)) (bs : BlocksRead). map (λ (g : Given). g ∷ []) (map (given_from ts 0 bs bytes) again.taken)) times blocks
 
--- ---- its lanes
+-- ---- its output tracks
 
--- a block without a delay, a shift and a prefix, whatever its frames last
+-- the placing without a delay, append offset or prefix, with any default duration
 abbrev plainly : Option ℕ → Placing
 plainly lasts = record { delay = pos 0; shift = 0; default_duration = lasts; prefix = [] }
 
@@ -69,7 +69,7 @@ module _ (out : ℕ) (segment : Header) (scale : ℕ) (bytes : List ℕ) where
   abbrev events : List Event
   events = events_of (with_limits scale) bytes segment
 
-  -- the blocks of a track of a number, at its own times
+  -- the blocks of the track with a number, with its own timestamps
   abbrev lane_with : ℤ → List ℕ → Option ℕ → ℕ → List OutputBlock
   lane_with delay prefix lasts number =
       flat_map (placed out (record { delay = delay; shift = 0; default_duration = lasts; prefix = prefix })) (filter (λ (b : Block). b.track == number) (blocks_of events))
@@ -90,7 +90,7 @@ module _ (out : ℕ) (segment : Header) (scale : ℕ) (bytes : List ℕ) where
       ap₂ (λ (lane : List OutputBlock) lanes. lane ∷ lanes) (lane-plain n t count.0 (All-head IsTakenPlain t taken plain))
       (lanes-plain (n + 1) taken count.1 (All-tail IsTakenPlain t taken plain) ∙ ap (λ (k : ℕ). lanes_read out k (length taken) events) next)
 
--- ---- damages
+-- ---- damage
 
 abbrev IsEmpty : List Damage → Type 0
 IsEmpty ds = ds ≡ []

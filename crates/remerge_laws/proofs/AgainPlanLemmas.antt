@@ -1,4 +1,4 @@
--- Nothing refuses what is planned of an output that is merged alone.
+-- The plan of an output that is merged by itself isn't refused.
 use Rattle.std.proofs.Common.{◌≡◌, ◌<◌, ◌≤◌, ℕ, ◌+◌, ◌^◌, ◌==◌, nat_lt, Bool, true, false, not, ◌||◌, if◌then◌else◌, List, [], ◌∷◌, ◌++◌, length, map, flat_map, All, Option, None, Some, IfSome, refl, sym, ap, ap₂, subst, ◌∙◌, append-nil, arith}
 use Rattle.std.specs.Prelude.{is_some}
 use Rattle.std.specs.List.{AllZip}
@@ -81,9 +81,9 @@ use Rattle.remerge_laws.proofs.WholeLemmas.{first-none, second-none}
 abbrev Small : ℕ → Type 0
 Small n = n < 2 ^ 64
 
--- ---- what stands where it was written is a record again, but for how long it is
+-- ---- a written record is a record again, except for its length
 
--- A master of an ID in which each Element may stand, and which isn't too deep.
+-- `n` is a master with the ID `own` and valid elements, and isn't too deep.
 pub record IsTree (own : ℕ) (n : Node) : Type 0 where
   read : IsRead own n
   low : depth n ≤ deepest
@@ -118,7 +118,7 @@ tree-read own None (Some m) is stands = absurd stands
 tree-read own (Some n) None is stands = absurd stands
 tree-read own (Some n) (Some m) is stands = subst (IsTree own) (sym stands.1) (tree-placed own stands.0 n is)
 
--- made anew of its children it is one too
+-- A new tree with its children is one, too.
 tree-anew : (own : ℕ) (n : Node) → IsTree own n → IsTree own (master own 0 (nodes_of (children n ++ [])))
 tree-anew own (leaf id at body) is = let never = is.read.master in absurd (cc)
 tree-anew own (master id at kids) is =
@@ -128,7 +128,7 @@ tree-anew own (master id at kids) is =
 tree-empty : (own : ℕ) → IsTree own (master own 0 none)
 tree-empty own = record { read = record { id = refl; master = refl; sound = tt }; low = omega arith }
 
--- ---- of two records that are written alike both are too large, or none is
+-- ---- if two records are written alike, both are too large or none is
 
 large-alike : (own : ℕ) (m n : Node) → IsRecord own m → IsTree own n → AreAlike m n → is_too_large n ≡ is_too_large m
 large-alike own m n is tree alike =
@@ -145,7 +145,7 @@ may-large own None (Some n) is tree alike = absurd alike
 may-large own (Some m) None is tree alike = absurd alike
 may-large own (Some m) (Some n) is tree alike = ap (λ (large : Bool). if large then Some own else None) (large-alike own m n is tree alike)
 
--- ---- entries that are written of tracks that were read
+-- ---- entries that are written for tracks that were read
 
 stand-each : (parent : ℕ) (ns : Nodes) → AllStandIn parent ns → All (StandsIn parent) (list_of ns)
 stand-each parent none stand = All-nil (StandsIn parent)
@@ -156,7 +156,7 @@ entry-master (leaf id at body) own stands =
     let never : true ≡ false = sym entry-in ∙ ap (is_master_in TRACKS) (sym own) ∙ stands.no_master in absurd (cc)
 entry-master (master id at kids) own stands = refl
 
--- the entries of a Tracks Element are whole
+-- The entries of a Tracks element are valid.
 entries-whole : (tracks : Node) → IsTree TRACKS tracks → All IsWholeEntry (entries_of tracks)
 entries-whole (leaf id at body) is = let never = is.read.master in absurd (cc)
 entries-whole (master id at kids) is = λ k d inside. of _ (each k d inside) (stand k d inside) (room k d inside)
@@ -176,7 +176,7 @@ entries-whole (master id at kids) is = λ k d inside. of _ (each k d inside) (st
     of : (e : Node) → IsEntry e → StandsIn TRACKS e → HasRoom e → IsWholeEntry e
     of e entry stands fits = record { id = entry.id; master = entry-master e entry.id stands; sound = entry.sound; room = fits }
 
--- with a number and an identifier they stay whole
+-- They stay valid with a number and an identifier.
 all-whole : (number : ℕ) (uids : List ℕ) (es : List Node) → 0 < number → number + length uids ≤ 2 ^ 64 → All Small uids → All IsWholeEntry es
     → All IsWholeEntry (written_entries (plain_changes number uids) es)
 all-whole number [] es some few small whole = All-nil IsWholeEntry
@@ -190,7 +190,7 @@ all-whole number (uid ∷ uids) (e ∷ es) some few small whole =
 tree-entries : (es : List Node) → All IsWholeEntry es → IsTree TRACKS (output_tracks es)
 tree-entries es whole = let low = all-low es whole in record { read = record { id = refl; master = refl; sound = all-stand es whole }; low = omega arith }
 
--- the Tracks of an output, as they are merged again
+-- The Tracks of an output, as they are merged again.
 pub tracks-tree : (name : List ℕ) (tracks : Node) (read : List Track) → IsRecord TRACKS tracks → ArePlainTracks tracks → AreTracksOf tracks read
     → length (taken_from (plain_file name) 0 read) ≤ MAX_LANES → All Small (uids_of (taken_from (plain_file name) 0 read))
     → IsTree TRACKS (output_tracks (entries_given (taken_from (plain_file name) 0 read)))
@@ -204,7 +204,7 @@ tracks-tree name tracks read is plain_tracks are few small =
     (tree-entries (written_entries (plain_changes 1 (uids_of taken)) (map (λ (t : Track). t.entry) read))
     (all-whole 1 (uids_of taken) (map (λ (t : Track). t.entry) read) (omega arith) (omega (arith, long, few)) small whole))
 
--- ---- as many lanes
+-- ---- number of output tracks
 
 lanes-again : (webm : Bool) (taken again : List TakenTrack) → length again ≡ length taken → lanes_refusal webm taken ≡ None → lanes_refusal false again ≡ None
 lanes-again webm taken again many good =
@@ -214,7 +214,7 @@ lanes-again webm taken again many good =
     ap₂ (λ (a b : Option PlanRefusal). option_or a (option_or b None))
     (ap (λ (n : ℕ). where_so (n == 0) NoLane) many ∙ some) (ap (λ (n : ℕ). where_so (nat_lt MAX_LANES n) TooManyLanes) many ∙ few)
 
--- What is known of the records of a merge, and of those that an input gives alone.
+-- The input `again` has records like the records of a merge of `reads`.
 pub record AreAgain (reads : List InputRead) (again : InputRead) : Type 0 where
   pub tracks : IsRecord TRACKS (tracks_of_output reads)
   pub chapters : IfSome (chapters_of reads) (IsRecord CHAPTERS)
@@ -232,7 +232,7 @@ module _ (reads : List InputRead) (again : InputRead) (short : Have64Bits (ident
   abbrev alone : InputRecords
   alone = one reads again has
 
-  -- its tracks are as many, and keep their identifiers
+  -- It has equally many tracks, and they keep their identifiers.
   again-many : length again.taken ≡ length (tracks_taken reads)
   again-many = sym (length-map again.taken (λ (t : TakenTrack). t.track.uid)) ∙ ap length has.tracks ∙ length-uids (tracks_taken reads)
 
@@ -277,7 +277,7 @@ module _ (reads : List InputRead) (again : InputRead) (short : Have64Bits (ident
       subst (λ (o : Option Node). IfSome o (IsTree TAGS)) (sym (tags-made reads again has))
       (some-holds (IsTree TAGS) (master TAGS 0 (nodes_of (written_again reads again has again.tags))) (written-tree again.tags is))
 
-  -- ---- what is planned of it
+  -- ---- its plan
 
   taken-alone : tracks_taken (again ∷ []) ≡ again.taken
   taken-alone = ap (λ (o : Option ℕ). (if is_some o then [] else again.taken) ++ []) has.alone ∙ append-nil again.taken
@@ -305,11 +305,11 @@ module _ (reads : List InputRead) (again : InputRead) (short : Have64Bits (ident
 abbrev passes : Node → Bool
 passes n = is_one (body_of n)
 
--- the first TrackTimestampScale of an entry, if it has one, is 1
+-- The first TrackTimestampScale of an entry, if any, is 1.
 abbrev HasOneScale : Node → Type 0
 HasOneScale e = IfSome (option_map passes (first_child TRACK_TIMESTAMP_SCALE e)) (λ (b : Bool). b ≡ true)
 
--- nothing keeps the frames of a track with this entry from being used
+-- The frames of a track with this entry can be used.
 abbrev CanBeUsed : Node → Type 0
 CanBeUsed e = first_damage (usable_causes e) ≡ None
 
@@ -338,7 +338,7 @@ scale-good e is = of (first_child TRACK_TIMESTAMP_SCALE e) is
     of None is = refl
     of (Some n) is = ap (λ (b : Bool). where_it (not b) (damage TrackScale TRACK_TIMESTAMP_SCALE (offset_of n))) is
 
--- what is written of an entry has its scale
+-- A written entry has the scale of the entry.
 scale-written : (c : TrackChange) (e : Node) → IsMaster e → HasOneScale e → HasOneScale (written_entry c e)
 scale-written c (leaf id at body) is scale = let never : true ≡ false = is in absurd (cc)
 scale-written c (master id at kids) is scale =
@@ -354,7 +354,7 @@ scales-from number (uid ∷ uids) (t ∷ taken) are =
     (scale-written (change_of number uid t) t.track.entry (taken-master t first) (scale-found t.track.entry first.usable))
     (scales-from (number + 1) uids taken (All-tail IsTaken t taken are))
 
--- an entry without ContentEncodings can be used where it was written
+-- An entry without ContentEncodings can be used after writing.
 entry-used : (e : Node) (p : ℕ) → IsBare e → HasOneScale e → CanBeUsed (placed p e)
 entry-used e p bare scale =
     let no_encoding : bad_encoding (placed p e) ≡ None =
@@ -379,7 +379,7 @@ none-unusable (t ∷ taken) used =
     (All-head (λ (k : TakenTrack). CanBeUsed k.track.entry) t taken used)
     ∙ none-unusable taken (All-tail (λ (k : TakenTrack). CanBeUsed k.track.entry) t taken used)
 
--- The tracks that are read of entries that a merge wrote can be used, where these have no ContentEncodings.
+-- The tracks that are read from entries of a merge can be used if these have no ContentEncodings.
 pub usable-again : (name : List ℕ) (taken : List TakenTrack) (read : List Track) → All IsTaken taken → All IsBare (entries_given taken)
     → AllZip IsTrackOf (entries_given taken) read → first_unusable (taken_from (plain_file name) 0 read) ≡ None
 usable-again name taken read are bare say =

@@ -1,4 +1,4 @@
--- An output that is merged alone is read as the one source of that merge.
+-- An output that is merged by itself is read as the one source of that merge.
 use Rattle.std.proofs.Common.{◌≡◌, ℕ, Bool, true, false, not, ◌&&◌, ◌||◌, if◌then◌else◌, cond, List, [], ◌∷◌, length, zip, Option, Some, None, Result, Ok, refl, ap, ◌∙◌}
 use Rattle.std.specs.Prelude.{is_none, unwrap_or}
 use Rattle.std.specs.Option.{option_map}
@@ -37,7 +37,7 @@ use Rattle.remerge_laws.specs.AgainSources.{CanBegin, MergeIsDone, OutputsAreSou
 use Rattle.remerge_laws.specs.Plain.{plain_merge}
 use Rattle.remerge_laws.specs.Repeat.{source_again}
 
--- ---- an output is no SubRip text
+-- ---- an output isn't a SubRip text
 
 begins : (d : Document) → begins_ebml (layout d) ≡ true
 unfolding uint_width
@@ -50,7 +50,7 @@ not-text name d = by_name (is_srt_name name)
     by_name true = ap not (begins d)
     by_name false = refl
 
--- ---- what is read of it
+-- ---- result of reading it
 
 module _ (world : List ℕ → Option (List ℕ)) (out name : List ℕ) (d : Document) (r : FileRecords) where
   abbrev words : MergeWords
@@ -62,7 +62,7 @@ module _ (world : List ℕ → Option (List ℕ)) (out name : List ℕ) (d : Doc
   abbrev source : Source
   source = source_again name d r
 
-  -- what is made of an outline and records: the input, unless a track can't be used
+  -- the input for an outline and records, unless a track can't be used
   abbrev input_by : Outlined → FileRecords → Result InputRead InputRefusal
   input_by o found = unless_unusable (refusal_of (taken_from (plain_file name) 0 found.tracks)) (input_with (plain_file name) false o found)
 
@@ -76,7 +76,7 @@ module _ (world : List ℕ → Option (List ℕ)) (out name : List ℕ) (d : Doc
 
   -- ---- the one source
 
-  -- what refuses a merge of the one input, of which this is read; and the sources
+  -- the sources for the one input that was read; below, the refusal of the merge
   abbrev sources_by : List InputRead → List Source
   sources_by reads = in_place (zip (layout d ∷ []) (timed_from texts.times 0 (chaptered with_chapters false texts.chapters reads)))
 
@@ -86,12 +86,12 @@ module _ (world : List ℕ → Option (List ℕ)) (out name : List ℕ) (d : Doc
       ∷ option_map Differs (append_refusal (timed_from texts.times 0 (chaptered with_chapters false texts.chapters (found_in found))))
       ∷ option_map Plan (plan_refusal words (reads_of (sources_by (found_in found)))) ∷ []
 
-  -- the same, of what the name holds, and of what is read of it
+  -- the same, by the content of the name and the result of reading it
   abbrev found_by : Option (List ℕ) → Option (List ℕ) → Option Refusal → Result (List InputRead) Refusal → Result (List Source) Refusal
   found_by written held pending found =
       unless (first_cause (option_map OutputIsInput written ∷ option_map Missing (cond (is_none held) (Some 0) None) ∷ missing_text texts ∷ pending ∷ refusals_by found)) (sources_by (found_in found))
 
-  -- what is read of the one input
+  -- the result of reading the one input
   abbrev read_by : Result InputRead InputRefusal → Result (List InputRead) Refusal
   read_by found = and_then (numbered 0 found) (λ (read : InputRead). Ok (read ∷ []))
 
@@ -109,7 +109,7 @@ module _ (world : List ℕ → Option (List ℕ)) (out name : List ℕ) (d : Doc
 pub outputs-sources : OutputsAreSources
 outputs-sources world out name d r begun outlined records usable planned = one-source world out name d r begun (read-again world out name d r outlined records usable) planned
 
--- ---- how it ends
+-- ---- end of the merge
 
 pub merge-done : MergeIsDone
 merge-done world out name s are whole =

@@ -41,7 +41,7 @@ use Rattle.remerge_laws.proofs.JoinedLemmas.{joined-stay}
 use Rattle.remerge_laws.proofs.NamedLemmas.{joined-named}
 use Rattle.remerge_laws.proofs.StandLemmas.{children-decide}
 
--- ---- a list beside itself
+-- ---- a list paired with itself
 
 itself-there : (xs : List ℕ) (v : ℕ) → Contains xs v → lookup (nat_eq v) (zip xs xs) ≡ Some v
 itself-there [] v among = absurd (omega (arith, among.1))
@@ -74,7 +74,7 @@ module _ (reads : List InputRead) (again : InputRead) (has : HasIdentifiersOf re
     keep = keep_all;
   }
 
-  -- settled identifiers stay
+  -- Settled identifiers stay.
   stays : (ids : List ℕ) → renumbered (renumbered ids) ≡ renumbered ids
   stays ids = numbers-settle.stays (renumbered ids) (numbers-settle.settled ids)
 
@@ -90,7 +90,7 @@ module _ (reads : List InputRead) (again : InputRead) (has : HasIdentifiersOf re
   read-files [] = refl
   read-files (a ∷ files) = ap (λ (uids : List ℕ). a.uid ∷ uids) (read-files files)
 
-  -- it gives its tracks, editions, chapters and files their own
+  -- Its tracks, editions, chapters and files get their own identifiers.
   pub own-editions : edition_numbers (one ∷ []) ≡ own.editions
   own-editions = ap renumbered (read-editions again.chapters ∙ has.editions) ∙ stays (edition_uids (joined_chapters (records_of reads)))
 
@@ -109,7 +109,7 @@ module _ (reads : List InputRead) (again : InputRead) (has : HasIdentifiersOf re
       ∙ ap₂ (λ (n : ℕ) (l : List ℕ). take n l) long (stays (map (λ (t : TakenTrack). t.track.uid) (tracks_taken reads)))
       ∙ take_all (length own.tracks) own.tracks (omega arith)
 
-  -- what is read of it, by its shift
+  -- the records of the input, by its append offset
   abbrev given_at : Option ℕ → TagKeep → List InputRecords
   given_at shift keep =
       let numbers : List ℕ = if is_some shift then [] else take (length again.taken) (uids_of ((if is_some shift then [] else again.taken) ++ [])) in
@@ -132,7 +132,7 @@ module _ (reads : List InputRead) (again : InputRead) (has : HasIdentifiersOf re
   abbrev pub again_numbers : ℕ → ℕ → Option ℕ
   again_numbers = numbers_for one (all_uids own.editions own.chapters own.files)
 
-  -- so the targets keep theirs
+  -- The targets keep their identifiers.
   target-keeps : (target : Node) → NamesOneOf own target → KeepsTarget again_numbers target
   target-keeps target = split (id_of target == TAG_TRACK_UID) (id_of target == TAG_EDITION_UID) (id_of target == TAG_CHAPTER_UID) (id_of target == TAG_ATTACHMENT_UID)
     where
@@ -155,7 +155,7 @@ module _ (reads : List InputRead) (again : InputRead) (has : HasIdentifiersOf re
 
   -- ---- the Tags
 
-  -- what is written of Tags that it may have
+  -- the written Tags, if the input has any
   abbrev pub written_again : Option Node → List Node
   written_again tags = children_in (option_map (written_tags keep_all again_numbers) tags) ++ []
 
@@ -177,7 +177,7 @@ module _ (reads : List InputRead) (again : InputRead) (has : HasIdentifiersOf re
         joined-stay stay again_numbers first place first-written
         (All-weaker (NamesOneOf own) (KeepsTarget again_numbers) target-keeps (targets_of (placed place (tags_joined reads))) (joined-named.named reads place short))
 
-    -- a Tag takes some octets
+    -- A Tag has at least one byte.
     some-octets : (k : Node) → IsWrittenTag k → 0 < length (octets k)
     some-octets k is =
         let own_id : id_of k ≡ TAG = ap id_of is.written ∙ written-id is.numbers is.tag ∙ is.is in
@@ -191,7 +191,7 @@ module _ (reads : List InputRead) (again : InputRead) (has : HasIdentifiersOf re
         written-id numbers (leaf id at body) = refl
         written-id numbers (master id at kids) = refl
 
-    -- Tags that are written alike are Tags in both
+    -- If Tags are written alike, both have only Tags.
     both : (tags list : List Node) → All IsWrittenTag tags → octets (master TAGS 0 (nodes_of list)) ≡ octets (master TAGS 0 (nodes_of tags)) → list ≡ [] → tags ≡ []
     both [] list are same empty = refl
     both (k ∷ ks) list are same empty =

@@ -1,4 +1,4 @@
--- The tracks of an output are taken and merged again as they were.
+-- The tracks of an output are selected and merged again as they were.
 use Rattle.std.proofs.Common.{◌≡◌, ◌<◌, ℕ, ◌+◌, ◌^◌, ◌==◌, Bool, true, false, ◌||◌, if◌then◌else◌, List, [], ◌∷◌, ◌++◌, length, map, All, Option, None, refl, sym, ap, ap₂, subst, ◌∙◌, suc}
 use Rattle.std.specs.List.{AllZip}
 use Rattle.std.specs.Option.{option_and_then, option_map, option_map_or}
@@ -38,9 +38,9 @@ use Rattle.remerge_laws.proofs.OwnTrackLemmas.{own-tracks}
 use Rattle.remerge_laws.proofs.PlacedLemmas.{first-placed}
 use Rattle.lemmas.proofs.PlainLemmas.{map-none as none-there}
 
--- ---- all tracks are taken
+-- ---- all tracks are selected
 
--- the tracks, each as it is taken where the words say nothing
+-- the tracks, each as it is selected without options
 abbrev taken_plain : List ℕ → ℕ → List Track → List TakenTrack
 taken_plain name id [] = []
 taken_plain name id (t ∷ ts) = taken_track (plain_file name) id t ∷ taken_plain name (id + 1) ts
@@ -63,12 +63,12 @@ all-taken name id (t ∷ ts) types =
     ap₂ (λ (b : Bool) (more : List TakenTrack). (if b then taken_track (plain_file name) id t ∷ [] else []) ++ more) (one-taken name id t.kind (All-head HasTakenType t ts types))
     (all-taken name (id + 1) ts (All-tail HasTakenType t ts types))
 
--- ---- what they say
+-- ---- values of tracks
 
 abbrev AreTracks : List Node → List Track → Type 0
 AreTracks es ts = AllZip IsTrackOf es ts
 
--- an entry has no ContentEncodings
+-- The entry has no ContentEncodings.
 abbrev pub IsBare : Node → Type 0
 IsBare entry = first_child CONTENT_ENCODINGS entry ≡ None
 
@@ -82,13 +82,13 @@ types-taken (e ∷ es) [] are types = absurd are
 types-taken (e ∷ es) (t ∷ ts) are types =
     All-cons HasTakenType t ts (ap is_taken_type are.0.kind ∙ All-head HasTypeTaken e es types) (types-taken es ts are.1 (All-tail HasTypeTaken e es types))
 
--- it has none where it was written
+-- It has none after writing.
 pub bare-placed : (e : Node) (p : ℕ) → IsBare e → IsBare (placed p e)
 bare-placed e p bare =
     none-there (λ (n : Node). true) (first_child CONTENT_ENCODINGS (placed p e))
     (first-placed (λ (n : Node). true) (λ n q. refl) CONTENT_ENCODINGS refl e p ∙ ap (option_map (λ (n : Node). true)) bare)
 
--- an entry without ContentEncodings takes nothing from the front of frames, also where it is read
+-- An entry without ContentEncodings removes nothing from frames, also after reading.
 bare-prefix : (e : Node) (t : Track) → IsTrackOf e t → IsBare e → prefix_of t.entry ≡ []
 bare-prefix e t is bare =
     ap prefix_of is.stands.1
@@ -139,9 +139,9 @@ tracks-taken name tracks read plain are =
       rules = rules-same name 0 es read are.say;
     })
 
--- ---- what is written of them
+-- ---- written entries
 
--- what is set in the entries of tracks, numbered from a number on, with these identifiers
+-- the changes in the entries of tracks, numbered from a number on, with these identifiers
 abbrev changes_from : ℕ → List ℕ → List TakenTrack → List TrackChange
 changes_from number [] taken = []
 changes_from number (uid ∷ uids) [] = []
@@ -183,15 +183,15 @@ all-whole [] are = All-nil IsWholeEntry
 all-whole (t ∷ taken) are =
     All-cons IsWholeEntry t.track.entry (entries_in taken) (taken-whole t (All-head IsTaken t taken are)) (all-whole taken (All-tail IsTaken t taken are))
 
--- a taken track says what its entry says
+-- A selected track has the identifier of its entry.
 said-uids : (taken : List TakenTrack) → All IsTaken taken → map (λ (t : TakenTrack). t.track.uid) taken ≡ map uid_of (entries_in taken)
 said-uids [] are = refl
 said-uids (t ∷ taken) are =
     ap₂ (λ (u : ℕ) us. u ∷ us) (ap (λ (k : Track). k.uid) (All-head IsTaken t taken are).said) (said-uids taken (All-tail IsTaken t taken are))
 
--- ---- again
+-- ---- the second time
 
--- plain tracks are numbered alone
+-- Plain tracks are only numbered.
 plain-entries : (name : List ℕ) (id number : ℕ) (uids : List ℕ) (ts : List Track)
     → entries_from number uids (taken_plain name id ts) ≡ written_entries (plain_changes number uids) (map (λ (t : Track). t.entry) ts)
 plain-entries name id number [] ts = refl

@@ -1,4 +1,4 @@
--- An attached file is read of what was written of it.
+-- An attached file is read after writing.
 use Rattle.std.proofs.Common.{◌≡◌, ℕ, ◌+◌, ◌==◌, ◌≤◌, Bool, true, false, not, cond, if◌then◌else◌, List, [], ◌∷◌, ◌++◌, length, map, filter, find, flat_map, append-nil, All, Option, Some, None, Result, Ok, Err, refl, sym, ap, ap₂, ◌∙◌, subst, arith, unwrap_or, is_none, inl, inr}
 use Rattle.std.specs.List.{AllZip}
 use Rattle.std.specs.Option.{option_map, option_map_or}
@@ -43,9 +43,9 @@ use Rattle.remerge_laws.proofs.ChangedLemmas.{written, as_read, part-written, ch
 use Rattle.record_laws.proofs.StayLemmas.{octets-filler}
 use Rattle.remerge_laws.proofs.TreeLemmas.{none-both, three-none}
 
--- ---- where it stands
+-- ---- its place
 
--- A header in a content is that of an AttachedFile, whose children are those that are written, without damage.
+-- The header `h` in a content belongs to the AttachedFile `n`, whose children are the written ones, without damage.
 pub record IsAttachedAt (bytes : List ℕ) (h : Header) (n : Node) : Type 0 where
   pub id : h.id ≡ ATTACHED_FILE
   pub is : IsAttachment n
@@ -54,7 +54,7 @@ pub record IsAttachedAt (bytes : List ℕ) (h : Header) (n : Node) : Type 0 wher
   pub leaves : All (λ (k : Node). is_leaf k ≡ true) (children n)
   pub values : All (λ (e : Element). is_known_value ATTACHED_FILE e.id e.body ≡ true) (map tree_element (written (children n)))
 
--- what is written of a master behind its header
+-- The written bytes of a master after its header.
 content-joined : (ns : Nodes) → octets_all ns ≡ joined (map tree_element (written (list_of ns)))
 content-joined none = refl
 content-joined (node n ns) = elim (cases_Bool (is_filler (id_of n))) [
@@ -62,7 +62,7 @@ content-joined (node n ns) = elim (cases_Bool (is_filler (id_of n))) [
   | inr kept ↦ rw kept (ap₂ (λ (a b : List ℕ). a ++ b) (octets-kept n ∙ ap (λ (t : Bool). cond t [] (octets_of (tree_element n))) kept) (content-joined ns))
 ]
 
--- the children of an AttachedFile are leaves
+-- The children of an AttachedFile are leaves.
 all-leaves : (ns : Nodes) → AllStandIn ATTACHED_FILE ns → All (λ (k : Node). is_leaf k ≡ true) (list_of ns)
 all-leaves none stand = All-nil (λ (k : Node). is_leaf k ≡ true)
 all-leaves (node (leaf id at body) ns) stand = All-cons (λ (k : Node). is_leaf k ≡ true) (leaf id at body) (list_of ns) refl (all-leaves ns stand.1)
@@ -70,7 +70,7 @@ all-leaves (node (master id at kids) ns) stand =
     let never : true ≡ false = sym stand.0.0 ∙ no_master-in id in
     absurd (cc)
 
--- an Element of an AttachedFile
+-- `e` is an element of an AttachedFile.
 record IsFileElement (e : Element) : Type 0 where
   valid : is_id e.id ≡ true
   value : is_known_value ATTACHED_FILE e.id e.body ≡ true
@@ -101,7 +101,7 @@ all-values [] are = All-nil (λ (e : Element). is_known_value ATTACHED_FILE e.id
 all-values (e ∷ es) are =
     All-cons (λ (x : Element). is_known_value ATTACHED_FILE x.id x.body ≡ true) e es (All-head IsFileElement e es are).value (all-values es (All-tail IsFileElement e es are))
 
--- an AttachedFile that stands at a place
+-- The AttachedFile at a place.
 attached-at : (bytes : List ℕ) (n : Node) (p : ℕ) → IsAttachment n → HoldsAt bytes p (octets_of (tree_element n)) → IsAttachedAt bytes (header_in_place p (tree_element n)) n
 attached-at bytes (leaf id at body) p is held = let never : true ≡ false = is.is.master in absurd (cc)
 attached-at bytes (master id at kids) p is held =
@@ -128,7 +128,7 @@ attached-at bytes (master id at kids) p is held =
       values = all-values ds are;
     }
 
--- AttachedFiles, one behind the other
+-- AttachedFiles in sequence.
 attached-each : (bytes : List ℕ) (ns : List Node) (p : ℕ) → All IsAttachment ns → HoldsAt bytes p (joined (map tree_element ns)) → AllZip (IsAttachedAt bytes) (headers_in_place p (map tree_element ns)) ns
 attached-each bytes [] p are held = tt
 attached-each bytes (n ∷ ns) p are held =
@@ -145,7 +145,7 @@ files-elements (n ∷ ns) are =
     let long : length (content n) ≤ longest = is.is.limits.long in
     All-cons IsElement (tree_element n) (map tree_element ns) (IsElement-element (id_of n) (content n) (ap is_id is.is.id) (omega arith)) (files-elements ns (All-tail IsAttachment n ns are))
 
--- An Attachments Element in a content is that of these AttachedFiles, without damage.
+-- The Attachments element `h` in a content has the AttachedFiles `ns`, without damage.
 pub record AreAttachedAt (bytes : List ℕ) (h : Header) (ns : List Node) : Type 0 where
   pub whole : (children_of bytes h).damage ≡ None
   pub are : AllZip (IsAttachedAt bytes) (children_of bytes h).list ns
@@ -164,7 +164,7 @@ attached-all bytes ns p are held =
       are = subst (λ (r : Run). AllZip (IsAttachedAt bytes) r.list ns) (sym run) (attached-each bytes ns q are inner);
     }
 
--- ---- what it says
+-- ---- its values
 
 leaves-read : (bytes : List ℕ) (hs : List Header) (ns : List Node) → AllZip (IsRead bytes) hs (map tree_element ns) → map (leaf_of bytes) hs ≡ map as_read ns
 leaves-read bytes [] [] are = refl
@@ -172,7 +172,7 @@ leaves-read bytes (h ∷ hs) (n ∷ ns) are =
     ap₂ (λ (k : Node) ks. k ∷ ks) (ap₂ (λ (i : ℕ) (b : List ℕ). leaf i 0 (if i == FILE_DATA then [] else b)) are.0.id_is are.0.body_is) (leaves-read bytes hs ns are.1)
 leaves-read _ _ _ are = absurd are
 
--- where its data are
+-- The place of its data.
 data-found : (bytes : List ℕ) (hs : List Header) (m : Node) (ns : List Node) → AllZip (IsRead bytes) hs (map tree_element ns) → part FILE_DATA ns ≡ m ∷ []
     → (c : Header) × (first_of FILE_DATA hs ≡ Some c) × (body_of bytes c ≡ content m)
 data-found bytes hs m ns are one =
@@ -222,7 +222,7 @@ file-read bytes h (master id at kids) at_place =
           ∙ ap (λ (i : ℕ). kept_octets i (octets_all (nodes_of (with_child (uint_leaf FILE_UID uid) (list_of kids))))) (sym at_place.is.is.id);
     }
 
--- it has data
+-- It has data.
 data-there : (bytes : List ℕ) (h : Header) (n : Node) → IsAttachedAt bytes h n → missing_data bytes h ≡ None
 data-there bytes h (leaf id at body) at_place = let never : true ≡ false = at_place.is.is.master in absurd (cc)
 data-there bytes h (master id at kids) at_place =
@@ -230,9 +230,9 @@ data-there bytes h (master id at kids) at_place =
     let data_at = data-found bytes (children_of bytes h).list one.0 (written (list_of kids)) at_place.are (part-written FILE_DATA (list_of kids) refl ∙ one.1) in
     ap (λ (o : Option Header). where_it (is_none o) (damage MissingChild FILE_DATA h.offset)) data_at.1
 
--- ---- what refuses it
+-- ---- refusals
 
--- an Element is met, and what it holds is a value of its kind
+-- An element is met, and its value is valid.
 abbrev Fits : Result ScannedElement Damage → Type 0
 Fits (Ok m) = m.fits ≡ true
 Fits (Err d) = ⊥
@@ -242,7 +242,7 @@ two-none None None is = (refl, refl)
 two-none None (Some d) is = absurd (cc)
 two-none (Some d) b is = absurd (cc)
 
--- what fits is refused by a limit alone
+-- Only a limit refuses such elements.
 none-refused : (octets_before nodes : ℕ) (list : List (Result ScannedElement Damage)) → All Fits list → passed_from octets_before nodes list ≡ None → refused_from octets_before nodes list ≡ None
 none-refused octets_before nodes [] fit passed = refl
 none-refused octets_before nodes (Err d ∷ rest) fit passed = absurd (All-head Fits (Err d) rest fit)
@@ -278,7 +278,7 @@ children-fit bytes (h ∷ hs) (n ∷ ns) are =
     All-append Fits (at_child bytes h) (flat_map (at_child bytes) hs) (All-cons Fits (Ok (child_of h)) (if is_attached h then parts_in bytes h else []) refl inner) (children-fit bytes hs ns are.1)
 children-fit _ _ _ are = absurd are
 
--- all children are AttachedFiles
+-- All children are AttachedFiles.
 all-attached : (bytes : List ℕ) (hs : List Header) (ns : List Node) → AllZip (IsAttachedAt bytes) hs ns → filter is_attached hs ≡ hs
 all-attached bytes [] [] are = refl
 all-attached bytes (h ∷ hs) (n ∷ ns) are =
@@ -296,7 +296,7 @@ files-are bytes [] [] are = tt
 files-are bytes (h ∷ hs) (n ∷ ns) are = (file-read bytes h n are.0, files-are bytes hs ns are.1)
 files-are _ _ _ are = absurd are
 
--- An Attachments Element of AttachedFiles that passes no limit isn't refused, and its files are these.
+-- An Attachments element of AttachedFiles that keeps the limits isn't refused, and has these files.
 pub files-read : (bytes : List ℕ) (h : Header) (ns : List Node) → AreAttachedAt bytes h ns → AttachmentsKeepLimits bytes h
     → (files : List AttachedFile) × (files_at bytes (Some h) ≡ Ok files) × AllZip (IsFileOf bytes) ns files
 files-read bytes h ns all few =

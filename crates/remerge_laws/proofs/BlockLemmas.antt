@@ -80,7 +80,7 @@ group-limited s bytes ts h b short good is =
 
 -- ---- a Cluster
 
--- a block is found that a reader can read
+-- A block is found that a reader can read.
 abbrev IsGood : Found → Type 0
 IsGood (Ok b) = IsReadable b
 IsGood (Err d) = ⊥
@@ -132,7 +132,7 @@ then-good closed (Ok b ∷ fs) rest none good =
 then-good true (Err d ∷ fs) rest none good = absurd (cc)
 then-good false (Err d ∷ fs) rest none good = absurd (cc)
 
--- the blocks in a Cluster are short
+-- The blocks in a Cluster are short.
 abbrev HasShort : List ℕ → ℕ → Header → Type 0
 HasShort bytes e c = (c.id == CLUSTER) ≡ true → All IsShortBlock (cluster_run bytes e c).list
 
@@ -164,7 +164,7 @@ the-blocks : (bs : List Block) → blocks_of (block_events bs) ≡ bs
 the-blocks [] = refl
 the-blocks (b ∷ bs) = ap (λ (l : List Block). b ∷ l) (the-blocks bs)
 
--- an Info that is read gives the scale
+-- The scale is the scale of the Info that is read.
 scale-read : (bytes : List ℕ) (o : Option Header) (m : Node) → tree_at bytes o ≡ Ok (Some m) → scale_at (info_tree bytes) o ≡ scale_of m
 scale-read bytes None m is = absurd (cc)
 scale-read bytes (Some h) m is =

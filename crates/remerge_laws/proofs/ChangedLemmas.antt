@@ -1,4 +1,4 @@
--- Children that were read one by one, and changed, are written as the children that were written, changed alike.
+-- Children that were read one by one and changed are written like the written children with the same change.
 use Rattle.std.proofs.Common.{◌≡◌, ◌⊎◌, inl, inr, ℕ, ◌==◌, Bool, true, false, not, cond, if◌then◌else◌, List, [], ◌∷◌, ◌++◌, map, filter, find, flat_map, All, Some, refl, sym, ap, ap₂, ◌∙◌, arith, option_map}
 use Rattle.std.proofs.lemmas.Bool.Decides.{nat_tests}
 use Rattle.std.proofs.lemmas.List.Elements.{All-nil, All-cons, All-head, All-tail}
@@ -21,11 +21,11 @@ use Rattle.record_laws.proofs.StayLemmas.{octets-filler}
 abbrev pub written : List Node → List Node
 written ns = filter (λ n. not (is_filler (id_of n))) ns
 
--- a child of an AttachedFile as it is read: with its octets, of FileData without
+-- a child of an AttachedFile as it is read: with its bytes, except FileData
 abbrev pub as_read : Node → Node
 as_read n = leaf (id_of n) 0 (if id_of n == FILE_DATA then [] else content n)
 
--- ---- a child in its place, one child after the other
+-- ---- a child is set, one child at a time
 
 with-first : (n m : Node) (ms : List Node) → with_child n (m ∷ ms) ≡ cond (id_of m == id_of n) (n ∷ without (id_of n) ms) (m ∷ with_child n ms)
 with-first n m ms = split (id_of m == id_of n) refl
@@ -45,7 +45,7 @@ with-first n m ms = split (id_of m == id_of n) refl
 with-alone : (n : Node) → with_child n [] ≡ n ∷ []
 with-alone n = with_child-none n [] (All-nil (λ k. (id_of k == id_of n) ≡ false))
 
--- ---- what is left out doesn't count
+-- ---- elements that are left out don't count
 
 without-written : (id : ℕ) (ns : List Node) → flat_map octets (without id (written ns)) ≡ flat_map octets (without id ns)
 without-written id [] = refl
@@ -69,7 +69,7 @@ with-written c (n ∷ ns) keeps =
       ]
     ]
 
--- the children of an ID that is kept
+-- The children with an ID that is kept.
 pub part-written : (id : ℕ) (ns : List Node) → is_filler id ≡ false → part id (written ns) ≡ part id ns
 part-written id [] keeps = refl
 part-written id (n ∷ ns) keeps =
@@ -95,7 +95,7 @@ without-map id (n ∷ ns) =
     let rest = without-map id ns in
     elim (cases_Bool (id_of n == id)) [ inl is ↦ rw is rest | inr is ↦ rw is (ap (λ l. as_read n ∷ l) rest) ]
 
--- a child that is read as itself is set before or after
+-- A child that is read as itself may be set before or after.
 with-map : (c : Node) (ns : List Node) → as_read c ≡ c → with_child c (map as_read ns) ≡ map as_read (with_child c ns)
 with-map c [] same = with-alone c ∙ ap (λ k. k ∷ []) (sym same) ∙ sym (ap (map as_read) (with-alone c))
 with-map c (n ∷ ns) same = elim (cases_Bool (id_of n == id_of c)) [
@@ -103,9 +103,9 @@ with-map c (n ∷ ns) same = elim (cases_Bool (id_of n == id_of c)) [
   | inr is ↦ rw (with-first c (as_read n) (map as_read ns), with-first c n ns, is) (ap (λ l. as_read n ∷ l) (with-map c ns same))
 ]
 
--- ---- where there is one FileData
+-- ---- children with one FileData
 
--- there is none
+-- There is no FileData.
 none-data : (n : Node) (ns : List Node) → part FILE_DATA (n ∷ ns) ≡ [] → ((id_of n == FILE_DATA) ≡ false) × (part FILE_DATA ns ≡ [])
 none-data n ns is =
     elim (cases_Bool (id_of n == FILE_DATA)) [ inl test ↦ absurd (let some = rw test at is in cc) | inr test ↦ (test, rw test at is) ]
@@ -121,7 +121,7 @@ octets-data : (ns : List Node) → part FILE_DATA ns ≡ [] → flat_map octets 
 octets-data [] lacks = refl
 octets-data (n ∷ ns) lacks = let both = none-data n ns lacks in ap₂ (λ (a b : List ℕ). a ++ b) (as_read-octets n both.0) (octets-data ns both.1)
 
--- an empty FileData in the place of the first is the one that is read
+-- An empty FileData that replaces the first is the one that is read.
 empty-again : (m : Node) (ns : List Node) → part FILE_DATA ns ≡ m ∷ [] → with_child (leaf FILE_DATA 0 []) (map as_read ns) ≡ map as_read ns
 empty-again m [] one = absurd (cc)
 empty-again m (n ∷ ns) one = with-first (leaf FILE_DATA 0 []) (as_read n) (map as_read ns) ∙ split (id_of n == FILE_DATA) refl one (λ rest. empty-again m ns rest)
@@ -133,7 +133,7 @@ empty-again m (n ∷ ns) one = with-first (leaf FILE_DATA 0 []) (as_read n) (map
         ap₂ (λ (k : Node) l. k ∷ l) (sym (as_read-data n is)) (without-data ns none_left)
     split false is one rest = ap (λ l. as_read n ∷ l) (rest one)
 
--- and with its octets they are written as they were
+-- With its bytes the children are written as they were.
 data-again : (m : Node) (data_octets : List ℕ) (ns : List Node) → part FILE_DATA ns ≡ m ∷ [] → data_octets ≡ content m → flat_map octets (with_child (leaf FILE_DATA 0 data_octets) (map as_read ns)) ≡ flat_map octets ns
 data-again m data_octets [] one same = absurd (cc)
 data-again m data_octets (n ∷ ns) one same =
@@ -153,7 +153,8 @@ data-again m data_octets (n ∷ ns) one same =
 
 -- ---- the whole change
 
--- Children that were read, whose FileData was emptied, with a FileUID and then with the data again, are written as the children with this FileUID.
+-- Children were read, their FileData was emptied, and they got a FileUID and then the data again. They are written as the children with this
+-- FileUID.
 pub changed-again : (u : ℕ) (m : Node) (data_octets : List ℕ) (ns : List Node) → part FILE_DATA ns ≡ m ∷ [] → data_octets ≡ content m
     → flat_map octets (with_child (leaf FILE_DATA 0 data_octets) (with_child (uint_leaf FILE_UID u) (with_child (leaf FILE_DATA 0 []) (map as_read (written ns)))))
     ≡ flat_map octets (with_child (uint_leaf FILE_UID u) ns)
@@ -167,13 +168,13 @@ changed-again u m data_octets ns one same =
     ∙ data-again m data_octets (with_child c all) still same
     ∙ with-written c ns refl
 
--- the list that is read with an empty FileData is itself
+-- The list that is read with an empty FileData is itself.
 pub emptied : (m : Node) (ns : List Node) → part FILE_DATA ns ≡ m ∷ [] → with_child (leaf FILE_DATA 0 []) (map as_read (written ns)) ≡ map as_read (written ns)
 emptied m ns one = empty-again m (written ns) (part-written FILE_DATA ns refl ∙ one)
 
--- ---- what is found in it
+-- ---- elements in the list
 
--- the integer of an ID that is kept, among leaves
+-- The integer of an ID that is kept, among leaves.
 pub integer-read : (id : ℕ) (ns : Nodes) → is_filler id ≡ false → (id == FILE_DATA) ≡ false → All (λ (n : Node). is_leaf n ≡ true) (list_of ns)
     → option_map integer_of (find (λ n. id_of n == id) (map as_read (written (list_of ns)))) ≡ option_map integer_of (find (λ n. id_of n == id) (list_of ns))
 integer-read id none keeps other leaves = refl
@@ -202,7 +203,7 @@ integer-read id (node (leaf i at body) ns) keeps other leaves =
     split true is rest = rest ∙ sym (ap (λ (t : Bool). option_map integer_of (cond t (Some n) (find (λ k. id_of k == id) (list_of ns)))) (filler-other i id is keeps))
     split false is rest = here (i == id) refl rest
 
--- the first Element of an ID
+-- The first element with an ID.
 pub element-found : (id : ℕ) (m : Node) (ns ms : List Node) → part id ns ≡ m ∷ ms → find (λ (e : Element). e.id == id) (map tree_element ns) ≡ Some (tree_element m)
 element-found id m [] ms is = absurd (cc)
 element-found id m (n ∷ ns) ms is = elim (cases_Bool (id_of n == id)) [

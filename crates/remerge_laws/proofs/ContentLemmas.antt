@@ -1,4 +1,4 @@
--- Elements of one ID that are written alike have one content.
+-- Elements with one ID that are written alike have the same content.
 use Rattle.std.proofs.Common.{◌≡◌, ◌≤◌, ◌<◌, ℕ, ◌+◌, nat_lt, false, Bool, List, [], ◌∷◌, ◌++◌, length, find, if◌then◌else◌, All, Option, None, refl, sym, ap, ◌∙◌, arith, unwrap_or, inl, inr}
 use Rattle.std.proofs.lemmas.Bool.Decides.{nat_tests}
 use Rattle.std.proofs.lemmas.List.{append_cancel_left}
@@ -13,7 +13,7 @@ none-passes : (p : ℕ → Bool) (ks : List ℕ) → All (λ k. p k ≡ false) k
 none-passes p [] none = refl
 none-passes p (k ∷ ks) none = rw (All-head (λ k. p k ≡ false) k ks none) (none-passes p ks (All-tail (λ k. p k ≡ false) k ks none))
 
--- what no size can tell has the width of eight octets
+-- A value that is too large for a size has a width of eight bytes.
 wide : (v : ℕ) → all_ones 8 ≤ v → least_size_width v ≡ 8
 unfolding least_size_width
 wide v large =
@@ -23,7 +23,7 @@ wide v large =
     (All-from_recursion (λ k. p k ≡ false) (1 ∷ 2 ∷ 3 ∷ 4 ∷ 5 ∷ 6 ∷ 7 ∷ 8 ∷ [])
     (grind (arith, nat_tests), (grind (arith, nat_tests), (grind (arith, nat_tests), (grind (arith, nat_tests), (grind (arith, nat_tests), (grind (arith, nat_tests), (grind (arith, nat_tests), (grind (arith, nat_tests), tt))))))))))
 
--- a longer body has no shorter size
+-- A longer body has at least the same width of size.
 wider : (v w : ℕ) → v ≤ w → v ≤ longest → least_size_width v ≤ least_size_width w
 wider v w more short = elim (cases_lt w (all_ones 8)) [
   | inl below ↦
@@ -39,7 +39,7 @@ wider v w more short = elim (cases_lt w (all_ones 8)) [
     least : IsLeastWidth (λ k. v < all_ones k) (least_size_width v)
     least = least_size_width-IsLeast v (omega arith)
 
--- what is written alike is one
+-- Equal written forms have equal bodies.
 pub same-body : (id : ℕ) (a b : List ℕ) → is_filler id ≡ false → length a ≤ longest → kept_octets id a ≡ kept_octets id b → a ≡ b
 same-body id a b keeps short same = elim (cases_order (length a) (length b)) [
   | inl equal ↦ append_cancel_left (header_octets id (length a)) a b (whole ∙ ap (λ (n : ℕ). header_octets id n ++ b) (sym equal))

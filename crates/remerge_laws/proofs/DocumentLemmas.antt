@@ -25,17 +25,17 @@ use Rattle.output_laws.proofs.LayoutLemmas.{layout-read}
 use Rattle.remerge_laws.specs.Outline.{KeepsReaderLimits, RecordsKeepLimits, OutlinesAreRead}
 use Rattle.remerge_laws.proofs.OutlineLemmas.{IsShortHeader, none-passed, outline-within}
 
--- ---- what counts of an Element
+-- ---- counted values of an element
 
--- its octets, where it is an Info, Tracks, Chapters or Tags
+-- its bytes, if it is an Info, Tracks, Chapters or Tags
 abbrev weight : Element → ℕ
 weight e = if is_described e.id then length e.body else 0
 
--- one, where it isn't a Cluster
+-- 1 if it isn't a Cluster
 abbrev one_other : Element → ℕ
 one_other e = if not (e.id == CLUSTER) then 1 else 0
 
--- an Info, Tracks, Chapters or Tags of 16 MiB at most
+-- the element has at most 16 MiB if it is an Info, Tracks, Chapters or Tags
 abbrev IsShortElement : Element → Type 0
 IsShortElement e = is_described e.id ≡ true → length e.body ≤ MAX_MASTER_LEN
 
@@ -67,13 +67,13 @@ short-placed (e ∷ es) p are =
     All-cons IsShortHeader (header_in_place p e) (headers_in_place (p + length (octets_of e)) es) (All-head IsShortElement e es are)
     (short-placed es (p + length (octets_of e)) (All-tail IsShortElement e es are))
 
--- ---- Elements that count for little
+-- ---- elements that count little
 
--- of any ID but that of an Info, Tracks, Chapters or Tags
+-- An element with an ID other than Info, Tracks, Chapters and Tags.
 plain-short : (e : Element) → is_described e.id ≡ false → IsShortElement e
 plain-short e is = λ described. let never : true ≡ false = sym described ∙ is in absurd (cc)
 
--- such Elements are short, have no weight, and are so many at most besides Clusters
+-- The elements are short, count at most `octets` bytes, and at most `many` of them aren't Clusters.
 record CountFor (octets many : ℕ) (es : List Element) : Type 0 where
   short : All IsShortElement es
   weight_most : sum_by weight es ≤ octets
@@ -97,7 +97,7 @@ count-none = record { short = All-nil IsShortElement; weight_most = omega arith;
 one-most : (e : Element) → one_other e ≤ 1
 one-most e = elim (cases_Bool (not (e.id == CLUSTER))) [ inl is ↦ rw is (omega arith) | inr is ↦ rw is (omega arith) ]
 
--- one Element of another ID
+-- One element with another ID.
 count-plain : (e : Element) → is_described e.id ≡ false → CountFor 0 1 (e ∷ [])
 count-plain e is =
     let light : weight e ≡ 0 = ap (λ (t : Bool). if t then length e.body else 0) is in
@@ -108,7 +108,7 @@ count-plain e is =
       most = omega arith;
     }
 
--- one record
+-- One record.
 count-record : (n : Node) → KeepsReaderLimits n → CountFor MAX_MASTER_LEN 1 (tree_element n ∷ [])
 count-record n keeps =
     let e : Element = tree_element n in
@@ -175,7 +175,7 @@ count-document d keeps =
     (count-append 0 (MAX_MASTER_LEN + MAX_MASTER_LEN) 2 3 area (info ∷ tracks ∷ attachments) (count-area (seeks_of d)) front)
     (count-append 0 (MAX_MASTER_LEN + MAX_MASTER_LEN) 0 3 middle (cues ++ (chapters ++ tags)) (count-clusters d.clusters) back)
 
--- the EBML header is short
+-- The EBML header is short.
 ebml-short : (webm : Bool) → length (ebml_element webm).body ≤ MAX_HEADER_LEN
 unfolding uint_width least_size_width
 ebml-short true = omega arith

@@ -1,4 +1,4 @@
--- Tags that were written are what is written of themselves, with the identifiers that their targets have.
+-- Tags that were written are written unchanged with the identifiers of their targets.
 use Rattle.std.proofs.Common.{◌≡◌, ℕ, ◌<◌, ◌^◌, ◌==◌, nat_lt, Bool, true, false, ◌&&◌, if◌then◌else◌, List, [], ◌∷◌, ◌++◌, map, filter, flat_map, All, IfSome, Option, None, Some, refl, sym, ap, ap₂, ◌∙◌, subst, inl, inr, slice_index_or}
 use Rattle.std.proofs.lemmas.Bool.{cond-true, lt-ltb, ltb-true, cases_Bool}
 use Rattle.std.proofs.lemmas.List.Elements.{All-nil, All-cons, All-head, All-tail, All-append, All-map}
@@ -16,7 +16,7 @@ use Rattle.record_laws.specs.Tags.{AreSmall, KeepsTarget, TagsStay, keep_all, ta
 use Rattle.remerge_laws.specs.Joined.{IsWrittenTag, JoinedTagsStay}
 use Rattle.record_laws.proofs.TagLemmas.{kept-all, all-made}
 
--- each identifier of 64 bits as it is
+-- each identifier of 64 bits, unchanged
 abbrev itself : ℕ → ℕ → Option ℕ
 itself id uid = if nat_lt uid (2 ^ 64) then Some uid else None
 
@@ -28,13 +28,13 @@ itself-keeps id uid small = cond-true (nat_lt uid (2 ^ 64)) (Some uid) None (lt-
 
 -- ---- a child of Targets
 
--- It is written as it is, and where it is a target it keeps its identifier.
+-- The child is written unchanged, and if it is a target it keeps its identifier.
 record Settles (m : Node) : Type 0 where
   same : written_target itself m ≡ m ∷ []
   keeps : (is_target m ≡ true → KeepsTarget itself m)
 
 module _ (numbers : ℕ → ℕ → Option ℕ) (small : AreSmall numbers) where
-  -- a target with its number
+  -- A target with its number.
   made-settles : (id v : ℕ) → v < 2 ^ 64 → Settles (uint_leaf id v)
   made-settles id v fits =
       let m : Node = uint_leaf id v in
@@ -104,7 +104,7 @@ parts-keep (p ∷ ps) are = All-append (KeepsTarget itself) (targets_in p) (flat
 
 -- ---- a Tag
 
--- a Tag whose parts settle is written as it is
+-- A Tag whose parts settle is written unchanged.
 tag-same : (n : Node) → id_of n ≡ TAG → All PartSettles (children n) → written_tag itself n ≡ n → written_child keep_all itself n ≡ n ∷ []
 tag-same n is parts same =
     ap₂ (λ (i : ℕ) (b : Bool). if (i == TAG) && b then written_tag itself n ∷ [] else []) is (kept-all itself (flat_map targets_in (children n)) (parts-keep (children n) parts))
@@ -126,7 +126,7 @@ tags-same (n ∷ ns) are =
     let one : written_child keep_all itself n ≡ n ∷ [] = subst (λ (k : Node). written_child keep_all itself k ≡ k ∷ []) (sym is.written) (written-same is.numbers is.tag is.small is.is) in
     ap₂ (λ (a b : List Node). a ++ b) one (tags-same ns (All-tail IsWrittenTag n ns are))
 
--- Tags of several inputs stay, as those of one do.
+-- Tags of several inputs stay if the Tags of one input do.
 pub joined-stay : TagsStay → JoinedTagsStay
 joined-stay stay again tags place are keep =
     let whole : Node = master TAGS 0 (nodes_of tags) in

@@ -1,4 +1,4 @@
--- An output whose octets keep a reader's limits keeps them.
+-- An output keeps a reader's limits if its bytes do.
 use Rattle.std.proofs.Common.{◌≡◌, ◌≤◌, length, IfSome, Option, Some, sym, ap, ◌∙◌, subst}
 use Rattle.mkv_schema.specs.declared.ids.TheConstants.{INFO}
 use Rattle.mkv_schema.specs.declared.element.Header.{Header}
@@ -16,7 +16,7 @@ use Rattle.output_laws.proofs.LayoutLemmas.{layout-read}
 use Rattle.remerge_laws.specs.Limits.{OctetsKeepLimits}
 use Rattle.remerge_laws.proofs.FirstLemmas.{first-at, info-first, layout-held}
 
--- a short Info
+-- The Info is short.
 info-short : (d : Document) → IsSoundDocument d → IfSome (first_of INFO (level_1_of d)) (λ (h : Header). known h.size ≤ MAX_MASTER_LEN) → length (content d.front.info) ≤ MAX_MASTER_LEN
 info-short d is short =
     let found = (layout-read d is).records.info in

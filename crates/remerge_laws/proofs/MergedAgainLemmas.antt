@@ -1,4 +1,4 @@
--- What a merge wrote is written again as it was.
+-- The output of a merge is written again as it was.
 use Rattle.std.proofs.Common.{◌≡◌, ℕ, List, [], ◌∷◌, map, Option, sym, ap, subst, ◌∙◌}
 use Rattle.output_model.specs.Document.{Document, layout}
 use Rattle.remux_plan.specs.Parts.{PlannedOutput}
@@ -18,7 +18,7 @@ use Rattle.remerge_laws.specs.Repeat.{IsRepeated, IsDefault, OutputsAreRepeated,
 use Rattle.remerge_laws.specs.Whole.{whole_document}
 use Rattle.remerge_laws.proofs.WholeLemmas.{one-document}
 
--- the one output of a merge that isn't split is the layout of its document
+-- The one output of a merge that isn't split has the bytes of its document.
 one-layout : (words : MergeWords) (sources : List Source) (bytes : List ℕ) → IsDefault words → map (λ (o : PlannedOutput). layout o.document) (outputs_of words sources) ≡ bytes ∷ []
     → layout (whole_document words sources) ≡ bytes
 one-layout words sources bytes usual written =
@@ -27,7 +27,7 @@ one-layout words sources bytes usual written =
     cc
 
 module _ (sources_read : SourcesAreRead) (sources_plain : SourcesArePlain) (outputs_repeated : OutputsAreRepeated) (outputs_sources : OutputsAreSources) (merge_done : MergeIsDone) where
-  -- what was repeated of a document is written again
+  -- A repeated document is written again.
   repeated-written : (world : List ℕ → Option (List ℕ)) (out name : List ℕ) (d : Document) → CanBegin world (plain_merge out name) (layout d) → (r : _) × IsRepeated out name d r
       → IsWrittenAgain world out name (layout d)
   repeated-written world out name d begun again =

@@ -1,4 +1,4 @@
--- The targets of joined Tags name what the output has.
+-- The targets of joined Tags name elements that the output has.
 use Rattle.std.proofs.Common.{◌≡◌, ◌<◌, ℕ, ◌+◌, ◌^◌, ◌==◌, Bool, true, false, ◌&&◌, if◌then◌else◌, List, [], ◌∷◌, length, map, filter, flat_map, take, drop, zip, All, Contains, Option, None, Some, IfSome, refl, sym, ap, subst, ◌∙◌, inl, inr, slice_index_or, option_map}
 use Rattle.std.specs.Map.{lookup}
 use Rattle.std.proofs.lemmas.Bool.{eqb-true, cases_Bool, and_parts}
@@ -26,9 +26,9 @@ use Rattle.remerge_laws.specs.Joined.{IsWrittenTag}
 use Rattle.remerge_laws.specs.Named.{JoinedTagsNameTheOutput, NamesOneOf, named_by, tags_joined}
 use Rattle.record_laws.proofs.TagLemmas.{all-made}
 
--- ---- what is read of Elements
+-- ---- elements after reading
 
--- a fact that each Element keeps where it stands
+-- Each element keeps the fact at its place.
 list-placed : (P : Node → Type 0) → ((n : Node) (q : ℕ) → P n → P (placed q n)) → (ns : Nodes) (q : ℕ) → All P (list_of ns) → All P (list_of (placed_all q ns))
 list-placed P keep none q all = All-nil P
 list-placed P keep (node n ns) q all =
@@ -40,7 +40,7 @@ list-placed P keep (node n ns) q all =
           rw kept (All-cons P (placed q n) (list_of (placed_all p ns)) (keep n q (All-head P n (list_of ns) all)) (list-placed P keep ns p rest))
     ]
 
--- ---- targets that name one of these
+-- ---- targets that name one of the identifiers
 
 module _ (ids : Identifiers) where
   abbrev Names : Node → Type 0
@@ -89,16 +89,16 @@ module _ (ids : Identifiers) where
   tags-name tags all =
       flat-all NamesOfTag (λ (tag : Node). flat_map targets_in (children tag)) (λ tag names. flat-all NamesInside targets_in inside-names (children tag) names) (children tags) all
 
-  -- ---- what is written
+  -- ---- written Tags
 
-  -- an identifier of 64 bits, and one of these
+  -- the identifier has 64 bits and is one of the output's
   abbrev Gives : ℕ → ℕ → Type 0
   Gives id v = (v < 2 ^ 64) × Contains (named_by ids id) v
 
   abbrev GivesAll : (ℕ → ℕ → Option ℕ) → Type 0
   GivesAll numbers = (id uid : ℕ) → IfSome (numbers id uid) (Gives id)
 
-  -- numbers of 64 bits
+  -- The numbers have 64 bits.
   gives-small : (numbers : ℕ → ℕ → Option ℕ) → GivesAll numbers → AreSmall numbers
   gives-small numbers gives id uid = of (numbers id uid) (gives id uid)
     where
@@ -132,7 +132,7 @@ module _ (ids : Identifiers) where
     tag-names (leaf id at body) = All-nil NamesInside
     tag-names (master id at kids) = subst (All NamesInside) (sym (list-nodes (map (written_part numbers) (list_of kids)))) (All-map NamesInside (written_part numbers) (list_of kids) (λ k d less. part-names (slice_index_or (list_of kids) k d)))
 
-  -- a Tag that was written, whose targets name one of these
+  -- `n` is a Tag that was written, and its targets name one of the identifiers.
   record IsNamingTag (n : Node) : Type 0 where
     written : IsWrittenTag n
     names : NamesOfTag n
@@ -158,7 +158,7 @@ module _ (ids : Identifiers) where
   abbrev AreAmong : List ℕ → List ℕ → Type 0
   AreAmong whole some = All (λ v. (v < 2 ^ 64) × Contains whole v) some
 
-  -- numbers, or what is left of them
+  -- The numbers, or the remaining ones, are among the output's.
   record AreNumbers (editions chapters files : List ℕ) : Type 0 where
     of_editions : AreAmong ids.editions editions
     of_chapters : AreAmong ids.chapters chapters
@@ -200,7 +200,7 @@ module _ (ids : Identifiers) where
       })
       (All-tail HasAmong i inputs all))
 
-  -- the numbers of an input's tracks are among those of the output
+  -- The numbers of an input's tracks are among the output's.
   records-among : (before left : List ℕ) (ks : List Kept) → AreAmong ids.tracks before → AreAmong ids.tracks left → All HasAmong (records_from before left ks)
   records-among before left [] old more = All-nil HasAmong
   records-among before left (k ∷ ks) old more =
@@ -218,11 +218,11 @@ module _ (ids : Identifiers) where
       past true = more
       past false = All-drop P (length k.1.taken) left more
 
--- identifiers of 64 bits are among themselves
+-- Identifiers of 64 bits are among themselves.
 among-itself : (ids : List ℕ) → All (λ v. v < 2 ^ 64) ids → All (λ v. (v < 2 ^ 64) × Contains ids v) ids
 among-itself ids small = λ k d below. (small k d below, All-contains_itself ids k d below)
 
--- the numbers of an input with these identifiers have 64 bits
+-- The numbers of an input with these identifiers have 64 bits.
 pub own-small : (ids : Identifiers) (i : InputRecords) → Have64Bits ids → i.output_uids ≡ ids.tracks → AreSmall (numbers_for i (all_uids ids.editions ids.chapters ids.files))
 own-small ids i short own =
     gives-small ids (numbers_for i (all_uids ids.editions ids.chapters ids.files))

@@ -15,7 +15,7 @@ use Rattle.mkv_schema.proofs.OutlineLemmas.{and_then-ok, unless-ok}
 
 -- ---- an outline
 
--- a header that isn't too long is read with the limit
+-- A header that isn't too long is read with the limit.
 header-with_limit : (bytes : List ℕ) (h : Header) → header_without_limit bytes ≡ Ok h → known h.size ≤ MAX_HEADER_LEN → ebml_header bytes ≡ Ok h
 unfolding ebml_header
 header-with_limit bytes h is short =
@@ -26,7 +26,7 @@ header-with_limit bytes h is short =
     ∙ ap (λ (b : Bool). unless (first_damage (where_it b (damage HeaderTooLarge first.0.id first.0.offset) ∷ children_causes bytes (header_children bytes first.0))) first.0) within
     ∙ ap (λ c. unless c first.0) good.0 ∙ ap (λ x. Ok x) good.1
 
--- the Elements of level 1 are those that the Segment has
+-- The elements of level 1 are the Segment's.
 pub outline-run : (bytes : List ℕ) (o : Outlined) → outline_without_limits bytes ≡ Ok o → (segment_run bytes o.segment).list ≡ o.list
 unfolding outline_without_limits
 outline-run bytes o is =
@@ -52,7 +52,7 @@ outline-within held bytes o is short keeps =
 
 -- ---- the limits of level 1
 
--- an Info, Tracks, Chapters or Tags of 16 MiB at most; of others nothing is asked
+-- The element has at most 16 MiB if it is an Info, Tracks, Chapters or Tags.
 abbrev pub IsShortHeader : Header → Type 0
 IsShortHeader h = is_described h.id ≡ true → known h.size ≤ MAX_MASTER_LEN
 
@@ -74,7 +74,7 @@ no-size held before h true is short fits =
 no-count : (before : List Header) (h : Header) → others (before ++ h ∷ []) ≤ MAX_ELEMENTS → passes_count before h ≡ false
 no-count before h few = and_right (not (h.id == CLUSTER)) _ (le-ltb MAX_ELEMENTS (others (before ++ h ∷ [])) few)
 
--- a list that keeps the limits
+-- The list keeps the limits.
 pub none-passed : (held : ℕ) (before hs : List Header) → All IsShortHeader hs → held + described (before ++ hs) ≤ MAX_MASTERS_LEN → others (before ++ hs) ≤ MAX_ELEMENTS
     → limits_from held before hs ≡ None
 none-passed held before [] short fits few = refl

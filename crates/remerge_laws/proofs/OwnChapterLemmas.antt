@@ -12,7 +12,7 @@ use Rattle.remerge_laws.specs.OwnChapters.{OwnChaptersStay}
 use Rattle.remerge_laws.proofs.PlacedLemmas.{id-placed}
 use Rattle.remerge_laws.proofs.StandLemmas.{children-decide}
 
--- with identifiers they are still a master of their ID
+-- With identifiers they are still a master with their ID.
 settled-id : (chapters : Node) → id_of (settled chapters) ≡ id_of chapters
 settled-id (leaf id at body) = refl
 settled-id (master id at kids) = refl
@@ -25,7 +25,7 @@ placed-master : (n : Node) (p : ℕ) → IsMaster n → IsMaster (placed p n)
 placed-master (leaf id at body) p is = is
 placed-master (master id at kids) p is = refl
 
--- what is made anew of the children of Chapters
+-- New Chapters with the same children.
 made-anew : (read : Node) → IsMaster read → id_of read ≡ CHAPTERS → octets (settled (master CHAPTERS 0 (nodes_of (children read)))) ≡ octets (settled read)
 made-anew read is own =
     let anew : Node = master CHAPTERS 0 (nodes_of (children read)) in

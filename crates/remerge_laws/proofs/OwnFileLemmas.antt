@@ -20,14 +20,14 @@ use Rattle.meta_records.specs.Attached.{AttachedFile}
 use Rattle.remerge_laws.specs.Files.{IsFileOf}
 use Rattle.remerge_laws.specs.OwnFiles.{IsNumbered, OwnFilesStay, written_files}
 
--- its FileUID
+-- Its FileUID.
 pub uid-is : (n : Node) (is : IsNumbered n) → uint_in FILE_UID n ≡ is.uid
 uid-is n is =
     let found : find (λ k. id_of k == FILE_UID) (children n) ≡ Some (uint_leaf FILE_UID is.uid) = find-filter (λ k. id_of k == FILE_UID) (children n) ∙ ap first_in is.one in
     ap (λ (o : Option Node). unwrap_or (option_map integer_of o) (unwrap_or (uint_default FILE_UID) 0)) found
     ∙ uint_value-octets FILE_UID is.uid (uint_octets is.uid) is.small refl
 
--- it is written as it was with this FileUID
+-- It is written as it was with this FileUID.
 set-again : (n : Node) (is : IsNumbered n) → octets (set_in (uint_leaf FILE_UID is.uid) n) ≡ octets n
 set-again (leaf id at body) is = refl
 set-again (master id at kids) is =

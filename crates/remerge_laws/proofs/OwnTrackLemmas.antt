@@ -1,4 +1,4 @@
--- The entries that are read of an output are those that were written.
+-- The entries that are read from an output are the written ones.
 use Rattle.std.proofs.Common.{◌≡◌, ℕ, ◌+◌, ◌==◌, cond, List, [], ◌∷◌, length, map, filter, All, refl, sym, ap, ◌∙◌}
 use Rattle.std.proofs.lemmas.List.Elements.{All-nil, All-cons, All-head, All-tail}
 use Rattle.mkv_schema.specs.declared.ids.TheConstants.{TRACKS, TRACK_ENTRY}
@@ -16,7 +16,7 @@ use Rattle.remerge_laws.specs.OwnTracks.{OwnTracksStay}
 use Rattle.remerge_laws.proofs.PlacedLemmas.{id-placed}
 use Rattle.record_laws.proofs.SameLemmas.{read-step}
 
--- ---- what is written is a TrackEntry
+-- ---- a written entry is a TrackEntry
 
 set-id : (c n : Node) → id_of (set_in c n) ≡ id_of n
 set-id c (leaf id at body) = refl
@@ -37,7 +37,7 @@ all_removed-id (id ∷ ids) n = all_removed-id ids (removed_in id n) ∙ removed
 pub written-id : (c : TrackChange) (entry : Node) → id_of (written_entry c entry) ≡ id_of entry
 written-id c entry = each-id (children_set c) (removed_each (ids_removed c.language) entry) ∙ all_removed-id (ids_removed c.language) entry
 
--- a TrackEntry
+-- `n` is a TrackEntry.
 abbrev IsOne : Node → Type 0
 IsOne n = id_of n ≡ TRACK_ENTRY
 
@@ -49,7 +49,7 @@ written-ones (c ∷ cs) (e ∷ es) whole =
     (written-id c e ∙ (All-head IsWholeEntry e es whole).id)
     (written-ones cs es (All-tail IsWholeEntry e es whole))
 
--- ---- all that is read are entries
+-- ---- all elements that are read are entries
 
 read-ones : (ns : List Node) (p : ℕ) → All IsOne ns → filter (λ n. id_of n == TRACK_ENTRY) (read_of p ns) ≡ read_of p ns
 read-ones [] p are = refl
@@ -66,7 +66,7 @@ pub map-entries : (es : List Node) → map (λ (t : Track). t.entry) (map track_
 map-entries [] = refl
 map-entries (e ∷ es) = ap (λ l. e ∷ l) (map-entries es)
 
--- The tracks of an output stay, as the entries do.
+-- The tracks of an output stay if the entries do.
 pub own-tracks : TracksStay → OwnTracksStay
 own-tracks stay changes entries read whole small are of_them =
     let list : List Node = written_entries changes entries in

@@ -1,4 +1,4 @@
--- What is found in a tree is found in it where it was written.
+-- Values that are found in a tree are found in it after writing.
 use Rattle.std.proofs.Common.{◌≡◌, ℕ, ◌+◌, ◌==◌, false, List, length, filter, find, Option, Some, refl, sym, ap, ◌∙◌, inl, inr, unwrap_or}
 use Rattle.std.specs.List.{AllZip}
 use Rattle.std.specs.Option.{option_map}
@@ -15,20 +15,20 @@ use Rattle.record_laws.proofs.SameLemmas.{filler-other, part-placed as parts-pla
 use Rattle.record_laws.proofs.TrackLemmas.{find-map, first_in}
 use Rattle.remerge_laws.specs.Placed.{RecordsSayTheSame, StandsAs}
 
--- ---- an Element
+-- ---- one element
 
 pub body-placed : (n : Node) (p : ℕ) → body_of (placed p n) ≡ body_of n
 body-placed (leaf id at body) p = refl
 body-placed (master id at kids) p = refl
 
--- ---- the first of an ID
+-- ---- the first child with an ID
 
 module _ {A : Type 0} (f : Node → A) (same : (n : Node) (p : ℕ) → f (placed p n) ≡ f n) (id : ℕ) (keeps : is_filler id ≡ false) where
   pub find-placed : (ns : Nodes) (p : ℕ) → option_map f (find (λ n. id_of n == id) (list_of (placed_all p ns))) ≡ option_map f (find (λ n. id_of n == id) (list_of ns))
   find-placed ns p =
       find-map f (λ n. id_of n == id) (list_of (placed_all p ns)) ∙ ap first_in (parts-placed f same id ns p keeps) ∙ sym (find-map f (λ n. id_of n == id) (list_of ns))
 
-  -- of a child
+  -- The first child of an element.
   pub first-placed : (n : Node) (p : ℕ) → option_map f (first_child id (placed p n)) ≡ option_map f (first_child id n)
   first-placed (leaf i at body) p = refl
   first-placed (master i at kids) p = find-placed kids (p + length (header_octets i (length (octets_all kids))))
@@ -40,7 +40,7 @@ text-same id n p keeps =
     ∙ ap (λ o. unwrap_or o (text_default id)) (first-placed value (λ m q. ap (λ b. Some (text_of b)) (body-placed m q)) id keeps n p)
     ∙ sym (map_or-is value (first_child id n) (text_default id))
 
--- What a record says it says where it was written.
+-- A record has the same values after writing.
 pub say-same : RecordsSayTheSame
 say-same = record {
   integers = λ id n m keeps stands.
@@ -48,7 +48,7 @@ say-same = record {
   texts = λ id n m keeps stands. ap (text_in id) stands.1 ∙ text-same id n stands.0 keeps;
 }
 
--- ---- all of an ID
+-- ---- all children with an ID
 
 pub part-placed : (id : ℕ) (ns : Nodes) (p : ℕ) → is_filler id ≡ false → AllZip StandsAs (filter (λ n. id_of n == id) (list_of ns)) (filter (λ n. id_of n == id) (list_of (placed_all p ns)))
 part-placed id none p keeps = tt

@@ -1,4 +1,4 @@
--- What a merge of a command line reads is plain.
+-- The sources of a merge are plain.
 use Rattle.std.proofs.Common.{◌≡◌, ℕ, suc, Bool, true, false, not, ◌&&◌, ◌||◌, ◌==◌, if◌then◌else◌, List, [], ◌∷◌, map, All, Option, Some, None, Ok, refl, ap, subst}
 use Rattle.std.specs.List.{list_all, list_any, zip}
 use Rattle.std.proofs.lemmas.List.Elements.{All-cons, All-head, All-map, All-nil, All-tail, All-weaker}
@@ -59,7 +59,7 @@ title-whole title is = of (list_any (λ b. b == 0) title) refl is
 abbrev HasNoCueWords : FileWords → Type 0
 HasNoCueWords f = f.cues ≡ []
 
--- the tracks of an input that were taken have usual cue points
+-- The selected tracks of an input have default cue points.
 abbrev HaveUsualCues : InputRead → Type 0
 HaveUsualCues i = All HasUsualCues i.taken
 
@@ -99,7 +99,7 @@ timed-usual files input (r ∷ rs) each =
     All-cons HaveUsualCues (with_listings (listings_at input files) r) (timed_from files (suc input) rs) (All-head HaveUsualCues r rs each)
     (timed-usual files (suc input) rs (All-tail HaveUsualCues r rs each))
 
--- those of a source
+-- The tracks of a source have default cue points.
 abbrev HasUsualTracks : Source → Type 0
 HasUsualTracks s = HaveUsualCues s.1
 

@@ -41,12 +41,12 @@ use Rattle.remerge_laws.proofs.TreeLemmas.{count-placed, depth-placed, small-rea
 
 -- ---- trees
 
--- a record stands behind a header as short as can be
+-- A record follows a header of the shortest form.
 placed-there : (n : Node) (p : ℕ) → placed_in p (p + length (header_of (tree_element n))) n ≡ placed p n
 placed-there (leaf id at body) p = refl
 placed-there (master id at kids) p = refl
 
--- the first Element of an ID is read with limits where it keeps them
+-- The first element with an ID is read with limits if it keeps them.
 module _ (d : Document) (is : IsSoundDocument d) (id : ℕ) where
   none-read : first_of id (level_1_of d) ≡ None → FirstTreeIs id (layout d) (header_of_segment d) None
   none-read found = (None, ap (λ (l : List Header). tree_at (layout d) (first_of id l)) (layout-run d is) ∙ ap (tree_at (layout d)) found, tt)
@@ -87,18 +87,18 @@ trees-read d is keeps =
       tags = may-read d is TAGS d.tags records.tags (λ n same. tags-first d is n same) is.tags keeps.tags;
     }
 
--- ---- what is made of them
+-- ---- values from the trees
 
 some-of : (n : Node) (o : Option Node) → MayStandAs (Some n) o → (m : Node) × (o ≡ Some m) × StandsAs n m
 some-of n None stands = absurd stands
 some-of n (Some m) stands = (m, refl, stands)
 
--- the scale of an Info is the same where it was written
+-- The scale of an Info is the same after writing.
 scale-same : (info : Node) (p : ℕ) → scale_of (placed p info) ≡ scale_of info
 scale-same info p =
     ap (λ (o : Option ℕ). unwrap_or o (unwrap_or (uint_default TIMESTAMP_SCALE) 0)) (first-placed integer_of integer-placed TIMESTAMP_SCALE refl info p)
 
--- an Info whose scale isn't 0 isn't refused
+-- An Info whose scale isn't 0 isn't refused.
 info-good : (info : Node) (p : ℕ) → 1 ≤ scale_of info → info_refusal (placed p info) ≡ None
 info-good info p some =
     let here : Option Node = first_child TIMESTAMP_SCALE (placed p info) in

@@ -1,4 +1,4 @@
--- An output that is merged alone is written as it was.
+-- An output that is merged by itself is written as it was.
 use Rattle.std.proofs.Common.{◌≡◌, ◌<◌, ℕ, ◌+◌, ◌^◌, true, List, [], ◌∷◌, ◌++◌, length, map, flat_map, take, All, None, Ok, refl, sym, ap, ap₂, subst, ◌∙◌, append-nil, arith}
 use Rattle.std.specs.List.{AllZip}
 use Rattle.std.proofs.lemmas.List.{length-map, map-append}
@@ -76,9 +76,9 @@ use Rattle.remerge_laws.proofs.RecordLemmas.{outputs-read}
 use Rattle.remerge_laws.proofs.RepeatTrackLemmas.{entries-are, rules-given, types-from, uids-given}
 use Rattle.remerge_laws.proofs.WholeLemmas.{one-document}
 
--- ---- what is known
+-- ---- premises
 
--- what is known of the sources
+-- the facts about the sources
 pub record ArePlain (words : MergeWords) (sources : List Source) : Type 0 where
   pub taken : All IsTaken (tracks_taken (reads_of sources))
   pub types : All (λ (t : TakenTrack). is_taken_type t.track.kind ≡ true) (tracks_taken (reads_of sources))
@@ -88,7 +88,7 @@ pub record ArePlain (words : MergeWords) (sources : List Source) : Type 0 where
   pub records : HaveRecords sources
   pub unrefused : plan_refusal words (reads_of sources) ≡ None
 
--- and of their document
+-- the facts about their document
 pub record HavePlainDocument (words : MergeWords) (sources : List Source) : Type 0 where
   pub sound : IsSoundDocument (whole_document words sources)
   pub lanes : length (lanes_given sources) ≡ length (entries_of (whole_document words sources).front.tracks)
@@ -96,7 +96,7 @@ pub record HavePlainDocument (words : MergeWords) (sources : List Source) : Type
   pub plain : All (λ (entry : Node). first_child CONTENT_ENCODINGS entry ≡ None) (entries_of (whole_document words sources).front.tracks)
   pub limits : OutputKeepsLimits (whole_document words sources)
 
--- ---- lists of octets
+-- ---- lists of bytes
 
 same-joined : (ms ns : List Node) → map octets ms ≡ map octets ns → octets_all (nodes_of ms) ≡ octets_all (nodes_of ns)
 same-joined [] [] same = refl
@@ -125,7 +125,7 @@ uids-from before left (i ∷ reads) =
 files-numbers : (reads : List InputRead) → file_uids reads ≡ file_numbers (records_of reads)
 files-numbers reads = ap renumbered (sym (uids-from [] (uids_of (tracks_taken reads)) reads))
 
--- ---- what is read
+-- ---- result of reading
 
 module _ (tracks_stay : TracksStay) (chapters_stay : ChaptersStay) (tags_stay : TagsStay) (lanes_stay : LanesAreReadAgain) (words : MergeWords) (sources : List Source) (out name : List ℕ) (usual : IsDefault words) (are : ArePlain words sources) (has : HavePlainDocument words sources) where
   abbrev d : Document
@@ -156,7 +156,7 @@ module _ (tracks_stay : TracksStay) (chapters_stay : ChaptersStay) (tags_stay : 
   files : HaveFiles sources
   files = record { filled = are.records.attachments; small = subst (All (λ n. n < 2 ^ 64)) (sym (files-numbers reads)) are.short.files }
 
-  -- ---- what is merged again
+  -- ---- the second merge
 
   module _ (r : FileRecords) (of_d : RecordsOfOutput d r) where
     abbrev s : Source
@@ -258,7 +258,7 @@ module _ (tracks_stay : TracksStay) (chapters_stay : ChaptersStay) (tags_stay : 
       tags = tags-alike;
     }
 
-    -- ---- what could refuse it
+    -- ---- possible refusals
 
     usable : first_unusable s.1.taken ≡ None
     usable =

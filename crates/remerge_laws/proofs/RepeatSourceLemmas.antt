@@ -37,7 +37,7 @@ use Rattle.remerge_laws.proofs.RepeatLemmas.{ArePlain, HavePlainDocument, repeat
 use Rattle.remerge_laws.proofs.RepeatTrackLemmas.{IsOfTakenType, entries-are}
 use Rattle.remerge_laws.proofs.WholeLemmas.{one-document, whole-planned}
 
--- ---- tracks that were taken
+-- ---- selected tracks
 
 all-taken : (sources : List Source) → All IsReadSource sources → All IsTaken (tracks_taken (reads_of sources))
 all-taken sources each = All-weaker IsReadTrack IsTaken (λ t read. read.taken) (tracks_taken (reads_of sources)) (all-tracks sources each)
@@ -48,7 +48,7 @@ module _ (documents_sound : MergedDocumentsAreSound) (layouts_hold : LayoutsHold
   abbrev d : Document
   d = whole_document words sources
 
-  -- what holds of each output holds of the one
+  -- A fact about each output holds for the one output.
   one-of-all : (P : PlannedOutput → Type 0) → All P (outputs_of words sources) → (name : List ℕ) × (blocks : List OutputBlock) × P (record { name = name; blocks = blocks; document = d })
   one-of-all P all =
       let is = one-document words sources usual.split usual.uuids in

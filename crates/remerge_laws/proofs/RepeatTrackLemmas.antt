@@ -1,4 +1,4 @@
--- What the entries say that a merge writes of the tracks that it took.
+-- The values of the entries that a merge writes for its selected tracks.
 use Rattle.std.proofs.Common.{◌≡◌, ◌<◌, ℕ, ◌+◌, ◌^◌, ◌==◌, true, false, List, [], ◌∷◌, length, map, find, All, Option, None, refl, sym, ap, ap₂, ◌∙◌}
 use Rattle.std.specs.Prelude.{unwrap_or}
 use Rattle.std.specs.Option.{option_map}

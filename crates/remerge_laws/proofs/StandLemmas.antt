@@ -1,4 +1,4 @@
--- Chapters and Tags that are changed stand as they stood.
+-- Chapters and Tags that are changed stay valid.
 use Rattle.std.proofs.Common.{◌≡◌, ℕ, ◌+◌, ◌<◌, ◌≤◌, ◌^◌, ◌==◌, Bool, true, ◌&&◌, List, [], ◌∷◌, ◌++◌, length, map, filter, flat_map, All, IfSome, Option, None, Some, refl, sym, ap, ◌∙◌, subst, arith, eqb-true, slice_index, inl, inr}
 use Rattle.std.proofs.lemmas.List.Elements.{All-head, All-tail, filter_passes}
 use Rattle.std.proofs.lemmas.Bool.{cases_Bool}
@@ -23,7 +23,7 @@ use Rattle.record_changes.proofs.TargetLemmas.{target-id, target-is}
 use Rattle.remerge_laws.specs.Changed.{ChaptersStand, ChildrenDecide, TagsStand}
 use Rattle.record_laws.proofs.SettledLemmas.{small-at}
 
--- ---- lists that stand
+-- ---- lists of valid elements
 
 abbrev Stand : ℕ → List Node → Type 0
 Stand parent ns = AllStandIn parent (nodes_of ns)
@@ -140,7 +140,7 @@ chapters-stand editions uids (master id at kids) is own sound fit small =
 -- ---- Tags
 
 module _ (numbers : ℕ → ℕ → Option ℕ) (small : (id uid : ℕ) → IfSome (numbers id uid) (λ n. n < 2 ^ 64)) where
-  -- a target with its number, or nothing
+  -- A target with its number, or nothing.
   target-stands : (n : Node) → StandsIn TARGETS n → Stand TARGETS (written_target numbers n)
   target-stands n stands = elim (cases_Bool (is_target n)) [
     | inl is ↦ rw is (made (number_of numbers n) (target-id (id_of n) (target-is n is)) (small (id_of n) (integer_of n)))
@@ -168,7 +168,7 @@ module _ (numbers : ℕ → ℕ → Option ℕ) (small : (id uid : ℕ) → IfSo
       let rest = targets-shallow ns in
       omega (arith, target-shallow n, depth_all-append (written_target numbers n) (flat_map (written_target numbers) ns))
 
-  -- a child of a Tag
+  -- A child of a Tag.
   part-stands : (parent : ℕ) (n : Node) → StandsIn parent n → StandsIn parent (written_part numbers n)
   part-stands parent (leaf id at body) stands = elim (cases_Bool (id == TARGETS)) [ inl is ↦ rw is stands | inr is ↦ rw is stands ]
   part-stands parent (master id at kids) stands = elim (cases_Bool (id == TARGETS)) [
@@ -193,7 +193,7 @@ module _ (numbers : ℕ → ℕ → Option ℕ) (small : (id uid : ℕ) → IfSo
   parts-shallow [] = omega arith
   parts-shallow (n ∷ ns) = let rest = parts-shallow ns in omega (arith, part-shallow n)
 
-  -- a Tag
+  -- A Tag.
   tag-stands : (parent : ℕ) (n : Node) → StandsIn parent n → StandsIn parent (written_tag numbers n)
   tag-stands parent (leaf id at body) stands = stands
   tag-stands parent (master id at kids) stands = (stands.0, parts-stand id (list_of kids) (stand-list id kids stands.1))
@@ -234,7 +234,7 @@ tags-stand keep numbers (master id at kids) is own sound small =
       shallow = omega (arith, children-shallow numbers small keep (list_of kids));
     }
 
--- ---- Chapters that are made anew
+-- ---- new Chapters
 
 pub children-decide : ChildrenDecide
 children-decide = record {

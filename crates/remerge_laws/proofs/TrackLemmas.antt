@@ -1,4 +1,4 @@
--- The tracks of a Tracks Element are read where it was written.
+-- The tracks of a Tracks element are read after writing.
 use Rattle.std.proofs.Common.{◌≡◌, ◌≢◌, ◌<◌, ◌+◌, ℕ, false, List, [], ◌∷◌, length, map, All, IfSome, Option, None, Some, refl, sym, ap, ap₂, ◌∙◌, subst, arith, unwrap_or, option_map, is_some}
 use Rattle.std.specs.List.{AllZip, AllPairs}
 use Rattle.std.proofs.lemmas.List.Elements.{All-nil, All-cons, All-head, All-tail, length_all_zip}
@@ -19,7 +19,7 @@ use Rattle.remerge_laws.specs.Placed.{StandsAs}
 use Rattle.remerge_laws.specs.Tracks.{IsTrackOf, TracksAreRead}
 use Rattle.remerge_laws.proofs.PlacedLemmas.{body-placed, integer-placed, first-placed, part-placed, text-same}
 
--- ---- what an entry says
+-- ---- values of an entry
 
 integer-same : (id : ℕ) (n : Node) (p : ℕ) → is_filler id ≡ false → integer_in id (placed p n) ≡ integer_in id n
 integer-same id n p keeps = first-placed integer_of integer-placed id keeps n p
@@ -50,7 +50,7 @@ track-same n p = record {
   stands = (p, refl);
 }
 
--- an entry is a track where it was written
+-- The entry of a track is one after writing, too.
 track-placed : (n : Node) (p : ℕ) → IsTrack n → IsTrack (placed p n)
 track-placed n p is = record {
   number = subst (λ (k : ℕ). 0 < k) (sym (uint-same TRACK_NUMBER n p refl)) is.number;
@@ -59,7 +59,7 @@ track-placed n p is = record {
   duration = subst (λ (o : Option ℕ). IfSome o (λ d. d < too_long)) (sym (integer-same DEFAULT_DURATION n p refl)) is.duration;
 }
 
--- ---- all of them
+-- ---- all entries
 
 tracks-same : (ns ms : List Node) → AllZip StandsAs ns ms → AllZip IsTrackOf ns (map track_of ms)
 tracks-same [] [] are = tt
@@ -79,7 +79,7 @@ numbers-same (n ∷ ns) (m ∷ ms) are =
     ap₂ (λ (k : ℕ) ks. k ∷ ks) (ap number_of are.0.1 ∙ uint-same TRACK_NUMBER n are.0.0 refl) (numbers-same ns ms are.1)
 numbers-same _ _ are = absurd are
 
--- the entries of a Tracks Element are read where they were written
+-- The entries of a Tracks element are read after writing.
 pub entries-placed : (tracks : Node) (place : ℕ) → AllZip StandsAs (entries_of tracks) (entries_of (placed place tracks))
 entries-placed (leaf id at body) place = tt
 entries-placed (master id at kids) place = part-placed TRACK_ENTRY kids (place + length (header_octets id (length (octets_all kids)))) refl

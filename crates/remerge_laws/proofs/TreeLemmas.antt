@@ -15,7 +15,7 @@ use Rattle.tree_format.specs.Standing.{kept, kept_all, placed, placed_all, place
 use Rattle.tree_format.proofs.OrderLemmas.{sound-without_limits, tree_of-in_order}
 use Rattle.remerge_laws.specs.Trees.{AlikeRecordsCountAlike, SmallTreesAreRead}
 
--- ---- what is met of a tree in order
+-- ---- elements that are met in a tree, in order
 
 mutual
   length-in_order : (parent around : ℕ) (n : Node) → length (in_order parent around n) ≡ count n
@@ -27,7 +27,7 @@ mutual
   length-all_in_order parent around (node n ns) =
       omega (arith, length-append (in_order parent around n) (all_in_order parent around ns), length-in_order parent around n, length-all_in_order parent around ns)
 
--- an Element that isn't inside too many masters
+-- The element isn't inside too many masters.
 abbrev IsHigh : NodeContext → Type 0
 IsHigh s = too_deep s ≡ None
 
@@ -45,7 +45,7 @@ mutual
   all-high_among parent around (node n ns) low =
       All-append IsHigh (in_order parent around n) (all_in_order parent around ns) (all-high parent around n (omega arith)) (all-high_among parent around ns (omega arith))
 
--- ---- none of it is refused
+-- ---- no refusal
 
 pub none-both : (a b : Option Damage) → first_refusal a b ≡ None → (a ≡ None) × (b ≡ None)
 none-both None b is = (refl, is)
@@ -83,7 +83,7 @@ small-read id offset body base nodes n is few low =
     ∙ ap₂ (λ (o p : Option Damage). unless (first_refusal o p) tree) none_is both.1
     ∙ ap (λ t. let r : Result Node Damage = Ok t in r) parts.1
 
--- ---- an Element that stands where it is written
+-- ---- an element at the place of its written form
 
 mutual
   pub count-placed : (p : ℕ) (n : Node) → count (placed p n) ≡ kept n
@@ -97,7 +97,7 @@ mutual
     | inr other ↦ rw other (ap₂ (λ (a b : ℕ). a + b) (count-placed p n) (count-placed_all (p + length (octets n)) ns))
   ]
 
--- so it is at any two places
+-- The same at any two places.
 count-placed_in : (offset base : ℕ) (n : Node) → count (placed_in offset base n) ≡ kept n
 count-placed_in offset base (leaf id at body) = refl
 count-placed_in offset base (master id at kids) = ap (λ (k : ℕ). k + 1) (count-placed_all base kids)
@@ -116,7 +116,7 @@ mutual
 
 -- ---- records that are written alike
 
--- What is read of both, without limits, is one tree.
+-- Both are read, without limits, as the same tree.
 pub alike-count : AlikeRecordsCountAlike
 alike-count own m n one two same =
     let ids : id_of m ≡ id_of n = one.id ∙ sym two.id in

@@ -34,7 +34,7 @@ use Rattle.remerge_laws.specs.Whole.{WholeMergesHaveSmallRecords, WholeMergesHav
 
 -- ---- one output
 
--- the part that begins at the start and has no end
+-- the part from the start without an end
 abbrev whole_of : MergeWords → List Source → Part
 whole_of words sources = record { start = 0; end = None; blocks = blocks_of words sources }
 
@@ -42,7 +42,7 @@ one-part : (words : MergeWords) (sources : List Source) → words.split ≡ None
 one-part words sources whole =
     whole-part (split_of words sources) (blocks_of words sources) (ap (λ (o : Option SplitWords). spec_of o (starts_in (chapters_of (reads_of sources)))) whole) (ap size_of whole)
 
--- an Info without identifiers is as it is
+-- An Info without identifiers is unchanged.
 own-info : (link : Bool) (scale : ℕ) (title : List ℕ) → with_uuids (uuids_at [] link 1) (output_info scale title) ≡ output_info scale title
 unfolding with_uuids
 own-info true scale title =
@@ -71,7 +71,7 @@ one-document words sources whole plain =
 
 -- ---- its records
 
--- where of two neither stands, none stands
+-- If neither value is present, the first one is absent; below, the second one is absent.
 pub first-none : {A : Type 0} → (a b : Option A) → option_or a b ≡ None → a ≡ None
 first-none None b none = refl
 first-none (Some x) b none = none
@@ -96,7 +96,7 @@ none-large : (id : ℕ) (o : Option Node) → too_large id o ≡ None → IfSome
 none-large id None none = tt
 none-large id (Some n) none = not-large id n none
 
--- an Info has a few Elements
+-- An Info has a few elements.
 few-info : (scale : ℕ) (title : List ℕ) → kept (output_info scale title) ≤ MAX_NODES
 few-info scale [] = omega arith
 few-info scale (octet ∷ octets) = omega arith

@@ -1,4 +1,5 @@
--- What is read of an output gives its records again when it is merged alone: RFC 9559, sections 5.1.7 (Chapters Element) and 5.1.8 (Tags Element). That they stay is this project's.
+-- An output that is merged by itself gets its own records: RFC 9559, sections 5.1.7 (Chapters Element) and 5.1.8 (Tags Element). This is this
+-- project's promise.
 use Rattle.std.specs.Prelude.{◌≡◌, List, [], ◌∷◌, map, None}
 use Rattle.record_changes.specs.Atoms.{chapter_uids, edition_uids}
 use Rattle.record_laws.specs.Tags.{keep_all}
@@ -11,7 +12,7 @@ use Rattle.merge_plan.specs.Records.{tags_of}
 use Rattle.remerge_laws.specs.Alike.{MayBeAlike}
 use Rattle.remerge_laws.specs.Placed.{MayStandAs}
 
--- An input that isn't appended, of which all Tags are kept, has the identifiers that a merge of inputs gave.
+-- The input `again`, which isn't appended and keeps all Tags, has the identifiers that a merge of the inputs `reads` gave.
 pub record HasIdentifiersOf (reads : List InputRead) (again : InputRead) : Type 0 where
   pub tracks : map (λ (t : TakenTrack). t.track.uid) again.taken ≡ (identifiers_of reads).tracks
   pub editions : uids_in edition_uids again.chapters ≡ (identifiers_of reads).editions
@@ -20,7 +21,7 @@ pub record HasIdentifiersOf (reads : List InputRead) (again : InputRead) : Type 
   pub alone : again.shift ≡ None
   pub keep : again.keep ≡ keep_all
 
--- Where it has the Tags of that merge as they stand where they were written, what is merged of it alone has these Tags.
+-- An input with the Tags of that merge, as they were written, gets these Tags if it is merged by itself.
 abbrev pub TagsAreAlikeAgain : Type 0
 TagsAreAlikeAgain =
     (reads : List InputRead) (again : InputRead) → Have64Bits (identifiers_of reads) → HasIdentifiersOf reads again → MayStandAs (tags_of reads) again.tags

@@ -1,4 +1,5 @@
--- The attached files that are read of an output are merged again as they were: RFC 9559, section 5.1.6 (Attachments Element). That they stay is this project's.
+-- The attached files that are read from an output are merged again as they were: RFC 9559, section 5.1.6 (Attachments Element). This is this
+-- project's promise.
 use Rattle.std.specs.Prelude.{◌≡◌, ◌<◌, ◌^◌, List, [], ◌∷◌, map, All}
 use Rattle.std.specs.List.{AllZip}
 use Rattle.mkv_schema.specs.declared.ids.TheConstants.{FILE_UID}
@@ -12,12 +13,13 @@ use Rattle.remerge_laws.specs.Alike.{AreAlike}
 use Rattle.remerge_laws.specs.Files.{IsFileOf}
 use Rattle.remerge_laws.specs.OwnFiles.{IsNumbered}
 
--- The attached files of sources can be written, with FileUIDs of 64 bits.
+-- The attached files of `sources` can be written, with FileUIDs of 64 bits.
 pub record HaveFiles (sources : List Source) : Type 0 where
   pub filled : All IsFilled (attachments_of sources)
   pub small : All (λ n. n < 2 ^ 64) (file_uids (reads_of sources))
 
--- Each has one FileUID, and these are settled; and those that are read of a content, which is merged alone, are written as they were.
+-- Each attached file has one FileUID, and these are settled. Files that are read from a content are written as they were if it is merged by
+-- itself.
 pub record AttachedFilesStay : Type 0 where
   pub numbered : (sources : List Source) → HaveFiles sources → All IsNumbered (attachments_of sources)
   pub uids : (sources : List Source) → HaveFiles sources → map (uint_in FILE_UID) (attachments_of sources) ≡ file_uids (reads_of sources)

@@ -1,4 +1,5 @@
--- An output that is merged alone is read as the one source of that merge: RFC 8794, section 8 (EBML Document). What refuses a merge, and how one ends, is this project's.
+-- An output that is merged by itself is read as the one source of that merge: RFC 8794, section 8 (EBML Document). Refusals and ends of a merge
+-- are this project's.
 use Rattle.std.specs.Prelude.{◌≡◌, ℕ, false, List, [], ◌∷◌, length, map, Option, Some, None, Ok}
 use Rattle.mkv_schema.specs.Outline.{outline_of}
 use Rattle.meta_records.specs.Records.{FileRecords, file_records}
@@ -17,15 +18,15 @@ use Rattle.mkv_merge.specs.Read.{first_written, pending_of}
 use Rattle.remerge_laws.specs.Plain.{plain_merge}
 use Rattle.remerge_laws.specs.Repeat.{source_again}
 
--- Nothing refuses a merge of one file without options before the file is read: what is written has another name than what is read, the file is there, with this content,
--- and no edit is pending.
+-- Nothing refuses a merge of one file without options before the file is read. The output has another name than the files that are read, the file
+-- exists with the content `bytes`, and no edit is pending.
 pub record CanBegin (world : List ℕ → Option (List ℕ)) (words : MergeWords) (bytes : List ℕ) : Type 0 where
   pub apart : first_written words ≡ None
   pub there : map world (file_names words.files) ≡ Some bytes ∷ []
   pub settled : pending_of world words ≡ None
 
--- A merge of an output, without options, has the output as its one source, with the outline and the records that are read of it, where nothing refuses
--- the merge before it is read, its tracks can be used, and the plan refuses nothing.
+-- A merge of an output without options has the output as its one source, with the outline and the records that are read from it. Premises:
+-- nothing refuses the merge before reading, its tracks can be used, and the plan isn't refused.
 abbrev pub OutputsAreSources : Type 0
 OutputsAreSources =
     (world : List ℕ → Option (List ℕ)) (out name : List ℕ) (d : Document) (r : FileRecords) → CanBegin world (plain_merge out name) (layout d)
@@ -33,7 +34,7 @@ OutputsAreSources =
     → first_unusable (taken_from (plain_file name) 0 r.tracks) ≡ None → plan_refusal (plain_merge out name) (reads_of (source_again name d r ∷ [])) ≡ None
     → sources_of world (plain_merge out name) ≡ Ok (source_again name d r ∷ [])
 
--- A merge without options of one source, in which no damage is met, is done: nothing is warned of.
+-- A merge without options of one source without damage ends without a warning.
 abbrev pub MergeIsDone : Type 0
 MergeIsDone =
     (world : List ℕ → Option (List ℕ)) (out name : List ℕ) (source : Source) → sources_of world (plain_merge out name) ≡ Ok (source ∷ [])

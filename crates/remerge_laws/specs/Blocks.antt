@@ -1,4 +1,5 @@
--- When a reader's limits leave the blocks of a file as they are: RFC 9559, sections 5.1.3 (Cluster Element) and 10 (Cluster Blocks). The limits are this project's.
+-- Conditions under which a reader's limits leave the blocks of a file unchanged: RFC 9559, sections 5.1.3 (Cluster Element) and 10 (Cluster
+-- Blocks). The limits are this project's.
 use Rattle.std.specs.Prelude.{◌≡◌, ◌≤◌, ℕ, ◌==◌, true, false, Bool, ◌||◌, List, [], length, All}
 use Rattle.mkv_schema.specs.declared.ids.TheConstants.{BLOCK_GROUP, CLUSTER, SIMPLE_BLOCK}
 use Rattle.mkv_schema.specs.declared.element.Header.{Header}
@@ -14,33 +15,33 @@ use Rattle.output_model.specs.Sound.{IsSoundDocument}
 use Rattle.output_laws.specs.Reading.{blocks_of_document, header_of_segment}
 use Rattle.remerge_laws.specs.Outline.{KeepsReaderLimits}
 
--- a SimpleBlock or a BlockGroup
+-- the ID of a SimpleBlock or a BlockGroup
 abbrev pub is_block : ℕ → Bool
 is_block id = id == SIMPLE_BLOCK || id == BLOCK_GROUP
 
--- A child of a Cluster, if it is a block, has 32 MiB at most.
+-- A child of a Cluster has at most 32 MiB if it is a block.
 abbrev pub IsShortBlock : Header → Type 0
 IsShortBlock h = is_block h.id ≡ true → known h.size ≤ MAX_BLOCK_LEN
 
--- So has each block in the Clusters of a Segment.
+-- Each block in the Clusters of a Segment is short.
 abbrev pub AreShortBlocks : List ℕ → Header → Type 0
 AreShortBlocks bytes segment =
     All (λ (c : Header). (c.id == CLUSTER) ≡ true → All IsShortBlock (cluster_run bytes (segment_bound bytes segment) c).list)
     (segment_run bytes segment).list
 
--- Neither its time nor its duration nor a reference is too large for a reader, and it has 64 references at most.
+-- The timestamp, the duration and the references of the block `b` aren't too large for a reader, and it has at most 64 references.
 pub record IsReadable (b : Block) : Type 0 where
   pub times : has_too_large_time b ≡ false
   pub few : length b.references ≤ MAX_REFERENCES
 
--- Where a file is read without limits and no damage is told, its blocks are short and a reader can read each, limits change nothing.
+-- Limits change nothing if a file is read without limits and without damage, its blocks are short, and a reader can read each.
 abbrev pub LimitsLeaveBlocks : Type 0
 LimitsLeaveBlocks =
     (scale : ℕ) (bytes : List ℕ) (segment : Header) → damages_of (events_of (without_limits scale) bytes segment) ≡ []
     → AreShortBlocks bytes segment → All IsReadable (blocks_of (events_of (without_limits scale) bytes segment))
     → events_of (with_limits scale) bytes segment ≡ events_of (without_limits scale) bytes segment
 
--- So it is of an output, whose Info is then read with limits too.
+-- The same for an output, whose Info can then be read with limits, too.
 abbrev pub OutputBlocksAreRead : Type 0
 OutputBlocksAreRead =
     (d : Document) → IsSoundDocument d → KeepsReaderLimits d.front.info → AreShortBlocks (layout d) (header_of_segment d) → All IsReadable (blocks_of_document d)

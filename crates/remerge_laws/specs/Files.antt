@@ -18,27 +18,27 @@ use Rattle.output_laws.specs.Reading.{header_of_segment, level_1_of}
 use Rattle.meta_records.specs.Attached.{AttachedFile, first_attached}
 use Rattle.meta_records.specs.Attachments.{ScannedElement, at_child, attached_in, children_of, limit_passed, met_in, too_many_files}
 
--- The first limit that what is met in an Attachments Element passes, behind so many counted octets and so many nodes. Damages are left aside.
+-- the first limit that the scanned elements of an Attachments element pass, after `octets` counted bytes and `nodes` nodes; damage is ignored
 abbrev pub passed_from : ℕ → ℕ → List (Result ScannedElement Damage) → Option Damage
 passed_from octets nodes [] = None
 passed_from octets nodes (Err d ∷ rest) = passed_from octets nodes rest
 passed_from octets nodes (Ok m ∷ rest) =
     first_refusal (limit_passed (octets + m.counted) nodes m.header) (passed_from (octets + m.counted) (nodes + 1) rest)
 
--- An Attachments Element of a content passes no limit of a reader.
+-- The Attachments element `h` of a content keeps a reader's limits.
 pub record AttachmentsKeepLimits (bytes : List ℕ) (h : Header) : Type 0 where
   pub counted : passed_from 0 1 (met_in (at_child bytes) (children_of bytes h)) ≡ None
   pub files : too_many_files (attached_in bytes h) ≡ None
 
--- An attached file that is read of a content is this AttachedFile: it has its ID and its FileUID; and with its data, and whatever FileUID it is
--- given, it is written as the AttachedFile with that FileUID.
+-- The attached file `a` in the content `bytes` is the AttachedFile `n`. It has its ID and its FileUID. With its data and any FileUID, it is
+-- written as `n` with that FileUID.
 pub record IsFileOf (bytes : List ℕ) (n : Node) (a : AttachedFile) : Type 0 where
   pub id : id_of a.entry ≡ ATTACHED_FILE
   pub uid : a.uid ≡ uint_in FILE_UID n
   pub same : (uid : ℕ)
       → octets (with_data (octets_from bytes a.at a.len) (set_in (uint_leaf FILE_UID uid) a.entry)) ≡ octets (set_in (uint_leaf FILE_UID uid) n)
 
--- A reader finds the attached files of an output whose Attachments Element passes no limit: each AttachedFile of the document, in their order.
+-- A reader finds the attached files of an output whose Attachments element keeps the limits: each AttachedFile of the document, in order.
 abbrev pub FilesAreRead : Type 0
 FilesAreRead =
     (d : Document) → IsSoundDocument d → IfSome (first_of ATTACHMENTS (level_1_of d)) (AttachmentsKeepLimits (layout d))

@@ -1,4 +1,5 @@
--- What a merge wrote, merged again alone and without options: RFC 9559, section 5.1 (Segment Element). That it comes out as it was is this project's.
+-- The output of a merge, merged again by itself and without options: RFC 9559, section 5.1 (Segment Element). It is written as it was, which is
+-- this project's promise.
 use Rattle.std.specs.Prelude.{◌≡◌, ⊤, ℕ, List, [], ◌∷◌, All, Option, Some, Ok, map}
 use Rattle.std.specs.Str.{IsUtf8}
 use Rattle.mkv_io.specs.Names.{Names, with_content}
@@ -20,8 +21,8 @@ use Rattle.remerge_laws.specs.Limits.{IsWithinLimits}
 use Rattle.remerge_laws.specs.Plain.{plain_merge}
 use Rattle.remerge_laws.specs.Repeat.{IsDefault}
 
--- A content is what a merge wrote: usual words of a command line asked for the merge, in a world of names that hold octets; nothing refused it;
--- what its sources give can be read again; and of its outputs this is the one.
+-- The content `bytes` is the output of a merge. A command line with default options asked for the merge, and the contents of all files were
+-- bytes. Nothing refused it, the records of its sources can be read again, and it had this one output.
 pub record IsMergeOutput (bytes : List ℕ) : Type 0 where
   pub world : List ℕ → Option (List ℕ)
   pub octets : HoldsOctets world
@@ -35,14 +36,15 @@ pub record IsMergeOutput (bytes : List ℕ) : Type 0 where
   pub records : HaveRecords sources
   pub written : map (λ (o : PlannedOutput). layout o.document) (outputs_of words sources) ≡ bytes ∷ []
 
--- A merge of a file of this content, alone and without options, isn't refused, has nothing to warn of, and gives the content to its one output.
+-- A merge of the file `name` with this content, by itself and without options, isn't refused and has no warning. Its one output has the same
+-- content.
 pub record IsWrittenAgain (world : List ℕ → Option (List ℕ)) (out name bytes : List ℕ) : Type 0 where
   pub sources : List Source
   pub taken : sources_of world (plain_merge out name) ≡ Ok sources
   pub outputs : map laid_out (outputs_of (plain_merge out name) sources) ≡ record { name = out; content = bytes } ∷ []
   pub done : (merge_verdict world (plain_merge out name)).status ≡ Done
 
--- So it is of what a merge wrote that keeps a reader's limits, wherever it lies, where nothing refuses the merge before it reads.
+-- The output of a merge that keeps a reader's limits is written again, under any name, if nothing refuses the merge before reading.
 abbrev pub OutputsAreWrittenAgain : Type 0
 OutputsAreWrittenAgain =
     (world : List ℕ → Option (List ℕ)) (out name bytes : List ℕ) → CanBegin world (plain_merge out name) bytes → IsMergeOutput bytes → IsWithinLimits bytes
@@ -50,15 +52,15 @@ OutputsAreWrittenAgain =
 
 -- ---- a run
 
--- what stands after a run whose words merge, alone and without options, a file that a merge wrote and that keeps a reader's limits, where nothing
--- refuses this before the file is read; the names are told, and what they hold is octets
+-- the fact that a run writes an output again. Its command line merges, without other files and options, a file that a merge wrote and that keeps
+-- a reader's limits. Nothing refuses the merge before reading, the names are visible to the proof, and all contents are bytes.
 abbrev pub WhereMergedAgain : Names → List (List ℕ) → ((List ℕ → Option (List ℕ)) → List ℕ → List ℕ → Type 0) → Type 0
 WhereMergedAgain old line Stands =
     IfVisible old (λ world. HoldsOctets world → (out name bytes : List ℕ) → command line ≡ Ok (Merge (plain_merge out name)) → CanBegin world (plain_merge out name) bytes
     → IsMergeOutput bytes → IsWithinLimits bytes → Stands world out bytes)
 
--- Such a run isn't refused and warns of nothing; where it ends by itself, its output has the
--- content that the file has, octet for octet, and no other name has changed.
+-- Such a run isn't refused and has no warning. If it ends by itself, its output has the content of the file, byte for byte, and no other name has
+-- changed.
 abbrev pub MergesAgain : Names → List (List ℕ) → Names → Status → Type 0
 MergesAgain old line new Done = WhereMergedAgain old line (λ world out bytes. new ≡ with_content (Some world) out bytes)
 MergesAgain old line new Warned = WhereMergedAgain old line (λ world out bytes. ⊥)

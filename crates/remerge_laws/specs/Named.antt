@@ -1,4 +1,4 @@
--- What the targets of Tags name in an output: RFC 9559, section 5.1.8.1.1 (Targets Element). Which numbers they have is this project's.
+-- The elements that targets of Tags name in an output: RFC 9559, section 5.1.8.1.1 (Targets Element). Their numbers are this project's.
 use Rattle.std.specs.Prelude.{ℕ, ◌==◌, if◌then◌else◌, List, [], All, Contains}
 use Rattle.mkv_schema.specs.declared.ids.TheConstants.{TAG_TRACK_UID, TAG_EDITION_UID, TAG_CHAPTER_UID, TAG_ATTACHMENT_UID}
 use Rattle.tree_format.specs.Node.{Node, id_of}
@@ -11,7 +11,7 @@ use Rattle.merge_plan.specs.Identifiers.{Have64Bits, Identifiers, identifiers_of
 use Rattle.merge_plan.specs.Records.{records_of}
 use Rattle.remerge_laws.specs.Joined.{IsWrittenTag}
 
--- the identifiers of an output that targets of an ID name
+-- the identifiers of an output that targets with the ID `id` name
 abbrev pub named_by : Identifiers → ℕ → List ℕ
 named_by ids id =
     if id == TAG_TRACK_UID then ids.tracks else
@@ -19,16 +19,15 @@ named_by ids id =
     (if id == TAG_CHAPTER_UID then ids.chapters else
     (if id == TAG_ATTACHMENT_UID then ids.files else [])))
 
--- A target names one of these.
+-- The target names one of the identifiers.
 abbrev pub NamesOneOf : Identifiers → Node → Type 0
 NamesOneOf ids target = Contains (named_by ids (id_of target)) (integer_of target)
 
--- The Tags of a merge of inputs, in one Tags Element.
+-- the Tags of a merge of inputs, in one Tags element
 abbrev pub tags_joined : List InputRead → Node
 tags_joined reads = joined_tags (numbers_of (records_of reads)) (records_of reads)
 
--- Each is a Tag that was written of an input, and its targets name tracks, editions, chapters and attached files that the output has, also where
--- it is read.
+-- Each Tag was written from an input. Its targets name tracks, editions, chapters and attached files that the output has, also after reading.
 pub record JoinedTagsNameTheOutput : Type 0 where
   pub written : (reads : List InputRead) → Have64Bits (identifiers_of reads) → All IsWrittenTag (tags_from (numbers_of (records_of reads)) (records_of reads))
   pub named : (reads : List InputRead) (place : ℕ) → Have64Bits (identifiers_of reads)

@@ -1,4 +1,5 @@
--- The outline of an output, as a reader with limits finds it: RFC 8794, section 8 (EBML Document), and RFC 9559, section 5.1 (Segment Element). The limits are this project's.
+-- The outline of an output, as a reader with limits finds it: RFC 8794, section 8 (EBML Document), and RFC 9559, section 5.1 (Segment Element).
+-- The limits are this project's.
 use Rattle.std.specs.Prelude.{◌≡◌, ◌≤◌, length, IfSome, Ok}
 use Rattle.mkv_schema.specs.declared.limits.TheConstants.{MAX_MASTER_LEN}
 use Rattle.mkv_schema.specs.Outline.{outline_of}
@@ -10,12 +11,12 @@ use Rattle.output_model.specs.Document.{Document, layout}
 use Rattle.output_model.specs.Sound.{IsSoundDocument}
 use Rattle.output_laws.specs.Reading.{outline_of_document}
 
--- A record is one that a reader with limits reads: 16 MiB and 65,536 Elements at most.
+-- A reader with limits can read the record `n`: it has at most 16 MiB and 65,536 elements.
 pub record KeepsReaderLimits (n : Node) : Type 0 where
   pub short : length (content n) ≤ MAX_MASTER_LEN
   pub few : kept n ≤ MAX_NODES
 
--- So are the Info, the Tracks, the Chapters and the Tags of a document.
+-- A reader with limits can read the Info, Tracks, Chapters and Tags of the document `d`.
 pub record RecordsKeepLimits (d : Document) : Type 0 where
   pub info : KeepsReaderLimits d.front.info
   pub tracks : KeepsReaderLimits d.front.tracks

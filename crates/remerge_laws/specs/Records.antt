@@ -1,4 +1,5 @@
--- The records that a reader with limits finds in an output: RFC 9559, sections 5.1.2 (Info Element), 5.1.4 (Tracks Element), 5.1.7 (Chapters Element) and 5.1.8 (Tags Element). The limits are this project's.
+-- The records that a reader with limits finds in an output: RFC 9559, sections 5.1.2 (Info Element), 5.1.4 (Tracks Element), 5.1.7 (Chapters
+-- Element) and 5.1.8 (Tags Element). The limits are this project's.
 use Rattle.std.specs.Prelude.{◌≡◌, ℕ, List, map, Option, Some, Ok, IfSome, true, false, length}
 use Rattle.std.specs.List.{AllZip}
 use Rattle.mkv_schema.specs.declared.ids.TheConstants.{ATTACHMENTS, CHAPTERS, INFO, TAGS, TRACKS}
@@ -24,30 +25,30 @@ use Rattle.remerge_laws.specs.Files.{AttachmentsKeepLimits, IsFileOf}
 
 -- ---- trees
 
--- A reader finds this record as the first Element of its ID, as it stands where it was written; where there is no record it finds none.
+-- A reader finds the record `own` as the first element with the ID `id`, as it was written, or no element if there is no record.
 abbrev pub FirstTreeIs : ℕ → List ℕ → Header → Option Node → Type 0
 FirstTreeIs id bytes segment own = (found : Option Node) × (first_tree id bytes segment ≡ Ok found) × MayStandAs own found
 
--- A reader finds the records of a document in its output.
+-- A reader finds the records of the document `d` in its output.
 pub record FindsTrees (d : Document) : Type 0 where
   pub info : FirstTreeIs INFO (layout d) (header_of_segment d) (Some d.front.info)
   pub tracks : FirstTreeIs TRACKS (layout d) (header_of_segment d) (Some d.front.tracks)
   pub chapters : FirstTreeIs CHAPTERS (layout d) (header_of_segment d) d.chapters
   pub tags : FirstTreeIs TAGS (layout d) (header_of_segment d) d.tags
 
--- So does one with limits, where the records keep them.
+-- A reader with limits finds them if the records keep the limits.
 abbrev pub TreesAreRead : Type 0
 TreesAreRead = (d : Document) → IsSoundDocument d → RecordsKeepLimits d → FindsTrees d
 
--- ---- all that describes an output
+-- ---- all records of an output
 
--- The tracks are those of the entries of a Tracks Element, which stand where it was written.
+-- The tracks `read` belong to the entries of the Tracks element `tracks`, as they are read after writing.
 pub record AreTracksOf (tracks : Node) (read : List Track) : Type 0 where
   pub say : AllZip IsTrackOf (entries_of tracks) read
   pub place : ℕ
   pub stand : read ≡ map track_of (entries_of (placed place tracks))
 
--- What was read describes a document: its Info and its scale, its tracks, its attached files, its Chapters and its Tags.
+-- The records `r` describe the document `d`: its Info and scale, tracks, attached files, Chapters and Tags.
 pub record RecordsOfOutput (d : Document) (r : FileRecords) : Type 0 where
   pub info : MayStandAs (Some d.front.info) r.info
   pub scale : scale_of_info r.info ≡ scale_of d.front.info
@@ -58,13 +59,13 @@ pub record RecordsOfOutput (d : Document) (r : FileRecords) : Type 0 where
 
 -- ---- an output as a whole
 
--- An output keeps a reader's limits: its records do, its Attachments Element does, and its blocks are read with limits as without them.
+-- The output of `d` keeps a reader's limits: its records and its Attachments element do, and its blocks are the same with and without limits.
 pub record OutputKeepsLimits (d : Document) : Type 0 where
   pub records : RecordsKeepLimits d
   pub attachments : IfSome (first_of ATTACHMENTS (level_1_of d)) (AttachmentsKeepLimits (layout d))
   pub blocks : file_events true (layout d) (header_of_segment d) ≡ file_events false (layout d) (header_of_segment d)
 
--- A reader with limits finds a document in its output: its outline, its records, and its blocks without damage.
+-- A reader with limits finds the document `d` in its output: its outline, its records, and its blocks without damage.
 pub record IsReadWithLimits (d : Document) : Type 0 where
   pub outline : outline_of 0 (layout d) ≡ Ok (outline_of_document d (length (layout d)))
   pub records : (r : FileRecords) × (file_records (layout d) (header_of_segment d) ≡ Ok r) × RecordsOfOutput d r

@@ -1,7 +1,7 @@
 #![tactic(auto)]
 
-//! Laws of what a reader with limits finds in an output that is merged again: RFC 9559, section 5.1 (Segment Element). The
-//! calls, which do nothing, carry the laws, and `run` cites `outputs_are_written_again`.
+//! Laws on outputs that are merged again and read with a reader's limits: RFC 9559, section 5.1 (Segment Element).
+//! The functions do nothing; their contracts are the laws. `run` cites `outputs_are_written_again`.
 
 mod merges;
 mod outputs;

@@ -1,4 +1,4 @@
-//! What a merge makes that is merged again: RFC 9559, section 5.1 (Segment Element).
+//! Laws on the output of a merge that is merged again: RFC 9559, section 5.1 (Segment Element).
 
 ghost use Rattle.remerge_laws.specs.Again.{TagsAreAlikeAgain};
 ghost use Rattle.remerge_laws.specs.AgainChapters.{ChaptersAreAlikeAgain};
@@ -23,60 +23,60 @@ pub fn whole_merges_have_one_document()
     ensures { WholeMergesHaveOneDocument }
 {}
 
-/// Its records keep a reader's limits, where nothing refused the merge.
+/// The records of that document keep a reader's limits if nothing refused the merge.
 pub fn whole_merges_have_small_records()
     ensures { WholeMergesHaveSmallRecords }
 {}
 
-/// The targets of its Tags name tracks, editions, chapters and attached files that the output has.
+/// The targets of the document's Tags name tracks, editions, chapters and attached files that the output has.
 pub fn joined_tags_name_the_output()
     ensures { JoinedTagsNameTheOutput }
 {}
 
-/// Merged alone, an output with the identifiers of the merge gets the Tags that it has.
+/// Merged by itself, an output with the identifiers of the merge gets the Tags that it has.
 pub fn tags_are_alike_again()
     ensures { TagsAreAlikeAgain }
 {
     tags_stay();
 }
 
-/// So it gets its attached files.
+/// Merged by itself, an output gets its own attached files.
 pub fn attached_files_stay()
     ensures { AttachedFilesStay }
 {}
 
-/// Its lanes are those that were merged, and no damage is met in it.
+/// Merged by itself, an output gets the output tracks that were merged, and no damage is met in it.
 pub fn lanes_are_merged_again()
     ensures { LanesAreMergedAgain }
 {
     lanes_are_read_again();
 }
 
-/// All its tracks are taken, as they stand.
+/// All tracks of an output are selected, and aren't changed.
 pub fn tracks_are_taken_again()
     ensures { TracksAreTakenAgain }
 {}
 
-/// Their entries are written as they were.
+/// The entries of an output's tracks are written as they were.
 pub fn entries_are_written_again()
     ensures { EntriesAreWrittenAgain }
 {
     tracks_stay();
 }
 
-/// So it gets its Chapters.
+/// Merged by itself, an output gets its own Chapters.
 pub fn chapters_are_alike_again()
     ensures { ChaptersAreAlikeAgain }
 {
     chapters_stay();
 }
 
-/// So it gets its Info.
+/// Merged by itself, an output gets its own Info.
 pub fn info_is_written_again()
     ensures { InfoIsWrittenAgain }
 {}
 
-/// What a merge of a command line with usual words reads is plain.
+/// The sources of a merge with default options are plain.
 pub fn sources_are_plain()
     ensures { SourcesArePlain }
 {
@@ -84,8 +84,8 @@ pub fn sources_are_plain()
     sources_are_read();
 }
 
-/// Nothing refuses what is planned of an output of plain sources that keeps a reader's limits, where it is merged alone and
-/// without options, and it is written as it was, octet for octet.
+/// An output of plain sources that keeps a reader's limits is written as it was, byte for byte, if it is merged by
+/// itself and without options. The plan isn't refused.
 pub fn outputs_are_repeated()
     ensures { OutputsAreRepeated }
 {
@@ -97,17 +97,17 @@ pub fn outputs_are_repeated()
     layouts_hold_outputs();
 }
 
-/// An output that is merged alone and without options is the one source of that merge, where nothing refuses it.
+/// An output that is merged by itself and without options is the one source of that merge, if nothing refuses it.
 pub fn outputs_are_sources()
     ensures { OutputsAreSources }
 {}
 
-/// A merge without options of one source, in which no damage is met, is done without a warning.
+/// A merge without options of one source without damage ends without a warning.
 pub fn merge_is_done()
     ensures { MergeIsDone }
 {}
 
-/// What a merge of a command line with usual words wrote is written again as it was, octet for octet, when it is merged alone
+/// The output of a merge with default options is written again as it was, byte for byte, if it is merged by itself
 /// and without options.
 pub fn outputs_are_written_again()
     ensures { OutputsAreWrittenAgain }

@@ -1,5 +1,5 @@
-//! What a reader with limits finds in an output: RFC 8794, section 8 (EBML Document), and RFC 9559, section 5.1 (Segment
-//! Element).
+//! Laws on outputs that are read with a reader's limits: RFC 8794, section 8 (EBML Document), and RFC 9559, section
+//! 5.1 (Segment Element).
 
 ghost use Rattle.remerge_laws.specs.Alike.{AlikeDocumentsAreOne};
 ghost use Rattle.remerge_laws.specs.Blocks.{LimitsLeaveBlocks, OutputBlocksAreRead};
@@ -8,17 +8,17 @@ ghost use Rattle.remerge_laws.specs.Limits.{OctetsKeepLimits};
 ghost use Rattle.remerge_laws.specs.Outline.{OutlinesAreRead};
 ghost use Rattle.remerge_laws.specs.Records.{OutputsAreReadWithLimits, TreesAreRead};
 
-/// The outline of an output whose records keep a reader's limits is read with them.
+/// The outline of an output is read with limits if its records keep them.
 pub fn outlines_are_read()
     ensures { OutlinesAreRead }
 {}
 
-/// So are its Info, its Tracks, its Chapters and its Tags, each as it stands where it was written.
+/// Info, Tracks, Chapters and Tags of an output are read with limits, each at the place of the written record.
 pub fn trees_are_read()
     ensures { TreesAreRead }
 {}
 
-/// The attached files of an output are read where its Attachments Element passes no limit.
+/// The attached files of an output are read if its Attachments element keeps the limits.
 pub fn files_are_read()
     ensures { FilesAreRead }
 {}
@@ -28,22 +28,22 @@ pub fn outputs_are_read_with_limits()
     ensures { OutputsAreReadWithLimits }
 {}
 
-/// An output that a merge planned keeps them as soon as its octets do.
+/// A planned output keeps a reader's limits if its bytes do.
 pub fn octets_keep_limits()
     ensures { OctetsKeepLimits }
 {}
 
-/// Short blocks that a reader can read are read with limits as without them.
+/// Short blocks that a reader can read are the same with and without limits.
 pub fn limits_leave_blocks()
     ensures { LimitsLeaveBlocks }
 {}
 
-/// So are those of an output, whose Info is then read with limits too.
+/// The blocks of an output are the same with and without limits, if its Info can be read.
 pub fn output_blocks_are_read()
     ensures { OutputBlocksAreRead }
 {}
 
-/// Documents whose records are written alike, with the same Clusters and cue points, are one to the octet.
+/// Documents whose records are written alike, with the same Clusters and cue points, have the same bytes.
 pub fn alike_documents_are_one()
     ensures { AlikeDocumentsAreOne }
 {}
