@@ -1,4 +1,4 @@
--- What the items of pieces say about each thing.
+-- The items of pieces, by their subjects.
 use Rattle.std.proofs.Common.{◌≡◌, ℕ, ◌+◌, Bool, true, false, ◌||◌, if◌then◌else◌, List, [], ◌∷◌, ◌++◌, Option, Some, None, refl, sym, ◌∙◌, append_assoc, option_map, option_and_then, inl, inr}
 use Rattle.std.proofs.lemmas.List.Folds.{list_any-append}
 use Rattle.std.proofs.lemmas.List.Elements.{filter_map-append}
@@ -14,7 +14,7 @@ use Rattle.merge_words.specs.Said.{value_in, value_about, said_about}
 use Rattle.merge_words.specs.Files.{ids_of}
 use Rattle.word_laws.proofs.SayingLemmas.{said_stands, Item, Said, Piece, takes, said_items, after_said, piece_items, after_pieces}
 
--- what is said about this
+-- the values of the pieces with the subject
 abbrev pub about : Subject → List Piece → List Said
 about t [] = []
 about t (p ∷ ps) = if same p.subject t then p.said ++ about t ps else about t ps
@@ -30,7 +30,7 @@ first_said (x ∷ xs) = Some x.says
 abbrev pub all_said : {Y : Type 0} → (Value → Option Y) → List Said → List Y
 all_said k list = filter_map (λ (x : Said). k x.says) list
 
--- ---- of one piece
+-- ---- items of one piece
 said_stands_is : (at : ℕ) (s t : Subject) (c : Scope) (list : List Said) → same s t ≡ true → stands t (said_items at s c list) ≡ is_said list
 said_stands_is at s t c [] is = refl
 said_stands_is at s t c (x ∷ xs) is = rw is refl
@@ -84,7 +84,7 @@ value_of_about t (p ∷ ps) at =
       | inr is ↦ rw (said_value_not at p.subject t p.scope p.said is, is) refl
     ])
 
--- all values about it
+-- All values with the subject.
 module _ {Y : Type 0} (k : Value → Option Y) where
   said_all_is : (at : ℕ) (s t : Subject) (c : Scope) (list : List Said) → same s t ≡ true → said_about k t (said_items at s c list) ≡ all_said k list
   said_all_is at s t c [] is = refl
@@ -104,7 +104,7 @@ module _ {Y : Type 0} (k : Value → Option Y) where
         | inr is ↦ rw (said_all_not at p.subject t p.scope p.said is, is) refl
       ])
 
--- the tracks that are named
+-- the named tracks
 abbrev pub ids_said : List Said → List ℕ
 ids_said list = flat_map (λ (x : Said). ids_of x.says) list
 
@@ -122,7 +122,7 @@ ids_part (p ∷ ps) (y ∷ ys) at are =
     ∙ rw (said_ids at p.subject p.scope p.said) (rw are.0 (rw (ids_part ps ys (after_said at p.said) are.1) refl))
 ids_part _ _ _ are = absurd are
 
--- ---- pieces one behind the other
+-- ---- pieces in sequence
 pub piece_items-append : (ps qs : List Piece) (at : ℕ) → piece_items at (ps ++ qs) ≡ piece_items at ps ++ piece_items (after_pieces at ps) qs
 piece_items-append [] qs at = refl
 piece_items-append (p ∷ ps) qs at = rw (piece_items-append ps qs (after_said at p.said)) (sym (append_assoc (said_items at p.subject p.scope p.said) (piece_items (after_said at p.said) ps) (piece_items (after_pieces (after_said at p.said) ps) qs)))

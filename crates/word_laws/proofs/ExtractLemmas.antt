@@ -1,4 +1,4 @@
--- The words of `extract` are read back.
+-- The command line of `extract` is read back.
 use Rattle.std.proofs.Common.{◌≡◌, ◌≢◌, ◌≤◌, ℕ, ◌+◌, false, nat_le, List, [], ◌∷◌, ◌++◌, length, map, codes, Ok, refl, sym, ◌∙◌, arith, append_assoc, All, le-ltb}
 use Rattle.std.proofs.lemmas.Bool.{and_right}
 use Rattle.std.proofs.lemmas.Fmt.{decimal_nonempty}
@@ -29,7 +29,7 @@ differ_at : (name : List ℕ) (bs : List Target) (t : Target) (ts : List Target)
 differ_at name [] t ts others = others.0
 differ_at name (b ∷ bs) t ts others = differ_at name bs t ts others.1
 
--- a name that is apart from those before it isn't taken
+-- A name that differs from the earlier ones is free.
 free_at : (bs : List Target) (t : Target) (ts : List Target) → AreApart (names_of (bs ++ t ∷ ts)) → is_taken t.name bs ≡ false
 free_at [] t ts apart = refl
 free_at (b ∷ bs) t ts apart =
@@ -61,7 +61,7 @@ unfolding targets
 targets_four least a b c d [] are short = let some = are.some in absurd (omega arith)
 targets_four least a b c d (t ∷ ts) are short = targets_from_read least [] 4 (t ∷ ts) are.apart are.from short
 
--- a target doesn't look like an option
+-- A target doesn't look like an option.
 pub numbered_plain : (n : ℕ) (rest : List ℕ) → HasFewDigits n → is_option (with_number n rest) ≡ false
 numbered_plain n rest short =
     let fits = short_fits n short in
@@ -84,7 +84,7 @@ full_read : (a b c : List ℕ) (list : List Target) → AreTargets 0 list → Ha
 unfolding tracks
 full_read a b c list are short = rw (targets_four 0 a b c (codes "--fullraw") list are short) refl
 
--- the words behind the mode say what is taken out
+-- The arguments after the mode are read as the job.
 job_read : (file : List ℕ) (j : Job) (name : List ℕ) (rest : List (List ℕ)) → IsFileName file → job name (codes "extract" ∷ file ∷ name ∷ rest) ≡ Ok j
     → command (codes "extract" ∷ file ∷ name ∷ rest) ≡ Ok (commands.Extract file j)
 unfolding command_named extract

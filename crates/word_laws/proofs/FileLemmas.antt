@@ -1,4 +1,4 @@
--- A file of a merge, with the options for it, is read back.
+-- An input of a merge, with the options for it, is read back.
 use Rattle.std.proofs.Common.{◌≡◌, ◌<◌, ◌^◌, ℕ, ◌+◌, ℤ, Bool, true, false, not, if◌then◌else◌, nat_le, List, [], ◌∷◌, ◌++◌, map, codes, None, refl, ◌∙◌, subst, arith, append_assoc, All, ◌==◌, nat_abs}
 use Rattle.std.proofs.lemmas.Bool.{or_parts}
 use Rattle.std.proofs.lemmas.Bool.Decides.{nat_tests}
@@ -66,7 +66,7 @@ file_pieces f =
     record { subject = subject.Cues; scope = scope.Track; said = said_cues f } ∷
     record { subject = subject.Times; scope = scope.Track; said = said_times f } ∷ []
 
--- with the `+` before them
+-- the pieces of a file with the `+` before them
 abbrev pub group : FileWords → List Piece
 group f = record { subject = subject.Append; scope = scope.File; said = join_said f } ∷ file_pieces f
 
@@ -97,7 +97,7 @@ file_spelled f = pieces_spelled (file_pieces f) (file_options f) (
     tt)
 
 -- ---- the options are read
--- delays that are whole milliseconds keep their limit
+-- Delays that are whole milliseconds keep their limit.
 abbrev IsSoundDelay : ℤ → Type 0
 IsSoundDelay d = (nat_abs d < 2 ^ 55) × IsDelay d
 
@@ -153,7 +153,7 @@ file_items at f = piece_items at (group f) ++ item (after_pieces at (group f)) s
 abbrev pub after_file : ℕ → FileWords → ℕ
 after_file at f = after_pieces at (group f) + 1
 
--- as many files as before
+-- Items without a file count as no file.
 none_counted : (items : List Item) → stands subject.File items ≡ false → files_in items ≡ 0
 none_counted [] none = refl
 none_counted (i ∷ is) none = let parts = or_parts (is_file i) (stands subject.File is) none in rw parts.0 (none_counted is parts.1)

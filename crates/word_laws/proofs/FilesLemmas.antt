@@ -1,4 +1,4 @@
--- The files of a merge are read back, one behind the other.
+-- The inputs of a merge are read back, in sequence.
 use Rattle.std.proofs.Common.{◌≡◌, ◌<◌, ◌≤◌, ℕ, ◌+◌, Bool, true, false, ◌&&◌, List, [], ◌∷◌, ◌++◌, length, Ok, refl, ◌∙◌, arith, append_assoc, All, ◌==◌, flat_map}
 use Rattle.std.proofs.lemmas.Bool.{and_parts, or_parts}
 use Rattle.std.proofs.lemmas.Bool.Decides.{nat_tests}
@@ -22,7 +22,7 @@ use Rattle.word_laws.proofs.GroupLemmas.{among, AreFree}
 use Rattle.word_laws.proofs.FileLemmas.{group, file_items, after_file, file_read, counted_both, same_count}
 use Rattle.word_laws.proofs.OwnLemmas.{group_says, file_is}
 
--- ---- behind a file nothing is said yet
+-- ---- no option was given after a file yet
 pub none_since : (before : List Item) (at : ℕ) (f : FileWords) → since_file (before ++ file_items at f) ≡ []
 none_since before at f =
     let last = item (after_pieces at (group f)) subject.File scope.Output (File f.name) in
@@ -70,7 +70,7 @@ files_read (f ∷ fs) count before at sound are some few none =
     let next = files_read fs count (before ++ file_items at f) (after_file at f) (All-tail IsSoundFile f fs sound) (All-tail IsMergeFile f fs are) (omega arith) (omega arith) (none_since before at f) in
     here ∙ (next ∙ rw (append_assoc before (file_items at f) (files_items (after_file at f) fs)) refl)
 
--- ---- and are what they were spelled from
+-- ---- the files that are read are the given ones
 pub files_behind : (front own rest : List Item) → stands subject.File own ≡ false → files_from front (own ++ rest) ≡ files_from (front ++ own) rest
 files_behind front [] rest none = rw (append-nil front) refl
 files_behind front (i ∷ is) rest none =

@@ -1,4 +1,4 @@
--- Options that each stand once, or once for each track, are read one behind the other.
+-- Options that are given once, or once for each track, are read in sequence.
 use Rattle.std.proofs.Common.{◌≡◌, ℕ, ◌+◌, Bool, true, false, not, ◌&&◌, if◌then◌else◌, List, [], ◌∷◌, ◌++◌, map, Some, None, Ok, refl, sym, ap, ◌∙◌, arith, append_assoc, All, ◌==◌, is_some}
 use Rattle.std.proofs.lemmas.Bool.{and_parts, and_right, or_parts}
 use Rattle.std.proofs.lemmas.Bool.Decides.{nat_tests}
@@ -20,7 +20,7 @@ use Rattle.merge_words.specs.Merge.{start, starts, read_all, takes_next}
 use Rattle.merge_words.proofs.ItemsLemmas.{latest, since_latest}
 use Rattle.word_laws.proofs.SayingLemmas.{Item, Said, Piece, words_said, said_words, piece_words, takes, next_of, item, said_items, after_said, piece_items, after_pieces, read_one, IsOption, value_item, flag_item, value_width, flag_width, none_about, not_and, said_stands, stands_both}
 
--- ---- the items since the last file grow with what is said
+-- ---- the items since the last file grow with each option
 latest_none : (group ys : List Item) → stands subject.File ys ≡ false → latest group ys ≡ group ++ ys
 latest_none group [] none = sym (append-nil group)
 latest_none group (y ∷ ys) none =
@@ -38,7 +38,7 @@ latest_grows group (x ∷ xs) ys none =
 pub since_grows : (before ys : List Item) → stands subject.File ys ≡ false → since_file (before ++ ys) ≡ since_file before ++ ys
 since_grows before ys none = since_latest (before ++ ys) ∙ (latest_grows [] before ys none ∙ ap (λ l. l ++ ys) (sym (since_latest before)))
 
--- the items among which an option of this scope may stand once
+-- the items among which an option of this scope may be given once
 abbrev pub among : Scope → List Item → List Item
 among scope.Output before = before
 among scope.File before = since_file before
@@ -49,7 +49,7 @@ among_grows scope.Output before ys none = refl
 among_grows scope.File before ys none = since_grows before ys none
 among_grows scope.Track before ys none = since_grows before ys none
 
--- ---- what is said is an option
+-- ---- options
 pub record IsSaid (s : Subject) (c : Scope) (x : Said) : Type 0 where
   pub width : takes_next (meaning_of x.word) ≡ is_some x.value
   pub reads : (before : List Item) (at count : ℕ) (rest : List (List ℕ)) → repeats_in c s before ≡ false → repeats_for s (track_in x.says) before ≡ false
@@ -74,7 +74,7 @@ once_free s scope.Output before free = free
 once_free s scope.File before free = free
 once_free s scope.Track before free = refl
 
--- ---- an option that stands at most once
+-- ---- an option that may be given once
 abbrev pub IsOnce : Subject → Scope → List Said → Type 0
 IsOnce s c [] = Unit {0}
 IsOnce s c (x ∷ []) = IsSaid s c x × (track_in x.says ≡ None)
@@ -91,7 +91,7 @@ once_read s c (x ∷ []) is count before at rest free =
     rw (append-nil (words_said x.word x.value)) (read_one count before at x.word x.value (item at s c x.says) rest is.0.width (is.0.reads before at count rest (once_free s c before free) none))
 once_read s c (x ∷ y ∷ ys) is count before at rest free = absurd is
 
--- ---- an option that stands once for each track
+-- ---- an option that may be given once for each track
 none_for : (s : Subject) (id : ℕ) (items : List Item) → stands s items ≡ false → stands_for s id items ≡ false
 none_for s id [] none = refl
 none_for s id (i ∷ is) none = let parts = or_parts (same i.subject s) (stands s is) none in rw parts.0 (none_for s id is parts.1)
@@ -140,7 +140,7 @@ module _ {X : Type 0} (s : Subject) (make : ℕ × X → Said) (names : (p : ℕ
       → IsReadable (record { subject = s; scope = scope.Track; said = map make list })
   tracks_read list file apart are count before at rest free = tracks_from list count before at rest file apart are (all_free list before free)
 
--- ---- options about different things
+-- ---- options with different subjects
 abbrev pub none_like : Subject → List Piece → Bool
 none_like s [] = true
 none_like s (p ∷ ps) = not (same s p.subject) && none_like s ps
@@ -153,7 +153,7 @@ abbrev pub AreReadable : List Piece → Type 0
 AreReadable [] = Unit {0}
 AreReadable (p ∷ ps) = IsReadable p × AreReadable ps
 
--- nothing was said about them before
+-- No earlier item has their subjects.
 abbrev pub AreFree : List Item → List Piece → Type 0
 AreFree before [] = Unit {0}
 AreFree before (p ∷ ps) = (stands p.subject (among p.scope before) ≡ false) × AreFree before ps

@@ -1,4 +1,4 @@
--- Commands that have a spelling are read back, whichever they are.
+-- Commands that have a canonical command line are read back, for each kind.
 use Rattle.std.proofs.Common.{Some, None}
 use Rattle.mkv_args.specs.declared.command.Command.TheVariants as command
 use Rattle.word_laws.specs.Laws.{SpelledIsRead}

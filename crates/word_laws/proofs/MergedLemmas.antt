@@ -1,4 +1,4 @@
--- The words of a merge are read back.
+-- The command line of a merge is read back.
 use Rattle.std.proofs.Common.{◌≡◌, inl, inr, ◌<◌, ◌≤◌, ℕ, Bool, true, false, ◌||◌, List, [], ◌∷◌, ◌++◌, length, codes, Option, Some, None, Ok, refl, sym, ap, ◌∙◌, arith, append_assoc, All, ◌==◌, slice_get, IfSome, option_map, option_and_then, unwrap_or, eqb-true, flat_map}
 use Rattle.std.proofs.lemmas.Bool.{or_parts, cases_Bool}
 use Rattle.std.proofs.lemmas.Bool.Decides.{nat_tests}
@@ -69,7 +69,7 @@ or_false : (b : Bool) → (b || false) ≡ b
 or_false true = refl
 or_false false = refl
 
--- what is said of the output is said before the files
+-- The options for the output come before the files.
 out_stands : (w : MergeWords) (t : Subject) → ((f : FileWords) → none_about t (group f) ≡ true) → same subject.File t ≡ false → stands t (all_items w) ≡ is_said (about t (output_pieces w))
 out_stands w t none file =
     list_any-append (λ (i : Item). same i.subject t) (out_items w) (files_items (begin w) w.files)
@@ -80,7 +80,7 @@ out_value w t none file =
     value_either t (out_items w) (files_items (begin w) w.files)
     ∙ (rw (none_value t (files_items (begin w) w.files) (files_other t w.files (begin w) none file)) (or_none (value_in t (out_items w))) ∙ value_of_about t (output_pieces w) 1)
 
--- ---- what is read of the output
+-- ---- values of the output
 text_back : (o : Option (List ℕ)) → option_and_then text_of (option_map Text o) ≡ o
 text_back None = refl
 text_back (Some x) = refl
@@ -139,7 +139,7 @@ module _ (w : MergeWords) (is : IsSpellableMerge w) where
   link_is : stands subject.Link (all_items w) ≡ w.link
   link_is = out_stands w subject.Link (λ f. refl) refl ∙ flag_stands (codes "--link") Flag w.link
 
--- ---- what is read of the files
+-- ---- values of the files
 joined_none : {X : Type 0} (a b c : List X) → a ≡ [] → b ≡ c → a ++ b ≡ c
 joined_none a b c none same = rw none same
 
@@ -165,7 +165,7 @@ said_is w sound is =
     rw (webm_is w is) (rw (title_is w is) (rw (chapters_is w is) (rw (scale_is w is) (rw (blocks_is w is) (rw (span_is w is)
     (rw (split_is w is) (rw (parted_files (all_items w) ∙ all_files w w.files (omega arith) is.files) (rw (uuids_is w is) (rw (link_is w is) refl)))))))))
 
--- ---- the words are read as the items
+-- ---- arguments are read as the items
 since_all : (fs : List FileWords) (before : List Item) (at : ℕ) → since_file before ≡ [] → since_file (before ++ files_items at fs) ≡ []
 since_all [] before at none = rw (append-nil before) none
 since_all (f ∷ fs) before at none = rw (← append_assoc before (file_items at f) (files_items (after_file at f) fs)) (since_all fs (before ++ file_items at f) (after_file at f) (none_since before at f))
@@ -174,7 +174,7 @@ out_since : (w : MergeWords) → since_file (out_items w) ≡ out_items w
 unfolding since_file
 out_since w = since_grows [] (out_items w) (other_stands 1 subject.File (output_pieces w) refl)
 
--- what is said of the output says nothing of a file
+-- The options for the output have no subject of a file.
 free_first : (w : MergeWords) (f : FileWords) → AreFree (out_items w) (group f)
 free_first w f = (free subject.Append refl & free subject.Video refl & free subject.Audio refl & free subject.Subtitles refl & free subject.Attachments refl & free subject.TrackTags refl & free subject.GlobalTags refl & free subject.Chapters refl & free subject.Sync refl & free subject.TrackName refl & free subject.Language refl & free subject.DefaultFlag refl & free subject.ForcedFlag refl & free subject.Cues refl & free subject.Times refl & tt)
   where

@@ -7,7 +7,7 @@ use Rattle.requests.specs.Decimal.{whole, number}
 use Rattle.word_values.specs.Values.{track_and_rest}
 use Rattle.word_laws.specs.Values.{HasFewDigits, with_number}
 
--- ---- numbers alone
+-- ---- single numbers
 pub whole_read : (n : ℕ) → n < 2 ^ 64 → whole (decimal n) ≡ Some n
 unfolding whole
 whole_read n small = rw (lt-ltb 0 (length (decimal n)) (decimal_nonempty n small), decimal_all n small, (decimal_is_IsNumeral n small).1) refl
@@ -22,7 +22,7 @@ pub number_read : (n : ℕ) → HasFewDigits n → number (decimal n) ≡ Some n
 unfolding number
 number_read n short = rw (le-leb (length (decimal n)) 18 (short_length n short)) (whole_read n (short_fits n short))
 
--- ---- a number, and what is said of it
+-- ---- a number and the value after it
 pub numbered_read : (n : ℕ) (rest : List ℕ) → HasFewDigits n → track_and_rest (with_number n rest) ≡ Some (n, rest)
 unfolding track_and_rest
 numbered_read n rest short =

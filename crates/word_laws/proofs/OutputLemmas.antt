@@ -29,7 +29,7 @@ use Rattle.word_laws.proofs.AboutLemmas.{ids_said, ids_part}
 use Rattle.word_laws.proofs.PieceLemmas.{means, said_flag, flag_words, flag_readable, flag_ids, said_value, value_words, text_words, value_ids}
 use Rattle.word_laws.proofs.FileLemmas.{pieces_spelled}
 
--- ---- so many blocks, or so many milliseconds
+-- ---- limits in blocks or milliseconds
 abbrev pub said_length : Bool → Bool → ℕ → ℕ → List Said
 said_length false whole blocks span = record { word = codes "--cluster-length"; value = Some (decimal blocks); says = Blocks blocks } ∷ []
 said_length true false blocks span = record { word = codes "--cluster-length"; value = Some (decimal (span / 1000000) ++ codes "ms"); says = Span span } ∷ []
@@ -116,7 +116,7 @@ output_spelled w = pieces_spelled (output_pieces w) (output_options w) (
     flag_words (codes "--link") Flag w.link &
     tt)
 
--- a value that is read back, where there is one
+-- A value is read back, if there is one.
 value_readable : {X : Type 0} (s : Subject) (f : ValueForm) (word : List ℕ) (text : X → List ℕ) (value : X → Value) (o : Option X) → IsOption word (means s scope.Output f) → flag_of f ≡ None
     → ((x : X) → track_in (value x) ≡ None) → ((x : X) → o ≡ Some x → value_of f (text x) ≡ Some (value x)) → IsReadable (record { subject = s; scope = scope.Output; said = said_value word text value o })
 value_readable s f word text value None is due none reads = once_read s scope.Output [] tt
@@ -152,7 +152,7 @@ output_read w count rest sound is =
     let read = pieces_read (output_pieces w) count [] 1 rest refl refl (output_readable w sound is) (refl, (refl, (refl, (refl, (refl, (refl, (refl, (refl, (refl, tt))))))))) in
     subst (λ ws. read_all count [] (starts 1 (ws ++ rest)) ≡ read_all count (piece_items 1 (output_pieces w)) (starts (after_pieces 1 (output_pieces w)) rest)) (output_spelled w) read
 
--- ---- what the pieces say of files
+-- ---- the pieces have no subject of a file
 pub ids_none : (w : MergeWords) (at : ℕ) → flat_map (λ (i : Item). ids_of i.value) (piece_items at (output_pieces w)) ≡ []
 ids_none w at = ids_part (output_pieces w) ([] ∷ [] ∷ [] ∷ [] ∷ [] ∷ [] ∷ [] ∷ [] ∷ [] ∷ []) at (
     refl &

@@ -1,4 +1,4 @@
--- What is read of the options for a file is what they were spelled from.
+-- The options that are read for a file are the given ones.
 use Rattle.std.proofs.Common.{◌≡◌, ℕ, not, List, [], ◌∷◌, ◌++◌, codes, refl, sym, ◌∙◌, option_and_then, unwrap_or, flat_map}
 use Rattle.std.proofs.lemmas.List.{append-nil}
 use Rattle.requests.specs.declared.track.Select.{Select}
@@ -16,7 +16,7 @@ use Rattle.word_laws.proofs.AboutLemmas.{about, first_said, stands_about, value_
 use Rattle.word_laws.proofs.PieceLemmas.{said_flag, flag_stands, flag_kept, flag_ids, said_select, select_ids, tracks_said, tracks_ids}
 use Rattle.word_laws.proofs.FileLemmas.{join_said, said_syncs, said_names, said_languages, said_defaults, said_forced, said_cues, said_times, group}
 
--- ---- what pieces say of a file
+-- ---- pieces of a file
 pub record IsSaidOf (f : FileWords) (ps : List Piece) : Type 0 where
   pub joins : about subject.Append ps ≡ join_said f ++ []
   pub video : about subject.Video ps ≡ said_select (codes "--video-tracks") (codes "--no-video") f.video ++ []
@@ -98,7 +98,7 @@ module _ (f : FileWords) (ps : List Piece) (at : ℕ) (is : IsSaidOf f ps) where
       rw joins_is (rw video_is (rw audio_is (rw subtitles_is (rw attachments_is (rw track_tags_is (rw global_tags_is (rw chapters_is
       (rw syncs_is (rw names_is (rw languages_is (rw defaults_is (rw forced_is (rw cues_is (rw times_is (rw (named_is named) refl)))))))))))))))
 
--- ---- the pieces of a file say it
+-- ---- the pieces give the options
 abbrev id_lists : FileWords → List (List ℕ)
 id_lists f = [] ∷ ids_of_select f.video ∷ ids_of_select f.audio ∷ ids_of_select f.subtitles ∷ [] ∷ [] ∷ [] ∷ [] ∷ ids_in f.syncs ∷ ids_in f.names ∷ ids_in f.languages ∷ ids_in f.defaults ∷ ids_in f.forced ∷ ids_in f.cues ∷ ids_in f.times ∷ []
 

@@ -1,4 +1,4 @@
--- What the words of a file say, piece by piece: how each is spelled, and that it is read.
+-- The pieces of a file: the arguments of each, and that they are read back.
 use Rattle.std.proofs.Common.{◌≡◌, ℕ, Bool, true, false, not, List, [], ◌∷◌, ◌++◌, map, codes, Option, Some, None, refl, All, option_map}
 use Rattle.std.proofs.lemmas.List.{append-nil}
 use Rattle.std.proofs.lemmas.List.Elements.{All-nil, All-cons, All-head, All-tail}
@@ -45,7 +45,7 @@ pub flag_stands : (word : List ℕ) (value : Value) (b : Bool) → is_said (said
 flag_stands word value true = refl
 flag_stands word value false = refl
 
--- where the flag says that something isn't kept
+-- The flag is given if the value isn't kept.
 pub flag_kept : (word : List ℕ) (value : Value) (b : Bool) → not (is_said (said_flag word value (not b) ++ [])) ≡ b
 flag_kept word value true = refl
 flag_kept word value false = refl
@@ -54,7 +54,7 @@ pub flag_ids : (word : List ℕ) (b : Bool) → ids_said (said_flag word Flag b)
 flag_ids word true = refl
 flag_ids word false = refl
 
--- ---- a value, where there is one
+-- ---- a value, if there is one
 abbrev pub said_value : {X : Type 0} → List ℕ → (X → List ℕ) → (X → Value) → Option X → List Said
 said_value word text value None = []
 said_value word text value (Some x) = record { word = word; value = Some (text x); says = value x } ∷ []
@@ -75,7 +75,7 @@ pub value_ids : {X : Type 0} (word : List ℕ) (text : X → List ℕ) (value : 
 value_ids word text value None none = refl
 value_ids word text value (Some x) none = rw (none x) refl
 
--- ---- the tracks of one type that are taken
+-- ---- selected tracks of one type
 abbrev pub said_select : List ℕ → List ℕ → Select → List Said
 said_select taken none select.All = []
 said_select taken none (select.These ids) = record { word = taken; value = Some (numbers_word ids); says = Tracks (select.These ids) } ∷ []
@@ -104,7 +104,7 @@ select_ids taken none (select.These ids) = append-nil ids
 select_ids taken none (select.AllBut ids) = append-nil ids
 select_ids taken none select.Off = refl
 
--- ---- something of each track
+-- ---- a value for each track
 module _ {X : Type 0} (word : List ℕ) (text : X → List ℕ) (value : ℕ → X → Value) where
   abbrev pub said_track : ℕ × X → Said
   said_track p = record { word = word; value = Some (with_number p.0 (text p.1)); says = value p.0 p.1 }

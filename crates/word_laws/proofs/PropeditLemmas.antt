@@ -1,4 +1,4 @@
--- The words of `propedit` are read back.
+-- The command line of `propedit` is read back.
 use Rattle.std.proofs.Common.{◌≡◌, ◌≤◌, inl, inr, ℕ, ◌+◌, Bool, true, false, List, [], ◌∷◌, length, codes, Some, Ok, refl, sym, ap, ◌∙◌, subst, arith, All, slice_index, ◌==◌, le-leb, flat_map}
 use Rattle.std.proofs.lemmas.Bool.Decides.{nat_tests}
 use Rattle.std.proofs.lemmas.Fmt.{decimal_nonempty}
@@ -36,7 +36,7 @@ not_begun : (o : ℕ) (word : List ℕ) → (slice_index word 0 == o) ≡ false 
 not_begun o [] other = refl
 not_begun o (x ∷ xs) other = let apart : (o == x) ≡ false = grind (arith, nat_tests) in rw apart refl
 
--- a number begins with no other octet than a digit
+-- The first byte of a number is a digit.
 digit_first : (o n : ℕ) → is_ascii_digit o ≡ false → HasFewDigits n → begins (o ∷ []) (decimal n) ≡ false
 digit_first o n other short =
     let fits = short_fits n short in
@@ -74,7 +74,7 @@ section_read (spot.Uid uid) sound is = rw (number_read uid is) refl
 section_read (spot.Number n) sound is = rw (number_read n is) refl
 
 -- ---- edits
--- what the words of edits say
+-- the edits that the arguments give
 abbrev sayings : List Edit → List EditOption
 sayings [] = []
 sayings (e ∷ es) = says.Section e.place ∷ says.Change e.change e.name e.value ∷ sayings es
@@ -98,7 +98,7 @@ property_read change.Set name value is = rw (cut_behind 61 name value is) refl
 property_read change.Add name value is = rw (cut_behind 61 name value is) refl
 property_read change.Delete name value is = rw is refl
 
--- an edit, behind a section or another edit
+-- An edit after a section or another edit.
 change_read : (count : ℕ) (edited : Bool) (at : ℕ) (e : Edit) (words : List (List ℕ)) (more : List EditOption) → IsSpellableEdit e → all_said count true (pairs (at + 2) words) ≡ Ok more
     → all_said count edited (pairs at (change_word e.change ∷ property_word e.change e.name e.value ∷ words)) ≡ Ok (says.Change e.change e.name e.value ∷ more)
 change_read count edited at e words more is rest = rw (change_step e.change, property_read e.change e.name e.value is.property, rest) refl

@@ -1,4 +1,4 @@
--- Options that are said one behind the other are read as items.
+-- Options in sequence are read as items.
 use Rattle.std.proofs.Common.{◌≡◌, ℕ, ◌+◌, Bool, true, false, not, ◌&&◌, List, [], ◌∷◌, ◌++◌, codes, Option, Some, None, Ok, refl, ap, ◌∙◌, slice_get, is_some, inl, inr, flat_map}
 use Rattle.std.proofs.lemmas.Bool.{and_parts, not-true, cases_Bool}
 use Rattle.std.proofs.lemmas.List.Folds.{list_any-append}
@@ -15,12 +15,12 @@ use Rattle.merge_words.specs.Items.{item_at, option_at, stands, track_in, repeat
 use Rattle.merge_words.specs.Merge.{start, starts, read_all, takes_next}
 use Rattle.word_laws.proofs.SimpleLemmas.{other_word}
 
--- one fact, and then the others
+-- One fact, and then the others.
 infixr 20 ◌&◌
 abbrev pub ◌&◌ : {P Q : Type 0} → P → Q → P × Q
 p & q = (p, q)
 
--- ---- what is said
+-- ---- options and pieces
 
 abbrev pub member : {A : Type 0} → List A → Type 0
 member {A} list = A
@@ -29,13 +29,13 @@ member {A} list = A
 abbrev pub Item : Type 0
 Item = member (since_file [])
 
--- an option's word and its value, with what they say
+-- An option and its value, with their meaning.
 pub record Said : Type 0 where
   pub word : List ℕ
   pub value : Option (List ℕ)
   pub says : Value
 
--- what is said about one thing
+-- The options with one subject.
 pub record Piece : Type 0 where
   pub subject : Subject
   pub scope : Scope
@@ -51,7 +51,7 @@ said_words list = flat_map (λ (s : Said). words_said s.word s.value) list
 abbrev pub piece_words : List Piece → List (List ℕ)
 piece_words pieces = flat_map (λ (p : Piece). said_words p.said) pieces
 
--- how many words it takes
+-- the number of its arguments
 abbrev pub takes : Option (List ℕ) → ℕ
 takes None = 1
 takes (Some value) = 2
@@ -59,7 +59,7 @@ takes (Some value) = 2
 abbrev pub item : ℕ → Subject → Scope → Value → Item
 item at subject scope value = record { at = at; subject = subject; scope = scope; value = value }
 
--- the items of what is said about one thing, from a number on
+-- the items of the options with one subject, numbered from a number on
 abbrev pub said_items : ℕ → Subject → Scope → List Said → List Item
 said_items at subject scope [] = []
 said_items at subject scope (s ∷ ss) = item at subject scope s.says ∷ said_items (at + takes s.value) subject scope ss
@@ -103,7 +103,7 @@ looks_known word means known = elim (cases_Bool (is_option word)) [ inl is ↦ i
 no_join : (word : List ℕ) → is_option word ≡ true → bytes_eq word (codes "+") ≡ false
 no_join word looks = other_word word (codes "+") (λ is. let e : is_option word ≡ false = ap is_option is in cc)
 
--- with a value
+-- The option with a value.
 pub value_item : (word : List ℕ) (means : Meaning) (before : List Item) (at count : ℕ) (text : List ℕ) (value : Value) → IsOption word means
     → flag_of means.form ≡ None → value_of means.form text ≡ Some value → repeats means before ≡ false → repeats_for means.subject (track_in value) before ≡ false
     → item_at before (start at word (Some text)) count ≡ Ok (item at means.subject means.scope value)
@@ -111,7 +111,7 @@ unfolding item_at option_at
 value_item word means before at count text value is due reads once free =
     rw (no_join word (looks_known word means is.0)) (rw (looks_known word means is.0) (rw is.0 (rw is.1 (rw once (rw due (rw reads (rw free refl)))))))
 
--- without one
+-- The option without a value.
 pub flag_item : (word : List ℕ) (means : Meaning) (before : List Item) (at count : ℕ) (next : Option (List ℕ)) (value : Value) → IsOption word means
     → flag_of means.form ≡ Some value → repeats means before ≡ false → repeats_for means.subject (track_in value) before ≡ false
     → item_at before (start at word next) count ≡ Ok (item at means.subject means.scope value)
@@ -125,7 +125,7 @@ value_width word means is due = rw is.0 (rw due refl)
 pub flag_width : (word : List ℕ) (means : Meaning) (value : Value) → IsOption word means → flag_of means.form ≡ Some value → takes_next (meaning_of word) ≡ false
 flag_width word means value is says = rw is.0 (rw says refl)
 
--- ---- items of pieces that are about something else
+-- ---- items of pieces with another subject
 abbrev pub none_about : Subject → List Piece → Bool
 none_about subject [] = true
 none_about subject (p ∷ ps) = not (same p.subject subject) && none_about subject ps

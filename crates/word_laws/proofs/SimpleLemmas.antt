@@ -1,4 +1,4 @@
--- Commands of one to three words are read back.
+-- Commands of one to three arguments are read back.
 use Rattle.std.proofs.Common.{◌≡◌, ℕ, true, false, List, [], ◌∷◌, codes, Option, Some, None, IsSome, Result, Ok, refl, ap, subst, ◌∙◌, arith, le-leb, lt-ltb}
 use Rattle.std.proofs.lemmas.Bool.{and_right}
 use Rattle.std.specs.Str.{bytes_eq}
@@ -23,9 +23,9 @@ use Rattle.word_laws.specs.Spellable.{HasHelp}
 use Rattle.word_laws.proofs.NumberLemmas.{number_read}
 pub use Rattle.lemmas.proofs.PlainLemmas.{bytes_eq-differ as other_word}
 
--- ---- words that are another word
+-- ---- arguments that differ from an option
 
--- a file's name is no option
+-- The name of a file isn't an option.
 pub no_option : (name option : List ℕ) → IsFileName name → is_option option ≡ true → bytes_eq name option ≡ false
 no_option name option file is = other_word name option (λ same. let e : is_option name ≡ true = ap is_option same ∙ is in cc)
 
@@ -47,7 +47,7 @@ pub by_verb : (v : Verb) (rest : List (List ℕ)) → helped (verb_word v ∷ re
 unfolding command first_command
 by_verb v rest none = let first = first_word v rest in rw first.1 (rw none (rw first.0 refl))
 
--- no help is asked for where a file stands, or more than two words
+-- No help is asked for if there is a file, or if there are more than two arguments.
 file_helps_none : (first file : List ℕ) → IsFileName file → helped (first ∷ file ∷ []) ≡ None
 file_helps_none first file plain = rw (no_option file (codes "--help") plain refl) refl
 
@@ -108,12 +108,12 @@ pub list_read : command (codes "explain" ∷ []) ≡ Ok (commands.Explain None)
 unfolding command first_command command_named verbs explain
 list_read = refl
 
--- `--help` is no name, so a name that has a page asks for no help
+-- A name that has a page isn't `--help`, so it asks for no help.
 explain_helps_none : (name : List ℕ) → IsSome (page_of name) → helped (codes "explain" ∷ name ∷ []) ≡ None
 unfolding word_topics refusal_topics edit_topics damage_topics warning_topics result_topics general_topics
 explain_helps_none name has = rw (other_word name (codes "--help") (λ same. let page : false ≡ true = subst (λ (n : List ℕ). IsSome (page_of n)) same has in cc)) refl
 
--- a value that is there is read
+-- A value that is present is read.
 some_read : (value : Option (List (List ℕ))) (rest : Result Command Usage) → IsSome value → (read_value 1 value >>= (λ _. rest)) ≡ rest
 some_read None rest is = absurd (cc)
 some_read (Some value) rest is = refl

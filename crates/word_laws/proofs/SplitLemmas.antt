@@ -1,4 +1,4 @@
--- Where an output is split, and identifiers of outputs, are read back.
+-- Splits and identifiers of outputs are read back.
 use Rattle.std.proofs.Common.{◌∙◌, sym, ap, zero, suc, Bool, nat_lt, [], ◌∷◌, ◌++◌, ◌-◌, ◌*◌, ◌/◌, ◌%◌, min, ◌||◌, if◌then◌else◌, ◌≡◌, ◌≤◌, ◌<◌, ◌^◌, ℕ, true, false, List, length, map, codes, Some, refl, ap, arith, All, slice_index, ◌==◌, le-leb}
 use Rattle.std.proofs.lemmas.List.Elements.{All-weaker}
 use Rattle.std.proofs.lemmas.Bool.{and_parts, and_right}
@@ -57,7 +57,7 @@ all_read : split (split_word split_by.AllChapters) ≡ Some split_by.AllChapters
 unfolding split split_of chapters
 all_read = rw (cut_behind 58 (codes "chapters") (codes "all") refl) refl
 
--- ---- an amount of octets
+-- ---- a number of bytes
 amount_read : (n : ℕ) → 1 ≤ n → n < 10 ^ 12 → amount (decimal n) ≡ Some n
 unfolding amount
 amount_read n some small =
@@ -67,7 +67,7 @@ amount_read n some small =
 ends_other : (w : List ℕ) (o p : ℕ) → (o == p) ≡ false → ends (w ++ o ∷ []) p ≡ false
 ends_other w o p other = rw (last_is w o) (and_right (nat_lt 0 (length (w ++ o ∷ []))) _ other)
 
--- what stands in a unit
+-- `limit` is given in the unit `unit`.
 pub record IsIn (unit limit : ℕ) : Type 0 where
   some : 1 ≤ limit / unit
   few : limit / unit < 10 ^ 12

@@ -1,4 +1,4 @@
--- Commands with their spellings, computed, so that a wrong definition does not check. The lines were written by hand.
+-- Commands with their canonical command lines, computed: a wrong definition doesn't check. The lines were written by hand.
 use Rattle.std.proofs.Common.{◌≢◌, ◌<◌, ◌^◌, inl, arith, ◌≡◌, ℕ, ◌==◌, true, false, List, [], ◌∷◌, codes, Some, map, refl, pos, neg_ℤ}
 use Rattle.std.specs.List.{slice_split}
 use Rattle.std.specs.Fmt.{digits}
@@ -21,7 +21,7 @@ use Rattle.requests.specs.declared.merge.FileWords.{FileWords}
 use Rattle.requests.specs.declared.merge.MergeWords.{MergeWords}
 use Rattle.word_laws.specs.SpellableMerge.{AreOfTracks, IsDelay, IsText, IsLanguage, IsMergeFile, IsSpellableMerge}
 
--- the words of a line, which stand apart by one space each
+-- the arguments of a line, separated by one space each
 abbrev words : List ℕ → List (List ℕ)
 words line = slice_split (λ b. b == 32) line
 
@@ -55,7 +55,7 @@ first_file = record (plain_file (codes "f.mkv")) {
   named = 1 ∷ 3 ∷ 0 ∷ 2 ∷ [];
 }
 
--- one that is appended
+-- a file that is appended
 abbrev second_file : FileWords
 second_file = record (plain_file (codes "g.mkv")) { appended = true }
 
@@ -74,7 +74,7 @@ pub a_merge : spelled (commands.Merge merging) ≡ words merge_line
 unfolding digits last_digits
 a_merge = refl
 
--- it has a spelling indeed
+-- The command has a canonical command line.
 none_said : {X : Type 0} (Is : X → Type 0) → AreOfTracks {X = X} Is []
 none_said {X} Is = record { apart = refl; short = All-nil (λ (p : ℕ × X). HasFewDigits p.0); each = All-nil (λ (p : ℕ × X). Is p.1) }
 

@@ -1,4 +1,4 @@
--- Times, stretches of time and identifiers are read back.
+-- Times, periods of time and identifiers are read back.
 use Rattle.std.proofs.Common.{◌≡◌, ◌<◌, ◌^◌, ℕ, zero, suc, ◌+◌, ◌-◌, ◌*◌, ◌/◌, ◌%◌, Bool, true, false, nat_lt, List, [], ◌∷◌, ◌++◌, length, codes, Option, Some, None, IfSome, refl, ap, ◌∙◌, arith, length-append, ◌==◌, ne_eqb, lt-ltb}
 use Rattle.std.proofs.Math.Nat.{div-div-eq-div-mul}
 use Rattle.std.proofs.lemmas.List.Folds.{list_all-append}
@@ -163,7 +163,7 @@ time_some t small =
     let some = decimal_nonempty (t / 3600000000000) fits in
     omega (arith, length-append (decimal (t / 3600000000000)) (codes ":" ++ (last_digits 10 2 (t / 60000000000 % 60) ++ (codes ":" ++ (last_digits 10 2 (t / 1000000000 % 60) ++ (codes "." ++ last_digits 10 9 (t % 1000000000)))))))
 
--- ---- a stretch of time
+-- ---- a period of time
 end_read : (start end : ℕ) (first last : List ℕ) → time first ≡ Some start → time last ≡ Some end → 0 < length last → span_of (first, last) ≡ Some (record { start = start; end = Some end })
 end_read start end first [] p q some = absurd (omega arith)
 end_read start end first (x ∷ xs) p q some = rw p (rw q refl)

@@ -38,7 +38,7 @@ pub language_read : (word : List ℕ) → is_language word ≡ true → language
 unfolding language
 language_read word is = rw is refl
 
--- ---- the last octet of a word
+-- ---- the last byte of a value
 digit_at : (ds : List ℕ) (i : ℕ) → list_all is_ascii_digit ds ≡ true → i < length ds → is_ascii_digit (slice_index ds i) ≡ true
 digit_at [] i all within = absurd (omega arith)
 digit_at (d ∷ ds) zero all within = (and_parts (is_ascii_digit d) (list_all is_ascii_digit ds) all).0
@@ -121,7 +121,7 @@ pub track_file_read : (id : ℕ) (name : List ℕ) → HasFewDigits id → value
 unfolding value_of track_value
 track_file_read id name short = rw (numbered_read id name short) refl
 
--- ---- what stands between commas
+-- ---- values between commas
 lacks_each : (o : ℕ) (w : List ℕ) → lacks o w ≡ true → All (λ b. (b == o) ≡ false) w
 lacks_each o [] none = All-nil (λ b. (b == o) ≡ false)
 lacks_each o (b ∷ bs) none = let parts = lacks_parts o b bs none in All-cons (λ b. (b == o) ≡ false) b bs parts.0 (lacks_each o bs parts.1)
@@ -138,7 +138,7 @@ each_read read write [] reads = refl
 each_read {X} read write (x ∷ xs) reads =
     rw (All-head (λ (y : X). read (write y) ≡ Some y) x xs reads) (rw (each_read read write xs (All-tail (λ (y : X). read (write y) ≡ Some y) x xs reads)) refl)
 
--- what is read of the pieces
+-- The values that are read from the pieces.
 pub list_read : {X : Type 0} (read : List ℕ → Option X) (write : X → List ℕ) (xs : List X) → 0 < length xs → All (λ x. lacks 44 (write x) ≡ true) xs → All (λ x. read (write x) ≡ Some x) xs
     → each read (pieces (with_commas (map write xs))) ≡ Some xs
 list_read read write [] some none reads = absurd (omega arith)

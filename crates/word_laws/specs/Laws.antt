@@ -1,4 +1,4 @@
--- What is spelled is read, and a title that is read is a text.
+-- Laws: a canonical command line is read back, and a title that is read is a text.
 use Rattle.std.specs.Prelude.{◌≡◌, ℕ, List, Some, IfSome, Ok}
 use Rattle.word_values.specs.Values.{text}
 use Rattle.requests.specs.declared.merge.MergeWords.{MergeWords}
@@ -9,11 +9,11 @@ use Rattle.mkv_args.specs.Words.{command}
 use Rattle.word_laws.specs.Spelled.{spelled}
 use Rattle.word_laws.specs.Spellable.{IsSpellable}
 
--- A command that has a spelling is what its spelling means.
+-- A command that has a canonical command line is read from it.
 abbrev pub SpelledIsRead : Type 0
 SpelledIsRead = (c : Command) → IsSound c → IsSpellable c → command (spelled c) ≡ Ok c
 
--- A title that words give to a merge is a text without a zero octet.
+-- A title that the command line gives to a merge is a text without a zero byte.
 abbrev pub TitlesAreTexts : Type 0
 TitlesAreTexts =
     (line : List (List ℕ)) (words : MergeWords) → command line ≡ Ok (Merge words) → IfSome words.title (λ (title : List ℕ). text title ≡ Some title)

@@ -1,4 +1,4 @@
--- Which merges have a spelling: beside their limits, what words can say of them.
+-- The merges that have a canonical command line: within their limits, values that a command line can have.
 use Rattle.std.specs.Prelude.{◌≡◌, ◌⊎◌, ◌<◌, IfSome, ⊤, ℕ, ℤ, ◌-◌, ◌%◌, ◌^◌, ◌==◌, ◌||◌, nat_lt, nat_abs, All, length, Bool, true, false, List, [], ◌∷◌, map}
 use Rattle.std.specs.List.{flat_map}
 use Rattle.requests.specs.declared.track.Select.{Select}
@@ -14,47 +14,47 @@ use Rattle.word_laws.specs.Names.{IsInputName}
 use Rattle.mkv_io.specs.Octets.{lacks}
 use Rattle.word_laws.specs.Values.{HasFewDigits, is_in}
 
--- the tracks of which something is said
+-- the tracks that an option names
 abbrev pub tracks_spoken_of : {X : Type 0} → List (ℕ × X) → List ℕ
 tracks_spoken_of {X} list = map (λ (p : ℕ × X). p.0) list
 
--- the tracks that the options for a file name, in the order of the spelling, each once
+-- the tracks that the options for a file name, in the canonical order, each once
 abbrev pub named_tracks : FileWords → List ℕ
 named_tracks f = once (flat_map (λ ids. ids) (
     ids_of_select f.video ∷ ids_of_select f.audio ∷ ids_of_select f.subtitles ∷ tracks_spoken_of f.syncs ∷ tracks_spoken_of f.names ∷ tracks_spoken_of f.languages ∷
     tracks_spoken_of f.defaults ∷ tracks_spoken_of f.forced ∷ tracks_spoken_of f.cues ∷ tracks_spoken_of f.times ∷ []))
 
--- some tracks, of numbers of at most 18 digits
+-- `ids` names at least one track, with numbers of at most 18 digits.
 pub record AreIds (ids : List ℕ) : Type 0 where
   pub some : 0 < length ids
   pub short : All HasFewDigits ids
 
--- a choice of tracks: all or none, or some that are taken or left out
+-- The choice of tracks can be spelled: all, none, or some that are selected or left out.
 abbrev pub IsSelect : Select → Type 0
 IsSelect select.All = ⊤
 IsSelect (select.These ids) = AreIds ids
 IsSelect (select.AllBut ids) = AreIds ids
 IsSelect select.Off = ⊤
 
--- what is said of tracks is said once of each
+-- The option names each track once.
 pub record AreOfTracks {X : Type 0} (Is : X → Type 0) (list : List (ℕ × X)) : Type 0 where
   pub apart : differ (tracks_spoken_of list) ≡ true
   pub short : All (λ (p : ℕ × X). HasFewDigits p.0) list
   pub each : All (λ (p : ℕ × X). Is p.1) list
 
--- whole milliseconds
+-- The delay is whole milliseconds.
 abbrev pub IsDelay : ℤ → Type 0
 IsDelay delay = nat_abs delay % 1000000 ≡ 0
 
--- a text without a zero octet
+-- `text` has no zero byte.
 abbrev pub IsText : List ℕ → Type 0
 IsText text = lacks 0 text ≡ true
 
--- three lower-case letters
+-- The language has three lower-case letters.
 abbrev pub IsLanguage : List ℕ → Type 0
 IsLanguage word = is_language word ≡ true
 
--- what the options for a file can say of it; the tracks that they name stand in the order of the spelling
+-- The options for the file `f` can be spelled; the tracks that they name are in the canonical order.
 pub record IsMergeFile (f : FileWords) : Type 0 where
   pub name : IsInputName f.name
   pub video : IsSelect f.video
@@ -69,11 +69,11 @@ pub record IsMergeFile (f : FileWords) : Type 0 where
   pub times : AreOfTracks (λ name. ⊤) f.times
   pub named : f.named ≡ named_tracks f
 
--- an amount of octets that is spelled: alone, in a unit, or as the most that there is
+-- The number of bytes can be spelled: as it is, in a unit, or as the maximum.
 abbrev pub is_size : ℕ → Bool
 is_size limit = nat_lt limit (10 ^ 12) || (is_in 1024 limit || (is_in 1048576 limit || (is_in 1073741824 limit || limit == 2 ^ 64 - 1)))
 
--- there are times, stretches or chapters where some are due
+-- The split has at least one time, period or chapter, if it needs some.
 abbrev pub IsSplit : SplitWords → Type 0
 IsSplit (split.Duration by) = ⊤
 IsSplit (split.Times at) = 0 < length at
@@ -82,16 +82,16 @@ IsSplit split.AllChapters = ⊤
 IsSplit (split.Chapters numbers) = AreIds numbers
 IsSplit (split.Size limit) = is_size limit ≡ true
 
--- parts are linked by their identifiers
+-- Parts are linked only if they have identifiers.
 abbrev pub IsLinkable : Bool → List ℕ → Type 0
 IsLinkable true uuids = 0 < length uuids
 IsLinkable false uuids = ⊤
 
--- one of both is as usual, since the option for them stands once
+-- At least one of both values is the default, since their option can be given only once.
 abbrev pub IsLength : ℕ → ℕ → Type 0
 IsLength blocks span = (blocks ≡ 65535) ⊎ (span ≡ 5000000000)
 
--- what the options for the output can say of it, and the files
+-- The options for the output and the files can be spelled.
 pub record IsSpellableMerge (words : MergeWords) : Type 0 where
   pub title : IfSome words.title IsText
   pub length : IsLength words.blocks words.span

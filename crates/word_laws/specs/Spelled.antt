@@ -1,5 +1,4 @@
--- How a command is spelled, in the plainest form: what it says is said once, and what is usual isn't said.
--- The plainest form is this project's choice.
+-- The canonical command line of a command: each value is given once, and a default isn't given. This form is this project's choice.
 use Rattle.std.specs.Prelude.{ℕ, ◌==◌, if◌then◌else◌, List, [], ◌∷◌, ◌++◌, map, codes, Some, None}
 use Rattle.std.specs.List.{flat_map}
 use Rattle.std.specs.Fmt.{decimal}
@@ -21,7 +20,7 @@ use Rattle.mkv_args.specs.declared.propedit.TheConstants.{VIDEO_TRACK, AUDIO_TRA
 use Rattle.word_laws.specs.Values.{with_number}
 use Rattle.word_laws.specs.SpelledMerge.{merge_words}
 
--- the word that names a command
+-- the argument that names a command
 abbrev pub verb_word : Verb → List ℕ
 verb_word verb.Info = codes "info"
 verb_word verb.Merge = codes "merge"
@@ -40,14 +39,14 @@ verb_word verb.Version = codes "--version"
 abbrev pub target_word : Target → List ℕ
 target_word t = with_number t.id t.name
 
--- how the frames of tracks are written
+-- the mode that writes the frames of tracks in a form
 abbrev pub form_words : Form → List (List ℕ)
 form_words form.ByCodec = codes "tracks" ∷ []
 form_words form.Raw = codes "tracks" ∷ codes "--raw" ∷ []
 form_words form.Full = codes "tracks" ∷ codes "--fullraw" ∷ []
 form_words form.Times = codes "timestamps_v2" ∷ []
 
--- the mode, and the words behind it
+-- the mode, and the arguments after it
 abbrev pub job_words : Job → List (List ℕ)
 job_words (jobs.Tracks form list) = form_words form ++ map target_word list
 job_words (jobs.Cues list) = codes "cues" ∷ map target_word list
@@ -56,7 +55,7 @@ job_words (jobs.Chapters name) = codes "chapters" ∷ codes "--simple" ∷ name 
 
 -- ---- propedit
 
--- the letter of a type of tracks
+-- the letter of a track type
 abbrev pub type_letter : ℕ → List ℕ
 type_letter kind = if kind == VIDEO_TRACK then codes "v" else if kind == AUDIO_TRACK then codes "a" else codes "s"
 
@@ -74,7 +73,7 @@ change_word change.Set = codes "--set"
 change_word change.Add = codes "--add"
 change_word change.Delete = codes "--delete"
 
--- `NAME=VALUE`, or the name of what is deleted
+-- `NAME=VALUE`, or the name of a deleted property
 abbrev pub property_word : Change → List ℕ → List ℕ → List ℕ
 property_word change.Set name value = name ++ (codes "=" ++ value)
 property_word change.Add name value = name ++ (codes "=" ++ value)
@@ -86,7 +85,7 @@ edit_words e = codes "--edit" ∷ section_word e.place ∷ change_word e.change 
 
 -- ---- all commands
 
--- the words that spell a command
+-- the canonical command line of a command
 abbrev pub spelled : Command → List (List ℕ)
 spelled (command.Help None) = codes "--help" ∷ []
 spelled (command.Help (Some verb)) = verb_word verb ∷ codes "--help" ∷ []

@@ -1,4 +1,4 @@
--- How a merge is spelled: the options for the whole output, and then each file behind the options for it.
+-- The canonical command line of a merge: the options for the whole output, and then each file after the options for it.
 use Rattle.std.specs.Prelude.{ℕ, ◌/◌, ◌==◌, Bool, true, false, not, if◌then◌else◌, List, [], ◌∷◌, ◌++◌, codes, Option, Some, None, option_map}
 use Rattle.std.specs.List.{flat_map}
 use Rattle.std.specs.Fmt.{decimal}
@@ -8,27 +8,27 @@ use Rattle.requests.specs.declared.merge.FileWords.{FileWords}
 use Rattle.requests.specs.declared.merge.MergeWords.{MergeWords}
 use Rattle.word_laws.specs.Values.{with_number, numbers_word, split_word, uuids_word, delay_word, flag_word, cues_word}
 
--- an option without a value, where it is said
+-- an option without a value, if it is given
 abbrev pub flag : List ℕ → Bool → List (List ℕ)
 flag option true = option ∷ []
 flag option false = []
 
--- an option with its value, where it is said
+-- an option with its value, if it is given
 abbrev pub with_value : List ℕ → Option (List ℕ) → List (List ℕ)
 with_value option None = []
 with_value option (Some value) = option ∷ value ∷ []
 
--- the number, where it isn't the usual one
+-- the number, unless it is the default
 abbrev pub unusual : ℕ → ℕ → Option ℕ
 unusual usual n = if n == usual then None else Some n
 
--- so many blocks in a Cluster, or so many milliseconds
+-- the limit of a Cluster, in blocks or in milliseconds
 abbrev pub length_word : ℕ → ℕ → Option (List ℕ)
 length_word blocks span =
     if blocks == 65535 then option_map (λ t. decimal (t / 1000000) ++ codes "ms") (unusual 5000000000 span)
     else Some (decimal blocks)
 
--- the tracks of one type that are taken
+-- the selected tracks of one type
 abbrev pub select_words : List ℕ → List ℕ → Select → List (List ℕ)
 select_words taken none select.All = []
 select_words taken none (select.These ids) = taken ∷ numbers_word ids ∷ []
@@ -39,7 +39,7 @@ select_words taken none select.Off = none ∷ []
 abbrev pub for_tracks : {X : Type 0} → List ℕ → (X → List ℕ) → List (ℕ × X) → List (List ℕ)
 for_tracks {X} option word list = flat_map (λ (p : ℕ × X). option ∷ with_number p.0 (word p.1) ∷ []) list
 
--- one behind the other
+-- the parts in sequence
 abbrev pub parts_joined : List (List (List ℕ)) → List (List ℕ)
 parts_joined parts = flat_map (λ part. part) parts
 
@@ -74,10 +74,10 @@ file_options file =
     for_tracks (codes "--cues") cues_word file.cues ∷
     for_tracks (codes "--timestamps") (λ name. name) file.times ∷ []
 
--- a file, behind a `+` where it is appended, and behind the options for it
+-- a file, after a `+` if it is appended, and after the options for it
 abbrev pub file_words : FileWords → List (List ℕ)
 file_words file = flag (codes "+") file.appended ++ (parts_joined (file_options file) ++ file.name ∷ [])
 
--- the words behind `merge`
+-- the arguments after `merge`
 abbrev pub merge_words : MergeWords → List (List ℕ)
 merge_words words = parts_joined (output_options words) ++ flat_map file_words words.files

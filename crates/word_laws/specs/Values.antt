@@ -1,4 +1,4 @@
--- How values are spelled.
+-- The canonical form of values.
 use Rattle.std.specs.Prelude.{ℕ, zero, suc, ◌/◌, ◌%◌, ◌^◌, ◌<◌, ◌==◌, ℤ, nat_abs, pos, Bool, ◌&&◌, nat_lt, if◌then◌else◌, List, [], ◌∷◌, ◌++◌, map, codes, Option, Some, None}
 use Rattle.std.specs.Char.{digit_char}
 use Rattle.std.specs.Fmt.{decimal}
@@ -8,15 +8,15 @@ use Rattle.requests.specs.declared.split.SplitWords.TheVariants as split
 use Rattle.requests.specs.declared.track.CueWord.{CueWord}
 use Rattle.requests.specs.declared.track.CueWord.TheVariants as cue
 
--- a number that has at most 18 decimal digits
+-- `n` has at most 18 decimal digits.
 abbrev pub HasFewDigits : ℕ → Type 0
 HasFewDigits n = n < 10 ^ 18
 
--- a number, and what is said of it
+-- a number, and a value that follows a colon
 abbrev pub with_number : ℕ → List ℕ → List ℕ
 with_number n rest = decimal n ++ (codes ":" ++ rest)
 
--- commas between words
+-- the values with commas between them
 abbrev pub with_commas : List (List ℕ) → List ℕ
 with_commas [] = []
 with_commas (w ∷ []) = w
@@ -26,31 +26,31 @@ with_commas (w ∷ v ∷ ws) = w ++ (codes "," ++ with_commas (v ∷ ws))
 abbrev pub numbers_word : List ℕ → List ℕ
 numbers_word numbers = with_commas (map decimal numbers)
 
--- the last so many digits of a number in a base
+-- the last digits of a number in a base, as many as the second argument
 unfoldable pub last_digits : ℕ → ℕ → ℕ → List ℕ
 last_digits base zero n = []
 last_digits base (suc k) n = last_digits base k (n / base) ++ digit_char (n % base) ∷ []
 
--- a time as H:MM:SS, and nine digits behind a point
+-- a time as H:MM:SS, with nine digits after a point
 abbrev pub time_word : ℕ → List ℕ
 time_word t =
     decimal (t / 3600000000000) ++ (codes ":" ++ (last_digits 10 2 (t / 60000000000 % 60)
     ++ (codes ":" ++ (last_digits 10 2 (t / 1000000000 % 60) ++ (codes "." ++ last_digits 10 9 (t % 1000000000))))))
 
--- where a stretch of time ends, if it does
+-- the end of a period of time, if it has one
 abbrev pub end_word : Option ℕ → List ℕ
 end_word None = []
 end_word (Some t) = time_word t
 
--- a stretch of time
+-- a period of time
 abbrev pub span_word : SpanWords → List ℕ
 span_word span = time_word span.start ++ (codes "-" ++ end_word span.end)
 
--- so many of a unit, in at most 12 digits
+-- `limit` is a multiple of `unit`, with a quotient of at most 12 digits.
 abbrev pub is_in : ℕ → ℕ → Bool
 is_in unit limit = limit % unit == 0 && nat_lt (limit / unit) (10 ^ 12)
 
--- an amount of octets: alone, in one of the units, or the most that there is
+-- a number of bytes: as it is, in a unit, or as the maximum
 abbrev pub size_word : ℕ → List ℕ
 size_word limit =
     if nat_lt limit (10 ^ 12) then decimal limit
@@ -59,7 +59,7 @@ size_word limit =
     else if is_in 1073741824 limit then decimal (limit / 1073741824) ++ codes "g"
     else codes "17179869184g"
 
--- where an output is split
+-- the value of a split
 abbrev pub split_word : SplitWords → List ℕ
 split_word (split.Duration by) = codes "duration" ++ (codes ":" ++ time_word by)
 split_word (split.Times at) = codes "timestamps" ++ (codes ":" ++ with_commas (map time_word at))
@@ -68,12 +68,12 @@ split_word split.AllChapters = codes "chapters:all"
 split_word (split.Chapters numbers) = codes "chapters" ++ (codes ":" ++ numbers_word numbers)
 split_word (split.Size limit) = codes "size" ++ (codes ":" ++ size_word limit)
 
--- identifiers of 32 hexadecimal digits, where there are some
+-- identifiers of 32 hexadecimal digits, if there are any
 abbrev pub uuids_word : List ℕ → Option (List ℕ)
 uuids_word [] = None
 uuids_word (u ∷ us) = Some (with_commas (map (last_digits 16 32) (u ∷ us)))
 
--- a delay in milliseconds; one that is earlier has a `-`
+-- a delay in milliseconds; a negative one has a `-`
 abbrev pub delay_word : ℤ → List ℕ
 delay_word (pos n) = decimal (n / 1000000)
 delay_word earlier = codes "-" ++ decimal (nat_abs earlier / 1000000)
@@ -82,7 +82,7 @@ delay_word earlier = codes "-" ++ decimal (nat_abs earlier / 1000000)
 abbrev pub flag_word : Bool → List ℕ
 flag_word flag = if flag then codes "1" else codes "0"
 
--- which blocks of a track get a cue point
+-- the choice of a track's blocks that get a cue point
 abbrev pub cues_word : CueWord → List ℕ
 cues_word cue.Never = codes "none"
 cues_word cue.Key = codes "iframes"

@@ -1,16 +1,16 @@
 #![tactic(auto)]
 
-//! Words that spell a command are read as that command, and a title that is read is a text: laws alone. No code that reads
-//! or writes stands on this crate.
+//! Laws on command lines: the canonical command line of a command is read as that command, and a title that is read
+//! is a text. No code that reads or writes depends on this crate.
 
 ghost use Rattle.word_laws.specs.Laws.{SpelledIsRead, TitlesAreTexts};
 
-/// The words that spell a command are read as it.
+/// The canonical command line of a command is read as it.
 pub fn spelled_words_are_read()
     ensures { SpelledIsRead }
 {}
 
-/// A title that words give to a merge has no zero octet.
+/// A title that the command line gives to a merge has no zero byte.
 pub fn titles_are_texts()
     ensures { TitlesAreTexts }
 {}
