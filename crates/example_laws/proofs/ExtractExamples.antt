@@ -1,4 +1,4 @@
--- What extractions write, computed, so that a wrong definition does not check.
+-- Examples of extractions, computed: a wrong definition doesn't check.
 use Rattle.std.proofs.Common.{refl}
 use Rattle.std.specs.Fmt.{digits}
 use Rattle.mkv_schema.specs.Table.{table}

@@ -1,4 +1,4 @@
--- What `info` and `merge -J` tell, computed, so that a wrong definition does not check.
+-- Examples of `info` and `merge -J`, computed: a wrong definition doesn't check.
 use Rattle.std.proofs.Common.{refl}
 use Rattle.std.specs.Fmt.{digits}
 use Rattle.std.specs.Int.Count.{count_leading_zeros}

@@ -1,4 +1,4 @@
--- What plans come to, computed, so that a wrong definition does not check.
+-- Examples of plans, computed: a wrong definition doesn't check.
 use Rattle.std.proofs.Common.{refl}
 use Rattle.std.specs.Int.Count.{count_leading_zeros}
 use Rattle.ebml_numbers.specs.Number.{uint_width, least_size_width}

@@ -1,4 +1,4 @@
--- What extractions write of small frames and records.
+-- Examples of extractions from small frames and records.
 use Rattle.std.specs.Prelude.{◌≡◌, ℕ, ℤ, pos, negsuc, false, true, List, [], ◌∷◌, ◌++◌, map, codes}
 use Rattle.std.specs.Prelude.{Option, None, Some, Ok, Err}
 use Rattle.tree_format.specs.Node.{Node, leaf, master, nodes_of}
@@ -19,7 +19,7 @@ use Rattle.extractors.specs.Times.{time_line}
 
 -- ---- blocks and outputs
 
--- a SimpleBlock of a track at a time, with these frames; it stands at octet 60
+-- a SimpleBlock of a track at a time, with these frames, at offset 60
 abbrev pub block : ℕ → ℤ → List (List ℕ) → Block
 block track time frames = record {
   track = track;
@@ -36,7 +36,7 @@ block track time frames = record {
   offset = 60;
 }
 
--- an output of track 1, of whose laces each frame lasts so long, with this in front of all and of each frame
+-- an output of track 1, with a duration of each frame in a lace, with bytes before the whole content, and with bytes before each frame
 abbrev pub output : FrameForm → ℕ → List ℕ → List ℕ → TrackOutput
 output kind step head prefix =
     record { name = codes "r"; track = 1; step = step; head = head; prefix = prefix; form = kind }
@@ -50,29 +50,29 @@ two_blocks =
 abbrev pub lace_of_two : List Block
 lace_of_two = block 1 (pos 0) ((0xAA ∷ []) ∷ (0xBB ∷ 0xCC ∷ []) ∷ []) ∷ []
 
--- ---- times and octets
+-- ---- timestamps and bytes
 
--- What is written of times.
+-- Written timestamps and frames.
 pub record AreTimes : Type 0 where
-  -- whole milliseconds stand alone, others with a point and six digits, and a time before 0 with its sign
+  -- Whole milliseconds are written as they are, others with a point and six digits, and a time before 0 with its sign.
   pub zero : time_line (pos 0) ≡ codes "0\n"
   pub part : time_line (pos 333333) ≡ codes "0.333333\n"
   pub short_part : time_line (pos 33000500) ≡ codes "33.000500\n"
   pub negative : time_line (negsuc 9999999) ≡ codes "-10\n"
   pub least : time_line (negsuc 0) ≡ codes "-0.000001\n"
-  -- a line for each frame of the track, those of a lace a DefaultDuration apart
+  -- There is a line for each frame of the track; frames of a lace are a DefaultDuration apart.
   pub blocks : content_of (output form.Time 0 times_head []) two_blocks ≡ codes "# timestamp format v2\n0\n20\n"
   pub frames : content_of (output form.Time 333333 times_head []) lace_of_two
       ≡ codes "# timestamp format v2\n0\n0.333333\n"
   pub none : content_of (output form.Time 0 times_head []) [] ≡ codes "# timestamp format v2\n"
-  -- frames stand one behind the other, each behind what header stripping took from it
+  -- Frames follow each other, each after the bytes that header stripping removed from it.
   pub raw : content_of (output form.Plain 0 [] []) two_blocks ≡ 0xAA ∷ 0xBB ∷ []
   pub prefixed : content_of (output form.Plain 0 [] (0x0B ∷ 0x77 ∷ [])) lace_of_two
       ≡ 0x0B ∷ 0x77 ∷ 0xAA ∷ 0x0B ∷ 0x77 ∷ 0xBB ∷ 0xCC ∷ []
 
 -- ---- codecs
 
--- the configuration of AVC with two parameter sets, and of AAC with two channels of 44,100 Hz
+-- the configuration of AVC with two parameter sets; below, of AAC with two channels of 44,100 Hz
 abbrev pub avc : List ℕ
 avc = 1 ∷ 0x42 ∷ 0 ∷ 0x1E ∷ 0xFF ∷ 0xE1 ∷ 0 ∷ 2 ∷ 0x67 ∷ 0x42 ∷ 1 ∷ 0 ∷ 2 ∷ 0x68 ∷ 0xCE ∷ []
 
@@ -85,31 +85,31 @@ start_code unit = 0 ∷ 0 ∷ 0 ∷ 1 ∷ unit
 abbrev pub sets : List ℕ
 sets = start_code (0x67 ∷ 0x42 ∷ []) ++ start_code (0x68 ∷ 0xCE ∷ [])
 
--- a frame of one unit of three octets, which it says to have so many
+-- a frame of one unit of three bytes, with this number as its length
 abbrev pub unit_of : ℕ → List ℕ
 unit_of length = 0 ∷ 0 ∷ 0 ∷ length ∷ 0x65 ∷ 0x88 ∷ 1 ∷ []
 
--- what is written of a frame at the start
+-- the bytes that are written for a frame at the start
 abbrev pub written : FrameForm → List ℕ → Option (List ℕ)
 written kind octets = written_of kind 1 (record { octets = octets; time = pos 0; duration = 0 }) octets
 
--- What codecs have written.
+-- Written frames of codecs.
 pub record AreCoded : Type 0 where
-  -- of AVC the parameter sets stand in front, and of each unit its length becomes a start code
+  -- The parameter sets of AVC come first, and the length of each unit becomes a start code.
   pub annex_b : codec_coding (codes "V_MPEG4/ISO/AVC") avc ≡ Ok (record { head = sets; form = form.AnnexB 4 })
   pub unit : written (form.AnnexB 4) (unit_of 3) ≡ Some (start_code (0x65 ∷ 0x88 ∷ 1 ∷ []))
-  -- a unit that isn't there whole, or is empty, makes a frame bad
+  -- A unit that is incomplete or empty makes a frame bad.
   pub long_unit : written (form.AnnexB 4) (unit_of 4) ≡ None
   pub empty_unit : written (form.AnnexB 1) (0 ∷ []) ≡ None
-  -- a bad frame is left out, and named at its block
+  -- A bad frame is left out, and reported at its block.
   pub left_out : content_of (output (form.AnnexB 4) 0 sets []) (block 1 (pos 0) (unit_of 4 ∷ []) ∷ []) ≡ sets
   pub named : bad_frames (output (form.AnnexB 4) 0 sets [] ∷ []) (block 1 (pos 0) (unit_of 4 ∷ unit_of 3 ∷ []) ∷ [])
       ≡ record { kind = BadFrame; id = 0xA3; offset = 60 } ∷ []
-  -- a frame of AAC stands behind its header
+  -- A frame of AAC follows its header.
   pub adts : codec_coding (codes "A_AAC") (0x12 ∷ 0x10 ∷ []) ≡ Ok (record { head = []; form = form.Adts aac })
   pub frame : written (form.Adts aac) (0xAA ∷ 0xBB ∷ 0xCC ∷ [])
       ≡ Some (0xFF ∷ 0xF1 ∷ 0x50 ∷ 0x80 ∷ 1 ∷ 0x5F ∷ 0xFC ∷ 0xAA ∷ 0xBB ∷ 0xCC ∷ [])
-  -- both need a configuration; SubRip needs none, and other codecs have no form
+  -- Both need a configuration; SubRip needs none, and other codecs have no form.
   pub no_avc : codec_coding (codes "V_MPEG4/ISO/AVC") [] ≡ Err BadConfig
   pub no_aac : codec_coding (codes "A_AAC") (0x12 ∷ []) ≡ Err BadConfig
   pub subrip : codec_coding (codes "S_TEXT/UTF8") [] ≡ Ok (record { head = []; form = form.SubRip })
@@ -117,7 +117,7 @@ pub record AreCoded : Type 0 where
 
 -- ---- records
 
--- a cue point, with the time and the places that it has
+-- a cue point with these children
 abbrev pub point : List Node → Node
 point children = master 0xBB 0 (nodes_of children)
 
@@ -130,7 +130,7 @@ cues points = master 0x1C53BB6B 0 (nodes_of points)
 abbrev pub place_of : ℕ → Node
 place_of track = place (leaf 0xF7 0 (track ∷ []) ∷ leaf 0xF1 0 (1 ∷ 0x3E ∷ []) ∷ leaf 0xF0 0 (3 ∷ []) ∷ [])
 
--- an atom with these children, and Chapters with editions of atoms
+-- an atom with these children; below, Chapters with editions of atoms
 abbrev pub atom : List Node → Node
 atom children = master 0xB6 0 (nodes_of children)
 
@@ -140,21 +140,21 @@ name text = master 0x80 0 (nodes_of (leaf 0x85 0 text ∷ []))
 abbrev pub chapters : List (List Node) → Option Node
 chapters editions = Some (master 0x1043A770 0 (nodes_of (map (λ atoms. master 0x45B9 0 (nodes_of atoms)) editions)))
 
--- What is written of Cues and Chapters.
+-- Written Cues and Chapters.
 pub record AreWritten : Type 0 where
-  -- the time is in nanoseconds, the positions are as they stand
+  -- The time is in nanoseconds, and the positions are unchanged.
   pub cue : cue_lines 1000000 1 (cues (point (leaf 0xB3 0 (0 ∷ []) ∷ place_of 1 ∷ []) ∷ []))
       ≡ codes "timestamp=0 cluster_position=318 relative_position=3\n"
   pub scaled : cue_lines 1000000 1 (cues (point (leaf 0xB3 0 (3 ∷ 0xE8 ∷ []) ∷ place_of 2 ∷ place_of 1 ∷ []) ∷ []))
       ≡ codes "timestamp=1000000000 cluster_position=318 relative_position=3\n"
-  -- `-` stands for what isn't said; places of other tracks are passed over
+  -- `-` replaces a missing value; positions of other tracks are skipped.
   pub missing : cue_lines 1000000 1 (cues (point (place (leaf 0xF7 0 (1 ∷ []) ∷ []) ∷ []) ∷ []))
       ≡ codes "timestamp=- cluster_position=- relative_position=-\n"
   pub others : cue_lines 1000000 1 (cues (point (leaf 0xB3 0 (0 ∷ []) ∷ place_of 2 ∷ []) ∷ [])) ≡ []
-  -- an atom is two lines, with the time and the name of its first display
+  -- An atom is two lines, with the time and the name of its first display.
   pub chapter : chapters_text (chapters ((atom (leaf 0x91 0 (0 ∷ []) ∷ name (codes "Intro") ∷ []) ∷ []) ∷ []))
       ≡ codes "CHAPTER01=00:00:00.000\nCHAPTER01NAME=Intro\n"
-  -- the top atoms of the first edition alone; without a start it is 0, without a display the name is empty
+  -- Only top atoms of the first edition are written. A missing start is 0, and without a display the name is empty.
   pub bare : chapters_text (chapters ((atom (atom [] ∷ []) ∷ []) ∷ (atom [] ∷ []) ∷ []))
       ≡ codes "CHAPTER01=00:00:00.000\nCHAPTER01NAME=\n"
   pub no_edition : chapters_text (chapters []) ≡ []

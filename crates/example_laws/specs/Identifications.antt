@@ -1,4 +1,4 @@
--- What `info` and `merge -J` tell of small files.
+-- Examples of `info` and `merge -J` on small files.
 use Rattle.std.specs.Prelude.{◌≡◌, ℕ, ◌+◌, List, [], ◌∷◌, ◌++◌, length, map, codes, Option, None, Some}
 use Rattle.serde_json.specs.Written.{compact_text}
 use Rattle.tree_format.specs.Node.{Node, leaf, master, nodes_of}
@@ -13,9 +13,9 @@ use Rattle.mkv_info.specs.Listed.{listed_verdict}
 use Rattle.mkv_info.specs.Tags.{tag_count, track_tags_value}
 use Rattle.mkv_info.specs.ToldTracks.{dimensions_of, track_value}
 
--- ---- files, each with a body of its Segment below 127 octets
+-- ---- files, each with a Segment of less than 127 bytes
 
--- an EBML header, whose DocType begins with this octet
+-- an EBML header, whose DocType begins with this byte
 abbrev pub ebml : ℕ → List ℕ
 ebml octet = 0x1A ∷ 0x45 ∷ 0xDF ∷ 0xA3 ∷ 0x8B ∷ 0x42 ∷ 0x82 ∷ 0x88 ∷ octet ∷ codes "atroska"
 
@@ -25,13 +25,13 @@ segment body = 0x18 ∷ 0x53 ∷ 0x80 ∷ 0x67 ∷ (0x80 + length body) ∷ body
 abbrev pub file : List ℕ → List ℕ
 file body = ebml 0x6D ++ segment body
 
--- a Tracks Element whose ID begins with this octet, of a track of this number
+-- a Tracks element whose ID begins with this byte, with a track of this number
 abbrev pub tracks : ℕ → ℕ → List ℕ
 tracks first number =
     first ∷ 0x54 ∷ 0xAE ∷ 0x6B ∷ 0x94 ∷ 0xAE ∷ 0x92 ∷ 0xD7 ∷ 0x81 ∷ number ∷
     0x73 ∷ 0xC5 ∷ 0x81 ∷ 5 ∷ 0x83 ∷ 0x81 ∷ 2 ∷ 0x86 ∷ 0x86 ∷ codes "A_OPUS"
 
--- two blocks behind a Timestamp, and a Cluster of them
+-- two blocks after a Timestamp; below, a Cluster of them
 abbrev pub blocks : List ℕ
 blocks =
     0xE7 ∷ 0x81 ∷ 0 ∷ 0xA3 ∷ 0x85 ∷ 0x81 ∷ 0 ∷ 0 ∷ 0x80 ∷ 0xAA ∷
@@ -40,27 +40,27 @@ blocks =
 abbrev pub cluster : List ℕ
 cluster = 0x1F ∷ 0x43 ∷ 0xB6 ∷ 0x75 ∷ 0x91 ∷ blocks
 
--- a file of one track
+-- a file with one track
 abbrev pub one_track : List ℕ
 one_track = file (tracks 0x16 1 ++ cluster)
 
--- an EBML header with a zero octet behind its DocType
+-- an EBML header with a zero byte after its DocType
 abbrev pub padded : List ℕ
 padded = 0x1A ∷ 0x45 ∷ 0xDF ∷ 0xA3 ∷ 0x8E ∷ 0x42 ∷ 0x82 ∷ 0x8B ∷ codes "matroska" ++ (0 ∷ 0 ∷ 0 ∷ segment [])
 
--- the size that isn't known, in eight octets
+-- the unknown size in eight bytes
 abbrev pub unknown : List ℕ
 unknown = 1 ∷ 0xFF ∷ 0xFF ∷ 0xFF ∷ 0xFF ∷ 0xFF ∷ 0xFF ∷ 0xFF ∷ []
 
--- a Segment and a Cluster of unknown sizes, and Cues behind them
+-- a Segment and a Cluster of unknown sizes, and Cues after them
 abbrev pub endless : List ℕ
 endless =
     ebml 0x6D ++ (0x18 ∷ 0x53 ∷ 0x80 ∷ 0x67 ∷ unknown) ++ tracks 0x16 1 ++ (0x1F ∷ 0x43 ∷ 0xB6 ∷ 0x75 ∷ unknown) ++
     blocks ++ (0x1C ∷ 0x53 ∷ 0xBB ∷ 0x6B ∷ 0x80 ∷ [])
 
--- ---- what is said of it
+-- ---- listed files
 
--- a line for the EBML header, and one for the track
+-- a line for the EBML header; below, one for the track
 abbrev pub header_line : List ℕ
 header_line = codes "EBML at 0 size 11"
 
@@ -73,31 +73,31 @@ lists bytes lines = listed_verdict (codes "s1.mkv") bytes ≡ done lines
 abbrev pub refuses : List ℕ → List ℕ → Type 0
 refuses bytes line = listed_verdict (codes "s1.mkv") bytes ≡ refused line
 
--- What `info` says of small files.
+-- The lines of `info` for small files.
 pub record AreListed : Type 0 where
-  -- a Segment may be empty; a file needs no Tracks to be listed
+  -- A Segment may be empty; a file needs no Tracks to be listed.
   pub empty : lists (file []) (header_line ∷ codes "Segment at 16 size 0" ∷ [])
-  -- a text ends before a zero octet
+  -- A text ends before a zero byte.
   pub padded : lists padded (codes "EBML at 0 size 14" ∷ codes "Segment at 19 size 0" ∷ [])
-  -- Elements of level 1 are set in, and tracks stand behind them
+  -- Elements of level 1 are indented, and tracks follow them.
   pub whole : lists one_track (
       header_line ∷ codes "Segment at 16 size 47" ∷ codes "  Tracks at 21 size 20" ∷
       codes "  Cluster at 46 size 17" ∷ track_line ∷ [])
-  -- a Cluster of unknown size ends before Cues
+  -- A Cluster of unknown size ends before Cues.
   pub endless : lists endless (
       header_line ∷ codes "Segment at 16 size unknown" ∷ codes "  Tracks at 28 size 20" ∷
       codes "  Cluster at 53 size unknown" ∷ codes "  Cues at 82 size 0" ∷ track_line ∷ [])
-  -- what is damaged at level 1 is a warning behind the list
+  -- Damage at level 1 is a warning after the list.
   pub damaged : listed_verdict (codes "s1.mkv") (file (tracks 0 1 ++ cluster))
       ≡ only_said Warned (
       header_line ∷ codes "Segment at 16 size 47" ∷ codes "warning: s1.mkv: BadId, element -, offset 21" ∷ [])
-  -- an empty file is none of EBML
+  -- An empty file isn't an EBML file.
   pub nothing : refuses [] (codes "error: s1.mkv: NotEbml, element -, offset 0")
-  -- another DocType refuses a file, and a TrackNumber of 0
+  -- Another DocType refuses a file, and so does a TrackNumber of 0.
   pub other_type : refuses (ebml 0x78 ++ segment []) (codes "error: s1.mkv: DocType, element 4282, offset 5")
   pub number_zero : refuses (file (tracks 0x16 0 ++ cluster)) (codes "error: s1.mkv: BadValue, element D7, offset 28")
 
--- ---- what is said of it as JSON
+-- ---- files as JSON
 
 abbrev pub identified_as : List ℕ
 identified_as =
@@ -108,7 +108,7 @@ identified_as =
     codes "\"default_track\":true,\"enabled_track\":true,\"forced_track\":false,\"language\":\"eng\"," ++
     codes "\"number\":1,\"uid\":5},\"type\":\"audio\"}]}"
 
--- an Info, an entry with a Video, an edition of one atom with another inside, and a Tag that names this track
+-- an Info; below, an entry with a Video, an edition of one atom with another inside, and a Tag that names this track
 abbrev pub info : List Node → Option Node
 info children = Some (master 0x1549A966 0 (nodes_of children))
 
@@ -140,38 +140,38 @@ said_of_it =
     leaf 0x88 0 (0 ∷ []) ∷ leaf 0x55AA 0 (2 ∷ []) ∷ leaf 0x22B59C 0 (codes "ger") ∷
     leaf 0x22B59D 0 (codes "de-CH") ∷ leaf 0x536E 0 (codes "Hi") ∷ []
 
--- its properties as JSON
+-- The properties of the track are this JSON.
 abbrev pub told_as : List Node → List ℕ → Type 0
 told_as more properties =
     compact_text (track_value 1 (track_of (entry more)))
     ≡ codes "{\"codec\":\"S_VOBSUB\",\"id\":1,\"properties\":{\"codec_id\":\"S_VOBSUB\"," ++ properties
     ++ codes "},\"type\":\"subtitles\"}"
 
--- What `merge -J` says of small files and records.
+-- The results of `merge -J` for small files and records.
 pub record AreIdentified : Type 0 where
-  -- one line of JSON, with keys in the order of their octets
+  -- The result is one line of JSON, with keys in the order of their bytes.
   pub whole : identified_verdict (codes "s1.mkv") one_track ≡ done (identified_as ∷ [])
-  -- a Title that isn't empty is told
+  -- A Title that isn't empty is included.
   pub title : compact_text (container_properties (info (leaf 0x7BA9 0 (codes "Hi") ∷ [])))
       ≡ codes "{\"timestamp_scale\":1000000,\"title\":\"Hi\"}"
   pub no_title : compact_text (container_properties (info (leaf 0x7BA9 0 [] ∷ [])))
       ≡ codes "{\"timestamp_scale\":1000000}"
-  -- what an entry doesn't say has its default, or is left out
+  -- A value that an entry lacks has its default, or is left out.
   pub defaults : told_as [] (
       codes "\"default_track\":true,\"enabled_track\":true,\"forced_track\":false,\"language\":\"eng\"," ++
       codes "\"number\":2,\"uid\":0")
-  -- a flag is set where it isn't 0; where there is a LanguageBCP47, Language isn't shown
+  -- A flag is set if it isn't 0; with a LanguageBCP47, Language isn't included.
   pub said : told_as said_of_it (
       codes "\"default_track\":false,\"enabled_track\":true,\"forced_track\":true,\"language\":\"de-CH\"," ++
       codes "\"language_ietf\":\"de-CH\",\"number\":2,\"track_name\":\"Hi\",\"uid\":0")
-  -- pixels are told where both numbers stand
+  -- Pixels are included if both numbers are present.
   pub pixels : dimensions_of (video (leaf 0xB0 0 (2 ∷ 0x80 ∷ []) ∷ leaf 0xBA 0 (1 ∷ 0x68 ∷ []) ∷ []))
       ≡ Some (codes "640x360")
   pub no_height : dimensions_of (video (leaf 0xB0 0 (2 ∷ 0x80 ∷ []) ∷ [])) ≡ None
-  -- the top atoms of all editions are counted, and no Chapters are told by an empty list
+  -- The top atoms of all editions are counted; without Chapters the list is empty.
   pub chapters : compact_text (entries_value (chapter_count two_editions)) ≡ codes "[{\"num_entries\":2}]"
   pub no_chapters : compact_text (entries_value (chapter_count None)) ≡ codes "[]"
-  -- the SimpleTags directly in Tags are counted; a TagTrackUID of 0 names no track
+  -- The SimpleTags directly in Tags are counted; a TagTrackUID of 0 names no track.
   pub global_tags : tag_count Global (tags (5 ∷ 0 ∷ 6 ∷ [])) ≡ 1
   pub track_tags :
       compact_text (track_tags_value (tags (5 ∷ 0 ∷ 5 ∷ [])) (

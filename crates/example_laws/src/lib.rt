@@ -1,48 +1,48 @@
 #![tactic(auto)]
 
-//! Computed examples of what plans, extractions and identifications come to, with what worked cases
-//! expect of them: laws alone. No code stands on this crate; the calls, which do nothing, carry them.
+//! Laws: computed examples of plans, extractions and identifications, with the expected results of worked cases. No
+//! code depends on this crate. The functions do nothing; their contracts are the laws.
 
 ghost use Rattle.example_laws.specs.Extractions.{AreCoded, AreTimes, AreWritten};
 ghost use Rattle.example_laws.specs.Identifications.{AreIdentified, AreListed};
 ghost use Rattle.example_laws.specs.Plans.{AreLanes, ArePlaced, AreRecords};
 
-/// The lanes of small merges are planned so.
+/// Examples of the output tracks of small merges.
 pub fn lanes_are_planned_so()
     ensures { AreLanes }
 {}
 
-/// Appended inputs are placed so.
+/// Examples of the append offsets of inputs.
 pub fn inputs_are_placed_so()
     ensures { ArePlaced }
 {}
 
-/// Info and Tracks are planned so, and what refuses a merge is this.
+/// Examples of planned Info and Tracks, and of refusals.
 pub fn records_are_planned_so()
     ensures { AreRecords }
 {}
 
-/// Times of frames, and their octets, are written so.
+/// Examples of written timestamps and bytes of frames.
 pub fn times_are_written_so()
     ensures { AreTimes }
 {}
 
-/// Frames of codecs are written so.
+/// Examples of written frames of codecs.
 pub fn codecs_are_written_so()
     ensures { AreCoded }
 {}
 
-/// Cue points and chapters are written so.
+/// Examples of written cue points and chapters.
 pub fn records_are_written_so()
     ensures { AreWritten }
 {}
 
-/// Small files are listed so.
+/// Examples of small files as `info` lists them.
 pub fn files_are_listed_so()
     ensures { AreListed }
 {}
 
-/// Small files and records are identified so.
+/// Examples of small files and records as `merge -J` identifies them.
 pub fn files_are_identified_so()
     ensures { AreIdentified }
 {}
