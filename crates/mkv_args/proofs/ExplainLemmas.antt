@@ -1,4 +1,4 @@
--- Pages of topics in several groups.
+-- Search for a page in several groups of topics.
 use Rattle.std.proofs.Common.{◌≡◌, ℕ, List, ◌++◌, map, Option, Some, None, option_map, refl, sym, ap, ◌∙◌}
 use Rattle.std.specs.Borrow.{Bor}
 use Rattle.std.specs.List.{find}
@@ -10,7 +10,7 @@ map-or : {A B : Type 0} (f : A → B) (a b : Option A) → option_map f (option_
 map-or f None b = refl
 map-or f (Some x) b = refl
 
--- the page of a name in two groups
+-- The page of a name in two groups is the one in the first group, or else in the second.
 page_among-append : (a b : List Topic) (name : List ℕ) → page_among (a ++ b) name ≡ option_or (page_among a name) (page_among b name)
 page_among-append a b name =
     let test = λ (t : Topic). is_same_name t.name name in
@@ -21,12 +21,12 @@ module _ (name : List ℕ) where
   abbrev pub Page : Type 0
   Page = Option (Bor (List (Bor (List ℕ))))
 
-  -- the page found in the code's topics of a group
+  -- The page found in the code's topics of a group is the page in that group.
   pub in-group : (page : Page) (code : List (Bor (List ℕ) × Bor (List (Bor (List ℕ))))) (group : List Topic) → option_map lines_of page ≡ page_among (map shown code) name → map shown code ≡ group
       → option_map lines_of page ≡ page_among group name
   in-group page code group found is = found ∙ ap (λ topics. page_among topics name) is
 
-  -- the page found in one group or else in the next
+  -- A page is found in the groups before, or else in the next group.
   pub in-next : (a b page : Page) (before next : List Topic) → option_map lines_of a ≡ page_among before name → option_map lines_of b ≡ page_among next name → page ≡ option_or a b
       → option_map lines_of page ≡ page_among (before ++ next) name
   in-next a b page before next first second is =

@@ -10,7 +10,7 @@ use Rattle.mkv_args.specs.Help.{usage_lines}
 abbrev is_narrow : List ℕ → Bool
 is_narrow line = nat_le (length line) 79
 
--- no line is longer than 79 characters
+-- No line is longer than 79 characters.
 pub lines_narrow : (about : Option Verb) → AllPass (λ (line : List ℕ). nat_le (length line) 79) (usage_lines about)
 unfolding usage_lines
 lines_narrow None = AllPass-from_list_all is_narrow (usage_lines None) refl

@@ -14,11 +14,11 @@ use Rattle.word_values.specs.Answers.{Tells, ◌>>=◌}
 use Rattle.mkv_args.specs.Propedit.{Pair, pairs, said, all_said, edits_in}
 use Rattle.word_values.proofs.PlaceLemmas.{next_is}
 
--- an option and its value
+-- option `w` at argument `at`, with its value
 abbrev pair : ℕ → List ℕ → Option (List ℕ) → Pair
 pair at w value = record { at = at; option = w; value = value }
 
--- the edits so far, and those that the words from a number on say
+-- the edits `list`, and those in the arguments from number `at` on
 abbrev pub edits_from : ℕ → List Edit → Selector → Bool → ℕ → List (List ℕ) → Result (List Edit) Usage
 edits_from count list place edited at ws = all_said count edited (pairs at (drop at ws)) >>= (λ all. Ok (list ++ edits_in place all))
 
@@ -29,7 +29,7 @@ pairs_more at w (v ∷ vs) = refl
 two_on : (at : ℕ) (ws : List (List ℕ)) → drop 1 (drop (at + 1) ws) ≡ drop (at + 2) ws
 two_on at ws = drop-drop 1 (at + 1) ws ∙ (let e : at + 1 + 1 ≡ at + 2 = omega arith in ap (λ k. drop k ws) e)
 
--- the pairs from a word on
+-- The pairs from argument `at` on begin with that argument and the next one.
 pairs_at : (at : ℕ) (w : List ℕ) (ws : List (List ℕ)) → drop at ws ≡ w ∷ drop (at + 1) ws → pairs at (drop at ws) ≡ pair at w (slice_get ws (at + 1)) ∷ pairs (at + 2) (drop (at + 2) ws)
 pairs_at at w ws here = rw (here, pairs_more at w (drop (at + 1) ws), two_on at ws, next_is ws at) refl
 
@@ -45,16 +45,16 @@ change_first list place change name value (Ok more) = ap Ok (sym (append_assoc l
 change_first list place change name value (Err e) = refl
 
 module _ (count : ℕ) (list : List Edit) (place : Selector) (edited : Bool) (at : ℕ) (w : List ℕ) (ws : List (List ℕ)) (here : drop at ws ≡ w ∷ drop (at + 1) ws) where
-  -- a section that may stand
+  -- An allowed section becomes the current one.
   pub section_next : (next : Selector) → said count edited (pair at w (slice_get ws (at + 1))) ≡ Ok (says.Section next) → edits_from count list place edited at ws ≡ edits_from count list next false (at + 2) ws
   section_next next is = rw (pairs_at at w ws here, is) (section_first list place next (all_said count false (pairs (at + 2) (drop (at + 2) ws))))
 
-  -- an edit that may stand
+  -- An allowed edit joins the list.
   pub change_next : (change : Change) (name value : List ℕ) → said count edited (pair at w (slice_get ws (at + 1))) ≡ Ok (says.Change change name value)
       → edits_from count list place edited at ws ≡ edits_from count (list ++ record { place = place; change = change; name = name; value = value } ∷ []) place true (at + 2) ws
   change_next change name value is = rw (pairs_at at w ws here, is) (change_first list place change name value (all_said count true (pairs (at + 2) (drop (at + 2) ws))))
 
-  -- what is wrong
+  -- The first error is the result.
   pub edits_fail : (end : ArgsEnd) → Tells {X = EditOption} (Err end) (said count edited (pair at w (slice_get ws (at + 1)))) → Tells {X = List Edit} (Err end) (edits_from count list place edited at ws)
   edits_fail (args_end.Usage usage) is = rw (pairs_at at w ws here, is) refl
   edits_fail args_end.Memory is = tt

@@ -1,4 +1,4 @@
--- A command that words ask for keeps its limits.
+-- A command that is read from a command line is within its limits.
 use Rattle.std.proofs.Common.{◌≡◌, ◌≢◌, ◌<◌, ◌≤◌, ℕ, zero, suc, ◌+◌, Bool, true, false, ◌||◌, ◌&&◌, nat_lt, List, [], ◌∷◌, ◌++◌, length, length-append, drop, Option, Some, None, Result, Ok, Err, refl, sym, ◌∙◌, subst, arith}
 use Rattle.std.specs.Prelude.{slice_get, is_none, codes, All, IfOk}
 use Rattle.std.specs.List.{list_any}
@@ -61,7 +61,7 @@ others-more : (name : List ℕ) (before : List Target) (t : Target) → AreOther
 others-more name [] t others apart = (apart, tt)
 others-more name (b ∷ bs) t others apart = (others.0, others-more name bs t others.1 apart)
 
--- A name that none has before joins names that are apart.
+-- A name that no target has joins different names.
 apart-more : (before : List Target) (t : Target) → AreApart (names_of before) → is_taken t.name before ≡ false → AreApart (names_of (before ++ t ∷ []))
 apart-more [] t apart free = (tt, tt)
 apart-more (b ∷ bs) t apart free =
@@ -69,7 +69,7 @@ apart-more (b ∷ bs) t apart free =
     let other : t.name ≢ b.name = λ same. let never : true ≡ false = sym ((bytes_eq-Decides b.name t.name).1 (sym same)) ∙ both.0 in cc in
     (others-more b.name bs t apart.0 other, apart-more bs t apart.1 both.1)
 
--- what a target keeps behind those before it
+-- `t` is a valid target after the targets `before`.
 record IsTarget (least : ℕ) (before : List Target) (t : Target) : Type 0 where
   from : least ≤ t.id
   free : is_taken t.name before ≡ false
@@ -86,7 +86,7 @@ target-kept least at before word t is = split (track_and_rest word) is
         let under = low.0 in
         ok-made (IsTarget least before) (record { id = p.0; name = p.1 }) t free.1 (record { from = grind (arith, nat_tests); free = free.0 })
 
--- Targets that are apart stay so as words add to them.
+-- Targets stay different as arguments add to them.
 pub targets_from-kept : (least at : ℕ) (before : List Target) (words : List (List ℕ)) (list : List Target)
     → targets_from least before at words ≡ Ok list → AreApart (names_of before) → All (λ (t : Target). least ≤ t.id) before
     → (AreApart (names_of list)) × (All (λ (t : Target). least ≤ t.id) list) × (length list ≡ length before + length words)
@@ -117,7 +117,7 @@ targets-sound least start words list is =
     let long : length list ≡ 0 + length (drop start words) = kept.2 in
     record { some = omega arith; apart = kept.0; from = kept.1 })
 
--- ---- what is extracted
+-- ---- extractions
 
 tracks_by-sound : (f : Form) (words : List (List ℕ)) (start : ℕ) (j : Job) → tracks_by f words start ≡ Ok j → IsSoundJob j
 tracks_by-sound f words start j is =
@@ -157,7 +157,7 @@ job-sound : (word : List ℕ) (words : List (List ℕ)) (j : Job) → job word w
 unfolding job
 job-sound word words j is = job_of-sound (meant modes word) words j is
 
--- ---- what is changed
+-- ---- edits
 
 place-sound : (word : List ℕ) (n : ℕ) → place word ≡ Some n → 1 ≤ n
 unfolding place
@@ -183,7 +183,7 @@ selector-sound word s is =
     either (IsSoundPlace s) (bytes_eq word (codes "info")) _ _ _ is (λ found. let same : selector_is.Info ≡ s = cc in subst IsSoundPlace same tt) (λ other.
     either (IsSoundPlace s) (begins (codes "track:") word) _ _ _ other (track-sound (drop 6 word) s) (λ never. absurd (cc)))
 
--- a section that is said is sound
+-- A section that an option names is sound.
 abbrev IsSoundSaying : EditOption → Type 0
 IsSoundSaying (says.Section place) = IsSoundPlace place
 IsSoundSaying (says.Change change name value) = Unit {0}
@@ -205,7 +205,7 @@ pair-sound count edited p y is =
 abbrev HavePlaces : List Edit → Type 0
 HavePlaces list = All (λ (e : Edit). IsSoundPlace e.place) list
 
--- the edits are sound, and there is one where none was said before
+-- The edits are sound, and there is one if the current section had none.
 record AreKept (place : Selector) (edited : Bool) (all : List EditOption) : Type 0 where
   places : HavePlaces (edits_in place all)
   some : edited ≡ false → 0 < length (edits_in place all)
@@ -250,7 +250,7 @@ blocks_at-sound words at n is = ok-then (IsWithin 1 100000 n) (due_at words at) 
 
 -- ---- the commands
 
--- what the words say that ask for a command
+-- `words` have the parts of the command.
 abbrev IsAsked : List (List ℕ) → Command → Type 0
 IsAsked words (command_is.Merge w) = merged words ≡ Ok w
 IsAsked words (command_is.Extract file j) = (word : List ℕ) × (job word words ≡ Ok j)
@@ -347,7 +347,7 @@ command-asked words c is =
     helping (Some verb) found = ok-made (IsAsked words) (command_is.Help (Some verb)) c found tt
     helping None found = first-asked words c found
 
--- A command that words ask for keeps its limits.
+-- A command that a command line asks for is within its limits.
 pub command-sound : (words : List (List ℕ)) (c : Command) → command words ≡ Ok c → IsSound c
 command-sound words c is = sound c (command-asked words c is)
   where
@@ -358,15 +358,15 @@ command-sound words c is = sound c (command-asked words c is)
     sound (command_is.Generate n prefix) asked = blocks_at-sound words 1 n asked
     sound _ asked = tt
 
--- So does what is answered for them.
+-- So is the command that the code returns for it.
 pub told-sound : (words : List (List ℕ)) (r : Result Command ArgsEnd) → Tells r (command words) → IfOk r IsSound
 told-sound words (Ok c) is = command-sound words c is
 told-sound words (Err end) is = tt
 
--- The merge that the words ask for is what they say.
+-- The merge in the command is the one that the words of `merge` describe.
 pub asked-merged : (words : List (List ℕ)) (w : MergeWords) → command words ≡ Ok (command_is.Merge w) → merged words ≡ Ok w
 asked-merged words w is = command-asked words (command_is.Merge w) is
 
--- What they give to it are texts.
+-- The names and texts of that merge are valid UTF-8.
 pub asked-texts : (words : List (List ℕ)) (w : MergeWords) → All IsUtf8 words → command words ≡ Ok (command_is.Merge w) → AreTexts w
 asked-texts words w utf8 is = merged-texts words w utf8 (asked-merged words w is)

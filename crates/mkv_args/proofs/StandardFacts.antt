@@ -1,5 +1,4 @@
--- Lines of words with the commands that they mean, computed, so that a wrong definition does not check. What they mean
--- was written down by hand.
+-- Computed meanings of command lines, so that a wrong definition fails the check. The expected commands were written by hand.
 use Rattle.std.proofs.Common.{◌≡◌, ℕ, ◌==◌, true, false, List, [], ◌∷◌, ◌++◌, replicate, codes, Option, Some, None, Result, Ok, map, refl}
 use Rattle.std.specs.Prelude.{pos, neg_ℤ}
 use Rattle.std.specs.List.{flat_map, slice_split}
@@ -41,37 +40,37 @@ use Rattle.mkv_args.specs.Merge.{beside, identify, merge}
 use Rattle.mkv_args.specs.Propedit.{edits, first_section, place, propedit, selector, step_of, steps, track, typed}
 use Rattle.mkv_args.specs.Words.{alone, blocks_at, command, command_named, first_command, generate, info, only_file, recover, reindex}
 
--- ---- how a row is written
+-- ---- rows of a table
 
--- a line, and what its words say, which stand apart by one space each
+-- A command line, with one space between words, and its meaning.
 abbrev Row : Type 0
 Row = List ℕ × Result Command Usage
 
--- what the words of each line say is what stands beside it
+-- Each command line has the meaning beside it.
 abbrev Hold : List Row → Type 0
 Hold rows = map (λ (row : Row). command (slice_split (λ b. b == 32) row.0)) rows ≡ map (λ (row : Row). row.1) rows
 
--- the line asks for this
+-- The command line `line` asks for `means`.
 abbrev asks : List ℕ → Command → Row
 asks line means = (line, Ok means)
 
--- the word with this number has another value than its option takes
+-- Argument `word` of `line` isn't a value that its option takes.
 abbrev refused : List ℕ → ℕ → Row
 refused line word = (line, wrong word BadValue)
 
--- a merge of these files, without an option
+-- a merge of `files` to `output` without options
 abbrev merging : List ℕ → List FileWords → MergeWords
 merging output files = plain_words output None files
 
--- the line asks for a merge of these files
+-- `line` asks for a merge of `files` to `output` without options.
 abbrev asks_merge : List ℕ → List ℕ → List FileWords → Row
 asks_merge line output files = asks line (commands.Merge (merging output files))
 
--- the line asks for a merge of a file `f` to `o` that is split so
+-- `line` asks for a merge of the file `f` to `o`, split by `division`.
 abbrev asks_split : List ℕ → SplitWords → Row
 asks_split line division = asks line (commands.Merge (record (merging (codes "o") (plain_file (codes "f") ∷ [])) { split = Some division }))
 
--- the line asks for a merge to `o` of this file alone
+-- `line` asks for a merge of one file to `o`, with the options in `words`.
 abbrev asks_file : List ℕ → FileWords → Row
 asks_file line words = asks_merge line (codes "o") (words ∷ [])
 
@@ -84,7 +83,7 @@ edited spot how property words = record { place = spot; change = how; name = pro
 abbrev stretch : ℕ → Option ℕ → SpanWords
 stretch start end = record { start = start; end = end }
 
--- each command alone, and those that take a name or a number
+-- Commands without arguments, and those that take a name or a number.
 pub single-words : Hold (
     asks (codes "-h") (commands.Help None) ∷
     asks (codes "--help") (commands.Help None) ∷
@@ -139,7 +138,7 @@ pub changes : Hold (
 unfolding command first_command command_named verbs propedit edits first_section steps step_of selector track typed place cut number whole
 changes = refl
 
--- `merge`, for the whole output
+-- `merge`, options of the output
 pub outputs : Hold (
     asks_merge (codes "merge -o out.mkv s1.mkv") (codes "out.mkv") (plain_file (codes "s1.mkv") ∷ []) ∷
     asks_merge (codes "merge s1.mkv --output out.mkv") (codes "out.mkv") (plain_file (codes "s1.mkv") ∷ []) ∷
@@ -195,7 +194,7 @@ pub identifiers : Hold (
 unfolding command first_command command_named verbs merge merged items complete meaning_of table item_at option_at append_at file_at since_file merge_words file named_in value_of identify beside uuids uuid
 identifiers = refl
 
--- `merge`, for the next file
+-- `merge`, options of the next file
 pub selections : Hold (
     asks_merge (codes "merge -o -a s1.mkv") (codes "-a") (plain_file (codes "s1.mkv") ∷ []) ∷
     asks_file (codes "merge -o o -a 1 f") (record (plain_file (codes "f")) { audio = These (1 ∷ []); named = (1 ∷ []) }) ∷
@@ -210,7 +209,7 @@ pub selections : Hold (
 unfolding command first_command command_named verbs merge merged items complete meaning_of table item_at option_at append_at file_at since_file merge_words file named_in value_of ids numbers number whole
 selections = refl
 
--- `merge`, for one track of the next file
+-- `merge`, options of one track of the next file
 pub options-of-tracks : Hold (
     refused (codes "merge -o o --track-name 0:a" ++ 0 ∷ codes " f") 4 ∷
     refused (codes "merge -o o --language 0:a" ++ 0 ∷ codes "b f") 4 ∷
@@ -230,7 +229,7 @@ pub options-of-tracks : Hold (
 unfolding command first_command command_named verbs merge merged items complete meaning_of table item_at option_at append_at file_at since_file merge_words file named_in value_of text language ids numbers track_flag track_value track_and_rest cue_word delay delay_size cut number whole
 options-of-tracks = refl
 
--- `merge` with `+`, with options behind the last file, and with many files
+-- `merge` with `+`, with options after the last file, and with many files
 pub joins : Hold (
     asks_merge (codes "merge -o o f + g") (codes "o") (plain_file (codes "f") ∷ record (plain_file (codes "g")) { appended = true } ∷ []) ∷
     asks (codes "merge -o o f -a 1 + -w g h") (commands.Merge (record (merging (codes "o") (plain_file (codes "f") ∷ record (plain_file (codes "g")) { appended = true; audio = These (1 ∷ []); named = (1 ∷ []) } ∷ plain_file (codes "h") ∷ [])) { webm = true })) ∷

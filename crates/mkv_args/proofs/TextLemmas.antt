@@ -1,2 +1,2 @@
--- The merge that words ask for, and its texts.
+-- The merge in a command, and its texts.
 pub use Rattle.mkv_args.proofs.SoundLemmas.{asked-merged, asked-texts}

@@ -1,10 +1,10 @@
--- Words and their meanings. They are this project's.
+-- Tables of words with their meanings. They are this project's.
 use Rattle.std.specs.Prelude.{ℕ, Bool, ◌&&◌, ◌||◌, nat_lt, List, length, Option, option_map}
 use Rattle.std.specs.List.{find}
 use Rattle.std.specs.Str.{bytes_eq}
 use Rattle.mkv_args.specs.declared.entry.Entry as code
 
--- a word: its short spelling, which may be empty, its long spelling, and its meaning
+-- word of a table: its short spelling (may be empty), its long spelling, and its meaning
 pub record Entry (T : Type 0) : Type 0 where
   pub short : List ℕ
   pub long : List ℕ
@@ -13,14 +13,14 @@ pub record Entry (T : Type 0) : Type 0 where
 abbrev pub entry : {T : Type 0} → List ℕ → List ℕ → T → Entry T
 entry short long means = record { short = short; long = long; means = means }
 
--- an entry of the code
+-- The entry `e` of the code, as a value.
 abbrev pub shown : {T : Type 0} → code.Entry T → Entry T
 shown e = record { short = e.0.now; long = e.1.now; means = e.2 }
 
--- whether the word isn't empty and is one of the two spellings
+-- `word` isn't empty and is one of the two spellings of `e`.
 abbrev pub spelled : {T : Type 0} → List ℕ → Entry T → Bool
 spelled word e = nat_lt 0 (length word) && (bytes_eq e.short word || bytes_eq e.long word)
 
--- the meaning of the first entry that has the word as a spelling
+-- the meaning of the first of `entries` that has `word` as a spelling
 abbrev pub meant : {T : Type 0} → List (Entry T) → List ℕ → Option T
 meant {T} entries word = option_map (λ (e : Entry T). e.means) (find (spelled word) entries)

@@ -1,4 +1,4 @@
--- `explain`: the words of messages, with their meaning, cause and remedy. They are this project's.
+-- `explain`: the words of messages, with their meaning, cause and remedy. The texts are this project's.
 use Rattle.std.specs.Prelude.{ℕ, Bool, List, [], ◌++◌, map, slice_get, Option, Some, None, option_map, unwrap_or, Result, Ok}
 use Rattle.std.specs.Borrow.{Bor}
 use Rattle.std.specs.Char.{to_ascii_lowercase}
@@ -12,21 +12,20 @@ use Rattle.mkv_args.specs.declared.topics.TheConstants.{TOPIC_LIST, WORD_TOPICS,
 use Rattle.mkv_args.specs.declared.command.Command.{Command}
 use Rattle.mkv_args.specs.declared.command.Command.TheVariants as commands
 
--- a word of a message, and the lines of its page
+-- word of a message, and the lines of its page
 pub record Topic : Type 0 where
   pub name : List ℕ
   pub lines : List (List ℕ)
 
--- the lines of a page of the code
+-- the lines of `page`, a page of the code
 abbrev pub lines_of : Bor (List (Bor (List ℕ))) → List (List ℕ)
 lines_of page = map (λ (line : Bor (List ℕ)). line.now) page.now
 
--- a topic of the code
+-- the topic `t` of the code, as a value
 abbrev pub shown : Bor (List ℕ) × Bor (List (Bor (List ℕ))) → Topic
 shown t = record { name = t.0.now; lines = lines_of t.1 }
 
--- the topics of each group: words of the command line, what refuses a run, what refuses an edit, what is wrong in a file, other warnings,
--- results, and what is common to all
+-- The topics of each group: words of the command line, reasons why a run or an edit is refused, damage, warnings, results, and general words.
 unfoldable pub word_topics : List Topic
 word_topics = map (λ t. record { name = t.0.now; lines = map (λ line. line.now) t.1.now }) WORD_TOPICS
 
@@ -52,28 +51,28 @@ general_topics = map (λ t. record { name = t.0.now; lines = map (λ line. line.
 abbrev pub topics : List Topic
 topics = word_topics ++ refusal_topics ++ edit_topics ++ damage_topics ++ warning_topics ++ result_topics ++ general_topics
 
--- the list of all names
+-- the list of all names, as `explain` prints it
 unfoldable pub topic_list : List (List ℕ)
 topic_list = map (λ line. line.now) TOPIC_LIST
 
--- whether two names are equal but for the case of letters
+-- `a` and `b` are equal, except for the case of ASCII letters.
 abbrev pub is_same_name : List ℕ → List ℕ → Bool
 is_same_name a b = bytes_eq (map to_ascii_lowercase a) (map to_ascii_lowercase b)
 
--- the page of the first topic that has a name
+-- the page of the first of `topics` with the name `name`
 abbrev pub page_among : List Topic → List ℕ → Option (List (List ℕ))
 page_among topics name = option_map (λ (t : Topic). t.lines) (find (λ (t : Topic). is_same_name t.name name) topics)
 
--- the page of a name, in upper or lower case
+-- the page of `name`, in upper or lower case
 abbrev pub page_of : List ℕ → Option (List (List ℕ))
 page_of name = page_among topics name
 
--- the lines that `explain` prints: the page of a name, or the list of all names
+-- the lines that `explain` prints: the page of `name`, or the list of all names
 abbrev pub explained : Option (List ℕ) → List (List ℕ)
 explained None = topic_list
 explained (Some name) = unwrap_or (page_of name) []
 
--- `explain` alone, or with a name that has a page
+-- the command `explain`, without a name or with a name that has a page
 abbrev pub explain_named : Option (List ℕ) → List (List ℕ) → Result Command Usage
 explain_named None words = Ok (commands.Explain None)
 explain_named (Some word) words = do

@@ -1,4 +1,4 @@
--- The words of `extract`: this project's grammar, after mkvextract(1).
+-- The command line of `extract`: this project's grammar, after mkvextract(1).
 use Rattle.std.specs.Prelude.{ℕ, ◌+◌, Bool, nat_lt, if◌then◌else◌, List, [], ◌∷◌, ◌++◌, drop, codes, Option, Some, None, Result, Ok}
 use Rattle.std.specs.List.{list_any}
 use Rattle.std.specs.Str.{bytes_eq}
@@ -18,11 +18,11 @@ use Rattle.word_values.specs.Answers.{wrong, ◌>>=◌}
 use Rattle.word_values.specs.Place.{due_at, file_at, end_at, is_option}
 use Rattle.word_values.specs.Values.{track_and_rest}
 
--- a target has this name
+-- One of `targets` has the name `name`.
 abbrev pub is_taken : List ℕ → List Target → Bool
 is_taken name targets = list_any (λ (t : Target). bytes_eq t.name name) targets
 
--- `ID:OUT`, with a name that no target before it has
+-- `ID:OUT`, with an ID of at least `least`, and a name that no target of `before` has
 abbrev pub target_of : ℕ → List Target → ℕ → Option (ℕ × List ℕ) → Result Target Usage
 target_of least before at None = wrong at BadValue
 target_of least before at (Some p) =
@@ -30,24 +30,24 @@ target_of least before at (Some p) =
     else if is_taken p.1 before then wrong at RepeatedOutput
     else Ok (record { id = p.0; name = p.1 })
 
--- the target that a word says, behind those before it
+-- the target in `word`, argument number `at`, after the targets `before`
 unfoldable pub target : ℕ → List Target → ℕ → List ℕ → Result Target Usage
 target least before at word = target_of least before at (track_and_rest word)
 
--- the targets that the words from this number on say, each read behind those before it
+-- the targets `before`, and those in the arguments from number `at` on; each name must differ from all names before it
 abbrev pub targets_from : ℕ → List Target → ℕ → List (List ℕ) → Result (List Target) Usage
 targets_from least before at [] = Ok before
 targets_from least before at (w ∷ ws) = do
   t ← target least before at w
   targets_from least (before ++ t ∷ []) (at + 1) ws
 
--- one or more targets
+-- one or more targets, from argument `start` on, with IDs of at least `least`
 unfoldable pub targets : ℕ → List (List ℕ) → ℕ → Result (List Target) Usage
 targets least words start = do
   _ ← due_at words start
   targets_from least [] start (drop start words)
 
--- tracks that are written in this form, each to the output that its target names
+-- tracks in the form `form`, each to the output that its target names
 abbrev pub tracks_by : Form → List (List ℕ) → ℕ → Result Job Usage
 tracks_by form words start = do
   list ← targets 0 words start
@@ -62,7 +62,7 @@ tracks words = do
       else if is_option word then wrong 3 UnknownOption
       else tracks_by form.ByCodec words 3
 
--- the output for simple chapters, and no word behind it
+-- the output for simple chapters, as the last argument
 abbrev pub simple : List (List ℕ) → Result Job Usage
 simple words = do
   out ← due_at words 4
@@ -77,13 +77,13 @@ chapters words = do
       else if is_option word then wrong 3 UnknownOption
       else wrong 3 BadValue
 
--- the job that is made of targets
+-- the job that `make` makes of the targets in `said`
 abbrev pub listed : (List Target → Job) → Result (List Target) Usage → Result Job Usage
 listed make said = do
   list ← said
   Ok (make list)
 
--- the modes, with what `--help` says of them
+-- the modes of `extract`
 unfoldable pub modes : List (Entry Mode)
 modes =
     entry (codes "") (codes "tracks") mode.Tracks ∷
@@ -92,7 +92,7 @@ modes =
     entry (codes "") (codes "attachments") mode.Attachments ∷
     entry (codes "") (codes "chapters") mode.Chapters ∷ []
 
--- what the words behind the mode ask for
+-- the job that the arguments after a mode ask for
 unfoldable pub job_of : Option Mode → List (List ℕ) → Result Job Usage
 job_of None words = wrong 2 UnknownCommand
 job_of (Some mode.Tracks) words = tracks words
@@ -101,7 +101,7 @@ job_of (Some mode.Cues) words = listed jobs.Cues (targets 0 words 3)
 job_of (Some mode.Attachments) words = listed jobs.Attachments (targets 1 words 3)
 job_of (Some mode.Chapters) words = chapters words
 
--- the job that the word of a mode and the words behind it say
+-- the job of the mode `word` and the arguments after it
 unfoldable pub job : List ℕ → List (List ℕ) → Result Job Usage
 job word words = job_of (meant modes word) words
 

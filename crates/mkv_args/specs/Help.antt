@@ -1,10 +1,10 @@
--- The lines of `--help` and `--version`. They are this project's.
+-- The lines of `--help` and `--version`. The texts are this project's.
 use Rattle.std.specs.Prelude.{ℕ, List, map, codes, Option, Some}
 use Rattle.mkv_args.specs.declared.pages.TheConstants.{OVERVIEW, INFO_PAGE, MERGE_PAGE, EXTRACT_PAGE, PROPEDIT_PAGE, RECOVER_PAGE, REINDEX_PAGE, GENERATE_PAGE, EXPLAIN_PAGE}
 use Rattle.mkv_args.specs.declared.commands.Verb.{Verb}
 use Rattle.mkv_args.specs.declared.commands.Verb.TheVariants as verb
 
--- the lines of `--help`: the page of a command, or the overview of all
+-- the lines of `--help`: the page of a command, or the overview of all commands
 unfoldable pub usage_lines : Option Verb → List (List ℕ)
 usage_lines (Some verb.Info) = map (λ line. line.now) INFO_PAGE
 usage_lines (Some verb.Merge) = map (λ line. line.now) MERGE_PAGE

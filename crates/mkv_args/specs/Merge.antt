@@ -1,4 +1,4 @@
--- The words of `merge`: what is merged, or `-J` and the file that is identified. They are this project's, after mkvmerge(1).
+-- The command line of `merge`, or of `merge -J`, which identifies a file. It is this project's, after mkvmerge(1).
 use Rattle.std.specs.Prelude.{ℕ, Bool, false, ◌&&◌, ◌||◌, if◌then◌else◌, List, slice_get, codes, Option, Some, None, is_none, Result, Ok}
 use Rattle.std.specs.Str.{bytes_eq}
 use Rattle.word_values.specs.declared.usage.Usage.{Usage}
@@ -11,11 +11,11 @@ use Rattle.merge_words.specs.Merge.{merged}
 use Rattle.mkv_args.specs.declared.command.Command.{Command}
 use Rattle.mkv_args.specs.declared.command.Command.TheVariants as command
 
--- a word beside `-J` and its file
+-- the reason why `word`, argument number `at`, is refused after `merge -J`
 unfoldable pub beside : ℕ → List ℕ → Result Command Usage
 beside at word = if is_option word && is_none (meaning_of word) then wrong at UnknownOption else wrong at ExtraWord
 
--- nothing stands behind the file
+-- the command `merge -J file`, if no argument follows the file
 abbrev pub identified : List ℕ → Option (List ℕ) → Result Command Usage
 identified file None = Ok (command.Identify file)
 identified file (Some extra) = beside 3 extra

@@ -1,4 +1,4 @@
--- The words of `propedit`: this project's grammar, after mkvpropedit(1).
+-- The command line of `propedit`: this project's grammar, after mkvpropedit(1).
 use Rattle.std.specs.Prelude.{ℕ, ◌+◌, Bool, true, false, ◌==◌, if◌then◌else◌, List, [], ◌∷◌, length, drop, codes, Option, Some, None, option_map, Result, Ok, slice_get}
 use Rattle.std.specs.List.{starts_with}
 use Rattle.std.specs.Str.{bytes_eq}
@@ -25,19 +25,20 @@ use Rattle.word_values.specs.Numbers.{from}
 use Rattle.requests.specs.Decimal.{number}
 use Rattle.word_values.specs.Place.{due, due_at, file_at}
 
--- a place, counted from 1
+-- the position in `word`, counted from 1
 unfoldable pub place : List ℕ → Option ℕ
 place word = from 1 (number word)
 
--- a place among the tracks of one type
+-- the track at the position in `word` among the tracks of the type `kind`
 unfoldable pub typed : ℕ → List ℕ → Option Selector
 typed kind word = option_map (λ n. Typed kind n) (place word)
 
--- the word begins with this
+-- `word` begins with `mark`.
 abbrev pub begins : List ℕ → List ℕ → Bool
 begins mark word = starts_with (λ a b. a == b) word mark
 
--- `n`, the n-th track; `vN`, `aN` or `sN`, the n-th whose TrackType is video, audio or subtitle; `=UID` or `@number`
+-- the track in `word`. `n` is the n-th track; `vN`, `aN` or `sN` is the n-th whose TrackType is video, audio or subtitle; `=UID` or `@number`
+-- names it.
 unfoldable pub track : List ℕ → Option Selector
 track word =
     if begins (codes "v") word then typed VIDEO_TRACK (drop 1 word)
@@ -47,14 +48,14 @@ track word =
     else if begins (codes "@") word then option_map Number (number (drop 1 word))
     else option_map Nth (place word)
 
--- `info`, or `track:` and a track
+-- the section in `word`: `info`, or `track:` and a track
 unfoldable pub selector : List ℕ → Option Selector
 selector word =
     if bytes_eq word (codes "info") then Some Info
     else if begins (codes "track:") word then track (drop 6 word)
     else None
 
--- the options, with what `--help` says of them
+-- the options of `propedit`
 unfoldable pub steps : List (Entry EditOptionKind)
 steps =
     entry (codes "-e") (codes "--edit") step.Section ∷
@@ -62,65 +63,66 @@ steps =
     entry (codes "-a") (codes "--add") (step.Edit Add) ∷
     entry (codes "-d") (codes "--delete") (step.Edit Delete) ∷ []
 
--- what an option begins
+-- the kind of the option `word`
 unfoldable pub step_of : List ℕ → Option EditOptionKind
 step_of word = meant steps word
 
--- an option, its value where one stands behind it, and the number of the option's word
+-- an option, its number on the command line, and the value that follows it, if any
 pub record Pair : Type 0 where
   pub at : ℕ
   pub option : List ℕ
   pub value : Option (List ℕ)
 
--- the option at a number, with the word behind it
+-- the option at argument `at`, with the argument after it
 abbrev pub pair_at : List (List ℕ) → ℕ → List ℕ → Pair
 pair_at words at option = record { at = at; option = option; value = slice_get words (at + 1) }
 
--- the words from a number on, in pairs: the last may lack its value
+-- The arguments from number `at` on, in pairs; the last pair may lack its value.
 abbrev pub pairs : ℕ → List (List ℕ) → List Pair
 pairs at [] = []
 pairs at (o ∷ []) = record { at = at; option = o; value = None } ∷ []
 pairs at (o ∷ v ∷ ws) = record { at = at; option = o; value = Some v } ∷ pairs (at + 2) ws
 
--- a section has edits: an edit may stand behind it, and another section behind those
+-- An option of this kind is allowed here. `edited` is whether the last section has an edit, which it must have before the next section.
 abbrev pub may_follow : Bool → EditOptionKind → Bool
 may_follow edited step.Section = edited
 may_follow edited (step.Edit change) = true
 
--- the option at a number, where it may stand there
+-- the kind of the option at argument `at`, if it is allowed there
 abbrev pub following : ℕ → Bool → Option EditOptionKind → Result EditOptionKind Usage
 following at edited None = wrong at UnknownOption
 following at edited (Some step) = if may_follow edited step then Ok step else wrong at UnknownOption
 
--- `NAME=VALUE`, where the name ends at the first `=`
+-- the change `NAME=VALUE` in `word`; the name ends at the first `=`
 abbrev pub changed : Change → List ℕ → Option EditOption
 changed change word = option_map (λ (p : List ℕ × List ℕ). says.Change change p.0 p.1) (cut EQUALS word)
 
--- what an option says with its value
+-- the meaning of the value `word` of an option of this kind
 abbrev pub meaning : EditOptionKind → List ℕ → Option EditOption
 meaning step.Section word = option_map says.Section (selector word)
 meaning (step.Edit Delete) word = Some (says.Change Delete word [])
 meaning (step.Edit Set) word = changed Set word
 meaning (step.Edit Add) word = changed Add word
 
--- what an option says with the value at a number, of so many words
+-- the option of the kind `step` with the value at argument `at`, on a command line of `count` arguments
 abbrev pub saying_at : ℕ → EditOptionKind → Option (List ℕ) → ℕ → Result EditOption Usage
 saying_at at step value count = do
   word ← due count value
   read_value at (meaning step word)
 
--- what a pair says behind a section, of which an edit was said or not
+-- the option in `pair` with its value. `edited` is whether the section before it has an edit; the command line has `count` arguments.
 abbrev pub said : ℕ → Bool → Pair → Result EditOption Usage
 said count edited pair = do
   step ← following pair.at edited (step_of pair.option)
   saying_at (pair.at + 1) step pair.value count
 
--- an edit was said, and not a section
+-- The option is an edit, not a section.
 abbrev pub is_edit : EditOption → Bool
 is_edit (says.Section place) = false
 is_edit (says.Change change name value) = true
 
--- what the pairs behind a section say, each read behind the one before it: the first that is wrong is told
+-- The options in the pairs, in order, or the first error. `edited` is whether the section before them has an edit; the command line has `count`
+-- arguments.
 abbrev pub all_said : ℕ → Bool → List Pair → Result (List EditOption) Usage
 all_said count edited [] = if edited then Ok [] else wrong count MissingValue
 all_said count edited (p ∷ ps) = do
@@ -128,13 +130,13 @@ all_said count edited (p ∷ ps) = do
   more ← all_said count (is_edit here) ps
   Ok (here ∷ more)
 
--- the edits, each of the last section before it
+-- the edits among these options, each of the last section before it; the first section is `place`
 abbrev pub edits_in : Selector → List EditOption → List Edit
 edits_in place [] = []
 edits_in place (says.Section next ∷ more) = edits_in next more
 edits_in place (says.Change change name value ∷ more) = record { place = place; change = change; name = name; value = value } ∷ edits_in place more
 
--- the section that the word with this number names
+-- the section in argument `at`
 abbrev pub section_at : List (List ℕ) → ℕ → Result Selector Usage
 section_at words at = do
   word ← due_at words at
@@ -144,20 +146,20 @@ abbrev pub section_behind : Option EditOptionKind → List (List ℕ) → Result
 section_behind (Some step.Section) words = section_at words 3
 section_behind _ words = wrong 2 UnknownOption
 
--- the first section, which the words behind FILE name first
+-- the first section, which must be the first option after FILE
 unfoldable pub first_section : List (List ℕ) → Result Selector Usage
 first_section words = do
   option ← due_at words 2
   section_behind (step_of option) words
 
--- the edits of all sections
+-- the edits of all sections, in order
 unfoldable pub edits : List (List ℕ) → Result (List Edit) Usage
 edits words = do
   place ← first_section words
   all ← all_said (length words) false (pairs 4 (drop 4 words))
   Ok (edits_in place all)
 
--- `propedit FILE`, then sections
+-- `propedit FILE`, then sections with their edits
 unfoldable pub propedit : List (List ℕ) → Result Command Usage
 propedit words = do
   file ← file_at words 1

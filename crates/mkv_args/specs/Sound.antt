@@ -1,4 +1,5 @@
--- What a command keeps, whatever its words were: numbers stand within their limits, and no two outputs have one name.
+-- Limits of every command that is read from a command line: numbers are within their limits, and the outputs of an extraction have different
+-- names.
 use Rattle.std.specs.Prelude.{◌<◌, ◌≤◌, ⊤, ℕ, List, length, map, All}
 use Rattle.mkv_io.specs.Names.{AreApart}
 use Rattle.requests.specs.declared.job.Job.{Job}
@@ -16,20 +17,20 @@ use Rattle.mkv_args.specs.declared.command.Command.TheVariants as command
 abbrev pub names_of : List Target → List (List ℕ)
 names_of targets = map (λ (t : Target). t.name) targets
 
--- one or more targets, of numbers from a least one on, which go to files of different names
+-- There are one or more `targets`, with IDs of at least `least`, and their outputs have different names.
 pub record AreTargets (least : ℕ) (targets : List Target) : Type 0 where
   pub some : 0 < length targets
   pub apart : AreApart (names_of targets)
   pub from : All (λ (t : Target). least ≤ t.id) targets
 
--- attached files are counted from 1, and tracks from 0
+-- A job has sound targets. Attached files are counted from 1, and tracks from 0.
 abbrev pub IsSoundJob : Job → Type 0
 IsSoundJob (jobs.Tracks form list) = AreTargets 0 list
 IsSoundJob (jobs.Cues list) = AreTargets 0 list
 IsSoundJob (jobs.Attachments list) = AreTargets 1 list
 IsSoundJob (jobs.Chapters name) = ⊤
 
--- TrackEntries are counted from 1
+-- A position among TrackEntries is counted from 1.
 abbrev pub IsSoundPlace : Selector → Type 0
 IsSoundPlace selector.Info = ⊤
 IsSoundPlace (selector.Nth n) = 1 ≤ n
@@ -37,7 +38,7 @@ IsSoundPlace (selector.Typed kind n) = 1 ≤ n
 IsSoundPlace (selector.Uid uid) = ⊤
 IsSoundPlace (selector.Number number) = ⊤
 
--- one or more edits, each at such a place
+-- There are one or more `edits`, each of a section with such a position.
 pub record AreEdits (edits : List Edit) : Type 0 where
   pub some : 0 < length edits
   pub each : All (λ (e : Edit). IsSoundPlace e.place) edits

@@ -1,4 +1,4 @@
--- The words of a command line: a command, or the first word that is wrong and why. They are this project's.
+-- The meaning of a command line: a command, or the first wrong word and the reason. The grammar is this project's.
 use Rattle.std.specs.Prelude.{ℕ, Bool, ◌&&◌, if◌then◌else◌, List, [], ◌∷◌, slice_get, codes, Option, Some, None, is_none, option_and_then, Result, Ok}
 use Rattle.word_values.specs.declared.usage.Usage.{Usage}
 use Rattle.word_values.specs.declared.usage.Why.TheVariants.{NoCommand, UnknownCommand}
@@ -18,44 +18,44 @@ use Rattle.mkv_args.specs.Extract.{extract}
 use Rattle.mkv_args.specs.Propedit.{propedit}
 use Rattle.mkv_args.specs.Merge.{merge, is_word}
 
--- a file's name, behind which nothing stands
+-- a file's name as the last word
 unfoldable pub only_file : List (List ℕ) → Result (List ℕ) Usage
 only_file words = do
   file ← file_at words 1
   _ ← end_at words 2
   Ok file
 
--- a command that is one word
+-- `command`, named by the only word
 unfoldable pub alone : Command → List (List ℕ) → Result Command Usage
 alone command words = do
   _ ← end_at words 1
   Ok command
 
--- the file whose Elements and tracks are shown
+-- `info FILE`
 unfoldable pub info : List (List ℕ) → Result Command Usage
 info words = do
   file ← only_file words
   Ok (commands.Info file)
 
--- the file whose edit is finished
+-- `recover FILE`
 unfoldable pub recover : List (List ℕ) → Result Command Usage
 recover words = do
   file ← only_file words
   Ok (commands.Recover file)
 
--- the file whose index is written anew
+-- `reindex FILE`
 unfoldable pub reindex : List (List ℕ) → Result Command Usage
 reindex words = do
   file ← only_file words
   Ok (commands.Reindex file)
 
--- 1 to 100000
+-- the number in argument `at`, from 1 to 100000
 unfoldable pub blocks_at : List (List ℕ) → ℕ → Result ℕ Usage
 blocks_at words at = do
   word ← due_at words at
   read_value at (below 100001 (from 1 (number word)))
 
--- how many blocks are made, and how the names of the files begin
+-- `generate N PREFIX`: the number of blocks, and the prefix of the names of the files
 unfoldable pub generate : List (List ℕ) → Result Command Usage
 generate words = do
   n ← blocks_at words 1
@@ -63,7 +63,7 @@ generate words = do
   _ ← end_at words 3
   Ok (commands.Generate n prefix)
 
--- the command that the first word names
+-- the command that the first word names, with the arguments in `words`
 unfoldable pub command_named : Option Verb → List (List ℕ) → Result Command Usage
 command_named None words = wrong 0 UnknownCommand
 command_named (Some verb.Info) words = info words
@@ -77,28 +77,28 @@ command_named (Some verb.Explain) words = explain words
 command_named (Some verb.Help) words = alone (commands.Help None) words
 command_named (Some verb.Version) words = alone commands.Version words
 
--- the command that the words begin with
+-- the command of a command line that isn't a call of help for one command
 unfoldable pub first_command : List (List ℕ) → Result Command Usage
 first_command [] = wrong 0 NoCommand
 first_command (first ∷ rest) = command_named (meant verbs first) (first ∷ rest)
 
--- `-h` alone
+-- `-h` is the only word.
 abbrev pub is_short_help : List (List ℕ) → Bool
 is_short_help words = is_word (codes "-h") (slice_get words 0) && is_none (slice_get words 1)
 
--- the command of this name, which doesn't look like an option
+-- the command with the name `word`, unless `word` looks like an option
 abbrev pub named : List ℕ → Option Verb
 named word = if is_option word then None else meant verbs word
 
--- the command behind which `--help` stands, and nothing else
+-- the command before `--help`, if these are the only two words
 abbrev pub helped : List (List ℕ) → Option Verb
 helped words = if is_word (codes "--help") (slice_get words 1) && is_none (slice_get words 2) then option_and_then named (slice_get words 0) else None
 
--- that help, or else the command
+-- the help for `verb`, if there is one, or else the command of `words`
 abbrev pub help_or : Option Verb → List (List ℕ) → Result Command Usage
 help_or (Some verb) words = Ok (commands.Help (Some verb))
 help_or None words = first_command words
 
--- the command that the words ask for, or the first word that is wrong
+-- the command that `words` ask for, or the first wrong word
 unfoldable pub command : List (List ℕ) → Result Command Usage
 command words = if is_short_help words then Ok (commands.Help None) else help_or (helped words) words

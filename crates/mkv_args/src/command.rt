@@ -1,32 +1,32 @@
-//! What a command line asks for.
+//! Commands that a command line asks for.
 
 use crate::commands::Verb;
 use mkv_io::{List, Text};
 use requests::{Edit, Job, MergeWords};
 
-/// One command with all that its words say.
+/// Command with the values of all its arguments.
 #[derive(Debug, Drop)]
 pub enum Command {
-    /// Show how the words are written, of one command or of all.
+    /// Print the page of `--help` of the command `about`, or the overview of all commands.
     Help { about: Option<Verb> },
-    /// Show the name and the version.
+    /// Print the name and the version of the program.
     Version,
-    /// List a file's Elements and tracks.
+    /// List the Elements and tracks of `file`.
     Info { file: Text },
-    /// Print a file's identification.
+    /// Print the identification of `file`.
     Identify { file: Text },
-    /// Finish an edit that was stopped.
+    /// Finish an interrupted edit of `file`.
     Recover { file: Text },
-    /// Write a file's Cues and SeekHead anew.
+    /// Rebuild the Cues and SeekHead of `file`.
     Reindex { file: Text },
-    /// Make two files of `n` blocks and more, merge them and split the outcome.
+    /// Make two test files of at least `n` blocks, merge them and split the result.
     Generate { n: u32, prefix: Text },
-    /// Explain a word of a message, or list the words that have a page.
+    /// Explain the word `name` of a message, or list all words that have a page.
     Explain { name: Option<Text> },
-    /// Take something out of a file.
+    /// Extract `job` from `file`.
     Extract { file: Text, job: Job },
-    /// Change properties of a file in place.
+    /// Change properties of `file` in place.
     Propedit { file: Text, edits: List<Edit> },
-    /// Write one file, or its parts, from several.
+    /// Write one output, or its parts, from one or more files.
     Merge { words: MergeWords },
 }

@@ -1,4 +1,4 @@
-//! The names of the commands.
+//! The names of the commands, which are this project's.
 
 ghost use Rattle.std.specs.Prelude.{◌≡◌, map};
 ghost use Rattle.mkv_args.specs.Commands as spec;
@@ -6,7 +6,7 @@ ghost use Rattle.mkv_args.specs.Entry as words;
 
 use crate::entry::{Entry, meant};
 
-/// What a first word asks for.
+/// Command that the first argument names.
 #[derive(Clone, Copy, Debug, PartialEq, Eq)]
 pub enum Verb {
     Info,
@@ -35,7 +35,7 @@ static COMMANDS: [Entry<Verb>; 10] = [
     Entry("", "--version", Verb::Version),
 ];
 
-/// The commands.
+/// Returns the names of all commands.
 #[tactic(auto, unfolding(crate::specs::Commands::commands))]
 pub(crate) fn commands() -> &'static [Entry<Verb>]
     ensures { map words.shown result.now ≡ spec.commands }
@@ -43,7 +43,7 @@ pub(crate) fn commands() -> &'static [Entry<Verb>]
     &COMMANDS
 }
 
-/// The command that a first word names.
+/// Returns the command with the name `word`.
 pub(crate) fn verb_of(word: &str) -> Option<Verb>
     ensures { result ≡ words.meant spec.commands word.now }
 {

@@ -1,9 +1,9 @@
-//! Words and their meanings.
+//! Tables of words with their meanings.
 
 ghost use Rattle.std.specs.Prelude.{◌≡◌, map};
 ghost use Rattle.mkv_args.specs.Entry as spec;
 
-/// A word: its short spelling, which may be empty, its long spelling, and its meaning.
+/// Word of a table: its short spelling (may be empty), its long spelling, and its meaning.
 #[derive(Clone, Copy)]
 pub(crate) struct Entry<T>(
     pub(crate) &'static str,

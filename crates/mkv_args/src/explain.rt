@@ -13,7 +13,7 @@ use crate::topics::{
 use std::alloc::Global;
 use word_values::{ArgsEnd, Why, end_at, name, refused, word_at};
 
-/// A name with the lines of its page.
+/// Name with the lines of its page.
 type Topic = (&'static str, &'static [&'static str]);
 
 /// Returns the lines that `explain` prints: the page of the word `name`, or the list of all names.
@@ -33,7 +33,7 @@ fn topic_list() -> &'static [&'static str]
     &TOPIC_LIST
 }
 
-/// Returns the page of a name, in upper or lower case.
+/// Returns the page of `name`, in upper or lower case.
 fn page_of(name: &str) -> Option<&'static [&'static str]>
     ensures { option_map spec.lines_of result ≡ spec.page_of name.now }
 {
@@ -57,7 +57,7 @@ fn page_among(topics: &[Topic], name: &str) -> Option<&'static [&'static str]>
     None
 }
 
-/// Whether two names are equal but for the case of letters.
+/// Checks whether `a` and `b` are equal, except for the case of ASCII letters.
 fn is_same_name(a: &str, b: &str) -> bool
     ensures { result ≡ spec.is_same_name a.now b.now }
 {

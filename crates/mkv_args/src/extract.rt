@@ -1,4 +1,4 @@
-//! The words of `extract`.
+//! The command line of `extract`: this project's grammar, after mkvextract(1).
 
 ghost use Rattle.std.specs.Prelude.{◌≡◌, map};
 ghost use Rattle.word_values.specs.Answers.{Tells};
@@ -15,7 +15,7 @@ use word_values::{
     ArgsEnd, Why, due_at, end_at, file_at, is_option, name, refused, track_and_rest, word_at,
 };
 
-/// `extract FILE MODE ARGS`.
+/// Reads `extract FILE MODE ARGS`.
 #[tactic(auto, unfolding(crate::specs::Extract::extract))]
 pub(crate) fn extract(alloc: Global, words: &[String]) -> Result<Command, ArgsEnd>
     ensures { Tells result (spec.extract (texts words.now)) }
@@ -29,7 +29,7 @@ pub(crate) fn extract(alloc: Global, words: &[String]) -> Result<Command, ArgsEn
     })
 }
 
-/// What is taken out.
+/// Part of a file that `extract` writes.
 #[derive(Clone, Copy, PartialEq, Eq)]
 pub(crate) enum Mode {
     Tracks,
@@ -48,7 +48,7 @@ static MODES: [Entry<Mode>; 5] = [
     Entry("", "chapters", Mode::Chapters),
 ];
 
-/// The modes of `extract`.
+/// Returns the modes of `extract`.
 #[tactic(auto, unfolding(crate::specs::Extract::modes))]
 pub(crate) fn modes() -> &'static [Entry<Mode>]
     ensures { map entry.shown result.now ≡ spec.modes }
@@ -56,14 +56,14 @@ pub(crate) fn modes() -> &'static [Entry<Mode>]
     &MODES
 }
 
-/// The mode that a word names.
+/// Returns the mode with the name `word`.
 fn mode_of(word: &str) -> Option<Mode>
     ensures { result ≡ entry.meant spec.modes word.now }
 {
     meant(modes(), word)
 }
 
-/// What the words behind the mode ask for.
+/// Reads the arguments after the mode, `mode`.
 #[tactic(auto, unfolding(crate::specs::Extract::job, crate::specs::Extract::job_of))]
 fn job(alloc: Global, mode: &str, words: &[String]) -> Result<Job, ArgsEnd>
     ensures { Tells result (spec.job mode.now (texts words.now)) }
@@ -85,7 +85,7 @@ fn job(alloc: Global, mode: &str, words: &[String]) -> Result<Job, ArgsEnd>
     }
 }
 
-/// `[--raw or --fullraw] TID:OUT..`.
+/// Reads `[--raw or --fullraw] TID:OUT..`.
 #[tactic(auto, unfolding(crate::specs::Extract::tracks))]
 fn tracks(alloc: Global, words: &[String]) -> Result<Job, ArgsEnd>
     ensures { Tells result (spec.tracks (texts words.now)) }
@@ -107,7 +107,7 @@ fn tracks(alloc: Global, words: &[String]) -> Result<Job, ArgsEnd>
     }
 }
 
-/// `--simple OUT`.
+/// Reads `--simple OUT`.
 #[tactic(auto, unfolding(crate::specs::Extract::chapters))]
 fn chapters(alloc: Global, words: &[String]) -> Result<Job, ArgsEnd>
     ensures { Tells result (spec.chapters (texts words.now)) }
@@ -125,7 +125,7 @@ fn chapters(alloc: Global, words: &[String]) -> Result<Job, ArgsEnd>
     }
 }
 
-/// One or more `ID:OUT`, with IDs from `least` on.
+/// Reads one or more targets `ID:OUT` from argument `start` on, with IDs of at least `least`.
 #[tactic(auto, unfolding(crate::specs::Extract::targets))]
 fn targets(
     alloc: Global,
@@ -146,7 +146,8 @@ fn targets(
     Ok(list)
 }
 
-/// `ID:OUT`, with a name that no target before it has.
+/// Reads `word`, argument number `at`, as a target `ID:OUT`. Refuses an ID less than `least` and a name that a target
+/// of `before` has.
 #[tactic(auto, unfolding(crate::specs::Extract::target))]
 fn target(
     alloc: Global,
@@ -172,7 +173,7 @@ fn target(
     })
 }
 
-/// Whether a target has this name.
+/// Checks whether a target of `before` has the name `out`.
 fn is_taken(out: &str, before: &[Target]) -> bool
     ensures { result ≡ spec.is_taken out.now before.now }
 {

@@ -1,4 +1,4 @@
-//! The words of `merge`.
+//! The command line of `merge`, after mkvmerge(1).
 
 ghost use Rattle.std.specs.Prelude.{◌≡◌};
 ghost use Rattle.mkv_args.specs.Merge as spec;
@@ -10,7 +10,7 @@ use merge_words::{meaning_of, read_merge};
 use std::alloc::Global;
 use word_values::{ArgsEnd, Why, is_option, name, refused, word_at};
 
-/// `merge` with its options and files, or `merge -J FILE`.
+/// Reads `merge` with its options and files, or `merge -J FILE`.
 #[tactic(auto, unfolding(crate::specs::Merge::merge))]
 pub(crate) fn merge(alloc: Global, words: &[String]) -> Result<Command, ArgsEnd>
     ensures { Tells result (spec.merge (texts words.now)) }
@@ -23,7 +23,7 @@ pub(crate) fn merge(alloc: Global, words: &[String]) -> Result<Command, ArgsEnd>
     })
 }
 
-/// `merge -J FILE`, beside which nothing may stand.
+/// Reads `merge -J FILE`; no other argument is allowed.
 #[tactic(auto, unfolding(crate::specs::Merge::identify))]
 fn identify(alloc: Global, words: &[String]) -> Result<Command, ArgsEnd>
     ensures { Tells result (spec.identify (texts words.now)) }
@@ -42,7 +42,7 @@ fn identify(alloc: Global, words: &[String]) -> Result<Command, ArgsEnd>
     })
 }
 
-/// A word beside `-J` and its file.
+/// Refuses `word`, argument number `at`: an unknown option, or an argument that `merge -J FILE` doesn't take.
 #[tactic(auto, unfolding(crate::specs::Merge::beside))]
 fn beside(at: usize, word: &str) -> Result<Command, ArgsEnd>
     ensures { Tells result (spec.beside at word.now) }

@@ -1,4 +1,4 @@
-//! The words of `propedit`.
+//! The command line of `propedit`: this project's grammar, after mkvpropedit(1).
 
 ghost use Rattle.std.specs.Prelude.{◌≡◌, ◌<◌, length, map, slice_get};
 ghost use Rattle.word_values.specs.Answers.{ReadsValue, Tells};
@@ -13,28 +13,28 @@ use requests::{Change, Edit, Selector, number};
 use std::alloc::Global;
 use word_values::{ArgsEnd, ValueEnd, Why, cut_text, due_at, file_at, name, refused, word_at};
 
-/// The TrackType that a section names by `v`: video (RFC 9559, 5.1.4.1.3).
+/// TrackType that a section names by `v`: video (RFC 9559, section 5.1.4.1.3).
 pub const VIDEO_TRACK: u64 = 1;
 
-/// The TrackType that a section names by `a`: audio (RFC 9559, 5.1.4.1.3).
+/// TrackType that a section names by `a`: audio (RFC 9559, section 5.1.4.1.3).
 pub const AUDIO_TRACK: u64 = 2;
 
-/// The TrackType that a section names by `s`: subtitle (RFC 9559, 5.1.4.1.3).
+/// TrackType that a section names by `s`: subtitle (RFC 9559, section 5.1.4.1.3).
 pub const SUBTITLE_TRACK: u64 = 17;
 
-/// What an option of `propedit` begins.
+/// Kind of an option of `propedit`: it starts a section, or it changes a property.
 #[derive(Clone, Copy, PartialEq, Eq)]
 pub enum EditOptionKind {
     Section,
     Edit(Change),
 }
 
-/// What an option of `propedit` says with its value.
+/// Option of `propedit` with its value.
 #[derive(Drop)]
 pub enum EditOption {
-    /// The edits behind it are for this section.
+    /// Section of the edits that follow.
     Section(Selector),
-    /// A property of the last section before it changes.
+    /// Change of a property of the last section before it.
     Change {
         change: Change,
         name: Text,
@@ -42,7 +42,7 @@ pub enum EditOption {
     },
 }
 
-/// `propedit FILE`, then sections.
+/// Reads `propedit FILE`, then sections with their edits.
 #[tactic(auto, unfolding(crate::specs::Propedit::propedit))]
 pub(crate) fn propedit(alloc: Global, words: &[String]) -> Result<Command, ArgsEnd>
     ensures { Tells result (spec.propedit (texts words.now)) }
@@ -55,7 +55,7 @@ pub(crate) fn propedit(alloc: Global, words: &[String]) -> Result<Command, ArgsE
     })
 }
 
-/// The edits of all sections, in order.
+/// Returns the edits of all sections, in order.
 #[tactic(auto, unfolding(crate::specs::Propedit::edits))]
 fn edits(alloc: Global, words: &[String]) -> Result<List<Edit>, ArgsEnd>
     ensures { Tells result (spec.edits (texts words.now)) }
@@ -92,7 +92,7 @@ fn edits(alloc: Global, words: &[String]) -> Result<List<Edit>, ArgsEnd>
     Ok(list)
 }
 
-/// The first section, which the words behind FILE name first.
+/// Reads the first section, which must be the first option after FILE.
 #[tactic(auto, unfolding(crate::specs::Propedit::first_section))]
 fn first_section(words: &[String]) -> Result<Selector, ArgsEnd>
     ensures { Tells result (spec.first_section (texts words.now)) }
@@ -106,7 +106,8 @@ fn first_section(words: &[String]) -> Result<Selector, ArgsEnd>
     }
 }
 
-/// What the option at a word says with its value, behind a section of which an edit was said or not.
+/// Reads the option `word`, argument number `at`, with its value. `edited` is whether the section before it has an
+/// edit.
 fn said(
     alloc: Global,
     words: &[String],
@@ -123,7 +124,8 @@ fn said(
     }
 }
 
-/// Whether this may stand there. A section has edits before the next.
+/// Checks whether an option of the kind `step` is allowed here. A section must have an edit (`edited`) before the
+/// next section.
 fn may_follow(edited: bool, step: EditOptionKind) -> bool
     ensures { result ≡ spec.may_follow edited step }
 {
@@ -141,7 +143,7 @@ static STEPS: [Entry<EditOptionKind>; 4] = [
     Entry("-d", "--delete", EditOptionKind::Edit(Change::Delete)),
 ];
 
-/// The options of `propedit`.
+/// Returns the options of `propedit`.
 #[tactic(auto, unfolding(crate::specs::Propedit::steps))]
 pub(crate) fn steps() -> &'static [Entry<EditOptionKind>]
     ensures { map entry.shown result.now ≡ spec.steps }
@@ -149,7 +151,7 @@ pub(crate) fn steps() -> &'static [Entry<EditOptionKind>]
     &STEPS
 }
 
-/// What an option begins.
+/// Returns the kind of the option `word`.
 #[tactic(auto, unfolding(crate::specs::Propedit::step_of))]
 fn step_of(word: &str) -> Option<EditOptionKind>
     ensures { result ≡ spec.step_of word.now }
@@ -157,7 +159,7 @@ fn step_of(word: &str) -> Option<EditOptionKind>
     meant(steps(), word)
 }
 
-/// What an option says with the value at a word.
+/// Reads the value of an option of the kind `step`, argument number `at`.
 fn saying_at(
     alloc: Global,
     words: &[String],
@@ -173,7 +175,7 @@ fn saying_at(
     }
 }
 
-/// What an option says with its value.
+/// Reads `word` as the value of an option of the kind `step`.
 fn meaning(alloc: Global, step: EditOptionKind, word: &str) -> Result<EditOption, ValueEnd>
     ensures { ReadsValue result (spec.meaning step word.now) }
 {
@@ -191,7 +193,7 @@ fn meaning(alloc: Global, step: EditOptionKind, word: &str) -> Result<EditOption
     }
 }
 
-/// `NAME=VALUE`, where the name ends at the first `=`.
+/// Reads `NAME=VALUE`; the name ends at the first `=`.
 fn changed(alloc: Global, change: Change, word: &str) -> Result<EditOption, ValueEnd>
     ensures { ReadsValue result (spec.changed change word.now) }
 {
@@ -205,7 +207,7 @@ fn changed(alloc: Global, change: Change, word: &str) -> Result<EditOption, Valu
     })
 }
 
-/// `info`, `track:n`, `track:vN`, `track:aN`, `track:sN`, `track:=UID` or `track:@number`.
+/// Reads `info`, `track:n`, `track:vN`, `track:aN`, `track:sN`, `track:=UID` or `track:@number`.
 #[tactic(auto, unfolding(crate::specs::Propedit::selector))]
 fn selector(word: &[u8]) -> Option<Selector>
     ensures { result ≡ spec.selector word.now }
@@ -243,7 +245,7 @@ fn typed(kind: u64, word: &[u8]) -> Option<Selector>
     })
 }
 
-/// A place, counted from 1.
+/// Reads a position, counted from 1.
 #[tactic(auto, unfolding(crate::specs::Propedit::place))]
 fn place(word: &[u8]) -> Option<u64>
     ensures { result ≡ spec.place word.now }

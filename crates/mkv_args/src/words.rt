@@ -1,4 +1,4 @@
-//! The words of a command line, read from left to right.
+//! A command line, read from left to right.
 
 ghost use Rattle.std.specs.Prelude.{◌≡◌, IfOk};
 ghost use Rattle.word_values.specs.Answers.{Tells, TellsOf, refuses};
@@ -17,12 +17,12 @@ use requests::number;
 use std::alloc::Global;
 use word_values::{ArgsEnd, Why, due_at, end_at, file_at, is_option, name, refused, word_at};
 
-/// The command that the words ask for, or the first word that is wrong. Words are counted from 0,
-/// and the program's own name is none of them.
+/// Returns the command that `words` ask for, or the first wrong word. Words are counted from 0, without the program's
+/// own name.
 pub fn read_words(alloc: Global, words: &Vec<String>) -> Result<Command, ArgsEnd>
     ensures exact { Tells result (spec.command (texts words.now.items)) }
 
-    // Numbers stand within their limits, and no two outputs of an extraction have one name.
+    // Numbers are within their limits, and the outputs of an extraction have different names.
     ensures sound { IfOk result IsSound }
 {
     command(alloc, words.as_slice())
@@ -41,14 +41,14 @@ fn command(alloc: Global, words: &[String]) -> Result<Command, ArgsEnd>
     }
 }
 
-/// `-h` alone.
+/// Checks whether `-h` is the only word.
 fn is_short_help(words: &[String]) -> bool
     ensures { result ≡ spec.is_short_help (texts words.now) }
 {
     word_at(words, 0) == Some("-h") && word_at(words, 1).is_none()
 }
 
-/// The command behind which `--help` stands, and nothing else.
+/// Returns the command before `--help`, if these are the only two words.
 fn helped(words: &[String]) -> Option<Verb>
     ensures { result ≡ spec.helped (texts words.now) }
 {
@@ -59,14 +59,14 @@ fn helped(words: &[String]) -> Option<Verb>
     }
 }
 
-/// The command of this name, which doesn't look like an option.
+/// Returns the command with the name `word`, unless `word` looks like an option.
 fn named(word: &str) -> Option<Verb>
     ensures { result ≡ spec.named word.now }
 {
     if is_option(word) { None } else { verb_of(word) }
 }
 
-/// The command that the first word names.
+/// Reads the command that the first word names.
 #[tactic(auto, unfolding(crate::specs::Words::first_command, crate::specs::Words::command_named))]
 fn first_command(alloc: Global, words: &[String]) -> Result<Command, ArgsEnd>
     ensures { Tells result (spec.first_command (texts words.now)) }
@@ -89,7 +89,7 @@ fn first_command(alloc: Global, words: &[String]) -> Result<Command, ArgsEnd>
     }
 }
 
-/// `--help`.
+/// Reads `--help`.
 #[tactic(auto, unfolding(crate::specs::Words::alone))]
 fn help(words: &[String]) -> Result<Command, ArgsEnd>
     ensures { Tells result (spec.alone (Command.Help None) (texts words.now)) }
@@ -98,7 +98,7 @@ fn help(words: &[String]) -> Result<Command, ArgsEnd>
     Ok(Command::Help { about: None })
 }
 
-/// `--version`.
+/// Reads `--version`.
 #[tactic(auto, unfolding(crate::specs::Words::alone))]
 fn version(words: &[String]) -> Result<Command, ArgsEnd>
     ensures { Tells result (spec.alone Command.Version (texts words.now)) }
@@ -107,7 +107,7 @@ fn version(words: &[String]) -> Result<Command, ArgsEnd>
     Ok(Command::Version)
 }
 
-/// `info FILE`.
+/// Reads `info FILE`.
 #[tactic(auto, unfolding(crate::specs::Words::info))]
 fn info(alloc: Global, words: &[String]) -> Result<Command, ArgsEnd>
     ensures { Tells result (spec.info (texts words.now)) }
@@ -118,7 +118,7 @@ fn info(alloc: Global, words: &[String]) -> Result<Command, ArgsEnd>
     })
 }
 
-/// `recover FILE`.
+/// Reads `recover FILE`.
 #[tactic(auto, unfolding(crate::specs::Words::recover))]
 fn recover(alloc: Global, words: &[String]) -> Result<Command, ArgsEnd>
     ensures { Tells result (spec.recover (texts words.now)) }
@@ -129,7 +129,7 @@ fn recover(alloc: Global, words: &[String]) -> Result<Command, ArgsEnd>
     })
 }
 
-/// `reindex FILE`.
+/// Reads `reindex FILE`.
 #[tactic(auto, unfolding(crate::specs::Words::reindex))]
 fn reindex(alloc: Global, words: &[String]) -> Result<Command, ArgsEnd>
     ensures { Tells result (spec.reindex (texts words.now)) }
@@ -140,7 +140,7 @@ fn reindex(alloc: Global, words: &[String]) -> Result<Command, ArgsEnd>
     })
 }
 
-/// `generate N PREFIX`, with N from 1 to 100000.
+/// Reads `generate N PREFIX`, with N from 1 to 100000.
 #[tactic(auto, unfolding(crate::specs::Words::generate))]
 fn generate(alloc: Global, words: &[String]) -> Result<Command, ArgsEnd>
     ensures { Tells result (spec.generate (texts words.now)) }
@@ -164,7 +164,7 @@ fn blocks_at(words: &[String], at: usize) -> Result<u32, ArgsEnd>
     }
 }
 
-/// A file's name, behind which nothing may stand.
+/// Reads a file's name as the last word.
 #[tactic(auto, unfolding(crate::specs::Words::only_file))]
 fn only_file(words: &[String]) -> Result<&str, ArgsEnd>
     ensures { TellsOf (λ w. w.now) result (spec.only_file (texts words.now)) }

@@ -1,4 +1,4 @@
--- The entry is among those from here on.
+-- The first entry that has the word as a spelling is among the entries that are left.
 use Rattle.std.proofs.Common.{◌≡◌, map, drop}
 use Rattle.std.specs.List.{find}
 use Rattle.mkv_args.specs.Entry.{shown, spelled}

@@ -1,4 +1,4 @@
--- The first topic of the name is among the topics from here on.
+-- The first topic with the name is among the topics that are left.
 use Rattle.std.proofs.Common.{◌≡◌, map, drop}
 use Rattle.std.specs.List.{find}
 use Rattle.mkv_args.specs.Explain.{Topic, is_same_name, shown}

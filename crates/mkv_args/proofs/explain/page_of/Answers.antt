@@ -3,7 +3,7 @@ use Rattle.mkv_args.specs.Explain.{word_topics, refusal_topics, edit_topics, dam
 use Rattle.mkv_args.proofs.ExplainLemmas.{in-group, in-next}
 use Rattle.mkv_args.proofs.explain.page_of.Goals as goal
 
--- each group is searched after those before it
+-- Each group is searched if no group before it has the name.
 pub returns : goal.returns
 returns c =
     let name = c.args.name.now in

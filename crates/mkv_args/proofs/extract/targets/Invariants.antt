@@ -1,4 +1,4 @@
--- What the words from here on say behind the targets so far is what all of them say.
+-- The targets read before, with those in the arguments that are left, are the targets of all arguments.
 use Rattle.std.proofs.Common.{◌≡◌, ◌-◌, length, drop, []}
 use Rattle.word_values.specs.Place.{texts}
 use Rattle.mkv_args.specs.Extract.{targets_from}

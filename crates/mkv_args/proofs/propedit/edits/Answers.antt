@@ -5,7 +5,7 @@ use Rattle.mkv_args.proofs.PropeditLemmas.{section_next, change_next, edits_fail
 use Rattle.mkv_args.proofs.propedit.edits.Goals as goal
 use Rattle.mkv_args.proofs.propedit.edits.Goals.{in-Section, in-Change+in_ok-push-in-Change}
 
--- a section comes into force, or an edit joins those before it
+-- A section becomes the current one, or an edit joins the list.
 pub loop-word-preserved : goal.loop-word-preserved
 loop-word-preserved c =
     let l = c.loop-word in let ws = c.args.words.now in
@@ -18,7 +18,7 @@ loop-word-preserved c =
           rw (w.list-is, w.in_ok-push-in-Change.ensures.ok, w.place-is, w.edited-is) (sym joined ∙ l.invariant)
     ]
 
--- what is wrong with it is what is wrong first
+-- The first error is the result.
 pub returns-in_err-next : goal.returns-in_err-next
 returns-in_err-next c =
     let l = c.loop-word in let ws = c.args.words.now in

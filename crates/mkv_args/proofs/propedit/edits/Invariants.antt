@@ -1,4 +1,4 @@
--- The edits so far, and what the words from here on say, are what all of them say.
+-- The edits read before, with those in the arguments that are left, are the edits of all arguments.
 use Rattle.std.proofs.Common.{◌≡◌, ◌-◌, length}
 use Rattle.word_values.specs.Place.{texts}
 use Rattle.mkv_args.specs.Propedit.{edits}

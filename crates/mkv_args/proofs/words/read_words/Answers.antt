@@ -1,4 +1,4 @@
--- What is answered is the definition's, which keeps its limits.
+-- The returned command is the definition's, which is within its limits.
 use Rattle.word_values.specs.Place.{texts}
 use Rattle.mkv_args.proofs.SoundLemmas.{told-sound}
 use Rattle.mkv_args.proofs.words.read_words.Goals as goal
