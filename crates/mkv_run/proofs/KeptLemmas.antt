@@ -1,4 +1,4 @@
--- Edits that were made keep the rest of a file, and so does a new index.
+-- Edits and a new index keep the rest of a file.
 use Rattle.std.proofs.Common.{◌≡◌, ℕ, List, Result, Ok, Err, refl, sym, subst, ap}
 use Rattle.mkv_io.specs.declared.damage.Damage.{Damage}
 use Rattle.mkv_disk.specs.Pair.{Pair}
@@ -22,7 +22,7 @@ use Rattle.mkv_propedit.specs.Left.{IsEdit, writes_of_edits}
 use Rattle.mkv_propedit.specs.Reindex.{writes_of_index}
 use Rattle.mkv_run.specs.Kept.{EditKeepsRest, IndexKeepsRest, HasNewIndex, KeepsRest}
 
--- A file that is edited could be, and its trees are changed.
+-- A content that was edited could be edited, and so could its trees.
 record IsChanged (edits : List Edit) (bytes : List ℕ) : Type 0 where
   file : EditableFile
   trees : Trees
@@ -53,7 +53,7 @@ rest-kept law edits bytes new made =
       holds = λ octets short outside. law bytes new edits c.file c.trees octets short outside c.editable c.changed made;
     }
 
--- So does `propedit`.
+-- `propedit` keeps the rest of its file.
 pub edit-keeps : {D : Type 0} (d : Ghosts D) (edits : List Edit) (old new : D) (s : Status) → EditsChangeNothingElse → IsEdit d (writes_of_edits edits) old new s → EditKeepsRest d edits old new s
 edit-keeps d edits old new status.Done law is = λ told.
     let made = is.pair told in
@@ -67,7 +67,7 @@ edit-keeps d edits old new status.Outside law is = tt
 
 -- ---- a new index
 
--- What has an index could be indexed.
+-- A content that has a new index could be indexed.
 could-be : (bytes : List ℕ) (x : Index) (r : Result EditableFile Damage) → indexable bytes ≡ r → and_then (if_editable r) (λ (f : EditableFile). index_with bytes f.outline (index_points bytes f.outline.segment f.trees.tracks)) ≡ Ok x → (f : EditableFile) × (indexable bytes ≡ Ok f)
 could-be bytes x (Ok f) found made = (f, found)
 could-be bytes x (Err why) found made = absurd (cc)
@@ -85,7 +85,7 @@ indexed-kept law bytes ws (Ok x) found made =
     }
 indexed-kept law bytes ws (Err why) found made = absurd (cc)
 
--- So does `reindex`.
+-- `reindex` keeps the rest of its file.
 pub index-keeps : {D : Type 0} (d : Ghosts D) (old new : D) (s : Status) → NewIndexIsWhole → IsEdit d writes_of_index old new s → IndexKeepsRest d old new s
 index-keeps d old new status.Done law is = λ told.
     let made = is.pair told in

@@ -1,4 +1,4 @@
--- How runs end, and why.
+-- The ends of runs, and the reasons.
 use Rattle.std.proofs.Math.Seq.{drop-cons}
 use Rattle.std.proofs.Common.{◌≡◌, ℕ, Bool, true, false, if◌then◌else◌, IsTrue, suc, ◌+◌, ◌<◌, ◌≤◌, length, drop, get_or, add-one, List, [], ◌∷◌, ◌++◌, Result, Ok, Err, inl, inr, Option, Some, None, ◌⊎◌, refl, sym, ◌∙◌, ap, subst, arith}
 use Rattle.mkv_io.specs.Faults.{HasIncreased}
@@ -38,7 +38,7 @@ use Rattle.mkv_args.specs.Sound.{IsSoundJob}
 use Rattle.extractors.specs.Job.{CanBeDone}
 use Rattle.mkv_lines.proofs.SaidLemmas.{SaysPart-before, SaysPart-none, with_lines-both, with_lines-none}
 
--- the line of the fault stands behind a first part of the lines
+-- The line of the failure follows a first part of the lines.
 fault_behind : (fault : List ℕ) (old mid new : ReportLines) (all : List (List ℕ)) → SaysPart old mid all → new ≡ with_lines mid (fault ∷ []) → SaysFault old new all fault
 fault_behind fault old mid new all part added = record {
   said = part.said;
@@ -47,12 +47,12 @@ fault_behind fault old mid new all part added = record {
   added = added ∙ ap (λ (held : ReportLines). with_lines held (fault ∷ [])) part.added ∙ with_lines-both old part.said (fault ∷ []);
 }
 
--- nothing stands behind the last line
+-- No line follows the last one.
 last_alone : (rest left : List (List ℕ)) → [] ≡ rest ++ left → rest ≡ []
 last_alone [] left none = refl
 last_alone (line ∷ lines) left none = absurd (cc)
 
--- the line of the fault was said or not
+-- The line of the failure was printed or not.
 fault_or_not : (fault : List ℕ) (old mid new : ReportLines) (all said left : List (List ℕ)) → SaysPart old mid all → fault ∷ [] ≡ said ++ left → new ≡ with_lines mid said → SaysFault old new all fault ⊎ SaysPart old new all
 fault_or_not fault old mid new all [] left part whole added =
     inr (subst (λ (held : ReportLines). SaysPart old held all) (sym (added ∙ with_lines-none mid)) part)
@@ -61,12 +61,12 @@ fault_or_not fault old mid new all (line ∷ lines) left part whole added =
     let rest : lines ≡ [] = last_alone lines left (cc) in
     inl (fault_behind fault old mid new all part (added ∙ ap (λ (l : List ℕ). with_lines mid (l ∷ lines)) first ∙ ap (λ (ls : List (List ℕ)). with_lines mid (fault ∷ ls)) rest))
 
--- what is said of lines on the way is said of them at the end
+-- A predicate that follows from another for any lines may replace it in `StopsSaying`.
 pub stops-saying : (P Q : List (List ℕ) → Type 0) (old new : Names) (v : Verdict) → ((all : List (List ℕ)) → P all → Q all) → StopsSaying P old new v → StopsSaying Q old new v
 stops-saying P Q old new v so stops =
     elim stops [ inl within ↦ inl (so v.before within.0, within.1) | inr behind ↦ inr (so v.lines behind.0, behind.1) ]
 
--- a fault is told behind the lines of the command, unless the report fails
+-- The line of a failure follows the lines of the command, unless the report fails.
 pub fault-told : {T : Type 0} (fault : List ℕ) (before now : ℕ) (old mid new : ReportLines) (all : List (List ℕ)) (r : Result T CommandEnd) → SaysPart old mid all → Says mid new (fault ∷ []) r → HasSayCause before now r → (r ≡ Err stop.Memory → ⊥)
     → SaysFault old new all fault ⊎ (HasIncreased before now × SaysPart old new all)
 fault-told fault before now old mid new all (Ok done) part says cause some = inl (fault_behind fault old mid new all part says)
@@ -76,7 +76,7 @@ fault-told fault before now old mid new all (Err stop.Disk) part says cause some
 fault-told fault before now old mid new all (Err stop.Report) part says cause some =
     elim (fault_or_not fault old mid new all says.said says.left part says.whole says.added) [ inl told ↦ inl told | inr untold ↦ inr (cause, untold) ]
 
--- a fault before which nothing was said is told alone, unless the report fails
+-- The line of a failure is the only one if none was printed before, unless the report fails.
 pub fault-alone : {T : Type 0} (fault : List ℕ) (before now : ℕ) (old mid new : ReportLines) (all : List (List ℕ)) (r : Result T CommandEnd) → mid ≡ old → Says mid new (fault ∷ []) r → HasSayCause before now r → (r ≡ Err stop.Memory → ⊥)
     → (new ≡ with_lines old (fault ∷ [])) ⊎ (HasIncreased before now × SaysPart old new all)
 fault-alone fault before now old mid new all r same says cause some =
@@ -88,7 +88,7 @@ fault-alone fault before now old mid new all r same says cause some =
     none : SaysPart old mid []
     none = subst (λ (held : ReportLines). SaysPart old held []) (sym same) (SaysPart-none old [])
 
--- a command that ended ends the run
+-- A command that ended by itself ends the run.
 pub ends-done : (old new : RunSeen) (s : Status) (v : Verdict) → IsOrdinary s → Reaches old.seen new.seen (Ok s) v → Ends old new s v
 ends-done old new status.Done v ordinary reaches = reaches
 ends-done old new status.Warned v ordinary reaches = reaches
@@ -96,9 +96,9 @@ ends-done old new status.Refused v ordinary reaches = reaches
 ends-done old new status.NoMemory v ordinary reaches = absurd ordinary
 ends-done old new status.Outside v ordinary reaches = absurd ordinary
 
--- ---- why a command stops
+-- ---- the reason why a command stops
 
--- where no line was said, none was said of an edit in place
+-- If no line was printed, an edit in place has printed nothing.
 pub silent-same : (reach : Reach) (old new : ReportLines) → new ≡ old → IsSilent reach old new
 silent-same nothing old new same = tt
 silent-same files old new same = tt
@@ -106,7 +106,7 @@ silent-same (recovered file) old new same = same
 silent-same (edited file edits) old new same = same
 silent-same (indexed file) old new same = same
 
--- a command over the disk, of a run that leaves the files
+-- A command over the disk, in a run that leaves the files.
 module _ {D : Type 0} (r : reads.Ghosts D) (d : disks.Ghosts D) (a b : D) (reading writing before now : ℕ) (lines lines_now : ReportLines) (names : Names) where
   abbrev old : RunSeen
   old = record {
@@ -140,15 +140,15 @@ module _ {D : Type 0} (r : reads.Ghosts D) (d : disks.Ghosts D) (a b : D) (readi
   )
   disk-stop reach (Err stop.Report) cause last = (cause.1, refl, λ i. record { reading = cause.0.reading i; writing = cause.0.writing i })
 
--- ---- what a crash leaves
+-- ---- crashes
 
--- a disk that isn't touched is left as it was
+-- A crash leaves an unchanged disk as it was.
 untouched : {D : Type 0} (e : Status) (d : disks.Ghosts D) (old new : D) → AtRest d old → ((m s : List ℕ) → IsTrue d.told → d.left_since old (d.moment old) m s → IsPairImage (d.pair old) m s) → new ≡ old → AnyMoment d old new (LeftOnTheWay nothing e)
 untouched e d old now rest only same = λ told.
     subst (λ x. LeavesOnly d.moment d.left_since old x (LeftOnTheWay nothing e (d.pair old).media.reads (d.pair old).sidecar.reads)) (sym same)
     (stays d.moment d.left_since old (LeftOnTheWay nothing e (d.pair old).media.reads (d.pair old).sidecar.reads) (λ m s left. both_image (d.pair old) m s (rest told) (only m s told left)))
 
--- a crash leaves what it may on the way of what is done
+-- A crash leaves what the command may leave on its way.
 pub touches-moment : {F D : Type 0} (r : reads.Ghosts D) (d : disks.Ghosts D) (reach : Reach) (before after : F) (old new : D) (s : Status)
     → AtRest d old → ((m s : List ℕ) → IsTrue d.told → d.left_since old (d.moment old) m s → IsPairImage (d.pair old) m s) → Touches r d reach before after old new s → AnyMoment d old new (LeftOnTheWay reach s)
 touches-moment r d nothing before after was now s rest only touches = untouched s d was now rest only touches.1
@@ -157,7 +157,7 @@ touches-moment r d (recovered name) before after was now s rest only touches = t
 touches-moment r d (edited name edits) before after was now s rest only touches = touches.1.leaves.any_moment
 touches-moment r d (indexed name) before after was now s rest only touches = touches.1.leaves.any_moment
 
--- without memory nothing was touched, whatever was asked for
+-- If memory runs out before the command is read, nothing is changed.
 pub touches-nothing : {F D : Type 0} (r : reads.Ghosts D) (d : disks.Ghosts D) (reach : Reach) (before : F) (disk : D)
     → (IsInPlace reach → AtRest d disk) → ((m s : List ℕ) → IsTrue d.told → d.left_since disk (d.moment disk) m s → IsPairImage (d.pair disk) m s) → Touches r d reach before before disk disk status.NoMemory
 touches-nothing r d (recovered name) before disk rest only = (
@@ -186,18 +186,18 @@ touches-nothing r d (indexed name) before disk rest only = (
 touches-nothing r d nothing before disk rest only = (refl, refl)
 touches-nothing r d files before disk rest only = refl
 
--- ---- how much is read
+-- ---- numbers of bytes read
 
--- what is read of the files alone, or of the disk alone, is read of both together
+-- A bound on the bytes of the files, or of the disk, is a bound on both if the other isn't read.
 pub files-alone : (before now most other : ℕ) → now ≤ before + most → now + other ≤ before + other + most
 files-alone before now most other within = omega arith
 
 pub disk-alone : (before now most other : ℕ) → now ≤ before + most → other + now ≤ other + before + most
 disk-alone before now most other within = omega arith
 
--- ---- what a disk tells
+-- ---- contents of a disk that are visible to the proof
 
--- a fact of what the medium reads is one of the world that the disk tells
+-- A predicate on the bytes of the medium holds of the visible contents of the disk.
 pub media-told : {D : Type 0} (d : disks.Ghosts D) (disk : D) (P : List ℕ → Type 0) → OfReads d disk (λ M S. P M) → IfVisible (disk_world d disk) (λ world. P world.media)
 media-told d disk P so = by_told d.told so
   where
@@ -210,14 +210,14 @@ media-told d disk P so = by_told d.told so
 
 -- ---- an extraction
 
--- a job that words asked for can be done
+-- A job that a command line asks for can be done.
 pub job-done : (job : Job) → IsSoundJob job → CanBeDone job
 job-done (jobs.Tracks form list) sound = record { apart = sound.apart; numbers = tt }
 job-done (jobs.Attachments list) sound = record { apart = sound.apart; numbers = sound.from }
 job-done (jobs.Cues list) sound = record { apart = sound.apart; numbers = tt }
 job-done (jobs.Chapters name) sound = record { apart = (tt, tt); numbers = tt }
 
--- without memory nothing was read, whatever was asked for
+-- A run that reads nothing is within every bound.
 pub reads-nothing : (names : Names) (disk : Option DiskWorld) (asked : Result Command Usage) (count : ℕ) → ReadsWithinAfter names disk asked count count
 reads-nothing names disk (Ok (Help about)) count = refl
 reads-nothing names disk (Ok Version) count = refl

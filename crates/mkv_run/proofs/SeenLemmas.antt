@@ -1,4 +1,4 @@
--- What a run promises of its files, its disk and its report, said of what is seen of them.
+-- The clauses of a run on its files, disk and report, as predicates on what can be seen of them.
 use Rattle.std.proofs.Common.{◌≡◌, ◌⊎◌, ℕ, List, Some, inl, inr, ap, subst}
 use Rattle.mkv_io.specs.Sources.{live_files}
 use Rattle.mkv_io.specs.declared.files.Files.{Ghosts as FilesGhosts}
@@ -25,7 +25,7 @@ module _ {F D R : Type 0} (r : ReadsGhosts F) (f : FilesGhosts F) (s : ReadsGhos
   abbrev after : Outside
   after = outside r f s d p now new report'
 
-  -- files that are as they were are seen as they were
+  -- Unchanged files look the same.
   files-stay : now ≡ was → FilesStay before after
   files-stay same = record {
     names = ap f.names same;
@@ -36,7 +36,7 @@ module _ {F D R : Type 0} (r : ReadsGhosts F) (f : FilesGhosts F) (s : ReadsGhos
     read = ap r.octets_read same;
   }
 
-  -- so is a disk
+  -- An unchanged disk looks the same.
   disk-stays : new ≡ old → DiskStays before after
   disk-stays same = record {
     disk = λ i. record { pair = d.pair (same i); opened = d.opened (same i) };
@@ -47,7 +47,7 @@ module _ {F D R : Type 0} (r : ReadsGhosts F) (f : FilesGhosts F) (s : ReadsGhos
     crash = λ t m n left. subst (λ (disk : D). d.left_since disk t m n) same left;
   }
 
-  -- a pair that wasn't opened is as it was
+  -- A pair that wasn't opened is unchanged.
   unopened : (name : List ℕ) (e : Status) → IsUnopened s d name old new e → OpensOrLeaves name before after e
   unopened name e is =
       let pair = pairs new old is.standing in
@@ -72,7 +72,7 @@ module _ {F D R : Type 0} (r : ReadsGhosts F) (f : FilesGhosts F) (s : ReadsGhos
   all-indexed status.NoMemory kept = tt
   all-indexed status.Outside kept = tt
 
-  -- what isn't reached is seen as it was
+  -- Objects that a command doesn't work on look the same.
   pub leaves-seen : (reach : Reach) (e : Status) → Touches s d reach was now old new e → Leaves reach before after e
   leaves-seen nothing e touches = (files-stay touches.0, disk-stays touches.1)
   leaves-seen files e touches = disk-stays touches
@@ -80,6 +80,6 @@ module _ {F D R : Type 0} (r : ReadsGhosts F) (f : FilesGhosts F) (s : ReadsGhos
   leaves-seen (edited file edits) e touches = (files-stay touches.0, opens file e touches.1.opened, touches.1.leaves.pair, rest-kept edits e touches.2)
   leaves-seen (indexed file) e touches = (files-stay touches.0, opens file e touches.1.opened, touches.1.leaves.pair, all-indexed e touches.2)
 
-  -- what a crash leaves
+  -- A crash leaves only what the command allows.
   pub crash-seen : (P : List ℕ → List ℕ → Type 0) → LeavesOnly d.moment d.left_since old new P → CrashLeavesOnly before after P
   crash-seen P leaves = record { later = leaves.later; each = leaves.each; earlier = leaves.before; keeps = leaves.keeps }

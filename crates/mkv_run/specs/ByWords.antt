@@ -1,4 +1,4 @@
--- What a run does with its files, its disk and its report, by what the words of its command line ask for.
+-- The predicates on files, disk and report of a run, by its command line.
 use Rattle.std.specs.Prelude.{◌+◌, List, Option}
 use Rattle.std.specs.declared.alloc.Global.{Global}
 use Rattle.std.specs.declared.string.String.{String}
@@ -19,34 +19,34 @@ use Rattle.mkv_run.specs.Run.{ReadsWithin, ReadsWithinIn, verdict_in}
 use Rattle.mkv_run.specs.RunSeen.{HasStatusCause, run_seen}
 use Rattle.mkv_run.specs.Touched.{LeftOnTheWay, Reach, reach_in}
 
--- what is reached
+-- the objects that the command line `words` changes
 abbrev pub reach_for : List (String Global) → Reach
 reach_for words = reach_in (command (texts words))
 
--- its verdict, where the outside tells it
+-- the result of the command line `words`, if the files, or for an edit in place the disk, are visible to the proof
 abbrev pub verdict_for : {F D : Type 0} → FilesGhosts F → DiskGhosts D → F → D → List (String Global) → Option Verdict
 verdict_for f d files disk words = verdict_in (f.names files) (disk_world d disk) (texts words)
 
--- It ends with this status as its verdict has it, where that is told.
+-- The run ends with `status` as its result allows, if that is visible to the proof.
 abbrev pub EndsFor : {F D R : Type 0} → ReadsGhosts F → FilesGhosts F → ReadsGhosts D → DiskGhosts D → ReportGhosts R → F → F → D → D → R → R → List (String Global) → Status → Type 0
 EndsFor r f s d p files files' disk disk' report report' words status =
     IfVisible (verdict_for f d files disk words) (Ends (run_seen r f s d p files disk report) (run_seen r f s d p files' disk' report') status)
 
--- A fault of the outside is told only where one was counted.
+-- The run ends with the status of a failure only if a failure was counted.
 abbrev pub HasCauseFor : {F D R : Type 0} → ReadsGhosts F → FilesGhosts F → ReadsGhosts D → DiskGhosts D → ReportGhosts R → F → F → D → D → R → R → List (String Global) → Status → Type 0
 HasCauseFor r f s d p files files' disk disk' report report' words status =
     HasStatusCause (reach_for words) (run_seen r f s d p files disk report) (run_seen r f s d p files' disk' report') status
 
--- It reads no more than they may, of the files and of the disk together.
+-- The number of bytes read, of the files and the disk together, is within the bound of `words`.
 abbrev pub ReadsFor : {F D : Type 0} → ReadsGhosts F → FilesGhosts F → ReadsGhosts D → DiskGhosts D → F → F → D → D → List (String Global) → Type 0
 ReadsFor r f s d files files' disk disk' words =
     ReadsWithinIn (f.names files) (disk_world d disk) (texts words) (r.octets_read files + s.octets_read disk) (r.octets_read files' + s.octets_read disk')
 
--- the same of a command
+-- The number of bytes read, of the files and the disk together, is within the bound of `command`.
 abbrev pub ReadsToObey : {F D : Type 0} → ReadsGhosts F → FilesGhosts F → ReadsGhosts D → DiskGhosts D → F → F → D → D → Command → Type 0
 ReadsToObey r f s d files files' disk disk' command =
     ReadsWithin (f.names files) (disk_world d disk) command (r.octets_read files + s.octets_read disk) (r.octets_read files' + s.octets_read disk')
 
--- A crash at any moment leaves what it may on the way, where nothing was pending.
+-- If nothing on the disk was left to sync, a crash at any moment leaves only what `reach` allows on its way.
 abbrev pub CrashLeaves : {D : Type 0} → DiskGhosts D → D → D → Reach → Status → Type 0
 CrashLeaves d old new reach e = AtRest d old → AnyMoment d old new (LeftOnTheWay reach e)

@@ -7,6 +7,6 @@ use Rattle.mkv_io.specs.Names.{Names}
 use Rattle.merge_laws.specs.Merge.{HasMerged}
 use Rattle.word_values.specs.Place.{texts}
 
--- Where the program ends with 0 or 1, the merge that the words ask for was written.
+-- If the exit status `code` is 0 or 1, the merge that `words` ask for was written.
 abbrev pub ExitsMerged : Names → Names → ℕ → Vec (String Global) Global → Type 0
 ExitsMerged old new code words = code < 2 → HasMerged old (texts words.items) new

@@ -1,4 +1,4 @@
--- What an edit or a new index keeps of a file: RFC 9559, section 5.1 (Segment Element).
+-- The content of a file that an edit or a new index keeps: RFC 9559, section 5.1 (Segment Element).
 use Rattle.std.specs.Prelude.{◌≡◌, ◌≤◌, ⊤, ℕ, List, All, length, Ok}
 use Rattle.ebml_numbers.specs.Number.{AreOctets}
 use Rattle.mkv_schema.specs.Outline.{segment_run}
@@ -16,8 +16,8 @@ use Rattle.edit_laws.specs.IndexLaws.{HoldsIndex}
 use Rattle.mkv_lines.specs.declared.status.Status.{Status}
 use Rattle.mkv_lines.specs.declared.status.Status.TheVariants.{Done}
 
--- A content could be edited, and what edits made of it holds what it held, but for what they change: where it is octets, 2^48 at most,
--- and at level 1 neither a Timestamp nor a block stands.
+-- The content `old` could be edited, and `new` holds the same, except for the changes of `edits`. The second needs that `old` consists of bytes,
+-- at most 2^48 of them, and has neither a Timestamp nor a block at level 1.
 pub record KeepsRest (edits : List Edit) (old new : List ℕ) : Type 0 where
   pub file : EditableFile
   pub trees : Trees
@@ -25,13 +25,13 @@ pub record KeepsRest (edits : List Edit) (old new : List ℕ) : Type 0 where
   pub changed : edited_trees edits file.trees ≡ Ok trees
   pub holds : AreOctets old → length old ≤ LONGEST_FILE → All IsOutside (segment_run old file.outline.segment).list → HoldsEdited old new file trees
 
--- So it is of the medium of a disk after edits that were made.
+-- After successful `edits`, the film on the disk keeps its rest.
 abbrev pub EditKeepsRest : {D : Type 0} → Ghosts D → List Edit → D → D → Status → Type 0
 EditKeepsRest d edits old new Done = OfReads d old (λ M S. KeepsRest edits M (d.pair new).media.reads)
 EditKeepsRest d edits old new s = ⊤
 
--- A content could be indexed, and with its new index it holds what it held, and the points of the index. That is so where it is octets,
--- 2^48 at most, and at level 1 neither a Timestamp nor a block stands.
+-- The content `old` could be indexed, and `new` holds the same, with the points of the new index. The second needs that `old` consists of bytes,
+-- at most 2^48 of them, and has neither a Timestamp nor a block at level 1.
 pub record HasNewIndex (old new : List ℕ) : Type 0 where
   pub file : EditableFile
   pub index : Index
@@ -39,7 +39,7 @@ pub record HasNewIndex (old new : List ℕ) : Type 0 where
   pub made : index_of old ≡ Ok index
   pub holds : AreOctets old → length old ≤ LONGEST_FILE → All IsOutside (segment_run old file.outline.segment).list → HoldsIndex old new file index.points
 
--- So it is of the medium of a disk after its index was made.
+-- After a successful `reindex`, the film on the disk keeps its rest and has the new index.
 abbrev pub IndexKeepsRest : {D : Type 0} → Ghosts D → D → D → Status → Type 0
 IndexKeepsRest d old new Done = OfReads d old (λ M S. HasNewIndex M (d.pair new).media.reads)
 IndexKeepsRest d old new s = ⊤

@@ -1,4 +1,4 @@
--- What the words of a command line come to. The commands are this project's; what their outputs hold is RFC 9559's.
+-- The result of each command line. The commands are this project's; the content of their outputs follows RFC 9559.
 use Rattle.std.specs.Prelude.{◌≡◌, ◌≤◌, ⊤, IfOk, ℕ, ◌+◌, List, [], ◌∷◌, length, Option, Some, option_map, Result, Ok, Err}
 use Rattle.mkv_io.specs.Names.{Names}
 use Rattle.mkv_io.specs.Told.{IfVisible}
@@ -30,12 +30,12 @@ use Rattle.mkv_merge.specs.Records.{EndsReadable}
 use Rattle.merge_laws.specs.Merge.{MergesWell}
 use Rattle.remerge_laws.specs.MergedAgain.{MergesAgain}
 
--- the first word that is wrong, and why
+-- the message that names the first wrong word and the reason
 abbrev pub usage_line : Usage → List ℕ
 usage_line usage = word_line usage.word (why_name usage.why)
 
--- What a command comes to, where the names tell, or for an edit in place the disk: its verdict is a function of the whole world of names, or
--- of all that the disk tells. What asks for no file needs none of them.
+-- The result of a command. It is a function of the contents of all names, or for an edit in place of the disk. These must be visible to the
+-- proof. A command without a file needs neither.
 abbrev pub verdict_of : Names → Option DiskWorld → Command → Option Verdict
 verdict_of names disk (Help about) = Some (done (usage_lines about))
 verdict_of names disk Version = Some (done (version_line ∷ []))
@@ -49,7 +49,7 @@ verdict_of names disk (Extract file job) = option_map (λ world. extract_verdict
 verdict_of names disk (Propedit file edits) = option_map (λ world. propedit_on world file edits) disk
 verdict_of names disk (Merge words) = option_map (λ world. merge_verdict world words) names
 
--- words that are no command are refused, whatever the outside tells
+-- the result of a command line, as read: a refused one has the same result whatever files there are
 abbrev pub verdict_after : Names → Option DiskWorld → Result Command Usage → Option Verdict
 verdict_after names disk (Ok command) = verdict_of names disk command
 verdict_after names disk (Err usage) = Some (refused (usage_line usage))
@@ -57,10 +57,10 @@ verdict_after names disk (Err usage) = Some (refused (usage_line usage))
 abbrev pub verdict_in : Names → Option DiskWorld → List (List ℕ) → Option Verdict
 verdict_in names disk words = verdict_after names disk (command words)
 
--- ---- how much is read
+-- ---- numbers of bytes read
 
--- The count of octets read rises by at most a command's bound: where the names tell, or for an edit in place the disk. Recovering a
--- file reads no more than a record may have, however long the file is; for help and the version nothing is read.
+-- The number of bytes read grows from `before` to `now` by at most the bound of the command. The files, or for an edit in place the disk, must be
+-- visible to the proof. A recovery reads at most the largest size of a record, however large the file is. Help and the version read nothing.
 abbrev pub ReadsWithin : Names → Option DiskWorld → Command → ℕ → ℕ → Type 0
 ReadsWithin names disk (Help about) before now = now ≡ before
 ReadsWithin names disk Version before now = now ≡ before
@@ -74,7 +74,7 @@ ReadsWithin names disk (Extract file job) before now = IfVisible names (λ world
 ReadsWithin names disk (Propedit file edits) before now = IfVisible disk (λ world. now ≤ before + most_to_edit (length world.media))
 ReadsWithin names disk (Merge words) before now = IfVisible names (λ world. now ≤ before + most_read world words)
 
--- the same of words that were read; for those that are no command nothing is read
+-- The number of bytes read is within the bound of a command line, as read; a refused one reads nothing.
 abbrev pub ReadsWithinAfter : Names → Option DiskWorld → Result Command Usage → ℕ → ℕ → Type 0
 ReadsWithinAfter names disk (Ok command) before now = ReadsWithin names disk command before now
 ReadsWithinAfter names disk (Err usage) before now = now ≡ before
@@ -82,19 +82,19 @@ ReadsWithinAfter names disk (Err usage) before now = now ≡ before
 abbrev pub ReadsWithinIn : Names → Option DiskWorld → List (List ℕ) → ℕ → ℕ → Type 0
 ReadsWithinIn names disk words before now = ReadsWithinAfter names disk (command words) before now
 
--- ---- what a merge has written
+-- ---- the output of a merge
 
--- What a merge has written that ended by itself can be read again, where the names are told.
+-- The output of a merge that ended by itself can be read again, if the names are visible to the proof.
 abbrev pub MergesReadable : Names → Command → Result Status CommandEnd → Type 0
 MergesReadable names (Merge words) r = IfVisible names (λ world. EndsReadable words (sources_of world words) r)
 MergesReadable names _ r = ⊤
 
--- the same of the words of a command line
+-- The output of a command line `words` that merges and ended by itself can be read again, if the names are visible to the proof.
 abbrev pub MergesReadableIn : Names → List (List ℕ) → Result Status CommandEnd → Type 0
 MergesReadableIn names words r = IfOk (command words) (λ (c : Command). MergesReadable names c r)
 
--- How a run that merges ends, and what it has written: the merge that was asked for, where it ended well; and what a merge wrote, merged alone
--- and without options, as it was, without a refusal or a warning.
+-- A successful merge has written the output that `words` ask for. If `words` merge the output of a merge by itself and without options, the new
+-- output has the same bytes. The run neither refuses nor warns.
 pub record WritesMerge (old : Names) (words : List (List ℕ)) (new : Names) (s : Status) : Type 0 where
   pub well : MergesWell old words new s
   pub again : MergesAgain old words new s

@@ -1,4 +1,4 @@
--- Which of the objects that it is given a run changes, and how. It is this project's.
+-- The objects that a run changes, and how. The rules are this project's.
 use Rattle.std.specs.Prelude.{◌≡◌, ⊤, List, ℕ, Result, Ok, Err}
 use Rattle.mkv_io.specs.declared.reads.Reads as reads
 use Rattle.mkv_disk.specs.declared.disk.Disk as disks
@@ -14,7 +14,7 @@ use Rattle.mkv_run.specs.Kept.{EditKeepsRest, IndexKeepsRest}
 use Rattle.mkv_lines.specs.Code.{status_of}
 use Rattle.mkv_lines.specs.declared.status.CommandEnd.{CommandEnd}
 
--- What a run reaches: nothing, as for help or words that are refused; files; or a file in place, that is recovered, edited, or indexed anew.
+-- The objects that a command works on. Help and refused words work on none. A file in place is recovered, edited or indexed.
 pub data Reach : Type 0 where
   nothing : Reach
   files : Reach
@@ -22,7 +22,7 @@ pub data Reach : Type 0 where
   edited : List ℕ → List Edit → Reach
   indexed : List ℕ → Reach
 
--- what a command reaches
+-- the objects that a command works on
 abbrev pub reach_of : Command → Reach
 reach_of (Help about) = nothing
 reach_of Version = nothing
@@ -36,12 +36,12 @@ reach_of (Extract file job) = files
 reach_of (Propedit file edits) = edited file edits
 reach_of (Merge words) = files
 
--- the same of words
+-- the objects that a command line works on, as read
 abbrev pub reach_in : Result Command Usage → Reach
 reach_in (Ok command) = reach_of command
 reach_in (Err usage) = nothing
 
--- A file in place is recovered, edited or indexed.
+-- The command recovers, edits or indexes a file in place.
 abbrev pub IsInPlace : Reach → Type 0
 IsInPlace nothing = ⊥
 IsInPlace files = ⊥
@@ -49,8 +49,8 @@ IsInPlace (recovered file) = ⊤
 IsInPlace (edited file edits) = ⊤
 IsInPlace (indexed file) = ⊤
 
--- What isn't reached is left as it is: by an edit in place the files, by what else is done the disk, and both by what reaches nothing.
--- Of a file that is edited or indexed the rest is kept.
+-- Objects that a command doesn't work on are unchanged. An edit in place leaves the files, any other command the disk, and help or refused words
+-- both. An edit or a new index keeps the rest of its file.
 abbrev pub Touches : {F D : Type 0} → reads.Ghosts D → disks.Ghosts D → Reach → F → F → D → D → Status → Type 0
 Touches r d nothing old new disk disk_now s = (new ≡ old) × (disk_now ≡ disk)
 Touches r d files old new disk disk_now s = disk_now ≡ disk
@@ -58,11 +58,11 @@ Touches r d (recovered file) old new disk disk_now s = (new ≡ old) × IsRecove
 Touches r d (edited file edits) old new disk disk_now s = (new ≡ old) × IsEditOf r d file (writes_of_edits edits) disk disk_now s × EditKeepsRest d edits disk disk_now s
 Touches r d (indexed file) old new disk disk_now s = (new ≡ old) × IsEditOf r d file writes_of_index disk disk_now s × IndexKeepsRest d disk disk_now s
 
--- what a command touches that ended so, by the status with which the run then ends
+-- A command that ended with `result` leaves the objects that it doesn't work on as they were, by the status of the run.
 abbrev pub Touched : {F D : Type 0} → reads.Ghosts D → disks.Ghosts D → Reach → F → F → D → D → Result Status CommandEnd → Type 0
 Touched r d reach old new disk disk_now result = Touches r d reach old new disk disk_now (status_of result)
 
--- What a crash at any moment of it may leave of a file M beside a sidecar S.
+-- A crash at any moment of the command may leave `m` and `s` of a film `M` with the journal `S`.
 abbrev pub LeftOnTheWay : Reach → Status → List ℕ → List ℕ → List ℕ → List ℕ → Type 0
 LeftOnTheWay nothing e M S m s = (m ≡ M) × (s ≡ S)
 LeftOnTheWay files e M S m s = (m ≡ M) × (s ≡ S)

@@ -1,4 +1,4 @@
-//! The program: its words, and the exit status with which it ends.
+//! The program: its command line, and its exit status.
 
 ghost use Rattle.std.specs.Prelude.{◌≡◌, ◌⊎◌, IfOk, IfErr, IsOkAnd, OnErr};
 ghost use Rattle.std.specs.Process.{exit_status};
@@ -21,8 +21,8 @@ use std::io::ErrorKind;
 use std::process::ExitCode;
 use std::rt::Env;
 
-/// The words of the command line, without the program's name; or the status with which the program ends
-/// that can't read them: `Refused` where one isn't UTF-8, `NoMemory` where there is no memory for them.
+/// Returns the words of the command line, without the program's name. If a word isn't UTF-8, fails with `Refused`; if
+/// memory runs out, with `NoMemory`.
 pub fn words_of<R: Env + AllocGlobal>(rt: &R) -> Result<Vec<String>, Status>
     ensures { IfErr result (λ status. (status ≡ Status.Refused) ⊎ (status ≡ Status.NoMemory)) }
 {
@@ -34,9 +34,9 @@ pub fn words_of<R: Env + AllocGlobal>(rt: &R) -> Result<Vec<String>, Status>
     args.skip(1).collect(rt.alloc()).or(Err(Status::NoMemory))
 }
 
-/// Does what the words ask for, and answers the exit status of the program. Where they couldn't be read,
-/// nothing is done, and the exit status is that of the status in their place. Nothing is pending on the disk where they
-/// recover or edit a file in place.
+/// Does what `words` ask for, and returns the exit status of the program. If the words couldn't be read, does
+/// nothing, and returns the number of the status in their place. Requires that nothing on the disk is left to sync if
+/// the command edits or recovers a file in place.
 pub fn program<F: Files, D: Disk, R: Report>(
     alloc: Global,
     words: &Result<Vec<String>, Status>,
@@ -49,7 +49,7 @@ pub fn program<F: Files, D: Disk, R: Report>(
         IfOk words.now (λ words. Exits (texts words.items) (seen files.old disk.old report.old) (seen files.new disk.new report.new)
         (exit_status result)) }
 
-    // Where it ends with 0 or 1, the merge that the words ask for was written.
+    // If the exit status is 0 or 1, the merge that the words ask for was written.
     ensures merged { IfOk words.now (ExitsMerged (F.names files.old) (F.names files.new) (exit_status result)) }
     ensures unread { IfErr words.now (λ status. exit_status result ≡ code_of status) }
     ensures idle { let seen = outside F.Reads F.Files.own D.Reads D.Disk.own R.Report in

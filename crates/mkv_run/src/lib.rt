@@ -1,6 +1,6 @@
 #![tactic(auto)]
 
-//! A run of the suite, from the words of its command line to its exit status, over any files and any report.
+//! A run of the suite, from its command line to its exit status, over any files, any disk and any report.
 
 mod exit;
 mod help;

@@ -1,4 +1,4 @@
-//! A run, from the words of its command line to its status.
+//! A run, from its command line to its status.
 
 ghost use Rattle.std.specs.Prelude.{IfOk};
 ghost use Rattle.mkv_io.specs.Told.{IfVisible};
@@ -33,8 +33,8 @@ use mkv_propedit::{propedit_of, recover_of, reindex_of};
 use remerge_laws::outputs_are_written_again;
 use std::alloc::Global;
 
-/// Does what the words of a command line ask for, and says its lines. Where they recover or edit a file in place, nothing
-/// is pending on the disk.
+/// Does what `words` ask for, and prints its messages. Requires that nothing on the disk is left to sync if the
+/// command edits or recovers a file in place.
 pub fn run<F: Files, D: Disk, R: Report>(
     alloc: Global,
     words: &Vec<String>,
@@ -49,7 +49,7 @@ pub fn run<F: Files, D: Disk, R: Report>(
     run_to_end(alloc, words, files, disk, report)
 }
 
-// Does what the words ask for, and says the line of a fault.
+// Does what `words` ask for, and prints the message of a failure of the files or the disk.
 fn run_to_end<F: Files, D: Disk, R: Report>(
     alloc: Global,
     words: &Vec<String>,
@@ -59,33 +59,33 @@ fn run_to_end<F: Files, D: Disk, R: Report>(
 ) -> Status
     requires { IsInPlace (reach_for words.now.items) → AtRest D.Disk.own disk.old }
 
-    // The status, the lines and the outputs are those of the verdict, as far as a fault of the outside or want of
-    // memory lets it come; no other name has changed.
+    // Status, messages and outputs are the definition's, up to a failure of the system or of memory. No other name
+    // has changed.
     ensures verdict { EndsFor F.Reads F.Files.own D.Reads D.Disk.own R.Report files.old files.new disk.old disk.new
         report.old report.new words.now.items result }
 
-    // After a merge that ended well its output holds the merge, where the names are told and what they hold is octets. What a
-    // merge with usual words wrote, and what keeps a reader's limits, is written as it was when it is merged alone and
-    // without options.
+    // After a successful merge the output holds the merge, if the contents of the files are visible to the proof.
+    // Merging the output of a default merge again, by itself and without options, gives the same bytes. It must be
+    // within a reader's limits.
     ensures merged { WritesMerge (F.names files.old) (texts words.now.items) (F.names files.new) result }
 
-    // Outside is answered only where a count of faults rose, and always where one did. For want of memory an edit in place
-    // says nothing.
+    // `Outside` is returned exactly if a count of failures has increased. If memory runs out, an edit in place prints
+    // nothing.
     ensures cause { HasCauseFor F.Reads F.Files.own D.Reads D.Disk.own R.Report files.old files.new disk.old disk.new
         report.old report.new words.now.items result }
 
-    // No file stays open, and none is closed; and no name is opened or made that the words don't ask for.
+    // The same files are open as before. No name is opened or made that the words don't ask for.
     ensures files { LeavesFiles F.Reads F.Files.own files.old files.new words.now.items }
 
-    // What a command may read, of files and of the disk together.
+    // The number of bytes read, of the files and the disk together, is within the bound of the command.
     ensures octets { ReadsFor F.Reads F.Files.own D.Reads D.Disk.own files.old files.new disk.old disk.new words.now.items }
 
-    // An edit in place leaves the files as they are, and all else the disk; help and words that are refused leave both. What
-    // is edited or indexed keeps the rest of the file.
+    // An edit in place leaves the files as they are, and every other command the disk; help and refused words leave
+    // both. An edit or a new index keeps the rest of the file.
     ensures touches { Touches D.Reads D.Disk.own (reach_for words.now.items) files.old files.new disk.old disk.new result }
 
-    // What a crash at any moment leaves of the two files of the disk, where nothing was pending: after an edit they come to
-    // the file as it was or as it is to be, and where one is recovered to what they came to.
+    // If nothing was left to sync, a crash leaves the two files of the disk as they were, or as the command can leave
+    // them.
     ensures any_moment { CrashLeaves D.Disk.own disk.old disk.new (reach_for words.now.items) result }
 {
     outputs_are_written_again();
@@ -104,7 +104,7 @@ fn run_to_end<F: Files, D: Disk, R: Report>(
     }
 }
 
-// Does what the words ask for, up to a fault of the outside or want of memory.
+// Does what `words` ask for, up to a failure of the system or of memory.
 fn carry_out<F: Files, D: Disk, R: Report>(
     alloc: Global,
     words: &Vec<String>,
@@ -129,7 +129,7 @@ fn carry_out<F: Files, D: Disk, R: Report>(
     }
 }
 
-// Does what a command asks for.
+// Does what `command` asks for.
 fn execute<F: Files, D: Disk, R: Report>(
     alloc: Global,
     command: &Command,
@@ -171,7 +171,7 @@ fn execute<F: Files, D: Disk, R: Report>(
     }
 }
 
-// Words that aren't obeyed.
+// Prints the reason `why` for which word number `word` of the command line is refused.
 fn refuse<R: Report>(
     alloc: Global,
     word: usize,

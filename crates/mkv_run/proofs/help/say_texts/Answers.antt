@@ -5,7 +5,7 @@ use Rattle.mkv_lines.proofs.SaidLemmas.{SaysUpTo-more, SaysUpTo-stops}
 use Rattle.mkv_run.proofs.SayLemmas.{shown, texts-next}
 use Rattle.mkv_run.proofs.help.say_texts.Goals as goal
 
--- a text couldn't be printed
+-- A text couldn't be printed.
 pub returns-in_err-say_text-clause-said : goal.returns-in_err-say_text-clause-said
 returns-in_err-say_text-clause-said g c =
     let k = c.loop-text.text-index in let texts = c.args.texts.now in
@@ -15,7 +15,7 @@ returns-in_err-say_text-clause-said g c =
     rw (err_from_is_err_and c.from_residual.result c.from_residual.ensures.1).1
     (SaysUpTo-stops (lines c.args.report.now) (lines c.loop-text.report) (lines c.say_text.new.report) (shown texts) ((get_or texts k nothing).now ∷ []) (shown (drop (k + 1) texts)) next c.in_err-say_text.ensures.said)
 
--- another text was printed
+-- Another text was printed.
 pub loop-text-preserved : goal.loop-text-preserved
 loop-text-preserved g c = record {
   report = search rules;

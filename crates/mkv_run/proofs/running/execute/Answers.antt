@@ -66,7 +66,7 @@ returns-in-Propedit-clause-verdict g c =
     (λ told. Reaches-lines old new result v (says told) (propedit-outputs (d.is_there a file) file edits M S) refl) in
     subst (λ (asked : Command). IfVisible (verdict_of (g.F.Files.names c.args.files.now) (disk_world d a) asked) (λ v. Reaches old new result v)) (sym c.in-Propedit.is) reaches
 
--- ---- what is read
+-- ---- bytes that are read
 
 pub returns-in-Help-clause-octets : goal.returns-in-Help-clause-octets
 returns-in-Help-clause-octets g c =
@@ -136,9 +136,9 @@ returns-in-Merge-clause-octets g c =
     subst (λ (asked : Command). ReadsWithin (g.F.Files.names c.args.files.now) (disk_world g.D.Disk c.args.disk.now) asked (before + disk) (now + disk)) (sym c.in-Merge.is)
     (λ world told. files-alone before now (most_read world c.in-Merge.words) disk (c.merge_of.ensures.octets world told))
 
--- ---- what is touched
+-- ---- objects that are changed
 
--- what is edited keeps the rest of the file
+-- An edit keeps the rest of the file.
 pub returns-in-Propedit-clause-touches : goal.returns-in-Propedit-clause-touches
 returns-in-Propedit-clause-touches g c =
     let d = g.D.Disk in let a = c.args.disk.now in let b = c.propedit_of.new.disk in let s = status_of c.propedit_of.result in let edits = c.in-Propedit.edits in
@@ -146,7 +146,7 @@ returns-in-Propedit-clause-touches g c =
     subst (λ (asked : Command). Touches g.D.Reads d (reach_of asked) c.args.files.now c.args.files.now a b s) (sym c.in-Propedit.is)
     (refl, is, edit-keeps d edits a b s c.edits_change_nothing_else.ensures is.leaves)
 
--- so does what is indexed
+-- So does a new index.
 pub returns-in-Reindex-clause-touches : goal.returns-in-Reindex-clause-touches
 returns-in-Reindex-clause-touches g c =
     let d = g.D.Disk in let a = c.args.disk.now in let b = c.reindex_of.new.disk in let s = status_of c.reindex_of.result in
@@ -154,7 +154,7 @@ returns-in-Reindex-clause-touches g c =
     subst (λ (asked : Command). Touches g.D.Reads d (reach_of asked) c.args.files.now c.args.files.now a b s) (sym c.in-Reindex.is)
     (refl, is, index-keeps d a b s c.new_index_is_whole.ensures is.leaves)
 
--- a file in place is recovered, edited, or indexed
+-- A command in place recovers, edits or indexes its file.
 pub recover_of-requires : goal.recover_of-requires
 recover_of-requires g c = c.requires.at_rest (subst (λ (asked : Command). IsInPlace (reach_of asked)) (sym c.in-Recover.is) tt)
 
@@ -164,11 +164,11 @@ reindex_of-requires g c = c.requires.at_rest (subst (λ (asked : Command). IsInP
 pub propedit_of-requires : goal.propedit_of-requires
 propedit_of-requires g c = c.requires.at_rest (subst (λ (asked : Command). IsInPlace (reach_of asked)) (sym c.in-Propedit.is) tt)
 
--- the words asked for a job that can be done
+-- The job can be done.
 pub extract_of-requires : goal.extract_of-requires
 extract_of-requires g c = record { job = job-done c.in-Extract.job (subst IsSound c.in-Extract.is c.requires.sound) }
 
--- ---- which names are opened and made
+-- ---- names that are opened and made
 
 pub returns-in-Info-clause-asks : goal.returns-in-Info-clause-asks
 returns-in-Info-clause-asks g c =

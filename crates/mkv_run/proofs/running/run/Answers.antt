@@ -3,7 +3,7 @@ use Rattle.mkv_run.specs.Touched.{LeftOnTheWay}
 use Rattle.mkv_run.proofs.SeenLemmas.{crash-seen, leaves-seen}
 use Rattle.mkv_run.proofs.running.run.Goals as goal
 
--- all that is promised, of what is seen
+-- Each clause follows from `run_to_end`.
 pub returns : goal.returns
 returns g c =
     let did = c.run_to_end.ensures in

@@ -15,9 +15,9 @@ use Rattle.mkv_run.proofs.MergedLemmas.{merges-again, merges-well}
 use Rattle.mkv_run.proofs.RunLemmas.{ends-done, fault-alone, fault-told, stops-saying, touches-moment}
 use Rattle.mkv_run.proofs.running.run_to_end.Goals as goal
 
--- ---- the lines and the outputs
+-- ---- lines and outputs
 
--- the files failed, and the line of the fault follows
+-- The files failed, and the line of the failure follows.
 pub returns-in-Err-Files-clause-verdict : goal.returns-in-Err-Files-clause-verdict
 returns-in-Err-Files-clause-verdict g c = λ verdict told.
     let faults = g.R.Report.faults in let lines = g.R.Report.lines in let names = g.F.Files.names in
@@ -35,7 +35,7 @@ returns-in-Err-Files-clause-verdict g c = λ verdict told.
     ])
     stopped
 
--- the disk failed, and the line of the fault stands alone
+-- The disk failed, and the line of the failure is the only one.
 pub returns-in-Err-Disk-clause-verdict : goal.returns-in-Err-Disk-clause-verdict
 returns-in-Err-Disk-clause-verdict g c = λ verdict told.
     let faults = g.R.Report.faults in let lines = g.R.Report.lines in let names = g.F.Files.names in
@@ -53,7 +53,7 @@ returns-in-Err-Disk-clause-verdict g c = λ verdict told.
     ])
     stopped
 
--- the report failed
+-- The report failed.
 pub returns-in-Err-Report-clause-verdict : goal.returns-in-Err-Report-clause-verdict
 returns-in-Err-Report-clause-verdict g c = λ verdict told.
     let lines = g.R.Report.lines in let names = g.F.Files.names in
@@ -65,7 +65,7 @@ returns-in-Err-Report-clause-verdict g c = λ verdict told.
     (λ all part. inr (inr (cause.0, part)))
     stopped
 
--- a command that ended well has written the merge that was asked for; and what a merge wrote as it was
+-- A successful command has written the merge that was asked for, and the output of a merge again with the same bytes.
 pub returns-in-Ok-clause-merged : goal.returns-in-Ok-clause-merged
 returns-in-Ok-clause-merged g c =
     let before : RunSeen = run_seen g.F.Reads g.F.Files g.D.Reads g.D.Disk g.R.Report c.args.files.now c.args.disk.now c.args.report.now in
@@ -77,7 +77,7 @@ returns-in-Ok-clause-merged g c =
     let well = merges-well before now disk words status c.in-Ok.ensures.readable ended in
     record { well = well; again = merges-again c.outputs_are_written_again.ensures before now disk words status well ended }
 
--- ---- what a crash leaves
+-- ---- crashes
 
 pub returns-in-Ok-clause-any_moment : goal.returns-in-Ok-clause-any_moment
 returns-in-Ok-clause-any_moment g c = λ rest.
