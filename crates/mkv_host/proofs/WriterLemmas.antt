@@ -1,15 +1,15 @@
--- Octets that are written at a place, some of them and then others behind them.
+-- Bytes that are written at an offset in two steps.
 use Rattle.std.proofs.Common.{◌≡◌, ◌≤◌, ℕ, ◌+◌, List, [], ◌++◌, length, take, drop, sym, ◌∙◌, ap, append_assoc, length-append, arith}
 use Rattle.std.proofs.lemmas.Grind.{common_steps}
 use Rattle.std.proofs.lemmas.List.{drop-drop}
 use Rattle.std.proofs.Math.Seq.{drop-append-add, take-add, take-append_seam}
 use Rattle.mkv_io.specs.Contents.{overwritten}
 
--- nothing is written
+-- Writing no bytes changes nothing.
 pub overwritten-none : (was : List ℕ) (at : ℕ) → overwritten was at [] ≡ was
 overwritten-none was at = grind (arith, common_steps)
 
--- others are written behind the first
+-- Writing `next` after `first` is writing both.
 pub overwritten-more : (was first next : List ℕ) (at : ℕ) → at ≤ length was → overwritten (overwritten was at first) (at + length first) next ≡ overwritten was at (first ++ next)
 overwritten-more was first next at within =
     ap (λ (o : List ℕ). o ++ (next ++ drop (at + length first + length next) (overwritten was at first))) head
@@ -40,7 +40,7 @@ overwritten-more was first next at within =
         ap (λ n. drop (n + length next) (overwritten was at first)) place ∙ ap (λ (o : List ℕ). drop (length (take at was ++ first) + length next) o) parts
         ∙ drop-append-add (take at was ++ first) rest (length next) ∙ drop-drop (length next) (at + length first) was ∙ ap (λ n. drop n was) behind
 
--- the next n of some octets are written behind the first
+-- Writing the next `n` bytes after the written ones is writing them all.
 pub overwritten-next : (was bytes : List ℕ) (at written n : ℕ) → at ≤ length was → written ≤ length bytes → overwritten (overwritten was at (take written bytes)) (at + written) (take n (drop written bytes)) ≡ overwritten was at (take (written + n) bytes)
 overwritten-next was bytes at written n within first =
     ap (λ k. overwritten (overwritten was at (take written bytes)) (at + k) (take n (drop written bytes))) (sym count)

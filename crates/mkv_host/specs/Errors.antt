@@ -1,14 +1,14 @@
--- What an error of the system says of a file.
+-- The meaning of the system's errors for a file. The rules are this project's.
 use Rattle.std.specs.Prelude.{◌≡◌, ◌⊎◌}
 use Rattle.std.specs.declared.io.ErrorKind.{ErrorKind}
 use Rattle.std.specs.declared.io.ErrorKind.TheVariants.{CrossesDevices, InvalidFilename, InvalidInput, NotADirectory, NotFound, PermissionDenied, ReadOnlyFilesystem, ResourceBusy, Unsupported}
 
--- There is no file of a name: none has it, its way leads through a file, or none can have it.
+-- No file has the name: it is free, its path leads through a file, or it can't be a name.
 abbrev pub IsMissing : ErrorKind → Type 0
 IsMissing kind = (kind ≡ NotFound) ⊎ ((kind ≡ NotADirectory) ⊎ (kind ≡ InvalidFilename))
 
--- A file can never be replaced: this isn't permitted in its folder or for its owner, the folder can't be written, or the name is
--- another file system's, as a mount point is.
+-- A file can never be replaced. The folder or the file's owner doesn't permit it, or the folder can't be written. Or the name belongs to another
+-- file system, as a mount point does.
 abbrev pub IsIrreplaceable : ErrorKind → Type 0
 IsIrreplaceable kind = ((kind ≡ PermissionDenied) ⊎ (kind ≡ ReadOnlyFilesystem)) ⊎ ((kind ≡ CrossesDevices) ⊎ (kind ≡ ResourceBusy))
 

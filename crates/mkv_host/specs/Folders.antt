@@ -1,13 +1,13 @@
--- The folder of a file.
+-- The folder of a file, by its name.
 use Rattle.std.specs.Prelude.{ℕ, List, [], ◌∷◌, Option, Some, None, codes}
 use Rattle.std.specs.Path.{path_parent}
 
--- a folder as it is opened: `.` where nothing is named
+-- a folder as it is opened: `.` if the name has none
 abbrev pub or_here : Option (List ℕ) → List ℕ
 or_here None = codes "."
 or_here (Some []) = codes "."
 or_here (Some (first ∷ rest)) = first ∷ rest
 
--- the folder in which a file of this name stands
+-- the folder that contains the file `name`
 abbrev pub folder_in : List ℕ → List ℕ
 folder_in name = or_here (path_parent name)

@@ -1,4 +1,4 @@
--- What is known of the files of the system that are open.
+-- The open files of the system, as far as they are known.
 use Rattle.std.specs.Prelude.{◌≡◌, ℕ, ◌≤◌, ◌<◌, zero, suc, List, [], ◌∷◌, length, Bool, true, ◌&&◌, ◌==◌, Option, Some, None, is_some, get_or}
 use Rattle.std.proofs.Common.{arith}
 use Rattle.mkv_io.specs.LiveFiles.{LiveFiles}
@@ -6,7 +6,7 @@ use Rattle.mkv_host.specs.declared.opened.Opened.{Opened}
 use Rattle.mkv_host.specs.declared.system.Node.{Node}
 use Rattle.mkv_io.specs.declared.outside.TheConstants.{LONGEST_FILE}
 
--- The file of a number, None where it was closed.
+-- the open file with the number `file`, or None if it was closed
 abbrev pub opened_at : List (Option Opened) → ℕ → Option Opened
 opened_at opened file = get_or opened file None
 
@@ -18,11 +18,11 @@ abbrev pub name_of : Option Opened → List ℕ
 name_of None = []
 name_of (Some opened) = opened.name
 
--- a file's length in octets
+-- the length in bytes of the file with the number `file`
 abbrev pub size_at : List (Option Opened) → ℕ → ℕ
 size_at opened file = size_of (opened_at opened file)
 
--- Which files are open, with their lengths. Nothing is told of their contents.
+-- the open files with their lengths; their contents aren't visible to the proof
 abbrev pub live_in : List (Option Opened) → LiveFiles
 live_in opened = record {
   live = λ file. is_some (opened_at opened file);
@@ -30,22 +30,22 @@ live_in opened = record {
   content = λ _. None;
 }
 
--- the name under which a file was opened
+-- the name under which the file with the number `file` was opened
 abbrev pub holder_in : List (Option Opened) → ℕ → List ℕ
 holder_in opened file = name_of (opened_at opened file)
 
--- two files of the system are one
+-- `node` and `other` are the same file of the system.
 abbrev pub is_node : Node → Node → Bool
 is_node node other = (other.device == node.device) && (other.inode == node.inode)
 
--- ---- what follows at once
+-- ---- simple facts
 
--- no open file is too long
+-- No open file is too long.
 pub short-of_size : (opened : Option Opened) → size_of opened ≤ LONGEST_FILE
 short-of_size None = omega arith
 short-of_size (Some opened) = opened.short
 
--- an open file has a number below the next one
+-- An open file has a number below the next one.
 pub numbered-live : (opened : List (Option Opened)) (file : ℕ) → is_some (opened_at opened file) ≡ true → file < length opened
 numbered-live [] zero live = cc
 numbered-live [] (suc file) live = cc

@@ -1,25 +1,25 @@
--- What is known of a pair of files of the system that may be open.
+-- A film and its journal that may be open, as far as they are known.
 use Rattle.std.specs.Prelude.{List, ℕ, ◌≤◌, zero, suc, Bool, true, false, Option, Some, None}
 use Rattle.std.proofs.Common.{arith}
 use Rattle.mkv_io.specs.LiveFiles.{LiveFiles}
 use Rattle.mkv_host.specs.declared.pair.OpenPair.{OpenPair}
 use Rattle.mkv_io.specs.declared.outside.TheConstants.{LONGEST_FILE}
 
--- the medium has the number 0, its sidecar 1
+-- A file is open: the film has the number 0, its journal 1.
 abbrev pub is_live : Option OpenPair → ℕ → Bool
 is_live None n = false
 is_live (Some pair) zero = true
 is_live (Some pair) (suc zero) = true
 is_live (Some pair) (suc (suc n)) = false
 
--- a file's length in octets
+-- the length in bytes of the file with the number `n`
 abbrev pub size_in : Option OpenPair → ℕ → ℕ
 size_in None n = 0
 size_in (Some pair) zero = pair.media.size
 size_in (Some pair) (suc zero) = pair.sidecar.size
 size_in (Some pair) (suc (suc n)) = 0
 
--- Which of the two are open, with their lengths. Nothing is told of their contents.
+-- the open files of a pair with their lengths; their contents aren't visible to the proof
 abbrev pub live_in : Option OpenPair → LiveFiles
 live_in pair = record { live = is_live pair; size = size_in pair; content = λ _. None }
 
@@ -28,9 +28,9 @@ abbrev pub name_in : Option OpenPair → Option (List ℕ)
 name_in None = None
 name_in (Some pair) = Some pair.media.name
 
--- ---- what follows at once
+-- ---- simple facts
 
--- no open file is too long
+-- No open file is too long.
 pub short-of_size : (pair : Option OpenPair) (n : ℕ) → size_in pair n ≤ LONGEST_FILE
 short-of_size None n = omega arith
 short-of_size (Some pair) zero = pair.media.short

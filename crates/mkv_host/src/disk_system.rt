@@ -1,4 +1,4 @@
-//! Calls of the system that open files to be changed.
+//! Calls of the system that open a film, which is edited in place, and its journal (FILE.mkvedit).
 
 ghost use Rattle.std.specs.Prelude.{◌≡◌, ◌↔◌, pos, ◌<ℤ◌, IfOk, IsTrue};
 ghost use Rattle.std.specs.Fd.{file_raw_fd};
@@ -14,11 +14,12 @@ use std::io::ErrorKind;
 use std::os::unix::fs::{MetadataExt, OpenOptionsExt};
 use std::{fs, io};
 
-/// Name that the system gives to this process, whose owner is the user for whom it runs.
+/// Name of this process in the file system; its owner is the user who runs it.
 const THIS_PROCESS: &str = "/proc/self";
 
-/// Opens a regular file to be read and written, and locks it. A link, a file whose lock another holds, and one that is
-/// standard output too, are refused. What isn't regular isn't opened, since that may wait for ever.
+/// Opens the regular file `name` to read and write it, and locks it. Refuses a link, a file that another process has
+/// locked, and a file that is standard output, too. Anything but a regular file isn't opened, since that may wait for
+/// ever.
 pub fn open_media<R: fs::Files<File = File>>(
     system: &R,
     name: Text,
@@ -36,8 +37,8 @@ pub fn open_media<R: fs::Files<File = File>>(
     Ok((measured(file, name, &found)?, found))
 }
 
-/// Checks whether a name, which isn't a link, leads to a file. It is asked after the file was opened: on an overlay, a file
-/// that is opened to be written becomes another one.
+/// Checks whether `name` isn't a link and is the file `node`. Call it after the file was opened: on an overlay,
+/// opening a file to write it makes it another file.
 pub fn has_name<R: fs::Files<File = File>>(system: &R, name: &str, node: Node) -> bool {
     match fs::symlink_metadata(system, name) {
         Ok(found) => node_of(&found).is_ok_and(|named| named == node),
@@ -49,7 +50,7 @@ fn open_again<R: fs::Files<File = File>>(system: &R, name: &str) -> io::Result<F
     OpenOptions::new().read(true).write(true).open(system, name)
 }
 
-/// A file with its length. One that is too long is refused.
+/// Returns the open file with its length. Refuses a file longer than `LONGEST_FILE`.
 fn measured(file: File, name: Text, found: &Metadata) -> io::Result<OpenFile>
     requires { pos 2 <ℤ file_raw_fd file }
     ensures { IfOk result (λ opened. opened.name ≡ name) }
@@ -61,8 +62,9 @@ fn measured(file: File, name: Text, found: &Metadata) -> io::Result<OpenFile>
     Ok(OpenFile { file, name, size })
 }
 
-/// Opens the sidecar of a file to be read and written, or makes it, empty, with that file's owner and mode (`share_new`).
-/// An existing one must be a regular file with no other name, another one than that, and no stranger's.
+/// Opens the journal `name` of the film `media` to read and write it, or makes it, empty, with the film's owner and
+/// mode (`share_new`). An existing journal must be a regular file with no other name. It must not be the film itself,
+/// nor a stranger's.
 pub fn open_sidecar<R: fs::Files<File = File>>(
     system: &R,
     name: Text,
@@ -83,7 +85,7 @@ pub fn open_sidecar<R: fs::Files<File = File>>(
     }
 }
 
-/// Opens a sidecar that is there.
+/// Opens the existing journal `name` of the film `media`.
 fn open_existing<R: fs::Files<File = File>>(
     system: &R,
     name: Text,
@@ -104,8 +106,8 @@ fn open_existing<R: fs::Files<File = File>>(
     measured(file, name, &found)
 }
 
-/// Checks whether a sidecar is neither the film's owner's nor the user's for whom this process runs: whoever may write the
-/// folder may have made it, and its record would be written into the film.
+/// Checks whether neither the film's owner nor the user of this process owns the journal `sidecar`. Whoever may write
+/// the folder may have made such a journal, and its record would be written into the film.
 fn is_strangers<R: fs::Files<File = File>>(
     system: &R,
     sidecar: &Metadata,
@@ -120,7 +122,7 @@ fn is_strangers<R: fs::Files<File = File>>(
     }
 }
 
-/// Makes a file that none but its owner may read or write.
+/// Makes a new file that only its owner may read or write.
 fn make_new<R: fs::Files<File = File>>(system: &R, name: &str) -> io::Result<File>
     ensures { IfOk result (λ file. pos 2 <ℤ file_raw_fd file) }
 {
@@ -133,7 +135,7 @@ fn make_new<R: fs::Files<File = File>>(system: &R, name: &str) -> io::Result<Fil
     above_streams(file)
 }
 
-/// Which file this is. One with several names is refused.
+/// Returns the node of the file `found`. Refuses a file with several names.
 fn only_name(found: &Metadata) -> io::Result<Node> {
     if found.nlink() != 1 {
         return Err(ErrorKind::InvalidInput.into());
@@ -141,12 +143,12 @@ fn only_name(found: &Metadata) -> io::Result<Node> {
     node_of(found)
 }
 
-/// Makes sure of a file as it is read.
+/// Syncs `file`, so that the bytes that are read from it are on the disk.
 pub fn sync_on_open(file: &File) -> io::Result<()> {
     file.sync_all()
 }
 
-/// Makes sure that the folder of a file has its name. A folder that its file system doesn't sync is passed over.
+/// Syncs the folder of `name`, so that it has the name. Ignores that a file system can't sync a folder.
 pub fn settle_folder<R: fs::Files<File = File>>(system: &R, name: &str) -> io::Result<()> {
     match above_streams(File::open(system, folder_of(name))?)?.sync_all() {
         Err(error) if is_unsynced(error.kind()) => Ok(()),

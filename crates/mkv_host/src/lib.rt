@@ -1,7 +1,7 @@
 #![tactic(auto)]
 
-//! The files of the system, two of them that are changed in place, and its standard output. They tell nothing of what a
-//! file, a folder or a terminal holds: that the system keeps what it was given is trusted.
+//! The files of the system, a film and its journal that are changed in place, and standard output. Contents of files
+//! and folders aren't visible to the proof. It is trusted that the system keeps the bytes that are written.
 
 mod disk_system;
 mod locks;

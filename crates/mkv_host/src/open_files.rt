@@ -1,5 +1,5 @@
-//! The files of the system that are open, by their numbers. A number is a place in a list, and a file
-//! that is closed leaves its place empty.
+//! The open files of the system, by number. A number is an index into a list, and closing a file leaves its entry
+//! empty.
 
 ghost use Rattle.std.specs.Prelude.{◌≡◌, ◌≢◌, ℕ, ◌+◌, ◌<◌, ◌≤◌, [], ◌∷◌, ◌++◌, length, Some, is_some, vec_capacity, IfOk, OnOk, IsTrue};
 ghost use Rattle.mkv_host.specs.Opened.{holder_in, is_node, opened_at, size_at};
@@ -11,7 +11,7 @@ use crate::system::Node;
 use mkv_io::{FileId, Text};
 use std::alloc::{AllocError, Global};
 
-/// The name of a file that is to be opened, and room for it and for which file it is.
+/// Returns a copy of `name` for a file that will be opened, and reserves room for the file and its node.
 pub fn prepare(
     opened: &mut Vec<Option<Opened>>,
     seen: &mut Vec<Node>,
@@ -31,7 +31,8 @@ pub fn prepare(
     Ok(holder)
 }
 
-/// Adds a file where there is room for it, and answers its number. Which file it is stays known when it is closed.
+/// Adds the file `one`, for which `prepare` has reserved room, and returns its number. Its node stays known after it
+/// is closed.
 pub fn add(opened: &mut Vec<Option<Opened>>, seen: &mut Vec<Node>, one: Opened) -> FileId
     requires room { length opened.old.items < vec_capacity opened.old }
     requires seen_room { length seen.old.items < vec_capacity seen.old }
@@ -45,7 +46,7 @@ pub fn add(opened: &mut Vec<Option<Opened>>, seen: &mut Vec<Node>, one: Opened) 
     FileId { n: number }
 }
 
-/// A file that is open.
+/// Returns the open file with the number `file`.
 pub fn open_at(opened: &Vec<Option<Opened>>, file: FileId) -> &Opened
     requires { IsTrue (is_some (opened_at opened.now.items file.n)) }
     ensures { opened_at opened.now.items file.n ≡ Some result.now }
@@ -56,14 +57,14 @@ pub fn open_at(opened: &Vec<Option<Opened>>, file: FileId) -> &Opened
     }
 }
 
-/// Whether a file of the system was opened or made before, under whatever name.
+/// Checks whether `node` was opened or made before, under any name.
 pub fn is_seen(seen: &Vec<Node>, node: Node) -> bool
     ensures { result ≡ list_any (is_node node) seen.now.items }
 {
     seen.iter().any(|one| *one == node)
 }
 
-/// Notes that an open file is longer by so many octets.
+/// Adds `count` bytes to the noted length of an open file.
 pub fn lengthen(opened: &mut Vec<Option<Opened>>, file: FileId, count: u64)
     requires live { IsTrue (is_some (opened_at opened.old.items file.n)) }
     requires room { size_at opened.old.items file.n + count ≤ LONGEST_FILE }

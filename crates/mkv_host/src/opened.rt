@@ -1,4 +1,4 @@
-//! A file of the system that is open.
+//! An open file of the system.
 
 ghost use Rattle.std.specs.Prelude.{ℕ, ◌≤◌, pos, ◌<ℤ◌};
 ghost use Rattle.std.specs.Fd.{file_raw_fd};
@@ -8,7 +8,7 @@ use crate::system::Node;
 use mkv_io::Text;
 use std::fs::File;
 
-/// An open file, which it is, the name under which it was opened, and its length in octets.
+/// Open file with its node, the name under which it was opened, and its length in bytes.
 #[derive(Drop)]
 pub struct Opened {
     pub file: File,

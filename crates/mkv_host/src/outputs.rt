@@ -12,10 +12,10 @@ use std::io::ErrorKind;
 use std::os::unix::fs::{MetadataExt, OpenOptionsExt, PermissionsExt, fchown};
 use std::{fs, io};
 
-/// How many names are tried for a file that is to be put in the place of another.
+/// Number of temporary names that are tried for a file that replaces another.
 const MAX_TRIES: u32 = 100;
 
-/// An empty file that is to be written, and whether this run has made it.
+/// Empty output that can be written, and whether this run has made it.
 #[derive(Drop)]
 pub struct Output {
     pub file: File,
@@ -24,7 +24,7 @@ pub struct Output {
     ghost above: { pos 2 <ℤ file_raw_fd file },
 }
 
-/// Returns which regular file has a name, if any. What isn't regular is refused.
+/// Returns the node of the regular file `name`, if a file has this name. Anything but a regular file is refused.
 pub fn node_at<R: fs::Files<File = File>>(system: &R, name: &str) -> io::Result<Option<Node>> {
     match fs::metadata(system, name) {
         Ok(found) => Ok(Some(node_of(&found)?)),
@@ -33,8 +33,8 @@ pub fn node_at<R: fs::Files<File = File>>(system: &R, name: &str) -> io::Result<
     }
 }
 
-/// Opens a file to be written and read, or makes it unless it is there, and returns whether it is new. An existing file keeps
-/// its bytes.
+/// Opens the file `name` to write and read it, or makes it unless `is_there`, and returns whether it is certainly
+/// new. An existing file keeps its bytes.
 pub fn open_or_make<R: fs::Files<File = File>>(
     system: &R,
     name: &str,
@@ -54,7 +54,8 @@ fn open_again<R: fs::Files<File = File>>(system: &R, name: &str) -> io::Result<F
     OpenOptions::new().read(true).write(true).open(system, name)
 }
 
-/// Makes a file, and says whether it is new for sure. Where a link to a name that no file has stands there, that file is made.
+/// Makes the file `name`, and returns whether it is certainly new. If `name` is a link to a missing file, that file
+/// is made.
 fn make_new<R: fs::Files<File = File>>(system: &R, name: &str) -> io::Result<(File, bool)> {
     match File::create_new(system, name) {
         Ok(file) => Ok((file, true)),
@@ -70,9 +71,9 @@ fn make_new<R: fs::Files<File = File>>(system: &R, name: &str) -> io::Result<(Fi
     }
 }
 
-/// Puts a new file in the place of a regular one that is there, with its mode and its owner, so that other names of that one
-/// keep its bytes, and it isn't flushed when it is closed. A link is followed to the file that it leads to. If this fails, the
-/// old file is as it was.
+/// Replaces the regular file `name` by a new file with the mode and owner of `was`. Other names of the old file keep
+/// its bytes, and it isn't flushed when it is closed. A link is followed to its file. If this fails, the old file is
+/// unchanged.
 pub fn replaced<R: fs::Files<File = File>>(
     alloc: Global,
     system: &R,
@@ -88,7 +89,7 @@ pub fn replaced<R: fs::Files<File = File>>(
     replaced_at(alloc, system, place.as_str(), was)
 }
 
-/// Puts a new file in the place of a regular one whose name isn't a link.
+/// Replaces the regular file `place`, which isn't a link, by a new file.
 fn replaced_at<R: fs::Files<File = File>>(
     alloc: Global,
     system: &R,
@@ -112,8 +113,8 @@ fn replaced_at<R: fs::Files<File = File>>(
     Err(ErrorKind::AlreadyExists.into())
 }
 
-/// Checks whether a file that wasn't replaced, for an error of this kind, is one that never can be: its folder takes no new
-/// file or name, the new file can't have its owner and mode, or its name is a mount point.
+/// Checks whether `kind` is an error after which a file can never be replaced. Its folder takes no new file or name,
+/// the new file can't have its owner and mode, or its name is a mount point.
 pub fn is_irreplaceable(kind: ErrorKind) -> bool
     ensures { IsTrue result ↔ IsIrreplaceable kind }
 {
@@ -126,8 +127,8 @@ pub fn is_irreplaceable(kind: ErrorKind) -> bool
     )
 }
 
-/// Cuts a file to nothing. One that another run writes or edits keeps its bytes and is refused. So is one to which its name
-/// doesn't lead any more: what is written to it would be under another name, or under none.
+/// Truncates `output` to no bytes. Refuses a file that another run writes or edits; it keeps its bytes. Also refuses
+/// a file that isn't `name` any more: the bytes would be under another name, or under none.
 pub fn emptied<R: fs::Files<File = File>>(
     system: &R,
     name: &str,
@@ -143,7 +144,7 @@ pub fn emptied<R: fs::Files<File = File>>(
     Ok(output)
 }
 
-/// Makes a file that none but its owner may read or write.
+/// Makes a new file that only its owner may read or write.
 fn make_beside<R: fs::Files<File = File>>(system: &R, name: &str) -> io::Result<File> {
     OpenOptions::new()
         .read(true)
@@ -153,7 +154,8 @@ fn make_beside<R: fs::Files<File = File>>(system: &R, name: &str) -> io::Result<
         .open(system, name)
 }
 
-/// Gives a new file the mode and the owner of another, and then its name. Where that fails the new file is removed.
+/// Gives the new file `beside` the mode and owner of `was`, and then the name `place`. If this fails, removes the new
+/// file.
 fn put_in_place<R: fs::Files<File = File>>(
     system: &R,
     file: File,
@@ -174,7 +176,7 @@ fn put_in_place<R: fs::Files<File = File>>(
     moved
 }
 
-/// Gives a new file the mode and the owner of another.
+/// Gives a new file the mode and owner of `was`, and checks that it has them.
 fn copy_permissions(file: File, was: &Metadata) -> io::Result<Output>
     ensures { IfOk result (λ made. made.is_new ≡ true) }
 {
@@ -193,25 +195,26 @@ fn copy_permissions(file: File, was: &Metadata) -> io::Result<Output>
     })
 }
 
-/// Gives a file the mode of another, and its owner and group, where these may be set.
+/// Gives `file` the mode of `was`, and its owner and group, as far as the system permits.
 pub fn copy_access(file: &File, was: &Metadata) -> io::Result<()> {
     copy_owner(file, was)?;
     set_mode(file, was.mode() & 0o7777)
 }
 
-/// Gives a file the owner and the group of another, where these may be set.
+/// Gives `file` the owner and group of `was`, as far as the system permits.
 pub fn copy_owner(file: &File, was: &Metadata) -> io::Result<()> {
-    // Only root sets the owner, and a member of the group may still set that.
+    // Two calls: only root may set the owner, but a member of the group may set the group.
     unless_refused(fchown(file, None, Some(was.gid())))?;
     unless_refused(fchown(file, Some(was.uid()), None))
 }
 
-/// Sets the mode of a file, where it may be set.
+/// Sets the mode of `file`, if the system permits.
 pub fn set_mode(file: &File, mode: u32) -> io::Result<()> {
     unless_refused(file.set_permissions(Permissions::from_mode(mode)))
 }
 
-/// Passes over that a process may not set this, that the file system doesn't keep it, or that there is no such owner here.
+/// Ignores that the process may not set this, that the file system doesn't keep it, or that the owner doesn't exist
+/// here.
 fn unless_refused(outcome: io::Result<()>) -> io::Result<()> {
     match outcome {
         Err(error) if is_refusal(error.kind()) => Ok(()),

@@ -1,4 +1,4 @@
-//! A file of the system and its sidecar, open.
+//! A film, open with its journal.
 
 ghost use Rattle.std.specs.Prelude.{◌≡◌, ◌≤◌, pos, ◌<ℤ◌};
 ghost use Rattle.std.specs.Fd.{file_raw_fd};
@@ -8,7 +8,7 @@ ghost use Rattle.sidecar_edit.specs.Name.{sidecar_of};
 use mkv_io::Text;
 use std::fs::File;
 
-/// An open file, the name under which it was opened, and its length in octets.
+/// Open file, the name under which it was opened, and its length in bytes.
 #[derive(Drop)]
 pub struct OpenFile {
     pub file: File,
@@ -18,7 +18,7 @@ pub struct OpenFile {
     ghost short: { size ≤ LONGEST_FILE },
 }
 
-/// A file and its sidecar, and whether this run has written to each. As long as the pair is open, it holds the file's lock.
+/// Film and its journal, and whether this run has written to each. While the pair is open, it holds the film's lock.
 #[derive(Drop)]
 pub struct OpenPair {
     pub media: OpenFile,

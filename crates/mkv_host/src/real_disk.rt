@@ -1,4 +1,4 @@
-//! A file of the system and its sidecar.
+//! A film and its journal, as the disk of an edit.
 
 ghost use Rattle.std.specs.Prelude.{◌≡◌, ◌≢◌, ◌≤◌, ℕ, ◌+◌, max, Option, Some, None, IsTrue, IfOk};
 ghost use Rattle.mkv_io.specs.Faults.{HasIncreased, counted};
@@ -19,8 +19,8 @@ use std::fs;
 use std::fs::{File, Metadata};
 use std::os::unix::fs::FileExt;
 
-/// A file of the system and its sidecar. A sync makes sure of a file's octets and its length. When a pair is opened both files
-/// are synced before anything is read, so that what is read stands on the disk.
+/// Film and its journal. A sync makes a file's bytes and its length durable. When a pair is opened, both files are
+/// synced before anything is read, so that the bytes that are read are on the disk.
 #[derive(Drop)]
 pub struct RealDisk<'a, R: fs::Files<File = File>> {
     alloc: Global,
@@ -32,7 +32,7 @@ pub struct RealDisk<'a, R: fs::Files<File = File>> {
 }
 
 impl<'a, R: fs::Files<File = File>> RealDisk<'a, R> {
-    /// No pair is open.
+    /// Returns a disk without an open pair.
     pub fn new(alloc: Global, system: &'a R) -> RealDisk<'a, R>
         ensures { result.pair ≡ None }
     {
@@ -47,7 +47,7 @@ impl<'a, R: fs::Files<File = File>> RealDisk<'a, R> {
     }
 }
 
-/// Counts a failure.
+/// Adds 1 to `count`, a number of failures.
 fn note_failure(count: &mut u64)
     ensures exact { count.new ≡ counted count.old 1 }
     ensures risen { HasIncreased count.old count.new }
@@ -55,7 +55,7 @@ fn note_failure(count: &mut u64)
     *count = count.saturating_add(1);
 }
 
-/// One of the two files.
+/// Returns the film or the journal of an open pair.
 fn file_of(pair: &Option<OpenPair>, file: FileId) -> &OpenFile
     requires { IsTrue (is_live pair.now file.n) }
     ensures { result.now.size ≡ size_in pair.now file.n }
@@ -67,8 +67,9 @@ fn file_of(pair: &Option<OpenPair>, file: FileId) -> &OpenFile
     }
 }
 
-/// Checks whether one of the two files may be written: until this run changes the medium, that has the length with which it
-/// was opened, and its name. A record that is noted is made in the medium even if another file has the name by now.
+/// Checks whether `file` may be written. Until this run changes the film, the film must have the length with which it
+/// was opened, and its name. After the journal has its record, the film is changed even if another file has its name
+/// by then.
 fn is_as_opened<R: fs::Files<File = File>>(
     system: &R,
     pair: &Option<OpenPair>,
@@ -83,7 +84,7 @@ fn is_as_opened<R: fs::Files<File = File>>(
     }
 }
 
-/// Checks whether an open file has the length that is noted of it, and its name, if that counts.
+/// Checks whether an open file has its noted length, and its name, if `counts_name`.
 fn is_same<R: fs::Files<File = File>>(system: &R, open: &OpenFile, counts_name: bool) -> bool {
     match open.file.metadata() {
         Ok(found) => {
@@ -94,12 +95,12 @@ fn is_same<R: fs::Files<File = File>>(system: &R, open: &OpenFile, counts_name: 
     }
 }
 
-/// Checks whether a name still leads to an open file.
+/// Checks whether `name` is still the open file `open`.
 fn is_named<R: fs::Files<File = File>>(system: &R, name: &str, open: &Metadata) -> bool {
     node_of(open).is_ok_and(|node| has_name(system, name, node))
 }
 
-/// Keeps the record of an edit from all but the sidecar's owner, before the first of it is written.
+/// Lets only the owner read the journal, before the first byte of a record is written to it.
 fn hide_record(pair: &Option<OpenPair>, file: FileId) {
     if let Some(open) = pair {
         if file != MEDIA && !open.is_changed && !open.is_noted {
@@ -108,7 +109,7 @@ fn hide_record(pair: &Option<OpenPair>, file: FileId) {
     }
 }
 
-/// Lets others read a sidecar again whose edit is made: they look there for a pending one.
+/// Lets others read the journal again after an edit is made: they look there for a pending edit.
 fn show_quiet(pair: &Option<OpenPair>) {
     if let Some(open) = pair {
         if open.is_changed && open.sidecar.size <= 1 {
@@ -117,7 +118,7 @@ fn show_quiet(pair: &Option<OpenPair>) {
     }
 }
 
-/// Notes how long one of the two files is.
+/// Notes the length `size` of the film or the journal.
 fn resize(pair: &mut Option<OpenPair>, file: FileId, size: u64)
     requires live { IsTrue (is_live pair.old file.n) }
     requires short { size ≤ LONGEST_FILE }
@@ -137,7 +138,7 @@ fn resize(pair: &mut Option<OpenPair>, file: FileId, size: u64)
     }
 }
 
-/// The name of a medium, and that of its sidecar.
+/// Returns the name of a film, and the name of its journal.
 fn names(alloc: Global, name: &str) -> Result<(Text, Text), AllocError>
     ensures { IfOk result (λ names. (names.0 ≡ name.now) × (names.1 ≡ sidecar_of name.now)) }
 {
@@ -146,7 +147,7 @@ fn names(alloc: Global, name: &str) -> Result<(Text, Text), AllocError>
     Ok((media, sidecar_name(alloc, name)?))
 }
 
-/// Opens a medium and its sidecar, which is made where it isn't there, and makes sure of both and of their folder.
+/// Opens a film and its journal, which is made if it doesn't exist, and syncs both and their folder.
 fn open_both<R: fs::Files<File = File>>(
     system: &R,
     name: Text,

@@ -20,15 +20,15 @@ use std::io::ErrorKind;
 use std::os::unix::fs::FileExt;
 use std::{fs, io};
 
-/// The files of the system. A file that is opened is only read; one that is created is written too. Which files a run has
-/// opened or made stays known when they are closed, and so do their names.
+/// Files of the system. An opened file is only read; a created one is written, too. The nodes and names of all files
+/// that a run has opened or made stay known after they are closed.
 #[derive(Drop)]
 pub struct RealFiles<'a, R: fs::Files<File = File>> {
     alloc: Global,
     system: &'a R,
     opened: Vec<Option<Opened>>,
     seen: Vec<Node>,
-    // the names that contracts speak of: no code reads them
+    // The contracts speak of these names; no code reads them.
     asked: Vec<Asked>,
     reading_faults: u64,
     writing_faults: u64,
@@ -38,7 +38,7 @@ pub struct RealFiles<'a, R: fs::Files<File = File>> {
 }
 
 impl<'a, R: fs::Files<File = File>> RealFiles<'a, R> {
-    /// The files of the system, none of them opened or made.
+    /// Returns the files of the system; none is opened or made.
     pub fn new(alloc: Global, system: &'a R) -> RealFiles<'a, R>
         ensures none_open { result.opened.items ≡ [] }
         ensures none_asked { result.asked.items ≡ [] }
@@ -55,23 +55,24 @@ impl<'a, R: fs::Files<File = File>> RealFiles<'a, R> {
         }
     }
 
-    /// Whether no number is left for a further file.
+    /// Checks whether no number is left for another file.
     fn is_full(&self) -> bool
         ensures { IsTrue result ↔ (length self.now.opened.items ≡ last_count) }
     {
         self.opened.len() as u64 == u64::MAX
     }
 
-    /// Checks whether a file can't be an output: this run has opened or made it, under whatever name, or it is standard output.
+    /// Checks whether `node` can't be an output: this run has opened or made it, under any name, or it is standard
+    /// output.
     fn is_taken(&self, node: Node) -> bool
         ensures { result ≡ false → list_any (is_node node) self.now.seen.items ≡ false }
     {
         is_seen(&self.seen, node) || is_standard_output(self.system, node)
     }
 
-    /// Makes an empty file, or puts one in the place of the file of that name, even if that is empty: another run may be
-    /// about to write it. An existing file that is taken, or that another run edits, is refused and keeps its bytes. As long
-    /// as an output is open it holds a part of its lock.
+    /// Makes the empty output `name`, or replaces the file of that name. An empty file is replaced, too: another run
+    /// may be about to write it. A file that is taken, or that another run edits, is refused and keeps its bytes. An
+    /// open output holds a shared lock.
     fn make(&self, name: &str) -> io::Result<Output>
         ensures { IfOk result (λ made. made.is_new ≡ false → list_any (is_node made.node) self.now.seen.items ≡ false) }
     {
@@ -81,7 +82,7 @@ impl<'a, R: fs::Files<File = File>> RealFiles<'a, R> {
         }
         let (file, is_new) = open_or_make(self.system, name, before.is_some())?;
         let found = file.metadata()?;
-        // On an overlay, a file that is opened to be written becomes another one.
+        // On an overlay, opening a file to write it makes it another file.
         let node = node_of(&found)?;
         if !is_new && self.is_taken(node) {
             return Err(ErrorKind::ResourceBusy.into());
@@ -98,7 +99,7 @@ impl<'a, R: fs::Files<File = File>> RealFiles<'a, R> {
     }
 }
 
-/// Counts a failure.
+/// Adds 1 to `count`, a number of failures.
 fn note_failure(count: &mut u64)
     ensures exact { count.new ≡ counted count.old 1 }
     ensures risen { HasIncreased count.old count.new }
@@ -225,7 +226,7 @@ impl<'a, R: fs::Files<File = File>> Files for RealFiles<'a, R> {
                 Ok(add(&mut self.opened, &mut self.seen, one))
             }
             Err(error) if error.kind() == ErrorKind::OutOfMemory => Err(MakeFault::Memory),
-            // The file may have been made or emptied before.
+            // The file may have been made or emptied before the failure.
             Err(_) => {
                 self.asked.push(Asked::Made(asked)).unwrap();
                 note_failure(&mut self.writing_faults);

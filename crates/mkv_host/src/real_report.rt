@@ -5,7 +5,7 @@ ghost use Rattle.std.specs.Prelude.{◌≡◌, ℕ};
 use mkv_io::{Failed, Report};
 use std::io::Print;
 
-/// The lines of standard output. It doesn't tell them, since what becomes of them isn't known.
+/// Standard output. Its lines aren't visible to the proof, since the system doesn't report what becomes of them.
 #[derive(Drop)]
 pub struct RealReport<'a, R: Print> {
     system: &'a R,
@@ -13,7 +13,7 @@ pub struct RealReport<'a, R: Print> {
 }
 
 impl<'a, R: Print> RealReport<'a, R> {
-    /// Standard output, of which no line has failed.
+    /// Returns standard output; no line has failed.
     pub fn new(system: &'a R) -> RealReport<'a, R>
         ensures { result.faults ≡ 0 }
     {

@@ -1,4 +1,4 @@
-//! Calls of the system that open files.
+//! Calls of the system that open files to be read.
 
 ghost use Rattle.std.specs.Prelude.{◌≡◌, ◌↔◌, ℕ, ◌≤◌, pos, ◌<ℤ◌, IfOk, IsOk, IsTrue};
 ghost use Rattle.std.specs.Fd.{file_raw_fd};
@@ -16,18 +16,18 @@ use std::os::unix::fs::MetadataExt;
 use std::path::Path;
 use std::{fs, io};
 
-/// Name that the system gives to what is open as standard output.
+/// Name in the file system of the file that is open as standard output.
 const STANDARD_OUTPUT: &str = "/proc/self/fd/1";
 
-/// Which file of the system a file is, whatever its name.
+/// Identity of a file of the system, whatever its name.
 #[derive(Clone, Copy, Debug, PartialEq, Eq)]
 pub struct Node {
     pub device: u64,
     pub inode: u64,
 }
 
-/// Whether an error says that there is no file of a name: none has it, none can have it, since it is too long, or its
-/// way leads through a file.
+/// Checks whether `error` means that no file has the name. The name is free or too long, or its path leads through a
+/// file.
 pub fn is_missing(error: &io::Error) -> bool
     ensures { IsTrue result ↔ IsMissing (error_kind error.now) }
 {
@@ -37,7 +37,7 @@ pub fn is_missing(error: &io::Error) -> bool
     )
 }
 
-/// Which file this is. A folder, pipe, socket, device or link is refused, since it has no length.
+/// Returns the node of the file `found`. Refuses a folder, pipe, socket, device or link, since these have no length.
 pub fn node_of(found: &Metadata) -> io::Result<Node>
     ensures { IsOk result ↔ IsFile (file_type found.now) }
 {
@@ -50,8 +50,8 @@ pub fn node_of(found: &Metadata) -> io::Result<Node>
     })
 }
 
-/// Checks whether `node` is standard output, too. A standard output that isn't a regular file, or can't be looked at, is no
-/// such file.
+/// Checks whether `node` is standard output, too. This is never so if standard output isn't a regular file or can't
+/// be examined.
 pub fn is_standard_output<R: fs::Files<File = File>>(system: &R, node: Node) -> bool {
     match fs::metadata(system, STANDARD_OUTPUT) {
         Ok(found) => node_of(&found).is_ok_and(|output| output == node),
@@ -59,7 +59,7 @@ pub fn is_standard_output<R: fs::Files<File = File>>(system: &R, node: Node) -> 
     }
 }
 
-/// The folder in which a file of this name stands.
+/// Returns the folder that contains the file `name`.
 pub fn folder_of(name: &str) -> &str
     ensures { result.now ≡ folder_in name.now }
 {
@@ -69,8 +69,8 @@ pub fn folder_of(name: &str) -> &str
     }
 }
 
-/// Moves a file above the descriptors of the standard streams. Where one of those was closed the system gives its number
-/// to the next file that is opened, and what is told to the stream would be written into that file.
+/// Moves `file` above the descriptors of the standard streams. If one of them was closed, the system gives its number
+/// to the next file that is opened. Output to the stream would then be written into that file.
 pub fn above_streams(file: File) -> io::Result<File>
     ensures { IfOk result (λ moved. pos 2 <ℤ file_raw_fd moved) }
 {
@@ -84,8 +84,8 @@ pub fn above_streams(file: File) -> io::Result<File>
     Ok(moved)
 }
 
-/// Opens a regular file to be read, and answers its length and which file it is. One that is too long is
-/// refused. What isn't regular isn't opened, since that may wait for ever.
+/// Opens the regular file `name` to read it, and returns it with its length and its node. Refuses a file longer than
+/// `LONGEST_FILE`. Anything but a regular file isn't opened, since that may wait for ever.
 pub fn open_to_read<R: fs::Files<File = File>>(
     system: &R,
     name: &str,

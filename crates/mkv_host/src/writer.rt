@@ -1,4 +1,4 @@
-//! Writing at a place of a file, though the system may write less at once.
+//! Writing at an offset of a file, although the system may write less than was passed.
 
 ghost use Rattle.std.specs.Prelude.{◌≡◌, ℕ, ◌≤◌, List, length, take, Option, unwrap_or, IfOk, IfSome, OnErr};
 ghost use Rattle.mkv_io.specs.Contents.{with_overwritten};
@@ -11,12 +11,12 @@ use std::io;
 use std::io::ErrorKind;
 use std::os::unix::fs::FileExt;
 
-/// What is written at a place, as the system does it: perhaps only a first part at once.
+/// File that can be written at an offset. A call may write only a first part.
 pub trait WriteAt {
-    /// What stands there, where it is told.
+    /// Bytes of the file, if they are visible to the proof.
     ghost content: { Self → Option (List ℕ) };
 
-    /// Writes the first of these octets, from `at` octets behind the first on, and answers how many.
+    /// Writes a first part of `bytes` at offset `at`, and returns its length.
     fn write_at(&mut self, bytes: &[u8], at: u64) -> io::Result<usize>
         ensures most { IfOk result (λ count. count ≤ length bytes.now) }
         ensures ok { IfOk result (λ count. content self.new ≡ with_overwritten at (take count bytes.now) (content self.old)) }
@@ -33,8 +33,8 @@ impl<'a> WriteAt for &'a File {
     }
 }
 
-/// Writes the first of these octets, and answers how many: none where the call was interrupted, and
-/// `None` where it is in vain to go on.
+/// Writes a first part of `bytes`, and returns its length: 0 if the call was interrupted, and `None` if another call
+/// would be in vain.
 fn write_some<W: WriteAt>(file: &mut W, at: u64, bytes: &[u8]) -> Option<usize>
     ensures most { IfSome result (λ count. count ≤ length bytes.now) }
     ensures first { W.content file.new ≡ with_overwritten at (take (unwrap_or result 0) bytes.now) (W.content file.old) }
@@ -47,8 +47,7 @@ fn write_some<W: WriteAt>(file: &mut W, at: u64, bytes: &[u8]) -> Option<usize>
     }
 }
 
-/// Writes from a place on until the system fails or writes nothing, and answers how many octets were
-/// written.
+/// Writes `bytes` at offset `at` until the system fails or writes nothing, and returns the number of written bytes.
 pub fn write_from<W: WriteAt>(file: &mut W, at: u64, bytes: &[u8]) -> usize
     requires { at ≤ LONGEST_FILE }
     ensures most { result ≤ length bytes.now }

@@ -5,7 +5,7 @@ use Rattle.mkv_io.specs.Contents.{with_overwritten}
 use Rattle.mkv_host.proofs.WriterLemmas.{overwritten-next}
 use Rattle.mkv_host.proofs.writer.write_from.Goals as goal
 
--- the next octets stand behind those before
+-- The next bytes follow the written ones.
 pub loop-preserved : goal.loop-preserved
 loop-preserved g c = record {
   within = grind (arith, common_steps);

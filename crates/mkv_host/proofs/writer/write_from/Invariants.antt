@@ -1,4 +1,4 @@
--- No more was written than is to be written, and what was stands at its place.
+-- At most all bytes are written, and the written bytes are at their offset.
 use Rattle.std.proofs.Common.{◌≡◌, ◌≤◌, length, take, Some}
 use Rattle.mkv_io.specs.Contents.{overwritten}
 use Rattle.mkv_io.specs.Told.{IfVisible}
