@@ -1,7 +1,7 @@
 #![tactic(auto)]
 
-//! What the suite's crates share, for their users: plain values, the outside as traits, and files, a disk
-//! and a report in memory.
+//! The common vocabulary of the suite's crates, for their users: plain values, traits for the system, and files, a
+//! disk and a report in memory.
 
 pub use mkv_disk::{Disk, MEDIA, SIDECAR};
 pub use mkv_io::{

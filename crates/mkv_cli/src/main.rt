@@ -1,6 +1,6 @@
 #![tactic(auto)]
 
-//! The suite's program: `mkv_run` over the files and the output of the system.
+//! The program of the suite: `mkv_run` over the files, the disk and the standard output of the system.
 
 use mkv_host::{RealDisk, RealFiles, RealReport};
 use mkv_run::{program, words_of};
