@@ -8,7 +8,7 @@ use mkv_io::{Failed, FileId, Files, MakeFault, OpenFault, Reads};
 use std::fs;
 use std::test::Fail;
 
-/// Writes octets over those of a file, where it is long enough.
+/// Overwrites bytes of a file, if it is long enough.
 fn overwrite<F: Files>(files: &mut F, file: FileId, at: u64, bytes: &[u8; 1]) -> Result<(), Failed>
     requires { IsLive F.Reads files.old file }
     ensures { IsLive F.Reads files.new file }
@@ -19,7 +19,7 @@ fn overwrite<F: Files>(files: &mut F, file: FileId, at: u64, bytes: &[u8; 1]) ->
     files.overwrite(file, at, bytes)
 }
 
-/// Reads octets of a file, where it is long enough.
+/// Reads bytes of a file, if it is long enough.
 fn read<F: Files>(files: &mut F, file: FileId, at: u64, into: &mut [u8]) -> Result<(), Failed>
     requires { IsLive F.Reads files.old file }
     ensures { IsLive F.Reads files.new file }
@@ -31,7 +31,7 @@ fn read<F: Files>(files: &mut F, file: FileId, at: u64, into: &mut [u8]) -> Resu
     files.read_at(file, at, into)
 }
 
-/// Cuts a file that is open. Answers whether it then can't be read and written as before.
+/// Cuts the open file `name`, and returns whether it then can't be read and written as before.
 fn fails_where_cut<F: Files>(
     rt: &HostRuntime,
     files: &mut F,
@@ -57,7 +57,8 @@ fn a_file_that_another_cuts_fails(rt: HostRuntime) -> Result<(), Fail> {
     Ok(())
 }
 
-/// Makes a file, and reads octets of it while it is open. Answers them, with its length before and behind what is appended.
+/// Makes a file, and reads bytes of it while it is open. Returns the bytes, with its length before and after an
+/// append.
 fn make_and_read<F: Files>(files: &mut F, name: &str) -> Result<([u8; 4], u64, u64), MakeFault> {
     let made = files.create(name)?;
     let before = files.size(made);

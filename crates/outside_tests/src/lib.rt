@@ -1,6 +1,7 @@
 #![tactic(auto)]
 
-//! The system's files and its output, and the objects in memory: what no clause says of them. Tests alone.
+//! Tests of the system's files and its standard output, and of the objects in memory: behaviour that no clause
+//! describes.
 
 #[cfg(test)]
 mod disks;

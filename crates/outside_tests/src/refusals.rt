@@ -1,9 +1,9 @@
-//! The names of refusals, which their `Display` writes.
+//! The names of refusals, which `Display` writes.
 
 use std::test::Fail;
 use word_values::{ArgsEnd, Usage, Why};
 
-/// Whether an end is told by this name.
+/// Checks whether `Display` writes `end` as `name`.
 fn is_told(rt: &HostRuntime, end: &ArgsEnd, name: &str) -> Result<bool, Fail> {
     let told = format!(in rt.alloc(); "{end}")?;
     Ok(told.as_str() == name)

@@ -1,4 +1,4 @@
-//! A report in memory whose room is spent, and the report of the system.
+//! A report in memory without room, and the report of the system.
 
 use mkv_host::RealReport;
 use mkv_io::{Failed, Report};
@@ -8,8 +8,8 @@ use std::io;
 use std::io::Print;
 use std::test::Fail;
 
-/// Lines that are said one after the other to a report of two lines and seven octets whose call 1 fails, and whether
-/// each is taken.
+/// Lines that are printed in sequence to a report with room for two lines and seven bytes whose call 1 fails, and
+/// whether each is taken.
 const SAID: [(&str, bool); 6] = [
     ("año", true),
     ("b", false),
@@ -19,7 +19,7 @@ const SAID: [(&str, bool); 6] = [
     ("c", false),
 ];
 
-/// Whether a report takes the lines that it has to take.
+/// Checks whether a report takes exactly the lines that it must take.
 fn takes_lines(report: &mut MemReport) -> bool {
     let mut takes = true;
     for (line, taken) in SAID {
@@ -38,7 +38,7 @@ fn a_report_fails_where_it_is_to_and_where_its_room_is_spent(rt: HostRuntime) ->
     Ok(())
 }
 
-/// An output of which every line fails.
+/// Output that fails on every line.
 struct Closed;
 
 impl Print for Closed {

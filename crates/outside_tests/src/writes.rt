@@ -1,11 +1,11 @@
-//! Octets that a file takes in parts.
+//! Bytes that a file takes in parts.
 
 use mkv_host::{WriteAt, write_from};
 use std::cmp::min;
 use std::io;
 use std::io::ErrorKind;
 
-/// A file that takes three octets at once, is interrupted at every second call, and has little room.
+/// File that takes three bytes a call, is interrupted at every second call, and has little room.
 #[derive(Drop)]
 struct Slow {
     kept: Vec<u8>,
@@ -45,7 +45,7 @@ fn a_short_write_goes_on(rt: HostRuntime) {
     assert_eq!(rt; write_from(&mut file, 0, b"Matroska"), 8);
     assert_eq!(rt; file.kept.as_slice(), b"Matroska".as_slice());
 
-    // It fails when five more were written; then there is room, and the next ones stand behind these.
+    // The write fails after five more bytes; then there is room, and the next bytes follow.
     assert_eq!(rt; write_from(&mut file, 8, b" and WebM"), 5);
     assert_eq!(rt; file.kept.as_slice(), b"Matroska and ".as_slice());
     assert_eq!(rt; write_from(&mut file, 13, b"WebM"), 0);

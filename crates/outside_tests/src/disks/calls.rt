@@ -1,4 +1,4 @@
-//! Calls of a disk whose two files are open. They fail where a file is too short for them.
+//! Calls of a disk whose two files are open. They fail if a file is too short for them.
 
 ghost use Rattle.std.specs.Prelude.{◌<◌, OnOk};
 ghost use Rattle.mkv_io.specs.Sources.{IsLive};
@@ -8,7 +8,7 @@ use mkv_io::{Failed, FileId, Reads};
 use std::alloc::Global;
 use std::test::Fail;
 
-/// Opens a medium and its sidecar.
+/// Opens the film `name` and its journal.
 pub fn open<D: Disk>(disk: &mut D, name: &str) -> Result<(), &'static str>
     ensures { OnOk result ((IsLive D.Reads disk.new MEDIA) × (IsLive D.Reads disk.new SIDECAR)) }
 {
@@ -18,7 +18,7 @@ pub fn open<D: Disk>(disk: &mut D, name: &str) -> Result<(), &'static str>
     }
 }
 
-/// Writes octets from a place of a file on.
+/// Writes `bytes` at offset `at` of a file.
 pub fn write<D: Disk>(disk: &mut D, file: FileId, at: u64, bytes: &[u8]) -> Result<(), Failed>
     requires file { file.n < 2 }
     requires live { (IsLive D.Reads disk.old MEDIA) × (IsLive D.Reads disk.old SIDECAR) }
@@ -30,7 +30,7 @@ pub fn write<D: Disk>(disk: &mut D, file: FileId, at: u64, bytes: &[u8]) -> Resu
     disk.write_at(file, at, bytes)
 }
 
-/// Cuts a file to its first octets, so many of them.
+/// Cuts a file to its first `len` bytes.
 pub fn cut<D: Disk>(disk: &mut D, file: FileId, len: u64) -> Result<(), Failed>
     requires file { file.n < 2 }
     requires live { (IsLive D.Reads disk.old MEDIA) × (IsLive D.Reads disk.old SIDECAR) }
@@ -42,7 +42,7 @@ pub fn cut<D: Disk>(disk: &mut D, file: FileId, len: u64) -> Result<(), Failed>
     disk.cut(file, len)
 }
 
-/// Makes sure of what is read of a file.
+/// Syncs a file.
 pub fn sync<D: Disk>(disk: &mut D, file: FileId) -> Result<(), Failed>
     requires file { file.n < 2 }
     requires live { (IsLive D.Reads disk.old MEDIA) × (IsLive D.Reads disk.old SIDECAR) }
@@ -51,7 +51,7 @@ pub fn sync<D: Disk>(disk: &mut D, file: FileId) -> Result<(), Failed>
     disk.sync(file)
 }
 
-/// Reads octets from a place of a file on.
+/// Reads bytes at offset `at` of a file.
 pub fn read<D: Disk>(disk: &mut D, file: FileId, at: u64, into: &mut [u8]) -> Result<(), Failed>
     requires file { file.n < 2 }
     requires live { (IsLive D.Reads disk.old MEDIA) × (IsLive D.Reads disk.old SIDECAR) }
@@ -64,7 +64,7 @@ pub fn read<D: Disk>(disk: &mut D, file: FileId, at: u64, into: &mut [u8]) -> Re
     disk.read_at(file, at, into)
 }
 
-/// Reads a whole file.
+/// Reads all bytes of a file.
 pub fn octets<D: Disk>(alloc: Global, disk: &mut D, file: FileId) -> Result<Vec<u8>, Fail>
     requires file { file.n < 2 }
     requires live { (IsLive D.Reads disk.old MEDIA) × (IsLive D.Reads disk.old SIDECAR) }

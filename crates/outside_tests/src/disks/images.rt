@@ -1,4 +1,4 @@
-//! What a crash leaves of a disk in memory, and which of its calls fail.
+//! The images that a crash leaves of a disk in memory, and its failing calls.
 
 ghost use Rattle.std.specs.Prelude.{◌<◌};
 ghost use Rattle.mkv_io.specs.Sources.{IsLive};
@@ -10,7 +10,7 @@ use mkv_memory::MemDisk;
 use std::alloc::Global;
 use std::test::Fail;
 
-/// What is read of a file of a disk, which is opened.
+/// Opens a disk, and returns the bytes of one of its files.
 fn opened_octets<D: Disk>(alloc: Global, disk: &mut D, file: FileId) -> Result<Vec<u8>, Fail>
     requires { file.n < 2 }
 {
@@ -18,7 +18,7 @@ fn opened_octets<D: Disk>(alloc: Global, disk: &mut D, file: FileId) -> Result<V
     octets(alloc, disk, file)
 }
 
-/// Whether a file of a disk reads as these octets, by a copy of what is read of it.
+/// Checks whether a file of `disk` has the bytes `due`, on a copy of the disk.
 fn reads(alloc: Global, disk: &MemDisk, file: FileId, due: &[u8]) -> Result<bool, Fail>
     requires { file.n < 2 }
 {
@@ -27,7 +27,7 @@ fn reads(alloc: Global, disk: &MemDisk, file: FileId, due: &[u8]) -> Result<bool
     Ok(found.as_slice() == due)
 }
 
-/// Writes to both files, and makes sure of the sidecar's first write alone.
+/// Writes to both files, and syncs only the journal's first write.
 fn write_both<D: Disk>(disk: &mut D) -> Result<(), Failed>
     requires { (IsLive D.Reads disk.old MEDIA) × (IsLive D.Reads disk.old SIDECAR) }
 {
@@ -39,7 +39,7 @@ fn write_both<D: Disk>(disk: &mut D) -> Result<(), Failed>
     write(disk, SIDECAR, 1, b"345")
 }
 
-/// Whether a crash leaves these files by a pick.
+/// Checks whether a crash with the choice `pick` leaves the bytes `media` and `sidecar`.
 fn leaves(
     alloc: Global,
     disk: &MemDisk,
@@ -51,7 +51,7 @@ fn leaves(
     Ok(reads(alloc, &left, MEDIA, media)? && reads(alloc, &left, SIDECAR, sidecar)?)
 }
 
-/// The first pick by which a crash doesn't leave the files of a row.
+/// Returns the first choice with which a crash doesn't leave the files in its row of `images`.
 fn first_other(
     alloc: Global,
     disk: &MemDisk,
@@ -82,8 +82,8 @@ fn a_crash_leaves_the_image_that_is_picked(rt: HostRuntime) -> Result<(), Fail> 
     Ok(())
 }
 
-/// Whether calls of a disk on `abc` fail, of which call 1 is to fail and which has room for two calls and four octets:
-/// the second, one of more octets, and a third.
+/// Checks whether calls of a disk with the film `abc` fail exactly as they must. Call 1, the first write, must fail.
+/// The disk has room for two calls and four bytes: the write of five bytes must fail, and so must the last call.
 fn fail_where_due<D: Disk>(disk: &mut D) -> bool
     requires { (IsLive D.Reads disk.old MEDIA) × (IsLive D.Reads disk.old SIDECAR) }
 {

@@ -1,4 +1,4 @@
-//! A file of the system and its sidecar.
+//! A film of the system and its journal.
 
 ghost use Rattle.mkv_io.specs.Sources.{IsLive};
 
@@ -10,7 +10,7 @@ use mkv_io::{Failed, Reads};
 use std::test::Fail;
 use std::{fs, io};
 
-/// Writes `Matroska` over a medium of `Matrojka`, by a write that is longer and a cut, and `beside` to its sidecar.
+/// Writes `Matroska` over a film of `Matrojka`, by a longer write and a cut, and `beside` to its journal.
 fn write_pair<D: Disk>(disk: &mut D) -> Result<(), Failed>
     requires { (IsLive D.Reads disk.old MEDIA) × (IsLive D.Reads disk.old SIDECAR) }
     ensures { (IsLive D.Reads disk.new MEDIA) × (IsLive D.Reads disk.new SIDECAR) }
@@ -22,7 +22,7 @@ fn write_pair<D: Disk>(disk: &mut D) -> Result<(), Failed>
     sync(disk, SIDECAR)
 }
 
-/// Whether the sidecar reads so from its third octet on.
+/// Checks whether the journal has `side` from its third byte on.
 fn reads_side<D: Disk>(disk: &mut D) -> bool
     requires { (IsLive D.Reads disk.old MEDIA) × (IsLive D.Reads disk.old SIDECAR) }
     ensures { (IsLive D.Reads disk.new MEDIA) × (IsLive D.Reads disk.new SIDECAR) }
@@ -32,7 +32,7 @@ fn reads_side<D: Disk>(disk: &mut D) -> bool
     is_read && octets == *b"side"
 }
 
-/// A file without a sidecar.
+/// Makes a film without a journal.
 fn lay_pair(rt: &HostRuntime) -> io::Result<()> {
     fresh_folder(rt, "disk_test_pair")?;
     fs::write(rt, "disk_test_pair/a.mkv", b"Matrojka".as_slice())
