@@ -1,4 +1,4 @@
-//! The most blocks of a Cluster, and the longest block.
+//! The largest number of blocks of a Cluster, and the longest block.
 
 ghost use Rattle.std.specs.Prelude.{◌<◌};
 ghost use Rattle.output_model.specs.OutputBlock.{IsLent};
@@ -8,14 +8,14 @@ use cluster_writer::{BlockRef, ClusterBuf, ClusterLimits, Lace, OutHead};
 use std::alloc::AllocError;
 use std::test::Fail;
 
-/// The limits of a merge that sets none, at milliseconds.
+/// Limits of Clusters in a merge without options, with ticks of 1 ms.
 const MILLISECONDS: ClusterLimits = ClusterLimits {
     blocks: 65_535,
     span: 5_000_000_000,
     scale: 1_000_000,
 };
 
-/// A SimpleBlock that can be decoded alone.
+/// Head of a SimpleBlock that is a keyframe.
 const SIMPLE: OutHead = OutHead {
     tick: 0,
     order: 0,
@@ -27,12 +27,12 @@ const SIMPLE: OutHead = OutHead {
     lace: Lace::None,
 };
 
-/// Where a Cluster begins with a block of 32 MiB of lane 64: sizes of four octets, of a Cluster's body of 33,554,444 and a
-/// block's of 33,554,436.
+/// First bytes of a Cluster whose only block is of output track 64 and has a frame of 32 MiB. The sizes have four
+/// bytes: 33,554,444 for the body of the Cluster, and 33,554,436 for the body of the block.
 const LONGEST: &[u8] =
     b"\x1F\x43\xB6\x75\x12\x00\x00\x0C\xE7\x81\x00\xA3\x12\x00\x00\x04\xC0\x00\x00\x80\x55";
 
-/// Puts a block where it fits, and tells where it stands in the Cluster.
+/// Appends a block to the Cluster if it fits, and returns its offset in the Cluster, or None.
 fn put(buf: &mut ClusterBuf, block: &BlockRef<'_>) -> Result<Option<u64>, AllocError>
     requires lent { IsLent (lent_of block.now) }
     requires lane { block.now.lane < 128 }
@@ -45,7 +45,7 @@ fn put(buf: &mut ClusterBuf, block: &BlockRef<'_>) -> Result<Option<u64>, AllocE
     Ok(Some(buf.put_block(block)))
 }
 
-/// Puts a SimpleBlock of lane 1 with one frame of one octet.
+/// Appends a SimpleBlock of output track 1 with one frame of one byte.
 fn put_one(buf: &mut ClusterBuf) -> Result<Option<u64>, AllocError> {
     put(
         buf,
@@ -70,7 +70,7 @@ fn a_cluster_has_at_most_so_many_blocks(rt: HostRuntime) -> Result<(), Fail> {
     }
     assert_eq!(rt; put_one(&mut buf)?, None);
 
-    // 3 octets of the Timestamp, and 7 of each block
+    // 3 bytes of the Timestamp, and 7 of each block
     assert_eq!(rt; buf.octets().len(), 7 + 3 + 7 * 65_535);
     Ok(())
 }

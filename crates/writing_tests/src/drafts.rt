@@ -1,4 +1,4 @@
-//! What stands of an output in memory where a call fails.
+//! The bytes of an output in memory after a call that fails.
 
 ghost use Rattle.std.specs.Prelude.{◌≡◌, [], All, codes, OnOk, IfOk};
 ghost use Rattle.mkv_io.specs.Sources.{IsLive};
@@ -16,18 +16,18 @@ use output_model::Front;
 use std::alloc::Global;
 use std::test::Fail;
 
-/// An Info of scale 1,000,000, made by `mkvsuite 1`.
+/// Body of an Info with the TimestampScale 1,000,000, made by `mkvsuite 1`.
 const INFO_BODY: &[u8] =
     b"\x2A\xD7\xB1\x83\x0F\x42\x40\x4D\x80\x8Amkvsuite 1\x57\x41\x8Amkvsuite 1";
 
-/// One track of Opus.
+/// Body of a Tracks with one Opus track.
 const TRACKS_BODY: &[u8] = b"\xAE\x92\xD7\x81\x01\x73\xC5\x81\x05\x83\x81\x02\x86\x86A_OPUS";
 
-/// Two blocks of one octet, at 0 and 20 ms.
+/// Cluster with two blocks of one byte, at 0 and 20 ms.
 const CLUSTER: &[u8] =
     b"\x1F\x43\xB6\x75\x91\xE7\x81\x00\xA3\x85\x81\x00\x00\x80\xAA\xA3\x85\x81\x00\x14\x80\xBB";
 
-/// A master of an ID, as a tree.
+/// Returns the master with the ID `id` and the body `body` as a tree.
 fn tree(alloc: Global, id: u32, body: &[u8]) -> Result<Tree, Fail>
     ensures { IfOk result (λ tree. IsMaster tree × (id_of tree ≡ id)) }
 {
@@ -40,7 +40,7 @@ fn tree(alloc: Global, id: u32, body: &[u8]) -> Result<Tree, Fail>
     }
 }
 
-/// What stands in front of the Clusters of a small output.
+/// Returns the part of a small output before its Clusters.
 fn small_front(alloc: Global) -> Result<Front, Fail>
     ensures info { IfOk result (λ front. id_of front.info ≡ INFO_ID) }
     ensures tracks { IfOk result (λ front. id_of front.tracks ≡ TRACKS_ID) }
@@ -68,7 +68,7 @@ fn write_output<F: Files>(alloc: Global, files: &mut F, front: &Front) -> Result
     out.finish(files, None, None)
 }
 
-/// Adds the point and the Cluster.
+/// Adds the cue point and the Cluster.
 fn fill<F: Files>(files: &mut F, out: &mut OutFile) -> Result<(), OutEnd>
     requires { IsOpen F.Reads files.old out.old }
     ensures open { OnOk result (IsOpen F.Reads files.new out.new) }
@@ -78,7 +78,7 @@ fn fill<F: Files>(files: &mut F, out: &mut OutFile) -> Result<(), OutEnd>
     out.cluster(files, CLUSTER)
 }
 
-/// What came of an output, and its octets then.
+/// Result of writing an output, and the files after it.
 #[derive(Drop)]
 struct Left {
     ended: Result<u64, OutEnd>,
@@ -86,12 +86,13 @@ struct Left {
 }
 
 impl Left {
-    /// None where it wasn't made.
+    /// Returns the bytes of the output; none if it wasn't made.
     fn octets(&self) -> &[u8] {
         self.files.bytes("out.mkv").unwrap_or(&[])
     }
 
-    /// Whether it has a first part of the octets of a whole one, but for its size and its SeekHead, which are written last.
+    /// Checks whether the output has a first part of the bytes `whole`, except for the Segment's size and the
+    /// SeekHead, which are written last.
     fn is_draft_of(&self, whole: &[u8]) -> bool {
         for (k, octet) in self.octets().iter().enumerate() {
             if !(44..308).contains(&k) && whole.get(k) != Some(octet) {
@@ -102,7 +103,7 @@ impl Left {
     }
 }
 
-/// What is left where a call fails, which appends so many octets at most.
+/// Writes an output while the call with the number `call` fails; if that appends, it keeps at most `kept` bytes.
 fn left_by(alloc: Global, call: u64, kept: u64) -> Result<Left, Fail> {
     let front = small_front(alloc)?;
     let mut files = MemFiles::new(alloc)?;

@@ -1,4 +1,4 @@
-//! A merge goes on behind a call of the files that fails.
+//! A merge goes on after a call of the files that fails.
 
 ghost use Rattle.std.specs.Prelude.{◌≡◌};
 ghost use Rattle.mkv_memory.specs.FilesIn.{seen};
@@ -13,8 +13,8 @@ use mkv_memory::MemFiles;
 use std::alloc::{AllocError, Global};
 use std::test::Fail;
 
-/// The first lane has the damaged file and then the small one, 20 ticks later; the second has the small one, 10 ticks
-/// earlier.
+/// Blocks of the merge. The first output track has the damaged file and then the small one, 20 ticks later. The
+/// second has the small one, 10 ticks earlier.
 const BLOCKS: [Given; 5] = [
     (0, 0, 70_000, Some(0)),
     (1, 10, 1, Some(0xBB)),
@@ -23,7 +23,7 @@ const BLOCKS: [Given; 5] = [
     (0, 40, 1, Some(0xBB)),
 ];
 
-/// The block that is cut short.
+/// Damage of the block that is cut short.
 const SHORT: LinkDamage = LinkDamage {
     link: 0,
     damage: Damage {
@@ -33,14 +33,14 @@ const SHORT: LinkDamage = LinkDamage {
     },
 };
 
-/// Lets a call fail; the files stay as they are.
+/// Makes the call with the number `call` fail; the files are unchanged.
 fn let_fail(files: &mut MemFiles, call: u64) -> Result<(), AllocError>
     ensures { (seen files.new).stored ≡ (seen files.old).stored }
 {
     files.fail_at(call, 0)
 }
 
-/// What the merge gives where a call fails.
+/// Returns the blocks of the merge while the call with the number `call` fails.
 fn told_behind(alloc: Global, call: u64) -> Result<Told, Fail> {
     let first = damaged(alloc)?;
     let mut files = files_of(alloc, [first.as_slice(), SMALL])?;

@@ -1,7 +1,6 @@
 #![tactic(auto)]
 
-//! What a merge gives and what stands of an output where a call of the files fails, the most blocks of a Cluster, and the
-//! longest block: tests alone.
+//! Tests of merges and outputs when a call of the files fails, and of the largest Clusters and blocks.
 
 #[cfg(test)]
 mod clusters;

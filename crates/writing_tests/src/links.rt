@@ -1,4 +1,4 @@
-//! Lanes over files that are open.
+//! Output tracks over open files.
 
 ghost use Rattle.std.specs.Prelude.{◌≡◌, ◌≤◌, length, IfOk};
 ghost use Rattle.std.specs.List.{All};
@@ -17,13 +17,13 @@ use std::rc::Rc;
 use std::test::Fail;
 use time_merge::Merge;
 
-/// Nanoseconds for a tick of every file and of the output.
+/// Nanoseconds of a tick, in every file and in the output.
 const SCALE: u64 = 1_000_000;
 
-/// Track 1 of a file in a lane. Times are in ticks.
+/// Track 1 of a file as a part of an output track. Times are in ticks.
 #[derive(Clone, Copy)]
 struct Taken {
-    /// The number of the file, from 0.
+    /// Index of the file.
     file: usize,
     delay: i32,
     shift: u32,
@@ -35,21 +35,21 @@ const FIRST: Taken = Taken {
     shift: 0,
 };
 
-/// The second file 20 ticks later.
+/// Second file, 20 ticks later.
 const SECOND: Taken = Taken {
     file: 1,
     delay: 0,
     shift: 20,
 };
 
-/// The same 10 ticks earlier, of which a block before the start is dropped.
+/// Second file, 10 ticks earlier: a block before time 0 is dropped.
 const EARLY: Taken = Taken {
     file: 1,
     delay: -10,
     shift: 0,
 };
 
-/// The link to the track of one of these files.
+/// Returns the link to the track `taken` of one of `files`.
 fn link_of<R: Reads>(
     alloc: Global,
     src: &mut R,
@@ -76,7 +76,7 @@ fn link_of<R: Reads>(
     }))
 }
 
-/// A lane of these tracks, one after the other.
+/// Returns an output track of `tracks` in sequence.
 fn lane_of<R: Reads>(
     alloc: Global,
     src: &mut R,
@@ -95,7 +95,7 @@ fn lane_of<R: Reads>(
     Ok(Lane::start(alloc, LaneSpec { links }, SCALE)?)
 }
 
-/// The merge of two lanes: the first file with the second one behind it, and the second one.
+/// Returns the merge of two output tracks: the first file followed by the second, and the second file.
 pub fn merge_of<R: Reads>(alloc: Global, src: &mut R, files: &[FileId]) -> Result<Merge, Fail>
     requires { All (λ file. IsLive R.Reads src.old file) files.now }
     ensures { IfOk result (merges.IsReady (live_files R.Reads src.new)) }

@@ -1,4 +1,4 @@
-//! Files in memory, and those of them that are open.
+//! Files in memory, opened.
 
 ghost use Rattle.std.specs.Prelude.{IfOk};
 ghost use Rattle.std.specs.List.{All};
@@ -9,10 +9,10 @@ use mkv_memory::MemFiles;
 use std::alloc::Global;
 use std::test::Fail;
 
-/// The names of two files.
+/// Names of the two files.
 const NAMES: [&str; 2] = ["a.mkv", "b.mkv"];
 
-/// Two files with these contents.
+/// Makes two files with the bytes `contents`.
 pub fn files_of(alloc: Global, contents: [&[u8]; 2]) -> Result<MemFiles, Fail> {
     let mut files = MemFiles::new(alloc)?;
     for (name, content) in NAMES.iter().zip(contents) {
@@ -24,7 +24,7 @@ pub fn files_of(alloc: Global, contents: [&[u8]; 2]) -> Result<MemFiles, Fail> {
     Ok(files)
 }
 
-/// Opens both.
+/// Opens both files.
 pub fn open_both<F: Files>(alloc: Global, files: &mut F) -> Result<Vec<FileId>, Fail>
     ensures { IfOk result (λ opened. All (λ file. IsLive F.Reads files.new file) opened.items) }
 {

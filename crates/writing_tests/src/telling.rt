@@ -1,4 +1,4 @@
-//! What a merge gives.
+//! The blocks of a merge.
 
 ghost use Rattle.mkv_io.specs.Sources.{live_files};
 ghost use Rattle.time_merge.specs.Merge.{IsReady};
@@ -8,10 +8,10 @@ use mkv_io::Reads;
 use std::alloc::{AllocError, Global};
 use time_merge::Merge;
 
-/// A block: its lane from 0, its tick, how many octets its frames have, and the last of them.
+/// Block: index of its output track, its tick, the number of bytes of its frames, and the last byte.
 pub type Given = (usize, u64, usize, Option<u8>);
 
-/// The blocks of a merge, the first damage of the lane that gives the last one, and how many calls failed on the way.
+/// Blocks of a merge, the first damage of the output track of the last block, and the number of failed calls.
 #[derive(Drop)]
 pub struct Told {
     pub blocks: Vec<Given>,
@@ -19,13 +19,13 @@ pub struct Told {
     pub faults: u64,
 }
 
-/// The block that a lane of this number lends.
+/// Returns the current block of `lane`, the output track with the index `k`.
 fn given(k: usize, lane: &Lane) -> Given {
     let body = lane.lent().body;
     (k, lane.head().tick, body.len(), body.last().copied())
 }
 
-/// The blocks of a merge. After a call that fails it goes on.
+/// Returns the blocks of a merge, which goes on after a call that fails.
 pub fn tell_merge<R: Reads>(
     alloc: Global,
     merge: &mut Merge,
