@@ -1,4 +1,4 @@
-//! Attached files.
+//! Cases of attached files.
 
 ghost use Rattle.mkv_io.specs.Sources.{IsLive};
 
@@ -13,10 +13,10 @@ use output_model::Attachment;
 use std::alloc::{AllocError, Global};
 use std::fmt::Write;
 
-/// The octets of the header of an Attachments Element of fewer than 127 octets.
+/// Number of bytes of the header of an Attachments Element of fewer than 127 bytes.
 const HEADER: u64 = 5;
 
-/// Adds the attached files of an Attachments Element that is all of a file.
+/// Appends to `text` the attached files of `file`, which is one Attachments Element.
 pub fn tell<R: Reads>(
     alloc: Global,
     src: &mut R,
@@ -57,7 +57,7 @@ fn tell_all(
     Ok(())
 }
 
-/// Adds an attached file, with the octets that its entry is written in.
+/// Appends an attached file, with the bytes of its AttachedFile as it is written.
 fn tell_attached(
     alloc: Global,
     attachment: &Attachment,

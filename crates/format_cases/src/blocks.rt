@@ -1,4 +1,4 @@
-//! What a cursor gives of the blocks of a file.
+//! Cases of the blocks of a file, as a cursor reads them.
 
 ghost use Rattle.mkv_io.specs.Sources.{IsLive, live_files};
 ghost use Rattle.cluster_reader.specs.Reading.{CanRead};
@@ -12,7 +12,7 @@ use std::fmt::Write;
 /// Nanoseconds of a tick.
 const SCALE: u64 = 1_000_000;
 
-/// Adds what a cursor gives of a file up to the end, a line for each call; the end is told twice.
+/// Appends to `text` what a cursor returns for `file`, a line for each call. At the end it calls once more.
 pub fn tell<R: Reads>(
     alloc: Global,
     src: &mut R,
@@ -65,7 +65,7 @@ fn tell_step(
     }
 }
 
-/// Adds a damage, and whether it ends what is read.
+/// Appends the damage, and whether reading stops at it.
 fn tell_damaged(damage: Damage, stopped: bool, text: &mut String) -> Result<(), AllocError> {
     let kind = damage.kind;
     let id = damage.id;
@@ -98,7 +98,7 @@ fn tell_flag(flag: bool, word: &str, text: &mut String) -> Result<(), AllocError
     if flag { text.push_str(word) } else { Ok(()) }
 }
 
-/// Adds how a block is laced, the sizes of its frames, and their octets where they are few.
+/// Appends the lacing of a block, the sizes of its frames, and their bytes if there are at most 16.
 fn tell_frames(cursor: &Cursor, text: &mut String) -> Result<(), AllocError> {
     let lace = cursor.head().lace;
     let sizes = cursor.sizes();
@@ -110,7 +110,7 @@ fn tell_frames(cursor: &Cursor, text: &mut String) -> Result<(), AllocError> {
     write!(text, " {body:?}")
 }
 
-/// Adds what else a group has.
+/// Appends the other children of a BlockGroup.
 fn tell_rest(cursor: &Cursor, text: &mut String) -> Result<(), AllocError> {
     if let Some(duration) = cursor.head().duration {
         write!(text, " for {duration}")?;

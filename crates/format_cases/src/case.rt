@@ -1,20 +1,20 @@
-//! A case, as a line spells it.
+//! A case, read from a line.
 
 use std::alloc::{AllocError, Global};
 
-/// What a call is asked.
+/// Arguments of a call.
 #[derive(Drop)]
 pub struct Case {
-    /// An ID, or 0.
+    /// ID, or 0.
     pub id: u32,
-    /// A number, or 0.
+    /// Number, or 0.
     pub number: u64,
     pub octets: Vec<u8>,
 }
 
 impl Case {
-    /// The case that a line spells: behind the word an ID in hexadecimal digits, a number, and octets. Of a repeated
-    /// word, as `A3B4*3`, the octets stand so many times.
+    /// Reads the case in `line`: a word, an ID in hexadecimal digits, a number, and bytes. The bytes of a word such
+    /// as `A3B4*3` are repeated three times.
     pub fn read(alloc: Global, line: &str) -> Result<Case, AllocError> {
         let mut words = line.split_whitespace().skip(1);
         let id = id_of(words.next());
@@ -27,7 +27,7 @@ impl Case {
     }
 }
 
-/// The word for the call.
+/// Returns the word that names the call.
 pub fn word_of(line: &str) -> &str {
     line.split_whitespace().next().unwrap_or("")
 }
@@ -46,7 +46,7 @@ fn number_of(word: Option<&str>) -> u64 {
     }
 }
 
-/// Adds the octets of a word, none where it spells none.
+/// Appends the bytes that `word` spells, or none if it isn't hexadecimal.
 fn add_word(alloc: Global, word: &str, octets: &mut Vec<u8>) -> Result<(), AllocError> {
     let (digits, times) = repeated(word);
     match hex::decode(alloc, digits) {
@@ -55,7 +55,7 @@ fn add_word(alloc: Global, word: &str, octets: &mut Vec<u8>) -> Result<(), Alloc
     }
 }
 
-/// A word's digits, and how many times they stand.
+/// Returns the digits of `word`, and how often their bytes are repeated.
 fn repeated(word: &str) -> (&str, u32) {
     match word.split_once('*') {
         Some((digits, times)) => (digits, times.parse().unwrap_or(0)),

@@ -1,4 +1,4 @@
-//! Why something isn't read, by name.
+//! The names of the reasons why something isn't read.
 
 use ebml_tree::TreeEnd;
 use element_reader::{LoadEnd, OutlineEnd};
@@ -12,7 +12,7 @@ const DAMAGE: Damage = Damage {
     offset: 21,
 };
 
-/// Adds the names of the ends of a tree, of an Element that is loaded, and of an outline.
+/// Appends the names of the errors of reading a tree, of loading an Element, and of reading an outline.
 pub fn tell_ends(text: &mut String) -> Result<(), AllocError> {
     tell_tree_ends(text)?;
     tell_load_ends(text)?;

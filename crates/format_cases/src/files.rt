@@ -1,4 +1,4 @@
-//! A file in memory with the octets of a case.
+//! Cases of a file in memory with given bytes.
 
 ghost use Rattle.std.specs.Prelude.{◌≡◌};
 ghost use Rattle.mkv_io.specs.Sources.{IsLive};
@@ -9,7 +9,7 @@ use mkv_io::{FileId, Files, LONGEST_FILE, Reads};
 use mkv_memory::MemFiles;
 use std::alloc::{AllocError, Global};
 
-/// Files, of which `a.mkv` has these octets, and the call of this number fails; no call where that is 0.
+/// Makes a file `a.mkv` with the bytes `octets`. If `failing` isn't 0, the call of the files with this number fails.
 fn files_of(alloc: Global, octets: &[u8], failing: u64) -> Result<MemFiles, AllocError> {
     let mut files = MemFiles::new(alloc)?;
     if octets.len() as u64 <= LONGEST_FILE {
@@ -21,8 +21,8 @@ fn files_of(alloc: Global, octets: &[u8], failing: u64) -> Result<MemFiles, Allo
     Ok(files)
 }
 
-/// Adds what is told of the file of a case. Of the calls of files, which are counted from 0, that of the case's number
-/// fails; none does where that is 0.
+/// Appends the result of a case of a file. If the case's number isn't 0, the call of the files with this number
+/// fails; calls are counted from 0.
 pub fn tell_file(
     alloc: Global,
     word: &str,

@@ -1,4 +1,4 @@
-//! The Elements of level 1 of a file.
+//! Cases of the top-level Elements of a file.
 
 ghost use Rattle.mkv_io.specs.Sources.{IsLive, live_files};
 ghost use Rattle.element_reader.specs.LevelOne.{CanRead};
@@ -8,7 +8,7 @@ use mkv_io::{Failed, FileId, Reads};
 use std::alloc::{AllocError, Global};
 use std::fmt::Write;
 
-/// Adds the Elements of level 1 up to the end, a line for each call; the end is told twice.
+/// Appends to `text` the top-level Elements of `file`, a line for each call. At the end it calls once more.
 pub fn tell<R: Reads>(
     alloc: Global,
     src: &mut R,

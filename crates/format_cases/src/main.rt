@@ -1,7 +1,7 @@
 #![tactic(auto)]
 
-//! Says what comes of cases with octets from outside. A line has a case: a word for a call, an ID, a number and
-//! octets, each `-` where the call takes none; what comes of it is said behind the line. Other lines are said again.
+//! Prints the results of cases from standard input. A line has a case: a word for a call, an ID, a number and bytes,
+//! each `-` if the call takes none. Each line is printed, and the result of a case follows its line.
 
 use mkv_io::Damage;
 use std::alloc::{AllocError, Global};
@@ -20,7 +20,7 @@ mod trees;
 
 use case::Case;
 
-/// Adds what is wrong, with the ID and the place of it.
+/// Appends a damage: its kind, ID and offset.
 fn tell_damage(damage: Damage, text: &mut String) -> Result<(), AllocError> {
     let kind = damage.kind;
     let id = damage.id;
@@ -28,7 +28,7 @@ fn tell_damage(damage: Damage, text: &mut String) -> Result<(), AllocError> {
     write!(text, "  {kind:?} {id:X} {offset}\n")
 }
 
-/// Adds octets, each behind a space.
+/// Appends bytes in hexadecimal digits, each after a space.
 fn tell_octets(octets: &[u8], text: &mut String) -> Result<(), AllocError> {
     for octet in octets {
         write!(text, " {octet:02X}")?;
@@ -36,7 +36,7 @@ fn tell_octets(octets: &[u8], text: &mut String) -> Result<(), AllocError> {
     Ok(())
 }
 
-/// Adds what comes of a case, in lines.
+/// Appends the result of a case, in lines.
 fn tell(alloc: Global, word: &str, case: &Case, text: &mut String) -> Result<(), AllocError> {
     match word {
         "element" => numbers::tell_element(case, text),
@@ -53,7 +53,7 @@ fn tell(alloc: Global, word: &str, case: &Case, text: &mut String) -> Result<(),
     }
 }
 
-/// What comes of a line.
+/// Returns the result of the case in `line`.
 fn answer(alloc: Global, line: &str) -> Result<String, AllocError> {
     let mut text = String::new(alloc);
     let case = Case::read(alloc, line)?;

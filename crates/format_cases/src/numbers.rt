@@ -1,4 +1,4 @@
-//! Headers of Elements, and rows of the table.
+//! Cases of headers of Elements, and of rows of the table of Elements.
 
 ghost use Rattle.std.specs.Prelude.{IfOk, IsTrue};
 ghost use Rattle.ebml_numbers.specs.Number.{is_id};
@@ -13,7 +13,7 @@ use mkv_schema::row;
 use std::alloc::AllocError;
 use std::fmt::Write;
 
-/// The ID and the size at the front.
+/// Reads the ID and the size at the beginning of `octets`.
 fn header_of(octets: &[u8]) -> Result<(IdRead, SizeRead), NumFault>
     ensures { IfOk result (λ header. IsTrue (is_id header.0.id)) }
 {
@@ -22,7 +22,7 @@ fn header_of(octets: &[u8]) -> Result<(IdRead, SizeRead), NumFault>
     Ok((id, size))
 }
 
-/// Adds the ID and the size at the front, and how both are written again.
+/// Appends the ID and the size at the beginning of the bytes, each with its bytes as it is written again.
 pub fn tell_element(case: &Case, text: &mut String) -> Result<(), AllocError> {
     match header_of(case.octets.as_slice()) {
         Ok((id, size)) => tell_header(id.id, size.size, text),
@@ -50,7 +50,7 @@ fn tell_size(size: Size, text: &mut String) -> Result<(), AllocError> {
     }
 }
 
-/// Adds the name and the kind of an ID's row.
+/// Appends the ID, name and kind of the row of the case's ID.
 pub fn tell_row(case: &Case, text: &mut String) -> Result<(), AllocError> {
     match row(case.id) {
         Some(row) => write!(text, "  {:X} {} {:?}\n", row.id, row.name, row.kind),

@@ -1,4 +1,4 @@
-//! Infos and tracks, of masters whose header stands at 21, and its body at 26.
+//! Cases of Infos and tracks. The header of each master is at offset 21, its body at 26.
 
 ghost use Rattle.std.specs.Prelude.{IfOk, All};
 ghost use Rattle.mkv_schema.specs.declared.ids.TheConstants.{INFO as INFO_ID};
@@ -17,10 +17,10 @@ use std::alloc::{AllocError, Global};
 use std::fmt::Write;
 use track_records::{Track, read_tracks, usable};
 
-/// The most octets of a body here.
+/// Largest number of bytes of a body in a case.
 const MAX_ITEMS: usize = 1000;
 
-/// The tree of a master of an ID.
+/// Reads the master with the ID `id` and the body `body` as a tree.
 fn master_of(alloc: Global, id: u32, body: &[u8]) -> Result<Tree, TreeEnd>
     ensures { IfOk result (IsSoundOf id) }
 {
@@ -30,7 +30,7 @@ fn master_of(alloc: Global, id: u32, body: &[u8]) -> Result<Tree, TreeEnd>
     Tree::parse(alloc, id, 21, body, 26, 99)
 }
 
-/// Adds the scale of an Info.
+/// Appends the TimestampScale of an Info.
 pub fn tell_info(alloc: Global, case: &Case, text: &mut String) -> Result<(), AllocError> {
     match master_of(alloc, INFO, case.octets.as_slice()) {
         Ok(info) => tell_scale(&info, text),
@@ -47,7 +47,7 @@ fn tell_scale(info: &Tree, text: &mut String) -> Result<(), AllocError>
     }
 }
 
-/// The tracks of a Tracks Element.
+/// Reads the tracks of a Tracks Element with the body `body`.
 fn tracks_of(alloc: Global, body: &[u8]) -> Result<List<Track>, TreeEnd>
     ensures { IfOk result (All (λ track. IsEntry track.entry)) }
 {
@@ -55,7 +55,7 @@ fn tracks_of(alloc: Global, body: &[u8]) -> Result<List<Track>, TreeEnd>
     read_tracks(alloc, &tracks)
 }
 
-/// Adds the tracks of a Tracks Element in words.
+/// Appends the tracks of a Tracks Element, each in a line.
 pub fn tell_tracks(alloc: Global, case: &Case, text: &mut String) -> Result<(), AllocError> {
     match tracks_of(alloc, case.octets.as_slice()) {
         Ok(tracks) => tell_each(tracks.as_slice(), text),
@@ -82,7 +82,7 @@ fn tell_track(track: &Track, text: &mut String) -> Result<(), AllocError> {
     write!(text, " language {language}, {length} octets\n")
 }
 
-/// Adds what is put back in front of the frames of the first track, or why they can't be used.
+/// Appends the bytes to put before each frame of the first track, or the reason why the frames can't be used.
 pub fn tell_usable(alloc: Global, case: &Case, text: &mut String) -> Result<(), AllocError> {
     match tracks_of(alloc, case.octets.as_slice()) {
         Ok(tracks) => tell_first(&tracks, text),

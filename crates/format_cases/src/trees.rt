@@ -1,4 +1,4 @@
-//! Masters that are read as trees.
+//! Cases of masters that are read as trees.
 
 ghost use Rattle.std.specs.Prelude.{IfOk};
 ghost use Rattle.tree_format.specs.Node.{HasRoom, IsMaster};
@@ -12,10 +12,10 @@ use mkv_schema::is_master;
 use std::alloc::{AllocError, Global};
 use std::fmt::Write;
 
-/// The most octets of a body here.
+/// Largest number of bytes of a body in a case.
 const MAX_ITEMS: usize = 1000;
 
-/// The tree of a master whose header stands at 95, and its body at the place `base`.
+/// Reads a master of at most `nodes` Elements, with its header at offset 95 and its body at `base`, as a tree.
 fn master_of(alloc: Global, id: u32, base: u8, body: &[u8], nodes: u32) -> Result<Tree, TreeEnd>
     ensures { IfOk result IsMaster }
 {
@@ -25,7 +25,7 @@ fn master_of(alloc: Global, id: u32, base: u8, body: &[u8], nodes: u32) -> Resul
     Tree::parse(alloc, id, 95, body, u64::from(base), nodes)
 }
 
-/// Adds why a master isn't read.
+/// Appends the reason why a master isn't read.
 pub fn tell_end(end: TreeEnd, text: &mut String) -> Result<(), AllocError> {
     match end {
         TreeEnd::Damage(damage) => tell_damage(damage, text),
@@ -33,7 +33,7 @@ pub fn tell_end(end: TreeEnd, text: &mut String) -> Result<(), AllocError> {
     }
 }
 
-/// Adds what is told of the master of a case, which may have as many Elements as its number says.
+/// Appends the result of a case of a master. The case's number is the largest number of Elements that it may have.
 pub fn tell_master(
     alloc: Global,
     word: &str,
@@ -57,7 +57,7 @@ fn tell_tree(alloc: Global, word: &str, tree: &Tree, text: &mut String) -> Resul
     }
 }
 
-/// Adds how deep a tree is, how many octets its normal form has, and those of a copy.
+/// Appends the depth of a tree, the number of bytes of its normal form, and the bytes of a copy's normal form.
 fn tell_normal_form(alloc: Global, tree: &Tree, text: &mut String) -> Result<(), AllocError> {
     write!(
         text,
@@ -69,7 +69,7 @@ fn tell_normal_form(alloc: Global, tree: &Tree, text: &mut String) -> Result<(),
     tell_written(alloc, &copy, text)
 }
 
-/// Adds the octets of a normal form.
+/// Appends the bytes of a normal form.
 fn tell_written(alloc: Global, tree: &Tree, text: &mut String) -> Result<(), AllocError> {
     let mut out = Bytes::new(alloc);
     tree.put(&mut out)?;
@@ -91,7 +91,7 @@ fn tell_int(child: &Tree, text: &mut String) -> Result<(), AllocError> {
     write!(text, "  {}\n", child.int())
 }
 
-/// Adds the octets of a text, and all that are there.
+/// Appends the bytes of a text, and all bytes of its Element's body.
 fn tell_text(child: &Tree, text: &mut String) -> Result<(), AllocError> {
     text.push_str("  text")?;
     tell_octets(child.text(), text)?;
@@ -100,7 +100,7 @@ fn tell_text(child: &Tree, text: &mut String) -> Result<(), AllocError> {
     text.push_str("\n")
 }
 
-/// Adds what is told of the children of a TrackEntry.
+/// Appends the result of a case of the children of a TrackEntry.
 pub fn tell_entry(
     alloc: Global,
     word: &str,
@@ -131,7 +131,7 @@ fn tell_children(
     }
 }
 
-/// Adds the ID and the place of a child.
+/// Appends the ID and the offset of a child.
 fn tell_child(child: Option<&Tree>, text: &mut String) -> Result<(), AllocError> {
     match child {
         Some(child) => write!(text, "  {:X} at {}\n", child.id(), child.offset()),
@@ -139,7 +139,7 @@ fn tell_child(child: Option<&Tree>, text: &mut String) -> Result<(), AllocError>
     }
 }
 
-/// Adds the places of Elements.
+/// Appends the offsets of Elements.
 fn tell_places(trees: &[Tree], text: &mut String) -> Result<(), AllocError> {
     text.push_str("  at")?;
     for tree in trees {
@@ -148,8 +148,8 @@ fn tell_places(trees: &[Tree], text: &mut String) -> Result<(), AllocError> {
     text.push_str("\n")
 }
 
-/// Adds what a TrackEntry becomes, whose body are as many octets as the case's number says; the others are Elements
-/// that are set or added in turn.
+/// Appends the result of a case that changes a TrackEntry. The case's number is the number of bytes of its body. The
+/// other bytes are Elements that are set or added in turn.
 pub fn tell_changed(
     alloc: Global,
     word: &str,
@@ -187,7 +187,7 @@ fn tell_change(
     }
 }
 
-/// Puts the children of another TrackEntry into this one, and adds where its children stand each time.
+/// Sets or adds the children of `others` in `entry`, and appends the offsets of its children each time.
 fn put_in_all(
     alloc: Global,
     word: &str,
