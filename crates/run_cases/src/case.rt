@@ -1,46 +1,46 @@
-//! What a case says.
+//! A case of the file `stdin`.
 
 use crate::outputs::Output;
 use std::alloc::Global;
 
-/// A name and octets.
+/// Name with bytes.
 #[derive(Drop)]
 pub struct Named {
     pub name: String,
     pub octets: Vec<u8>,
 }
 
-/// A length that an output has to have after some call that fails, where an append keeps so many octets.
+/// Length that the first output must have after some failing call of the files, if an append then keeps `kept` bytes.
 #[derive(Clone, Copy)]
 pub struct Reached {
     pub kept: u64,
     pub length: u64,
 }
 
-/// What is run, what comes of it, and which calls fail.
+/// Command line, its expected results, and the calls that fail.
 #[derive(Drop)]
 pub struct Case {
     pub name: String,
     pub words: Vec<String>,
-    /// What is said where no call fails.
+    /// Lines that are printed if no call fails.
     pub lines: Vec<String>,
-    /// The exit status then.
+    /// Exit status if no call fails.
     pub status: u64,
-    /// The files that lie there before.
+    /// Files that exist before the run.
     pub inputs: Vec<Named>,
     pub outputs: Vec<Output>,
-    /// Whether each output is whole before the next one is touched.
+    /// If true, each output is complete before the next one is touched.
     pub in_turn: bool,
-    /// How many octets an append keeps where calls of the files fail.
+    /// Numbers of bytes that a failing append keeps; each call of the files fails in turn for each number.
     pub kept: Vec<u64>,
     pub reached: Vec<Reached>,
-    /// How many calls have to stop the run at least.
+    /// Least number of calls that must stop the run.
     pub stops: u64,
-    /// Where lines fail: the first line before which the outputs are whole.
+    /// If each line fails in turn: the first line before which the outputs are complete.
     pub lines_from: Option<u64>,
-    /// The medium, the sidecar, and the edited medium.
+    /// Bytes of the film, of its journal, and of the edited film.
     pub disk: Vec<Vec<u8>>,
-    /// Whether the medium may also be left as it was.
+    /// If true, a crash may also leave the film as it was.
     pub may_stay: bool,
     pub disk_fails: bool,
     pub disk_stops: bool,
@@ -67,7 +67,7 @@ impl Case {
         }
     }
 
-    /// Whether it is an edit of a disk.
+    /// Checks whether the case edits a film on a disk.
     pub fn is_on_disk(&self) -> bool {
         !self.disk.is_empty()
     }
@@ -78,7 +78,7 @@ impl Case {
             .any(|output| output.name.as_str() == name)
     }
 
-    /// What a name held before, if there was a file of it.
+    /// Returns the bytes that the file `name` had before, if it existed.
     pub fn before(&self, name: &str) -> Option<&[u8]> {
         for input in &self.inputs {
             if input.name.as_str() == name {

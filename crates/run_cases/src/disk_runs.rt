@@ -1,4 +1,4 @@
-//! Edits of a disk in memory, which are stopped and recovered.
+//! Edits on a disk in memory that are stopped and recovered.
 
 ghost use Rattle.std.specs.Prelude.{IfOk};
 ghost use Rattle.mkv_disk.specs.Pair.{IsSynced};
@@ -14,10 +14,10 @@ use mkv_memory::{MemDisk, MemFiles, MemReport};
 use mkv_run::run;
 use std::alloc::Global;
 
-/// The images that a crash may leave, by their picks.
+/// Number of images of a crash that are tried; each is made by its number, the pick.
 const PICKS: u64 = 6;
 
-/// Runs that are stopped, and runs of `recover` on what they left.
+/// Edit of a case that is stopped, and the command that recovers it.
 #[derive(Drop)]
 struct Edits<'a> {
     alloc: Global,
@@ -25,7 +25,7 @@ struct Edits<'a> {
     recover: Vec<String>,
 }
 
-/// Runs words on a disk.
+/// Runs the command line `words` on `disk`.
 fn run_on(
     alloc: Global,
     words: &Vec<String>,
@@ -39,26 +39,26 @@ fn run_on(
     Ok((status, report))
 }
 
-/// Whether a report has these lines and no other.
+/// Checks whether `report` has exactly the lines `lines`.
 fn has_said(lines: &[String], report: &MemReport) -> bool {
     let mut numbered = lines.iter().enumerate();
     numbered.all(|(k, line)| report.line(k) == Some(line.as_str()))
         && report.line(lines.len()).is_none()
 }
 
-/// Whether a report has the fault of the disk and no other line.
+/// Checks whether the message of a disk failure is the only line of `report`.
 fn has_told_fault(report: &MemReport) -> bool {
     report.line(0) == Some("fault: disk") && report.line(1).is_none()
 }
 
-/// A disk on what is read of another.
+/// Returns a disk with the bytes that are read from `disk`, all synced.
 fn copied(alloc: Global, disk: &MemDisk) -> Result<MemDisk, Fault>
     ensures { IfOk result (λ copy. IsSynced (pair_in (seen copy))) }
 {
     Ok(disk.crashed(alloc, 0)?)
 }
 
-/// The octets of the medium of a disk.
+/// Returns the bytes of the film on `disk`.
 fn medium_of(alloc: Global, disk: &MemDisk) -> Result<Vec<u8>, Fault> {
     let mut disk = copied(alloc, disk)?;
     if disk.open_pair("").is_err() {
@@ -72,7 +72,7 @@ fn medium_of(alloc: Global, disk: &MemDisk) -> Result<Vec<u8>, Fault> {
 }
 
 impl Edits<'_> {
-    /// One of the octets of the case: the medium, the sidecar, or the edited medium.
+    /// Returns bytes of the case: 0 is the film, 1 its journal, 2 the edited film.
     fn octets(&self, k: usize) -> &[u8] {
         match self.case.disk.get(k) {
             Some(octets) => octets.as_slice(),
@@ -80,7 +80,7 @@ impl Edits<'_> {
         }
     }
 
-    /// The disk of the case.
+    /// Returns a disk with the film and the journal of the case.
     fn disk(&self) -> Result<MemDisk, Fault>
         ensures { IfOk result (λ disk. IsSynced (pair_in (seen disk))) }
     {
@@ -91,12 +91,12 @@ impl Edits<'_> {
         Ok(MemDisk::new(self.alloc, medium, sidecar, 100, 4096)?)
     }
 
-    /// Whether an edit that was stopped may come to these octets.
+    /// Checks whether a stopped edit, after recovery, may leave the film with the bytes `medium`.
     fn may_come_to(&self, medium: &[u8]) -> bool {
         medium == self.octets(2) || self.case.may_stay && medium == self.octets(0)
     }
 
-    /// What `recover` makes of the medium of a disk.
+    /// Runs `recover` on a copy of `left`, and returns the bytes of the film.
     fn recovered(&self, left: &MemDisk) -> Result<Vec<u8>, Fault> {
         let mut disk = copied(self.alloc, left)?;
         let (status, _) = run_on(self.alloc, &self.recover, &mut disk)?;
@@ -104,7 +104,7 @@ impl Edits<'_> {
         medium_of(self.alloc, &disk)
     }
 
-    /// Whether each image that a crash may leave of a disk is recovered to these octets.
+    /// Checks whether `recover` makes the film `octets` of each image that a crash may leave of `disk`.
     fn all_come_to(&self, disk: &MemDisk, octets: &[u8]) -> Result<bool, Fault> {
         for pick in 0..PICKS {
             let left = disk.crashed(self.alloc, pick)?;
@@ -115,7 +115,7 @@ impl Edits<'_> {
         Ok(true)
     }
 
-    /// Whether each image that a crash may leave of a disk is recovered to what an edit may come to.
+    /// Checks whether `recover` makes a film that the edit may leave of each image that a crash may leave of `disk`.
     fn all_are_recovered(&self, disk: &MemDisk) -> Result<bool, Fault> {
         for pick in 0..PICKS {
             let left = disk.crashed(self.alloc, pick)?;
@@ -126,7 +126,7 @@ impl Edits<'_> {
         Ok(true)
     }
 
-    /// Runs the edit, of which a call fails. Answers whether it came to its end.
+    /// Runs the edit while the call with the number `call` fails, and returns whether it was successful.
     fn fail(&self, call: u64) -> Result<bool, Fault> {
         let mut disk = self.disk()?;
         disk.fail_at(call)?;
@@ -142,7 +142,7 @@ impl Edits<'_> {
         Ok(ended)
     }
 
-    /// Lets each call of the edit fail in turn.
+    /// Makes each call of the edit fail in turn.
     fn check_fails(&self) -> Result<(), Fault> {
         for call in 0..200 {
             if self.fail(call)? {
@@ -152,8 +152,8 @@ impl Edits<'_> {
         Err(Fault::Differs { what: "no end" })
     }
 
-    /// Recovers what a crash left, up to a call from which on all fail, and then what another crash leaves of that: it has
-    /// to come to these octets. Answers whether the first recovery came to its end.
+    /// Recovers the disk `left`, with all calls from `stop` on failing. Checks that `recover` makes the film `octets`
+    /// of each image that a crash then leaves. Returns whether the first recovery was successful.
     fn recover_twice(&self, left: &MemDisk, stop: u64, octets: &[u8]) -> Result<bool, Fault> {
         let mut disk = copied(self.alloc, left)?;
         disk.stop_at(stop);
@@ -163,7 +163,7 @@ impl Edits<'_> {
         Ok(status == Status::Done)
     }
 
-    /// Recovers what a crash left, with a stop at each call.
+    /// Recovers the disk `left`, stopped at each call in turn.
     fn recover_with_stops(&self, left: &MemDisk, octets: &[u8]) -> Result<(), Fault> {
         for stop in 0..200 {
             if self.recover_twice(left, stop, octets)? {
@@ -173,7 +173,7 @@ impl Edits<'_> {
         Err(Fault::Differs { what: "no end" })
     }
 
-    /// One image that a crash may leave of an edit that was stopped, or came to its end.
+    /// Checks one image that a crash may leave of an edit. `ended` is whether the edit was successful.
     fn check_image(&self, left: &MemDisk, ended: bool, stop: u64) -> Result<(), Fault> {
         let octets = self.recovered(left)?;
         let is_edited = octets.as_slice() == self.octets(2);
@@ -185,7 +185,7 @@ impl Edits<'_> {
         self.recover_with_stops(left, octets.as_slice())
     }
 
-    /// Stops the edit at a call from which on all fail. Answers whether it came to its end.
+    /// Runs the edit with all calls from `stop` on failing, and returns whether it was successful.
     fn stop(&self, stop: u64) -> Result<bool, Fault> {
         let mut disk = self.disk()?;
         disk.stop_at(stop);
@@ -209,7 +209,7 @@ impl Edits<'_> {
     }
 }
 
-/// The words that finish an edit.
+/// Returns the command line that finishes an edit.
 fn recover_words(alloc: Global) -> Result<Vec<String>, Fault> {
     let mut words = Vec::new(alloc);
     words.push("recover".to_string(alloc)?)?;
@@ -217,7 +217,7 @@ fn recover_words(alloc: Global) -> Result<Vec<String>, Fault> {
     Ok(words)
 }
 
-/// What comes of a case on a disk.
+/// Checks a case that edits a film on a disk.
 pub fn check(alloc: Global, case: &Case) -> Result<(), Fault> {
     let recover = recover_words(alloc)?;
     let edits = Edits {

@@ -1,25 +1,25 @@
-//! Why a case doesn't hold.
+//! The reasons why a case fails.
 
 ghost use Rattle.std.specs.Prelude.{◌≡◌};
 
 use std::alloc::{AllocError, AllocFailed};
 use std::fmt;
 
-/// Why a case doesn't hold, or can't be tried.
+/// Reason why a case fails or can't be tried.
 #[derive(Clone, Copy)]
 pub enum Fault {
-    /// There is no memory.
+    /// Memory ran out.
     Memory,
-    /// A line of the cases isn't written as it has to be.
+    /// A line of the cases isn't valid.
     Unread,
-    /// Something differs in the run without a failure.
+    /// A result differs in a run without a failing call.
     Differs { what: &'static str },
-    /// Something differs where this call fails.
+    /// A result differs while this call fails.
     DiffersAt { what: &'static str, call: u64 },
 }
 
 impl Fault {
-    /// The fault where something differs, which holds or doesn't.
+    /// Fails with `Differs` unless `holds`.
     pub fn unless(holds: bool, what: &'static str) -> Result<(), Fault> {
         if holds {
             Ok(())
@@ -28,7 +28,7 @@ impl Fault {
         }
     }
 
-    /// The same where a call fails.
+    /// Fails with `DiffersAt` unless `holds`.
     pub fn unless_at(holds: bool, what: &'static str, call: u64) -> Result<(), Fault> {
         if holds {
             Ok(())

@@ -1,4 +1,4 @@
-//! Runs over files and a report in memory, of which a call fails.
+//! Runs over files and a report in memory with a call that fails.
 
 use crate::case::Case;
 use crate::fault::Fault;
@@ -9,16 +9,16 @@ use mkv_memory::{MemDisk, MemFiles, MemReport};
 use mkv_run::run;
 use std::alloc::Global;
 
-/// Which call fails.
+/// Call that fails.
 #[derive(Clone, Copy)]
 enum Failing {
     Nothing,
-    /// A call of the files, where an append keeps so many octets.
+    /// Call of the files; if it appends, it keeps `kept` bytes.
     Files { call: u64, kept: u64 },
     Line { call: u64 },
 }
 
-/// What came of a run.
+/// Objects and status after a run.
 #[derive(Drop)]
 struct Ran {
     files: MemFiles,
@@ -26,14 +26,14 @@ struct Ran {
     status: Status,
 }
 
-/// A stop of a run: at which output, and how many octets the first output then has.
+/// Stop of a run: the index of the output at which it stopped, and the length of the first output.
 #[derive(Clone, Copy)]
 struct Stop {
     at: usize,
     length: u64,
 }
 
-/// The files that lie there before.
+/// Returns the files that exist before the run.
 fn files_before(alloc: Global, case: &Case) -> Result<MemFiles, Fault> {
     let mut files = MemFiles::new(alloc)?;
     for input in &case.inputs {
@@ -45,7 +45,7 @@ fn files_before(alloc: Global, case: &Case) -> Result<MemFiles, Fault> {
     Ok(files)
 }
 
-/// Runs a case over files and a report.
+/// Runs a case over `files` and `report`.
 fn run_over(
     alloc: Global,
     case: &Case,
@@ -61,7 +61,7 @@ fn run_over(
     })
 }
 
-/// Runs a case of which a call fails.
+/// Runs a case while the call `failing` fails.
 fn run_failing(alloc: Global, case: &Case, failing: Failing) -> Result<Ran, Fault> {
     let mut files = files_before(alloc, case)?;
     let mut report = MemReport::new(alloc, 1000, 65_536)?;
@@ -73,7 +73,7 @@ fn run_failing(alloc: Global, case: &Case, failing: Failing) -> Result<Ran, Faul
     run_over(alloc, case, files, report)
 }
 
-/// How many of these lines a report begins with.
+/// Returns the number of `lines` that `report` begins with.
 fn lines_said(lines: &[String], report: &MemReport) -> usize {
     for (k, line) in lines.iter().enumerate() {
         if report.line(k) != Some(line.as_str()) {
@@ -83,18 +83,18 @@ fn lines_said(lines: &[String], report: &MemReport) -> usize {
     lines.len()
 }
 
-/// Whether a report has these lines and no other.
+/// Checks whether `report` has exactly the lines `lines`.
 fn has_said(lines: &[String], report: &MemReport) -> bool {
     lines_said(lines, report) == lines.len() && report.line(lines.len()).is_none()
 }
 
-/// Whether a report has a first part of these lines, and then a fault of the files.
+/// Checks whether `report` has a first part of `lines`, and then only the message of a failure of the files.
 fn has_told_fault(lines: &[String], report: &MemReport) -> bool {
     let said = lines_said(lines, report);
     report.line(said) == Some("fault: files") && report.line(said.saturating_add(1)).is_none()
 }
 
-/// Whether each file that isn't an output is as it was.
+/// Checks whether each input that isn't an output is unchanged.
 fn keeps_inputs(case: &Case, files: &MemFiles) -> bool {
     case.inputs.iter().all(|input| {
         let name = input.name.as_str();
@@ -102,7 +102,7 @@ fn keeps_inputs(case: &Case, files: &MemFiles) -> bool {
     })
 }
 
-/// Whether it ended as it does where no call fails.
+/// Checks whether a run ended as if no call failed.
 fn is_ordinary(case: &Case, ran: &Ran) -> bool {
     u64::from(ran.status.code()) == case.status
         && has_said(case.lines.as_slice(), &ran.report)
@@ -110,7 +110,7 @@ fn is_ordinary(case: &Case, ran: &Ran) -> bool {
         && keeps_inputs(case, &ran.files)
 }
 
-/// The length of the first output.
+/// Returns the length of the first output.
 fn first_length(case: &Case, files: &MemFiles) -> u64 {
     match case.outputs.first() {
         Some(output) => files
@@ -120,7 +120,7 @@ fn first_length(case: &Case, files: &MemFiles) -> u64 {
     }
 }
 
-/// What a run left that a call of the files stopped.
+/// Checks the objects after a run that a failing call of the files stopped, and returns where it stopped.
 fn stop_in(case: &Case, ran: &Ran, call: u64) -> Result<Stop, Fault> {
     Fault::unless_at(
         has_told_fault(case.lines.as_slice(), &ran.report),
@@ -140,7 +140,7 @@ fn stop_in(case: &Case, ran: &Ran, call: u64) -> Result<Stop, Fault> {
     }
 }
 
-/// Lets a call of the files fail, and answers what it left, or None where the run ended as it does without.
+/// Makes a call of the files fail, and returns where the run stopped, or None if it ended as if no call failed.
 fn stop_by(alloc: Global, case: &Case, call: u64, kept: u64) -> Result<Option<Stop>, Fault> {
     let ran = run_failing(alloc, case, Failing::Files { call, kept })?;
     if ran.status == Status::Outside {
@@ -150,8 +150,9 @@ fn stop_by(alloc: Global, case: &Case, call: u64, kept: u64) -> Result<Option<St
     Ok(None)
 }
 
-/// Lets each call of the files fail in turn, up to the last. A call for a sidecar that isn't there doesn't fail, so that
-/// some runs behind which others stop end as they do without.
+/// Makes each call of the files fail in turn, up to the last. A call for a journal that doesn't exist doesn't fail.
+/// So a run may end as if no call failed although a later call stops it; only eight such runs in sequence end the
+/// search.
 fn stops_by(alloc: Global, case: &Case, kept: u64) -> Result<Vec<Stop>, Fault> {
     let mut stops = Vec::new(alloc);
     let mut ended: u32 = 0;
@@ -170,12 +171,12 @@ fn stops_by(alloc: Global, case: &Case, kept: u64) -> Result<Vec<Stop>, Fault> {
     Ok(stops)
 }
 
-/// How many outputs a run may be stopped at one by one.
+/// Returns the number of outputs at which a run may stop.
 fn places(case: &Case) -> usize {
     if case.in_turn { case.outputs.len() } else { 1 }
 }
 
-/// Whether it is stopped at each output so often at least.
+/// Checks whether runs stop at each output at least as often as the case requires.
 fn stops_enough(case: &Case, stops: &[Stop]) -> bool {
     (0..places(case)).all(|at| {
         let count = stops.iter().filter(|stop| stop.at == at).count();
@@ -183,14 +184,15 @@ fn stops_enough(case: &Case, stops: &[Stop]) -> bool {
     })
 }
 
-/// Whether the first output is left with each length that it has to reach.
+/// Checks whether the first output has each length that the case requires after some stop.
 fn reaches_all(case: &Case, kept: u64, stops: &[Stop]) -> bool {
     case.reached.iter().all(|reached| {
         reached.kept != kept || stops.iter().any(|stop| stop.length == reached.length)
     })
 }
 
-/// What each call of the files leaves that fails, where an append keeps so many octets; and how many stop the run.
+/// Makes each call of the files fail in turn, while an append keeps `kept` bytes. Returns the number of calls that
+/// stop the run.
 fn check_kept(alloc: Global, case: &Case, kept: u64) -> Result<usize, Fault> {
     let stops = stops_by(alloc, case, kept)?;
     Fault::unless(stops_enough(case, stops.as_slice()), "too few calls fail")?;
@@ -201,7 +203,7 @@ fn check_kept(alloc: Global, case: &Case, kept: u64) -> Result<usize, Fault> {
     Ok(stops.len())
 }
 
-/// The same for each number of octets that an append keeps. As many calls stop the run.
+/// Does so for each number of bytes that an append keeps. Each time the same number of calls must stop the run.
 fn check_calls(alloc: Global, case: &Case) -> Result<(), Fault> {
     let mut first = None;
     for kept in &case.kept {
@@ -213,7 +215,8 @@ fn check_calls(alloc: Global, case: &Case) -> Result<(), Fault> {
     Ok(())
 }
 
-/// What a line leaves that fails: the lines before it, and outputs that are whole or untouched.
+/// Makes the line with the number `line` fail. The lines before it must be printed; the outputs must be complete if
+/// `whole`, or else untouched.
 fn check_line(alloc: Global, case: &Case, line: usize, whole: bool) -> Result<(), Fault> {
     let call = line as u64;
     let ran = run_failing(alloc, case, Failing::Line { call })?;
@@ -229,7 +232,7 @@ fn check_line(alloc: Global, case: &Case, line: usize, whole: bool) -> Result<()
     Fault::unless_at(left && keeps_inputs(case, &ran.files), "other files", call)
 }
 
-/// Lets each line fail in turn.
+/// Makes each line fail in turn.
 fn check_lines(alloc: Global, case: &Case, from: u64) -> Result<(), Fault> {
     for line in 0..case.lines.len() {
         check_line(alloc, case, line, line as u64 >= from)?;
@@ -237,7 +240,7 @@ fn check_lines(alloc: Global, case: &Case, from: u64) -> Result<(), Fault> {
     Ok(())
 }
 
-/// What comes of a case over files.
+/// Checks a case over files.
 pub fn check(alloc: Global, case: &Case) -> Result<(), Fault> {
     let ran = run_failing(alloc, case, Failing::Nothing)?;
     Fault::unless(is_ordinary(case, &ran), "another end")?;

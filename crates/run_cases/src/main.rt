@@ -1,7 +1,7 @@
 #![tactic(auto)]
 
-//! Whole runs over files, a disk and a report in memory: what is told and left where a call fails, or where an edit is
-//! stopped. The cases stand in the file `stdin`, and `reading` says how they are written.
+//! Whole runs over files, a disk and a report in memory, while a call fails or an edit is stopped. The cases are in
+//! the file `stdin`; the module `reading` describes their form.
 
 mod case;
 mod disk_runs;
@@ -17,7 +17,7 @@ use crate::reading::Reading;
 use std::alloc::Global;
 use std::io;
 
-/// How many cases hold, and how many don't.
+/// Numbers of cases that hold and that fail.
 #[derive(Clone, Copy)]
 struct Tally {
     held: u32,
@@ -25,7 +25,7 @@ struct Tally {
 }
 
 impl Tally {
-    /// Counts what came of a case, or of a line, and tells what differs.
+    /// Counts the result of a case, or of an invalid line, and prints what differs.
     fn count(&mut self, rt: &impl Print, name: &str, came: Result<(), Fault>) -> io::Result<()> {
         match came {
             Ok(()) => self.held = self.held.saturating_add(1),
@@ -38,7 +38,7 @@ impl Tally {
     }
 }
 
-/// What comes of a case.
+/// Checks a case.
 fn try_case(alloc: Global, case: &Case) -> Result<(), Fault> {
     if case.is_on_disk() {
         disk_runs::check(alloc, case)
@@ -47,7 +47,7 @@ fn try_case(alloc: Global, case: &Case) -> Result<(), Fault> {
     }
 }
 
-/// Tries the case that was read, if there is one.
+/// Checks the case that was read, if there is one.
 fn end_case(rt: &(impl Print + AllocGlobal), case: &Case, tally: &mut Tally) -> io::Result<()> {
     if case.name.is_empty() {
         return Ok(());
@@ -55,7 +55,7 @@ fn end_case(rt: &(impl Print + AllocGlobal), case: &Case, tally: &mut Tally) -> 
     tally.count(rt, case.name.as_str(), try_case(rt.alloc(), case))
 }
 
-/// Reads a line of the cases. An empty one ends a case.
+/// Reads a line of the cases. An empty line ends a case.
 fn take_line(
     rt: &(impl Print + AllocGlobal),
     line: &str,

@@ -1,22 +1,22 @@
-//! What stands of the outputs of a run.
+//! The expected outputs of a run, and what a stopped run may leave of them.
 
 use mkv_memory::MemFiles;
 
-/// A name that a run writes.
+/// File that a run writes.
 #[derive(Drop)]
 pub struct Output {
     pub name: String,
-    /// What it held before, if there was a file of it.
+    /// Its bytes before the run, if it existed.
     pub before: Option<Vec<u8>>,
-    /// What it holds in the end.
+    /// Its bytes after the run.
     pub whole: Vec<u8>,
-    /// What a run that is stopped may leave a first part of, where that isn't `whole`.
+    /// Bytes of which a stopped run may leave a first part, if they aren't `whole`.
     pub grows: Option<Vec<u8>>,
-    /// What it may leave besides.
+    /// Other bytes that a stopped run may leave.
     pub nearly: Option<Vec<u8>>,
 }
 
-/// Whether these octets stand under a name.
+/// Checks whether the file `name` has the bytes `octets`, or doesn't exist if that is None.
 fn holds(files: &MemFiles, name: &str, octets: &Option<Vec<u8>>) -> bool {
     match (files.bytes(name), octets) {
         (Some(stands), Some(octets)) => stands == octets.as_slice(),
@@ -34,7 +34,7 @@ impl Output {
         holds(files, self.name.as_str(), &self.before)
     }
 
-    /// Whether a first part of what it grows to stands there.
+    /// Checks whether the file has a first part of the bytes that it grows to.
     fn has_grown(&self, files: &MemFiles) -> bool {
         let Some(stands) = files.bytes(self.name.as_str()) else {
             return false;
@@ -45,12 +45,12 @@ impl Output {
         }
     }
 
-    /// Whether it is nearly whole.
+    /// Checks whether the file has the bytes `nearly`.
     fn is_nearly(&self, files: &MemFiles) -> bool {
         self.nearly.is_some() && holds(files, self.name.as_str(), &self.nearly)
     }
 
-    /// Whether a run that is stopped may leave it so.
+    /// Checks whether a stopped run may leave the file like this.
     pub fn is_left(&self, files: &MemFiles) -> bool {
         self.is_untouched(files) || self.has_grown(files) || self.is_nearly(files)
     }
@@ -64,7 +64,7 @@ pub fn are_untouched(outputs: &[Output], files: &MemFiles) -> bool {
     outputs.iter().all(|output| output.is_untouched(files))
 }
 
-/// How many outputs are whole before the first that isn't.
+/// Returns the number of outputs that are complete before the first incomplete one.
 fn whole_ones(outputs: &[Output], files: &MemFiles) -> usize {
     for (k, output) in outputs.iter().enumerate() {
         if !output.is_whole(files) {
@@ -74,15 +74,15 @@ fn whole_ones(outputs: &[Output], files: &MemFiles) -> usize {
     outputs.len()
 }
 
-/// The place of the output at which a run was stopped that makes each whole before it touches the next; None where that
-/// isn't what stands.
+/// Returns the index of the output at which a run stopped that completes each output before it touches the next.
+/// Returns None if such a run can't leave the files like this.
 fn stopped_in_turn(outputs: &[Output], files: &MemFiles) -> Option<usize> {
     let whole = whole_ones(outputs, files);
     let (first, behind) = outputs[whole.min(outputs.len())..].split_first()?;
     (first.is_left(files) && are_untouched(behind, files)).then_some(whole)
 }
 
-/// Whether no output is touched before the one in front of it, and each may be left so.
+/// Checks whether no output is touched before the previous one, and a stopped run may leave each like this.
 fn are_left(outputs: &[Output], files: &MemFiles) -> bool {
     let mut untouched = false;
     for output in outputs {
@@ -95,8 +95,8 @@ fn are_left(outputs: &[Output], files: &MemFiles) -> bool {
     true
 }
 
-/// The place of the output at which a run was stopped, 0 where all are written together; None where no run may leave them
-/// so.
+/// Returns the index of the output at which a run stopped, or 0 if it writes all outputs together. Returns None if no
+/// run can leave the files like this.
 pub fn stopped_at(in_turn: bool, outputs: &[Output], files: &MemFiles) -> Option<usize> {
     if in_turn {
         stopped_in_turn(outputs, files)

@@ -1,34 +1,36 @@
-//! Reads the cases, line by line. An empty line ends a case, and the names of parts stand for all that come behind.
+//! Reads the cases, line by line. An empty line ends a case. A named part can be used in all later lines.
 //!
-//!     # for the reader
-//!     small = 1A45DFA3 00*3       names octets: hexadecimal digits, and parts, each so many times
-//!     case NAME                   what it shows
-//!     input a.mkv small           a file that lies there before
-//!     $ merge -o out.mkv a.mkv    the words
-//!     > wrote out.mkv: 2 blocks   a line that is said
-//!     status 1                    how the run ends, where that isn't 0
-//!     output out.mkv merged       what a file holds then; each other one stays as it was
-//!     grows OCTETS                where a call fails, the output before this line may hold a first part of these octets (of
-//!                                 what it is to hold, where the line is missing), or what it held before
-//!     nearly OCTETS               or these
-//!     in turn                     each output is whole before the next is touched
-//!     calls KEPT ..               each call of the files fails in turn: the run ends with 4, having said a first part of its
-//!                                 lines and then the fault; an append that fails keeps so many octets, all but the last
-//!                                 where it has fewer, or by `all`
-//!     stops N                     so many calls stop the run at least, at each output where they are made in turn
-//!     length KEPT N               some call that fails leaves N octets in the first output, where an append keeps KEPT
-//!     lines N                     each line fails in turn: the run ends with 4, with the lines before it; the outputs are
-//!                                 whole from the line N on, counted from 0, and untouched before
+//!     # a comment
+//!     small = 1A45DFA3 00*3       names bytes: hexadecimal digits, and parts; *N repeats a word N times
+//!     case NAME                   what the case shows
+//!     input a.mkv small           a file that exists before the run
+//!     $ merge -o out.mkv a.mkv    the command line
+//!     > wrote out.mkv: 2 blocks   a line that the run prints
+//!     status 1                    the exit status, if it isn't 0
+//!     output out.mkv merged       the bytes of a file after the run; all other files are unchanged
+//!     grows BYTES                 after a call that fails, the output of the previous line may hold a first part of
+//!                                 BYTES, or its bytes before the run; without this line, a first part of its bytes
+//!                                 after the run
+//!     nearly BYTES                or it may hold BYTES
+//!     in turn                     each output is complete before the next one is touched
+//!     calls KEPT ..               each call of the files fails in turn: the run ends with 4, after a first part of its
+//!                                 lines and the message of the failure; an append that fails keeps KEPT bytes, or all
+//!                                 but its last if it has fewer, or if KEPT is `all`
+//!     stops N                     at least N calls stop the run, at each output if there is a line `in turn`
+//!     length KEPT N               some call that fails leaves N bytes in the first output, if an append keeps KEPT
+//!     lines N                     each line fails in turn: the run ends with 4 and prints the lines before it; the
+//!                                 outputs are complete from line N on, counted from 0, and untouched before
 //!
 //! or, for an edit of `out.mkv` on a disk:
 //!
-//!     disk MEDIUM, SIDECAR, EDITED    the two files, and the medium when all is done
-//!     may stay                    an edit that was stopped may also come to the medium as it was
-//!     disk fails                  each call fails in turn: the run ends with 4 and the fault alone; each image that a crash
-//!                                 may leave comes by `recover` to the medium that is edited or may stay
-//!     disk stops                  each call fails in turn with all behind it: each image that a crash may leave is recovered
-//!                                 so, and so it is where `recover` is stopped at any call, and what another crash leaves is
-//!                                 recovered again
+//!     disk FILM, JOURNAL, EDITED  the two files, and the film after the edit
+//!     may stay                    a stopped edit may also leave the film as it was
+//!     disk fails                  each call fails in turn: the run ends with 4 and prints only the message of the
+//!                                 failure; `recover` makes the edited film of each image that a crash may leave, or
+//!                                 leaves the film as it was if there is a line `may stay`
+//!     disk stops                  each call fails in turn with all later ones: `recover` does the same for each image
+//!                                 that a crash may leave; it is stopped at each call, too, and what another crash
+//!                                 leaves then is recovered again
 
 use crate::case::{Case, Named, Reached};
 use crate::fault::Fault;
@@ -36,7 +38,7 @@ use crate::outputs::Output;
 use crate::spelling::{number, octets_of};
 use std::alloc::Global;
 
-/// The parts that have names, and the case that is read.
+/// Named parts, and the case that is read.
 #[derive(Drop)]
 pub struct Reading {
     alloc: Global,
@@ -53,7 +55,7 @@ impl Reading {
         }
     }
 
-    /// Forgets the case.
+    /// Begins a new case.
     pub fn clear(&mut self) {
         self.case = Case::new(self.alloc);
     }
@@ -109,7 +111,7 @@ impl Reading {
         octets_of(self.alloc, spelled, self.parts.as_slice())
     }
 
-    /// A name, and octets behind a space.
+    /// Reads a name, and bytes after a space.
     fn named(&self, spelled: &str) -> Result<Named, Fault> {
         let (name, spelled) = spelled.split_once(' ').unwrap_or((spelled, ""));
         let octets = self.octets(spelled)?;
@@ -199,7 +201,7 @@ impl Reading {
         Ok(())
     }
 
-    /// The files of a disk, or which of its calls fail.
+    /// Reads the files of a disk, or which of its calls fail.
     fn disk(&mut self, rest: &str) -> Result<(), Fault> {
         match rest {
             "fails" => self.case.disk_fails = true,
@@ -217,7 +219,7 @@ impl Reading {
         Ok(())
     }
 
-    /// Octets that have a name.
+    /// Reads bytes with a name.
     fn part(&mut self, name: &str, spelled: &str) -> Result<(), Fault> {
         let Some(spelled) = spelled.strip_prefix("= ") else {
             return Err(Fault::Unread);

@@ -1,11 +1,11 @@
-//! Octets that are spelled.
+//! Bytes and numbers in the lines of a case.
 
 use crate::case::Named;
 use crate::fault::Fault;
 use std::alloc::Global;
 
-/// The octets that words spell: each is hexadecimal digits, or the name of a part, with `*N` behind it where it stands N
-/// times.
+/// Returns the bytes that the words of `spelled` mean. A word is hexadecimal digits or the name of a part; `*N` after
+/// it repeats it N times.
 pub fn octets_of(alloc: Global, spelled: &str, parts: &[Named]) -> Result<Vec<u8>, Fault> {
     let mut octets = Vec::new(alloc);
     for word in spelled.split_whitespace() {
@@ -23,7 +23,7 @@ fn add_word(alloc: Global, word: &str, parts: &[Named], octets: &mut Vec<u8>) ->
     }
 }
 
-/// The part of a name.
+/// Returns the bytes of the part `name`.
 fn part<'a>(name: &str, parts: &'a [Named]) -> Option<&'a [u8]> {
     for part in parts {
         if part.name.as_str() == name {
@@ -47,7 +47,7 @@ fn add_times(once: &[u8], times: u64, octets: &mut Vec<u8>) -> Result<(), Fault>
     Ok(())
 }
 
-/// A number, or `all` for the largest.
+/// Returns the number in `word`; `all` is the largest.
 pub fn number(word: &str) -> Result<u64, Fault> {
     if word == "all" {
         return Ok(u64::MAX);
