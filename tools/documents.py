@@ -1,6 +1,6 @@
-"""Random Matroska documents (RFC 8794 and RFC 9559) with much that is allowed and odd: numbers and sizes in more octets than they
-need, identifiers that are missing, 0 or given twice, targets that name nothing, unknown Elements, Voids, texts with zero octets,
-CRC-32 that are wrong. A few are damaged."""
+"""Random Matroska documents (RFC 8794 and RFC 9559) with much that is allowed but odd. Numbers and sizes have more bytes than they need.
+Identifiers are missing, 0 or given twice, and targets name nothing. There are unknown Elements, Voids, texts with zero bytes, and wrong
+CRC-32 values. A few documents are damaged."""
 import typing
 
 from generated import number
@@ -9,15 +9,15 @@ TYPES = (1, 1, 1, 2, 2, 2, 17, 17)
 OTHER_TYPES = (3, 16, 18, 32)
 CODECS = {1: ("V_VP8", "V_MPEG4/ISO/AVC", "V_UNCOMPRESSED"), 2: ("A_OPUS", "A_AC3", "A_VORBIS"), 17: ("S_TEXT/UTF8", "S_VOBSUB")}
 SCALES = (1000000, 1000000, 1000000, 1000000, 100000, 999, 33333333, 1000000000)
-# of Elements that the standards don't have, or that this program doesn't
+# IDs of Elements that the standards don't have, or that this program doesn't know
 UNKNOWN = ("8F", "4FA5", "2F00A5", "1FA5A5A5", "55B0", "536F")
 LETTERS = "abcXYZ 019-é漢😀\n"
-# by the kind of what they name: the identifier's own ID, and that of a Tag's target
+# by the kind of what they name: the ID of the identifier, and the ID of a Tag's target
 IDENTIFIERS = {"track": ("73C5", "63C5"), "edition": ("45BC", "63C9"), "chapter": ("73C4", "63C4"), "file": ("46AE", "63C6")}
 
 
 class Kind(typing.NamedTuple):
-    """What tracks have to have alike so that one goes on where the other ends."""
+    """Properties that two tracks must share to be appended."""
     type: int
     codec: str
     private: bytes | None
@@ -25,12 +25,12 @@ class Kind(typing.NamedTuple):
 
 
 class Maker:
-    """Makes the Elements of one document by chance."""
+    """Makes the Elements of one document at random."""
 
     def __init__(self, chance):
         self.chance = chance
         self.named = {kind: [] for kind in IDENTIFIERS}
-        # how many chapters stand inside one another
+        # largest depth of nested chapters
         self.deepest = chance.choice((2, 5, 5, 28))
 
     def some(self, share):
@@ -49,7 +49,7 @@ class Maker:
         return bytes.fromhex(element_id) + (1 << 7 * width | len(body)).to_bytes(width, "big") + body
 
     def master(self, element_id, *parts):
-        """A master with these children, often with something more among them, or in another order."""
+        """Returns a master with these children, often with one more, or in another order."""
         children = list(parts)
         if self.some(0.06) and children:
             children.append(self.chance.choice(children))
@@ -85,7 +85,7 @@ class Maker:
         return text + b"\0" + self.chance.randbytes(self.chance.randint(0, 3)) if self.some(0.1) else text
 
     def maybe(self, share, element_id, make):
-        """An Element of a text or a number, or none."""
+        """Returns an Element of a text or a number, or nothing."""
         if not self.some(share):
             return b""
         value = make()
@@ -94,7 +94,7 @@ class Maker:
     # ---- identifiers
 
     def identifier(self, kind):
-        """That of a track, an edition, a chapter or a file, or none."""
+        """Returns the identifier of a track, an edition, a chapter or a file, or nothing."""
         if self.some(0.12):
             return b""
         value = self.chance.choice((0, self.chance.randint(1, 6), self.chance.randint(1, 6), self.chance.getrandbits(64), (1 << 64) - 1))
@@ -104,7 +104,7 @@ class Maker:
         return self.uint(IDENTIFIERS[kind][0], value)
 
     def target(self, kind):
-        """One that names something, everything, or nothing that is there."""
+        """Returns a target that names something, everything, or nothing that exists."""
         given = self.named[kind]
         value = self.chance.choice(given) if given and self.some(0.7) else self.chance.choice((0, 3, 77, self.chance.getrandbits(64)))
         return self.uint(IDENTIFIERS[kind][1], value)
@@ -112,7 +112,7 @@ class Maker:
     # ---- tracks
 
     def kind(self):
-        """What a track may have alike with another."""
+        """Returns properties that a track may share with another."""
         type_ = self.chance.choice(OTHER_TYPES) if self.some(0.05) else self.chance.choice(TYPES)
         inner = b""
         if type_ == 1 and self.some(0.8):
@@ -124,7 +124,7 @@ class Maker:
         return Kind(type_, self.chance.choice(CODECS.get(type_, ("X_NONE",))), private, inner)
 
     def stripped(self):
-        """ContentEncodings of header stripping."""
+        """Returns ContentEncodings of header stripping."""
         settings = self.element("5034", self.uint("4254", 3), self.element("4255", self.chance.randbytes(self.chance.randint(0, 6))))
         return self.element("6D80", self.element("6240", self.maybe(0.5, "5031", lambda: 0), self.maybe(0.5, "5032", lambda: 1), settings))
 
@@ -144,7 +144,7 @@ class Maker:
         return [self.chance.randbytes(sizes[0] if same else size) for size in sizes]
 
     def laced(self):
-        """The octets of a block behind its time: flags, the lace and the frames."""
+        """Returns the bytes of a block after its timestamp: flags, the lacing and the frames."""
         flags, lace = self.chance.choice((0x80, 0, 0x01, 0x08, 0x81)), self.chance.choice((0, 0, 0, 1, 2, 3))
         if lace == 0:
             return bytes([flags]) + b"".join(self.frames(1, 1))
@@ -233,14 +233,14 @@ class Maker:
         parts += [self.maybe(0.3, "4489", lambda: bytes.fromhex("40590000")), self.maybe(0.2, "73A4", lambda: self.chance.randbytes(16))]
         return self.master("1549A966", *[part for part in parts if part])
 
-    # ---- the whole
+    # ---- the whole document
 
     def document(self, kinds):
-        """A document with tracks of these kinds."""
+        """Returns a document with tracks of the kinds `kinds`."""
         numbers = self.chance.sample(range(1, 200), len(kinds)) if self.some(0.4) else range(1, len(kinds) + 1)
         tracks = self.element("1654AE6B", *[self.entry(n, kind) for n, kind in zip(numbers, kinds)])
         others = [make() for share, make in ((0.6, self.chapters), (0.6, self.attachments)) if self.some(share)]
-        # what targets name is made before them
+        # the Elements that targets name are made before the targets
         others += [self.tags()] if self.some(0.75) else []
         others += [self.chapters()] if self.some(0.05) else []
         clusters = self.clusters([*numbers, 222] if self.some(0.05) else list(numbers))
@@ -255,13 +255,13 @@ class Maker:
 
 
 def kinds_of(chance):
-    """The kinds of some tracks."""
+    """Returns random kinds of a few tracks."""
     maker = Maker(chance)
     return [maker.kind() for _ in maker.few(1, 20 if maker.some(0.03) else 4)]
 
 
 def document(chance, kinds):
-    """A document of tracks of these kinds, by chance; a few are cut, or have an octet that is another."""
+    """Returns a random document with tracks of the kinds `kinds`. A few are cut, or have a changed byte."""
     made = bytearray(Maker(chance).document(kinds))
     damage, at = chance.random(), chance.randrange(len(made))
     if damage < 0.03:
@@ -272,7 +272,7 @@ def document(chance, kinds):
 
 
 def subtitles(chance):
-    """A SubRip text of some entries."""
+    """Returns a SubRip text of a few entries."""
     def time(ms):
         return f"{ms // 3600000:02}:{ms // 60000 % 60:02}:{ms // 1000 % 60:02},{ms % 1000:03}"
 
@@ -285,7 +285,7 @@ def subtitles(chance):
 
 
 def simple_chapters(chance):
-    """A text of chapters, two lines each."""
+    """Returns a text of simple chapters, two lines each."""
     def lines(n):
         return f"CHAPTER{n:02}=00:00:{chance.randint(0, 59):02}.{chance.randint(0, 999):03}\nCHAPTER{n:02}NAME=Part {n}\n"
 

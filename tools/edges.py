@@ -1,7 +1,7 @@
-"""What the program does at the edge of the system: with a system call that fails or is the last one, with two runs at once, with
-other users, and on folders that take no new file. tools/try-edge runs it.
+"""Trials at the edge of the system: a system call fails or is the last one, two runs have one file, other users own files, and folders
+take no new file. tools/try-edge runs them.
 
-A trial is a function of a fresh folder that returns what went wrong there, one line for each fault."""
+A trial is a function of a fresh folder that returns the faults that it finds, one line each."""
 import collections
 import contextlib
 import os
@@ -19,7 +19,7 @@ CALLS = "statx,openat,flock,fchown,fchmod,fsync,pread64,pwrite64,ftruncate,renam
 OLD = b"an old file that has another name" * 9
 STRANGER = 65534
 
-# what a run is given: arguments, files, which of them it makes, and names or links of others; an edit is of film.mkv
+# input of a run: arguments, files, the outputs among them, and other names or links of files; an edit is of film.mkv
 Job = collections.namedtuple("Job", "words files outputs links", defaults=((), {}))
 Ran = collections.namedtuple("Ran", "status said")
 
@@ -47,7 +47,7 @@ def fresh(folder):
 
 
 def lay(folder, job):
-    """Lays out what a job begins with: files, names of them, and links."""
+    """Makes the files of a job, their other names, and links."""
     fresh(folder)
     for name, content in job.files.items():
         put(os.path.join(folder, name), content)
@@ -89,7 +89,8 @@ class Tried:
 # ---- a system call that fails
 
 def places(tried, job):
-    """The calls of a run from the first file on that it looks at: each with how often it was made before. Also what comes of it."""
+    """Returns the calls of a run, from the first on that examines a file, each with its number. Also returns the end and the
+    files."""
     lay(tried.folder, job)
     ran, counted, found, begun = tried.run(job.words, trace=tried.trace), collections.Counter(), [], False
     with open(tried.trace, encoding="utf-8", errors="replace") as file:
@@ -102,7 +103,7 @@ def places(tried, job):
 
 
 def each_fault(tried, job):
-    """A run with each fault at each call: the fault, how the run ended, and what a good one leaves and says."""
+    """Runs a job with each fault at each call. Yields the fault, the end of the run, and the end and the files of a good run."""
     found, good, left = places(tried, job)
     if good.status:
         yield "no fault", good, good, left
@@ -119,12 +120,12 @@ def each_fault(tried, job):
 
 
 def wrote(said):
-    """The outputs that are said to be written."""
+    """Returns the outputs that a run has reported as written."""
     return re.findall(r"^wrote ([^\n:]+)", said, re.MULTILINE)
 
 
 def faults_of_outputs(tried, job, ran, good, left):
-    """What is wrong after a run that makes outputs."""
+    """Returns the faults after a run that makes outputs."""
     for name, content in job.files.items():
         if name not in job.outputs and tried.read(name) != content:
             yield f"{name} has changed"
@@ -144,7 +145,8 @@ def faults_of_outputs(tried, job, ran, good, left):
 
 
 def is_begun(content, whole):
-    """Whether this is a first part of an output, though its SeekHead and the Segment's size may not be written yet."""
+    """Checks whether `content` is a first part of an output, except for its SeekHead and the Segment's size, which are written
+    last."""
     return len(content) <= len(whole) and content[308:] == whole[308:len(content)]
 
 
@@ -153,8 +155,8 @@ def is_live(journal):
 
 
 def faults_of_edits(tried, job, ran, good, left):
-    """What is wrong after a run that edits film.mkv, and after a recovery of it."""
-    # a film beside a live record is to become the new one
+    """Returns the faults after a run that edits film.mkv, and after a recovery of it."""
+    # a film beside a live record must become the new one
     old = None if is_live(job.files.get("film.mkv.mkvedit")) else job.files["film.mkv"]
     new, now, pending = left["film.mkv"], tried.read("film.mkv"), is_live(tried.read("film.mkv.mkvedit"))
     if now not in (old, new) and not pending:
@@ -192,14 +194,14 @@ def edit_jobs(tried, half, record):
 
 
 def stopped_edit(tried):
-    """The film and its journal as an edit leaves them that is stopped in its writes to the film."""
+    """Returns the film and its journal after an edit that is stopped in its writes to the film."""
     lay(tried.folder, Job(tried.edit, {"film.mkv": tried.film}))
     tried.run(tried.edit, "pwrite64:signal=KILL:when=5")
     return tried.read("film.mkv"), tried.read("film.mkv.mkvedit")
 
 
 def errors(tried):
-    """Each fault at each call of the system: nothing is lost, and nothing is said that isn't so."""
+    """Tries each fault at each call of the system: nothing is lost, and nothing false is reported."""
     for what, job in output_jobs(tried):
         yield what, [f"{fault}: {wrong}" for fault, ran, good, left in each_fault(tried, job) for wrong in faults_of_outputs(tried, job, ran, good, left)]
     half, record = stopped_edit(tried)
@@ -207,10 +209,10 @@ def errors(tried):
         yield what, [f"{fault}: {wrong}" for fault, ran, good, left in each_fault(tried, job) for wrong in faults_of_edits(tried, job, ran, good, left)]
 
 
-# ---- answers
+# ---- results
 
 def wanted(ran, status, said):
-    """What differs from the answer that is wanted."""
+    """Returns the difference to the expected status and output."""
     if (ran.status, ran.said) != (status, said):
         yield f"status {ran.status}, {ran.said!r}, not {status}, {said!r}"
 
@@ -221,14 +223,14 @@ def same(what, found, right):
 
 
 def unsynced_folder(tried):
-    """A folder that can't be synced is passed over; another failure there is a fault."""
+    """A folder that can't be synced is ignored; another failure there is a fault."""
     for error, status, said in (("EINVAL", 0, "edited film.mkv\n"), ("EOPNOTSUPP", 0, "edited film.mkv\n"), ("EIO", 4, "fault: disk\n")):
         lay(tried.folder, Job(tried.edit, {"film.mkv": tried.film}))
         yield from wanted(tried.run(tried.edit, f"fsync:error={error}:when=3"), status, said)
 
 
 def lock_that_fails(tried):
-    """Only a lock that isn't supported is passed over."""
+    """Only a lock that isn't supported is ignored."""
     for error, status, said in (("EOPNOTSUPP", 0, "edited film.mkv\n"), ("ENOSYS", 0, "edited film.mkv\n"), ("EIO", 4, "fault: disk\n"), ("ENOLCK", 4, "fault: disk\n")):
         lay(tried.folder, Job(tried.edit, {"film.mkv": tried.film}))
         yield from wanted(tried.run(tried.edit, f"flock:error={error}"), status, said)
@@ -241,7 +243,7 @@ def ends(*runs):
 
 
 def pair(tried, first, second, before):
-    """Two runs with one output, 20 times: it must be what one of them writes alone."""
+    """Two runs have one output, 20 times: it must be the output of one of them."""
     alone = []
     for words in (first, second):
         lay(tried.folder, Job(words, {"film.mkv": tried.film, "a.mkv": tried.other}))
@@ -262,7 +264,7 @@ def two_runs(tried):
 
 
 def run_beside_run(tried):
-    """An output that a run is writing is replaced by another one, and is no film for an edit."""
+    """An output that a run is writing is replaced by another run, and can't be edited."""
     lay(tried.folder, Job([], {"film.mkv": tried.film, "a.mkv": tried.other}))
     slow = tried.start(["merge", "-o", "o", "film.mkv"], "pwrite64:delay_enter=300000")
     until(lambda: tried.read("o") is not None)
@@ -280,10 +282,10 @@ def until(is_so, seconds=20):
         time.sleep(0.01)
 
 
-# ---- a film that another takes the place of, or that is locked
+# ---- a film that is replaced or locked
 
 def film_swapped(tried):
-    """Another film is put at the name while an edit reads: nothing is written, to neither of the two."""
+    """Another film gets the name while an edit reads: nothing is written, to neither of the two."""
     for words in (tried.edit, ["reindex", "film.mkv"]):
         lay(tried.folder, Job(words, {"film.mkv": tried.film, "other.mkv": tried.other}, (), {"kept": "film.mkv"}))
         edit = tried.start(words, "fsync:delay_enter=600000:when=1")
@@ -329,7 +331,7 @@ def mounted(place, *words):
 
 
 def kept_over(tried, folder, words, status, said, **how):
-    """An output with two names in a folder; the other name keeps what it has."""
+    """An output with two names is replaced in a folder; the other name keeps its bytes."""
     put(os.path.join(folder, "a.mkv"), tried.other)
     put(os.path.join(folder, "out"), OLD)
     os.link(os.path.join(folder, "out"), os.path.join(folder, "kept"))
@@ -347,7 +349,7 @@ WROTE = "wrote out: 2 blocks\n"
 
 
 def odd_folders(tried):
-    """Folders of which the whole path isn't UTF-8, is too long, or has a hundred names in use."""
+    """The path of a folder isn't UTF-8, or a hundred temporary names are in use."""
     fresh(tried.folder)
     odd = os.path.join(os.fsencode(tried.folder), b"caf\xe9")
     os.mkdir(odd)
@@ -362,7 +364,7 @@ def odd_folders(tried):
 
 
 def deep_folder(tried):
-    """A folder whose path is longer than the system takes at once."""
+    """A folder has a path that is longer than the system takes at once."""
     fresh(tried.folder)
     here = os.getcwd()
     try:
@@ -376,7 +378,7 @@ def deep_folder(tried):
 
 
 def few_descriptors(tried):
-    """As few descriptors as there may be: an output is written, or nothing is touched."""
+    """With few descriptors an output is written, or nothing is touched."""
     for most in range(3, 12):
         fresh(tried.folder)
         put(tried.at("a.mkv"), tried.other)
@@ -401,7 +403,7 @@ def no_room(tried):
 
 
 def mount_point(tried):
-    """An output that is a mount point is written in place, by one run at once."""
+    """An output that is a mount point is written in place, by one run at a time."""
     fresh(tried.folder)
     for name, content in (("a.mkv", tried.other), ("film.mkv", tried.film), ("there", OLD), ("out", b"")):
         put(tried.at(name), content)
@@ -415,7 +417,7 @@ def mount_point(tried):
 
 
 def full_disk(tried):
-    """An edit that appends, on a disk with less and less room: what it has begun is made whole when there is room."""
+    """An edit appends on a disk with less and less room: a begun edit is made whole when there is room."""
     fresh(tried.folder)
     words = ["propedit", "film.mkv", "-e", "track:1", "-s", "name=" + "N" * 6000]
     lay(tried.folder, Job(words, {"film.mkv": tried.film}))
@@ -436,7 +438,7 @@ def full_disk(tried):
 
 
 def fill(path, room):
-    """Fills a file system but for `room` bytes."""
+    """Fills a file system except for `room` bytes."""
     with open(path, "wb", 0) as file:
         with contextlib.suppress(OSError):
             while file.write(b"\1" * 4096):
@@ -445,7 +447,7 @@ def fill(path, room):
 
 
 def overlay(tried):
-    """A file of a lower layer: an input under another name is no output, and an edit follows the film that is copied up."""
+    """On an overlay, an input under another name can't be an output, and an edit follows the film that is copied up."""
     fresh(tried.folder)
     with mounted(tried.at("lower"), "-t", "tmpfs", "none") as lower, mounted(tried.at("top"), "-t", "tmpfs", "none") as top:
         for name in ("upper", "work"):
@@ -463,7 +465,7 @@ def overlay(tried):
 # ---- other users
 
 def strangers_journal(tried):
-    """A journal that is neither the film's owner's nor the user's is refused, and readers report it as any."""
+    """A journal that neither the film's owner nor the user owns is refused, and readers report it as any other."""
     for content, said in ((b"", None), (b"\0", None), (tried.record, "error: film.mkv: PendingEdit, run recover\n")):
         for words in (tried.edit, ["recover", "film.mkv"], ["reindex", "film.mkv"]):
             fresh(tried.folder)
@@ -477,7 +479,7 @@ def strangers_journal(tried):
 
 
 def owners_journal(tried):
-    """A journal of the film's owner is his own for root, too, and what root makes is the owner's."""
+    """Root takes a journal of the film's owner, and a journal that root makes is the owner's."""
     fresh(tried.folder)
     os.chmod(tried.folder, 0o777)
     put(tried.at("film.mkv"), tried.film, 0o644, STRANGER)
@@ -490,7 +492,7 @@ def owners_journal(tried):
 
 
 def access_list(tried):
-    """A film with an access list that gives its group nothing: the record is only its owner's."""
+    """A film has an access list that gives its group nothing: only its owner may read the record."""
     fresh(tried.folder)
     put(tried.at("film.mkv"), tried.film, 0o600)
     entries = ((1, 6, 2**32 - 1), (2, 6, 1001), (4, 0, 2**32 - 1), (16, 6, 2**32 - 1), (32, 0, 2**32 - 1))
@@ -507,7 +509,7 @@ OF_ROOT = (no_room, mount_point, full_disk, overlay, strangers_journal, owners_j
 
 
 def systems(tried):
-    """What needs two runs, another user, or a folder of its own kind."""
+    """Tries two runs at once, other users, and special folders."""
     for trial in (*WITH_STRACE, *OF_ALL, *(OF_ROOT if os.geteuid() == 0 else ())):
         try:
             yield trial.__name__.replace("_", " "), list(trial(tried))

@@ -1,7 +1,7 @@
-"""A film of 60 MB for each minute, for timing: video of 40 KB a frame, two tracks of sound in laces, subtitles in BlockGroups.
+"""A film of 60 MB a minute, for timing: video of 40 KB a frame, two laced tracks of sound, and subtitles in BlockGroups.
 
-Where ffmpeg and mkvmerge are installed it is encoded by them: H.264 with B-frames, AC-3 and Opus, with SubRip and chapters. One
-minute is encoded, and repeated. Elsewhere it is made here, in the same shape, of octets by chance."""
+If ffmpeg and mkvmerge are installed, they encode it: H.264 with B-frames, AC-3 and Opus, with SubRip and chapters. One minute is
+encoded, and repeated. Otherwise this module makes it, in the same shape, of random bytes."""
 import os
 import random
 import shutil
@@ -24,7 +24,7 @@ ENCODED = (("v.mp4", PICTURE, H264), ("a.mka", AC3, ["-ac", "2", "-c:a", "ac3", 
 
 
 def write(path, minutes):
-    """Writes a film of so many minutes."""
+    """Writes a film of `minutes` minutes."""
     if shutil.which("ffmpeg") and shutil.which("mkvmerge"):
         with tempfile.TemporaryDirectory(dir=os.path.dirname(path)) as room:
             encode(path, minutes, room)
@@ -39,7 +39,7 @@ def ffmpeg(*words):
 
 
 def repeated(room, name, times):
-    """A Matroska file of an encoded one, so many times behind itself."""
+    """Returns a Matroska file that repeats an encoded one `times` times."""
     with open(f"{room}/{name}.txt", "w", encoding="ascii") as file:
         file.write(f"file '{room}/{name}'\n" * times)
     ffmpeg("-f", "concat", "-safe", "0", "-i", f"{room}/{name}.txt", "-c", "copy", f"{room}/{name}.mkv")
@@ -61,12 +61,12 @@ def encode(path, minutes, room):
         for k in range(1, minutes + 1):
             file.write(f"CHAPTER{k:02}={clock(60000 * (k - 1), '.')}\nCHAPTER{k:02}NAME=Chapter {k}\n")
     words = ["--title", "A film", "--chapters", f"{room}/c.txt", video, sound, "--default-track-flag", "0:0", other, f"{room}/s.srt"]
-    # a status of 1 tells of a warning
+    # status 1 is a warning
     if subprocess.run(["mkvmerge", "-q", "-o", path, *words], stdout=subprocess.DEVNULL).returncode > 1:
         raise OSError("mkvmerge makes no film")
 
 
-# ---- by itself
+# ---- without other programs
 
 def number(element_id, value):
     return blocks.short(element_id, value.to_bytes(max(1, (value.bit_length() + 7) // 8), "big"))
@@ -82,7 +82,7 @@ def sound(rate, channels):
 
 
 def front():
-    """Info, Tracks, and a Void, as muxers leave one for edits."""
+    """Returns Info, Tracks, and a Void, as muxers leave one for edits."""
     info = number("2AD7B1", 1000000) + blocks.short("4D80", b"bench") + blocks.short("5741", b"bench")
     picture = blocks.short("63A2", blocks.AVC_CONFIG) + blocks.short("E0", number("B0", 1920) + number("BA", 1080))
     tracks = (track(1, 1, "V_MPEG4/ISO/AVC", picture), track(2, 2, "A_AC3", number("23E383", 32000000), sound(48000, 6)),
@@ -91,7 +91,7 @@ def front():
 
 
 class Octets:
-    """Octets by chance, the same each time."""
+    """Random bytes, the same each time."""
 
     def __init__(self):
         self.chance = random.Random(1)
@@ -106,7 +106,8 @@ class Octets:
 
 
 def cluster(octets):
-    """The blocks of three seconds, each with its time: frames of three units; AC-3 in laces of one size; Opus in Xiph's; a subtitle."""
+    """Yields the blocks of three seconds, each with its time. Video frames have three units; AC-3 has laces of one size, Opus Xiph
+    laces."""
     for k, size in enumerate(octets.sizes(STEP * RATE // 1000, 27000, 53000)):
         yield k * 1000 // RATE, blocks.block(k * 1000 // RATE, blocks.units(octets.take(size), 2, 700), 1, 0 if k else 0x80)
     for at in range(0, STEP, 256):

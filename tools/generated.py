@@ -1,10 +1,10 @@
-"""What `generate` writes, made once more from its page in docs/COMMANDS.md, and compared octet for octet."""
+"""The files of `generate`, made independently from the description in docs/COMMANDS.md, and compared byte for byte."""
 import os
 import subprocess
 import tempfile
 
 NUMBERS = (1, 2, 25, 26, 250, 251, 500)
-# with this one an unproved program takes minutes
+# an unproved program takes minutes with this number
 MOST = 100000
 HEADER = bytes.fromhex("1A45DFA3A3 42868101 42F78101 42F28104 42F38108 428288") + b"matroska" + bytes.fromhex("42878104 42858102")
 INFO = bytes.fromhex("1549A966A1 2AD7B183 0F4240 4D808A") + b"mkvsuite 1" + bytes.fromhex("57418A") + b"mkvsuite 1"
@@ -12,12 +12,12 @@ PART = 10000
 
 
 def number(value):
-    """A number in the fewest octets, one at least."""
+    """Returns a number in as few bytes as possible, at least one."""
     return value.to_bytes(max(1, (value.bit_length() + 7) // 8), "big")
 
 
 def sized(size):
-    """An Element's size in the fewest octets."""
+    """Returns an Element's size in as few bytes as possible."""
     width = next(width for width in range(1, 9) if size < (1 << 7 * width) - 1)
     return (1 << 7 * width | size).to_bytes(width, "big")
 
@@ -32,7 +32,7 @@ def counting(first, count):
 
 
 def pictures(n):
-    """Of each its track, its time, whether it is key, the sizes of its frames, and their octets."""
+    """Returns each picture: its track, its time, whether it is a keyframe, the sizes of its frames, and their bytes."""
     return [(1, 40 * i, i % 25 == 0, [size], counting(i, size)) for i in range(n) for size in [8 + 37 * i % 101]]
 
 
@@ -41,14 +41,14 @@ def sounds(n):
 
 
 def block(track, time, is_key, sizes, octets):
-    """A SimpleBlock so long behind its Cluster."""
+    """Returns a SimpleBlock at `time` after its Cluster."""
     lace = bytes([len(sizes) - 1, *sizes[:-1]]) if len(sizes) > 1 else b""
     flags = 0x80 * is_key | 0x02 * (len(sizes) > 1)
     return element("A3", bytes([0x80 | track]), time.to_bytes(2, "big"), bytes([flags]), lace, octets)
 
 
 def clusters(kinds, blocks):
-    """Of each its body, and the track, the time and the place in it of each block that gets a cue point: a key picture."""
+    """Returns each Cluster's body, with the track, time and offset of each block that gets a cue point: a keyframe of video."""
     found = []
     for track, time, is_key, sizes, octets in blocks:
         if not found or time - start > 5000 or len(found[-1][0]) + len(block(track, time - start, is_key, sizes, octets)) > 1 << 20 \
@@ -69,7 +69,7 @@ def entry(place, kind):
 
 
 def whole(kinds, blocks):
-    """A file with tracks of these types, and so many octets and Clusters and cue points."""
+    """Returns a file with tracks of the types `kinds`, and its numbers of Clusters and cue points."""
     tracks = element("1654AE6B", *(entry(place, kind) for place, kind in enumerate(kinds, 1)))
     seeks = [("1549A966", 256), ("1654AE6B", 256 + len(INFO))]
     body, cues = INFO + tracks, b""
@@ -89,7 +89,7 @@ def whole(kinds, blocks):
 
 
 def parts(blocks):
-    """The blocks of each part, whose times count from its first one."""
+    """Returns the blocks of each part, with times that count from its first block."""
     found = []
     for track, time, is_key, sizes, octets in blocks:
         if not found or track == 1 and is_key and time - start >= PART:
@@ -100,7 +100,7 @@ def parts(blocks):
 
 
 def wanted(n):
-    """The files of a number, and its line."""
+    """Returns the files of `generate n g`, and its line."""
     video = [(1, *rest) for _, *rest in pictures(n)]
     audio = [(2, *rest) for _, *rest in sounds(n)]
     both = sorted(video + audio, key=lambda block: (block[1], block[0]))
@@ -124,7 +124,7 @@ def octets_in(folder):
 
 
 def faults(is_unproved, program):
-    """What differs of what a program writes."""
+    """Returns the differences of the files that a program writes."""
     told = []
     for n in [*NUMBERS, *([] if is_unproved else [MOST])]:
         files, line = wanted(n)

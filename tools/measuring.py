@@ -1,4 +1,4 @@
-"""What a program takes: time, memory, calls of the system, octets that are read and written."""
+"""Measures of a run: time, memory, calls of the system, and bytes that are read and written."""
 import collections
 import os
 import re
@@ -10,14 +10,14 @@ import typing
 
 READING = ("read", "pread64", "readv", "preadv")
 WRITING = ("write", "pwrite64", "writev", "pwritev")
-# these read and write in one
+# calls that both read and write
 COPYING = ("copy_file_range", "sendfile")
-# a call's name and what it answered, where it isn't cut in two by another thread's; a call is counted where it ends
+# the name and result of a call; a call that another thread's interrupts is counted at its end
 ENDED = re.compile(r"^\d* *(?:<\.\.\. )?(\w+)(?:\(| resumed>).*?(?:= (-?\d+)\D*|= \?.*)?$")
 
 
 class Time(typing.NamedTuple):
-    """One run: seconds by the clock, processor seconds of user and system, octets that came from the disk, and the status."""
+    """One run: wall time and processor time in seconds, bytes that came from the disk, and the status."""
     wall: float
     processor: float
     from_disk: int
@@ -25,7 +25,7 @@ class Time(typing.NamedTuple):
 
 
 def timed(words):
-    """One run of a program, which says nothing."""
+    """Runs a program, without its output, and returns its times."""
     begun = time.perf_counter()
     ran = subprocess.Popen(words, stdin=subprocess.DEVNULL, stdout=subprocess.DEVNULL, stderr=subprocess.DEVNULL)
     _, status, used = os.wait4(ran.pid, 0)
@@ -35,7 +35,7 @@ def timed(words):
 
 
 def memory(words):
-    """The most memory in KiB, by GNU time: forked by an interpreter a program would have the interpreter's memory counted, too."""
+    """Returns the peak memory in KiB, by GNU time: a process that python forks would count python's memory, too."""
     if not os.path.exists("/usr/bin/time"):
         return None
     run = subprocess.run(["/usr/bin/time", "-q", "-f", "%M", *words], stdout=subprocess.DEVNULL, stderr=subprocess.PIPE, text=True)
@@ -43,7 +43,7 @@ def memory(words):
 
 
 class Calls(typing.NamedTuple):
-    """How many calls of the system, the most frequent by their names, and the octets that they read and wrote."""
+    """Number of calls of the system, the most frequent by name, and the bytes that they read and wrote."""
     count: int
     names: list
     read: int
@@ -51,7 +51,7 @@ class Calls(typing.NamedTuple):
 
 
 def calls(words):
-    """The calls of the system in one run, by strace, which slows it much."""
+    """Returns the calls of the system in one run, by strace, which slows it much."""
     if not shutil.which("strace"):
         return None
     counts, octets = collections.Counter(), collections.Counter()
@@ -68,7 +68,7 @@ def calls(words):
 
 
 def give_up(path):
-    """Has the system forget what it holds of a file, so that the next one reads it from the disk."""
+    """Makes the system drop the cached content of a file, so that the next run reads it from the disk."""
     file = os.open(path, os.O_RDONLY)
     try:
         os.fdatasync(file)

@@ -1,9 +1,9 @@
-"""The sessions of the pages, run as they stand: README.md, docs/COMMANDS.md and docs/TUTORIAL.md.
+"""The sessions of the pages, run as they are there: README.md, docs/COMMANDS.md and docs/TUTORIAL.md.
 
-A session is what stands below one heading `## ..`: lines that are set in by four blanks. One that begins with `$ ` is a
-command, and those below it are what it says, to the letter. The commands of a session are run in order by one shell, in a fresh
-folder that has `tools` and `samples` as the repository has them; `mkvsuite` is the program, and so is `tools/run`. A command ends
-with status 0, unless `# status N` stands behind it. What proves, builds or packs is left out."""
+A session is the indented lines (by four spaces) below one heading `## ..`. A line that begins with `$ ` is a command, and the lines
+below it are its exact output. One shell runs the commands of a session in order, in a fresh folder with the repository's `tools` and
+`samples`. `mkvsuite` is the program, and so is `tools/run`. A command ends with status 0, unless `# status N` follows it. Commands that
+prove, build or pack are left out."""
 import collections
 import os
 import re
@@ -22,7 +22,7 @@ Session = collections.namedtuple("Session", "place title commands")
 
 
 def sessions(page):
-    """What is to be run of a page."""
+    """Returns the sessions of a page."""
     found, is_open, blank = [], False, 0
     with open(os.path.join(ROOT, page), encoding="utf-8") as file:
         for number, line in enumerate(file.read().split("\n"), 1):
@@ -43,7 +43,7 @@ def sessions(page):
 
 
 def ends(session, program):
-    """What each command says, and its status."""
+    """Runs a session, and returns the output and the status of each command."""
     with tempfile.TemporaryDirectory() as room:
         tools, folder = os.path.join(room, "tools"), os.path.join(room, "folder")
         os.makedirs(tools)
@@ -62,7 +62,7 @@ def ends(session, program):
 
 
 def faults(session, program):
-    """What differs from the page."""
+    """Returns the differences to the page."""
     came, wrong = ends(session, program)
     told = [wrong] if wrong else []
     for one, end in zip(session.commands, [*came, *[("", "not run")] * len(session.commands)]):

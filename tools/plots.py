@@ -1,4 +1,4 @@
-"""A drawing, as SVG, of what tools/bench has taken: bars beside those of `cp` and of the peers, and how times grow."""
+"""A drawing, as SVG, of the figures of tools/bench: bars beside those of `cp` and of the peers, and the growth of times."""
 
 WIDTH, LEFT, BAR, GAP, NARROW = 900, 210, 11, 7, 390
 COLOURS = {"mkvsuite": "#2f5d8a", "cp": "#999999", "ffmpeg": "#c98a2b"}
@@ -22,7 +22,7 @@ def rect(x, y, width, height, fill):
 
 
 def legend(rows, y):
-    """The programs and their colours; all of mkvtoolnix have one."""
+    """Draws the programs and their colours; all programs of mkvtoolnix have the same one."""
     names = dict.fromkeys(row["who"] if row["who"] in COLOURS else "mkvtoolnix" for row in rows)
     return [rect(LEFT + 120 * k, y - 9, 10, 10, colour(name)) + text(LEFT + 120 * k + 15, y, name) for k, name in enumerate(names)]
 
@@ -30,7 +30,7 @@ def legend(rows, y):
 # ---- bars
 
 def by_work(rows):
-    """The rows of each work, in their order."""
+    """Returns the rows of each work, in order."""
     works = {}
     for row in rows:
         works.setdefault(row["what"], []).append(row)
@@ -38,7 +38,7 @@ def by_work(rows):
 
 
 def bars(title, rows, value, form, y):
-    """A bar for each row, those of one work together; what is drawn, and where it ends."""
+    """Draws a bar for each row, grouped by work. Returns the drawing and its lower end."""
     most = max(map(value, rows))
     drawn = [text(12, y, title, "h")]
     y += 10
@@ -53,14 +53,14 @@ def bars(title, rows, value, form, y):
 
 
 def beside_copy(rows, y):
-    """Wall times on the film as ratios to that of `cp`."""
+    """Draws wall times on the film as ratios to the time of `cp`."""
     films = [row for row in rows if row["of"] == "film" and not row["cold"]]
     copy = next(min(row["wall"]) for row in films if row["who"] == "cp")
     return bars("A film: minimum wall time, as a multiple of cp", films, lambda row: min(row["wall"]) / copy, ".2f", y)
 
 
 def in_memory(rows, y):
-    """Peak memory of every command, for small blocks of the greatest number of blocks and of tracks only."""
+    """Draws the peak memory of every command; for small blocks, only at the largest numbers of blocks and of tracks."""
     most = {begin: max((row["number"] for row in rows if begin in row["what"]), default=0) for begin in ("block", "track")}
     known = [row for row in rows if row.get("memory") and row["who"] != "cp" and row["number"] in (0, *most.values())]
     return bars("Peak memory, in MiB", known, lambda row: row["memory"] / 1024, ".1f", y) if known else ([], y)
@@ -69,14 +69,14 @@ def in_memory(rows, y):
 # ---- growth
 
 def frame(title, below, left, y, points, most):
-    """The axes: the numbers below, and the most seconds."""
+    """Draws the axes: the numbers below, and the largest number of seconds."""
     drawn = [text(left, y, title, "h"), f'<path class="a" d="M{left} {y + 16}v170h{NARROW}"/>', text(left + 5, y + 26, f"{most:.2f} s")]
     drawn += [text(left + x, y + 200, f"{number:,}", "m") for number, x in points.items()]
     return [*drawn, text(left + NARROW / 2, y + 216, below, "m")]
 
 
 def growth(title, below, rows, left, y, even):
-    """A line for each program: processor seconds over the number of blocks, or of tracks, which have even distances."""
+    """Draws a line for each program: processor seconds over the number of blocks, or of tracks, which have even distances."""
     numbers = sorted({row["number"] for row in rows})
     place = lambda k, number: (k + 1) / len(numbers) if even else number / numbers[-1]
     points = {number: (NARROW - 30) * place(k, number) for k, number in enumerate(numbers)}
@@ -90,7 +90,8 @@ def growth(title, below, rows, left, y, even):
 
 
 def growths(rows, y):
-    """Growth with the number of small blocks, next to growth with the number of tracks at nearly the same number of blocks."""
+    """Draws growth with the number of small blocks, next to growth with the number of tracks at nearly the same number of
+    blocks."""
     drawn = []
     for left, of, even in ((12, "block", False), (480, "track", True)):
         those = [row for row in rows if of in row["what"] and row["number"]]
@@ -99,7 +100,7 @@ def growths(rows, y):
 
 
 def drawing(rows):
-    """The whole drawing."""
+    """Returns the whole drawing."""
     rows, y = [row for row in rows if row["good"]], 50
     parts = legend(rows, 20)
     for panel in (beside_copy, in_memory, growths):

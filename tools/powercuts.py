@@ -1,11 +1,16 @@
-"""What a power cut may leave of a film and its sidecar, by the model of a disk in crates/mkv_disk/specs/Image.antt.
+"""The states that a power cut may leave of a film and its journal, by the model of a disk in crates/mkv_disk/specs/Image.antt.
 
-The calls of a run that change the two files are recorded by strace, with their octets. `states` then gives pairs of contents that a
-cut may leave at any moment of such calls: of a file on which nothing waits for a sync its content; else a content of some length
-between the least and the greatest since the last sync, with anything in what was written since and past the least length, and all
-else as at that sync. Of those that are possible these are taken: each set of the writes; each write torn at its first octet, in the
-middle and before its last; what was written filled with 00, FF or other octets; and each of these at the least length, the greatest
-and one between. A new name of a file is there or not until its folder is synced."""
+strace records the calls of a run that change the two files, with their bytes. `states` then returns pairs of contents that a cut may
+leave at any moment of such calls. If no change of a file waits for a sync, its content is left. Otherwise a content is left whose length
+is between the least and the greatest since the last sync. It has anything in the bytes that were written since and past the least
+length; all other bytes are as at that sync. Of the possible contents these are taken:
+
+- each set of the writes;
+- each write torn after its first byte, in the middle and before its last;
+- written bytes filled with 00, FF or other bytes;
+- each of these at the least length, the greatest and one between.
+
+A new name of a file may be missing until its folder is synced."""
 import itertools
 import os
 import re
@@ -24,8 +29,8 @@ def unescaped(text):
 
 
 def record(program, words, folder):
-    """Runs the program in a folder. What it says, its status, and the calls that changed something: each a name and what
-    was done with the file of that name: `make`, `write` with a place and octets, `cut` with a length, or `sync`."""
+    """Runs the program in a folder. Returns its output, its status, and the calls that changed a file. Each call is a name and the
+    change: `make`, `write` with an offset and bytes, `cut` with a length, or `sync`."""
     trace = folder + ".calls"
     run = subprocess.run(["strace", "-y", "-xx", "-s", "20000000", "-o", trace, "-e", f"trace={CALLS}", program, *words], cwd=folder, capture_output=True, text=True)
     found = []
@@ -42,7 +47,7 @@ def record(program, words, folder):
 
 
 def change(call, path, rest, answer, folder):
-    """A call on an open file, with its name in the folder."""
+    """Returns a call on an open file, with the file's name in the folder."""
     name = os.path.relpath(unescaped(path).decode(), folder)
     if call == "fsync":
         return name, "sync"
@@ -53,7 +58,7 @@ def change(call, path, rest, answer, folder):
 
 
 def changed(content, one):
-    """A content after a write or a cut, by its place and octets, or its length."""
+    """Returns a content after a write (an offset and bytes) or a cut (a length)."""
     if one[0] == "cut":
         return content[:one[1]]
     at, octets = one[1:]
@@ -61,7 +66,7 @@ def changed(content, one):
 
 
 class DiskFile:
-    """A file as a disk keeps it: what is read, what it held at its last sync, and what was done since."""
+    """A file as a disk keeps it: the content that is read, the one at its last sync, and the changes since."""
 
     def __init__(self, content):
         self.reads = content
@@ -80,7 +85,7 @@ class DiskFile:
         return [one for one in self.pending if one[0] == "write"]
 
     def is_image(self, content):
-        """Whether a cut may leave this."""
+        """Checks whether a cut may leave this content."""
         if not self.least <= len(content) <= self.greatest:
             return False
         found, was = bytearray(content[:self.least]), bytearray(self.synced[:self.least])
@@ -90,7 +95,7 @@ class DiskFile:
         return found == was
 
     def torn(self):
-        """The calls since the last sync, or some of them, whole or in part."""
+        """Yields lists of calls since the last sync: some of them, whole or in part."""
         most = 5
         subsets = itertools.product((False, True), repeat=len(self.pending)) if len(self.pending) <= most else (
             [k < count for k in range(len(self.pending))] for count in range(len(self.pending) + 1))
@@ -106,7 +111,7 @@ class DiskFile:
                     yield self.pending[:number] + [("write", at, bytes([fill]) * len(octets))]
 
     def images(self):
-        """Some contents that a cut may leave, each once."""
+        """Returns some contents that a cut may leave, each once."""
         if not self.pending:
             return [self.synced]
         found = dict.fromkeys([self.synced, self.reads])
@@ -120,7 +125,7 @@ class DiskFile:
 
 
 class Disk:
-    """A film and its sidecar, which may not be there, and whether the folder has its name for sure."""
+    """A film and its journal, which may be missing, and whether the folder certainly has the journal's name."""
 
     def __init__(self, film, sidecar, name):
         self.name = name
@@ -129,7 +134,7 @@ class Disk:
         self.is_named = True
 
     def do(self, call):
-        """Carries out a recorded call."""
+        """Performs a recorded call."""
         name, what, *rest = call
         file = self.film if name == self.name else self.sidecar
         if what == "make":
@@ -145,14 +150,14 @@ class Disk:
         return self.film.reads, self.sidecar.reads if self.sidecar else None
 
     def images(self):
-        """Pairs of contents that a cut may leave now."""
+        """Returns pairs of contents that a cut may leave now."""
         sidecars = self.sidecar.images() if self.sidecar else [None]
         return list(itertools.product(self.film.images(), sidecars if self.is_named else [*sidecars, None]))
 
 
 def states(disk, calls):
-    """Pairs of contents that a cut may leave before, between and after these calls, each once, with the number of calls that
-    were made."""
+    """Returns pairs of contents that a cut may leave before, between and after these calls, each once, with the number of calls
+    before it."""
     found = dict.fromkeys(disk.images(), 0)
     for number, call in enumerate(calls):
         disk.do(call)

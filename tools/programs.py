@@ -1,9 +1,9 @@
-"""The programs of this checkout: the proved one, which tools/build and `rt ci` leave, and an unproved one for first looks and
-for checks, which is made in a minute or two.
+"""The programs of this checkout: the proved one, which tools/build and `rt ci` leave, and an unproved one for first trials and for checks,
+which is made in a minute or two.
 
-The kit's `rt try` compiles the sources without proving them, with checks at run time, runs the program once and removes it. While
-it runs, the program stands below the TMPDIR that it was given. So it is given a merge of many small blocks to do, and the
-program is copied meanwhile."""
+The kit's `rt try` compiles the sources without proving them, with checks at run time, runs the program once and removes it. While it
+runs, the program is below the TMPDIR that it was given. So it gets a merge of many small blocks to do, and the program is copied
+meanwhile."""
 import fcntl
 import os
 import shutil
@@ -27,7 +27,7 @@ def say(text):
     print(f"{os.path.relpath(sys.argv[0], os.getcwd())}: {text}", file=sys.stderr, flush=True)
 
 
-# ---- which one is to run
+# ---- the program to run
 
 def sources(folders):
     yield os.path.join(ROOT, "crates.txt")
@@ -38,7 +38,7 @@ def sources(folders):
 
 
 def is_newest(program, folders=("src", "specs", "proofs")):
-    """Whether a program is there, and no source that it is made of is newer."""
+    """Checks whether a program exists, and no source of it is newer."""
     try:
         made = os.stat(program).st_mtime
     except FileNotFoundError:
@@ -47,14 +47,14 @@ def is_newest(program, folders=("src", "specs", "proofs")):
 
 
 def build():
-    """The proved program, which is built where it isn't."""
+    """Returns the proved program. Builds it if it is missing or a source is newer."""
     if not is_newest(PROVED) and subprocess.run([BUILD]).returncode:
         sys.exit(CANT)
     return PROVED
 
 
 def newest():
-    """The proved program where no source is newer, else the unproved one, which is made where it isn't there."""
+    """Returns the proved program if no source is newer. Otherwise returns the unproved one, which is made if necessary."""
     if is_newest(PROVED):
         return PROVED
     if not shutil.which("rt"):
@@ -70,7 +70,7 @@ def newest():
 # ---- the unproved one
 
 def sample(blocks):
-    """A file of so many SimpleBlocks of one octet, of one track, in Clusters of a hundred."""
+    """Returns a file with `blocks` SimpleBlocks of one byte, of one track, in Clusters of a hundred."""
     def block(k):
         return b"\xA3\x85\x81" + k.to_bytes(2, "big") + b"\x80\xAA"
 
@@ -82,7 +82,7 @@ def sample(blocks):
 
 
 def program_in(room):
-    """The program that stands below a folder, once it runs."""
+    """Returns the program below a folder, once it runs."""
     for folder, _, names in os.walk(room):
         if "program" in names and "rattle-native" in folder and os.path.exists(f"{room}/out.mkv"):
             return os.path.join(folder, "program")
@@ -90,7 +90,7 @@ def program_in(room):
 
 
 class Progress:
-    """A line on a terminal that says how long it takes; elsewhere it is said once."""
+    """On a terminal, a line with the time so far; elsewhere, one line at the beginning."""
 
     def __init__(self):
         self.begun, self.terminal = time.monotonic(), sys.stderr.isatty()
@@ -109,7 +109,7 @@ class Progress:
 
 
 def spare_a_check(ran):
-    """Ends the check that `rt try` runs beside the compiling: it only looks for names that a proof would refuse, and takes a
+    """Ends the check that `rt try` runs beside the compiler: it only looks for names that a proof would refuse, and takes a
     gigabyte."""
     try:
         with open(f"/proc/{ran.pid}/task/{ran.pid}/children", encoding="utf-8") as file:
@@ -123,7 +123,7 @@ def spare_a_check(ran):
 
 
 def end(ran):
-    """Ends `rt`, which then ends what it has started."""
+    """Ends `rt`, which then ends its children."""
     ran.terminate()
     try:
         ran.wait(10)
@@ -133,7 +133,7 @@ def end(ran):
 
 
 def copied_while_it_runs(room):
-    """Compiles the sources, runs what comes of them, and copies it meanwhile; answers the copy, or None, and what was said."""
+    """Compiles the sources, runs the program, and copies it meanwhile. Returns the copy, or None, and the output."""
     words = ["rt", "try", "--seconds", "60", "--", "merge", "-o", f"{room}/out.mkv", f"{room}/in.mkv"]
     progress, copy = Progress(), None
     with open(f"{room}/said", "w+", encoding="utf-8", errors="replace") as said:
@@ -155,7 +155,7 @@ def copied_while_it_runs(room):
 
 
 def made():
-    """Makes the unproved program, where it isn't there or a source is newer; answers whether it is there then."""
+    """Makes the unproved program if it is missing or a source is newer. Returns whether it exists then."""
     os.makedirs(ROOM, exist_ok=True)
     signal.signal(signal.SIGTERM, lambda *_: sys.exit(128 + signal.SIGTERM))
     with open(os.path.join(ROOM, "lock"), "w", encoding="utf-8") as lock:
@@ -173,7 +173,7 @@ def made():
             if not copy:
                 sys.stderr.write(said)
                 return False
-            # a source that changed meanwhile is newer than it
+            # a source that changed meanwhile is newer than the program
             os.utime(copy, (begun, begun))
             os.replace(copy, UNPROVED)
     return True

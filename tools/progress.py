@@ -1,4 +1,4 @@
-"""What mkvsuite-progress promises, tried on a terminal and without one, with the program and with two that stand for it."""
+"""The behaviour of mkvsuite-progress, tried on a terminal and without one, with the program and with two scripts in its place."""
 import os
 import runpy
 import shutil
@@ -8,15 +8,15 @@ import tempfile
 
 ROOT = os.path.dirname(os.path.dirname(os.path.realpath(__file__)))
 SCRIPT = os.path.join(ROOT, "tools/mkvsuite-progress")
-# half of what its input has is written, and then nothing for a while
+# writes half of the size of its input, and then nothing for a while
 SLOW = "#!/bin/sh\nexec 8<in 9>out\nhead -c 500000 /dev/zero >&9\nsleep 2\necho done\nexit 3\n"
-# it doesn't end by itself
+# never ends by itself
 ENDLESS = "#!/bin/sh\necho $$\nexec sleep 60\n"
 CLEARED = b"\r\033[K"
 
 
 def beside(folder, program):
-    """The script in a folder, beside a program, which may be a text."""
+    """Copies the script into a folder, beside a program, which may be the text of a script."""
     os.mkdir(folder)
     if os.path.isfile(program):
         shutil.copy(program, f"{folder}/mkvsuite")
@@ -28,7 +28,8 @@ def beside(folder, program):
 
 
 def on_terminal(words, cwd, stop=None):
-    """What a program says, what it shows on a terminal, and its status. What is to stop it is done behind its first line, a number."""
+    """Returns a program's output, what it shows on a terminal, and its status. `stop` is called after its first line, which is a
+    number."""
     shown, terminal = os.openpty()
     with subprocess.Popen(words, cwd=cwd, stdin=subprocess.DEVNULL, stdout=subprocess.PIPE, stderr=terminal) as ran:
         os.close(terminal)
@@ -50,7 +51,7 @@ def on_terminal(words, cwd, stop=None):
 
 
 def is_seen():
-    """Whether the script sees here what it looks at."""
+    """Checks whether the script works on this system."""
     return runpy.run_path(SCRIPT)["is_seen"]()
 
 
@@ -63,7 +64,7 @@ def is_alive(number):
 
 
 def faults(program):
-    """What differs from what it promises."""
+    """Returns the differences to the expected behaviour."""
     told = []
     with tempfile.TemporaryDirectory() as room:
         script = beside(f"{room}/program", program)

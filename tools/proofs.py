@@ -1,8 +1,8 @@
-"""The crates of this checkout as tools prove them beside the gate: which there are, what is kept of them, and how each is proved,
-over the statements of those below it, by the kit's `rattle`.
+"""The crates of this checkout as tools prove them beside the gate: their list, what is kept of them, and the proof of each, over the
+statements of the crates below it, by the kit's `rattle`.
 
-What is proved stays in a folder of the user's cache, which may be removed at any time; so what was stopped goes on where it was.
-What the gate proved on this machine, of the same files over the same libraries, is taken from what it keeps, as the kit finds it."""
+Proved crates are kept in a folder of the user's cache, which may be removed at any time, so a stopped run goes on later. Crates that the
+gate proved on this machine, from the same files over the same libraries, are taken from its own cache by the kit's rules."""
 import collections
 import concurrent.futures
 import contextlib
@@ -22,26 +22,26 @@ ROOT = os.path.dirname(os.path.dirname(os.path.realpath(__file__)))
 CACHE = os.environ.get("XDG_CACHE_HOME") or os.path.join(os.path.expanduser("~"), ".cache")
 ROOM = os.path.join(CACHE, "mkvsuite-build", hashlib.sha256(ROOT.encode()).hexdigest()[:16])
 PARTS = ("src", "specs", "proofs")
-# what the check of a crate takes, as a rule
+# memory in bytes that the check of a crate usually takes
 ONE_CHECK = 1_600_000_000
 CANT = 125
 RUNNING = set()
 
-# `files` are those that a check reads, by their paths in the checkout, with what they hold
+# `files` are the files that a check reads: their paths in the checkout, and their bytes
 Crate = collections.namedtuple("Crate", "name own_deps kit_deps below stamp files")
 
 
 # ---- the crates
 
 def kit():
-    """The folder of the kit."""
+    """Returns the folder of the kit."""
     if not shutil.which("rt"):
         sys.exit("there is no `rt` on the PATH: the kit has to be installed (README.md)")
     return os.path.dirname(subprocess.run(["rt", "doc"], capture_output=True, text=True, check=True).stdout.strip())
 
 
 def kit_tools():
-    """The kit's `rt`, as a module."""
+    """Returns the kit's `rt`, as a module."""
     loader = importlib.machinery.SourceFileLoader("kit_rt", os.path.join(kit(), "bin", "rt"))
     made = importlib.util.module_from_spec(importlib.util.spec_from_loader("kit_rt", loader))
     loader.exec_module(made)
@@ -53,14 +53,14 @@ def folder_of(name):
 
 
 def listed():
-    """What each crate of crates.txt names."""
+    """Returns the names after each crate of crates.txt."""
     with open(os.path.join(ROOT, "crates.txt"), encoding="utf-8") as file:
         lines = [line.split("#")[0] for line in file]
     return {line.split(":")[0].split()[0]: line.split(":")[1].split() for line in lines if ":" in line}
 
 
 def texts(name):
-    """The files of a crate that a check reads, with what they hold, in one order."""
+    """Yields the files of a crate that a check reads, with their bytes, in a fixed order."""
     found = []
     for part in PARTS:
         for at, _, names in os.walk(os.path.join(folder_of(name), part)):
@@ -71,7 +71,7 @@ def texts(name):
 
 
 def crates(*tops):
-    """These crates and those that they stand on, lowest first."""
+    """Returns the crates `tops` and those that they depend on, lowest first."""
     names, found = listed(), {}
     with open(os.path.join(kit(), "KIT-ID"), encoding="utf-8") as file:
         identity = file.read()
@@ -104,7 +104,7 @@ def lines_of(crate):
 
 @contextlib.contextmanager
 def locked():
-    """Keeps the room for one run at a time, and drops from it what no crate is any more."""
+    """Keeps the cache for one run at a time, and removes from it what isn't a crate any more."""
     os.makedirs(ROOM, exist_ok=True)
     with open(os.path.join(ROOM, "lock"), "w", encoding="utf-8") as lock:
         try:
@@ -130,13 +130,13 @@ def is_kept(crate):
 
 
 def begin(crate):
-    """Makes room for what a crate's proof makes."""
+    """Makes an empty folder for a crate's proof."""
     shutil.rmtree(os.path.join(ROOM, crate.name), ignore_errors=True)
     os.makedirs(os.path.join(ROOM, crate.name))
 
 
 def keep(crate):
-    """Keeps what was proved of a crate; answers why, where it can't."""
+    """Keeps a crate's proof. Returns the reason if it can't."""
     if list(texts(crate.name)) != crate.files:
         return f"{crate.name} changed while it was proved\n"
     path = os.path.join(ROOM, crate.name, "stamp")
@@ -147,7 +147,7 @@ def keep(crate):
 
 
 def as_the_kit_has_it(room, libraries):
-    """Sets up a checkout whose crates have their libraries in our room, and answers the kit's view of each, and what it keeps."""
+    """Sets up a checkout whose crates have their libraries in our cache. Returns the kit's view of each, and the kit's cache."""
     tools, known = kit_tools(), {}
     for name in ("crates.txt", "HANDLES"):
         shutil.copy2(os.path.join(ROOT, name), room)
@@ -163,7 +163,8 @@ def as_the_kit_has_it(room, libraries):
 
 
 def take_from_the_gate(libraries):
-    """Keeps, lowest first, what the gate proved of these, where the kit gives it: the same files, over the same libraries."""
+    """Keeps, lowest first, the libraries that the gate has proved, if the kit gives them: the same files, over the same
+    libraries."""
     have = set()
     with tempfile.TemporaryDirectory(prefix="gate-", dir=ROOM) as room:
         seen, gate = as_the_kit_has_it(room, libraries)
@@ -181,7 +182,7 @@ def take_from_the_gate(libraries):
 # ---- one crate
 
 def words(crate, at):
-    """The words of `rattle` for a crate: what it names, and where the logic of the kit stands."""
+    """Returns the arguments of `rattle` for a crate: its dependencies, and the folder of the kit's logic."""
     said = ["--crate-name", crate.name, "src/main.rt" if is_program(crate) else "src/lib.rt"]
     for name in ["std", *crate.kit_deps]:
         said += ["--extern", f"{name}={at}/rlibs/{name}.rlib"]
@@ -194,7 +195,7 @@ def words(crate, at):
 
 
 def run(command, folder, limit=None):
-    """Runs a command in a folder, for so many seconds at most, and answers what came of it."""
+    """Runs a command in a folder, for at most `limit` seconds, and returns its result."""
     child = subprocess.Popen(command, cwd=folder, stdin=subprocess.DEVNULL, stdout=subprocess.PIPE, stderr=subprocess.STDOUT, text=True,
                              errors="replace", start_new_session=True)
     RUNNING.add(child)
@@ -209,7 +210,7 @@ def run(command, folder, limit=None):
 
 
 def called(crate, *command):
-    """Runs a command in the folder of a crate; answers what it said where it failed."""
+    """Runs a command in the folder of a crate. Returns its output if it failed."""
     ran = run(command, folder_of(crate.name))
     return f"{crate.name} is not proved:\n{ran.stdout}" if ran.returncode else None
 
@@ -224,7 +225,7 @@ def prove(crate, at):
 # ---- all of them
 
 class Progress:
-    """One line that is written over where that is a terminal, else a line for each step."""
+    """One line on a terminal, which is overwritten; elsewhere, a line for each step."""
 
     def __init__(self, all_crates):
         self.lines = {it.name: lines_of(it) for it in all_crates}
@@ -237,7 +238,7 @@ class Progress:
             self.show(name)
 
     def left(self):
-        """How many minutes are left, by the lines that were proved so far."""
+        """Returns the estimated number of minutes left, by the number of lines proved."""
         proved = sum(self.lines[it] for it in self.done - self.kept)
         left = sum(lines for it, lines in self.lines.items() if it not in self.done)
         return (time.monotonic() - self.begun) * left / proved / 60 if proved else None
@@ -256,14 +257,14 @@ class Progress:
 
 
 def lanes():
-    """How many checks run at once: as many as there are processors and memory."""
+    """Returns the number of checks to run at once, by processors and memory."""
     with open("/proc/meminfo", encoding="utf-8") as file:
         free = next(int(line.split()[1]) * 1024 for line in file if line.startswith("MemAvailable"))
     return max(1, min(len(os.sched_getaffinity(0)), free // ONE_CHECK))
 
 
 def heights(found):
-    """How many lines each crate and those above it have, on the longest way up: what has most goes first."""
+    """Returns the number of lines on the longest way up from each crate: the crate with the largest number goes first."""
     height = {name: lines_of(crate) for name, crate in found.items()}
     for name in reversed(list(found)):
         for low in found[name].own_deps:
@@ -272,9 +273,9 @@ def heights(found):
 
 
 def kept_first(libraries, progress):
-    """Counts what an earlier run proved, or the gate."""
+    """Counts the crates that an earlier run or the gate has proved."""
     if not all(map(is_kept, libraries)):
-        # (a kit whose `rt` is made otherwise gives nothing)
+        # (a kit with another form of `rt` gives nothing)
         with contextlib.suppress(AttributeError, TypeError):
             take_from_the_gate(libraries)
     for crate in filter(is_kept, libraries):
@@ -282,7 +283,7 @@ def kept_first(libraries, progress):
 
 
 def prove_libraries(found, at, progress, at_once):
-    """Proves all libraries of these crates, each once those below it are proved; answers what was said where one failed."""
+    """Proves all libraries among these crates, each after the crates below it. Returns the output of the first that failed."""
     libraries = [it for it in found.values() if not is_program(it)]
     kept_first(libraries, progress)
     progress.show("beginning")
@@ -313,12 +314,12 @@ def end_all():
 
 
 def end(*_signal):
-    """Ends what still runs."""
+    """Ends all running commands."""
     end_all()
     os._exit(CANT)
 
 
 def may_be_ended():
-    """Has a signal end what runs too."""
+    """Makes a signal end the running commands, too."""
     signal.signal(signal.SIGTERM, end)
     signal.signal(signal.SIGINT, end)

@@ -1,4 +1,4 @@
-"""What other programs read of a file."""
+"""The content of a file as other programs read it."""
 import json
 import os
 import subprocess
@@ -6,13 +6,13 @@ import xml.etree.ElementTree
 
 
 def said(words):
-    """What a program says, and its status."""
+    """Runs a program, and returns its output and its status."""
     run = subprocess.run(words, capture_output=True)
     return run.stdout.decode(errors="replace") + run.stderr.decode(errors="replace"), run.returncode
 
 
 def streams(path):
-    """The packets of each stream of a file that has some, in their order, by the stream's number."""
+    """Returns the packets of each stream that has some, in order, by the stream's number."""
     run = subprocess.run(["ffprobe", "-v", "quiet", "-show_packets", "-show_data_hash", "md5", "-of", "json", path], capture_output=True)
     found = {}
     for packet in json.loads(run.stdout or "{}").get("packets", []):
@@ -22,7 +22,7 @@ def streams(path):
 
 
 def warnings(path):
-    """What other readers say against an output."""
+    """Returns the warnings and errors of other readers for an output."""
     found = json.loads(subprocess.run(["mkvmerge", "-J", path], capture_output=True).stdout)
     against = found.get("warnings", []) + found.get("errors", [])
     for program in (["mkvinfo", path], ["ffprobe", "-v", "warning", path]):
@@ -38,19 +38,19 @@ def octets(path):
 
 
 def without_identifiers(element):
-    """An Element of XML as text, without identifiers and what is around its texts."""
+    """Returns an Element of XML as text, without identifiers and the space around its texts."""
     inner = "".join(without_identifiers(child) for child in element if not child.tag.endswith("UID"))
     return f"<{element.tag}>{(element.text or '').strip()}{inner}"
 
 
 def extracted(path, mode):
-    """The editions or the Tags that mkvextract finds."""
+    """Returns the editions or the Tags that mkvextract finds."""
     text = subprocess.run(["mkvextract", path, mode, "-"], capture_output=True).stdout
     return [without_identifiers(child) for child in xml.etree.ElementTree.fromstring(text)] if b"<" in text else []
 
 
 def attached(path, folder):
-    """The attached files that mkvextract finds."""
+    """Returns the attached files that mkvextract finds."""
     found = []
     for each in json.loads(subprocess.run(["mkvmerge", "-J", path], capture_output=True).stdout)["attachments"]:
         out = os.path.join(folder, "attached")

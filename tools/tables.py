@@ -1,4 +1,4 @@
-"""What tools/bench has taken, as text: a table for the terminal, and the rows of the tables of docs/PERFORMANCE.md."""
+"""The figures of tools/bench as text: a table for the terminal, and the rows of the tables of docs/PERFORMANCE.md."""
 import statistics
 
 HEADS = ("least s", "median s", "x cp", "cpu s", "MiB", "calls", "MB read", "written")
@@ -9,7 +9,7 @@ NOT_ON_PAGE = ("merge, only Opus", "extract Opus, raw", "extract subtitles, raw"
 
 
 def compared(row, rows):
-    """The least time by the clock as a ratio to that of `cp` of the same octets."""
+    """Returns the minimum wall time as a ratio to the time of `cp` for the same bytes."""
     copies = [min(it["wall"]) for it in rows if it["who"] == "cp" and it["of"] == row["of"] and it["cold"] == row["cold"]]
     return min(row["wall"]) / copies[0] if copies else None
 
@@ -19,7 +19,7 @@ def cell(value, form):
 
 
 def taken(row):
-    """Memory, calls, and octets read and written, where they were taken."""
+    """Returns memory, calls, and bytes read and written, if they were measured."""
     part = lambda key, divisor, form: cell(row[key] / divisor if row.get(key) is not None else None, form)
     return [part("memory", 1024, ".1f"), cell(row.get("count"), ","), part("read", 1e6, ".1f"), part("written", 1e6, ".1f")]
 
@@ -36,7 +36,7 @@ def line(row, rows):
 
 
 def plain(found):
-    """A line of each program and work, behind what is known of the machine."""
+    """Yields a line of each program and work, after the description of the machine."""
     rows = found["rows"]
     yield ", ".join(f"{key} {value}" for key, value in found["machine"].items())
     yield f"a film of {found['film'] / 1e6:.1f} MB; at most {max(len(it['wall']) for it in rows)} rounds"
@@ -50,7 +50,7 @@ def plain(found):
 # ---- for the page
 
 def of_work(what, rows):
-    """The rows of one work: ours, or that of `cp` alone; mkvtoolnix's; ffmpeg's; ours from the disk."""
+    """Returns the rows of one work: ours or else `cp`, mkvtoolnix's, ffmpeg's, and ours from the disk."""
     those = [it for it in rows if it["what"] == what and it["good"]]
     first = lambda *names, cold=False: next((it for it in those if it["who"] in names and it["cold"] == cold), None)
     toolnix = [it["who"] for it in those if it["who"].startswith("mkv") and it["who"] != "mkvsuite"]
@@ -58,7 +58,7 @@ def of_work(what, rows):
 
 
 def row_of_film(what, rows):
-    """Wall time, ratios to `cp`, memory, calls, and MB that were read."""
+    """Returns wall time, ratios to `cp`, memory, calls, and MB that were read."""
     ours, *others = of_work(what, rows)
     ratio = lambda it: cell(it and compared(it, rows), ".2f")
     read = cell(ours["read"] / 1e6 if ours.get("read") is not None else None, ".0f")
@@ -66,7 +66,7 @@ def row_of_film(what, rows):
 
 
 def row_of_small(what, rows):
-    """Processor time of each program, memory, and calls."""
+    """Returns the processor time of each program, memory, and calls."""
     ours, toolnix, ffmpeg, _ = of_work(what, rows)
     processor = (cell(it and min(it["processor"]), ".3f") for it in (ours, toolnix, ffmpeg))
     return [what, *processor, *taken(ours)[:2]]
@@ -85,7 +85,7 @@ def printed(name, lines):
 
 
 def page(found):
-    """The two tables of docs/PERFORMANCE.md, each between the comments that mark it as printed."""
+    """Yields the two tables of docs/PERFORMANCE.md, each between the comments that mark it as printed."""
     rows = found["rows"]
     works = dict.fromkeys(it["what"] for it in rows if it["good"] and it["who"] in ("mkvsuite", "cp") and it["what"] not in NOT_ON_PAGE)
     films = {it["what"] for it in rows if it["of"] == "film"}
