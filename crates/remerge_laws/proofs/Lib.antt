@@ -32,3 +32,4 @@ pub mod RepeatSourceLemmas
 pub mod PlainSourceLemmas
 pub mod AgainSourceLemmas
 pub mod MergedAgainLemmas
+pub mod MergedFileLemmas

@@ -14,7 +14,7 @@ use Rattle.mkv_lines.specs.declared.status.Status.{Status}
 use Rattle.mkv_lines.specs.declared.status.Status.TheVariants.{Done, Warned, Refused}
 use Rattle.mkv_merge.specs.Merge.{merge_verdict, outputs_of, sources_of}
 use Rattle.mkv_merge.specs.Records.{HaveRecords}
-use Rattle.merge_laws.specs.Merge.{laid_out}
+use Rattle.merge_laws.specs.Merge.{IsMerged, laid_out}
 use Rattle.merge_laws.specs.Sources.{HoldsOctets}
 use Rattle.remerge_laws.specs.AgainSources.{CanBegin}
 use Rattle.remerge_laws.specs.Limits.{IsWithinLimits}
@@ -49,6 +49,14 @@ abbrev pub OutputsAreWrittenAgain : Type 0
 OutputsAreWrittenAgain =
     (world : List ℕ → Option (List ℕ)) (out name bytes : List ℕ) → CanBegin world (plain_merge out name) bytes → IsMergeOutput bytes → IsWithinLimits bytes
     → IsWrittenAgain world out name bytes
+
+-- The output of a merge with default options, as it is after the merge, is the output of a merge: `after` are the contents that the merge
+-- `words` of the command line `line` has left of the contents `world`.
+abbrev pub MergedFilesAreOutputs : Type 0
+MergedFilesAreOutputs =
+    (world after : List ℕ → Option (List ℕ)) (line : List (List ℕ)) (words : MergeWords) (bytes : List ℕ)
+    → HoldsOctets world → All IsUtf8 line → command line ≡ Ok (Merge words) → IsDefault words → IsMerged world words (Some after)
+    → after words.output ≡ Some bytes → IsMergeOutput bytes
 
 -- ---- a run
 

@@ -12,9 +12,9 @@ mod trees;
 pub use merges::{
     attached_files_stay, chapters_are_alike_again, entries_are_written_again,
     info_is_written_again, joined_tags_name_the_output, lanes_are_merged_again, merge_is_done,
-    outputs_are_repeated, outputs_are_sources, outputs_are_written_again, sources_are_plain,
-    tags_are_alike_again, tracks_are_taken_again, whole_merges_have_one_document,
-    whole_merges_have_small_records,
+    merged_files_are_outputs, outputs_are_repeated, outputs_are_sources, outputs_are_written_again,
+    sources_are_plain, tags_are_alike_again, tracks_are_taken_again,
+    whole_merges_have_one_document, whole_merges_have_small_records,
 };
 pub use outputs::{
     alike_documents_are_one, files_are_read, limits_leave_blocks, octets_keep_limits,

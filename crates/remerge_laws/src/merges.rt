@@ -7,7 +7,7 @@ ghost use Rattle.remerge_laws.specs.AgainInfo.{InfoIsWrittenAgain};
 ghost use Rattle.remerge_laws.specs.AgainLanes.{LanesAreMergedAgain};
 ghost use Rattle.remerge_laws.specs.AgainSources.{MergeIsDone, OutputsAreSources};
 ghost use Rattle.remerge_laws.specs.AgainTracks.{EntriesAreWrittenAgain, TracksAreTakenAgain};
-ghost use Rattle.remerge_laws.specs.MergedAgain.{OutputsAreWrittenAgain};
+ghost use Rattle.remerge_laws.specs.MergedAgain.{MergedFilesAreOutputs, OutputsAreWrittenAgain};
 ghost use Rattle.remerge_laws.specs.Named.{JoinedTagsNameTheOutput};
 ghost use Rattle.remerge_laws.specs.PlainSources.{SourcesArePlain};
 ghost use Rattle.remerge_laws.specs.Repeat.{OutputsAreRepeated};
@@ -106,6 +106,13 @@ pub fn outputs_are_sources()
 pub fn merge_is_done()
     ensures { MergeIsDone }
 {}
+
+/// The output of a merge with default options, as a run left it, is the output of a merge.
+pub fn merged_files_are_outputs()
+    ensures { MergedFilesAreOutputs }
+{
+    whole_merges_have_one_document();
+}
 
 /// The output of a merge with default options is written again as it was, byte for byte, if it is merged by itself
 /// and without options.

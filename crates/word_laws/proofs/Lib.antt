@@ -15,4 +15,5 @@ mod OutputLemmas
 mod FilesLemmas
 mod MergedLemmas
 mod LawLemmas
+mod PlainLemmas
 mod StandardFacts

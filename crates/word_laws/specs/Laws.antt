@@ -1,11 +1,13 @@
 -- Laws: a canonical command line is read back, and a title that is read is a text.
-use Rattle.std.specs.Prelude.{◌≡◌, ℕ, List, Some, IfSome, Ok}
+use Rattle.std.specs.Prelude.{◌≡◌, ℕ, List, [], ◌∷◌, codes, Some, None, IfSome, Ok}
 use Rattle.word_values.specs.Values.{text}
+use Rattle.requests.specs.Plain.{plain_file, plain_words}
 use Rattle.requests.specs.declared.merge.MergeWords.{MergeWords}
 use Rattle.mkv_args.specs.declared.command.Command.{Command}
 use Rattle.mkv_args.specs.declared.command.Command.TheVariants.{Merge}
 use Rattle.mkv_args.specs.Sound.{IsSound}
 use Rattle.mkv_args.specs.Words.{command}
+use Rattle.word_laws.specs.Names.{IsInputName}
 use Rattle.word_laws.specs.Spelled.{spelled}
 use Rattle.word_laws.specs.Spellable.{IsSpellable}
 
@@ -17,3 +19,15 @@ SpelledIsRead = (c : Command) → IsSound c → IsSpellable c → command (spell
 abbrev pub TitlesAreTexts : Type 0
 TitlesAreTexts =
     (line : List (List ℕ)) (words : MergeWords) → command line ≡ Ok (Merge words) → IfSome words.title (λ (title : List ℕ). text title ≡ Some title)
+
+-- `merge -o OUT ..` is read as `merge --output OUT ..`.
+abbrev pub ShortOutputIsRead : Type 0
+ShortOutputIsRead =
+    (output : List ℕ) (rest : List (List ℕ))
+    → command (codes "merge" ∷ codes "-o" ∷ output ∷ rest) ≡ command (codes "merge" ∷ codes "--output" ∷ output ∷ rest)
+
+-- `merge -o OUT FILE` asks for a merge of the file `name` to `output` without options.
+abbrev pub PlainMergeIsRead : Type 0
+PlainMergeIsRead =
+    (output name : List ℕ) → IsInputName name
+    → command (codes "merge" ∷ codes "-o" ∷ output ∷ name ∷ []) ≡ Ok (Merge (plain_words output None (plain_file name ∷ [])))
