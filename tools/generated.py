@@ -1,10 +1,19 @@
-"""The files of `generate`, made independently from the description in docs/COMMANDS.md, and compared byte for byte."""
+"""The files that `generate N PREFIX` must write, made by these rules and compared byte for byte.
+
+- PREFIX-a.mkv has N video frames, 40 ms apart from 0. Every 25th, beginning with the first, is a keyframe with a cue point. Frame i,
+  from 0, has 8 + (37i mod 101) bytes that count up from i modulo 256.
+- PREFIX-b.mkv has 2N audio blocks, 20 ms apart from 0, all of them keyframes, without cue points. Block i has one frame of 5 bytes; if
+  i is a multiple of 3, it is a Xiph lace of 4 and 6 bytes. Its bytes count up from 3i modulo 256.
+- PREFIX-m.mkv is the merge of both; PREFIX-s-001.mkv .. are the parts of PREFIX-m.mkv by `--split duration:10s`.
+
+All blocks are SimpleBlocks. The track of PREFIX-a and of PREFIX-b has TrackNumber 1 and TrackUID 1, with CodecID V_TEST or A_TEST. A
+tick is a millisecond."""
 import os
 import subprocess
 import tempfile
 
 NUMBERS = (1, 2, 25, 26, 250, 251, 500)
-# an unproved program takes minutes with this number
+# with this one an unproved program takes minutes
 MOST = 100000
 HEADER = bytes.fromhex("1A45DFA3A3 42868101 42F78101 42F28104 42F38108 428288") + b"matroska" + bytes.fromhex("42878104 42858102")
 INFO = bytes.fromhex("1549A966A1 2AD7B183 0F4240 4D808A") + b"mkvsuite 1" + bytes.fromhex("57418A") + b"mkvsuite 1"
@@ -12,12 +21,12 @@ PART = 10000
 
 
 def number(value):
-    """Returns a number in as few bytes as possible, at least one."""
+    """A number in the fewest octets, one at least."""
     return value.to_bytes(max(1, (value.bit_length() + 7) // 8), "big")
 
 
 def sized(size):
-    """Returns an Element's size in as few bytes as possible."""
+    """An Element's size in the fewest octets."""
     width = next(width for width in range(1, 9) if size < (1 << 7 * width) - 1)
     return (1 << 7 * width | size).to_bytes(width, "big")
 
@@ -32,7 +41,7 @@ def counting(first, count):
 
 
 def pictures(n):
-    """Returns each picture: its track, its time, whether it is a keyframe, the sizes of its frames, and their bytes."""
+    """Of each its track, its time, whether it is key, the sizes of its frames, and their octets."""
     return [(1, 40 * i, i % 25 == 0, [size], counting(i, size)) for i in range(n) for size in [8 + 37 * i % 101]]
 
 
@@ -41,14 +50,14 @@ def sounds(n):
 
 
 def block(track, time, is_key, sizes, octets):
-    """Returns a SimpleBlock at `time` after its Cluster."""
+    """A SimpleBlock so long behind its Cluster."""
     lace = bytes([len(sizes) - 1, *sizes[:-1]]) if len(sizes) > 1 else b""
     flags = 0x80 * is_key | 0x02 * (len(sizes) > 1)
     return element("A3", bytes([0x80 | track]), time.to_bytes(2, "big"), bytes([flags]), lace, octets)
 
 
 def clusters(kinds, blocks):
-    """Returns each Cluster's body, with the track, time and offset of each block that gets a cue point: a keyframe of video."""
+    """Of each its body, and the track, the time and the place in it of each block that gets a cue point: a key picture."""
     found = []
     for track, time, is_key, sizes, octets in blocks:
         if not found or time - start > 5000 or len(found[-1][0]) + len(block(track, time - start, is_key, sizes, octets)) > 1 << 20 \
@@ -69,7 +78,7 @@ def entry(place, kind):
 
 
 def whole(kinds, blocks):
-    """Returns a file with tracks of the types `kinds`, and its numbers of Clusters and cue points."""
+    """A file with tracks of these types, and so many octets and Clusters and cue points."""
     tracks = element("1654AE6B", *(entry(place, kind) for place, kind in enumerate(kinds, 1)))
     seeks = [("1549A966", 256), ("1654AE6B", 256 + len(INFO))]
     body, cues = INFO + tracks, b""
@@ -89,7 +98,7 @@ def whole(kinds, blocks):
 
 
 def parts(blocks):
-    """Returns the blocks of each part, with times that count from its first block."""
+    """The blocks of each part, whose times count from its first one."""
     found = []
     for track, time, is_key, sizes, octets in blocks:
         if not found or track == 1 and is_key and time - start >= PART:
@@ -100,7 +109,7 @@ def parts(blocks):
 
 
 def wanted(n):
-    """Returns the files of `generate n g`, and its line."""
+    """The files of a number, and its line."""
     video = [(1, *rest) for _, *rest in pictures(n)]
     audio = [(2, *rest) for _, *rest in sounds(n)]
     both = sorted(video + audio, key=lambda block: (block[1], block[0]))
@@ -124,7 +133,7 @@ def octets_in(folder):
 
 
 def faults(is_unproved, program):
-    """Returns the differences of the files that a program writes."""
+    """What differs of what a program writes."""
     told = []
     for n in [*NUMBERS, *([] if is_unproved else [MOST])]:
         files, line = wanted(n)
