@@ -175,7 +175,7 @@ module _ (bytes : List ℕ) (f : EditableFile) (is : indexable bytes ≡ Ok f) w
         time = indexed-time bytes segment (indexed_tracks f.trees.tracks) b at indexed;
       }
 
-  -- The SeekHead has the Seeks of the first elements.
+  -- The SeekHead has the Seeks of the first Elements.
   tells-of : (new : List ℕ) (h : HoldsCues bytes new f.outline (index_points bytes segment f.trees.tracks)) → HasSeeksOf index_ids bytes new segment h.rest.segment
   tells-of new h =
       let w = h.seeks in

@@ -1,4 +1,4 @@
--- The attached files of an Attachments element that two contents share.
+-- The attached files of an Attachments Element that two contents share.
 use Rattle.std.proofs.Common.{is_none, ◌≡◌, ◌==◌, ℕ, ◌+◌, Bool, true, false, if◌then◌else◌, List, [], ◌∷◌, map, filter, flat_map, All, Option, Some, None, Result, Ok, Err, refl, sym, ◌∙◌, ap, subst}
 use Rattle.std.specs.Option.{is_some, option_map_or}
 use Rattle.std.proofs.lemmas.List.Elements.{All-head, All-tail, All-filter, All-weaker}

@@ -79,7 +79,7 @@ alike-append (Ok x ∷ xs) (Err d ∷ ys) us vs one two = absurd one
 alike-append (Err c ∷ xs) (Ok y ∷ ys) us vs one two = absurd one
 alike-append (Err c ∷ xs) (Err d ∷ ys) us vs one two = tt
 
--- ---- an element that two contents share
+-- ---- an Element that two contents share
 
 -- The header and the body of `h` are the same in `a` and `b`.
 pub record IsShared (a b : List ℕ) (h : Header) : Type 0 where
@@ -201,7 +201,7 @@ group-alike r a b timestamp h within within' shared = of (timestamp_for r timest
 
 -- ---- the children of a Cluster
 
--- Two contents share the element `h`, which ends within both.
+-- Two contents share the Element `h`, which ends within both.
 pub record IsHeld (a b : List ℕ) (h : Header) : Type 0 where
   pub shared : IsShared a b h
   pub left : stated_end h ≤ length a

@@ -39,7 +39,7 @@ known-alike r a b e e' h known ends within within' same =
     (subst (λ x. AreAlike (found_in_run r a None (children_in in_master a h.body (end_in e h))) (found_in_run r b None (children_in in_master b h.body x))) (sym ends)
     (known-run r a b h.body (end_in e h) within within' same))
 
--- ---- a Cluster of unknown size that contains more elements
+-- ---- a Cluster of unknown size that contains more Elements
 
 none-found : (r : Rules) (bytes : List ℕ) (timestamp : Option ℕ) (hs : List Header) → All IsOutside hs → found_among r bytes timestamp hs ≡ []
 none-found r bytes timestamp [] none = refl

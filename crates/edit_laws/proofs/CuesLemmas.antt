@@ -54,11 +54,11 @@ cues-valid : is_id CUES ≡ true
 unfolding is_id
 cues-valid = refl
 
--- the Cues element of points
+-- the Cues Element of points
 abbrev cues_of : List CuePoint → Element
 cues_of points = element CUES (joined (map point_element points))
 
--- A Cues that is removed is treated as one without room: a Void is written in its place, and nothing goes to the end of the file.
+-- A Cues that is removed is treated as one without room. A Void is written in its place, and nothing is added at the end of the file.
 abbrev gone : ℕ → Element
 gone room = record { id = CUES; width = 7; body = replicate room 0 }
 
@@ -107,7 +107,7 @@ new-own (p ∷ ps) = refl
 
 -- ---- new content
 
--- The content `new` holds the rest of `old`. It has a Cues element with the points `points`, or none, and a SeekHead with the new places.
+-- The content `new` holds the rest of `old`. It has a Cues Element with the points `points`, or none, and a SeekHead with the new places.
 pub record HoldsCues (old new : List ℕ) (o : FileOutline) (points : List CuePoint) : Type 0 where
   pub items : List Item
   pub added : List Element
@@ -132,7 +132,7 @@ untouched-by head items added own are behind id level other seek cues = record {
 written-are : (new : List ℕ) (list : List Header) (p : CuePoint) (ps : List CuePoint) → IsWritten new CUES (joined (map point_element (p ∷ ps))) list → CuesAre new list (p ∷ ps)
 written-are new list p ps is = (header_in_place is.place is.element, is.first, body_of-read new is.place is.element is.held ∙ is.spells)
 
--- A Cues is the only element after the old end.
+-- A Cues is the only Element after the old end.
 alone-written : (new : List ℕ) (place : ℕ) (body : List ℕ) → HoldsAt new place (joined (element CUES body ∷ [])) → IsWritten new CUES body (headers_in_place place (element CUES body ∷ []))
 alone-written new place body held = record {
   place = place;
@@ -369,7 +369,7 @@ module _ (bytes : List ℕ) (are_octets : AreOctets bytes) (short : length bytes
       one-anew : HoldsCues bytes new o (p ∷ ps)
       one-anew = elim (cases_lt space (length (octets_of e))) [ inl long ↦ moves-on long | inr fits ↦ fits-in fits ]
 
-  -- In each case the file then has a Cues element with the points, and no other.
+  -- In each case the file then has a Cues Element with the points, and no other.
   pub cues-hold : (points : List CuePoint) → writes_of_parts index_ids true bytes o (cues_parts others (first_of CUES others) (new_cues points)) ≡ Ok ws → HoldsCues bytes new o points
   cues-hold points made = of points (first_of CUES others) refl made
     where

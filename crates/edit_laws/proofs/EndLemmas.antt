@@ -81,7 +81,7 @@ module _ (bytes : List ℕ) (o : FileOutline) (op : IsOpened bytes o) (undamaged
   over : run_of (level bytes o.segment.size (segment_bound bytes o.segment)) (segment_run bytes o.segment).end ≡ ends_at (segment_run bytes o.segment).end
   over = (tiled (level bytes o.segment.size (segment_bound bytes o.segment)) o.segment.body (segment_run bytes o.segment).end (segment_run bytes o.segment).list (advances-level bytes o.segment.size (segment_bound bytes o.segment)) run).ends
 
-  -- Its elements reach to the end of the file.
+  -- Its Elements reach to the end of the file.
   pub last-total : (segment_run bytes o.segment).end ≡ length bytes
   last-total = of (is_unknown o.segment.size) refl (sym op.end ∙ grow.end ∙ op.total)
     where
@@ -104,7 +104,7 @@ module _ (bytes : List ℕ) (o : FileOutline) (op : IsOpened bytes o) (undamaged
             | inr reached ↦ omega arith
           ]
 
-  -- Each element ends in the file.
+  -- Each Element ends in the file.
   pub ends-total : (h : Header) (m : ℕ) → Stands (level bytes o.segment.size (segment_bound bytes o.segment)) h.offset h m → IsAmong (segment_run bytes o.segment).list h → stated_end h ≤ length bytes
   ends-total h m stands ahead = of (h.id == CLUSTER) refl (is_unknown h.size) refl
     where
@@ -226,7 +226,7 @@ alone-first id (g ∷ gs) h other few found = of (alone-first id gs h other) (g.
     of further false same later =
         All-cons (λ (g : Header). (g.id == id) ≡ true → g ≡ h) g gs (λ own. absurd (cc)) (further (fewer (g.id == CLUSTER) refl) later)
 
--- If no other element has the ID, at most one element has it.
+-- If no other Element has the ID, at most one Element has it.
 pub twin-none : (list : List Header) (id : ℕ) → twin_of list id ≡ None → number_of id list ≤ 1
 twin-none list id none = of (nat_lt 1 (number_of id list)) refl none
   where
@@ -234,7 +234,7 @@ twin-none list id none = of (nat_lt 1 (number_of id list)) refl none
     of true is none = absurd (cc)
     of false is none = grind (arith, nat_tests)
 
--- No element that moves has a second one with its ID.
+-- No Element that moves has a second one with its ID.
 pub twins-none : (list : List Header) (ps : List Part) → twin_refusal list ps ≡ None → All (λ (p : Part). number_of p.id list ≤ 1) ps
 twins-none list [] none = All-nil (λ (p : Part). number_of p.id list ≤ 1)
 twins-none list (p ∷ ps) none =
@@ -259,7 +259,7 @@ twin-of list (p ∷ ps) (j ∷ js) i are all member long = of (λ rest. twin-of 
         absurd (let wrong : moves_from list i ≡ true = grind (arith, nat_tests) in cc)
     of further false is all (inr later) = further all later long
 
--- An element that moves is found.
+-- An Element that moves is found.
 pub moves-found : (list : List Header) (ps : List Part) (is : List Item) (i : Item) (place : ℕ) → AreOf list ps is → IsAmong is i → span_of i.header list < length (octets_of i.element) → (g : Header) × (first_of i.element.id (headers_in_place place (elements_moving ps)) ≡ Some g)
 moves-found list ps is i place are member long =
     let there = found is place member in

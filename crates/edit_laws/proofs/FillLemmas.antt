@@ -83,13 +83,13 @@ void-there new at total some short within held = of (nat_le total 128) refl held
         let len : length (replicate {A = ℕ} (total - 9) 0) ≡ total - 9 = length-replicate (total - 9) 0 in
         void-of new at total 8 (2 ^ 50) (omega arith) (omega arith) (omega arith) short (let fit : 2 ^ 50 - 9 < all_ones 8 = omega arith in fit) within (subst (λ n. HoldsAt new at (id_octets VOID ++ size_octets n 8)) len there)
 
--- ---- an element, or a Void in its place
+-- ---- an Element, or a Void in its place
 
--- The room has the element, or a single Void if the element has no room.
+-- The room has the Element, or a single Void if the Element has no room.
 abbrev pub Stands : Element → List Element → ℕ → Element → Type 0
 Stands now voids room e = ((now.id ≡ e.id) × (now.body ≡ e.body) × (length (octets_of e) ≤ room)) ⊎ ((now.id ≡ VOID) × (voids ≡ []) × (room < length (octets_of e)))
 
--- The room of `room` bytes at `at` has the element `e`, with a Void after it or none; or it has one Void.
+-- The room of `room` bytes at `at` has the Element `e`, with a Void after it or none; or it has one Void.
 pub record IsFilled (new : List ℕ) (at room : ℕ) (e : Element) : Type 0 where
   pub now : Element
   pub voids : List Element
@@ -102,7 +102,7 @@ pub record IsFilled (new : List ℕ) (at room : ℕ) (e : Element) : Type 0 wher
 joined-two : (d v : Element) → joined (d ∷ v ∷ []) ≡ octets_of d ++ octets_of v
 joined-two d v = ap (λ l. octets_of d ++ l) (append-nil (octets_of v))
 
--- The size of the element `e` can be written with one more byte.
+-- The size of the Element `e` can be written with one more byte.
 pub record CanWiden (e : Element) : Type 0 where
   pub own : IsElement e
   pub wide : e.width + 1 ≤ 8
@@ -164,7 +164,7 @@ filled new at room e can some short within held =
         let another : room ≢ length (octets_of e) + 1 = grind (arith, nat_tests) in
         with-void (omega arith) there
 
--- ---- a short element
+-- ---- a short Element
 
 pub small-widen : (id : ℕ) (body : List ℕ) → is_id id ≡ true → length body ≤ 2 ^ 25 → CanWiden (element id body)
 small-widen id body valid short =

@@ -1,4 +1,4 @@
--- An element depends on the bytes of its header, and on the ends of its parent and the file.
+-- An Element depends on the bytes of its header, and on the ends of its parent and the file.
 use Rattle.std.proofs.Common.{◌≡◌, ◌≤◌, ℕ, ◌+◌, ◌-◌, Bool, false, List, length, take, drop, Option, Some, None, Result, Ok, Err, refl, sym, ◌∙◌, ap, arith}
 use Rattle.std.proofs.lemmas.List.{drop-take, take-take}
 use Rattle.ebml_numbers.specs.declared.number.IdRead.{IdRead}
@@ -15,7 +15,7 @@ use Rattle.mkv_schema.proofs.ElementLemmas.{element_at-placed}
 use Rattle.output_model.proofs.HeldLemmas.{between-take}
 use Rattle.edit_laws.proofs.SameLemmas.{AreSame}
 
--- a place outside the masters that are read whole; `may_open` has the IDs that may have an unknown size
+-- a place outside the masters that are read whole; `may_open` has the IDs that may be open
 abbrev pub outside : (ℕ → Bool) → Setting
 outside may_open = record { may_open = may_open; display = false; read_whole = false }
 
@@ -51,7 +51,7 @@ read_of : (may_open : ℕ → Bool) (octets : List ℕ) (total p e : ℕ) (h : H
 unfolding element_in
 read_of may_open octets total p e h found = read_id may_open octets total p e h (id_at octets) refl found
 
--- The body of an element that was found has no damage.
+-- The body of an Element that was found has no damage.
 pub found-sound : (may_open : ℕ → Bool) (bytes : List ℕ) (p e : ℕ) (h : Header) → element_at (outside may_open) bytes p e ≡ Ok h → body_damage (outside may_open) (length bytes) e h ≡ None
 found-sound may_open bytes p e h found = (read_of may_open (octets_between bytes p e) (length bytes) p e h found).1
 
@@ -63,7 +63,7 @@ take-fewer m n a b few same = sym (take-take m n a few) ∙ ap (take m) same ∙
 drop-same : (m n : ℕ) (a b : List ℕ) → take (m + n) a ≡ take (m + n) b → take n (drop m a) ≡ take n (drop m b)
 drop-same m n a b same = sym (drop-take m n a) ∙ ap (drop m) same ∙ drop-take m n b
 
--- If the bytes of a header are the same, the element is the same, unless its body is damaged there.
+-- If the bytes of a header are the same, the Element is the same, unless its body is damaged there.
 element_in-same : (may_open may_open' : ℕ → Bool) (o o' : List ℕ) (total total' p e e' : ℕ) (h : Header) → element_in (outside may_open) o total p e ≡ Ok h → take (h.body - p) o' ≡ take (h.body - p) o → body_damage (outside may_open') total' e' h ≡ None → element_in (outside may_open') o' total' p e' ≡ Ok h
 unfolding element_in
 element_in-same may_open may_open' o o' total total' p e e' h found same sound =
@@ -87,8 +87,8 @@ header-octets bytes p q e before inside =
     ∙ sym (between-take bytes p (q - p) (e - p) (omega arith))
     ∙ ap (octets_between bytes p) (sym near)
 
--- If the bytes of its header are the same, the other content has the element, too, unless its body is damaged there. The end of its parent and
--- the IDs of unknown size don't matter.
+-- If the bytes of its header are the same, the other content has the Element, too, unless its body is damaged there. The end of its parent and
+-- the IDs that may be open don't matter.
 pub found-same : (may_open may_open' : ℕ → Bool) (a b : List ℕ) (p e e' : ℕ) (h : Header) → p ≤ e → element_at (outside may_open) a p e ≡ Ok h → h.body ≤ e' → AreSame a b p h.body → body_damage (outside may_open') (length b) e' h ≡ None → element_at (outside may_open') b p e' ≡ Ok h
 found-same may_open may_open' a b p e e' h before found inside same sound =
     let placed = element_at-placed (outside may_open) a p e h before found in
@@ -112,7 +112,7 @@ id_in-same may_open may_open' o total p e h found =
     ∙ id-of_body made (body_damage (outside may_open') total e made)
     ∙ ap (λ (k : Header). k.id) (sym r.made)
 
--- The ID of an element doesn't depend on the IDs of unknown size.
+-- The ID of an Element doesn't depend on the IDs that may be open.
 pub id-same : (may_open may_open' : ℕ → Bool) (bytes : List ℕ) (p e : ℕ) (h : Header) → element_at (outside may_open) bytes p e ≡ Ok h → id_of (element_at (outside may_open') bytes p e) ≡ h.id
 id-same may_open may_open' bytes p e h found = id_in-same may_open may_open' (octets_between bytes p e) (length bytes) p e h found
 

@@ -1,4 +1,4 @@
--- The elements of level 1 in a content after some are rewritten.
+-- The Elements of level 1 in a content after some are rewritten.
 use Rattle.std.proofs.Common.{◌≡◌, ℕ, ◌+◌, ◌==◌, Bool, true, false, if◌then◌else◌, List, [], ◌∷◌, length, flat_map, All, Option, Some, None, Ok, refl, sym, ◌∙◌, ap, arith}
 use Rattle.std.specs.Option.{option_map}
 use Rattle.std.proofs.lemmas.Bool.Decides.{nat_tests}
@@ -29,7 +29,7 @@ use Rattle.edit_laws.specs.Laws.{normal_form}
 use Rattle.edit_laws.proofs.AgainLemmas.{CanBeRead, again}
 use Rattle.edit_laws.proofs.ItemLemmas.{names}
 
--- The content `new` has an element with the ID `id` and the body `body`, which is the first with its ID in `list`.
+-- The content `new` has an Element with the ID `id` and the body `body`, which is the first with its ID in `list`.
 pub record IsWritten (new : List ℕ) (id : ℕ) (body : List ℕ) (list : List Header) : Type 0 where
   pub place : ℕ
   pub element : Element
@@ -38,11 +38,11 @@ pub record IsWritten (new : List ℕ) (id : ℕ) (body : List ℕ) (list : List 
   pub own : element.id ≡ id
   pub spells : element.body ≡ body
 
--- The same for each list whose first element with the ID is this one.
+-- The same for each list whose first Element with the ID is this one.
 pub written-first : (new : List ℕ) (id : ℕ) (body : List ℕ) (hs ns : List Header) → first_of id ns ≡ first_of id hs → IsWritten new id body hs → IsWritten new id body ns
 written-first new id body hs ns same is = record { place = is.place; element = is.element; first = same ∙ is.first; held = is.held; own = is.own; spells = is.spells }
 
--- The first element with an ID among elements that are written in sequence.
+-- The first Element with an ID among Elements that are written in sequence.
 pub first-written : (new : List ℕ) (id : ℕ) (body : List ℕ) (p : ℕ) (ds : List Element) → HoldsAt new p (joined ds) → All (λ (d : Element). d.id ≡ id → d.body ≡ body) ds → (g : Header) → first_of id (headers_in_place p ds) ≡ Some g → IsWritten new id body (headers_in_place p ds)
 first-written new id body p [] held spells g found = absurd (cc)
 first-written new id body p (d ∷ ds) held spells g found =
@@ -95,7 +95,7 @@ module _ (t : Edit) (listed : IsListed t t.list t.start) (was now : Header)
       ∙ damages-stay t r tail spots t.list listed.list listed.becomes
       (sym (ap (λ (x : Run). damages_of (events_in_run r t.old (segment_bound t.old was) x)) old_run ∙ ap (λ e. damages_of (events_among r t.old e t.list None)) old_bound) ∙ none)
 
-  -- ---- elements that aren't rewritten
+  -- ---- Elements that aren't rewritten
 
   module _ (id : ℕ) (level : ends_cluster id ≡ true) (other : (id == CLUSTER) ≡ false) (spots : All (λ (s : Spot). (s.header.id == id) ≡ false) t.spots) (behind : first_of id t.behind ≡ None) where
     first-same : first_of id (segment_run t.new now).list ≡ first_of id (segment_run t.old was).list
@@ -121,10 +121,10 @@ module _ (t : Edit) (listed : IsListed t t.list t.start) (was now : Header)
       of None none is = is
       of (Some h) some is = files-same t.old t.new h files (first-held ATTACHMENTS names.attachments.level refl spots behind h some) is
 
-  -- ---- elements that are rewritten
+  -- ---- Elements that are rewritten
 
   module _ (s : Spot) (member : IsAmong t.spots s) (spot : IsSpot t s) (id : ℕ) (body : List ℕ) (own : s.header.id ≡ id) (level : ends_cluster id ≡ true) (single : All (λ (o : Spot). o.header ≡ s.header → o ≡ s) t.spots) (first : first_of id t.list ≡ Some s.header) where
-    -- The element is in its place.
+    -- The Element is in its place.
     abbrev pub in-place : s.now.id ≡ id → s.now.body ≡ body → IsWritten t.new id body listed.list
     in-place same spells = record {
       place = s.header.offset;

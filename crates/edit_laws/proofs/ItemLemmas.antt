@@ -1,4 +1,4 @@
--- The rewritten elements of level 1, in both contents.
+-- The rewritten Elements of level 1, in both contents.
 use Rattle.std.proofs.Common.{inl, inr, ◌≡◌, ◌⊎◌, ◌<◌, ◌≤◌, ℕ, ◌+◌, ◌==◌, true, false, List, [], ◌∷◌, length, get_or, All, Some, None, refl, sym, ◌∙◌, ap, subst, arith}
 use Rattle.std.specs.Bool.{⊤}
 use Rattle.std.specs.Option.{unwrap_or}
@@ -34,19 +34,19 @@ use Rattle.edit_laws.proofs.FillLemmas.{IsFilled, CanWiden, filled}
 use Rattle.edit_laws.proofs.RoomLemmas.{tiles-stand, room-voids, first-there, ahead-behind}
 use Rattle.edit_laws.specs.Laws.{IsOutside}
 
--- an element that is rewritten: its old header, and the new element
+-- an Element that is rewritten: its old header, and the new Element
 pub record Item : Type 0 where
   pub header : Header
   pub element : Element
 
--- An element with the ID `id` can be rewritten at level 1.
+-- An Element with the ID `id` can be rewritten at level 1.
 pub record IsName (id : ℕ) : Type 0 where
   pub cluster : (id == CLUSTER) ≡ false
   pub void : (id == VOID) ≡ false
   pub level : ends_cluster id ≡ true
   pub inner : is_level0 id ≡ false
 
--- the write of the element in its room, or of a Void there
+-- the write of the Element in its room, or of a Void there
 abbrev pub write_of : List Header → Item → Write
 write_of others i = write i.header.offset (unwrap_or (fitted i.element (span_of i.header others)) (void_header (span_of i.header others)))
 
@@ -65,7 +65,7 @@ abbrev pub IsInside : List Header → List Item → ℕ → Type 0
 IsInside others [] k = ⊥
 IsInside others (i ∷ is) k = ((i.header.offset ≤ k) × (k < i.header.offset + span_of i.header others)) ⊎ IsInside others is k
 
--- The IDs of elements of level 1 that are rewritten, or stay.
+-- The IDs of Elements of level 1 that are rewritten, or stay.
 pub record AreNames : Type 0 where
   pub info : IsName INFO
   pub tracks : IsName TRACKS
@@ -95,7 +95,7 @@ pub goes-on : (size : Size) (id : ℕ) → is_level0 id ≡ false → ends_segme
 goes-on (Known n) id is = refl
 goes-on Unknown id is = is
 
--- A fact about each of several elements in sequence.
+-- A fact about each of several Elements in sequence.
 tiles-all : (bytes : List ℕ) (size : Size) (e p q : ℕ) (hs : List Header) (P : Header → Type 0) → Tiles (level bytes size e) p hs q
     → ((h : Header) (m : ℕ) → Stands (level bytes size e) h.offset h m → IsAmong hs h → P h) → All P hs
 tiles-all bytes size e p q [] P tiles each = All-nil P
@@ -104,13 +104,13 @@ tiles-all bytes size e p q (h ∷ hs) P (m, stands, rest) each =
     All-cons P h hs (each h m (subst (λ k. Stands (level bytes size e) k h m) (sym at) stands) (inl refl))
     (tiles-all bytes size e m q hs P rest (λ g k there ahead. each g k there (inr ahead)))
 
--- The element `h` can be in the other content, too.
+-- The Element `h` can be in the other content, too.
 pub record CanKeep (a b : List ℕ) (e e' : ℕ) (h : Header) : Type 0 where
   pub sound : body_damage in_segment (length b) e' h ≡ None
   pub ends : is_unknown h.size ≡ false → end_in e' h ≡ end_in e h
   pub closed : is_closed (length b) h ≡ is_closed (length a) h
 
--- The old elements of level 1 become the new ones, and each rewritten item has its own spot.
+-- The old Elements of level 1 become the new ones, and each rewritten item has its own spot.
 pub record IsAnew (t : Edit) (items : List Item) : Type 0 where
   pub listed : IsListed t t.list t.start
   pub edit : IsEdit t
@@ -302,7 +302,7 @@ module _ (bytes : List ℕ) (size now_size : Size) (start e now_end last : ℕ) 
         ]
       ])
 
-  -- The new content equals the old one, except for rewritten elements and elements after the old end.
+  -- The new content equals the old one, except for rewritten Elements and Elements after the old end.
   module _ (now_within : now_end ≤ length new) (stops : (id : ℕ) → ends_segment now_size id ≡ ends_segment size id)
       (keep : (h : Header) (m : ℕ) → Stands (level bytes size e) h.offset h m → IsAmong list h → CanKeep bytes new e now_end h)
       (blocks : (h : Header) → IsAmong list h → ends_cluster h.id ≡ false → IsOutside h)

@@ -1,4 +1,4 @@
--- Level 1 of two contents that differ only in the rooms of some elements, and after the old end.
+-- Level 1 of two contents that differ only in the rooms of some Elements, and after the old end.
 use Rattle.std.proofs.Common.{inl, inr, ◌≡◌, ◌⊎◌, ◌<◌, ◌≤◌, ℕ, ◌+◌, nat_lt, min, ◌==◌, Bool, true, false, if◌then◌else◌, List, [], ◌∷◌, ◌++◌, length, length-append, append-nil, find, get_or, All, Option, Some, None, Ok, refl, sym, ◌∙◌, ap, subst, arith}
 use Rattle.std.proofs.lemmas.Bool.{cases_lt, le-ltb, cond-false, false_from_ne_true}
 use Rattle.std.proofs.lemmas.Bool.Decides.{nat_tests}
@@ -27,9 +27,9 @@ use Rattle.edit_laws.proofs.ClusterLemmas.{known-alike, open-alike}
 use Rattle.edit_laws.proofs.TileLemmas.{Way, level, inner, run_of, advances-level, advances-inner, Stands, Tiles, whole, run-step, run-stops, run-tiled, tiled, stands-placed, tiles-end, inner-within, ahead-later}
 use Rattle.edit_laws.specs.Laws.{IsOutside}
 
--- ---- rewritten elements
+-- ---- rewritten Elements
 
--- A rewritten element of level 1: its old header; the new element or a Void in its place; and the Voids after that.
+-- A rewritten Element of level 1: its old header; the new Element or a Void in its place; and the Voids after that.
 pub record Spot : Type 0 where
   pub header : Header
   pub now : Element
@@ -42,8 +42,8 @@ all_now s = s.now ∷ s.voids
 abbrev pub end_of : Spot → ℕ
 end_of s = s.header.offset + length (joined (all_now s))
 
--- An edit: the two contents, the sizes of their Segments, where the bodies start and end, the old elements of level 1, the rewritten ones, the
--- new elements after the old end, and the end of the old list.
+-- An edit. It has both contents, the sizes of their Segments, and the start and the ends of the bodies. It also has the old Elements of level 1
+-- and their end, the rewritten ones, and the new Elements after the old end.
 pub record Edit : Type 0 where
   pub old : List ℕ
   pub new : List ℕ
@@ -69,7 +69,7 @@ old_inner t = inner t.old t.end
 abbrev pub new_inner : Edit → Way
 new_inner t = inner t.new t.now_end
 
--- The spot `s` is a rewritten element, in its place or at the end.
+-- The spot `s` is a rewritten Element, in its place or at the end.
 pub record IsSpot (t : Edit) (s : Spot) : Type 0 where
   pub inside : s.header.offset < t.end
   pub found : element_at in_segment t.old s.header.offset t.end ≡ Ok s.header
@@ -86,7 +86,7 @@ pub record IsSpot (t : Edit) (s : Spot) : Type 0 where
   pub voids : All (λ (d : Element). d.id ≡ VOID) s.voids
   pub stays : ((s.now.id ≡ s.header.id) × (ends_cluster s.header.id ≡ true)) ⊎ ((s.now.id ≡ VOID) × (s.voids ≡ []))
 
--- The old element `h` can stay in its place if it isn't rewritten. In the room of a rewritten one it is a Void.
+-- The old Element `h` can stay in its place if it isn't rewritten. In the room of a rewritten one it is a Void.
 pub record IsOld (t : Edit) (h : Header) : Type 0 where
   pub sound : body_damage in_segment (length t.new) t.now_end h ≡ None
   pub ends : is_unknown h.size ≡ false → end_in t.now_end h ≡ end_in t.end h
@@ -98,7 +98,7 @@ pub record IsOld (t : Edit) (h : Header) : Type 0 where
 abbrev pub IsClear : Edit → ℕ → ℕ → Type 0
 IsClear t p q = All (λ (s : Spot). (q ≤ s.header.offset) ⊎ (end_of s ≤ p)) t.spots
 
--- The new content equals the old one, except for rewritten elements and elements after the old end.
+-- The new content equals the old one, except for rewritten Elements and Elements after the old end.
 pub record IsEdit (t : Edit) : Type 0 where
   pub same : (p q : ℕ) → t.start ≤ p → p ≤ q → q ≤ t.end → IsClear t p q → AreSame t.old t.new p q
   pub longer : t.end ≤ t.now_end
@@ -111,9 +111,9 @@ pub record IsEdit (t : Edit) : Type 0 where
   pub behind : run_of (new_level t) t.last ≡ whole t.behind (run_of (new_level t) t.last).end
   pub closes : run_of (new_inner t) t.last ≡ ends_at t.last
 
--- ---- what becomes of the elements
+-- ---- what becomes of the Elements
 
--- The element `h` stays in its place, with its blocks if it is a Cluster, and otherwise with all its bytes.
+-- The Element `h` stays in its place, with its blocks if it is a Cluster, and otherwise with all its bytes.
 pub record IsKept (t : Edit) (h : Header) : Type 0 where
   pub found : element_at in_segment t.new h.offset t.now_end ≡ Ok h
   pub apart : All (λ (s : Spot). (s.header.offset == h.offset) ≡ false) t.spots
@@ -121,29 +121,29 @@ pub record IsKept (t : Edit) (h : Header) : Type 0 where
   pub closed : is_closed (length t.new) h ≡ is_closed (length t.old) h
   pub held : (h.id == CLUSTER) ≡ false → IsHeld t.old t.new h
 
--- The element is no longer listed: a Void in a used room, or an element that a Cluster of unknown size contains now.
+-- The Element is no longer listed: a Void in a used room, or an Element that a Cluster of unknown size contains now.
 abbrev pub IsGone : Edit → Header → Type 0
 IsGone t h = (ends_cluster h.id ≡ false) ⊎ ((s : Spot) × IsAmong t.spots s × IsSpot t s × (s.header ≡ h) × (s.now.id ≡ VOID))
 
--- The change of an element before others: it stays, is rewritten, or is gone.
+-- The change of an Element before others: it stays, is rewritten, or is gone.
 pub data Turn (t : Edit) (h : Header) (ks ns : List Header) : Type 0 where
   kept : IsKept t h → ns ≡ h ∷ ks → Turn t h ks ns
   now : (s : Spot) → IsAmong t.spots s → IsSpot t s → s.header ≡ h → ns ≡ headers_in_place s.header.offset (all_now s) ++ ks → Turn t h ks ns
   gone : IsGone t h → ns ≡ ks → Turn t h ks ns
 
--- The old elements become the new ones, and the added elements follow.
+-- The old Elements become the new ones, and the added Elements follow.
 abbrev pub Becomes : Edit → List Header → List Header → Type 0
 Becomes t [] ns = ns ≡ t.behind
 Becomes t (h ∷ hs) ns = (ks : List Header) × Turn t h ks ns × Becomes t hs ks
 
--- The elements from a place on become the elements that the new content lists from there on.
+-- The Elements from a place on become the Elements that the new content lists from there on.
 pub record IsListed (t : Edit) (hs : List Header) (q : ℕ) : Type 0 where
   pub list : List Header
   pub end : ℕ
   pub run : run_of (new_level t) q ≡ whole list end
   pub becomes : Becomes t hs list
 
--- The same after a Cluster of unknown size, which contains the elements that no longer end it.
+-- The same after a Cluster of unknown size, which contains the Elements that no longer end it.
 pub record IsInside (t : Edit) (hs : List Header) (q : ℕ) : Type 0 where
   pub more : List Header
   pub end : ℕ
@@ -181,12 +181,12 @@ Lists-level bytes size e = record { plain = refl; advances = advances-level byte
 Lists-inner : (bytes : List ℕ) (e : ℕ) → Lists in_master ends_cluster (λ h. Ok (end_in e h)) bytes e
 Lists-inner bytes e = record { plain = refl; advances = advances-inner bytes e; next_is = λ h known. refl }
 
--- The start of the next element.
+-- The start of the next Element.
 pub next-known : (bytes : List ℕ) (size : Size) (p e q : ℕ) (h : Header) → Stands (level bytes size e) p h q → is_unknown h.size ≡ false → end_in e h ≡ q
 next-known bytes size p e q h stands known =
     let is : Ok (end_in e h) ≡ Ok q = sym (cond-false (is_unknown h.size) _ (Ok (end_in e h)) known) ∙ stands.next in cc
 
--- An element that isn't a Cluster has a known size, and ends within its parent.
+-- An Element that isn't a Cluster has a known size, and ends within its parent.
 pub whole-known : (bytes : List ℕ) (size : Size) (p e q : ℕ) (h : Header) → Stands (level bytes size e) p h q → (h.id == CLUSTER) ≡ false → (is_unknown h.size ≡ false) × (stated_end h ≤ e)
 whole-known bytes size p e q h stands other =
     let is = element_in-whole in_segment (octets_between bytes p e) (length bytes) p e h stands.found in
@@ -260,7 +260,7 @@ module _ (t : Edit) (is : IsEdit t) where
   abbrev IsAt : ℕ → ℕ → Type 0
   IsAt p q = (p ≡ q) ⊎ ((s : Spot) × IsAmong t.spots s × IsSpot t s × (s.header.offset < p) × (p ≤ q) × (q ≡ end_of s))
 
-  -- The rewritten element was passed, or is still to come.
+  -- The rewritten Element was passed, or is still to come.
   abbrev Await : ℕ → List Header → Spot → Type 0
   Await q hs s = (end_of s ≤ q) ⊎ IsAmong hs s.header
 
@@ -270,11 +270,11 @@ module _ (t : Edit) (is : IsEdit t) where
   abbrev Goes : List Header → ℕ → Type 0
   Goes hs q = IsListed t hs q × IsInside t hs q
 
-  -- An element that is gone changes nothing for the others.
+  -- An Element that is gone changes nothing for the others.
   not-listed : (h : Header) (hs : List Header) (q : ℕ) → IsGone t h → IsListed t hs q → IsListed t (h ∷ hs) q
   not-listed h hs q is-gone rest = record { list = rest.list; end = rest.end; run = rest.run; becomes = (rest.list, gone is-gone refl, rest.becomes) }
 
-  -- ---- an element of level 1 that a Cluster can contain
+  -- ---- an Element of level 1 that a Cluster can contain
 
   child : (bytes : List ℕ) (p e q : ℕ) (h : Header) → element_at in_segment bytes p e ≡ Ok h → p < e → stated_end h ≤ e → e ≤ length bytes → is_unknown h.size ≡ false → ends_cluster h.id ≡ false → end_in e h ≡ q → Stands (inner bytes e) p h q
   child bytes p e q h there before ends within known goes next =
@@ -286,7 +286,7 @@ module _ (t : Edit) (is : IsEdit t) where
         next = ap (λ k. Ok k) next;
       }
 
-  -- ---- a rewritten element
+  -- ---- a rewritten Element
 
   module _ (s : Spot) (member : IsAmong t.spots s) (spot : IsSpot t s) (h : Header) (own : s.header ≡ h) (hs : List Header) where
     abbrev headers : List Header
@@ -301,7 +301,7 @@ module _ (t : Edit) (is : IsEdit t) where
       becomes = (rest.list, now s member spot own refl, rest.becomes);
     }
 
-    -- The element that is there now.
+    -- The Element that is there now.
     first-found : element_at in_master t.new s.header.offset t.now_end ≡ Ok (header_in_place s.header.offset s.now)
     first-found =
         let len = length-append (octets_of s.now) (joined s.voids) in
@@ -362,7 +362,7 @@ module _ (t : Edit) (is : IsEdit t) where
     placed : StandsAt p t.end h
     placed = element_at-placed in_segment t.old p t.end h (omega (arith, stands.inside)) stands.found
 
-    -- Its header ends before the next element begins.
+    -- Its header ends before the next Element begins.
     header-inside : h.body ≤ m
     header-inside = of (is_unknown h.size) refl
       where
@@ -390,7 +390,7 @@ module _ (t : Edit) (is : IsEdit t) where
     stands-now : (q : ℕ) → behind_in_segment t.new t.now_end h ≡ Ok q → Stands (new_level t) p h q
     stands-now q next = record { inside = (let inside = stands.inside in let longer = is.longer in omega arith); found = found; goes = is.stops h.id ∙ stands.goes; next = next }
 
-    -- An element of known size.
+    -- An Element of known size.
 
     module _ (known : is_unknown h.size ≡ false) where
       next-is : end_in t.end h ≡ m
@@ -463,7 +463,7 @@ module _ (t : Edit) (is : IsEdit t) where
           );
         }
 
-    -- A Cluster of unknown size before the element.
+    -- A Cluster of unknown size before the Element.
 
     inside-here : IsListed t (h ∷ hs) p → IsInside t hs m → IsInside t (h ∷ hs) p
     inside-here here more = of (ends_cluster h.id) refl
@@ -497,9 +497,9 @@ module _ (t : Edit) (is : IsEdit t) where
         of true ends = stops ends
         of false goes = goes_on goes
 
-  -- ---- all elements
+  -- ---- all Elements
 
-  -- The spots that are still to come after an element.
+  -- The spots that are still to come after an Element.
   await-behind : (q m : ℕ) (h : Header) (hs : List Header) → q ≤ m → All (λ (s : Spot). h ≡ s.header → end_of s ≤ m) t.spots → AreAwaited q (h ∷ hs) → AreAwaited m hs
   await-behind q m h hs later own awaited = λ k s below. of (get_or t.spots k s) (own k s below) (awaited k s below)
     where
@@ -516,7 +516,7 @@ module _ (t : Edit) (is : IsEdit t) where
       of further true same some = absurd (cc)
       of further false same rest = All-cons (λ x. passes x ≡ false) x xs same (further rest)
 
-  -- An element whose predecessors are all done.
+  -- An Element whose predecessors are all done.
   module _ (p m : ℕ) (from : t.start ≤ p) (h : Header) (hs : List Header) (stands : Stands (old_level t) p h m) (rest : Tiles (old_level t) m hs t.last) (old : IsOld t h) (awaited : AreAwaited p (h ∷ hs))
       (further : (q : ℕ) → IsAt m q → AreAwaited q hs → Goes hs q) where
     place : h.offset ≡ p
@@ -525,7 +525,7 @@ module _ (t : Edit) (is : IsEdit t) where
     step : p < m
     step = (stands-placed (old_level t) p m h (advances-level t.old t.size t.end) stands).1
 
-    -- A rewritten element.
+    -- A rewritten Element.
     at-spot : (s : Spot) → IsAmong t.spots s → IsSpot t s → All (λ (other : Spot). s.header ≡ other.header → end_of s ≡ end_of other) t.spots → s.header.offset ≡ p → Goes (h ∷ hs) p
     at-spot s member spot single same_place =
         let there : element_at in_segment t.old p t.end ≡ Ok s.header = subst (λ k. element_at in_segment t.old k t.end ≡ Ok s.header) same_place spot.found in
@@ -544,7 +544,7 @@ module _ (t : Edit) (is : IsEdit t) where
           subst (IsInside t (h ∷ hs)) same_place (inside-now s member spot h own hs (listed-now s member spot h own hs go.0) go.1),
         )
 
-    -- An element that isn't rewritten.
+    -- An Element that isn't rewritten.
     at-other : m ≤ t.end → All (λ (s : Spot). (s.header.offset == h.offset) ≡ false) t.spots → Goes (h ∷ hs) p
     at-other inside apart =
         let go = further m (inl refl)
@@ -568,7 +568,7 @@ module _ (t : Edit) (is : IsEdit t) where
             at-spot s first.0 (all-among (IsSpot t) t.spots s is.spots first.0)
             (all-among (λ (s : Spot). All (λ (other : Spot). s.header ≡ other.header → end_of s ≡ end_of other) t.spots) t.spots s is.single first.0) (same ∙ place)
 
-  -- The elements from a place on become the elements that the new content lists from there on.
+  -- The Elements from a place on become the Elements that the new content lists from there on.
   goes-from : (hs : List Header) (p q : ℕ) → t.start ≤ p → t.last ≤ t.end → Tiles (old_level t) p hs t.last → All (IsOld t) hs → IsAt p q → AreAwaited q hs → Goes hs q
   goes-from [] p q from short tiles old at awaited = done (at-end at)
     where
@@ -626,7 +626,7 @@ module _ (t : Edit) (is : IsEdit t) where
             | inr past ↦ here further (omega arith)
           ]
 
-  -- The old elements of level 1 become the new ones.
+  -- The old Elements of level 1 become the new ones.
   pub level-becomes : t.last ≤ t.end → run_of (old_level t) t.start ≡ whole t.list t.last → All (λ (s : Spot). IsAmong t.list s.header) t.spots → IsListed t t.list t.start
   level-becomes short run ahead =
       let tiles = tiled (old_level t) t.start t.last t.list (advances-level t.old t.size t.end) run in

@@ -1,4 +1,4 @@
--- Edits that move an element to the old end of the file, where the Segment ended.
+-- Edits that move an Element to the old end of the file, where the Segment ended.
 use Rattle.std.proofs.Common.{◌≡◌, ◌⊎◌, ◌<◌, ◌≤◌, ℕ, ◌+◌, nat_le, not, min, Bool, true, false, ◌&&◌, List, ◌∷◌, append-nil, length, length-append, All, Ok, refl, sym, ◌∙◌, ap, arith}
 use Rattle.std.proofs.lemmas.Bool.Decides.{nat_tests}
 use Rattle.std.proofs.lemmas.List.Elements.{All-head}

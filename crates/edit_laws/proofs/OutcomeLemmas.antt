@@ -1,4 +1,4 @@
--- The content of a file after edits, with or without a moved element.
+-- The content of a file after edits, with or without a moved Element.
 use Rattle.std.proofs.Common.{inl, inr, ◌≡◌, ◌⊎◌, ◌<◌, ◌≤◌, ℕ, ◌+◌, ◌^◌, ◌==◌, max, nat_lt, Bool, true, false, ◌||◌, if◌then◌else◌, List, [], ◌∷◌, ◌++◌, length, flat_map, All, Option, Some, None, IfSome, Result, Ok, refl, sym, ◌∙◌, ap, ap₂, subst, arith}
 use Rattle.std.specs.List.{list_any}
 use Rattle.std.specs.Prelude.{filter_map}
@@ -53,7 +53,7 @@ use Rattle.edit_laws.proofs.SectionLemmas.{AreFirst, first-fit, fit-octets, info
 use Rattle.edit_laws.proofs.TreeLemmas.{AreFit, IsFit, fit-all, info-stays, tracks-stay}
 use Rattle.edit_laws.proofs.WriteLemmas.{AreOf, few-parts, item_at, items-are, items_of, of-append, of-part, of-still, of-writes}
 
--- ---- elements that can be rewritten
+-- ---- Elements that can be rewritten
 
 -- The items have the ID `id`.
 pub items-id : (written : Bool) (id : ℕ) (list : List Header) (nodes : List Node) → All (λ (i : Item). i.element.id ≡ id) (items_of written id list nodes)
@@ -185,7 +185,7 @@ module _ (bytes : List ℕ) (are_octets : AreOctets bytes) (short : length bytes
   pub distinct : AreDistinct items
   distinct = two-distinct (are_of_info edits) (are_of_tracks edits) INFO TRACKS others (info_nodes t.info) t.tracks refl
 
-  -- ---- written elements can be read
+  -- ---- written Elements can be read
 
   module _ (few : All (λ (i : Item). length (octets_of i.element) ≤ 2 ^ 24) items) (nodes : most_nodes ps ≤ MAX_NODES) where
     pub are : All (IsItem others) items
@@ -309,7 +309,7 @@ module _ (bytes : List ℕ) (are_octets : AreOctets bytes) (short : length bytes
 
   -- ---- new content of the file
 
-  -- The items are rewritten, other elements follow the old end, and the parts are found among both.
+  -- The items are rewritten, other Elements follow the old end, and the parts are found among both.
   module _ (new : List ℕ) (all : List Item) (added : List Element) (rest : HoldsRest bytes new f.outline list all added)
       (few : All (λ (i : Item). length (octets_of i.element) ≤ 2 ^ 24) items) (nodes : most_nodes ps ≤ MAX_NODES)
       (untouched : (id : ℕ) → ends_cluster id ≡ true → (id == CLUSTER) ≡ false → (SEEK_HEAD == id) ≡ false → All (λ (i : Item). (i.element.id == id) ≡ false) items → IsUntouched all added id)
@@ -382,7 +382,7 @@ module _ (bytes : List ℕ) (are_octets : AreOctets bytes) (short : length bytes
         (λ id level other seek none. record { level = level; other = other; written = none; behind = All-nil (λ (d : Element). (d.id == id) ≡ false) })
         written-still
 
-  -- ---- an element moves
+  -- ---- an Element moves
 
   module _ (s : SeekHeadAt) (planned : IsPlanned f.outline edit_ids ps ws s others) (any : list_any moves ps ≡ true) (moved_first : Element) (moved_more : List Element) (moved_are : elements_moving ps ≡ moved_first ∷ moved_more) where
     abbrev seeks : Element
@@ -414,7 +414,7 @@ module _ (bytes : List ℕ) (are_octets : AreOctets bytes) (short : length bytes
     part-items : All (IsItem others) items
     part-items = are few-moving nodes-moving
 
-    -- A fact about all items holds for the moved elements.
+    -- A fact about all items holds for the moved Elements.
     of-items : (Q : Element → Type 0) → All (λ (i : Item). Q i.element) items → All Q (moved_first ∷ moved_more)
     of-items Q is = subst (All Q) moved_are (moving-all Q others ps items are-of is)
 
@@ -447,6 +447,6 @@ module _ (bytes : List ℕ) (are_octets : AreOctets bytes) (short : length bytes
           | inr has ↦ subst (λ n. IsWritten grown n (flat_map octets nodes) rest-away.list) own (rest-away.stays (item_at nodes h) (inr member) has).0
         ]
 
-    -- The content of the file if an element moves.
+    -- The content of the file if an Element moves.
     pub moved-away : HoldsEdited bytes grown f t
     moved-away = holds grown all (moved_first ∷ moved_more) rest-away few-moving nodes-moving untouched-away written-away

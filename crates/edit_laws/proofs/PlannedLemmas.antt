@@ -48,7 +48,7 @@ in-order old from (w ∷ ws) order = (order.0, order.1, order.2, in-order old (w
 
 -- ---- no refusal
 
--- Nothing refuses the parts `ps` and a SeekHead with Seeks of `ids`; `list` are the elements of level 1.
+-- Nothing refuses the parts `ps` and a SeekHead with Seeks of `ids`; `list` are the Elements of level 1.
 pub record IsPlanned (o : FileOutline) (ids : List ℕ) (ps : List Part) (ws : List Write) (s : SeekHeadAt) (list : List Header) : Type 0 where
   pub head : first_of SEEK_HEAD list ≡ Some s.header
   pub large : too_large (length_moving o ps (seek_head ids o ps (Some s)) (span_of s.header list)) ps ≡ None
@@ -178,7 +178,7 @@ module _ (bytes : List ℕ) (are_octets : AreOctets bytes) (short : length bytes
       else ascending (write s.header.offset (unwrap_or (fitted seeks space) []) ∷ part_writes ps)) still)
       ∙ planned.writes)
 
-  -- The moved elements follow the old end.
+  -- The moved Elements follow the old end.
   module _ (any : list_any moves ps ≡ true) (first : Element) (more : List Element) (moved : elements_moving ps ≡ first ∷ more)
       (elements : All IsElement (first ∷ more)) (names : All (λ (d : Element). IsName d.id) (first ∷ more)) where
     appended-is : appended ps ≡ joined (first ∷ more)

@@ -1,4 +1,4 @@
--- The content that stays if some elements of level 1 are rewritten, with or without elements after the old end.
+-- The content that stays if some Elements of level 1 are rewritten, with or without Elements after the old end.
 use Rattle.std.proofs.Common.{inl, inr, ◌≡◌, ◌⊎◌, ◌<◌, ◌≤◌, ℕ, ◌+◌, ◌-◌, ◌^◌, ◌==◌, min, Bool, true, false, if◌then◌else◌, List, [], ◌∷◌, ◌++◌, length, length-append, append-nil, All, None, Some, Ok, refl, sym, ◌∙◌, ap, ap₂, subst, arith}
 use Rattle.std.proofs.lemmas.List.Elements.{All-nil, All-head, All-weaker}
 use Rattle.ebml_numbers.specs.declared.number.Size.{Size}
@@ -54,7 +54,7 @@ use Rattle.edit_laws.specs.Laws.{IsOutside}
 
 -- ---- content that stays
 
--- No element with the ID `id` is rewritten or follows the old end. The ID ends a Cluster and isn't the Cluster's own.
+-- No Element with the ID `id` is rewritten or follows the old end. The ID ends a Cluster and isn't the Cluster's own.
 pub record IsUntouched (items : List Item) (added : List Element) (id : ℕ) : Type 0 where
   pub level : ends_cluster id ≡ true
   pub other : (id == CLUSTER) ≡ false
@@ -66,8 +66,8 @@ pub record HoldsCluster (old new : List ℕ) (was now h : Header) : Type 0 where
   pub found : element_at in_segment new h.offset (segment_bound new now) ≡ Ok h
   pub alike : (r : Rules) → AreAlike (found_in r old (segment_bound old was) h) (found_in r new (segment_bound new now) h)
 
--- The new content holds the rest of the old one. Level 1 is undamaged. Clusters, blocks and other elements that aren't rewritten stay in their
--- places, and no damage is added. A rewritten element is in its place; or, if it is the only one with its ID, after the old end or nowhere.
+-- The new content holds the rest of the old one. Level 1 is undamaged. Clusters, blocks and other Elements that aren't rewritten stay in their
+-- places, and no damage is added. A rewritten Element is in its place; or, if it is the only one with its ID, after the old end or nowhere.
 pub record HoldsRest (old new : List ℕ) (o : FileOutline) (was : List Header) (items : List Item) (added : List Element) : Type 0 where
   pub segment : Header
   pub ebml : ebml_header new ≡ Ok o.ebml
@@ -91,7 +91,7 @@ pub record HoldsRest (old new : List ℕ) (o : FileOutline) (was : List Header) 
 
 -- ---- items
 
--- A short element can be rewritten.
+-- A short Element can be rewritten.
 pub small-item : (others : List Header) (id : ℕ) (body : List ℕ) (h : Header) → IsName id → is_id id ≡ true → first_of id others ≡ Some h → length (octets_of (element id body)) ≤ 2 ^ 24 → IsItem others (record { header = h; element = element id body })
 small-item others id body h name valid first few =
     let all = length-octets_of (element id body) in
@@ -142,7 +142,7 @@ module _ (t : Edit) (o : FileOutline) (items : List Item) (added : List Element)
             (subst (λ e. AreAlike (found_in r t.old t.end h) (found_in r t.new e h)) (sym new_bound) (keeps.alike r));
       }
 
-  -- A rewritten element.
+  -- A rewritten Element.
   module _ (i : Item) (member : IsAmong items i) where
     is : IsItem (others_of t.list) i
     is = all-among (IsItem (others_of t.list)) items i are member
@@ -312,7 +312,7 @@ module _ (bytes : List ℕ) (are_octets : AreOctets bytes) (short : length bytes
         (segment-same bytes new o.ebml segment segment seg (omega (arith, len)) front-part there seg.own)
         refl
 
-  -- ---- elements follow the old end
+  -- ---- Elements follow the old end
 
   module _ (items : List Item) (are : All (IsItem others) items) (distinct : AreDistinct items) (grow : CanGrow o) (first : Element) (more : List Element)
       (elements : All IsElement (first ∷ more)) (names : All (λ (d : Element). IsName d.id) (first ∷ more)) (few : length (joined (first ∷ more)) ≤ 2 ^ 24)
@@ -554,6 +554,6 @@ module _ (bytes : List ℕ) (are_octets : AreOctets bytes) (short : length bytes
           (segment-same bytes new o.ebml segment now seg (omega (arith, grown-len)) front-clear is.there is.own)
           is.body
 
-    -- The content that stays if these elements follow the old end.
+    -- The content that stays if these Elements follow the old end.
     pub rest-moves : HoldsRest bytes new o list items (first ∷ more)
     rest-moves = rest-now now-is.0 now-is.1

@@ -14,14 +14,14 @@ use Rattle.edit_laws.proofs.BlockLemmas.{IsHeld}
 use Rattle.edit_laws.proofs.ClusterLemmas.{blocks-then, undamaged-then}
 use Rattle.edit_laws.proofs.LevelLemmas.{Spot, Edit, all_now, IsSpot, IsKept, IsGone, Becomes, Turn, kept, now, gone, cluster-ends, void-goes, goes-other}
 
--- An ID that differs from an element's ID.
+-- An ID that differs from an Element's ID.
 other-id : (a b id : ℕ) → a ≡ b → (b == id) ≡ false → (a == id) ≡ false
 other-id a b id same other = ap (λ n. n == id) same ∙ other
 
 void-other : (id : ℕ) → ends_cluster id ≡ true → (VOID == id) ≡ false
 void-other id ends = goes-other VOID id void-goes ends
 
--- No written element has the ID.
+-- No written Element has the ID.
 abbrev HasNot : ℕ → List Element → Type 0
 HasNot id ds = All (λ (d : Element). (d.id == id) ≡ false) ds
 
@@ -32,7 +32,7 @@ first-skips id p (d ∷ ds) ns none =
     ∙ first-skips id (p + length (octets_of d)) ds ns (All-tail (λ (d : Element). (d.id == id) ≡ false) d ds none)
 
 module _ (t : Edit) where
-  -- A rewritten element has the old ID, or is a Void.
+  -- A rewritten Element has the old ID, or is a Void.
   not-now : (id : ℕ) (s : Spot) → IsSpot t s → (VOID == id) ≡ false → ((s.now.id ≡ VOID) ⊎ ((s.header.id == id) ≡ false)) → HasNot id (all_now s)
   not-now id s spot void other = λ k d below. of k d below
     where
@@ -71,7 +71,7 @@ module _ (t : Edit) where
   blocks-stay r none spots [] ns is = ap blocks_of (sym (ap (λ l. events_among r t.new t.now_end l None) is ∙ none))
   blocks-stay r none spots (h ∷ hs) ns (ks, turn, rest) = of (blocks-stay r none spots hs ks rest) turn
     where
-      -- The element before gives no blocks.
+      -- The Element before gives no blocks.
       none-here : blocks_of (events_among r t.old t.end hs None) ≡ blocks_of (events_among r t.new t.now_end ks None) → (h.id == CLUSTER) ≡ false → blocks_of (events_among r t.old t.end (h ∷ hs) None) ≡ blocks_of (events_among r t.new t.now_end ks None)
       none-here behind other =
           ap (λ (b : Bool). blocks_of (if b then events_then (is_closed (length t.old) h) (found_in r t.old t.end h) (events_among r t.old t.end hs None) else events_among r t.old t.end hs None)) other ∙ behind
@@ -89,7 +89,7 @@ module _ (t : Edit) where
           ∙ sym (ap (λ l. blocks_of (events_among r t.new t.now_end l None)) is ∙ ap blocks_of (events-skip r s.header.offset (all_now s) ks (spot-cluster s spot)))
       of behind (gone is-gone is) = none-here behind (gone-other CLUSTER h cluster-ends spots is-gone) ∙ ap (λ l. blocks_of (events_among r t.new t.now_end l None)) (sym is)
 
-  -- If the old elements have no damage, the new ones have none.
+  -- If the old Elements have no damage, the new ones have none.
   pub damages-stay : (r : Rules) → events_among r t.new t.now_end t.behind None ≡ [] → All (λ (s : Spot). (s.header.id == CLUSTER) ≡ false) t.spots → (hs ns : List Header) → Becomes t hs ns
       → damages_of (events_among r t.old t.end hs None) ≡ [] → damages_of (events_among r t.new t.now_end ns None) ≡ []
   damages-stay r none spots [] ns is old = ap (λ l. damages_of (events_among r t.new t.now_end l None)) is ∙ ap damages_of none
@@ -112,9 +112,9 @@ module _ (t : Edit) where
           ∙ further (undamaged (ap (λ (g : Header). g.id == CLUSTER) (sym own) ∙ spot.cluster))
       of further (gone is-gone is) = ap (λ l. damages_of (events_among r t.new t.now_end l None)) is ∙ further (undamaged (gone-other CLUSTER h cluster-ends spots is-gone))
 
-  -- ---- the first element with an ID
+  -- ---- the first Element with an ID
 
-  -- If no element with the ID is rewritten, the first one is the same.
+  -- If no Element with the ID is rewritten, the first one is the same.
   pub first-stays : (id : ℕ) → ends_cluster id ≡ true → All (λ (s : Spot). (s.header.id == id) ≡ false) t.spots → first_of id t.behind ≡ None → (hs ns : List Header) → Becomes t hs ns → first_of id ns ≡ first_of id hs
   first-stays id ends others none [] ns is = ap (first_of id) is ∙ none
   first-stays id ends others none (h ∷ hs) ns (ks, turn, rest) = of (first-stays id ends others none hs ks rest) turn
@@ -161,7 +161,7 @@ module _ (t : Edit) where
       of further (inl same) = here turn same
       of further (inr later) = further later
 
-  -- The bytes of the first element stay, too.
+  -- The bytes of the first Element stay, too.
   pub held-stays : (id : ℕ) (g : Header) → ends_cluster id ≡ true → (id == CLUSTER) ≡ false → All (λ (s : Spot). (s.header.id == id) ≡ false) t.spots → (hs ns : List Header) → Becomes t hs ns → first_of id hs ≡ Some g → IsHeld t.old t.new g
   held-stays id g ends other others [] ns is found = absurd (cc)
   held-stays id g ends other others (h ∷ hs) ns (ks, turn, rest) found = of (held-stays id g ends other others hs ks rest) (h.id == id) refl found
@@ -175,10 +175,10 @@ module _ (t : Edit) where
       of further true same is = let is_it : h ≡ g = cc in subst (IsHeld t.old t.new) is_it (own same turn)
       of further false same later = further later
 
-  -- ---- rewritten elements
+  -- ---- rewritten Elements
 
   module _ (s : Spot) (member : IsAmong t.spots s) (spot : IsSpot t s) (id : ℕ) (is_its : s.header.id ≡ id) (ends : ends_cluster id ≡ true) (single : All (λ (o : Spot). o.header ≡ s.header → o ≡ s) t.spots) where
-    -- An element that stays isn't the rewritten one.
+    -- An Element that stays isn't the rewritten one.
     kept-other : (h : Header) → IsKept t h → h ≡ s.header → ⊥
     kept-other h keeps same =
         let differs : (s.header.offset == h.offset) ≡ false = all-among (λ (o : Spot). (o.header.offset == h.offset) ≡ false) t.spots s keeps.apart member in
@@ -189,7 +189,7 @@ module _ (t : Edit) where
     void-it : (VOID == id) ≡ false
     void-it = void-other id ends
 
-    -- A rewritten element in its place is the first one with its ID.
+    -- A rewritten Element in its place is the first one with its ID.
     pub first-now : s.now.id ≡ s.header.id → (hs ns : List Header) → Becomes t hs ns → first_of id hs ≡ Some s.header → first_of id ns ≡ Some (header_in_place s.header.offset s.now)
     first-now same [] ns is found = absurd (cc)
     first-now same (h ∷ hs) ns (ks, turn, rest) found = of (first-now same hs ks rest) turn (h.id == id) refl found
@@ -216,7 +216,7 @@ module _ (t : Edit) where
             absurd (let not_void = spot.void in let is_void : (s.header.id == VOID) ≡ true = grind (arith, nat_tests) in cc)
         of further (gone is-gone is) false test later = ap (first_of id) is ∙ further later
 
-    -- A moved element that is the only one with its ID is the first one after the old end.
+    -- A moved Element that is the only one with its ID is the first one after the old end.
     pub first-moved : s.now.id ≡ VOID → (hs ns : List Header) → All (λ (h : Header). (h.id == id) ≡ true → h ≡ s.header) hs → Becomes t hs ns → first_of id ns ≡ first_of id t.behind
     first-moved void [] ns alone is = ap (first_of id) is
     first-moved void (h ∷ hs) ns alone (ks, turn, rest) = of (first-moved void hs ks (All-tail (λ (h : Header). (h.id == id) ≡ true → h ≡ s.header) h hs alone) rest) turn (h.id == id) refl

@@ -1,4 +1,4 @@
--- The rooms of elements of level 1, among all elements there.
+-- The rooms of Elements of level 1, among all Elements there.
 use Rattle.std.proofs.Common.{inl, inr, ◌≡◌, ◌<◌, ◌≤◌, ℕ, ◌==◌, ◌&&◌, not, Bool, true, false, if◌then◌else◌, List, [], ◌∷◌, Option, Some, Ok, refl, sym, ◌∙◌, ap, subst, arith}
 use Rattle.std.proofs.lemmas.Bool.{cases_lt}
 use Rattle.std.proofs.lemmas.Bool.Decides.{nat_tests}
@@ -18,7 +18,7 @@ use Rattle.edit_laws.proofs.TileLemmas.{level, advances-level, Stands, Tiles, st
 use Rattle.edit_laws.proofs.LevelLemmas.{whole-known, next-known}
 
 module _ (bytes : List ℕ) (size : Size) (e : ℕ) where
-  -- The elements besides Clusters follow each other, up to the end of the list.
+  -- The Elements besides Clusters follow each other, up to the end of the list.
   pub tiles-stand : (p q : ℕ) (hs : List Header) → Tiles (level bytes size e) p hs q → Stand p q (others_of hs)
   tiles-stand p q [] tiles = tt
   tiles-stand p q (h ∷ hs) (m, stands, rest) = of (tiles-stand m q hs rest) (h.id == CLUSTER) refl
@@ -65,11 +65,11 @@ module _ (bytes : List ℕ) (size : Size) (e : ℕ) where
           split rest_is true false is = rest_is
           split rest_is false here is = rest_is
 
-  -- The element is a Void that ends inside a room.
+  -- The Element is a Void that ends inside a room.
   abbrev pub IsVoidIn : ℕ → Header → Type 0
   IsVoidIn end g = (g.id ≡ VOID) × (stated_end g ≤ end)
 
-  -- Each element in a room is a Void that ends inside.
+  -- Each Element in a room is a Void that ends inside.
   pub room-voids : (x p q : ℕ) (hs : List Header) (g : Header) → p ≤ x → Tiles (level bytes size e) p hs q → IsAmong hs g → x ≤ g.offset → g.offset < behind_voids x (others_of hs) → IsVoidIn (behind_voids x (others_of hs)) g
   room-voids x p q [] g before tiles ahead from inside = absurd ahead
   room-voids x p q (h ∷ hs) g before (m, stands, rest) ahead from inside =
@@ -81,7 +81,7 @@ module _ (bytes : List ℕ) (size : Size) (e : ℕ) where
       on : p < m
       on = (stands-placed (level bytes size e) p m h (advances-level bytes size e) stands).1
 
-      -- The same after the first element.
+      -- The same after the first Element.
       later : (m ≤ x → IsAmong hs g → x ≤ g.offset → g.offset < behind_voids x (others_of hs) → IsVoidIn (behind_voids x (others_of hs)) g)
           → IsAmong (h ∷ hs) g → (h.offset == x) ≡ false → g.offset < behind_voids x (others_of hs) → IsVoidIn (behind_voids x (others_of hs)) g
       later further (inl same) other inside =
@@ -97,7 +97,7 @@ module _ (bytes : List ℕ) (size : Size) (e : ℕ) where
             | inr reached ↦ further reached ahead from inside
           ]
 
-      -- If the element isn't a Void, nothing is skipped.
+      -- If the Element isn't a Void, nothing is skipped.
       not-here : (m ≤ x → IsAmong hs g → x ≤ g.offset → g.offset < behind_voids x (others_of hs) → IsVoidIn (behind_voids x (others_of hs)) g)
           → g.offset < behind_voids x (others_of hs) → IsAmong (h ∷ hs) g → (here : Bool) → (h.offset == x) ≡ here → IsVoidIn (behind_voids x (others_of hs)) g
       not-here further inside ahead true is = absurd (let place = at in let step = on in let same : h.offset ≡ x = grind (arith, nat_tests) in let none = voids-none x m q hs (omega arith) rest in omega arith)
@@ -144,9 +144,9 @@ module _ (bytes : List ℕ) (size : Size) (e : ℕ) where
           ∙ ap (λ (b : Bool). if b && h.offset == x then behind_voids (stated_end h) (others_of hs) else behind_voids x (others_of hs)) is_void in
           subst (λ n. IsVoidIn n g) (sym same) (not-here further (subst (λ n. g.offset < n) same inside) ahead here is_here)
 
-  -- ---- the first element with an ID
+  -- ---- the first Element with an ID
 
-  -- The first element with the ID `id` is among them.
+  -- The first Element with the ID `id` is among them.
   pub record IsThere (id p q : ℕ) (hs : List Header) (g : Header) : Type 0 where
     pub next : ℕ
     pub stands : Stands (level bytes size e) g.offset g next
@@ -172,7 +172,7 @@ module _ (bytes : List ℕ) (size : Size) (e : ℕ) where
           let from = r.from in
           record { next = r.next; stands = r.stands; ahead = inr r.ahead; own = r.own; from = omega arith }
 
-  -- An element that follows another begins at its end or later.
+  -- An Element that follows another begins at its end or later.
   pub ahead-behind : (p q : ℕ) (hs : List Header) (g h : Header) → Tiles (level bytes size e) p hs q → IsAmong hs g → IsAmong hs h → (g.id == CLUSTER) ≡ false → g.offset < h.offset → stated_end g ≤ h.offset
   ahead-behind p q [] g h tiles one two other before = absurd one
   ahead-behind p q (k ∷ hs) g h (m, stands, rest) (inl same) (inl also) other before =
@@ -194,7 +194,7 @@ module _ (bytes : List ℕ) (size : Size) (e : ℕ) where
       absurd (omega arith)
   ahead-behind p q (k ∷ hs) g h (m, stands, rest) (inr one) (inr two) other before = ahead-behind m q hs g h rest one two other before
 
-  -- An element that nothing can follow is the last one.
+  -- An Element that nothing can follow is the last one.
   pub last-there : (p q : ℕ) (hs : List Header) (h : Header) (m : ℕ) (before : Option Header) → Tiles (level bytes size e) p hs q → IsAmong hs h → Stands (level bytes size e) h.offset h m → e ≤ m → last_or before hs ≡ Some h
   last-there p q [] h m before tiles ahead stands past = absurd ahead
   last-there p q (k ∷ hs) h m before (n, here, rest) (inl same) stands past = alone hs rest

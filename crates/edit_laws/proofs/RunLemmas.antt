@@ -19,9 +19,9 @@ use Rattle.mkv_schema.proofs.ElementLemmas.{element_at-placed, element_in-whole}
 use Rattle.mkv_schema.proofs.ElementsLemmas.{Advances-known, elements-end, elements-more}
 use Rattle.edit_laws.proofs.SameLemmas.{AreSame, same-part}
 
--- ---- one element
+-- ---- one Element
 
--- Both are the same element, or damage with the same ID.
+-- Both are the same Element, or damage with the same ID.
 abbrev pub AreAlike : Result Header Damage → Result Header Damage → Type 0
 AreAlike (Ok g) (Ok h) = g ≡ h
 AreAlike (Ok g) (Err d) = ⊥
@@ -35,8 +35,8 @@ cut-id total id p end = of (nat_lt total end)
     of true = refl
     of false = refl
 
--- the damage of a body. The tests are: its size is unknown, it passes the file's end, its ID may have an unknown size, its parent ends with the
--- file, it passes its parent's end.
+-- the damage of a body, by five tests. `unknown`: its size is unknown. `past`: it passes the file's end. `may`: its ID may be open somewhere.
+-- `last`: its parent ends with the file. `over`: it passes its parent's end.
 abbrev judged : Bool → Bool → Bool → Bool → Bool → Option Kind
 judged unknown past may last over =
     if unknown && not false then Some UnknownSize else
@@ -83,9 +83,9 @@ element-alike a b p e within within' same =
     subst (λ o. AreAlike (element_at in_master a p e) (element_in in_master o (length b) p e)) (sym same)
     (in-alike (octets_between a p e) (length a) (length b) p e within within')
 
--- ---- a run of elements
+-- ---- a run of Elements
 
--- Both runs have the same elements and the same end, and both have damage or none.
+-- Both runs have the same Elements and the same end, and both have damage or none.
 pub record AreAlikeRuns (x y : Run) : Type 0 where
   pub list : x.list ≡ y.list
   pub damage : is_some x.damage ≡ is_some y.damage
@@ -141,7 +141,7 @@ alike-within (suc n) stops a b p e few within within' same =
 pub runs-alike : (stops : ℕ → Bool) (a b : List ℕ) (p e : ℕ) → e ≤ length a → e ≤ length b → AreSame a b p e → AreAlikeRuns (children stops a p e) (children stops b p e)
 runs-alike stops a b p e within within' same = alike-within (e - p) stops a b p e (omega arith) within within' same
 
--- ---- elements inside a body
+-- ---- Elements inside a body
 
 -- The header and the body of `h` are between `p` and `e`.
 pub record StandsInside (p e : ℕ) (h : Header) : Type 0 where
@@ -152,7 +152,7 @@ pub record StandsInside (p e : ℕ) (h : Header) : Type 0 where
 inside-later : (p q e : ℕ) (h : Header) → p ≤ q → StandsInside q e h → StandsInside p e h
 inside-later p q e h later inside = let from = inside.from in record { from = omega arith; header = inside.header; to = inside.to }
 
--- No element may have an unknown size.
+-- No Element may be open.
 module _ (s : Setting) (shut : (id : ℕ) → s.may_open id ≡ false) (stops : ℕ → Bool) (bytes : List ℕ) (e : ℕ) where
   inside-past : (p : ℕ) → e ≤ p → All (StandsInside p e) (elements s stops (λ h. Ok (end_in e h)) bytes p e).list
   inside-past p past = rw (elements-end s stops (λ h. Ok (end_in e h)) bytes p e past) (All-nil (StandsInside p e))

@@ -32,7 +32,7 @@ use Rattle.edit_laws.proofs.TreeLemmas.{AreFit, IsFit, Once, of_info, of_tracks,
 
 -- ---- trees that were read
 
--- The trees `t` were read from the first elements of the Segment.
+-- The trees `t` were read from the first Elements of the Segment.
 pub record AreFirst (bytes : List ℕ) (segment : Header) (t : Trees) : Type 0 where
   pub info : first_tree INFO bytes segment ≡ Ok t.info
   pub whole : Node
@@ -115,7 +115,7 @@ trees-fit bytes segment t are first = record {
         let deep = fit.deep in
         subst (All (λ (n : Node). StandsIn TRACKS n × (depth n < deepest))) (sym is) (all-stand TRACKS kids deepest sound (omega arith))
 
--- ---- elements to write
+-- ---- Elements to write
 
 pub info-stands : (n : Node) → IsFit INFO deepest n → AllStandIn INFO (nodes_of (children n)) × (depth_all (nodes_of (children n)) < deepest)
 info-stands (leaf id at body) fit = let never = fit.master in absurd (cc)

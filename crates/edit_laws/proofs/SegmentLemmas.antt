@@ -17,7 +17,7 @@ use Rattle.edit_laws.proofs.HeaderLemmas.{found-sound, found-same}
 use Rattle.edit_laws.proofs.HeadLemmas.{sound-longer}
 use Rattle.edit_laws.proofs.TileLemmas.{Way, run_of, AdvancesIn, Tiles, whole, run-step, run-stops, run-tiled, tiled, tiles-end}
 
--- the elements before the Segment
+-- the Elements before the Segment
 abbrev outer : List ℕ → Way
 outer bytes = record { setting = at_level_0; stops = λ id. id == SEGMENT; next = λ h. Ok (end_in (length bytes) h); bytes = bytes; end = length bytes }
 

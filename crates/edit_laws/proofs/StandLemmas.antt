@@ -35,14 +35,14 @@ record StandsAmong (r : Rules) (bytes : List ℕ) (e p : ℕ) (list : List Heade
 
 -- ---- Clusters before a place
 
--- A Cluster is the last one before each place after its header, up to the next element.
+-- A Cluster is the last one before each place after its header, up to the next Element.
 before-first : (at : ℕ) (h : Header) (hs : List Header) → h.id ≡ CLUSTER → h.offset < at → cluster_before at hs ≡ None → cluster_before at (h ∷ hs) ≡ Some h
 before-first at h hs is behind none =
     let test : (h.id == CLUSTER) ≡ true = grind (arith, nat_tests) in
     let past : nat_lt h.offset at ≡ true = grind (arith, nat_tests) in
     rw (none, test, past) refl
 
--- An earlier element changes nothing.
+-- An earlier Element changes nothing.
 before-more : (at : ℕ) (h c : Header) (hs : List Header) → cluster_before at hs ≡ Some c → cluster_before at (h ∷ hs) ≡ Some c
 before-more at h c hs is = rw is refl
 

@@ -1,4 +1,4 @@
--- Edits without an element after the old end: the new content is as long as the old one, and its Segment ends at the same place.
+-- Edits without an Element after the old end: the new content is as long as the old one, and its Segment ends at the same place.
 use Rattle.std.proofs.Common.{inl, inr, ◌≡◌, ◌⊎◌, ◌<◌, ◌≤◌, ℕ, Bool, true, false, List, [], length, All, Ok, refl, sym, ◌∙◌, ap, ap₂, arith}
 use Rattle.std.proofs.lemmas.Bool.{cases_lt, or_right}
 use Rattle.ebml_numbers.specs.declared.number.Size.{Size}

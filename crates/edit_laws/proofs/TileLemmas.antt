@@ -11,7 +11,7 @@ use Rattle.mkv_schema.proofs.ElementsLemmas.{Advances, Advances-known, Advances-
 use Rattle.output_model.specs.Element.{all_in_front}
 use Rattle.edit_laws.proofs.AmongLemmas.{IsAmong}
 
--- The way in which elements are listed: the setting, the IDs that end the list, the start of the next element, the content, and the end.
+-- The way in which Elements are listed: the setting, the IDs that end the list, the start of the next Element, the content, and the end.
 pub record Way : Type 0 where
   pub setting : Setting
   pub stops : ℕ → Bool
@@ -19,7 +19,7 @@ pub record Way : Type 0 where
   pub bytes : List ℕ
   pub end : ℕ
 
--- the elements of level 1
+-- the Elements of level 1
 abbrev pub level : List ℕ → Size → ℕ → Way
 level bytes size e = record { setting = in_segment; stops = ends_segment size; next = behind_in_segment bytes e; bytes = bytes; end = e }
 
@@ -27,7 +27,7 @@ level bytes size e = record { setting = in_segment; stops = ends_segment size; n
 abbrev pub inner : List ℕ → ℕ → Way
 inner bytes e = record { setting = in_master; stops = ends_cluster; next = λ h. Ok (end_in e h); bytes = bytes; end = e }
 
--- the elements from a place on
+-- the Elements from a place on
 abbrev pub run_of : Way → ℕ → Run
 run_of w p = elements w.setting w.stops w.next w.bytes p w.end
 
@@ -40,14 +40,14 @@ advances-level bytes size e = Advances-segment bytes e
 pub advances-inner : (bytes : List ℕ) (e : ℕ) → AdvancesIn (inner bytes e)
 advances-inner bytes e = Advances-known in_master bytes e
 
--- The element `h` is at `p`, and the next one is searched at `q`.
+-- The Element `h` is at `p`, and the next one is searched at `q`.
 pub record Stands (w : Way) (p : ℕ) (h : Header) (q : ℕ) : Type 0 where
   pub inside : p < w.end
   pub found : element_at w.setting w.bytes p w.end ≡ Ok h
   pub goes : w.stops h.id ≡ false
   pub next : w.next h ≡ Ok q
 
--- The elements follow each other from a place up to another.
+-- The Elements follow each other from a place up to another.
 abbrev pub Tiles : Way → ℕ → List Header → ℕ → Type 0
 Tiles w p [] q = p ≡ q
 Tiles w p (h ∷ hs) q = (m : ℕ) × Stands w p h m × Tiles w m hs q
@@ -56,7 +56,7 @@ Tiles w p (h ∷ hs) q = (m : ℕ) × Stands w p h m × Tiles w m hs q
 abbrev pub whole : List Header → ℕ → Run
 whole hs q = record { list = hs; damage = None; end = q }
 
--- One element, and then the others.
+-- One Element, and then the others.
 pub run-step : (w : Way) (p q : ℕ) (h : Header) → AdvancesIn w → Stands w p h q → run_of w p ≡ in_front h (run_of w q)
 run-step w p q h advances stands =
     elements-more w.setting w.stops w.next w.bytes p w.end advances stands.inside
@@ -75,7 +75,7 @@ pub run-tiled : (w : Way) (p : ℕ) (hs : List Header) (q : ℕ) → AdvancesIn 
 run-tiled w p [] q advances same = ap (run_of w) same
 run-tiled w p (h ∷ hs) q advances (m, stands, rest) = run-step w p m h advances stands ∙ ap (in_front h) (run-tiled w m hs q advances rest)
 
--- ---- listed elements follow each other
+-- ---- listed Elements follow each other
 
 -- the cases of a place in a list
 data Place (w : Way) (p : ℕ) (hs : List Header) (q : ℕ) : Type 0 where
@@ -137,7 +137,7 @@ tiled w p q (g ∷ gs) advances run = of (λ m is. tiled w m q gs advances is) (
         let behind = further m (run ∙ ap (λ l. whole l q) (sym both.1)) in
         record { tiles = (m, subst (λ k. Stands w p k m) (sym both.0) stands, behind.tiles); ends = behind.ends }
 
--- ---- places of elements
+-- ---- places of Elements
 
 pub stands-placed : (w : Way) (p q : ℕ) (h : Header) → AdvancesIn w → Stands w p h q → (h.offset ≡ p) × (p < q)
 stands-placed w p q h advances stands =

@@ -1,4 +1,4 @@
--- The writes of edits, by the rewritten elements.
+-- The writes of edits, by the rewritten Elements.
 use Rattle.std.proofs.Common.{inl, inr, ◌≡◌, ◌⊎◌, ◌<◌, ◌≤◌, ℕ, ◌+◌, ◌-◌, ◌^◌, ◌==◌, ◌||◌, nat_lt, nat_le, max, Bool, true, false, if◌then◌else◌, List, [], ◌∷◌, ◌++◌, length, map, flat_map, All, Option, Some, None, refl, sym, ◌∙◌, ap, ap₂, subst, arith}
 use Rattle.std.specs.Bool.{⊤}
 use Rattle.std.specs.List.{cons_option, list_any}
@@ -122,14 +122,14 @@ one-items list (i ∷ is) =
 
 -- ---- rewritten Info and Tracks as items
 
--- an element of level 1 with new children
+-- an Element of level 1 with new children
 abbrev pub item_at : List Node → Header → Item
 item_at nodes h = record { header = h; element = element h.id (flat_map octets nodes) }
 
 abbrev pub items_of : Bool → ℕ → List Header → List Node → List Item
 items_of written id list nodes = if written then option_map_or (λ h. item_at nodes h ∷ []) (first_of id list) [] else []
 
--- The part `p` belongs to the item `i`: it has the place and the room of the old element.
+-- The part `p` belongs to the item `i`: it has the place and the room of the old Element.
 pub record IsOf (list : List Header) (p : Part) (i : Item) : Type 0 where
   pub id : p.id ≡ i.element.id
   pub place : p.place ≡ i.header.offset

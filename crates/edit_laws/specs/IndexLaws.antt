@@ -84,11 +84,11 @@ PointsPointAtBlocks =
     (bytes : List ℕ) (f : EditableFile) → indexable bytes ≡ Ok f
     → All (PointsAtBlock (file_scale bytes f.outline.segment) bytes f.outline.segment) (index_points bytes f.outline.segment f.trees.tracks)
 
--- the Seeks of the first elements with the IDs `ids`, as far as they exist, in a Segment whose body begins at `base`
+-- the Seeks of the first Elements with the IDs `ids`, as far as they exist, in a Segment whose body begins at `base`
 abbrev pub first_seeks : List ℕ → ℕ → List Header → List Seek
 first_seeks ids base list = filter_map (λ id. option_map (seek_to base) (first_of id list)) ids
 
--- The first SeekHead of `new` has a Seek of the first element with each of `ids`. Then follow the children of the old SeekHead except Seeks of
+-- The first SeekHead of `new` has a Seek of the first Element with each of `ids`. Then follow the children of the old SeekHead except Seeks of
 -- these IDs.
 pub record HasSeeksOf (ids : List ℕ) (old new : List ℕ) (was now : Header) : Type 0 where
   pub header : Header

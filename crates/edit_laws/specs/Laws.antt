@@ -21,15 +21,15 @@ use Rattle.edit_changes.specs.Change.{edited_trees}
 use Rattle.edit_changes.specs.Records.{EditableFile, editable}
 use Rattle.edit_changes.specs.Plan.{edited}
 
--- the normal form of the first element with the ID `id` at level 1, or the damage inside it
+-- the normal form of the first Element with the ID `id` at level 1, or the damage inside it
 abbrev pub normal_form : ℕ → List ℕ → Header → Result (Option (List ℕ)) Damage
 normal_form id bytes segment = and_then (first_tree id bytes segment) (λ n. Ok (option_map octets n))
 
--- the normal form of a Tracks element with the children `tracks`
+-- the normal form of a Tracks Element with the children `tracks`
 abbrev pub tracks_octets : List Node → List ℕ
 tracks_octets tracks = octets (master TRACKS 0 (nodes_of tracks))
 
--- An element at level 1 is neither a Timestamp nor a block; these belong only into Clusters.
+-- An Element at level 1 is neither a Timestamp nor a block; these belong only into Clusters.
 pub record IsOutside (h : Header) : Type 0 where
   pub timestamp : (h.id == TIMESTAMP) ≡ false
   pub simple : (h.id == SIMPLE_BLOCK) ≡ false

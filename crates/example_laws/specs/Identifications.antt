@@ -25,7 +25,7 @@ segment body = 0x18 ∷ 0x53 ∷ 0x80 ∷ 0x67 ∷ (0x80 + length body) ∷ body
 abbrev pub file : List ℕ → List ℕ
 file body = ebml 0x6D ++ segment body
 
--- a Tracks element whose ID begins with this byte, with a track of this number
+-- a Tracks Element whose ID begins with this byte, with a track of this number
 abbrev pub tracks : ℕ → ℕ → List ℕ
 tracks first number =
     first ∷ 0x54 ∷ 0xAE ∷ 0x6B ∷ 0x94 ∷ 0xAE ∷ 0x92 ∷ 0xD7 ∷ 0x81 ∷ number ∷

@@ -71,7 +71,7 @@ times-may s n inner read inner_read may =
 
 -- ---- children of a parent
 
--- The elements `ns` are valid in `parent`, and at most `deep` masters are nested in them.
+-- The Elements `ns` are valid in `parent`, and at most `deep` masters are nested in them.
 record StandWithin (parent deep : ℕ) (ns : List Node) : Type 0 where
   stand : AllStandIn parent (nodes_of ns)
   shallow : depth_all (nodes_of ns) ≤ deep

@@ -61,7 +61,7 @@ use Rattle.merge_laws.proofs.TracksLemmas.{taken-lanes, taken-plain, taken-track
 
 -- ---- lengths of the records
 
--- The elements after the area are a part of the file.
+-- The Elements after the area are a part of the file.
 behind-short : (d : Document) → length (joined (elements_behind_area d)) ≤ length (layout d)
 behind-short d =
     let rest : List ℕ = joined (elements_behind_area d) in
@@ -89,7 +89,7 @@ module _ (d : Document) where
       let e : Element = tree_element d.front.tracks in
       omega (arith, behind-short d, length-append (octets_of first) (joined (e ∷ others)), length-append (octets_of e) (joined others), length-append (header_of e) e.body)
 
--- The last elements are a part of all.
+-- The last Elements are a part of all.
 last-short : (xs ys : List Element) → length (joined ys) ≤ length (joined (xs ++ ys))
 last-short xs ys = omega (arith, ap length (flat_map-append octets_of xs ys), length-append (joined xs) (joined ys))
 
@@ -196,7 +196,7 @@ next-stands : (uuid : ℕ) → StandsIn INFO (uuid_leaf NEXT_UUID uuid)
 unfolding entry_of table is_id
 next-stands uuid = record { id_stands = refl; no_master = refl; value = refl }
 
--- The elements `ns` are valid children of Info without children of their own.
+-- The Elements `ns` are valid children of Info without children of their own.
 record StandsFlat (ns : List Node) : Type 0 where
   stand : AllStandIn INFO (nodes_of ns)
   flat : depth_all (nodes_of ns) ≡ 0

@@ -87,7 +87,7 @@ use Rattle.merge_laws.proofs.PlaceLemmas.{placed-read}
 use Rattle.merge_laws.proofs.TextLemmas.{entries-within, text-read, text-uids, text-usable}
 use Rattle.merge_laws.proofs.TreeLemmas.{HasChildrenRead, tree_of-children, entries-octets, uid-small, IsOfOctets}
 
--- ---- an element that was read as a tree
+-- ---- an Element that was read as a tree
 
 -- The item that is found passes the test.
 find-passes : {A : Type 0} (p : A → Bool) (xs : List A) (x : A) → find p xs ≡ Some x → p x ≡ true

@@ -95,7 +95,7 @@ filter-entries (e ∷ es) all =
     ap (λ (i : ℕ). cond (i == TRACK_ENTRY) (e ∷ filter (λ n. id_of n == TRACK_ENTRY) es) (filter (λ n. id_of n == TRACK_ENTRY) es)) (All-head IsOne e es all)
     ∙ ap (λ l. e ∷ l) (filter-entries es (All-tail IsOne e es all))
 
--- All entries of a Tracks element that is made from them are found in it.
+-- All entries of a Tracks Element that is made from them are found in it.
 pub entries-all : (es : List Node) → All IsOne es → track.entries_of (output_tracks es) ≡ es
 entries-all es all = ap (filter (λ n. id_of n == TRACK_ENTRY)) (list-nodes es) ∙ filter-entries es all
 
@@ -146,7 +146,7 @@ module _ (taken : List TakenTrack) (read : All IsReadTrack taken) (few : length 
       let own : All (λ uid. uid < 2 ^ 64) ids = All-map (λ uid. uid < 2 ^ 64) (λ (t : TakenTrack). t.track.uid) taken (All-weaker IsReadTrack (λ (t : TakenTrack). t.track.uid < 2 ^ 64) (λ t r. r.uid) taken read) in
       numbers-fit ids (2 ^ 64) own (omega arith)
 
-  -- The entries make a valid Tracks element.
+  -- The entries make a valid Tracks Element.
   pub taken-tracks : length (content (output_tracks (entries_of taken))) ≤ longest → output.AreTracks (output_tracks (entries_of taken))
   taken-tracks short =
       let all = entries-written 1 (uids_of taken) taken (omega arith) (omega arith) uids-small read in

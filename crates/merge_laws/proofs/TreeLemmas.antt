@@ -1,4 +1,4 @@
--- A tree that was read isn't too deep, and the bodies of its elements are bytes.
+-- A tree that was read isn't too deep, and the bodies of its Elements are bytes.
 use Rattle.std.proofs.Common.{◌≡◌, ℕ, zero, suc, ◌-◌, ◌<◌, ◌≤◌, ◌^◌, ◌==◌, Bool, true, false, cond, if◌then◌else◌, List, [], ◌∷◌, length, find, Option, Some, None, Ok, refl, sym, ap, subst, ◌∙◌, arith, unwrap_or}
 use Rattle.std.specs.List.{All}
 use Rattle.std.specs.Option.{option_map}
@@ -28,7 +28,7 @@ use Rattle.file_format.specs.Entry.{entries_of, uid_of}
 
 -- ---- bytes
 
--- The bodies of an element and of the elements inside are bytes.
+-- The bodies of an Element and of the Elements inside are bytes.
 abbrev mutual
   pub IsOfOctets : Node → Type 0
   IsOfOctets (leaf id at body) = AreOctets body
@@ -40,7 +40,7 @@ abbrev mutual
 
 -- ---- results of reading
 
--- The element `n` is at most as deep as `room`.
+-- The Element `n` is at most as deep as `room`.
 record IsRead (room : ℕ) (n : Node) : Type 0 where
   shallow : depth n ≤ room
   octets : IsOfOctets n

@@ -96,7 +96,7 @@ rest-added r f medium n a b c o p o' g h (Err end) ends way = λ before name d b
 
 -- ---- the whole file
 
--- The elements before the Clusters are the elements that the code has made.
+-- The Elements before the Clusters are the Elements that the code has made.
 pub front-is : (f : LiveFiles) (medium : MediaKind) (front : given.Front) → IsFrontOf medium front → front_with f front ≡ front_of medium
 front-is f medium front is = λ i. record { webm = is.webm i; info = is.info i; tracks = is.tracks i; attachments = map (attached_file f) (is.attachments i) }
 

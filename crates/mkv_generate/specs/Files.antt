@@ -31,11 +31,11 @@ abbrev pub track_of : MediaKind → Node
 track_of medium = master TRACK_ENTRY 0 (nodes_of (
     uint_leaf TRACK_NUMBER 1 ∷ uint_leaf TRACK_UID 1 ∷ uint_leaf TRACK_TYPE (type_of medium) ∷ leaf CODEC_ID 0 (codec_of medium) ∷ []))
 
--- the elements before the Clusters of a file with that track
+-- the Elements before the Clusters of a file with that track
 abbrev pub front_of : MediaKind → Front
 front_of medium = record { webm = false; info = output_info 1000000 []; tracks = output_tracks (track_of medium ∷ []); attachments = [] }
 
--- `f` has the elements before the Clusters of the file.
+-- `f` has the Elements before the Clusters of the file.
 pub record IsFrontOf (medium : MediaKind) (f : given.Front) : Type 0 where
   pub webm : f.webm ≡ false
   pub info : f.info ≡ output_info 1000000 []

@@ -48,7 +48,7 @@ fn track_of(alloc: Global, medium: MediaKind) -> Result<Tree, AllocError>
     Ok(entry)
 }
 
-/// Returns the elements before the Clusters of a file with one track.
+/// Returns the Elements before the Clusters of a file with one track.
 pub(crate) fn front_of(alloc: Global, medium: MediaKind) -> Result<Front, AllocError>
     ensures { IfOk result (IsFrontOf medium) }
 {

@@ -21,7 +21,7 @@ use Rattle.merge_plan.specs.Records.{chapters_of, tags_of}
 use Rattle.mkv_merge.specs.Merge.{front_at, output_at, outputs_of, parts_of, split_of}
 use Rattle.mkv_merge.proofs.WritingLemmas.{IsMergeOf, blocks-are, reads-are}
 
--- The elements before the Clusters of a part are the same, with or without attached files.
+-- The Elements before the Clusters of a part are the same, with or without attached files.
 front-with : (f : LiveFiles) (words : MergeWords) (number : ℕ) (front : given.Front) (its : Front) (first : Bool) → front_with f front ≡ its
     → front_with f (record front { info = with_uuids (uuids_at words.uuids words.link number) front.info; attachments = if first then front.attachments else [] })
     ≡ record its { info = with_uuids (uuids_at words.uuids words.link number) its.info; attachments = if first then its.attachments else [] }

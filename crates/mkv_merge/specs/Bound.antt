@@ -22,8 +22,8 @@ files_size f list = sum_by (λ (file : FileId). f.size file.n) list
 abbrev pub live_size : {S : Type 0} → Ghosts S → S → List FileId → ℕ
 live_size r files list = files_size (live_files r files) list
 
--- the bytes that a merge with the plan `p` may read of inputs with `octets` bytes: each input twice for each output track, and the data of
--- attached files
+-- the bytes that a merge with the plan `p` may read of inputs with `octets` bytes. Each input is read twice for each output track, and the data
+-- of attached files once.
 abbrev pub most_planned : MergePlan → ℕ → ℕ
 most_planned p octets = 2 * (length p.lanes * octets) + data_length p
 
@@ -54,7 +54,7 @@ looked_into words = if is_none words.split then length words.files + 1 else leng
 abbrev pub most_looked : MergeWords → ℕ
 most_looked words = HEAD * looked_into words
 
--- the bytes that a merge may read if the files are `world`: of its inputs and journals, and the chapter file and each timestamp file once
+-- the bytes that a merge may read if the files are `world`. It reads its inputs and journals, and the chapter file and each timestamp file once.
 abbrev pub most_read : (List ℕ → Option (List ℕ)) → MergeWords → ℕ
 most_read world words =
     text_octets world words.chapters words.files + (most_of (sources_of world words) (contents_length world words.files) + most_looked words)

@@ -1,4 +1,4 @@
--- Chapters of a chapter file, which replace the inputs' own. RFC 9559, section 5.1.7 (Chapters Element), defines the element; the choice is this
+-- Chapters of a chapter file, which replace the inputs' own. RFC 9559, section 5.1.7 (Chapters Element), defines the Element; the choice is this
 -- project's.
 use Rattle.std.specs.Prelude.{Bool, not, List, [], ◌∷◌, map, Option, Some, None, Result}
 use Rattle.tree_format.specs.Node.{Node}

@@ -36,8 +36,8 @@ use Rattle.mkv_merge.specs.declared.refusal.Refusal.TheVariants.{Missing, Output
 abbrev pub no_texts : TextFiles
 no_texts = record { chapters = Absent; times = [] }
 
--- the sources of a merge that prints nothing, if its inputs have the contents `contents`; or its refusal, if an output could have the name of a
--- file that is read
+-- the sources of a merge that prints nothing, if its inputs have the contents `contents`. It is refused if an output could have the name of a
+-- file that is read.
 abbrev pub sources_apart : MergeWords → List (List ℕ) → Result (List Source) Refusal
 sources_apart words contents = sources_unless (option_map OutputIsInput (first_written words) ∷ []) words no_texts contents
 

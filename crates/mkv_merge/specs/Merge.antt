@@ -56,8 +56,8 @@ use Rattle.mkv_merge.specs.declared.refusal.Refusal.TheVariants.{Differs, Missin
 abbrev pub sources_in : MergeWords → TextFiles → List (List ℕ) → List Source
 sources_in words texts contents = in_place (zip contents (reads_with words texts contents))
 
--- the refusals of a merge after its files are read, in order: an input, the chapter file, a timestamp file, an appended input whose tracks can't
--- continue the output tracks, and the plan
+-- the refusals of a merge after its files are read, in order: an input, the chapter file, and a timestamp file. Then follow an appended input
+-- whose tracks can't continue the output tracks, and the plan.
 abbrev pub refusals_read : MergeWords → TextFiles → List (List ℕ) → List (Option Refusal)
 refusals_read words texts contents =
     result_err (inputs_of words contents)
@@ -71,8 +71,8 @@ refusals_read words texts contents =
 abbrev pub sources_unless : List (Option Refusal) → MergeWords → TextFiles → List (List ℕ) → Result (List Source) Refusal
 sources_unless causes words texts contents = unless (first_cause (causes ++ refusals_read words texts contents)) (sources_in words texts contents)
 
--- the refusals of a merge before its files are read, in order, if the files are `world`: an output with the name of a file that is read, a
--- missing input, a missing text file, and a pending edit
+-- the refusals of a merge before its files are read, in order, if the files are `world`. They are an output with the name of a file that is read,
+-- a missing input, a missing text file, and a pending edit.
 abbrev pub refusals : (List ℕ → Option (List ℕ)) → MergeWords → List (Option Refusal)
 refusals world words =
     option_map OutputIsInput (first_written words)
@@ -99,7 +99,7 @@ split_of words sources = record { spec = split_given words (reads_of sources); s
 abbrev pub parts_of : MergeWords → List Source → List Part
 parts_of words sources = parts (split_of words sources) (blocks_of words sources)
 
--- the elements before the Clusters of the part `number`, from 1 on. Each part has its own identifiers; only the first part gets the attached
+-- the Elements before the Clusters of the part `number`, from 1 on. Each part has its own identifiers; only the first part gets the attached
 -- files.
 abbrev pub front_for : MergeWords → ℕ → Front → Front
 front_for words number front = record front {
@@ -114,7 +114,7 @@ front_at words sources number = front_for words number (front_of words sources)
 abbrev pub chapters_in : MergeWords → List Source → Part → Option Node
 chapters_in words sources part = chapters_within (is_split words) (chapters_of (reads_of sources)) (stretch_of words.scale part.start part.end)
 
--- the part as a document: its Clusters and the elements around them
+-- the part as a document: its Clusters and the Elements around them
 abbrev pub document_at : MergeWords → List Source → ℕ × Part → Document
 document_at words sources each =
     document_of (limits_of words) (rules_given (reads_of sources)) (front_at words sources each.0) (chapters_in words sources each.1) (tags_of (reads_of sources)) each.1.blocks

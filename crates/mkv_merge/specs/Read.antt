@@ -24,8 +24,8 @@ use Rattle.mkv_merge.specs.declared.refusal.Refusal.TheVariants.{PendingInput, P
 
 -- ---- names
 
--- the names that no output of a merge may have, in the order of the check: inputs, chapter file, timestamp files, journals of inputs, and
--- journals of timestamp files
+-- the names that no output of a merge may have, in the order of the check. They are inputs, chapter file, timestamp files, journals of inputs,
+-- and journals of timestamp files.
 abbrev pub read_names : MergeWords → List (List ℕ)
 read_names words =
     file_names words.files ++ (option_to_list words.chapters ++ (times_names (times_named words.files)
@@ -42,8 +42,8 @@ is_output words name = bytes_eq name words.output
 abbrev pub is_part : MergeWords → List ℕ → Bool
 is_part words name = is_split words && is_part_name words.output name
 
--- the first name of a file that is read which an output has: the name on the command line, also if the output is split, or else the name of a
--- part
+-- the first name of a file that is read which an output could have. The name on the command line comes first, also if the output is split; then
+-- the names of parts.
 abbrev pub first_written : MergeWords → Option (List ℕ)
 first_written words = option_or (find (is_output words) (read_names words)) (find (is_part words) (read_names words))
 

@@ -40,7 +40,7 @@ length-void total some = split (nat_le total 128) refl
 
 -- ---- Seeks
 
--- The bytes of an element with a short header, whose body is short.
+-- The bytes of an Element with a short header, whose body is short.
 length-element : (id : ℕ) (body : List ℕ) → length body < 127 → length (octets_of (element id body)) ≡ uint_width id + 1 + length body
 length-element id body short =
     let d : Element = element id body in
@@ -72,7 +72,7 @@ length-seeks (s ∷ seeks) long =
     let rest = length-seeks seeks (All-tail HasLongId s seeks long) in
     length-append (octets_of (seek_element s)) (joined (map seek_element seeks)) ∙ omega arith
 
--- ---- the elements that Seeks name
+-- ---- the Elements that Seeks name
 
 abbrev IsLong : Element → Type 0
 IsLong e = uint_width e.id ≡ 4

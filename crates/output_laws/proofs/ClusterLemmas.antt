@@ -26,7 +26,7 @@ use Rattle.output_laws.proofs.BlockLemmas.{block-read}
 
 -- ---- sizes
 
--- If a size fits for elements together, it fits for each.
+-- If a size fits for Elements together, it fits for each.
 pub sizes-joined : (es : List Element) → length (joined es) < all_ones 8 → All HasSize es
 sizes-joined [] short = All-nil HasSize
 sizes-joined (e ∷ es) short =

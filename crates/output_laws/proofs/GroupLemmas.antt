@@ -16,7 +16,7 @@ use Rattle.output_model.specs.Element.{Element, IsElement, element}
 use Rattle.output_model.specs.Block.{duration_elements, reference_element}
 use Rattle.output_model.specs.Sound.{IsKeptElement}
 
--- ---- elements with short headers
+-- ---- Elements with short headers
 
 pub IsElement-element : (id : ℕ) (body : List ℕ) → is_id id ≡ true → length body < all_ones 8 → IsElement (element id body)
 IsElement-element id body valid short =
@@ -25,7 +25,7 @@ IsElement-element id body valid short =
 
 -- ---- the parts of a group
 
--- the children of a group; the kept children are elements
+-- the children of a group; the kept children are Elements
 abbrev pub parts : List ℕ → Option ℕ → List ℤ → List Element → List Element
 parts content duration references kept = element BLOCK content ∷ (duration_elements duration ++ map reference_element references) ++ kept
 
@@ -131,7 +131,7 @@ value-content : (content : List ℕ) → is_known_value BLOCK_GROUP BLOCK conten
 unfolding entry_of table
 value-content content = refl
 
--- `d` is an element of a group that is read, and a valid value.
+-- `d` is an Element of a group that is read, and a valid value.
 pub record IsPart (d : Element) : Type 0 where
   pub is_element : IsElement d
   pub value : is_known_value BLOCK_GROUP d.id d.body ≡ true

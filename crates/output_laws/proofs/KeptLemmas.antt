@@ -71,7 +71,7 @@ children-kept bytes h children octets within found =
     let values = find-all bytes (is_known_value BLOCK_GROUP) children ds read none in
     (filter (λ (d : Element). is_kept d.id) ds, octets_of-read bytes is_kept children ds read, kept-elements ds spelled.are values)
 
--- The kept children of a group that was read are elements that can be kept.
+-- The kept children of a group that was read are Elements that can be kept.
 pub group-kept : (r : Rules) (bytes : List ℕ) (timestamp : Option ℕ) (h : Header) (b : Block) → AreOctets bytes → stated_end h ≤ length bytes → block_group r bytes timestamp h ≡ Ok b → AreKept b.kept
 unfolding block_group
 group-kept r bytes timestamp h b octets within is =

@@ -40,7 +40,7 @@ use Rattle.output_laws.proofs.ScaleLemmas.{scale-placed}
 
 -- ---- a document is an EBML header and a Segment
 
--- A Segment's body is the area and the elements after it.
+-- A Segment's body is the area and the Elements after it.
 body-is : (d : Document) → joined (segment_elements (segment_of_document d)) ≡ joined (area_elements (seeks_of d)) ++ joined (elements_behind_area d)
 body-is d = flat_map-append octets_of (area_elements (seeks_of d)) (elements_behind_area d)
 
@@ -151,7 +151,7 @@ segment-found front d w at is own =
     ∙ cond-true (nat_lt w e) (element_at at_level_0 bytes w e) (Err (damage NoSegment 0 e)) (lt-ltb _ _ (omega arith))
     ∙ found
 
--- The outline of a content that is an EBML header and then a Segment of elements.
+-- The outline of a content that is an EBML header and then a Segment of Elements.
 outline-read : (webm : Bool) (d : Element) (es : List Element) → IsElement d → d.id ≡ SEGMENT → d.body ≡ joined es → All IsElement es
     → (let bytes : List ℕ = octets_of (ebml_element webm) ++ octets_of d in
     let w : ℕ = length (octets_of (ebml_element webm)) in

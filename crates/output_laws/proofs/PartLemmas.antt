@@ -1,4 +1,4 @@
--- The elements of a document: their IDs, and that they are valid if their sizes fit.
+-- The Elements of a document: their IDs, and that they are valid if their sizes fit.
 use Rattle.std.proofs.Common.{◌≡◌, ℕ, ◌-◌, ◌≤◌, ◌==◌, nat_le, Bool, true, false, if◌then◌else◌, List, [], ◌∷◌, ◌++◌, length, map, replicate, All, IfSome, Option, None, Some, refl, ap, ◌∙◌, arith}
 use Rattle.std.proofs.lemmas.Bool.{leb-true}
 use Rattle.std.proofs.lemmas.List.{length-replicate}
@@ -25,7 +25,7 @@ All-parts P (x ∷ xs) ys all =
 
 -- ---- IDs
 
--- `e` is an element with the ID `own` and the shortest header.
+-- `e` is an Element with the ID `own` and the shortest header.
 pub record IsShortest (own : ℕ) (e : Element) : Type 0 where
   pub id : e.id ≡ own
   pub width : e.width ≡ least_size_width (length e.body)
@@ -49,7 +49,7 @@ pub shortest-clusters : (cs : List OutputCluster) → All (IsShortest CLUSTER) (
 shortest-clusters [] = All-nil (IsShortest CLUSTER)
 shortest-clusters (c ∷ cs) = All-cons (IsShortest CLUSTER) (cluster_element c) (clusters_elements cs) (record { id = refl; width = refl }) (shortest-clusters cs)
 
--- the element has another ID
+-- the Element has another ID
 abbrev pub IsNot : ℕ → Element → Type 0
 IsNot id e = (e.id == id) ≡ false
 
@@ -69,7 +69,7 @@ IsElement-shortest own e valid is short =
     let most = least.most in
     record { id_stands = ap is_id is.id ∙ valid; some = omega arith; most = omega arith; fits = rw width least.fits }
 
--- An element with the ID besides the Clusters.
+-- An Element with the ID besides the Clusters.
 pub other-shortest : (own : ℕ) (e : Element) → is_id own ≡ true → (own == CLUSTER) ≡ false → IsShortest own e → HasSize e → IsOther e
 other-shortest own e valid differs is short = record { element = IsElement-shortest own e valid is short; other = not-shortest own CLUSTER e differs is }
 

@@ -1,4 +1,4 @@
--- The records of a document are found at level 1, and so are the elements that the Seeks name.
+-- The records of a document are found at level 1, and so are the Elements that the Seeks name.
 use Rattle.std.proofs.Common.{◌≡◌, ℕ, ◌+◌, ◌≤◌, ◌==◌, Bool, true, cond, List, [], ◌∷◌, ◌++◌, length, map, All, IfSome, append-nil, length-append, Option, None, Some, refl, sym, ap, ◌∙◌, subst, arith}
 use Rattle.std.specs.List.{AllZip}
 use Rattle.std.proofs.lemmas.List.Concat.{flat_map-append}
@@ -27,9 +27,9 @@ use Rattle.output_laws.proofs.ClusterLemmas.{sizes-joined}
 use Rattle.output_laws.specs.Reading.{IsRecordAt, FirstIs, ChildrenAre, AttachmentsAre, CuesAre, SeeksElement}
 use Rattle.output_laws.proofs.PartLemmas.{IsNot, records-are_elements}
 
--- ---- the first element with an ID
+-- ---- the first Element with an ID
 
--- Earlier elements with other IDs don't count.
+-- Earlier Elements with other IDs don't count.
 first_of-behind : (id : ℕ) (es rest : List Element) (p : ℕ) → All (IsNot id) es
     → first_of id (headers_in_place p (es ++ rest)) ≡ first_of id (headers_in_place (p + length (joined es)) rest)
 first_of-behind id [] rest p others =
@@ -46,7 +46,7 @@ first_of-none : (id : ℕ) (es : List Element) (p : ℕ) → All (IsNot id) es �
 first_of-none id es p others =
     ap (λ l. first_of id (headers_in_place p l)) (sym (append-nil es)) ∙ first_of-behind id es [] p others
 
--- The element follows others.
+-- The Element follows others.
 first_of-here : (id : ℕ) (before : List Element) (e : Element) (rest : List Element) (p : ℕ) → All (IsNot id) before → (e.id == id) ≡ true
     → first_of id (headers_in_place p (before ++ e ∷ rest)) ≡ Some (header_in_place (p + length (joined before)) e)
 first_of-here id before e rest p others is =
@@ -54,7 +54,7 @@ first_of-here id before e rest p others is =
     first_of-behind id before (e ∷ rest) p others
     ∙ ap (λ (t : Bool). cond t (Some (header_in_place q e)) (first_of id (headers_in_place (q + length (octets_of e)) rest))) is
 
--- The element is at the end of the earlier ones.
+-- The Element is at the end of the earlier ones.
 held-behind : (bytes : List ℕ) (before : List Element) (e : Element) (rest : List Element) (p : ℕ) → HoldsAt bytes p (joined (before ++ e ∷ rest)) → HoldsAt bytes (p + length (joined before)) (octets_of e)
 held-behind bytes before e rest p held =
     held-left bytes (p + length (joined before)) (octets_of e) (joined rest)
@@ -83,7 +83,7 @@ records-read bytes own (n ∷ ns) p are held =
       records-read bytes own ns (p + length (octets_of e)) (All-tail (IsRecord own) n ns are) (held-right bytes p (octets_of e) others held),
     )
 
--- A record among elements with other IDs is the first with its own.
+-- A record among Elements with other IDs is the first with its own.
 pub first-record : (bytes : List ℕ) (id : ℕ) (o : Option Node) (list before rest : List Element) (p : ℕ) → (id == id) ≡ true → list ≡ before ++ (tree_elements o ++ rest)
     → All (IsNot id) before → All (IsNot id) rest → IfSome o (IsRecord id) → HoldsAt bytes p (joined list) → FirstIs bytes (headers_in_place p list) id o
 first-record bytes id None list before rest p same whole front back is held =
@@ -131,7 +131,7 @@ attachments-read bytes (n ∷ ns) list before rest p whole front back sizes are 
 
 -- ---- cue points
 
--- Cues among elements with other IDs are the first, and have their points as body.
+-- Cues among Elements with other IDs are the first, and have their points as body.
 pub cues-read : (bytes : List ℕ) (points : List CuePoint) (list before rest : List Element) (p : ℕ) → list ≡ before ++ (cues_elements points ++ rest)
     → All (IsNot CUES) before → All (IsNot CUES) rest → HoldsAt bytes p (joined list) → CuesAre bytes (headers_in_place p list) points
 cues-read bytes [] list before rest p whole front back held =
@@ -147,7 +147,7 @@ cues-read bytes (point ∷ points) list before rest p whole front back held =
 
 -- ---- Seeks
 
--- A Seek names the element at its place.
+-- A Seek names the Element at its place.
 pub seeks-read : (bytes : List ℕ) (segment : Header) (es : List Element) (position : ℕ) → All IsElement es → HoldsAt bytes (segment.body + position) (joined es) → segment.body + position + length (joined es) ≤ segment_bound bytes segment
     → All (SeeksElement bytes segment) (seeks_from position es)
 seeks-read bytes segment [] position are held ends = All-nil (SeeksElement bytes segment)

@@ -1,4 +1,4 @@
--- A written Segment has its elements, and gives the blocks of its Clusters.
+-- A written Segment has its Elements, and gives the blocks of its Clusters.
 use Rattle.std.proofs.Common.{◌≡◌, ℕ, ◌+◌, ◌≤◌, min, Bool, if◌then◌else◌, List, [], ◌∷◌, ◌++◌, length, All, length-append, append-nil, append_assoc, None, Ok, refl, sym, ap, ap₂, ◌∙◌, subst, arith}
 use Rattle.std.proofs.lemmas.Bool.{cond-false}
 use Rattle.std.proofs.lemmas.List.Concat.{flat_map-append}
@@ -27,7 +27,7 @@ use Rattle.output_laws.proofs.ClusterLemmas.{sizes-joined, cluster-read}
 
 -- ---- level 1
 
--- The elements of level 1 of a Segment of known size.
+-- The Elements of level 1 of a Segment of known size.
 Lists-segment : (bytes : List ℕ) (n e : ℕ) → Lists in_segment (ends_segment (Known n)) (behind_in_segment bytes e) bytes e
 Lists-segment bytes n e = record {
   plain = refl;
@@ -35,7 +35,7 @@ Lists-segment bytes n e = record {
   next_is = λ h known. cond-false (is_unknown h.size) _ (Ok (end_in e h)) known;
 }
 
--- A Segment whose body consists of elements has these at level 1.
+-- A Segment whose body consists of Elements has these at level 1.
 pub segment-read : (bytes : List ℕ) (d : Element) (ds : List Element) (p : ℕ) → IsElement d → d.body ≡ joined ds → All IsElement ds → HoldsAt bytes p (octets_of d)
     → segment_run bytes (header_in_place p d) ≡ record { list = headers_in_place (p + length (header_of d)) ds; damage = None; end = p + length (header_of d) + length (joined ds) }
 segment-read bytes d ds p is spells are stands =

@@ -15,7 +15,7 @@ use Rattle.block_format.specs.Events.{Found, Event, found_in_timestamp, found_at
 
 -- ---- the ends of a Cluster's children
 
--- The element ends at a place or before.
+-- The Element ends at a place or before.
 abbrev EndsBy : ℕ → Header → Type 0
 EndsBy e h = stated_end h ≤ e
 

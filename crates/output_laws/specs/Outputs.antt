@@ -20,7 +20,7 @@ use Rattle.output_model.specs.Sound.{IsSoundIn, IsSoundCluster, AreKept}
 use Rattle.output_laws.specs.Places.{HasSize, block_in_place, found_blocks, block_events, cluster_blocks, OutputSegment, segment_elements, segment_element, IsSoundSegment, segment_blocks}
 use Rattle.output_laws.specs.Points.{PointsAtBlock}
 
--- The element of a valid block, at any place of a content, is read as that block, after its Cluster's Timestamp.
+-- The Element of a valid block, at any place of a content, is read as that block, after its Cluster's Timestamp.
 abbrev pub BlocksAreRead : Type 0
 BlocksAreRead =
     (scale : ℕ) (bytes : List ℕ) (timestamp : ℕ) (b : OutputBlock) (p : ℕ) → IsSoundIn MAX_LANES timestamp b → HasSize (block_element timestamp b)
@@ -34,7 +34,7 @@ ClustersAreRead =
     → HoldsAt bytes p (octets_of (cluster_element c)) → p + length (octets_of (cluster_element c)) ≤ e
     → found_in (without_limits scale) bytes e (header_in_place p (cluster_element c)) ≡ found_blocks (cluster_blocks scale p c)
 
--- The elements of the Segment at `p` are the elements of level 1, without damage. Its blocks are the blocks of its Clusters, without damage.
+-- The Elements of the Segment at `p` are the Elements of level 1, without damage. Its blocks are the blocks of its Clusters, without damage.
 pub record SegmentIsRead (scale : ℕ) (bytes : List ℕ) (s : OutputSegment) (p : ℕ) : Type 0 where
   pub level_1 : (segment_run bytes (header_in_place p (segment_element s))).list ≡ headers_in_place (p + length (header_of (segment_element s))) (segment_elements s)
   pub unbroken : (segment_run bytes (header_in_place p (segment_element s))).damage ≡ None

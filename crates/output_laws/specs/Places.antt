@@ -19,7 +19,7 @@ HasSize e = length e.body < all_ones 8
 
 -- ---- blocks
 
--- the block that is read from a written one, if a tick has `scale` nanoseconds and its element is at `place`
+-- the block that is read from a written one, if a tick has `scale` nanoseconds and its Element is at `place`
 abbrev pub block_in_place : ℕ → ℕ → OutputBlock → Block
 block_in_place scale place b = record {
   track = b.lane;
@@ -67,7 +67,7 @@ clusters_blocks scale p (c ∷ cs) = cluster_blocks scale p c ++ clusters_blocks
 
 -- ---- a Segment
 
--- The children of a Segment: elements, then Clusters, then elements.
+-- The children of a Segment: Elements, then Clusters, then Elements.
 pub record OutputSegment : Type 0 where
   pub front : List Element
   pub clusters : List OutputCluster
@@ -76,11 +76,11 @@ pub record OutputSegment : Type 0 where
 abbrev pub segment_elements : OutputSegment → List Element
 segment_elements s = s.front ++ (clusters_elements s.clusters ++ s.behind)
 
--- the Segment as an element; its size takes eight bytes
+-- the Segment as an Element; its size takes eight bytes
 abbrev pub segment_element : OutputSegment → Element
 segment_element s = record { id = SEGMENT; width = 8; body = joined (segment_elements s) }
 
--- `e` is an element besides the Clusters.
+-- `e` is an Element besides the Clusters.
 pub record IsOther (e : Element) : Type 0 where
   pub element : IsElement e
   pub other : (e.id == CLUSTER) ≡ false

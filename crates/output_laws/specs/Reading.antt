@@ -23,9 +23,9 @@ use Rattle.output_model.specs.Document.{Document, ebml_element, front_elements, 
 use Rattle.output_laws.specs.Places.{OutputSegment, segment_elements, segment_element, segment_blocks, block_events}
 use Rattle.output_laws.specs.Points.{PointsAtBlock}
 
--- ---- places of a document's elements
+-- ---- places of a document's Elements
 
--- the Segment of a document: the area and other elements before the Clusters, the Clusters, and the elements after them
+-- the Segment of a document: the area and other Elements before the Clusters, the Clusters, and the Elements after them
 abbrev pub segment_of_document : Document → OutputSegment
 segment_of_document d = record {
   front = area_elements (seeks_of d) ++ front_elements d.front;
@@ -43,7 +43,7 @@ segment_place d = length (octets_of (ebml_element d.front.webm))
 abbrev pub header_of_segment : Document → Header
 header_of_segment d = header_in_place (segment_place d) (segment_element (segment_of_document d))
 
--- the elements of level 1
+-- the Elements of level 1
 abbrev pub level_1_of : Document → List Header
 level_1_of d = headers_in_place (header_of_segment d).body (segment_elements (segment_of_document d))
 
@@ -57,13 +57,13 @@ blocks_of_document d = segment_blocks (scale_of d.front.info) (segment_place d) 
 
 -- ---- records
 
--- The element `h` of a content is the record `n`: without a reader's limits it is read as its tree in normal form, in which each element has its
+-- The Element `h` of a content is the record `n`: without a reader's limits it is read as its tree in normal form, in which each Element has its
 -- own place.
 pub record IsRecordAt (bytes : List ℕ) (h : Header) (n : Node) : Type 0 where
   pub id : h.id ≡ id_of n
   pub read : tree_without_limits h.id h.offset (body_of bytes h) h.body ≡ Ok (placed_in h.offset h.body n)
 
--- The first element with an ID is this record; without a record no element has the ID.
+-- The first Element with an ID is this record; without a record no Element has the ID.
 abbrev pub FirstIs : List ℕ → List Header → ℕ → Option Node → Type 0
 FirstIs bytes list id None = first_of id list ≡ None
 FirstIs bytes list id (Some n) = (h : Header) × (first_of id list ≡ Some h) × IsRecordAt bytes h n
@@ -83,7 +83,7 @@ abbrev pub CuesAre : List ℕ → List Header → List CuePoint → Type 0
 CuesAre bytes list [] = first_of CUES list ≡ None
 CuesAre bytes list (p ∷ ps) = (h : Header) × (first_of CUES list ≡ Some h) × (body_of bytes h ≡ joined (map point_element (p ∷ ps)))
 
--- The elements of level 1 have the document's records and its cue points.
+-- The Elements of level 1 have the document's records and its cue points.
 pub record RecordsAre (bytes : List ℕ) (list : List Header) (d : Document) : Type 0 where
   pub info : FirstIs bytes list INFO (Some d.front.info)
   pub tracks : FirstIs bytes list TRACKS (Some d.front.tracks)
@@ -94,7 +94,7 @@ pub record RecordsAre (bytes : List ℕ) (list : List Header) (d : Document) : T
 
 -- ---- Seeks
 
--- The position of the Seek in the Segment is an element with its ID.
+-- The position of the Seek in the Segment is an Element with its ID.
 abbrev pub SeeksElement : List ℕ → Header → Seek → Type 0
 SeeksElement bytes segment s =
     (h : Header) × (element_at in_segment bytes (segment.body + s.position) (segment_bound bytes segment) ≡ Ok h) × (h.id ≡ s.id)
@@ -103,7 +103,7 @@ SeeksElement bytes segment s =
 
 -- The content `bytes` is read as the document `d`, without a reader's limits. It has the document's outline, which no damage ends. Its scale,
 -- records and cue points are the document's, and its blocks are the blocks of the Clusters, without damage. Each Seek has the position of its
--- element, and each cue point points at its block.
+-- Element, and each cue point points at its block.
 pub record IsReadAs (d : Document) (bytes : List ℕ) : Type 0 where
   pub outline : outline_without_limits bytes ≡ Ok (outline_of_document d (length bytes))
   pub scale : scale_without_limits bytes (header_of_segment d) ≡ scale_of d.front.info

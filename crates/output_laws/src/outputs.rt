@@ -14,7 +14,7 @@ pub fn clusters_are_read()
     ensures { ClustersAreRead }
 {}
 
-/// A written Segment has its elements at level 1, and gives the blocks of its Clusters, without damage.
+/// A written Segment has its Elements at level 1, and gives the blocks of its Clusters, without damage.
 pub fn segments_are_read()
     ensures { SegmentsAreRead }
 {}

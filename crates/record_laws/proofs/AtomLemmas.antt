@@ -1,4 +1,4 @@
--- The identifiers of chapters don't depend on the places of chapters, nor on the elements beside them.
+-- The identifiers of chapters don't depend on the places of chapters, nor on the Elements beside them.
 use Rattle.std.proofs.Common.{◌≡◌, ℕ, ◌+◌, ◌==◌, Bool, true, false, if◌then◌else◌, List, [], ◌∷◌, ◌++◌, length, map, flat_map, Option, refl, sym, ap, ap₂, ◌∙◌, inl, inr, find, unwrap_or}
 use Rattle.std.proofs.lemmas.List.{length-map, map-append}
 use Rattle.std.proofs.lemmas.Bool.{cases_Bool}
@@ -14,7 +14,7 @@ use Rattle.record_changes.specs.Atoms.{atoms_among, atoms_at, value_in}
 use Rattle.record_laws.proofs.SameLemmas.{filler-other}
 pub use Rattle.lemmas.proofs.PlainLemmas.{map-or}
 
--- the ChapterUIDs of an element, if it is an atom, and of the atoms inside it; `uids_among` is the same for elements in sequence
+-- the ChapterUIDs of an Element, if it is an atom, and of the atoms inside it; `uids_among` is the same for Elements in sequence
 abbrev pub uids_at : Node → List ℕ
 uids_at n = map (value_in CHAPTER_UID) (atoms_at n)
 
@@ -24,7 +24,7 @@ uids_among ns = map (value_in CHAPTER_UID) (atoms_among ns)
 uids-more : (n : Node) (ns : Nodes) → uids_among (node n ns) ≡ uids_at n ++ uids_among ns
 uids-more n ns = map-append (value_in CHAPTER_UID) (atoms_at n) (atoms_among ns)
 
--- ---- an element that is an atom, or isn't
+-- ---- an Element that is an atom, or isn't
 
 pub atoms-atom : (id at : ℕ) (kids : Nodes) → (id == CHAPTER_ATOM) ≡ true → atoms_at (master id at kids) ≡ master id at kids ∷ atoms_among kids
 atoms-atom id at kids is = ap (λ (b : Bool). if b then master id at kids ∷ atoms_among kids else []) is
@@ -33,7 +33,7 @@ pub atoms-none : (n : Node) → (id_of n == CHAPTER_ATOM) ≡ false → atoms_at
 atoms-none (leaf id at body) is = refl
 atoms-none (master id at kids) is = ap (λ (b : Bool). if b then master id at kids ∷ atoms_among kids else []) is
 
--- An element that is left out isn't an atom.
+-- An Element that is left out isn't an atom.
 pub filler-none : (n : Node) → is_filler (id_of n) ≡ true → atoms_at n ≡ []
 filler-none n filler = atoms-none n (filler-other (id_of n) CHAPTER_ATOM filler refl)
 
@@ -47,7 +47,7 @@ value-placed id (master i at kids) p kept =
     ∙ ap (λ (o : Option ℕ). unwrap_or o 0) (placed-integer id kids q kept)
     ∙ sym (map-or integer_of (find (λ n. id_of n == id) (list_of kids)) 0)
 
--- One element, and then the others.
+-- One Element, and then the others.
 placed-step : (p : ℕ) (n there : Node) (ns : Nodes) → uids_at there ≡ uids_at n → ((q : ℕ) → uids_among (placed_all q ns) ≡ uids_among ns) → (f : Bool) → is_filler (id_of n) ≡ f
     → uids_among (if f then placed_all p ns else node there (placed_all (p + length (octets n)) ns)) ≡ uids_among (node n ns)
 placed-step p n there ns same rest true filler =
@@ -75,7 +75,7 @@ uids-placed (master id at kids) p = placed-master id at p kids (λ q. uids-place
 pub count-placed : (n : Node) (p : ℕ) → length (atoms_at (placed p n)) ≡ length (atoms_at n)
 count-placed n p = sym (length-map (atoms_at (placed p n)) (value_in CHAPTER_UID)) ∙ ap length (uids-placed n p) ∙ length-map (atoms_at n) (value_in CHAPTER_UID)
 
--- ---- elements beside chapters
+-- ---- Elements beside chapters
 
 pub atoms-flat : (ns : List Node) → atoms_among (nodes_of ns) ≡ flat_map atoms_at ns
 atoms-flat [] = refl

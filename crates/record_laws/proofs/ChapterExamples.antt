@@ -1,4 +1,4 @@
--- Parts of small Chapters elements in a period of time, computed: a wrong definition doesn't check.
+-- Parts of small Chapters Elements in a period of time, computed: a wrong definition doesn't check.
 use Rattle.std.proofs.Common.{◌≡◌, ℕ, ◌+◌, List, [], ◌∷◌, ◌++◌, length, codes, option_map, Option, Some, None, Result, Ok, refl}
 use Rattle.std.specs.Int.Count.{count_leading_zeros}
 use Rattle.std.specs.Str.{is_utf8, chars}
@@ -15,12 +15,12 @@ use Rattle.record_changes.specs.declared.stretch.Stretch.{Stretch}
 use Rattle.record_changes.specs.Cut.{cut}
 use Rattle.tree_format.specs.Node.{Node}
 
--- the result of `f` for an element with this ID that is read from bytes without its header
+-- the result of `f` for an Element with this ID that is read from bytes without its header
 unfoldable pub made_of : {A : Type 0} → ℕ → (Node → A) → List ℕ → Result A Damage
 unfolding is_utf8 chars encode grove grove_within element_in id_at size_at entry_of table count_leading_zeros uint_width least_size_width
 made_of id make body = and_then (tree_of id 0 body 5 65536) (λ tree. Ok (make tree))
 
--- ---- elements, each of fewer than 127 bytes
+-- ---- Elements, each of fewer than 127 bytes
 
 abbrev pub edition : List ℕ → List ℕ
 edition body = 0x45 ∷ 0xB9 ∷ (0x80 + length body) ∷ body
@@ -102,7 +102,7 @@ between begin limit = record { from = begin; to = Some limit }
 abbrev onward : ℕ → Stretch
 onward begin = record { from = begin; to = None }
 
--- the part of a Chapters element in a period, both without its header
+-- the part of a Chapters Element in a period, both without its header
 abbrev cut_to : Stretch → List ℕ → Result (Option (List ℕ)) Damage
 cut_to s body = made_of 0x1043A770 (λ tree. option_map content (cut s tree)) body
 

@@ -1,4 +1,4 @@
--- Identifiers that small Chapters elements get, computed: a wrong definition doesn't check.
+-- Identifiers that small Chapters Elements get, computed: a wrong definition doesn't check.
 use Rattle.std.proofs.Common.{◌≡◌, ℕ, List, ◌++◌, Result, Ok, refl}
 use Rattle.mkv_io.specs.declared.damage.Damage.{Damage}
 use Rattle.tree_format.specs.Node.{Node}
@@ -22,7 +22,7 @@ three_atoms first inner second =
 abbrev identified : Node → Node
 identified tree = with_identifiers (renumbered (edition_uids tree)) (renumbered (chapter_uids tree)) tree
 
--- the renumbered Chapters element, both without its header
+-- the renumbered Chapters Element, both without its header
 abbrev renamed : List ℕ → Result (List ℕ) Damage
 renamed body = made_of 0x1043A770 (λ tree. content (identified tree)) body
 

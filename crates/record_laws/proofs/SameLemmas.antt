@@ -40,7 +40,7 @@ same-only n ns only = elim (split-first (id_of n) ns) [
       ∙ ap (flat_map octets) (sym s.whole)
 ]
 
--- ---- elements that are read after writing
+-- ---- Elements that are read after writing
 
 pub placed-octets : (n : Node) (p : ℕ) → octets (placed p n) ≡ octets n
 placed-octets (leaf id at body) p = refl
@@ -58,7 +58,7 @@ integer-placed (master id at kids) p = refl
 pub filler-other : (own id : ℕ) → is_filler own ≡ true → is_filler id ≡ false → (own == id) ≡ false
 filler-other own id filler kept = ne_eqb own id (λ same. let never : true ≡ false = sym filler ∙ ap is_filler same ∙ kept in absurd (cc))
 
--- An element is read, and then the others.
+-- An Element is read, and then the others.
 pub read-step : (p : ℕ) (n : Node) (ns : List Node) → is_filler (id_of n) ≡ false → read_of p (n ∷ ns) ≡ placed p n ∷ read_of (p + length (octets n)) ns
 read-step p n ns kept = rw kept refl
 

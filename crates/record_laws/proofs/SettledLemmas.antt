@@ -24,7 +24,7 @@ small-at [] small k = omega arith
 small-at (n ∷ ns) small zero = All-head (λ m. m < 2 ^ 64) n ns small
 small-at (n ∷ ns) small (suc k) = small-at ns (All-tail (λ m. m < 2 ^ 64) n ns small) k
 
--- The editions among some elements, if they are masters.
+-- The editions among some Elements, if they are masters.
 editions-are : (ns : List Node) → All IsMaster (part EDITION_ENTRY ns) → All IsEdition (part EDITION_ENTRY ns)
 editions-are [] masters = All-nil IsEdition
 editions-are (n ∷ ns) masters = elim (cases_Bool (id_of n == EDITION_ENTRY)) [
@@ -41,7 +41,7 @@ editions-are (n ∷ ns) masters = elim (cases_Bool (id_of n == EDITION_ENTRY)) [
 abbrev list_in : Node → List Node
 list_in chapters = numbered_editions (edition_numbers chapters) (chapter_numbers chapters) 0 0 (editions_of chapters)
 
--- the place of its editions if the element is at a place
+-- the place of its editions if the Element is at a place
 abbrev inside_of : ℕ → ℕ → Node → ℕ
 inside_of id place chapters = place + length (header_octets id (length (octets_all (nodes_of (list_in chapters)))))
 

@@ -33,7 +33,7 @@ last = replicate 8 0xFF
 
 -- ---- chapters with an append offset
 
--- the Chapters element with an append offset, both without its header
+-- the Chapters Element with an append offset, both without its header
 abbrev later : ℕ → List ℕ → Result (List ℕ) Damage
 later by body = made_of 0x1043A770 (λ tree. content (shifted by tree)) body
 
@@ -48,7 +48,7 @@ pub record AreLater : Type 0 where
   pub ends : later 500000000 (two_editions zero_s half_s) ≡ Ok (two_editions half_s one_s)
   -- A missing start was 0, and is added last.
   pub missing_start : becomes (atom intro) (atom (intro ++ start half_s))
-  -- A missing end isn't added, and elements other than atoms stay.
+  -- A missing end isn't added, and Elements other than atoms stay.
   pub others_stay : becomes (edition_uid 7 ++ atom (start zero_s)) (edition_uid 7 ++ atom (start half_s))
   -- Atoms inside an atom get the offset, too.
   pub inside : becomes (atom (start zero_s ++ atom (start half_s))) (atom (start half_s ++ atom (start one_s)))
@@ -62,7 +62,7 @@ laters = assumption refl
 
 -- ---- starts of chapters
 
--- the starts of a Chapters element's chapters
+-- the starts of a Chapters Element's chapters
 abbrev starts : List ℕ → Result (List ℕ) Damage
 starts body = made_of 0x1043A770 top_starts body
 

@@ -16,21 +16,21 @@ use Rattle.record_changes.specs.ChapterIdentifiers.{numbered, numbered_among}
 use Rattle.record_laws.proofs.AtomLemmas.{atoms-none, count-placed, filler-none}
 use Rattle.record_laws.proofs.NumberLemmas.{count-numbered, numbered-atom, numbered-none}
 
--- The element stays: after it is read, its atoms with the identifiers from the one at `k` on are written as they were.
+-- The Element stays: after it is read, its atoms with the identifiers from the one at `k` on are written as they were.
 abbrev pub Stays : List ℕ → ℕ → Node → Type 0
 Stays uids k n = (p : ℕ) → octets (numbered uids k (placed p n)) ≡ octets n
 
--- The same for elements in sequence.
+-- The same for Elements in sequence.
 abbrev pub AllStay : List ℕ → ℕ → List Node → Type 0
 AllStay uids k [] = ⊤
 AllStay uids k (n ∷ ns) = Stays uids k n × AllStay uids (k + length (atoms_at n)) ns
 
--- ---- lists of elements that stay
+-- ---- lists of Elements that stay
 
 stay-at : (uids : List ℕ) (j k : ℕ) (ns : List Node) → j ≡ k → AllStay uids j ns → AllStay uids k ns
 stay-at uids j k ns same stay = subst (λ (i : ℕ). AllStay uids i ns) same stay
 
--- An element that is left out has no bytes.
+-- An Element that is left out has no bytes.
 pub octets-filler : (n : Node) → is_filler (id_of n) ≡ true → octets n ≡ []
 octets-filler (leaf id at body) is = rw is refl
 octets-filler (master id at kids) is = rw is refl
@@ -64,7 +64,7 @@ stay-back uids k (x ∷ xs) ys stay =
     let same : k + length (atoms_at x) + length (flat_map atoms_at xs) ≡ k + length (atoms_at x ++ flat_map atoms_at xs) = omega (arith, length-append (atoms_at x) (flat_map atoms_at xs)) in
     stay-at uids (k + length (atoms_at x) + length (flat_map atoms_at xs)) (k + length (atoms_at x ++ flat_map atoms_at xs)) ys same (stay-back uids (k + length (atoms_at x)) xs ys stay.1)
 
--- An element with another ID than an atom's has no atom inside.
+-- An Element with another ID than an atom's has no atom inside.
 not-atom : (id : ℕ) (n : Node) → (id == CHAPTER_ATOM) ≡ false → (id_of n == id) ≡ true → atoms_at n ≡ []
 not-atom id n other is = atoms-none n (rw (eqb-true (id_of n) id is) other)
 
@@ -91,7 +91,7 @@ stay-set uids k id value ns other stay = elim (split-first id ns) [
       ((λ p. refl), stay-without uids (at + 0) id s.back other (stay-at uids (at + length (atoms_at s.first)) (at + 0) s.back same back.1)))
 ]
 
--- ---- elements with identifiers
+-- ---- Elements with identifiers
 
 numbered-id : (uids : List ℕ) (k : ℕ) (n : Node) → id_of (numbered uids k n) ≡ id_of n
 numbered-id uids k (leaf id at body) = refl
@@ -102,7 +102,7 @@ numbered-same : (uids : List ℕ) (k id : ℕ) (n : Node) → (id == CHAPTER_ATO
 numbered-same uids k id (leaf i at body) other is = refl
 numbered-same uids k id (master i at kids) other is = numbered-none uids k i at kids (rw (eqb-true i id is) other)
 
--- The elements with another ID are the same.
+-- The Elements with another ID are the same.
 pub part-numbered : (uids : List ℕ) (id k : ℕ) (ns : Nodes) → (id == CHAPTER_ATOM) ≡ false → part id (numbered_among uids k ns) ≡ part id (list_of ns)
 part-numbered uids id k none other = refl
 part-numbered uids id k (node n ns) other =

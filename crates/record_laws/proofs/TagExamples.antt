@@ -1,4 +1,4 @@
--- Small Tags elements that are written, computed: a wrong definition doesn't check.
+-- Small Tags Elements that are written, computed: a wrong definition doesn't check.
 use Rattle.std.proofs.Common.{◌≡◌, ℕ, ◌+◌, ◌==◌, ◌&&◌, if◌then◌else◌, true, false, List, [], ◌∷◌, ◌++◌, length, Option, Some, None, Result, Ok, refl}
 use Rattle.mkv_io.specs.declared.damage.Damage.{Damage}
 use Rattle.tree_format.specs.NormalForm.{content}
@@ -6,7 +6,7 @@ use Rattle.record_changes.specs.declared.uid_map.TagKeep.{TagKeep}
 use Rattle.record_changes.specs.Tags.{written_tags}
 use Rattle.record_laws.proofs.ChapterExamples.{made_of}
 
--- ---- elements, each of fewer than 127 bytes
+-- ---- Elements, each of fewer than 127 bytes
 
 -- a SimpleTag: A is b
 abbrev simple : List ℕ
@@ -66,13 +66,13 @@ two_of_tracks = about_5 ++ about (edition 5 ++ track 5)
 abbrev four_others : List ℕ
 four_others = tag [] ++ about [] ++ about (track 0) ++ about (chapter 5)
 
--- Tags about one element of each kind
+-- Tags about one Element of each kind
 abbrev four_gone : List ℕ
 four_gone = about (track 6) ++ about (edition 5) ++ about (chapter 5) ++ about (attachment 5)
 
 -- ---- written Tags
 
--- the written Tags element, both without its header
+-- the written Tags Element, both without its header
 abbrev written : TagKeep → (ℕ → ℕ → Option ℕ) → List ℕ → Result (List ℕ) Damage
 written keep numbers body = made_of 0x1254C367 (λ tree. content (written_tags keep numbers tree)) body
 
@@ -92,13 +92,13 @@ pub record AreWritten : Type 0 where
   -- An identifier takes the bytes that it needs.
   pub longer : all 300 (about (track 5)) ≡ Ok (about (track_in (1 ∷ 0x2C ∷ [])))
   pub shorter : all 5 (about (track_in (0 ∷ 0 ∷ 5 ∷ []))) ≡ Ok (about (track 5))
-  -- A Tag about elements that aren't written is left out; the others stay in order.
+  -- A Tag about Elements that aren't written is left out; the others stay in order.
   pub not_written : all 1 (tag [] ++ four_gone ++ about_5) ≡ Ok (tag [] ++ about_1)
   -- Targets that are written stay.
   pub some : all 1 (about (track 6 ++ track 5 ++ edition 5)) ≡ Ok about_1
   -- A Tag without a specific target stays, and so does a target that is 0.
   pub no_targets : all 1 (tag [] ++ about [] ++ about (track 0)) ≡ Ok (tag [] ++ about [] ++ about (track 0))
-  -- Other elements of Targets stay in their places.
+  -- Other Elements of Targets stay in their places.
   pub others_stay : all 1 (about (level 30 ++ track 5)) ≡ Ok (about (level 30 ++ track 1))
 
 pub writes : AreWritten

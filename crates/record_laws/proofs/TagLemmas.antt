@@ -20,11 +20,11 @@ use Rattle.record_changes.specs.declared.uid_map.TagKeep.{TagKeep}
 use Rattle.record_laws.specs.Tags.{AreSmall, KeepsTarget, TagsStay, keep_all}
 use Rattle.record_laws.proofs.StayLemmas.{octets-filler}
 
--- ---- elements in sequence, each of which is written as it was
+-- ---- Elements in sequence, each of which is written as it was
 
--- A fact about elements gives a fact about them after they are read.
+-- A fact about Elements gives a fact about them after they are read.
 module _ (P : Node → Type 0) (Q : Node → Type 0) (f : Node → List Node) (so : (n : Node) (q : ℕ) → P n → Q (placed q n) → flat_map octets (f (placed q n)) ≡ octets n) where
-  -- The elements that are made from each are written as they were.
+  -- The Elements that are made from each are written as they were.
   each-again : (ns : List Node) (q : ℕ) → All P ns → All Q (read_of q ns) → flat_map octets (flat_map f (read_of q ns)) ≡ flat_map octets ns
   each-again [] q all read = refl
   each-again (n ∷ ns) q all read = elim (cases_Bool (is_filler (id_of n))) [
@@ -165,7 +165,7 @@ tag-again again (master id at kids) q short keeps =
     ∙ each-again IsShortPart (KeepsPart again) (λ (m : Node). written_part again m ∷ []) (λ m p one keep. append-nil (octets (written_part again (placed p m))) ∙ part-again again m p one keep) (list_of kids) there short.parts each
     ∙ sym (octets_all-flat (list_of kids)) ∙ ap octets_all (nodes-list kids))
 
--- A Tag with specific targets names an element that is written.
+-- A Tag with specific targets names an Element that is written.
 aims-written : (again : ℕ → ℕ → Option ℕ) (ns : List Node) → All (KeepsTarget again) ns → (not (list_any (λ (n : Node). true) ns) || list_any (λ (n : Node). is_some (number_of again n)) ns) ≡ true
 aims-written again [] all = refl
 aims-written again (n ∷ ns) all = ap (λ (o : Option ℕ). is_some o || list_any (λ (m : Node). is_some (number_of again m)) ns) (All-head (KeepsTarget again) n ns all)

@@ -1,4 +1,4 @@
--- The entries of a Tracks element that was read.
+-- The entries of a Tracks Element that was read.
 use Rattle.std.proofs.Common.{◌≡◌, ◌<◌, ℕ, ◌==◌, true, false, List, [], ◌∷◌, All, eqb-true, refl, sym, ap, subst, ◌∙◌, arith, inl, inr}
 use Rattle.std.proofs.lemmas.List.Elements.{All-nil, All-cons}
 use Rattle.std.proofs.lemmas.Bool.{cases_Bool}
@@ -18,14 +18,14 @@ entry-master : is_master_in TRACKS TRACK_ENTRY ≡ true
 unfolding entry_of table
 entry-master = refl
 
--- An entry in a Tracks element is a master.
+-- An entry in a Tracks Element is a master.
 stands-master : (n : Node) → id_of n ≡ TRACK_ENTRY → StandsIn TRACKS n → IsMaster n
 stands-master (leaf id at body) is stands =
     let never : true ≡ false = sym entry-master ∙ ap (is_master_in TRACKS) (sym is) ∙ stands.no_master in
     absurd (cc)
 stands-master (master id at kids) is stands = refl
 
--- The entries among the children of a Tracks element are valid.
+-- The entries among the children of a Tracks Element are valid.
 all-whole : (ns : List Node) → AllStandIn TRACKS (nodes_of ns) → depth_all (nodes_of ns) < deepest → All IsWholeEntry (part TRACK_ENTRY ns)
 all-whole [] stand low = All-nil IsWholeEntry
 all-whole (n ∷ ns) stand low =

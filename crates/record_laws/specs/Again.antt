@@ -35,7 +35,7 @@ plain_changes n (uid ∷ uids) = plain n uid ∷ plain_changes (n + 1) uids
 abbrev pub AreNumbered : ℕ → List ℕ → List TrackChange → Type 0
 AreNumbered n uids changes = (map (λ c. c.uid) changes ≡ uids) × (map (λ c. c.number) changes ≡ map (λ c. c.number) (plain_changes n uids))
 
--- the elements `ns` as they are read if they are written from `place` on
+-- the Elements `ns` as they are read if they are written from `place` on
 abbrev pub read_of : ℕ → List Node → List Node
 read_of place ns = list_of (placed_all place (nodes_of ns))
 

@@ -8,7 +8,7 @@ use Rattle.track_records.specs.declared.fields.TheConstants.{FIELDS}
 use Rattle.track_records.specs.Entry.{IsWholeEntry}
 use Rattle.track_records.specs.Difference.{octets_at, first_difference}
 
--- The entries of a Tracks element that was read are valid, and each valid entry may be in one.
+-- The entries of a Tracks Element that was read are valid, and each valid entry may be in one.
 pub record ReadEntriesAreWhole : Type 0 where
   pub read : (tracks : Node) → IsSoundOf TRACKS tracks → depth_all (nodes_of (children tracks)) < deepest → All IsWholeEntry (entries_of tracks)
   pub stands : (entry : Node) → IsWholeEntry entry → StandsIn TRACKS entry

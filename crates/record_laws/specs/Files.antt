@@ -27,7 +27,7 @@ with_numbers (uid ∷ uids) (file ∷ files) = set_in (uint_leaf FILE_UID uid) f
 abbrev pub settled : List Node → List Node
 settled files = with_numbers (file_numbers files) files
 
--- The elements are attached files, and their identifiers have 64 bits.
+-- The Elements are attached files, and their identifiers have 64 bits.
 pub record AreFiles (files : List Node) : Type 0 where
   pub each : All IsAttachedFile files
   pub numbers : All (λ n. n < 2 ^ 64) (file_numbers files)

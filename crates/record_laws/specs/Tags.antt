@@ -15,7 +15,7 @@ keep_all = record { tracks = true; global = true }
 abbrev pub targets_of : Node → List Node
 targets_of tags = flat_map (λ (tag : Node). flat_map targets_in (children tag)) (children tags)
 
--- The element that the target names keeps its identifier.
+-- The Element that the target names keeps its identifier.
 abbrev pub KeepsTarget : (ℕ → ℕ → Option ℕ) → Node → Type 0
 KeepsTarget numbers target = number_of numbers target ≡ Some (integer_of target)
 

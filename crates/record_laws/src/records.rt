@@ -14,7 +14,7 @@ pub fn tracks_stay()
     ensures { TracksStay }
 {}
 
-/// The entries of a Tracks element that was read are valid, and each valid entry may be in one.
+/// The entries of a Tracks Element that was read are valid, and each valid entry may be in one.
 pub fn read_entries_are_whole()
     ensures { ReadEntriesAreWhole }
 {}

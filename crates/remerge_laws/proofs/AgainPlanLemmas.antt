@@ -83,7 +83,7 @@ Small n = n < 2 ^ 64
 
 -- ---- a written record is a record again, except for its length
 
--- `n` is a master with the ID `own` and valid elements, and isn't too deep.
+-- `n` is a master with the ID `own` and valid Elements, and isn't too deep.
 pub record IsTree (own : ℕ) (n : Node) : Type 0 where
   read : IsRead own n
   low : depth n ≤ deepest
@@ -156,7 +156,7 @@ entry-master (leaf id at body) own stands =
     let never : true ≡ false = sym entry-in ∙ ap (is_master_in TRACKS) (sym own) ∙ stands.no_master in absurd (cc)
 entry-master (master id at kids) own stands = refl
 
--- The entries of a Tracks element are valid.
+-- The entries of a Tracks Element are valid.
 entries-whole : (tracks : Node) → IsTree TRACKS tracks → All IsWholeEntry (entries_of tracks)
 entries-whole (leaf id at body) is = let never = is.read.master in absurd (cc)
 entries-whole (master id at kids) is = λ k d inside. of _ (each k d inside) (stand k d inside) (room k d inside)

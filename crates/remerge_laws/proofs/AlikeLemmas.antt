@@ -15,7 +15,7 @@ use Rattle.output_model.specs.SeekHead.{area_elements, seeks_from}
 use Rattle.output_model.specs.Document.{Front, attachments_elements, back_at, back_elements, clusters_elements, elements_behind_area, file_with, front_elements, segment_size, seeks_of, tree_element, tree_elements}
 use Rattle.remerge_laws.specs.Alike.{AlikeDocumentsAreOne, AreAlike, MayBeAlike}
 
--- ---- elements that are written alike
+-- ---- Elements that are written alike
 
 record IsSame (a b : Element) : Type 0 where
   id : a.id ≡ b.id
@@ -45,7 +45,7 @@ seeks-same p (a ∷ xs) (b ∷ ys) are =
     ∙ ap (λ (l : List Seek). let s : Seek = record { id = b.id; position = p } in s ∷ l) (seeks-same (p + length (octets_of b)) xs ys are.1)
 seeks-same _ _ _ are = absurd are
 
--- ---- elements of a document
+-- ---- Elements of a document
 
 tree-octets : (m n : Node) → AreAlike m n → octets_of (tree_element m) ≡ octets_of (tree_element n)
 tree-octets m n alike =
@@ -78,12 +78,12 @@ attachments-same (m ∷ ms) (n ∷ ns) are = (
 )
 attachments-same _ _ are = absurd are
 
--- The elements before the Clusters.
+-- The Elements before the Clusters.
 pub fronts-same : (f g : Front) → AreAlike f.info g.info → AreAlike f.tracks g.tracks → AllZip AreAlike f.attachments g.attachments → joined (front_elements f) ≡ joined (front_elements g)
 fronts-same f g info tracks files =
     joined-same (front_elements f) (front_elements g) (tree-same f.info g.info info, (tree-same f.tracks g.tracks tracks, attachments-same f.attachments g.attachments files))
 
--- the bytes of a file, by the elements after the area and the Seeks
+-- the bytes of a file, by the Elements after the area and the Seeks
 abbrev laid : Bool → List Seek → List ℕ → List ℕ
 laid webm seeks rest = file_with webm (segment_size (length rest)) (area_elements seeks) rest
 

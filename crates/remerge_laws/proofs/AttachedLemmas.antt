@@ -70,7 +70,7 @@ all-leaves (node (master id at kids) ns) stand =
     let never : true ≡ false = sym stand.0.0 ∙ no_master-in id in
     absurd (cc)
 
--- `e` is an element of an AttachedFile.
+-- `e` is an Element of an AttachedFile.
 record IsFileElement (e : Element) : Type 0 where
   valid : is_id e.id ≡ true
   value : is_known_value ATTACHED_FILE e.id e.body ≡ true
@@ -145,7 +145,7 @@ files-elements (n ∷ ns) are =
     let long : length (content n) ≤ longest = is.is.limits.long in
     All-cons IsElement (tree_element n) (map tree_element ns) (IsElement-element (id_of n) (content n) (ap is_id is.is.id) (omega arith)) (files-elements ns (All-tail IsAttachment n ns are))
 
--- The Attachments element `h` in a content has the AttachedFiles `ns`, without damage.
+-- The Attachments Element `h` in a content has the AttachedFiles `ns`, without damage.
 pub record AreAttachedAt (bytes : List ℕ) (h : Header) (ns : List Node) : Type 0 where
   pub whole : (children_of bytes h).damage ≡ None
   pub are : AllZip (IsAttachedAt bytes) (children_of bytes h).list ns
@@ -232,7 +232,7 @@ data-there bytes h (master id at kids) at_place =
 
 -- ---- refusals
 
--- An element is met, and its value is valid.
+-- An Element is met, and its value is valid.
 abbrev Fits : Result ScannedElement Damage → Type 0
 Fits (Ok m) = m.fits ≡ true
 Fits (Err d) = ⊥
@@ -242,7 +242,7 @@ two-none None None is = (refl, refl)
 two-none None (Some d) is = absurd (cc)
 two-none (Some d) b is = absurd (cc)
 
--- Only a limit refuses such elements.
+-- Only a limit refuses such Elements.
 none-refused : (octets_before nodes : ℕ) (list : List (Result ScannedElement Damage)) → All Fits list → passed_from octets_before nodes list ≡ None → refused_from octets_before nodes list ≡ None
 none-refused octets_before nodes [] fit passed = refl
 none-refused octets_before nodes (Err d ∷ rest) fit passed = absurd (All-head Fits (Err d) rest fit)
@@ -296,7 +296,7 @@ files-are bytes [] [] are = tt
 files-are bytes (h ∷ hs) (n ∷ ns) are = (file-read bytes h n are.0, files-are bytes hs ns are.1)
 files-are _ _ _ are = absurd are
 
--- An Attachments element of AttachedFiles that keeps the limits isn't refused, and has these files.
+-- An Attachments Element of AttachedFiles that keeps the limits isn't refused, and has these files.
 pub files-read : (bytes : List ℕ) (h : Header) (ns : List Node) → AreAttachedAt bytes h ns → AttachmentsKeepLimits bytes h
     → (files : List AttachedFile) × (files_at bytes (Some h) ≡ Ok files) × AllZip (IsFileOf bytes) ns files
 files-read bytes h ns all few =

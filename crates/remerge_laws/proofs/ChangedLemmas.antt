@@ -45,7 +45,7 @@ with-first n m ms = split (id_of m == id_of n) refl
 with-alone : (n : Node) → with_child n [] ≡ n ∷ []
 with-alone n = with_child-none n [] (All-nil (λ k. (id_of k == id_of n) ≡ false))
 
--- ---- elements that are left out don't count
+-- ---- Elements that are left out don't count
 
 without-written : (id : ℕ) (ns : List Node) → flat_map octets (without id (written ns)) ≡ flat_map octets (without id ns)
 without-written id [] = refl
@@ -172,7 +172,7 @@ changed-again u m data_octets ns one same =
 pub emptied : (m : Node) (ns : List Node) → part FILE_DATA ns ≡ m ∷ [] → with_child (leaf FILE_DATA 0 []) (map as_read (written ns)) ≡ map as_read (written ns)
 emptied m ns one = empty-again m (written ns) (part-written FILE_DATA ns refl ∙ one)
 
--- ---- elements in the list
+-- ---- Elements in the list
 
 -- The integer of an ID that is kept, among leaves.
 pub integer-read : (id : ℕ) (ns : Nodes) → is_filler id ≡ false → (id == FILE_DATA) ≡ false → All (λ (n : Node). is_leaf n ≡ true) (list_of ns)
@@ -203,7 +203,7 @@ integer-read id (node (leaf i at body) ns) keeps other leaves =
     split true is rest = rest ∙ sym (ap (λ (t : Bool). option_map integer_of (cond t (Some n) (find (λ k. id_of k == id) (list_of ns)))) (filler-other i id is keeps))
     split false is rest = here (i == id) refl rest
 
--- The first element with an ID.
+-- The first Element with an ID.
 pub element-found : (id : ℕ) (m : Node) (ns ms : List Node) → part id ns ≡ m ∷ ms → find (λ (e : Element). e.id == id) (map tree_element ns) ≡ Some (tree_element m)
 element-found id m [] ms is = absurd (cc)
 element-found id m (n ∷ ns) ms is = elim (cases_Bool (id_of n == id)) [

@@ -25,7 +25,7 @@ use Rattle.output_laws.proofs.LayoutLemmas.{layout-read}
 use Rattle.remerge_laws.specs.Outline.{KeepsReaderLimits, RecordsKeepLimits, OutlinesAreRead}
 use Rattle.remerge_laws.proofs.OutlineLemmas.{IsShortHeader, none-passed, outline-within}
 
--- ---- counted values of an element
+-- ---- counted values of an Element
 
 -- its bytes, if it is an Info, Tracks, Chapters or Tags
 abbrev weight : Element → ℕ
@@ -35,7 +35,7 @@ weight e = if is_described e.id then length e.body else 0
 abbrev one_other : Element → ℕ
 one_other e = if not (e.id == CLUSTER) then 1 else 0
 
--- the element has at most 16 MiB if it is an Info, Tracks, Chapters or Tags
+-- the Element has at most 16 MiB if it is an Info, Tracks, Chapters or Tags
 abbrev IsShortElement : Element → Type 0
 IsShortElement e = is_described e.id ≡ true → length e.body ≤ MAX_MASTER_LEN
 
@@ -67,13 +67,13 @@ short-placed (e ∷ es) p are =
     All-cons IsShortHeader (header_in_place p e) (headers_in_place (p + length (octets_of e)) es) (All-head IsShortElement e es are)
     (short-placed es (p + length (octets_of e)) (All-tail IsShortElement e es are))
 
--- ---- elements that count little
+-- ---- Elements that count little
 
--- An element with an ID other than Info, Tracks, Chapters and Tags.
+-- An Element with an ID other than Info, Tracks, Chapters and Tags.
 plain-short : (e : Element) → is_described e.id ≡ false → IsShortElement e
 plain-short e is = λ described. let never : true ≡ false = sym described ∙ is in absurd (cc)
 
--- The elements are short, count at most `octets` bytes, and at most `many` of them aren't Clusters.
+-- The Elements are short, count at most `octets` bytes, and at most `many` of them aren't Clusters.
 record CountFor (octets many : ℕ) (es : List Element) : Type 0 where
   short : All IsShortElement es
   weight_most : sum_by weight es ≤ octets
@@ -97,7 +97,7 @@ count-none = record { short = All-nil IsShortElement; weight_most = omega arith;
 one-most : (e : Element) → one_other e ≤ 1
 one-most e = elim (cases_Bool (not (e.id == CLUSTER))) [ inl is ↦ rw is (omega arith) | inr is ↦ rw is (omega arith) ]
 
--- One element with another ID.
+-- One Element with another ID.
 count-plain : (e : Element) → is_described e.id ≡ false → CountFor 0 1 (e ∷ [])
 count-plain e is =
     let light : weight e ≡ 0 = ap (λ (t : Bool). if t then length e.body else 0) is in

@@ -1,4 +1,4 @@
--- The places of the elements of an output, and the first element with each ID.
+-- The places of the Elements of an output, and the first Element with each ID.
 use Rattle.std.proofs.Common.{◌≡◌, ℕ, ◌+◌, ◌-◌, ◌==◌, nat_le, Bool, true, false, cond, List, [], ◌∷◌, ◌++◌, length, map, find, append-nil, append_assoc, length-append, All, IfSome, Option, Some, None, refl, sym, ap, ◌∙◌, subst, arith, inl, inr}
 use Rattle.std.proofs.lemmas.List.Concat.{flat_map-append}
 use Rattle.std.proofs.lemmas.List.Elements.{All-nil, All-cons, All-head, All-tail}
@@ -25,9 +25,9 @@ use Rattle.output_laws.specs.Reading.{header_of_segment, level_1_of, outline_of_
 use Rattle.output_laws.proofs.LayoutLemmas.{layout-read}
 use Rattle.remerge_laws.proofs.OutlineLemmas.{outline-run}
 
--- ---- places of the elements of an output
+-- ---- places of the Elements of an output
 
--- The elements after the Segment's header.
+-- The Elements after the Segment's header.
 pub layout-held : (d : Document) → HoldsAt (layout d) (header_of_segment d).body (joined (segment_elements (segment_of_document d)))
 layout-held d =
     let area : List ℕ = joined (area_elements (seeks_of d)) in
@@ -45,11 +45,11 @@ layout-held d =
     omega (arith, length-append ebml (id_octets SEGMENT ++ size), length-append (id_octets SEGMENT) size, length-append (id_octets SEGMENT) (size_octets (length list) 8), length-size_octets (AREA + length rest) 8, length-size_octets (length list) 8) in
     subst (λ (bytes : List ℕ). HoldsAt bytes (header_of_segment d).body list) (sym spelled) (held-between front list [] (header_of_segment d).body place)
 
--- The elements of level 1 are the document's.
+-- The Elements of level 1 are the document's.
 pub layout-run : (d : Document) → IsSoundDocument d → (segment_run (layout d) (header_of_segment d)).list ≡ level_1_of d
 layout-run d is = outline-run (layout d) (outline_of_document d (length (layout d))) (layout-read d is).outline
 
--- `h` is the header of the first element with its ID, which is at that place.
+-- `h` is the header of the first Element with its ID, which is at that place.
 pub record IsFirstAt (bytes : List ℕ) (h : Header) (found : Option Element) : Type 0 where
   pub element : Element
   pub place : ℕ
@@ -68,9 +68,9 @@ first-at bytes id (e ∷ es) p h held found = elim (cases_Bool (e.id == id)) [
   | inr is ↦ rw is (first-at bytes id es (p + length (octets_of e)) h (held-right bytes p (octets_of e) (joined es) held) (rw is at found))
 ]
 
--- ---- the first element with an ID
+-- ---- the first Element with an ID
 
--- the first element with an ID
+-- the first Element with an ID
 abbrev pub first_element : ℕ → List Element → Option Element
 first_element id es = find (λ (e : Element). e.id == id) es
 
@@ -80,7 +80,7 @@ HasId own e = e.id ≡ own
 here : (id : ℕ) (e : Element) (rest : List Element) → HasId id e → (id == id) ≡ true → first_element id (e ∷ rest) ≡ Some e
 here id e rest is same = ap (λ (i : ℕ). cond (i == id) (Some e) (first_element id rest)) is ∙ ap (λ (t : Bool). cond t (Some e) (first_element id rest)) same
 
--- Earlier elements with other IDs don't count.
+-- Earlier Elements with other IDs don't count.
 behind : (id own : ℕ) (es rest : List Element) → (own == id) ≡ false → All (HasId own) es → first_element id (es ++ rest) ≡ first_element id rest
 behind id own [] rest differs are = refl
 behind id own (e ∷ es) rest differs are =
@@ -116,7 +116,7 @@ record-ids : (own : ℕ) (o : Option Node) → IfSome o (IsRecord own) → All (
 record-ids own None is = All-nil (HasId own)
 record-ids own (Some n) is = one-id own (tree_element n) is.id
 
--- The first elements of a document.
+-- The first Elements of a document.
 module _ (d : Document) (is : IsSoundDocument d) where
   abbrev behind_tracks : List Element
   behind_tracks = attachments_elements d.front.attachments ++ (clusters_elements d.clusters ++ back_elements d)
@@ -126,7 +126,7 @@ module _ (d : Document) (is : IsSoundDocument d) where
       behind-area INFO (seeks_of d) (tree_element d.front.info ∷ tree_element d.front.tracks ∷ behind_tracks) refl refl
       ∙ here INFO (tree_element d.front.info) (tree_element d.front.tracks ∷ behind_tracks) is.info.id refl
 
-  -- The first element after the Info.
+  -- The first Element after the Info.
   past-info : (id : ℕ) → (SEEK_HEAD == id) ≡ false → (VOID == id) ≡ false → (INFO == id) ≡ false
       → first_element id (segment_elements (segment_of_document d)) ≡ first_element id (tree_element d.front.tracks ∷ behind_tracks)
   past-info id seek void info =
@@ -148,7 +148,7 @@ module _ (d : Document) (is : IsSoundDocument d) where
       past-tracks ATTACHMENTS refl refl refl refl
       ∙ ap (λ (l : List Node). first_element ATTACHMENTS (attachments_elements l ++ (clusters_elements d.clusters ++ back_elements d))) same
 
-  -- The first element after the Clusters.
+  -- The first Element after the Clusters.
   past-cues : (id : ℕ) → (SEEK_HEAD == id) ≡ false → (VOID == id) ≡ false → (INFO == id) ≡ false → (TRACKS == id) ≡ false → (ATTACHMENTS == id) ≡ false → (CLUSTER == id) ≡ false → (CUES == id) ≡ false
       → first_element id (segment_elements (segment_of_document d)) ≡ first_element id (tree_elements d.chapters ++ tree_elements d.tags)
   past-cues id seek void info tracks attachments cluster cues =

@@ -1,4 +1,4 @@
--- The targets of joined Tags name elements that the output has.
+-- The targets of joined Tags name Elements that the output has.
 use Rattle.std.proofs.Common.{◌≡◌, ◌<◌, ℕ, ◌+◌, ◌^◌, ◌==◌, Bool, true, false, ◌&&◌, if◌then◌else◌, List, [], ◌∷◌, length, map, filter, flat_map, take, drop, zip, All, Contains, Option, None, Some, IfSome, refl, sym, ap, subst, ◌∙◌, inl, inr, slice_index_or, option_map}
 use Rattle.std.specs.Map.{lookup}
 use Rattle.std.proofs.lemmas.Bool.{eqb-true, cases_Bool, and_parts}
@@ -26,9 +26,9 @@ use Rattle.remerge_laws.specs.Joined.{IsWrittenTag}
 use Rattle.remerge_laws.specs.Named.{JoinedTagsNameTheOutput, NamesOneOf, named_by, tags_joined}
 use Rattle.record_laws.proofs.TagLemmas.{all-made}
 
--- ---- elements after reading
+-- ---- Elements after reading
 
--- Each element keeps the fact at its place.
+-- Each Element keeps the fact at its place.
 list-placed : (P : Node → Type 0) → ((n : Node) (q : ℕ) → P n → P (placed q n)) → (ns : Nodes) (q : ℕ) → All P (list_of ns) → All P (list_of (placed_all q ns))
 list-placed P keep none q all = All-nil P
 list-placed P keep (node n ns) q all =

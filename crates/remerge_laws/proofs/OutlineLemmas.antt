@@ -26,7 +26,7 @@ header-with_limit bytes h is short =
     ∙ ap (λ (b : Bool). unless (first_damage (where_it b (damage HeaderTooLarge first.0.id first.0.offset) ∷ children_causes bytes (header_children bytes first.0))) first.0) within
     ∙ ap (λ c. unless c first.0) good.0 ∙ ap (λ x. Ok x) good.1
 
--- The elements of level 1 are the Segment's.
+-- The Elements of level 1 are the Segment's.
 pub outline-run : (bytes : List ℕ) (o : Outlined) → outline_without_limits bytes ≡ Ok o → (segment_run bytes o.segment).list ≡ o.list
 unfolding outline_without_limits
 outline-run bytes o is =
@@ -52,7 +52,7 @@ outline-within held bytes o is short keeps =
 
 -- ---- the limits of level 1
 
--- The element has at most 16 MiB if it is an Info, Tracks, Chapters or Tags.
+-- The Element has at most 16 MiB if it is an Info, Tracks, Chapters or Tags.
 abbrev pub IsShortHeader : Header → Type 0
 IsShortHeader h = is_described h.id ≡ true → known h.size ≤ MAX_MASTER_LEN
 

@@ -49,7 +49,7 @@ written-ones (c ∷ cs) (e ∷ es) whole =
     (written-id c e ∙ (All-head IsWholeEntry e es whole).id)
     (written-ones cs es (All-tail IsWholeEntry e es whole))
 
--- ---- all elements that are read are entries
+-- ---- all Elements that are read are entries
 
 read-ones : (ns : List Node) (p : ℕ) → All IsOne ns → filter (λ n. id_of n == TRACK_ENTRY) (read_of p ns) ≡ read_of p ns
 read-ones [] p are = refl

@@ -15,7 +15,7 @@ use Rattle.record_laws.proofs.SameLemmas.{filler-other, part-placed as parts-pla
 use Rattle.record_laws.proofs.TrackLemmas.{find-map, first_in}
 use Rattle.remerge_laws.specs.Placed.{RecordsSayTheSame, StandsAs}
 
--- ---- one element
+-- ---- one Element
 
 pub body-placed : (n : Node) (p : ℕ) → body_of (placed p n) ≡ body_of n
 body-placed (leaf id at body) p = refl
@@ -28,7 +28,7 @@ module _ {A : Type 0} (f : Node → A) (same : (n : Node) (p : ℕ) → f (place
   find-placed ns p =
       find-map f (λ n. id_of n == id) (list_of (placed_all p ns)) ∙ ap first_in (parts-placed f same id ns p keeps) ∙ sym (find-map f (λ n. id_of n == id) (list_of ns))
 
-  -- The first child of an element.
+  -- The first child of an Element.
   pub first-placed : (n : Node) (p : ℕ) → option_map f (first_child id (placed p n)) ≡ option_map f (first_child id n)
   first-placed (leaf i at body) p = refl
   first-placed (master i at kids) p = find-placed kids (p + length (header_octets i (length (octets_all kids))))

@@ -46,7 +46,7 @@ placed-there : (n : Node) (p : ℕ) → placed_in p (p + length (header_of (tree
 placed-there (leaf id at body) p = refl
 placed-there (master id at kids) p = refl
 
--- The first element with an ID is read with limits if it keeps them.
+-- The first Element with an ID is read with limits if it keeps them.
 module _ (d : Document) (is : IsSoundDocument d) (id : ℕ) where
   none-read : first_of id (level_1_of d) ≡ None → FirstTreeIs id (layout d) (header_of_segment d) None
   none-read found = (None, ap (λ (l : List Header). tree_at (layout d) (first_of id l)) (layout-run d is) ∙ ap (tree_at (layout d)) found, tt)

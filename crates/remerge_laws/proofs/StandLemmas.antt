@@ -23,7 +23,7 @@ use Rattle.record_changes.proofs.TargetLemmas.{target-id, target-is}
 use Rattle.remerge_laws.specs.Changed.{ChaptersStand, ChildrenDecide, TagsStand}
 use Rattle.record_laws.proofs.SettledLemmas.{small-at}
 
--- ---- lists of valid elements
+-- ---- lists of valid Elements
 
 abbrev Stand : ℕ → List Node → Type 0
 Stand parent ns = AllStandIn parent (nodes_of ns)

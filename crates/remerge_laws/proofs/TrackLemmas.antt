@@ -1,4 +1,4 @@
--- The tracks of a Tracks element are read after writing.
+-- The tracks of a Tracks Element are read after writing.
 use Rattle.std.proofs.Common.{◌≡◌, ◌≢◌, ◌<◌, ◌+◌, ℕ, false, List, [], ◌∷◌, length, map, All, IfSome, Option, None, Some, refl, sym, ap, ap₂, ◌∙◌, subst, arith, unwrap_or, option_map, is_some}
 use Rattle.std.specs.List.{AllZip, AllPairs}
 use Rattle.std.proofs.lemmas.List.Elements.{All-nil, All-cons, All-head, All-tail, length_all_zip}
@@ -79,7 +79,7 @@ numbers-same (n ∷ ns) (m ∷ ms) are =
     ap₂ (λ (k : ℕ) ks. k ∷ ks) (ap number_of are.0.1 ∙ uint-same TRACK_NUMBER n are.0.0 refl) (numbers-same ns ms are.1)
 numbers-same _ _ are = absurd are
 
--- The entries of a Tracks element are read after writing.
+-- The entries of a Tracks Element are read after writing.
 pub entries-placed : (tracks : Node) (place : ℕ) → AllZip StandsAs (entries_of tracks) (entries_of (placed place tracks))
 entries-placed (leaf id at body) place = tt
 entries-placed (master id at kids) place = part-placed TRACK_ENTRY kids (place + length (header_octets id (length (octets_all kids)))) refl

@@ -15,7 +15,7 @@ use Rattle.tree_format.specs.Standing.{kept, kept_all, placed, placed_all, place
 use Rattle.tree_format.proofs.OrderLemmas.{sound-without_limits, tree_of-in_order}
 use Rattle.remerge_laws.specs.Trees.{AlikeRecordsCountAlike, SmallTreesAreRead}
 
--- ---- elements that are met in a tree, in order
+-- ---- Elements that are met in a tree, in order
 
 mutual
   length-in_order : (parent around : ℕ) (n : Node) → length (in_order parent around n) ≡ count n
@@ -27,7 +27,7 @@ mutual
   length-all_in_order parent around (node n ns) =
       omega (arith, length-append (in_order parent around n) (all_in_order parent around ns), length-in_order parent around n, length-all_in_order parent around ns)
 
--- The element isn't inside too many masters.
+-- The Element isn't inside too many masters.
 abbrev IsHigh : NodeContext → Type 0
 IsHigh s = too_deep s ≡ None
 
@@ -83,7 +83,7 @@ small-read id offset body base nodes n is few low =
     ∙ ap₂ (λ (o p : Option Damage). unless (first_refusal o p) tree) none_is both.1
     ∙ ap (λ t. let r : Result Node Damage = Ok t in r) parts.1
 
--- ---- an element at the place of its written form
+-- ---- an Element at the place of its written form
 
 mutual
   pub count-placed : (p : ℕ) (n : Node) → count (placed p n) ≡ kept n

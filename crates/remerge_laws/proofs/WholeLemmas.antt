@@ -96,7 +96,7 @@ none-large : (id : ℕ) (o : Option Node) → too_large id o ≡ None → IfSome
 none-large id None none = tt
 none-large id (Some n) none = not-large id n none
 
--- An Info has a few elements.
+-- An Info has a few Elements.
 few-info : (scale : ℕ) (title : List ℕ) → kept (output_info scale title) ≤ MAX_NODES
 few-info scale [] = omega arith
 few-info scale (octet ∷ octets) = omega arith

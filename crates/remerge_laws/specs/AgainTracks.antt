@@ -17,7 +17,7 @@ use Rattle.remerge_laws.specs.AgainLanes.{IsTakenPlain}
 use Rattle.requests.specs.Plain.{plain_file}
 use Rattle.remerge_laws.specs.Records.{AreTracksOf}
 
--- The Tracks element `tracks` has plain entries. Their TrackNumbers count from 1, a merge can select their types, and none has ContentEncodings.
+-- The Tracks Element `tracks` has plain entries. Their TrackNumbers count from 1, a merge can select their types, and none has ContentEncodings.
 pub record ArePlainTracks (tracks : Node) : Type 0 where
   pub numbers : CountFrom 1 (map number_of (entries_of tracks))
   pub types : All (λ (entry : Node). is_taken_type (type_of entry) ≡ true) (entries_of tracks)
@@ -32,7 +32,7 @@ pub record AreTakenOf (tracks : Node) (taken : List TakenTrack) : Type 0 where
   pub plain : All IsTakenPlain taken
   pub rules : map rule_of taken ≡ map (λ (entry : Node). default_rule (type_of entry)) (entries_of tracks)
 
--- All tracks that are read from such a Tracks element are selected without options.
+-- All tracks that are read from such a Tracks Element are selected without options.
 abbrev pub TracksAreTakenAgain : Type 0
 TracksAreTakenAgain =
     (name : List ℕ) (tracks : Node) (read : List Track) → ArePlainTracks tracks → AreTracksOf tracks read

@@ -10,7 +10,7 @@ use Rattle.record_changes.specs.ChapterIdentifiers.{with_identifiers}
 use Rattle.record_changes.specs.Tags.{written_tags}
 use Rattle.record_changes.specs.declared.uid_map.TagKeep.{TagKeep}
 
--- The changed record `new` is a master with the ID of `old`, with valid elements, and isn't deeper.
+-- The changed record `new` is a master with the ID of `old`, with valid Elements, and isn't deeper.
 pub record StillStands (old new : Node) : Type 0 where
   pub id : id_of new ≡ id_of old
   pub master : IsMaster new

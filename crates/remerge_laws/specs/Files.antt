@@ -18,14 +18,14 @@ use Rattle.output_laws.specs.Reading.{header_of_segment, level_1_of}
 use Rattle.meta_records.specs.Attached.{AttachedFile, first_attached}
 use Rattle.meta_records.specs.Attachments.{ScannedElement, at_child, attached_in, children_of, limit_passed, met_in, too_many_files}
 
--- the first limit that the scanned elements of an Attachments element pass, after `octets` counted bytes and `nodes` nodes; damage is ignored
+-- the first limit that the scanned Elements of an Attachments Element pass, after `octets` counted bytes and `nodes` nodes; damage is ignored
 abbrev pub passed_from : ℕ → ℕ → List (Result ScannedElement Damage) → Option Damage
 passed_from octets nodes [] = None
 passed_from octets nodes (Err d ∷ rest) = passed_from octets nodes rest
 passed_from octets nodes (Ok m ∷ rest) =
     first_refusal (limit_passed (octets + m.counted) nodes m.header) (passed_from (octets + m.counted) (nodes + 1) rest)
 
--- The Attachments element `h` of a content keeps a reader's limits.
+-- The Attachments Element `h` of a content keeps a reader's limits.
 pub record AttachmentsKeepLimits (bytes : List ℕ) (h : Header) : Type 0 where
   pub counted : passed_from 0 1 (met_in (at_child bytes) (children_of bytes h)) ≡ None
   pub files : too_many_files (attached_in bytes h) ≡ None
@@ -38,7 +38,7 @@ pub record IsFileOf (bytes : List ℕ) (n : Node) (a : AttachedFile) : Type 0 wh
   pub same : (uid : ℕ)
       → octets (with_data (octets_from bytes a.at a.len) (set_in (uint_leaf FILE_UID uid) a.entry)) ≡ octets (set_in (uint_leaf FILE_UID uid) n)
 
--- A reader finds the attached files of an output whose Attachments element keeps the limits: each AttachedFile of the document, in order.
+-- A reader finds the attached files of an output whose Attachments Element keeps the limits: each AttachedFile of the document, in order.
 abbrev pub FilesAreRead : Type 0
 FilesAreRead =
     (d : Document) → IsSoundDocument d → IfSome (first_of ATTACHMENTS (level_1_of d)) (AttachmentsKeepLimits (layout d))

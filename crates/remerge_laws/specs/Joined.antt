@@ -1,4 +1,4 @@
--- Tags of several inputs in one Tags element keep their targets when they are merged again: RFC 9559, section 5.1.8 (Tags Element). This is this
+-- Tags of several inputs in one Tags Element keep their targets when they are merged again: RFC 9559, section 5.1.8 (Tags Element). This is this
 -- project's promise.
 use Rattle.std.specs.Prelude.{◌≡◌, ℕ, List, All, Option}
 use Rattle.mkv_schema.specs.declared.ids.TheConstants.{TAG, TAGS}
@@ -16,7 +16,7 @@ pub record IsWrittenTag (n : Node) : Type 0 where
   pub is : id_of tag ≡ TAG
   pub written : n ≡ written_tag numbers tag
 
--- A Tags element of such Tags is written as it was after reading, if its targets then keep their identifiers.
+-- A Tags Element of such Tags is written as it was after reading, if its targets then keep their identifiers.
 abbrev pub JoinedTagsStay : Type 0
 JoinedTagsStay =
     (again : ℕ → ℕ → Option ℕ) (tags : List Node) (place : ℕ) → All IsWrittenTag tags

@@ -25,7 +25,7 @@ pub record IsWithinLimits (bytes : List ℕ) : Type 0 where
   pub attachments : (o : Outlined) → outline_without_limits bytes ≡ Ok o → IfSome (first_of ATTACHMENTS o.list) (AttachmentsKeepLimits bytes)
   pub blocks : (o : Outlined) → outline_without_limits bytes ≡ Ok o → file_events true bytes o.segment ≡ file_events false bytes o.segment
 
--- The records of the document `d` are small: its Info has at most 65,536 elements; its Tracks, Chapters and Tags keep a reader's limits.
+-- The records of the document `d` are small: its Info has at most 65,536 Elements; its Tracks, Chapters and Tags keep a reader's limits.
 pub record RecordsAreSmall (d : Document) : Type 0 where
   pub info : kept d.front.info ≤ MAX_NODES
   pub tracks : KeepsReaderLimits d.front.tracks

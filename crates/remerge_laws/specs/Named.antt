@@ -1,4 +1,4 @@
--- The elements that targets of Tags name in an output: RFC 9559, section 5.1.8.1.1 (Targets Element). Their numbers are this project's.
+-- The Elements that targets of Tags name in an output: RFC 9559, section 5.1.8.1.1 (Targets Element). Their numbers are this project's.
 use Rattle.std.specs.Prelude.{ℕ, ◌==◌, if◌then◌else◌, List, [], All, Contains}
 use Rattle.mkv_schema.specs.declared.ids.TheConstants.{TAG_TRACK_UID, TAG_EDITION_UID, TAG_CHAPTER_UID, TAG_ATTACHMENT_UID}
 use Rattle.tree_format.specs.Node.{Node, id_of}
@@ -23,7 +23,7 @@ named_by ids id =
 abbrev pub NamesOneOf : Identifiers → Node → Type 0
 NamesOneOf ids target = Contains (named_by ids (id_of target)) (integer_of target)
 
--- the Tags of a merge of inputs, in one Tags element
+-- the Tags of a merge of inputs, in one Tags Element
 abbrev pub tags_joined : List InputRead → Node
 tags_joined reads = joined_tags (numbers_of (records_of reads)) (records_of reads)
 

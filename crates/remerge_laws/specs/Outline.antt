@@ -11,7 +11,7 @@ use Rattle.output_model.specs.Document.{Document, layout}
 use Rattle.output_model.specs.Sound.{IsSoundDocument}
 use Rattle.output_laws.specs.Reading.{outline_of_document}
 
--- A reader with limits can read the record `n`: it has at most 16 MiB and 65,536 elements.
+-- A reader with limits can read the record `n`: it has at most 16 MiB and 65,536 Elements.
 pub record KeepsReaderLimits (n : Node) : Type 0 where
   pub short : length (content n) ≤ MAX_MASTER_LEN
   pub few : kept n ≤ MAX_NODES

@@ -11,7 +11,7 @@ use Rattle.track_records.specs.Entry.{IsWholeEntry}
 use Rattle.record_laws.specs.Again.{AreNumbered, merged_again, written_entries}
 use Rattle.remerge_laws.specs.Records.{AreTracksOf}
 
--- Tracks that are read from a Tracks element are written as they were. Its entries were numbered and renumbered and given anything else.
+-- Tracks that are read from a Tracks Element are written as they were. Its entries were numbered and renumbered and given anything else.
 abbrev pub OwnTracksStay : Type 0
 OwnTracksStay =
     (changes : List TrackChange) (entries : List Node) (read : List Track) → All IsWholeEntry entries → All (λ c. c.uid < 2 ^ 64) changes

@@ -5,7 +5,7 @@ use Rattle.tree_format.specs.NormalForm.{is_filler}
 use Rattle.tree_format.specs.Standing.{placed}
 use Rattle.tree_format.specs.Values.{integer_in, text_in}
 
--- The tree `m` is `n` as it is read after writing at some place: without elements that are left out, and each element at its own place.
+-- The tree `m` is `n` as it is read after writing at some place: without Elements that are left out, and each Element at its own place.
 abbrev pub StandsAs : Node → Node → Type 0
 StandsAs n m = (place : ℕ) × (m ≡ placed place n)
 

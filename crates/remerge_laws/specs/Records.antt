@@ -25,7 +25,7 @@ use Rattle.remerge_laws.specs.Files.{AttachmentsKeepLimits, IsFileOf}
 
 -- ---- trees
 
--- A reader finds the record `own` as the first element with the ID `id`, as it was written, or no element if there is no record.
+-- A reader finds the record `own` as the first Element with the ID `id`, as it was written, or no Element if there is no record.
 abbrev pub FirstTreeIs : ℕ → List ℕ → Header → Option Node → Type 0
 FirstTreeIs id bytes segment own = (found : Option Node) × (first_tree id bytes segment ≡ Ok found) × MayStandAs own found
 
@@ -42,7 +42,7 @@ TreesAreRead = (d : Document) → IsSoundDocument d → RecordsKeepLimits d → 
 
 -- ---- all records of an output
 
--- The tracks `read` belong to the entries of the Tracks element `tracks`, as they are read after writing.
+-- The tracks `read` belong to the entries of the Tracks Element `tracks`, as they are read after writing.
 pub record AreTracksOf (tracks : Node) (read : List Track) : Type 0 where
   pub say : AllZip IsTrackOf (entries_of tracks) read
   pub place : ℕ
@@ -59,7 +59,7 @@ pub record RecordsOfOutput (d : Document) (r : FileRecords) : Type 0 where
 
 -- ---- an output as a whole
 
--- The output of `d` keeps a reader's limits: its records and its Attachments element do, and its blocks are the same with and without limits.
+-- The output of `d` keeps a reader's limits: its records and its Attachments Element do, and its blocks are the same with and without limits.
 pub record OutputKeepsLimits (d : Document) : Type 0 where
   pub records : RecordsKeepLimits d
   pub attachments : IfSome (first_of ATTACHMENTS (level_1_of d)) (AttachmentsKeepLimits (layout d))

@@ -19,7 +19,7 @@ pub record IsTrackOf (entry : Node) (t : Track) : Type 0 where
   pub duration : t.default_duration ≡ default_duration_of entry
   pub stands : StandsAs entry t.entry
 
--- A Tracks element that nothing refuses isn't refused after writing, and its tracks belong to its entries.
+-- A Tracks Element that nothing refuses isn't refused after writing, and its tracks belong to its entries.
 pub record TracksAreRead : Type 0 where
   pub good : (tracks : Node) (place : ℕ) → refusal_of tracks ≡ None
       → tracks_of (placed place tracks) ≡ Ok (map track_of (entries_of (placed place tracks)))

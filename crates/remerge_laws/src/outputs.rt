@@ -18,7 +18,7 @@ pub fn trees_are_read()
     ensures { TreesAreRead }
 {}
 
-/// The attached files of an output are read if its Attachments element keeps the limits.
+/// The attached files of an output are read if its Attachments Element keeps the limits.
 pub fn files_are_read()
     ensures { FilesAreRead }
 {}

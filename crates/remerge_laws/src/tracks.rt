@@ -5,7 +5,7 @@ ghost use Rattle.remerge_laws.specs.Tracks.{TracksAreRead};
 
 use record_laws::tracks_stay;
 
-/// A Tracks element that nothing refuses isn't refused after writing, and its tracks have the values of its entries.
+/// A Tracks Element that nothing refuses isn't refused after writing, and its tracks have the values of its entries.
 pub fn tracks_are_read()
     ensures { TracksAreRead }
 {}

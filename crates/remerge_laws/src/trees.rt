@@ -8,7 +8,7 @@ pub fn small_trees_are_read()
     ensures { SmallTreesAreRead }
 {}
 
-/// Records that are written alike have equally many written elements.
+/// Records that are written alike have equally many written Elements.
 pub fn alike_records_count_alike()
     ensures { AlikeRecordsCountAlike }
 {}

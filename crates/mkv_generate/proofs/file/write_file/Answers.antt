@@ -16,7 +16,7 @@ use Rattle.mkv_generate.proofs.file.write_file.Goals as goal
 of_files : (g : Over) → HoldsOfFiles g.F.Reads g.F.Files
 of_files g = record { short = g.met.F.Reads.short; told_size = λ x. g.met.F.Reads.told_size (g.F.Reads.standing x); named = g.met.F.Files.named }
 
--- Memory ran out for the elements before the Clusters, or for a Cluster.
+-- Memory ran out for the Elements before the Clusters, or for a Cluster.
 pub returns-in_err-front-clause-writes : goal.returns-in_err-front-clause-writes
 returns-in_err-front-clause-writes g c =
     let p = err_from_is_err_and c.from_residual.result c.from_residual.ensures.1 in
