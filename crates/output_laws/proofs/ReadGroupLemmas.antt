@@ -11,7 +11,7 @@ use Rattle.mkv_schema.specs.Value.{body_of, first_of}
 use Rattle.mkv_schema.proofs.ElementLemmas.{element_at-placed, element_in-whole, length-octets_between}
 use Rattle.block_format.specs.Elements.{element_octets, is_kept, kept_of, group_run}
 
--- the total of a value of Elements
+-- the sum of a value over Elements
 abbrev pub weight : (Header → ℕ) → List Header → ℕ
 weight f [] = 0
 weight f (h ∷ hs) = f h + weight f hs

@@ -11,7 +11,7 @@ use Rattle.word_laws.specs.Names.{IsInputName}
 use Rattle.word_laws.specs.Spelled.{spelled}
 use Rattle.word_laws.specs.Spellable.{IsSpellable}
 
--- A command that has a canonical command line is read from it.
+-- A command that keeps its limits and has a canonical command line is read from it.
 abbrev pub SpelledIsRead : Type 0
 SpelledIsRead = (c : Command) → IsSound c → IsSpellable c → command (spelled c) ≡ Ok c
 
