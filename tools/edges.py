@@ -134,7 +134,7 @@ def faults_of_outputs(tried, job, ran, good, left):
             yield f"{name}, another name of {other}, has changed"
     for name in wrote(ran.said):
         if tried.read(name) != left[name]:
-            yield f"{name} isn't whole, but was said to be"
+            yield f"{name} isn't complete, but was reported as written"
     for name in job.outputs:
         if tried.read(name) not in (None, job.files.get(name)) and not is_begun(tried.read(name), left[name]):
             yield f"{name} is neither old nor a first part"
@@ -164,12 +164,12 @@ def faults_of_edits(tried, job, ran, good, left):
     if ran.status == 0 and (now != new or pending or ran.said != good.said):
         yield "status 0, but not all is done"
     if ran.said == good.said and now != new:
-        yield f"said {ran.said!r} of another film"
+        yield f"printed {ran.said!r} for another film"
     if ran.status not in (0, 4, -9, 137):
         yield f"status {ran.status}"
     again = tried.run(["recover", "film.mkv"])
     if again.status or tried.read("film.mkv") not in (old, new):
-        yield f"a recovery says {again.said!r}, and the film is no one's"
+        yield f"a recovery prints {again.said!r}, and the film is neither old nor new"
 
 
 def output_jobs(tried):
@@ -219,7 +219,7 @@ def wanted(ran, status, said):
 
 def same(what, found, right):
     if found != right:
-        yield f"{what} isn't as it has to be"
+        yield f"{what} isn't as expected"
 
 
 def unsynced_folder(tried):

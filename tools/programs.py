@@ -58,7 +58,7 @@ def newest():
     if is_newest(PROVED):
         return PROVED
     if not shutil.which("rt"):
-        say("there is no `rt` on the PATH: the kit has to be installed (README.md)")
+        say("there is no `rt` on the PATH: the kit must be installed (README.md)")
         sys.exit(CANT)
     if not made():
         say("this kit leaves no unproved program, so the proved one is built: tools/build")

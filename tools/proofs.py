@@ -36,7 +36,7 @@ Crate = collections.namedtuple("Crate", "name own_deps kit_deps below stamp file
 def kit():
     """Returns the folder of the kit."""
     if not shutil.which("rt"):
-        sys.exit("there is no `rt` on the PATH: the kit has to be installed (README.md)")
+        sys.exit("there is no `rt` on the PATH: the kit must be installed (README.md)")
     return os.path.dirname(subprocess.run(["rt", "doc"], capture_output=True, text=True, check=True).stdout.strip())
 
 
