@@ -15,7 +15,7 @@ use std::{fs, io};
 /// Number of temporary names that are tried for a file that replaces another.
 const MAX_TRIES: u32 = 100;
 
-/// Empty output that can be written, and whether this run has made it.
+/// Output file, and whether this run has made it.
 #[derive(Drop)]
 pub struct Output {
     pub file: File,
