@@ -225,11 +225,15 @@ cut s [] x uncut = record { first = x; others = []; rest = []; is = refl; start 
 cut s (b ∷ bs) x uncut = cut-next s b bs x (cut s bs) uncut (cuts s x b) refl
 
 pub sections-cut : SectionsAreCut
-sections-cut s [] = record { whole = refl; cut = λ k b some here. absurd (cc) }
+sections-cut s [] = record { begins = refl; whole = refl; cut = λ k b some here. absurd (cc) }
 sections-cut s (b ∷ bs) =
     let start : ℕ = start_with s from_nought b in
     let all = cut s bs (begun start b) (uncut-first s start b) in
-    record { whole = whole s bs (begun start b); cut = subst (AreCutApart s) (sym all.is) all.cut }
+    record {
+      begins = record { first = all.first; others = all.others; rest = all.rest; are = all.is; blocks = all.blocks; start = all.start };
+      whole = whole s bs (begun start b);
+      cut = subst (AreCutApart s) (sym all.is) all.cut;
+    }
 
 -- ---- up to the next cut
 

@@ -8,7 +8,7 @@ use Rattle.splitter.specs.declared.cuts.Place.TheVariants.{Same, Next, Out}
 use Rattle.splitter.specs.declared.spec.SplitSpec.TheVariants.{Whole}
 use Rattle.splitter.specs.Names.{is_part_name, part_name}
 use Rattle.splitter.specs.Load.{load}
-use Rattle.splitter.specs.Sections.{Section, Split, begun, beyond, cut_from, cuts, is_written, may_cut, parts, sections, sections_at, with_block, within}
+use Rattle.splitter.specs.Sections.{Section, Split, begun, beyond, cut_from, cuts, from_nought, is_written, may_cut, parts, sections, sections_at, start_with, with_block, within}
 use Rattle.splitter.specs.Steps.{CutsSeen, new_cuts, place_of, stepped}
 
 -- ---- step by step
@@ -56,8 +56,23 @@ AreCutApart s [] = ⊤
 AreCutApart s (x ∷ []) = IsUncut s x
 AreCutApart s (x ∷ (y ∷ ys)) = IsUncut s x × IsCutOff s x y × AreCutApart s (y ∷ ys)
 
+-- The first of the sections `xs` begins with the block `b`. It starts at the block's tick if a cut is before it, else at tick 0.
+pub record BeginWith (s : Split) (b : OutputBlock) (xs : List Section) : Type 0 where
+  pub first : Section
+  pub others : List Section
+  pub rest : List OutputBlock
+  pub are : xs ≡ first ∷ others
+  pub blocks : first.blocks ≡ b ∷ rest
+  pub start : first.start ≡ start_with s from_nought b
+
+-- The sections `xs` begin with the first of `blocks`: a cut before it leaves no section before it. Without a block there is one empty section at 0.
+abbrev pub AreBegun : Split → List OutputBlock → List Section → Type 0
+AreBegun s [] xs = xs ≡ from_nought ∷ []
+AreBegun s (b ∷ bs) xs = BeginWith s b xs
+
 -- The sections `xs` in sequence make the list `blocks`, and cuts are exactly between them.
 pub record AreSections (s : Split) (blocks : List OutputBlock) (xs : List Section) : Type 0 where
+  pub begins : AreBegun s blocks xs
   pub whole : flat_map (λ (x : Section). x.blocks) xs ≡ blocks
   pub cut : AreCutApart s xs
 

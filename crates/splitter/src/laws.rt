@@ -7,7 +7,8 @@ pub fn steps_join()
     ensures { StepsJoin }
 {}
 
-/// Each block of a merged list is in one section, and cuts are exactly between the sections.
+/// Each block of a merged list is in one section, cuts are exactly between the sections, and the first section begins
+/// with the first block.
 pub fn sections_are_cut()
     ensures { SectionsAreCut }
 {}
