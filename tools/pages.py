@@ -2,7 +2,7 @@
 
 A session is the indented lines (by four spaces) below one heading `## ..`. A line that begins with `$ ` is a command, and the lines
 below it are its exact output. One shell runs the commands of a session in order, in a fresh folder with the repository's `tools` and
-`samples`. `mkvsuite` is the program, and so is `tools/run`. A command ends with status 0, unless `# status N` follows it. Commands that
+`samples`. `mkvsuite` is the program, and so is `tools/run`. A command ends with status 0, unless a comment after it ends with `status N`. Commands that
 prove, build or pack are left out."""
 import collections
 import os
@@ -14,7 +14,7 @@ import tempfile
 ROOT = os.path.dirname(os.path.dirname(os.path.realpath(__file__)))
 PAGES = ("README.md", "docs/COMMANDS.md", "docs/TUTORIAL.md")
 LEFT_OUT = re.compile(r"(\.ci/run|tools/(check|build|install|package))\b")
-STATUS = re.compile(r"# status (\d+)$")
+STATUS = re.compile(r"#.*\bstatus (\d+)$")
 END = "\x1e"
 
 Command = collections.namedtuple("Command", "line words said")
