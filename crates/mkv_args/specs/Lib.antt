@@ -3,6 +3,7 @@ pub mod Commands
 pub mod Merge
 pub mod Explain
 pub mod Extract
+pub mod TargetNames
 pub mod Propedit
 pub mod Words
 pub mod Help

@@ -1,16 +1,18 @@
 //! The command line of `extract`: this project's grammar, after mkvextract(1).
 
-ghost use Rattle.std.specs.Prelude.{◌≡◌, map};
+ghost use Rattle.std.specs.Prelude.{◌≡◌, map, IfOk};
 ghost use Rattle.word_values.specs.Answers.{Tells};
 ghost use Rattle.mkv_args.specs.Entry as entry;
 ghost use Rattle.mkv_args.specs.Extract as spec;
+ghost use Rattle.mkv_args.specs.TargetNames.{AddsName, ReadsAfter};
 ghost use Rattle.word_values.specs.Place.{texts};
 
 use crate::command::Command;
 use crate::entry::{Entry, meant};
+use indexmap::IndexSet;
 use mkv_io::List;
 use requests::{Form, Job, Target};
-use std::alloc::Global;
+use std::alloc::{AllocError, Global};
 use word_values::{
     ArgsEnd, Why, due_at, end_at, file_at, is_option, name, refused, track_and_rest, word_at,
 };
@@ -137,26 +139,27 @@ fn targets(
 {
     due_at(words, start)?;
     let mut list = List::new(alloc);
+    let mut names = IndexSet::new(alloc);
     let mut at = start;
     while let Some(word) = word_at(words, at) {
-        let target = target(alloc, least, at, word, list.as_slice())?;
+        let target = target(alloc, least, at, word, &mut names)?;
         list.push(target)?;
         at += 1;
     }
     Ok(list)
 }
 
-/// Reads `word`, argument number `at`, as a target `ID:OUT`. Refuses an ID less than `least` and a name that a target
-/// of `before` has.
+/// Reads `word`, argument number `at`, as a target `ID:OUT`, and adds `OUT` to `names`, the names of the targets before.
+/// Refuses an ID less than `least` and a name that is one of `names`.
 #[tactic(auto, unfolding(crate::specs::Extract::target))]
-fn target(
+fn target<'a>(
     alloc: Global,
     least: u64,
     at: usize,
-    word: &str,
-    before: &[Target],
+    word: &'a str,
+    names: &mut IndexSet<&'a str>,
 ) -> Result<Target, ArgsEnd>
-    ensures { Tells result (spec.target least before.now at word.now) }
+    ensures { ReadsAfter names.old.keys names.new.keys (λ before. spec.target least before at word.now) result }
 {
     let Some((id, out)) = track_and_rest(word) else {
         return refused(at, Why::BadValue);
@@ -164,7 +167,7 @@ fn target(
     if id < least {
         return refused(at, Why::BadValue);
     }
-    if is_taken(out, before) {
+    if !add(names, out)? {
         return refused(at, Why::RepeatedOutput);
     }
     Ok(Target {
@@ -173,9 +176,9 @@ fn target(
     })
 }
 
-/// Checks whether a target of `before` has the name `out`.
-fn is_taken(out: &str, before: &[Target]) -> bool
-    ensures { result ≡ spec.is_taken out.now before.now }
+/// Adds `out` to `names`. Returns whether it is new.
+fn add<'a>(names: &mut IndexSet<&'a str>, out: &'a str) -> Result<bool, AllocError>
+    ensures { IfOk result (AddsName names.old.keys names.new.keys out.now) }
 {
-    before.iter().any(|target| target.name.as_str() == out)
+    Ok(names.insert(out)?)
 }
