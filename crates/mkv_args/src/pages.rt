@@ -44,7 +44,7 @@ pub(crate) const INFO_PAGE: [&str; 11] = [
     "Lists the top-level elements of FILE, each with its offset and size in bytes,",
     "and the tracks, counted from 0. Blocks aren't checked: status 0 doesn't say",
     "that they are undamaged. For titles, track names and attachments use \"mkvsuite",
-    "merge -J FILE\".",
+    "merge -J FILE\", for chapters \"mkvsuite extract FILE chapters --simple OUT\".",
     "",
     "  examples:",
     "    mkvsuite info film.mkv",
@@ -54,15 +54,15 @@ pub(crate) const INFO_PAGE: [&str; 11] = [
 
 /// The page of `merge`.
 #[rattlefmt::skip]
-pub(crate) const MERGE_PAGE: [&str; 71] = [
+pub(crate) const MERGE_PAGE: [&str; 72] = [
     "usage: mkvsuite merge -o OUT [OUTPUT OPTIONS] [FILE OPTIONS] FILE",
     "                      [[+] [FILE OPTIONS] FILE]..",
     "       mkvsuite merge -J FILE",
     "",
     "Copies the video, audio and subtitle tracks of up to 64 Matroska, WebM and",
     "SubRip (.srt) files into OUT, or splits them into parts. Frames don't change.",
-    "File and track options apply to the next FILE only; output options may be",
-    "anywhere. An existing OUT is replaced. No Duration is written.",
+    "File and track options come before their FILE and apply to it only; output",
+    "options may be anywhere. An existing OUT is replaced. No Duration is written.",
     "",
     "  +                             append the next FILE to the previous one",
     "  output options:",
@@ -77,8 +77,8 @@ pub(crate) const MERGE_PAGE: [&str; 71] = [
     "    --cluster-length LENGTH     largest Cluster: 1 to 65535 blocks, or 100ms to",
     "                                32000ms (default: 65535 blocks and 5000ms)",
     "    --split WHERE               split into parts, each starting at a keyframe",
-    "    --segment-uid UUID,..       segment UUIDs of the outputs, in order",
-    "                                (default: none)",
+    "    --segment-uid UUID,..       segment UUIDs, another one for each output, in",
+    "                                order (default: none)",
     "    --link                      store the UUIDs of the previous and next part",
     "                                in each part; requires --segment-uid",
     "    -J                          print what FILE contains as JSON",
@@ -98,7 +98,8 @@ pub(crate) const MERGE_PAGE: [&str; 71] = [
     "                                and drop blocks that would begin before 0",
     "    --track-name ID:TEXT        name of the track",
     "    --language ID:LANGUAGE      language: three lower-case letters, such as eng",
-    "                                (default: the input's; und for SubRip)",
+    "                                (default: the input's; und for SubRip); removes",
+    "                                language-ietf, which propedit can set",
     "    --default-track-flag ID[:0|1]",
     "                                default track flag: players prefer this track",
     "                                (without a value: 1)",
@@ -108,8 +109,8 @@ pub(crate) const MERGE_PAGE: [&str; 71] = [
     "    --cues ID:WHICH             blocks with a cue point: none, iframes",
     "                                (keyframes) or all (default: iframes; none for",
     "                                audio)",
-    "    --timestamps ID:FILE        timestamps from a text file, as extract",
-    "                                timestamps_v2 writes it",
+    "    --timestamps ID:FILE        timestamps of all frames from a text file, as",
+    "                                extract timestamps_v2 writes it",
     "  where:",
     "    ID                          a track, counted from 0 as in info",
     "    IDS                         1,2 for these tracks; '!1,2' for all but these",
@@ -159,7 +160,7 @@ pub(crate) const EXTRACT_PAGE: [&str; 24] = [
 
 /// The page of `propedit`.
 #[rattlefmt::skip]
-pub(crate) const PROPEDIT_PAGE: [&str; 43] = [
+pub(crate) const PROPEDIT_PAGE: [&str; 44] = [
     "usage: mkvsuite propedit FILE",
     "           {-e SECTION {-s NAME=VALUE | -a NAME=VALUE | -d NAME}..}..",
     "",
@@ -167,6 +168,7 @@ pub(crate) const PROPEDIT_PAGE: [&str; 43] = [
     "are first written to the journal FILE.mkvedit; if the run is interrupted, even",
     "by a power cut, \"mkvsuite recover FILE\" finishes it. If FILE has no room for",
     "the change (NoRoom), \"mkvsuite merge -o NEW FILE\" writes a file that has.",
+    "Afterwards FILE.mkvedit has one byte and may be deleted.",
     "",
     "  -e, --edit SECTION            the edits that follow are for this section",
     "  -s, --set NAME=VALUE          set a property, adding it if it is missing",
@@ -207,13 +209,14 @@ pub(crate) const PROPEDIT_PAGE: [&str; 43] = [
 
 /// The page of `recover`.
 #[rattlefmt::skip]
-pub(crate) const RECOVER_PAGE: [&str; 11] = [
+pub(crate) const RECOVER_PAGE: [&str; 12] = [
     "usage: mkvsuite recover FILE",
     "",
     "Finishes a propedit or reindex of FILE that was interrupted, from its journal",
     "FILE.mkvedit. Without an unfinished edit FILE stays as it is. If FILE is moved",
     "or copied before that, FILE.mkvedit must go with it. Afterwards FILE.mkvedit",
-    "has one byte and may be deleted.",
+    "has one byte and may be deleted. A damaged film isn't repaired: \"mkvsuite merge",
+    "-o NEW FILE\" writes what is readable to a new file.",
     "",
     "  examples:",
     "    mkvsuite recover film.mkv",
@@ -223,7 +226,7 @@ pub(crate) const RECOVER_PAGE: [&str; 11] = [
 
 /// The page of `reindex`.
 #[rattlefmt::skip]
-pub(crate) const REINDEX_PAGE: [&str; 13] = [
+pub(crate) const REINDEX_PAGE: [&str; 14] = [
     "usage: mkvsuite reindex FILE",
     "",
     "Rebuilds the index of FILE in place: Cues, with a point for each keyframe of",
@@ -231,7 +234,8 @@ pub(crate) const REINDEX_PAGE: [&str; 13] = [
     "first written to the journal FILE.mkvedit; if the run is interrupted, even by a",
     "power cut, \"mkvsuite recover FILE\" finishes it. FILE must be undamaged and have",
     "room for the SeekHead; otherwise \"mkvsuite merge -o NEW FILE\" writes what is",
-    "readable, with an index, to a new file.",
+    "readable, with an index, to a new file. Afterwards FILE.mkvedit has one byte",
+    "and may be deleted.",
     "",
     "  examples:",
     "    mkvsuite reindex film.mkv",

@@ -49,15 +49,15 @@ pub(crate) const WORD_TOPICS: [(&str, &[&str]); 14] = [
         "MissingValue: the command line ends, but a value, a file, a section or an edit",
         "  must follow.",
         "Cause: no FILE (\"mkvsuite info\"), no value (\"merge -o\"), no edit (\"propedit",
-        "  FILE -e info\").",
+        "  FILE -e info\"), no --simple (\"extract FILE chapters\").",
         "Do: complete it; \"mkvsuite COMMAND --help\" shows what is required.",
     ]),
     ("BadValue", &[
         "BadValue: word N isn't a value of its option's form or range, or an element's",
         "  value isn't of its type.",
         "Cause: a word: no kind (--split 4k for size:4k), no track (-y 500 for 0:500),",
-        "  a unit (0:500ms), k in upper case, a UUID with hyphens. A file: text that",
-        "  isn't UTF-8, a scale or track number of 0.",
+        "  a unit (0:500ms), k in upper case, a UUID with hyphens or twice. A file:",
+        "  text that isn't UTF-8, a scale or track number of 0.",
         "Do: \"mkvsuite COMMAND --help\" has each form. In a Cluster: \"mkvsuite merge -o",
         "  NEW FILE\". A bad title: \"ffmpeg -i FILE -map 0 -c copy -metadata title=T",
         "  NEW.mkv\".",
@@ -142,9 +142,10 @@ pub(crate) const REFUSAL_TOPICS: [(&str, &[&str]); 11] = [
     ("BadText", &[
         "BadText: line N of a text file is wrong: SubRip, chapters or timestamps.",
         "Cause: it isn't UTF-8; an end before its start, or 0:00:01,5 for 00:00:01,500",
-        "  (SubRip); XML chapters; no first line \"# timestamp format v2\".",
-        "Do: convert to UTF-8 (\"iconv -f latin1 -t utf-8 IN >OUT\"); write chapters as",
-        "  CHAPTER01=00:00:00.000 and CHAPTER01NAME=Intro.",
+        "  (SubRip); XML chapters, or times of chapters without milliseconds; no first",
+        "  line \"# timestamp format v2\" (or v1).",
+        "Do: convert to UTF-8 (\"iconv -f latin1 -t utf-8 IN >OUT\"); write each chapter",
+        "  as two lines: CHAPTER01=00:00:00.000 and CHAPTER01NAME=Intro.",
     ]),
     ("TextTooLarge", &[
         "TextTooLarge: a text file is larger than this program reads.",
@@ -459,7 +460,7 @@ pub(crate) const WARNING_TOPICS: [(&str, &[&str]); 3] = [
     ("segment", &[
         "segment: --segment-uid gave N UUIDs, but M outputs were written.",
         "Cause: the split made more or fewer parts than expected. Parts without a UUID",
-        "  have none; spare UUIDs aren't used.",
+        "  have none; with --link the last part names the first spare UUID as the next.",
         "Do: run again with M UUIDs.",
     ]),
 ];
@@ -495,7 +496,8 @@ pub(crate) const RESULT_TOPICS: [(&str, &[&str]); 6] = [
         "Cause: none was begun, it was finished, or FILE was moved without its",
         "  FILE.mkvedit.",
         "Do: if you moved FILE after an interrupted edit, put FILE.mkvedit next to it",
-        "  and run recover again.",
+        "  and run recover again. To repair a damaged or cut film: \"mkvsuite merge -o",
+        "  NEW FILE\".",
     ]),
     ("generated", &[
         "generated: the test files are written; PREFIX-m.mkv has B blocks, C Clusters",
