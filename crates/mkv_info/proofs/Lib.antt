@@ -8,3 +8,4 @@ pub mod ValueLemmas
 pub mod TagLemmas
 pub mod FloatLemmas
 pub mod WalkLemmas
+pub mod TagCountLemmas

@@ -15,3 +15,4 @@ pub mod Named
 pub mod Tags
 pub mod ToldTracks
 pub mod Identification
+pub mod TagCounts

@@ -12,6 +12,7 @@ mod json;
 mod line;
 mod list;
 mod reading;
+mod tag_counts;
 mod tags;
 mod told_tracks;
 mod tracks;

@@ -9,6 +9,7 @@ ghost use Rattle.mkv_info.specs.Named.{is_wanted};
 ghost use Rattle.mkv_info.specs.Sound.{AreTags};
 ghost use Rattle.mkv_info.specs.Tags.{counted_tags, is_counted, named_in, tag_count, track_tags_value, tracks_named};
 
+use crate::tag_counts::{tag_counts, tags_of_uid};
 use crate::values::with_children;
 use ebml_tree::Tree;
 use mkv_schema::ids::{SIMPLE_TAG, TAG, TAG_TRACK_UID, TARGETS};
@@ -34,9 +35,10 @@ pub(crate) fn track_tags_value(
     requires { IfSome tags.now AreTags }
     ensures { IfOk result (λ value. view value ≡ track_tags_value tags.now tracks.now) }
 {
+    let counts = tag_counts(alloc, tags)?;
     let mut values = Vec::new(alloc);
     for (index, track) in tracks.iter().enumerate() {
-        let count = tag_count(tags, Scope::Track(track.uid))?;
+        let count = tags_of_uid(&counts, track.uid);
         if count > 0 {
             values.push(track_tags(alloc, count, index)?)?;
         }

@@ -18,10 +18,10 @@ loop-index-preserved c =
     let before = map view c.loop-index.values.items in
     let now : map view c.if-count-gt0.values.items ≡ before ++ track_tags tags k t = elim c.if-count-gt0.branch [
       | then-count-gt0+in_ok-track_tags+in_ok-push w ↦
-          rw w.values-is (view-more _ _ _ (counted_tags c.in_ok-count.count k) w.in_ok-push.ensures.items w.in_ok-track_tags.ensures
-          ∙ ap (λ told. before ++ told) (sym (tags-told tags k c.in_ok-count.count t w.if-count-gt0.true c.in_ok-count.ensures)))
+          rw w.values-is (view-more _ _ _ (counted_tags c.tags_of_uid-count.result k) w.in_ok-push.ensures.items w.in_ok-track_tags.ensures
+          ∙ ap (λ told. before ++ told) (sym (tags-told tags k c.tags_of_uid-count.result t w.if-count-gt0.true (c.tags_of_uid-count.ensures ∙ c.in_ok-counts.ensures t.uid))))
       | else-count-gt0 w ↦
-          rw w.values-is (sym (append-nil before) ∙ ap (λ told. before ++ told) (sym (tags-left_out tags k c.in_ok-count.count t w.if-count-gt0.false c.in_ok-count.ensures)))
+          rw w.values-is (sym (append-nil before) ∙ ap (λ told. before ++ told) (sym (tags-left_out tags k c.tags_of_uid-count.result t w.if-count-gt0.false (c.tags_of_uid-count.ensures ∙ c.in_ok-counts.ensures t.uid))))
     ] in
     numbered-more (track_tags tags) k k c.args.tracks.now t before _ _ c.loop-index-test.true c.index-tracks-index.is now c.loop-index.invariant
 
