@@ -203,6 +203,7 @@ module _ (bytes : List ℕ) (f : EditableFile) (is : indexable bytes ≡ Ok f) w
         info = info;
         tracks = h.rest.tree TRACKS (h.untouched TRACKS names.tracks.level refl refl refl);
         attachments = h.rest.attached first.files (h.untouched ATTACHMENTS names.attachments.level refl refl refl) first.attached ∙ sym first.attached;
+        file_data = h.rest.file_data first.files (h.untouched ATTACHMENTS names.attachments.level refl refl refl) first.attached;
         chapters = h.rest.tree CHAPTERS (h.untouched CHAPTERS names.chapters.level refl refl refl);
         tags = h.rest.tree TAGS (h.untouched TAGS names.tags.level refl refl refl);
         blocks = h.rest.blocks;

@@ -1,21 +1,24 @@
 -- The attached files of an Attachments Element that two contents share.
 use Rattle.std.proofs.Common.{is_none, ◌≡◌, ◌==◌, ℕ, ◌+◌, Bool, true, false, if◌then◌else◌, List, [], ◌∷◌, map, filter, flat_map, All, Option, Some, None, Result, Ok, Err, refl, sym, ◌∙◌, ap, subst}
 use Rattle.std.specs.Option.{is_some, option_map_or}
-use Rattle.std.proofs.lemmas.List.Elements.{All-head, All-tail, All-filter, All-weaker}
+use Rattle.std.proofs.lemmas.List.Elements.{All-head, All-tail, All-filter, All-map, All-weaker}
 use Rattle.mkv_schema.specs.declared.ids.TheConstants.{ATTACHED_FILE, FILE_DATA, FILE_UID}
 use Rattle.mkv_io.specs.declared.damage.Damage.{Damage}
 use Rattle.mkv_schema.specs.declared.element.Header.{Header}
 use Rattle.mkv_io.specs.declared.damage.Kind.TheVariants.{MissingChild}
-use Rattle.mkv_schema.specs.Element.{damage, known, stated_end, in_master}
+use Rattle.mkv_schema.specs.Element.{damage, known, octets_between, stated_end, in_master}
 use Rattle.mkv_schema.specs.Elements.{never}
 use Rattle.mkv_schema.specs.Outline.{first_damage, first_refusal, where_it}
 use Rattle.mkv_io.specs.Results.{unless}
+use Rattle.mkv_schema.proofs.OutlineLemmas.{unless-ok}
 use Rattle.mkv_schema.specs.Value.{first_of, is_known_value}
 use Rattle.tree_format.specs.Node.{Node, leaf, master, nodes_of}
 use Rattle.tree_format.specs.Changes.{with_child}
 use Rattle.tree_format.specs.Values.{uint_in}
-use Rattle.meta_records.specs.Attachments.{ScannedElement, children_of, part_of, is_attached, ended, met_in, at_part, parts_in, at_child, causes, refused_from, refused_in, data_in, missing_data, attached_in, too_many_files, leaf_of, entry_of}
+use Rattle.meta_records.specs.Attachments.{ScannedElement, children_of, part_of, is_attached, ended, met_in, at_part, parts_in, at_child, causes, refused_from, refused_in, data_in, missing_data, attached_in, attachments_causes, too_many_files, leaf_of, entry_of}
 use Rattle.meta_records.specs.Attached.{AttachedFile, file_at, files_at}
+use Rattle.edit_laws.specs.Laws.{attached_bytes}
+use Rattle.edit_laws.proofs.AmongLemmas.{all-among, first-among}
 use Rattle.edit_laws.proofs.RunLemmas.{AreAlikeRuns, runs-alike, run-inside, StandsInside}
 use Rattle.edit_laws.proofs.BlockLemmas.{AreAlike, IsHeld, alike-append, map-same, shared-body}
 use Rattle.edit_laws.proofs.ClusterLemmas.{held-inside}
@@ -136,3 +139,28 @@ module _ (a b : List ℕ) where
           ∙ ap (λ (l : List Header). unless (first_damage (None ∷ first_damage (map (missing_data a) (attached_in a h)) ∷ too_many_files l ∷ [])) (map (file_at b) (attached_in b h))) (attached-same h own)
           ∙ ap (λ (l : List AttachedFile). unless (first_damage (None ∷ first_damage (map (missing_data a) (attached_in a h)) ∷ too_many_files (attached_in a h) ∷ [])) l) files-of
           ∙ is
+
+  -- ---- data
+
+  -- the body of a FileData, if there is one
+  abbrev body_at : List ℕ → Option Header → List ℕ
+  body_at bytes found = octets_between bytes (option_map_or (λ (d : Header). d.body) found 0) (option_map_or (λ (d : Header). d.body) found 0 + option_map_or (λ (d : Header). known d.size) found 0)
+
+  -- The data of an attached file.
+  bytes-same : (h : Header) → IsHeld a b h → attached_bytes b (file_at a h) ≡ attached_bytes a (file_at a h)
+  bytes-same h own = of (data_in a h) refl
+    where
+      of : (found : Option Header) → data_in a h ≡ found → body_at b found ≡ body_at a found
+      of None none = refl
+      of (Some d) some =
+          let among = first-among (λ (c : Header). c.id == FILE_DATA) (children_of a h).list d some in
+          shared-body a b d (all-among (IsHeld a b) (children_of a h).list d (children-held h own).held among.0).shared
+
+  -- The data of the attached files that were read.
+  pub data-stay : (h : Header) (files : List AttachedFile) → IsHeld a b h → files_at a (Some h) ≡ Ok files → map (attached_bytes b) files ≡ map (attached_bytes a) files
+  data-stay h files own is =
+      let good = unless-ok (first_damage (attachments_causes a h)) (map (file_at a) (attached_in a h)) files is in
+      map-same (attached_bytes b) (attached_bytes a) files
+      (subst (All (λ (f : AttachedFile). attached_bytes b f ≡ attached_bytes a f)) good.1
+      (All-map (λ (f : AttachedFile). attached_bytes b f ≡ attached_bytes a f) (file_at a) (attached_in a h)
+      (All-weaker (IsHeld a b) (λ c. attached_bytes b (file_at a c) ≡ attached_bytes a (file_at a c)) bytes-same (attached_in a h) (attached-held h own))))

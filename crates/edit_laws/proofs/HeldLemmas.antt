@@ -1,9 +1,10 @@
--- The Elements of level 1 in a content after some are rewritten.
-use Rattle.std.proofs.Common.{◌≡◌, ℕ, ◌+◌, ◌==◌, Bool, true, false, if◌then◌else◌, List, [], ◌∷◌, length, flat_map, All, Option, Some, None, Ok, refl, sym, ◌∙◌, ap, arith}
+-- The elements of level 1 in a content after some are rewritten.
+use Rattle.std.proofs.Common.{◌≡◌, ℕ, ◌+◌, ◌==◌, Bool, true, false, if◌then◌else◌, List, [], ◌∷◌, length, map, flat_map, All, Option, Some, None, Result, Ok, refl, sym, ◌∙◌, ap, subst, arith}
 use Rattle.std.specs.Option.{option_map}
 use Rattle.std.proofs.lemmas.Bool.Decides.{nat_tests}
 use Rattle.std.proofs.lemmas.List.Elements.{All-head, All-tail}
 use Rattle.mkv_schema.specs.declared.ids.TheConstants.{ATTACHMENTS, CLUSTER}
+use Rattle.mkv_io.specs.declared.damage.Damage.{Damage}
 use Rattle.mkv_schema.specs.declared.element.Header.{Header}
 use Rattle.mkv_schema.specs.Elements.{Run, ends_cluster}
 use Rattle.mkv_schema.specs.Outline.{segment_bound, segment_run}
@@ -21,11 +22,11 @@ use Rattle.meta_records.specs.Attached.{AttachedFile, files_at, first_attached}
 use Rattle.meta_records.specs.Records.{first_tree, tree_at}
 use Rattle.edit_laws.proofs.AmongLemmas.{IsAmong}
 use Rattle.edit_laws.proofs.BlockLemmas.{IsHeld, shared-body}
-use Rattle.edit_laws.proofs.AttachedLemmas.{files-same}
+use Rattle.edit_laws.proofs.AttachedLemmas.{data-stay, files-same}
 use Rattle.edit_laws.proofs.TileLemmas.{run_of, whole}
 use Rattle.edit_laws.proofs.LevelLemmas.{Spot, Edit, new_level, IsSpot, IsListed}
 use Rattle.edit_laws.proofs.ResultLemmas.{blocks-stay, damages-stay, first-stays, held-stays, first-now}
-use Rattle.edit_laws.specs.Laws.{normal_form}
+use Rattle.edit_laws.specs.Laws.{attached_bytes, attached_data, normal_form}
 use Rattle.edit_laws.proofs.AgainLemmas.{CanBeRead, again}
 use Rattle.edit_laws.proofs.ItemLemmas.{names}
 
@@ -121,7 +122,18 @@ module _ (t : Edit) (listed : IsListed t t.list t.start) (was now : Header)
       of None none is = is
       of (Some h) some is = files-same t.old t.new h files (first-held ATTACHMENTS names.attachments.level refl spots behind h some) is
 
-  -- ---- Elements that are rewritten
+  -- The data of attached files that were read.
+  pub data-same : (files : List AttachedFile) → All (λ (s : Spot). (s.header.id == ATTACHMENTS) ≡ false) t.spots → first_of ATTACHMENTS t.behind ≡ None → first_attached t.old was ≡ Ok files → attached_data t.new now ≡ attached_data t.old was
+  data-same files spots behind is =
+      ap (λ (r : Result (List AttachedFile) Damage). and_then r (λ fs. Ok (map (attached_bytes t.new) fs))) (attached-same files spots behind is)
+      ∙ ap (λ (ds : List (List ℕ)). Ok ds) (of (first_of ATTACHMENTS (segment_run t.old was).list) refl is)
+      ∙ sym (ap (λ (r : Result (List AttachedFile) Damage). and_then r (λ fs. Ok (map (attached_bytes t.old) fs))) is)
+    where
+      of : (first : Option Header) → first_of ATTACHMENTS (segment_run t.old was).list ≡ first → files_at t.old first ≡ Ok files → map (attached_bytes t.new) files ≡ map (attached_bytes t.old) files
+      of None none is = let same : [] ≡ files = cc in subst (λ fs. map (attached_bytes t.new) fs ≡ map (attached_bytes t.old) fs) same refl
+      of (Some h) some is = data-stay t.old t.new h files (first-held ATTACHMENTS names.attachments.level refl spots behind h some) is
+
+  -- ---- elements that are rewritten
 
   module _ (s : Spot) (member : IsAmong t.spots s) (spot : IsSpot t s) (id : ℕ) (body : List ℕ) (own : s.header.id ≡ id) (level : ends_cluster id ≡ true) (single : All (λ (o : Spot). o.header ≡ s.header → o ≡ s) t.spots) (first : first_of id t.list ≡ Some s.header) where
     -- The Element is in its place.

@@ -344,6 +344,7 @@ module _ (bytes : List ℕ) (are_octets : AreOctets bytes) (short : length bytes
       info = info-now;
       tracks = tracks-now;
       attachments = rest.attached first.files (untouched ATTACHMENTS names.attachments.level refl refl (neither ATTACHMENTS refl refl)) first.attached ∙ sym first.attached;
+      file_data = rest.file_data first.files (untouched ATTACHMENTS names.attachments.level refl refl (neither ATTACHMENTS refl refl)) first.attached;
       chapters = rest.tree CHAPTERS (untouched CHAPTERS names.chapters.level refl refl (neither CHAPTERS refl refl));
       tags = rest.tree TAGS (untouched TAGS names.tags.level refl refl (neither TAGS refl refl));
       blocks = rest.blocks;

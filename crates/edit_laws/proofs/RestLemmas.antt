@@ -42,7 +42,7 @@ use Rattle.edit_laws.proofs.TileLemmas.{advances-level, level, run_of, Stands, t
 use Rattle.edit_laws.proofs.LevelLemmas.{Edit, Spot, IsSpot, level-within, new_level}
 use Rattle.edit_laws.proofs.ResultLemmas.{cluster-kept, events-skip, first-behind, first-moved, first-skips, first-stays}
 use Rattle.edit_laws.proofs.FillLemmas.{IsFilled, small-widen}
-use Rattle.edit_laws.proofs.HeldLemmas.{IsWritten, attached-same, first-tree, in-place, same-blocks, same-undamaged}
+use Rattle.edit_laws.proofs.HeldLemmas.{IsWritten, attached-same, data-same, first-tree, in-place, same-blocks, same-undamaged}
 use Rattle.edit_laws.proofs.ItemLemmas.{AreDistinct, IsAnew, IsInside, IsItem, IsName, Item, goes-on, write_of}
 use Rattle.edit_laws.proofs.OpenedLemmas.{IsOpened}
 use Rattle.edit_laws.proofs.EndLemmas.{CanGrow, alone-first, bound-total, ends-total, extent-last, last-total, touches-size}
@@ -50,7 +50,7 @@ use Rattle.edit_laws.proofs.MoveLemmas.{moved, moved-anew}
 use Rattle.edit_laws.proofs.RoomLemmas.{tiles-stand}
 use Rattle.edit_laws.proofs.StayLemmas.{same-length, same-outside, stays, stays-anew}
 use Rattle.edit_laws.proofs.WriteLemmas.{inside-room, one-ascending, one-items, touches-append, touches-ascending, touches-items, writes_of}
-use Rattle.edit_laws.specs.Laws.{IsOutside}
+use Rattle.edit_laws.specs.Laws.{IsOutside, attached_data}
 
 -- ---- content that stays
 
@@ -80,6 +80,7 @@ pub record HoldsRest (old new : List ℕ) (o : FileOutline) (was : List Header) 
   pub same : (id : ℕ) → IsUntouched items added id → first_of id list ≡ first_of id was
   pub tree : (id : ℕ) → IsUntouched items added id → first_tree id new segment ≡ first_tree id old o.segment
   pub attached : (files : List AttachedFile) → IsUntouched items added ATTACHMENTS → first_attached old o.segment ≡ Ok files → first_attached new segment ≡ Ok files
+  pub file_data : (files : List AttachedFile) → IsUntouched items added ATTACHMENTS → first_attached old o.segment ≡ Ok files → attached_data new segment ≡ attached_data old o.segment
   pub blocks : (r : Rules) → blocks_of (events_of r new segment) ≡ blocks_of (events_of r old o.segment)
   pub undamaged : (r : Rules) → damages_of (events_of r old o.segment) ≡ [] → damages_of (events_of r new segment) ≡ []
   pub clusters : (h : Header) → (h.id == CLUSTER) ≡ true → IsAmong was h → HoldsCluster old new o.segment segment h
@@ -192,6 +193,7 @@ module _ (t : Edit) (o : FileOutline) (items : List Item) (added : List Element)
     same = λ id is. first-stays t id is.level (anew.none id is.written) (none-behind id is.behind) t.list anew.listed.list anew.listed.becomes;
     tree = λ id is. first-tree t anew.listed o.segment now old_run new_run old_bound new_bound id is.level is.other (anew.none id is.written) (none-behind id is.behind);
     attached = λ files is old. attached-same t anew.listed o.segment now old_run new_run old_bound new_bound files (anew.none ATTACHMENTS is.written) (none-behind ATTACHMENTS is.behind) old;
+    file_data = λ files is old. data-same t anew.listed o.segment now old_run new_run old_bound new_bound files (anew.none ATTACHMENTS is.written) (none-behind ATTACHMENTS is.behind) old;
     blocks = λ r. same-blocks t anew.listed o.segment now old_run new_run old_bound new_bound r (no-events r) (anew.none CLUSTER no-cluster);
     undamaged = λ r. same-undamaged t anew.listed o.segment now old_run new_run old_bound new_bound r (no-events r) (anew.none CLUSTER no-cluster);
     clusters = cluster-holds;

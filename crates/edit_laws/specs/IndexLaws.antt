@@ -30,7 +30,7 @@ use Rattle.sidecar_edit.specs.Writes.{applied}
 use Rattle.edit_changes.specs.Plan.{seek_to}
 use Rattle.edit_changes.specs.Records.{EditableFile}
 use Rattle.edit_changes.specs.SeekHead.{stays}
-use Rattle.edit_laws.specs.Laws.{IsOutside}
+use Rattle.edit_laws.specs.Laws.{IsOutside, attached_data}
 use Rattle.reindex.specs.Index.{indexable}
 use Rattle.reindex.specs.Plan.{Index, index_ids, index_of}
 use Rattle.reindex.specs.Points.{cluster_before, index_points, indexed_tracks, is_indexed, point_in}
@@ -98,9 +98,9 @@ pub record HasSeeksOf (ids : List ℕ) (old new : List ℕ) (was now : Header) :
   pub body : body_of new header
       ≡ joined (map seek_element (first_seeks ids now.body (segment_run new now).list)) ++ flat_map octets (filter (stays ids) (children old_head))
 
--- The file `new` with a new index holds the content of `old`. The EBML header, the first Info, Tracks, Chapters and Tags, the attached files and
--- the blocks are the old ones, at their places. The Cues has the points `points`, and each points at its block. The SeekHead has a Seek of the
--- first Info, Tracks, Attachments, Cues, Chapters and Tags. There is no damage.
+-- The file `new` with a new index holds the content of `old`. The EBML header, the first Info, Tracks, Chapters and Tags, the attached files with
+-- their data, and the blocks are the old ones, at their places. The Cues has the points `points`, and each points at its block. The SeekHead has a
+-- Seek of the first Info, Tracks, Attachments, Cues, Chapters and Tags. There is no damage.
 pub record HoldsIndex (old new : List ℕ) (f : EditableFile) (points : List CuePoint) : Type 0 where
   pub segment : Header
   pub ebml : ebml_header new ≡ Ok f.outline.ebml
@@ -111,6 +111,7 @@ pub record HoldsIndex (old new : List ℕ) (f : EditableFile) (points : List Cue
   pub info : first_tree INFO new segment ≡ first_tree INFO old f.outline.segment
   pub tracks : first_tree TRACKS new segment ≡ first_tree TRACKS old f.outline.segment
   pub attachments : first_attached new segment ≡ first_attached old f.outline.segment
+  pub file_data : attached_data new segment ≡ attached_data old f.outline.segment
   pub chapters : first_tree CHAPTERS new segment ≡ first_tree CHAPTERS old f.outline.segment
   pub tags : first_tree TAGS new segment ≡ first_tree TAGS old f.outline.segment
   pub blocks : (r : Rules) → blocks_of (events_of r new segment) ≡ blocks_of (events_of r old f.outline.segment)

@@ -1,5 +1,5 @@
 -- The content of a file after edits: RFC 9559, section 5.1 (Segment Element).
-use Rattle.std.specs.Prelude.{◌≡◌, ◌≤◌, ℕ, ◌==◌, false, List, length, Option, Some, None, Result, Ok}
+use Rattle.std.specs.Prelude.{◌≡◌, ◌≤◌, ℕ, ◌+◌, ◌==◌, false, List, length, map, Option, Some, None, Result, Ok}
 use Rattle.std.specs.List.{All}
 use Rattle.std.specs.Option.{option_map}
 use Rattle.ebml_numbers.specs.Number.{AreOctets}
@@ -8,13 +8,14 @@ use Rattle.mkv_io.specs.declared.damage.Damage.{Damage}
 use Rattle.mkv_io.specs.declared.outside.TheConstants.{LONGEST_FILE}
 use Rattle.requests.specs.declared.edit.Edit.{Edit}
 use Rattle.mkv_schema.specs.declared.element.Header.{Header}
+use Rattle.mkv_schema.specs.Element.{octets_between}
 use Rattle.mkv_schema.specs.Outline.{ebml_header, segment_of, segment_run}
 use Rattle.mkv_io.specs.Results.{and_then}
 use Rattle.tree_format.specs.Node.{Node, master, nodes_of}
 use Rattle.tree_format.specs.NormalForm.{octets}
 use Rattle.block_format.specs.Elements.{Rules}
 use Rattle.block_format.specs.Events.{blocks_of, events_of}
-use Rattle.meta_records.specs.Attached.{first_attached}
+use Rattle.meta_records.specs.Attached.{AttachedFile, first_attached}
 use Rattle.meta_records.specs.Records.{first_tree}
 use Rattle.edit_changes.specs.declared.trees.Trees.{Trees}
 use Rattle.edit_changes.specs.Change.{edited_trees}
@@ -29,14 +30,22 @@ normal_form id bytes segment = and_then (first_tree id bytes segment) (λ n. Ok 
 abbrev pub tracks_octets : List Node → List ℕ
 tracks_octets tracks = octets (master TRACKS 0 (nodes_of tracks))
 
--- An Element at level 1 is neither a Timestamp nor a block; these belong only into Clusters.
+-- the data of the attached file `a`
+abbrev pub attached_bytes : List ℕ → AttachedFile → List ℕ
+attached_bytes bytes a = octets_between bytes a.at (a.at + a.len)
+
+-- the data of each attached file of the first Attachments at level 1, or the damage inside it
+abbrev pub attached_data : List ℕ → Header → Result (List (List ℕ)) Damage
+attached_data bytes segment = and_then (first_attached bytes segment) (λ files. Ok (map (attached_bytes bytes) files))
+
+-- An element at level 1 is neither a Timestamp nor a block; these belong only into Clusters.
 pub record IsOutside (h : Header) : Type 0 where
   pub timestamp : (h.id == TIMESTAMP) ≡ false
   pub simple : (h.id == SIMPLE_BLOCK) ≡ false
   pub group : (h.id == BLOCK_GROUP) ≡ false
 
--- The edited file `new` holds the content of `old`, with the edited trees `t`. Info and Tracks are the edited ones. The attached files, Chapters
--- and Tags are the old ones, at their places, and so are the blocks, with any scale.
+-- The edited file `new` holds the content of `old`, with the edited trees `t`. Info and Tracks are the edited ones. The attached files, their
+-- data, Chapters and Tags are the old ones, at their places, and so are the blocks, with any scale.
 pub record HoldsEdited (old new : List ℕ) (f : EditableFile) (t : Trees) : Type 0 where
   pub segment : Header
   pub ebml : ebml_header new ≡ Ok f.outline.ebml
@@ -45,6 +54,7 @@ pub record HoldsEdited (old new : List ℕ) (f : EditableFile) (t : Trees) : Typ
   pub info : normal_form INFO new segment ≡ Ok (option_map octets t.info)
   pub tracks : normal_form TRACKS new segment ≡ Ok (Some (tracks_octets t.tracks))
   pub attachments : first_attached new segment ≡ first_attached old f.outline.segment
+  pub file_data : attached_data new segment ≡ attached_data old f.outline.segment
   pub chapters : first_tree CHAPTERS new segment ≡ first_tree CHAPTERS old f.outline.segment
   pub tags : first_tree TAGS new segment ≡ first_tree TAGS old f.outline.segment
   pub blocks : (r : Rules) → blocks_of (events_of r new segment) ≡ blocks_of (events_of r old f.outline.segment)
