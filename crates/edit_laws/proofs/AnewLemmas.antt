@@ -1,9 +1,12 @@
 -- A file whose Cues are rewritten holds its old content and its index.
-use Rattle.std.proofs.Common.{inl, inr, ◌≡◌, ◌⊎◌, ◌≤◌, ℕ, ◌+◌, ◌-◌, ◌==◌, ◌&&◌, nat_lt, Bool, true, false, if◌then◌else◌, List, [], ◌∷◌, ◌++◌, length, map, filter, flat_map, All, Option, Some, None, Result, Ok, Err, refl, sym, ◌∙◌, ap, ap₂, subst, arith}
+use Rattle.std.proofs.Common.{inl, inr, ◌≡◌, ◌⊎◌, ◌≤◌, ℕ, ◌+◌, ◌-◌, ◌==◌, ◌&&◌, nat_lt, not, Bool, true, false, if◌then◌else◌, List, [], ◌∷◌, ◌++◌, length, get_or, map, filter, flat_map, All, Option, Some, None, Result, Ok, Err, refl, sym, ◌∙◌, ap, ap₂, subst, arith}
 use Rattle.std.specs.Bool.{⊤}
 use Rattle.std.specs.List.{Contains}
 use Rattle.std.specs.Option.{option_or}
 use Rattle.std.proofs.lemmas.Bool.Decides.{nat_tests}
+use Rattle.std.specs.Prelude.{sum_by}
+use Rattle.std.proofs.lemmas.List.Elements.{All-weaker}
+use Rattle.std.proofs.lemmas.List.Sums.{length-filter}
 use Rattle.ebml_numbers.specs.Number.{AreOctets}
 use Rattle.mkv_schema.specs.declared.ids.TheConstants.{ATTACHMENTS, CHAPTERS, CLUSTER, CUES, INFO, SEEK_HEAD, TAGS, TRACKS}
 use Rattle.mkv_io.specs.declared.damage.Damage.{Damage}
@@ -11,25 +14,30 @@ use Rattle.mkv_io.specs.declared.outside.TheConstants.{LONGEST_FILE}
 use Rattle.mkv_schema.specs.declared.element.Header.{Header}
 use Rattle.mkv_schema.specs.Element.{in_segment, element_at}
 use Rattle.mkv_schema.specs.Elements.{Run}
-use Rattle.mkv_schema.specs.Outline.{segment_bound, segment_run}
+use Rattle.mkv_schema.specs.declared.limits.TheConstants.{MAX_ELEMENTS, MAX_MASTER_LEN}
+use Rattle.mkv_schema.specs.Outline.{outlined, segment_bound, segment_run}
+use Rattle.element_reader.specs.Collected.{others_of}
+use Rattle.element_reader.specs.Outline.{shown}
 use Rattle.mkv_io.specs.Results.{and_then, and_then as edits_then, unless as unless_refused}
 use Rattle.mkv_schema.specs.Value.{first_of}
 use Rattle.tree_format.specs.Node.{Node, children}
 use Rattle.tree_format.specs.NormalForm.{octets}
+use Rattle.file_format.specs.FileBlocks.{file_events}
 use Rattle.file_format.specs.Info.{file_scale, info_tree, scale_at, scale_in}
 use Rattle.file_format.specs.declared.scale.TheConstants.{DEFAULT_SCALE}
+use Rattle.meta_records.specs.Attached.{first_attached}
 use Rattle.meta_records.specs.Records.{first_tree, scale_of_info, tree_at}
 use Rattle.block_format.specs.Block.{Block}
 use Rattle.block_format.specs.Elements.{Rules, with_limits, without_limits}
 use Rattle.block_format.specs.Events.{Event, Found, damages_of, events_among, events_of, events_then, found_in, is_closed}
-use Rattle.output_model.specs.Element.{header_in_place, joined}
+use Rattle.output_model.specs.Element.{Element, header_in_place, joined}
 use Rattle.output_model.specs.SeekHead.{seek_element}
 use Rattle.output_model.proofs.ReadLemmas.{body_of-read}
 use Rattle.output_laws.specs.Points.{PointsAt, PointsAtBlock}
 use Rattle.output_laws.specs.Reading.{CuesAre}
 use Rattle.sidecar_edit.specs.Writes.{Write, applied}
 use Rattle.edit_changes.specs.Plan.{if_editable, number_of, twin_of, writes_of_parts}
-use Rattle.edit_changes.specs.Records.{EditableFile}
+use Rattle.edit_changes.specs.Records.{EditableFile, good_tracks, trees_of}
 use Rattle.edit_changes.specs.SeekHead.{stays}
 use Rattle.edit_plan.proofs.PlanLemmas.{parts-in-order, unless-none}
 use Rattle.edit_laws.proofs.AmongLemmas.{IsAmong}
@@ -46,7 +54,11 @@ use Rattle.reindex.specs.Points.{cluster_before, index_points, indexed_tracks, i
 use Rattle.edit_laws.specs.IndexLaws.{HoldsIndex, NewIndexIsWhole, HasSeeksOf, first_seeks}
 use Rattle.edit_laws.proofs.CuesLemmas.{HoldsCues, cues-are, cues-hold, new-own}
 use Rattle.edit_laws.proofs.PointLemmas.{IsAtTick, each-has, hidden-none, indexable-whole, indexed-time}
-use Rattle.edit_laws.proofs.ItemLemmas.{names}
+use Rattle.edit_laws.proofs.ItemLemmas.{Item, names}
+use Rattle.edit_laws.proofs.CountLemmas.{described_len, sum-none, undescribed}
+use Rattle.edit_laws.proofs.IndexedLemmas.{indexed-again, trees-are, trees_from}
+use Rattle.edit_laws.proofs.LimitLemmas.{AreWithin, counts, described-sum}
+use Rattle.edit_laws.proofs.WriteLemmas.{described_there, there-none}
 
 -- ---- an undamaged file
 
@@ -189,28 +201,98 @@ module _ (bytes : List ℕ) (f : EditableFile) (is : indexable bytes ≡ Ok f) w
             ∙ ap₂ (λ (base : ℕ) (hs : List Header). joined (map seek_element (first_seeks index_ids base hs)) ++ flat_map octets (filter (stays index_ids) (children h.old_head))) (sym h.rest.body) (sym list);
       }
 
+  -- ---- the file can be indexed again
+
+  -- No item is an Info, Tracks, Chapters or Tags, and none of these follows the old end.
+  items-undescribed : (new : List ℕ) (h : HoldsCues bytes new f.outline (index_points bytes segment f.trees.tracks)) → All (λ (i : Item). described_len i.element ≡ 0) h.items
+  items-undescribed new h =
+      let info = h.untouched INFO names.info.level refl refl refl in
+      let tracks = h.untouched TRACKS names.tracks.level refl refl refl in
+      let chapters = h.untouched CHAPTERS names.chapters.level refl refl refl in
+      let tags = h.untouched TAGS names.tags.level refl refl refl in
+      λ k d below. undescribed (get_or h.items k d).element (info.written k d below) (tracks.written k d below) (chapters.written k d below) (tags.written k d below)
+
+  added-undescribed : (new : List ℕ) (h : HoldsCues bytes new f.outline (index_points bytes segment f.trees.tracks)) → All (λ (d : Element). described_len d ≡ 0) h.added
+  added-undescribed new h =
+      let info = h.untouched INFO names.info.level refl refl refl in
+      let tracks = h.untouched TRACKS names.tracks.level refl refl refl in
+      let chapters = h.untouched CHAPTERS names.chapters.level refl refl refl in
+      let tags = h.untouched TAGS names.tags.level refl refl refl in
+      λ k d below. undescribed (get_or h.added k d) (info.behind k d below) (tracks.behind k d below) (chapters.behind k d below) (tags.behind k d below)
+
+  -- The elements of level 1 are within the limits, if two more are.
+  new-within : (new : List ℕ) (h : HoldsCues bytes new f.outline (index_points bytes segment f.trees.tracks)) → length f.outline.others + 2 ≤ MAX_ELEMENTS → AreWithin (segment_run new h.rest.segment).list
+  new-within new h room =
+      let items = items-undescribed new h in
+      let added = added-undescribed new h in
+      let was = op.within in
+      let list = (segment_run bytes segment).list in
+      let number : length f.outline.others ≡ sum_by counts list = ap (λ (hs : List Header). length hs) op.others ∙ length-filter (λ (k : Header). not (k.id == CLUSTER)) list in
+      let few = h.few in
+      let count = h.rest.count in
+      let old_sum = described-sum list in
+      let new_sum = described-sum h.rest.list in
+      let sum = h.rest.described in
+      let none : sum_by (described_there (others_of list)) h.items ≡ 0 =
+      sum-none (described_there (others_of list)) h.items
+      (All-weaker (λ (i : Item). described_len i.element ≡ 0) (λ (i : Item). described_there (others_of list) i ≡ 0) (λ i is. there-none (others_of list) i is) h.items items) in
+      let nothing : sum_by described_len h.added ≡ 0 = sum-none described_len h.added added in
+      let old_count = was.count in
+      let old_all = was.all in
+      subst AreWithin (sym (ap (λ (r : Run). r.list) h.rest.run)) (record {
+        count = omega arith;
+        each = h.rest.short was.each
+            (All-weaker (λ (i : Item). described_len i.element ≡ 0) (λ (i : Item). described_len i.element ≤ MAX_MASTER_LEN) (λ i is. omega arith) h.items items)
+            (All-weaker (λ (d : Element). described_len d ≡ 0) (λ (d : Element). described_len d ≤ MAX_MASTER_LEN) (λ d is. omega arith) h.added added);
+        all = omega arith;
+      })
+
+  -- The trees are read as before.
+  trees-again : (new : List ℕ) (now : Header) → first_tree INFO new now ≡ first_tree INFO bytes segment → first_tree TRACKS new now ≡ first_tree TRACKS bytes segment → first_attached new now ≡ first_attached bytes segment
+      → first_tree CHAPTERS new now ≡ first_tree CHAPTERS bytes segment → first_tree TAGS new now ≡ first_tree TAGS bytes segment → trees_of new now ≡ Ok f.trees
+  trees-again new now info tracks attachments chapters tags =
+      let good : and_then (first_tree TRACKS new now) (good_tracks now) ≡ and_then (first_tree TRACKS bytes segment) (good_tracks segment) =
+      ap (λ (x : Result (Option Node) Damage). and_then x (good_tracks now)) (tracks ∙ first.tracks) ∙ sym (ap (λ (x : Result (Option Node) Damage). and_then x (good_tracks segment)) first.tracks) in
+      trees-are new now
+      ∙ ap (λ x. trees_from x (and_then (first_tree TRACKS new now) (good_tracks now)) (first_attached new now) (first_tree CHAPTERS new now) (first_tree TAGS new now)) info
+      ∙ ap (λ x. trees_from (first_tree INFO bytes segment) x (first_attached new now) (first_tree CHAPTERS new now) (first_tree TAGS new now)) good
+      ∙ ap (λ x. trees_from (first_tree INFO bytes segment) (and_then (first_tree TRACKS bytes segment) (good_tracks segment)) x (first_tree CHAPTERS new now) (first_tree TAGS new now)) attachments
+      ∙ ap (λ x. trees_from (first_tree INFO bytes segment) (and_then (first_tree TRACKS bytes segment) (good_tracks segment)) (first_attached bytes segment) x (first_tree TAGS new now)) chapters
+      ∙ ap (trees_from (first_tree INFO bytes segment) (and_then (first_tree TRACKS bytes segment) (good_tracks segment)) (first_attached bytes segment) (first_tree CHAPTERS bytes segment)) tags
+      ∙ sym (trees-are bytes segment)
+      ∙ (indexable-whole bytes f is).trees
+
   holds-index : (new : List ℕ) → HoldsCues bytes new f.outline (index_points bytes segment f.trees.tracks) → HoldsIndex bytes new f (index_points bytes segment f.trees.tracks)
   holds-index new h =
       let info = h.rest.tree INFO (h.untouched INFO names.info.level refl refl refl) in
+      let tracks = h.rest.tree TRACKS (h.untouched TRACKS names.tracks.level refl refl refl) in
+      let attachments = h.rest.attached first.files (h.untouched ATTACHMENTS names.attachments.level refl refl refl) first.attached ∙ sym first.attached in
+      let chapters = h.rest.tree CHAPTERS (h.untouched CHAPTERS names.chapters.level refl refl refl) in
+      let tags = h.rest.tree TAGS (h.untouched TAGS names.tags.level refl refl refl) in
       let same : scale ≡ file_scale new h.rest.segment = scale-tree bytes segment ∙ sym (scale-tree new h.rest.segment ∙ ap scale_read info) in
+      let undamaged : damages_of (file_events true new h.rest.segment) ≡ [] = subst (λ n. damages_of (events_of (with_limits n) new h.rest.segment) ≡ []) same (h.rest.undamaged (with_limits scale) (indexable-whole bytes f is).undamaged) in
       record {
         segment = h.rest.segment;
         ebml = h.rest.ebml;
         found = h.rest.found;
         body = h.rest.body;
         whole = ap (λ (r : Run). r.damage) h.rest.run;
-        undamaged = subst (λ n. damages_of (events_of (with_limits n) new h.rest.segment) ≡ []) same (h.rest.undamaged (with_limits scale) (indexable-whole bytes f is).undamaged);
+        undamaged = undamaged;
         info = info;
-        tracks = h.rest.tree TRACKS (h.untouched TRACKS names.tracks.level refl refl refl);
-        attachments = h.rest.attached first.files (h.untouched ATTACHMENTS names.attachments.level refl refl refl) first.attached ∙ sym first.attached;
+        tracks = tracks;
+        attachments = attachments;
         file_data = h.rest.file_data first.files (h.untouched ATTACHMENTS names.attachments.level refl refl refl) first.attached;
-        chapters = h.rest.tree CHAPTERS (h.untouched CHAPTERS names.chapters.level refl refl refl);
-        tags = h.rest.tree TAGS (h.untouched TAGS names.tags.level refl refl refl);
+        chapters = chapters;
+        tags = tags;
         blocks = h.rest.blocks;
         cues = subst (λ list. CuesAre new list (index_points bytes segment f.trees.tracks)) (sym (ap (λ (r : Run). r.list) h.rest.run)) h.cues;
         points_at = subst (λ n. All (PointsAtBlock n new h.rest.segment) (index_points bytes segment f.trees.tracks)) same
             (each-has (PointsAtBlock scale new h.rest.segment) bytes f is (λ b at indexed. (at.cluster, b, point-holds new h b at indexed)));
         seeks = tells-of new h;
+        again = λ room. (
+          shown new (outlined new f.outline.ebml h.rest.segment (segment_run new h.rest.segment)),
+          indexed-again new f.outline.ebml h.rest.segment f.trees h.rest.ebml h.rest.found (new-within new h room) (trees-again new h.rest.segment info tracks attachments chapters tags) undamaged,
+        );
       }
 
   with-writes : (ws : List Write) → AreOctets bytes → length bytes ≤ LONGEST_FILE → All IsOutside (segment_run bytes segment).list

@@ -1,7 +1,7 @@
 -- The Cues of a file with a new index: in the room of the old one, after the old end, or none.
 use Rattle.std.proofs.Common.{inl, inr, ◌≡◌, ◌<◌, ◌≤◌, ℕ, ◌+◌, ◌-◌, ◌^◌, ◌==◌, ◌||◌, nat_lt, Bool, true, false, if◌then◌else◌, List, [], ◌∷◌, append-nil, length, map, replicate, All, Option, Some, None, Ok, refl, sym, ◌∙◌, ap, ap₂, subst, arith}
 use Rattle.std.specs.List.{cons_option, list_any}
-use Rattle.std.specs.Prelude.{IfSome, filter_map}
+use Rattle.std.specs.Prelude.{IfSome, filter_map, sum_by}
 use Rattle.std.specs.Option.{option_map, unwrap_or}
 use Rattle.std.proofs.lemmas.Bool.{cases_lt}
 use Rattle.std.proofs.lemmas.Bool.Decides.{nat_tests}
@@ -43,7 +43,7 @@ use Rattle.edit_laws.proofs.ItemLemmas.{IsItem, IsName, Item, names}
 use Rattle.edit_laws.proofs.OpenedLemmas.{IsOpened}
 use Rattle.edit_laws.proofs.PlannedLemmas.{IsPlanned, head-read, rest-behind, rest-beside, writes-planned}
 use Rattle.edit_laws.proofs.RestLemmas.{HoldsRest, IsUntouched, last-within, small-item, stand}
-use Rattle.edit_laws.proofs.WriteLemmas.{AreOf, few-parts, of-writes, writes_of}
+use Rattle.edit_laws.proofs.WriteLemmas.{AreOf, adds-most, adds-moved, adds_void, few-parts, of-writes, writes_of}
 use Rattle.edit_laws.specs.Laws.{IsOutside}
 use Rattle.edit_laws.specs.IndexLaws.{first_seeks}
 use Rattle.reindex.specs.Plan.{cues_part, cues_parts, index_ids, new_cues}
@@ -113,6 +113,7 @@ pub record HoldsCues (old new : List ℕ) (o : FileOutline) (points : List CuePo
   pub added : List Element
   pub rest : HoldsRest old new o (segment_run old o.segment).list items added
   pub untouched : (id : ℕ) → ends_cluster id ≡ true → (id == CLUSTER) ≡ false → (SEEK_HEAD == id) ≡ false → (CUES == id) ≡ false → IsUntouched items added id
+  pub few : sum_by (adds_void (others_of (segment_run old o.segment).list)) items + length added ≤ 2
   pub cues : CuesAre new rest.list points
   pub old_head : Node
   pub read : first_tree SEEK_HEAD old o.segment ≡ Ok (Some old_head)
@@ -216,12 +217,13 @@ module _ (bytes : List ℕ) (are_octets : AreOctets bytes) (short : length bytes
     seeks-written : IsWritten new SEEK_HEAD (seek_head_body index_ids (first_seeks index_ids o.segment.body rest.list) (children (head-read bytes o s op is).tree)) rest.list
     seeks-written = subst (λ (body : List ℕ). IsWritten new SEEK_HEAD body rest.list) (ap₂ (seek_head_body index_ids) seeks-are (head-read bytes o s op is).seeks) written
 
-    holds : (points : List CuePoint) → CuesAre new rest.list points → HoldsCues bytes new o points
-    holds points are = record {
+    holds : sum_by (adds_void others) items + length added ≤ 2 → (points : List CuePoint) → CuesAre new rest.list points → HoldsCues bytes new o points
+    holds few points are = record {
       items = items;
       added = added;
       rest = rest;
       untouched = untouched;
+      few = few;
       cues = are;
       old_head = (head-read bytes o s op is).tree;
       read = (head-read bytes o s op is).read;
@@ -247,7 +249,7 @@ module _ (bytes : List ℕ) (are_octets : AreOctets bytes) (short : length bytes
       let untouched = untouched-by head [] [] refl (All-nil (λ (i : Item). i.element.id ≡ CUES)) (All-nil (λ (d : Element). d.id ≡ CUES)) in
       let lacks = rest.joins CUES names.cues.level (no-cues head refl) (none-listed none) in
       holds [] plan.0 plan.1 (head ∷ []) [] rest untouched refl (rest.stays head (inl refl) plan.2.reaches).0 (λ id other. refl)
-      (ap (option_map (seek_to o.segment.body)) (ap (first_of CUES) op.others ∙ none ∙ sym lacks)) [] lacks
+      (ap (option_map (seek_to o.segment.body)) (ap (first_of CUES) op.others ∙ none ∙ sym lacks)) (let few = adds-most others (head ∷ []) in omega arith) [] lacks
 
   -- There was no Cues, and one is written after the old end.
   none-new : (p : CuePoint) (ps : List CuePoint) → first_of CUES others ≡ None → writes_of_parts index_ids true bytes o (cues_moves 0 0 (cues_of (p ∷ ps))) ≡ Ok ws → HoldsCues bytes new o (p ∷ ps)
@@ -267,7 +269,7 @@ module _ (bytes : List ℕ) (are_octets : AreOctets bytes) (short : length bytes
       let untouched = untouched-by head [] (e ∷ []) refl (All-nil (λ (i : Item). i.element.id ≡ CUES)) (All-cons (λ (d : Element). d.id ≡ CUES) e [] refl (All-nil (λ (d : Element). d.id ≡ CUES))) in
       let joins = rest.joins CUES names.cues.level (no-cues head refl) (none-listed none) in
       holds parts plan.0 plan.1 (head ∷ []) (e ∷ []) rest untouched moved.1 (rest.stays head (inl refl) plan.2.reaches).0 (λ id other. rw other refl) (added-seek e.body rest.list joins)
-      (p ∷ ps) (written-are new rest.list p ps (written-first new CUES e.body (headers_in_place (length bytes) (e ∷ [])) rest.list joins (alone-written new (length bytes) e.body rest.held)))
+      (let few = adds-most others (head ∷ []) in omega arith) (p ∷ ps) (written-are new rest.list p ps (written-first new CUES e.body (headers_in_place (length bytes) (e ∷ [])) rest.list joins (alone-written new (length bytes) e.body rest.held)))
 
   -- There was a Cues.
   module _ (h : Header) (found : first_of CUES others ≡ Some h) where
@@ -308,7 +310,7 @@ module _ (bytes : List ℕ) (are_octets : AreOctets bytes) (short : length bytes
         let untouched = untouched-by head (item ∷ []) [] refl (All-cons (λ (i : Item). i.element.id ≡ CUES) item [] refl (All-nil (λ (i : Item). i.element.id ≡ CUES))) (All-nil (λ (d : Element). d.id ≡ CUES)) in
         let lacks = rest.moves item (inr (inl refl)) (gone-long space) alone in
         holds (part ∷ []) plan.0 plan.1 (head ∷ item ∷ []) [] rest untouched refl (rest.stays head (inl refl) plan.2.reaches).0 (λ id other. rw other refl)
-        (sym (ap (option_map (seek_to o.segment.body)) lacks)) [] lacks
+        (sym (ap (option_map (seek_to o.segment.body)) lacks)) (let few = adds-most others (head ∷ item ∷ []) in omega arith) [] lacks
 
     -- A Cues is written, in the old room or after the old end.
     module _ (p : CuePoint) (ps : List CuePoint) (made : writes_of_parts index_ids true bytes o (cues_moves h.offset (span_of h (others_of (segment_run bytes o.segment).list)) (cues_of (p ∷ ps))) ≡ Ok ws) where
@@ -353,7 +355,7 @@ module _ (bytes : List ℕ) (are_octets : AreOctets bytes) (short : length bytes
           let untouched = untouched-by head (item ∷ []) [] refl its-own (All-nil (λ (d : Element). d.id ≡ CUES)) in
           let stays = rest.stays item (inr (inl refl)) fits in
           holds parts plan.0 plan.1 (head ∷ item ∷ []) [] rest untouched still.1 (rest.stays head (inl refl) plan.2.reaches).0 (λ id other. rw other refl)
-          (placed-seek rest.list e.body stays.0 stays.1) (p ∷ ps) (written-are new rest.list p ps stays.0)
+          (placed-seek rest.list e.body stays.0 stays.1) (let few = adds-most others (head ∷ item ∷ []) in omega arith) (p ∷ ps) (written-are new rest.list p ps stays.0)
 
       moves-on : space < length (octets_of e) → HoldsCues bytes new o (p ∷ ps)
       moves-on long =
@@ -364,7 +366,7 @@ module _ (bytes : List ℕ) (are_octets : AreOctets bytes) (short : length bytes
           let untouched = untouched-by head (item ∷ []) (e ∷ []) refl its-own (All-cons (λ (d : Element). d.id ≡ CUES) e [] refl (All-nil (λ (d : Element). d.id ≡ CUES))) in
           let away = rest.moves item (inr (inl refl)) long alone in
           holds parts plan.0 plan.1 (head ∷ item ∷ []) (e ∷ []) rest untouched moved.1 (rest.stays head (inl refl) plan.2.reaches).0 (λ id other. rw other refl) (added-seek e.body rest.list away)
-          (p ∷ ps) (written-are new rest.list p ps (written-first new CUES e.body (headers_in_place (length bytes) (e ∷ [])) rest.list away (alone-written new (length bytes) e.body rest.held)))
+          (let few = adds-moved others head item long in omega arith) (p ∷ ps) (written-are new rest.list p ps (written-first new CUES e.body (headers_in_place (length bytes) (e ∷ [])) rest.list away (alone-written new (length bytes) e.body rest.held)))
 
       one-anew : HoldsCues bytes new o (p ∷ ps)
       one-anew = elim (cases_lt space (length (octets_of e))) [ inl long ↦ moves-on long | inr fits ↦ fits-in fits ]

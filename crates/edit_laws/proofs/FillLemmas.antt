@@ -97,6 +97,7 @@ pub record IsFilled (new : List ℕ) (at room : ℕ) (e : Element) : Type 0 wher
   pub held : HoldsAt new at (joined (now ∷ voids))
   pub len : length (joined (now ∷ voids)) ≡ room
   pub are : All (λ (d : Element). d.id ≡ VOID) voids
+  pub few : length voids ≤ 1
   pub is : Stands now voids room e
 
 joined-two : (d v : Element) → joined (d ∷ v ∷ []) ≡ octets_of d ++ octets_of v
@@ -121,6 +122,7 @@ filled new at room e can some short within held =
       held = subst (HoldsAt new at) (sym (append-nil (octets_of d))) there;
       len = ap (λ (l : List ℕ). length l) (append-nil (octets_of d)) ∙ len;
       are = All-nil (λ (d : Element). d.id ≡ VOID);
+      few = omega arith;
       is = kind;
     }
 
@@ -141,6 +143,7 @@ filled new at room e can some short within held =
               ∙ ap₂ (λ x y. x ++ y) first (ap (octets_between new (at + length (octets_of e))) (let end : at + room ≡ at + length (octets_of e) + length (octets_of v.void) = omega arith in end) ∙ v.held));
           len = ap (λ (l : List ℕ). length l) (joined-two e v.void) ∙ both;
           are = All-cons (λ (d : Element). d.id ≡ VOID) v.void [] v.id (All-nil (λ (d : Element). d.id ≡ VOID));
+          few = omega arith;
           is = inl (refl, refl, omega arith);
         }
 

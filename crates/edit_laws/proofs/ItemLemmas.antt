@@ -1,9 +1,11 @@
 -- The rewritten Elements of level 1, in both contents.
 use Rattle.std.proofs.Common.{inl, inr, ◌≡◌, ◌⊎◌, ◌<◌, ◌≤◌, ℕ, ◌+◌, ◌==◌, true, false, List, [], ◌∷◌, length, get_or, All, Some, None, refl, sym, ◌∙◌, ap, subst, arith}
 use Rattle.std.specs.Bool.{⊤}
+use Rattle.std.specs.Prelude.{sum_by}
 use Rattle.std.specs.Option.{unwrap_or}
 use Rattle.std.proofs.lemmas.Bool.Decides.{nat_tests}
 use Rattle.std.proofs.lemmas.List.Elements.{All-head, All-tail, All-nil, All-cons, All-weaker}
+use Rattle.std.proofs.lemmas.List.Sums.{sum_by-cons}
 use Rattle.ebml_numbers.specs.declared.number.Size.{Size}
 use Rattle.ebml_numbers.specs.declared.number.Size.TheVariants.{Known, Unknown}
 use Rattle.mkv_schema.specs.Schema.{entry_of, is_level0}
@@ -110,13 +112,24 @@ pub record CanKeep (a b : List ℕ) (e e' : ℕ) (h : Header) : Type 0 where
   pub ends : is_unknown h.size ≡ false → end_in e' h ≡ end_in e h
   pub closed : is_closed (length b) h ≡ is_closed (length a) h
 
--- The old Elements of level 1 become the new ones, and each rewritten item has its own spot.
+-- The spot `s` is the filled room of an item.
+pub record IsFrom (t : Edit) (items : List Item) (s : Spot) : Type 0 where
+  pub item : Item
+  pub member : IsAmong items item
+  pub fill : IsFilled t.new item.header.offset (span_of item.header (others_of t.list)) item.element
+  pub is : record { header = item.header; now = fill.now; voids = fill.voids } ≡ s
+
+-- The old elements of level 1 become the new ones, and each rewritten item has its own spot.
 pub record IsAnew (t : Edit) (items : List Item) : Type 0 where
   pub listed : IsListed t t.list t.start
   pub edit : IsEdit t
   pub none : (id : ℕ) → All (λ (i : Item). (i.element.id == id) ≡ false) items → All (λ (s : Spot). (s.header.id == id) ≡ false) t.spots
   pub spots : (i : Item) → IsAmong items i → (f : IsFilled t.new i.header.offset (span_of i.header (others_of t.list)) i.element) × IsAmong t.spots (record { header = i.header; now = f.now; voids = f.voids })
   pub single : (s : Spot) → IsAmong t.spots s → All (λ (o : Spot). o.header ≡ s.header → o ≡ s) t.spots
+  pub from : (s : Spot) → IsAmong t.spots s → IsFrom t items s
+  pub totals : (x : Spot → ℕ) (g : Item → ℕ)
+      → ((i : Item) → IsAmong items i → (f : IsFilled t.new i.header.offset (span_of i.header (others_of t.list)) i.element) → x (record { header = i.header; now = f.now; voids = f.voids }) ≤ g i)
+      → sum_by x t.spots ≤ sum_by g items
 
 module _ (bytes : List ℕ) (size now_size : Size) (start e now_end last : ℕ) (list : List Header) (items : List Item) (ws : List Write) (behind : List Header)
     (short : length bytes ≤ LONGEST_FILE) (within : e ≤ length bytes) (longer : e ≤ now_end) (reaches : last ≤ e)
@@ -247,6 +260,30 @@ module _ (bytes : List ℕ) (size now_size : Size) (start e now_end last : ℕ) 
       let rest = spot-in js (All-tail (IsItem others) j js are) (All-tail (λ (i : Item). IsAmong ws (write_of others i)) j js one) i later in
       (rest.0, inr rest.1)
 
+  -- Each spot is an item's.
+  from-in : (is : List Item) (are : All (IsItem others) is) (one : All (λ (i : Item). IsAmong ws (write_of others i)) is) (s : Spot) → IsAmong (spots is are one) s → ((i : Item) → IsAmong is i → IsAmong items i) → IsFrom edit items s
+  from-in [] are one s member in_all = absurd member
+  from-in (i ∷ is) are one s (inl same) in_all = record {
+    item = i;
+    member = in_all i (inl refl);
+    fill = fill i (All-head (IsItem others) i is are) (All-head (λ (i : Item). IsAmong ws (write_of others i)) i is one);
+    is = same;
+  }
+  from-in (i ∷ is) are one s (inr later) in_all = from-in is (All-tail (IsItem others) i is are) (All-tail (λ (i : Item). IsAmong ws (write_of others i)) i is one) s later (λ j member. in_all j (inr member))
+
+  -- A sum over the spots is at most the sum of what bounds each.
+  totals-in : (is : List Item) (are : All (IsItem others) is) (one : All (λ (i : Item). IsAmong ws (write_of others i)) is) (x : Spot → ℕ) (g : Item → ℕ)
+      → ((i : Item) → IsAmong is i → (f : Filled i) → x (spot i f) ≤ g i) → sum_by x (spots is are one) ≤ sum_by g is
+  totals-in [] are one x g each = omega arith
+  totals-in (i ∷ is) are one x g each =
+      let f : Filled i = fill i (All-head (IsItem others) i is are) (All-head (λ (i : Item). IsAmong ws (write_of others i)) i is one) in
+      let more : List Spot = spots is (All-tail (IsItem others) i is are) (All-tail (λ (i : Item). IsAmong ws (write_of others i)) i is one) in
+      let here : x (spot i f) ≤ g i = each i (inl refl) f in
+      let rest : sum_by x more ≤ sum_by g is = totals-in is (All-tail (IsItem others) i is are) (All-tail (λ (i : Item). IsAmong ws (write_of others i)) i is one) x g (λ j member. each j (inr member)) in
+      let left : sum_by x (spot i f ∷ more) ≡ x (spot i f) + sum_by x more = sum_by-cons x (spot i f) more in
+      let right : sum_by g (i ∷ is) ≡ g i + sum_by g is = sum_by-cons g i is in
+      omega arith
+
   header-id : (i : Item) → IsItem others i → i.header.id ≡ i.element.id
   header-id i is = first-own i.element.id others i.header is.first
 
@@ -357,4 +394,6 @@ module _ (bytes : List ℕ) (size now_size : Size) (start e now_end last : ℕ) 
       none = λ id written. ids-are (λ n. (n == id) ≡ false) items are one written;
       spots = spot-in items are one;
       single = single-in items are one distinct;
+      from = λ s member. from-in items are one s member (λ i among. among);
+      totals = totals-in items are one;
     }

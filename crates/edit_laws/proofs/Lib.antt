@@ -6,6 +6,8 @@ mod BlockLemmas
 mod ClusterLemmas
 mod TileLemmas
 mod LevelLemmas
+mod LimitLemmas
+mod CountLemmas
 mod ResultLemmas
 mod HeadLemmas
 mod SegmentLemmas
@@ -31,4 +33,5 @@ mod StandLemmas
 mod TickLemmas
 mod PointLemmas
 mod CuesLemmas
+mod IndexedLemmas
 mod AnewLemmas

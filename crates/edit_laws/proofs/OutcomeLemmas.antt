@@ -1,11 +1,12 @@
--- The content of a file after edits, with or without a moved Element.
-use Rattle.std.proofs.Common.{inl, inr, ◌≡◌, ◌⊎◌, ◌<◌, ◌≤◌, ℕ, ◌+◌, ◌^◌, ◌==◌, max, nat_lt, Bool, true, false, ◌||◌, if◌then◌else◌, List, [], ◌∷◌, ◌++◌, length, flat_map, All, Option, Some, None, IfSome, Result, Ok, refl, sym, ◌∙◌, ap, ap₂, subst, arith}
+-- The content of a file after edits, with or without a moved element.
+use Rattle.std.proofs.Common.{inl, inr, ◌≡◌, ◌⊎◌, ◌<◌, ◌≤◌, ℕ, ◌+◌, ◌^◌, ◌==◌, max, nat_lt, not, Bool, true, false, ◌||◌, if◌then◌else◌, List, [], ◌∷◌, ◌++◌, length, length-append, flat_map, All, Option, Some, None, IfSome, Result, Ok, refl, sym, ◌∙◌, ap, ap₂, subst, arith}
 use Rattle.std.specs.List.{list_any}
-use Rattle.std.specs.Prelude.{filter_map}
+use Rattle.std.specs.Prelude.{filter_map, sum_by}
 use Rattle.std.specs.Option.{is_some, option_map, option_map_or}
 use Rattle.std.proofs.lemmas.Bool.{cases_lt}
 use Rattle.std.proofs.lemmas.Bool.Decides.{nat_tests}
 use Rattle.std.proofs.lemmas.List.Elements.{All-nil, All-cons, All-head, All-tail, All-append, All-weaker}
+use Rattle.std.proofs.lemmas.List.Sums.{length-filter, sum_by-append, sum_by-cons}
 use Rattle.ebml_numbers.specs.Number.{AreOctets}
 use Rattle.mkv_schema.specs.declared.ids.TheConstants.{ATTACHMENTS, CHAPTERS, CLUSTER, INFO, SEEK_HEAD, TAGS, TRACKS}
 use Rattle.mkv_io.specs.declared.damage.Damage.{Damage}
@@ -13,11 +14,13 @@ use Rattle.mkv_io.specs.declared.outside.TheConstants.{LONGEST_FILE}
 use Rattle.requests.specs.declared.edit.Edit.{Edit}
 use Rattle.mkv_schema.specs.declared.element.Header.{Header}
 use Rattle.mkv_schema.specs.Elements.{Run, ends_cluster}
-use Rattle.mkv_schema.specs.Outline.{segment_bound, segment_run}
+use Rattle.mkv_schema.specs.Outline.{outlined, segment_bound, segment_run}
 use Rattle.mkv_io.specs.Results.{and_then}
 use Rattle.mkv_schema.specs.Value.{body_of, first_of}
 use Rattle.mkv_schema.proofs.OutlineLemmas.{and_then-ok}
 use Rattle.tree_format.specs.Reading.{tree_of}
+use Rattle.mkv_schema.specs.declared.limits.TheConstants.{MAX_ELEMENTS, MAX_MASTER_LEN, MAX_MASTERS_LEN}
+use Rattle.element_reader.specs.Outline.{shown}
 use Rattle.element_reader.specs.Collected.{others_of}
 use Rattle.element_reader.proofs.OutlineLemmas.{first_in-others}
 use Rattle.output_model.specs.Element.{Element, IsElement, element, headers_in_place, octets_of}
@@ -41,6 +44,8 @@ use Rattle.edit_changes.specs.SeekHead.{SeekHeadAt}
 use Rattle.edit_laws.proofs.AmongLemmas.{IsAmong, all-among, among-left, among-right}
 use Rattle.edit_laws.proofs.SameLemmas.{InOrder}
 use Rattle.edit_laws.specs.Laws.{HoldsEdited, IsOutside, normal_form, tracks_octets}
+use Rattle.edit_laws.proofs.CountLemmas.{described-most, described_len, undescribed}
+use Rattle.edit_laws.proofs.LimitLemmas.{AreWithin, counts, described-sum, outline-there}
 use Rattle.edit_laws.proofs.AgainLemmas.{CanBeRead}
 use Rattle.edit_laws.proofs.HeldLemmas.{IsWritten, first-written, written-again, written-first}
 use Rattle.edit_laws.proofs.ItemLemmas.{AreDistinct, IsItem, IsName, Item, names}
@@ -51,7 +56,7 @@ use Rattle.edit_laws.proofs.PlannedLemmas.{IsPlanned, rest-behind}
 use Rattle.edit_laws.proofs.RestLemmas.{HoldsRest, IsUntouched, rest-stays, stand}
 use Rattle.edit_laws.proofs.SectionLemmas.{AreFirst, first-fit, fit-octets, info-stands, info-there, tracks-stand, trees-fit}
 use Rattle.edit_laws.proofs.TreeLemmas.{AreFit, IsFit, fit-all, info-stays, tracks-stay}
-use Rattle.edit_laws.proofs.WriteLemmas.{AreOf, few-parts, item_at, items-are, items_of, of-append, of-part, of-still, of-writes}
+use Rattle.edit_laws.proofs.WriteLemmas.{AreOf, adds-most, adds-parts, adds_void, described-parts, described_there, few-parts, item_at, items-are, items-few as items_of-few, items_of, of-append, of-part, of-still, of-writes, there-none}
 
 -- ---- Elements that can be rewritten
 
@@ -314,7 +319,9 @@ module _ (bytes : List ℕ) (are_octets : AreOctets bytes) (short : length bytes
       (few : All (λ (i : Item). length (octets_of i.element) ≤ 2 ^ 24) items) (nodes : most_nodes ps ≤ MAX_NODES)
       (untouched : (id : ℕ) → ends_cluster id ≡ true → (id == CLUSTER) ≡ false → (SEEK_HEAD == id) ≡ false → All (λ (i : Item). (i.element.id == id) ≡ false) items → IsUntouched all added id)
       (written : (id : ℕ) (nodes : List Node) (h : Header) → (id == CLUSTER) ≡ false → IsAmong items (item_at nodes h) → first_of id others ≡ Some h
-      → All (λ (i : Item). i.element.id ≡ id → i.element.body ≡ flat_map octets nodes) items → IsWritten new id (flat_map octets nodes) rest.list) where
+      → All (λ (i : Item). i.element.id ≡ id → i.element.body ≡ flat_map octets nodes) items → IsWritten new id (flat_map octets nodes) rest.list)
+      (adds : sum_by (adds_void others) all + length added ≤ 3) (bytes_added : sum_by (described_there others) all + sum_by described_len added ≤ MAX_WRITTEN)
+      (all_short : All (λ (i : Item). described_len i.element ≤ MAX_MASTER_LEN) all) (added_short : All (λ (d : Element). described_len d ≤ MAX_MASTER_LEN) added) where
     section : (id : ℕ) (nodes : List Node) (h : Header) → (id == CLUSTER) ≡ false → CanBeRead id nodes → IsAmong items (item_at nodes h) → first_of id others ≡ Some h
         → All (λ (i : Item). i.element.id ≡ id → i.element.body ≡ flat_map octets nodes) items → normal_form id new rest.segment ≡ Ok (Some (octets (master id 0 (nodes_of nodes))))
     section id nodes h other can member found spells =
@@ -335,6 +342,18 @@ module _ (bytes : List ℕ) (are_octets : AreOctets bytes) (short : length bytes
           section TRACKS t.tracks h refl (can-tracks few nodes h item) (among-right infos tracks (item_at t.tracks h) (subst (λ (is : List Item). IsAmong is (item_at t.tracks h)) (sym item) (inl refl))) found (tracks-spell h item)
     ]
 
+    -- The elements of level 1 are within the limits, if three more are, and as many bytes as an edit may write.
+    new-within : length f.outline.others + 3 ≤ MAX_ELEMENTS → f.outline.held + MAX_WRITTEN ≤ MAX_MASTERS_LEN → AreWithin (segment_run new rest.segment).list
+    new-within room space =
+        let was = op.within in
+        let number : length f.outline.others ≡ sum_by counts list = ap (λ (hs : List Header). length hs) op.others ∙ length-filter (λ (k : Header). not (k.id == CLUSTER)) list in
+        let count = rest.count in
+        let sum = rest.described in
+        let held = op.held in
+        let old_sum = described-sum list in
+        let new_sum = described-sum rest.list in
+        subst AreWithin (sym (ap (λ (r : Run). r.list) rest.run)) (record { count = omega arith; each = rest.short was.each all_short added_short; all = omega arith })
+
     holds : HoldsEdited bytes new f t
     holds = record {
       segment = rest.segment;
@@ -348,7 +367,22 @@ module _ (bytes : List ℕ) (are_octets : AreOctets bytes) (short : length bytes
       chapters = rest.tree CHAPTERS (untouched CHAPTERS names.chapters.level refl refl (neither CHAPTERS refl refl));
       tags = rest.tree TAGS (untouched TAGS names.tags.level refl refl (neither TAGS refl refl));
       blocks = rest.blocks;
+      within = λ room space. (
+        shown new (outlined new f.outline.ebml rest.segment (segment_run new rest.segment)),
+        outline-there new f.outline.ebml rest.segment rest.ebml rest.found (new-within room space),
+      );
     }
+
+  -- A short element keeps the limit of each.
+  few-short : (d : Element) → length (octets_of d) ≤ 2 ^ 24 → described_len d ≤ MAX_MASTER_LEN
+  few-short d few = let most = described-most d in omega arith
+
+  items-few : length items ≤ 2
+  items-few =
+      let one = items_of-few (are_of_info edits) INFO others (info_nodes t.info) in
+      let two = items_of-few (are_of_tracks edits) TRACKS others t.tracks in
+      let all = length-append infos tracks in
+      omega arith
 
   -- ---- nothing moves
 
@@ -382,6 +416,14 @@ module _ (bytes : List ℕ) (are_octets : AreOctets bytes) (short : length bytes
         holds (applied bytes ws) items [] rest-still few nodes
         (λ id level other seek none. record { level = level; other = other; written = none; behind = All-nil (λ (d : Element). (d.id == id) ≡ false) })
         written-still
+        (let most = adds-most others items in let two = items-few in omega arith)
+        (let some = described-parts others ps items are-of in
+        let none : length (appended ps) ≡ 0 = ap (λ (l : List ℕ). length l) (appended-none ps still) in
+        let most = large-none (length_in_place ps) ps large in
+        let nothing : sum_by described_len [] ≡ 0 = refl in
+        omega arith)
+        (All-weaker (λ (i : Item). length (octets_of i.element) ≤ 2 ^ 24) (λ (i : Item). described_len i.element ≤ MAX_MASTER_LEN) (λ i is. few-short i.element is) items few)
+        (All-nil (λ (d : Element). described_len d ≤ MAX_MASTER_LEN))
 
   -- ---- an Element moves
 
@@ -448,6 +490,38 @@ module _ (bytes : List ℕ) (are_octets : AreOctets bytes) (short : length bytes
           | inr has ↦ subst (λ n. IsWritten grown n (flat_map octets nodes) rest-away.list) own (rest-away.stays (item_at nodes h) (inr member) has).0
         ]
 
-    -- The content of the file if an Element moves.
+    short-items : All (λ (i : Item). described_len i.element ≤ MAX_MASTER_LEN) items
+    short-items = All-weaker (λ (i : Item). length (octets_of i.element) ≤ 2 ^ 24) (λ (i : Item). described_len i.element ≤ MAX_MASTER_LEN) (λ i is. few-short i.element is) items few-moving
+
+    -- A SeekHead has no limited bytes.
+    head-none : described_len seeks ≡ 0
+    head-none = undescribed seeks refl refl refl refl
+
+    short-away : All (λ (i : Item). described_len i.element ≤ MAX_MASTER_LEN) all
+    short-away = All-cons (λ (i : Item). described_len i.element ≤ MAX_MASTER_LEN) (record { header = s.header; element = seeks }) items (let none = head-none in omega arith) short-items
+
+    adds-away : sum_by (adds_void others) all + length (moved_first ∷ moved_more) ≤ 3
+    adds-away =
+        let head : Item = record { header = s.header; element = seeks } in
+        let one = adds-most others (head ∷ []) in
+        let both = sum_by-append (adds_void others) (head ∷ []) items in
+        let parts = adds-parts others ps items are-of in
+        let two = items-few in
+        let moved : length (elements_moving ps) ≡ length (moved_first ∷ moved_more) = ap (λ (es : List Element). length es) moved_are in
+        omega arith
+
+    bytes-away : sum_by (described_there others) all + sum_by described_len (moved_first ∷ moved_more) ≤ MAX_WRITTEN
+    bytes-away =
+        let head : Item = record { header = s.header; element = seeks } in
+        let none = there-none others head head-none in
+        let both = sum_by-cons (described_there others) head items in
+        let parts = described-parts others ps items are-of in
+        let moved : sum_by described_len (elements_moving ps) ≡ sum_by described_len (moved_first ∷ moved_more) = ap (sum_by described_len) moved_are in
+        let most = small in
+        omega arith
+
+    -- The content of the file if an element moves.
     pub moved-away : HoldsEdited bytes grown f t
-    moved-away = holds grown all (moved_first ∷ moved_more) rest-away few-moving nodes-moving untouched-away written-away
+    moved-away =
+        holds grown all (moved_first ∷ moved_more) rest-away few-moving nodes-moving untouched-away written-away
+        adds-away bytes-away short-away (of-items (λ d. described_len d ≤ MAX_MASTER_LEN) short-items)

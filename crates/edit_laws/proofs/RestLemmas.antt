@@ -1,5 +1,7 @@
 -- The content that stays if some Elements of level 1 are rewritten, with or without Elements after the old end.
 use Rattle.std.proofs.Common.{inl, inr, ◌≡◌, ◌⊎◌, ◌<◌, ◌≤◌, ℕ, ◌+◌, ◌-◌, ◌^◌, ◌==◌, min, Bool, true, false, if◌then◌else◌, List, [], ◌∷◌, ◌++◌, length, length-append, append-nil, All, None, Some, Ok, refl, sym, ◌∙◌, ap, ap₂, subst, arith}
+use Rattle.std.specs.Prelude.{sum_by}
+use Rattle.std.proofs.lemmas.Bool.Decides.{nat_tests}
 use Rattle.std.proofs.lemmas.List.Elements.{All-nil, All-head, All-weaker}
 use Rattle.ebml_numbers.specs.declared.number.Size.{Size}
 use Rattle.ebml_numbers.specs.declared.number.Size.TheVariants.{Known, Unknown}
@@ -10,10 +12,11 @@ use Rattle.mkv_io.specs.declared.outside.TheConstants.{LONGEST_FILE}
 use Rattle.mkv_schema.specs.declared.element.Header.{Header}
 use Rattle.mkv_schema.specs.Element.{at_level_0, body_damage, element_at, end_in, in_segment, is_unknown, known, octets_between, stated_end}
 use Rattle.mkv_schema.specs.Elements.{ends_cluster, ends_segment, level_1}
-use Rattle.mkv_schema.specs.Outline.{ebml_header, segment_bound, segment_of, segment_run}
+use Rattle.mkv_schema.specs.declared.limits.TheConstants.{MAX_MASTER_LEN}
+use Rattle.mkv_schema.specs.Outline.{ebml_header, is_described, segment_bound, segment_of, segment_run}
 use Rattle.mkv_schema.specs.Value.{first_of}
 use Rattle.mkv_schema.proofs.ElementLemmas.{element_at-placed, length-octets_between}
-use Rattle.element_reader.specs.Collected.{others_of}
+use Rattle.element_reader.specs.Collected.{described_octets, others_of}
 use Rattle.element_reader.specs.Outline.{FileOutline}
 use Rattle.element_reader.proofs.OutlineLemmas.{first_in-others}
 use Rattle.output_model.specs.Element.{Element, HoldsAt, IsElement, element, header_in_place, header_of, headers_in_place, joined, octets_of}
@@ -38,10 +41,12 @@ use Rattle.edit_laws.proofs.HeaderLemmas.{found-same, found-sound}
 use Rattle.edit_laws.proofs.HeadLemmas.{header-long, header-same, sound-longer}
 use Rattle.edit_laws.proofs.SegmentLemmas.{IsSegment, segment-is, segment-same}
 use Rattle.edit_laws.proofs.BlockLemmas.{AreAlike}
-use Rattle.edit_laws.proofs.TileLemmas.{advances-level, level, run_of, Stands, tiled, whole}
-use Rattle.edit_laws.proofs.LevelLemmas.{Edit, Spot, IsSpot, level-within, new_level}
+use Rattle.edit_laws.proofs.TileLemmas.{advances-level, level, run_of, Stands, Tiles, tiled, whole}
+use Rattle.edit_laws.proofs.LevelLemmas.{Edit, Spot, IsSpot, all_now, level-within, new_level}
+use Rattle.edit_laws.proofs.LimitLemmas.{IsShort, counts}
+use Rattle.edit_laws.proofs.CountLemmas.{becomes-all, becomes-sum, described_len, headers-count, headers-described, headers-short, passed-most, spot-count, spot-described, spot-short, void-undescribed}
 use Rattle.edit_laws.proofs.ResultLemmas.{cluster-kept, events-skip, first-behind, first-moved, first-skips, first-stays}
-use Rattle.edit_laws.proofs.FillLemmas.{IsFilled, small-widen}
+use Rattle.edit_laws.proofs.FillLemmas.{IsFilled, Stands as FillsRoom, small-widen}
 use Rattle.edit_laws.proofs.HeldLemmas.{IsWritten, attached-same, data-same, first-tree, in-place, same-blocks, same-undamaged}
 use Rattle.edit_laws.proofs.ItemLemmas.{AreDistinct, IsAnew, IsInside, IsItem, IsName, Item, goes-on, write_of}
 use Rattle.edit_laws.proofs.OpenedLemmas.{IsOpened}
@@ -49,7 +54,7 @@ use Rattle.edit_laws.proofs.EndLemmas.{CanGrow, alone-first, bound-total, ends-t
 use Rattle.edit_laws.proofs.MoveLemmas.{moved, moved-anew}
 use Rattle.edit_laws.proofs.RoomLemmas.{tiles-stand}
 use Rattle.edit_laws.proofs.StayLemmas.{same-length, same-outside, stays, stays-anew}
-use Rattle.edit_laws.proofs.WriteLemmas.{inside-room, one-ascending, one-items, touches-append, touches-ascending, touches-items, writes_of}
+use Rattle.edit_laws.proofs.WriteLemmas.{adds_void, described_there, inside-room, moves_from, one-ascending, one-items, touches-append, touches-ascending, touches-items, writes_of}
 use Rattle.edit_laws.specs.Laws.{IsOutside, attached_data}
 
 -- ---- content that stays
@@ -66,8 +71,9 @@ pub record HoldsCluster (old new : List ℕ) (was now h : Header) : Type 0 where
   pub found : element_at in_segment new h.offset (segment_bound new now) ≡ Ok h
   pub alike : (r : Rules) → AreAlike (found_in r old (segment_bound old was) h) (found_in r new (segment_bound new now) h)
 
--- The new content holds the rest of the old one. Level 1 is undamaged. Clusters, blocks and other Elements that aren't rewritten stay in their
--- places, and no damage is added. A rewritten Element is in its place; or, if it is the only one with its ID, after the old end or nowhere.
+-- The new content holds the rest of the old one. Level 1 is undamaged. Clusters, blocks and other elements that aren't rewritten stay in their
+-- places, and no damage is added. A rewritten element is in its place; or, if it is the only one with its ID, after the old end or nowhere. Each adds a
+-- Void at most.
 pub record HoldsRest (old new : List ℕ) (o : FileOutline) (was : List Header) (items : List Item) (added : List Element) : Type 0 where
   pub segment : Header
   pub ebml : ebml_header new ≡ Ok o.ebml
@@ -83,6 +89,9 @@ pub record HoldsRest (old new : List ℕ) (o : FileOutline) (was : List Header) 
   pub file_data : (files : List AttachedFile) → IsUntouched items added ATTACHMENTS → first_attached old o.segment ≡ Ok files → attached_data new segment ≡ attached_data old o.segment
   pub blocks : (r : Rules) → blocks_of (events_of r new segment) ≡ blocks_of (events_of r old o.segment)
   pub undamaged : (r : Rules) → damages_of (events_of r old o.segment) ≡ [] → damages_of (events_of r new segment) ≡ []
+  pub count : sum_by counts list ≤ sum_by counts was + sum_by (adds_void (others_of was)) items + length added
+  pub described : sum_by described_octets list ≤ sum_by described_octets was + sum_by (described_there (others_of was)) items + sum_by described_len added
+  pub short : All IsShort was → All (λ (i : Item). described_len i.element ≤ MAX_MASTER_LEN) items → All (λ (d : Element). described_len d ≤ MAX_MASTER_LEN) added → All IsShort list
   pub clusters : (h : Header) → (h.id == CLUSTER) ≡ true → IsAmong was h → HoldsCluster old new o.segment segment h
   pub stays : (i : Item) → IsAmong items i → length (octets_of i.element) ≤ span_of i.header (others_of was) → (w : IsWritten new i.element.id i.element.body list) × (w.place ≡ i.header.offset)
   pub moves : (i : Item) → IsAmong items i → span_of i.header (others_of was) < length (octets_of i.element) → number_of i.element.id (others_of was) ≤ 1
@@ -180,6 +189,74 @@ module _ (t : Edit) (o : FileOutline) (items : List Item) (added : List Element)
           ∙ ap (first_of i.element.id) behind
     ]
 
+  -- ---- the number and the length of the new elements
+
+  old-tiles : Tiles (level t.old o.segment.size (segment_bound t.old o.segment)) o.segment.body t.list t.last
+  old-tiles = (tiled (level t.old o.segment.size (segment_bound t.old o.segment)) o.segment.body t.last t.list (advances-level t.old o.segment.size (segment_bound t.old o.segment)) old_run).tiles
+
+  -- The sum over the new elements is at most the old sum, what the items add, and the sum over the elements after the old end.
+  sum-most : (f : Header → ℕ) (x : Spot → ℕ) (g : Item → ℕ) → ((s : Spot) → IsAmong t.spots s → IsSpot t s → sum_by f (headers_in_place s.header.offset (all_now s)) ≤ f s.header + x s)
+      → ((i : Item) → IsAmong items i → (fill : IsFilled t.new i.header.offset (span_of i.header (others_of t.list)) i.element) → x (record { header = i.header; now = fill.now; voids = fill.voids }) ≤ g i)
+      → sum_by f anew.listed.list ≤ sum_by f t.list + sum_by g items + sum_by f (headers_in_place (length t.old) added)
+  sum-most f x g spots each =
+      let all = becomes-sum t f x spots t.list anew.listed.list anew.listed.becomes in
+      let some = passed-most (level t.old o.segment.size (segment_bound t.old o.segment)) (advances-level t.old o.segment.size (segment_bound t.old o.segment)) x t.spots o.segment.body t.last t.list old-tiles in
+      let total = anew.totals x g each in
+      let tail : sum_by f t.behind ≡ sum_by f (headers_in_place (length t.old) added) = ap (sum_by f) behind in
+      omega arith
+
+  -- A filled room has a Void after its element, or a Void alone.
+  fill-count : (i : Item) (fill : IsFilled t.new i.header.offset (span_of i.header (others_of t.list)) i.element) → length fill.voids ≤ adds_void (others_of t.list) i
+  fill-count i fill = of (moves_from (others_of t.list) i) refl fill.is
+    where
+      of : (test : Bool) → moves_from (others_of t.list) i ≡ test → FillsRoom fill.now fill.voids (span_of i.header (others_of t.list)) i.element → length fill.voids ≤ (if test then 0 else 1)
+      of true is (inl (same, body, room)) = absurd (let wrong : span_of i.header (others_of t.list) < length (octets_of i.element) = grind (arith, nat_tests) in omega arith)
+      of true is (inr (void, alone, long)) = (let none : length fill.voids ≡ 0 = ap (λ (l : List Element). length l) alone in omega arith)
+      of false is filled = fill.few
+
+  fill-described : (i : Item) (fill : IsFilled t.new i.header.offset (span_of i.header (others_of t.list)) i.element) → described_len fill.now ≤ described_there (others_of t.list) i
+  fill-described i fill = of (moves_from (others_of t.list) i) refl fill.is
+    where
+      of : (test : Bool) → moves_from (others_of t.list) i ≡ test → FillsRoom fill.now fill.voids (span_of i.header (others_of t.list)) i.element → described_len fill.now ≤ (if test then 0 else described_len i.element)
+      of true is (inl (same, body, room)) = absurd (let wrong : span_of i.header (others_of t.list) < length (octets_of i.element) = grind (arith, nat_tests) in omega arith)
+      of true is (inr (void, alone, long)) = (let none = void-undescribed fill.now void in omega arith)
+      of false is (inl (same, body, room)) = (let equal : described_len fill.now ≡ described_len i.element = ap₂ (λ n (l : List ℕ). if is_described n then length l else 0) same body in omega arith)
+      of false is (inr (void, alone, long)) = (let none = void-undescribed fill.now void in omega arith)
+
+  count-most : sum_by counts anew.listed.list ≤ sum_by counts t.list + sum_by (adds_void (others_of t.list)) items + length added
+  count-most =
+      let all = sum-most counts (λ (s : Spot). length s.voids) (adds_void (others_of t.list)) (λ s member spot. spot-count t s spot) (λ i member fill. fill-count i fill) in
+      let tail = headers-count (length t.old) added in
+      omega arith
+
+  described-most : sum_by described_octets anew.listed.list ≤ sum_by described_octets t.list + sum_by (described_there (others_of t.list)) items + sum_by described_len added
+  described-most =
+      let all = sum-most described_octets (λ (s : Spot). described_len s.now) (described_there (others_of t.list)) (λ s member spot. spot-described t s spot) (λ i member fill. fill-described i fill) in
+      let tail = headers-described (length t.old) added in
+      omega arith
+
+  -- A rewritten element keeps the limit if its item does.
+  now-short : All (λ (i : Item). described_len i.element ≤ MAX_MASTER_LEN) items → (s : Spot) → IsAmong t.spots s → described_len s.now ≤ MAX_MASTER_LEN
+  now-short few s member =
+      let of = anew.from s member in
+      let own = all-among (λ (i : Item). described_len i.element ≤ MAX_MASTER_LEN) items of.item few of.member in
+      let most = fill-described of.item of.fill in
+      let there = there-most of.item in
+      let same : described_len of.fill.now ≡ described_len s.now = ap (λ (x : Spot). described_len x.now) of.is in
+      omega arith
+    where
+      there-most : (i : Item) → described_there (others_of t.list) i ≤ described_len i.element
+      there-most i = cases (moves_from (others_of t.list) i)
+        where
+          cases : (test : Bool) → (if test then 0 else described_len i.element) ≤ described_len i.element
+          cases true = omega arith
+          cases false = omega arith
+
+  all-short : All IsShort t.list → All (λ (i : Item). described_len i.element ≤ MAX_MASTER_LEN) items → All (λ (d : Element). described_len d ≤ MAX_MASTER_LEN) added → All IsShort anew.listed.list
+  all-short old few more =
+      becomes-all t IsShort (λ s member spot. spot-short t s spot (now-short few s member))
+      (subst (All IsShort) (sym behind) (headers-short (length t.old) added more)) t.list anew.listed.list old anew.listed.becomes
+
   rest-of : HoldsAt t.new (length t.old) (joined added) → ebml_header t.new ≡ Ok o.ebml → segment_of t.new o.ebml ≡ Ok now → now.body ≡ o.segment.body → HoldsRest t.old t.new o t.list items added
   rest-of held ebml found body = record {
     segment = now;
@@ -196,6 +273,9 @@ module _ (t : Edit) (o : FileOutline) (items : List Item) (added : List Element)
     file_data = λ files is old. data-same t anew.listed o.segment now old_run new_run old_bound new_bound files (anew.none ATTACHMENTS is.written) (none-behind ATTACHMENTS is.behind) old;
     blocks = λ r. same-blocks t anew.listed o.segment now old_run new_run old_bound new_bound r (no-events r) (anew.none CLUSTER no-cluster);
     undamaged = λ r. same-undamaged t anew.listed o.segment now old_run new_run old_bound new_bound r (no-events r) (anew.none CLUSTER no-cluster);
+    count = count-most;
+    described = described-most;
+    short = all-short;
     clusters = cluster-holds;
     stays = item-stays;
     moves = item-moves;

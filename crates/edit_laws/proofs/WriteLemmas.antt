@@ -6,7 +6,7 @@ use Rattle.std.specs.Prelude.{filter, filter_map, sum_by}
 use Rattle.std.specs.Option.{option_and_then, option_map_or, unwrap_or}
 use Rattle.std.proofs.lemmas.List.{length-append}
 use Rattle.std.proofs.lemmas.List.Elements.{All-head, All-tail, All-nil, All-cons, All-weaker}
-use Rattle.std.proofs.lemmas.List.Sums.{sum_by-cons}
+use Rattle.std.proofs.lemmas.List.Sums.{sum_by-cons, sum_by_push}
 use Rattle.std.proofs.lemmas.Bool.Decides.{nat_tests}
 use Rattle.ebml_numbers.specs.Number.{is_id}
 use Rattle.ebml_numbers.proofs.NumberLemmas.{is_id-bounds}
@@ -24,6 +24,7 @@ use Rattle.edit_plan.proofs.VoidLemmas.{first-room}
 use Rattle.edit_plan.proofs.PartLemmas.{first-own}
 use Rattle.edit_plan.proofs.FitLemmas.{fills-place, wider-length}
 use Rattle.edit_laws.proofs.AmongLemmas.{IsAmong}
+use Rattle.edit_laws.proofs.CountLemmas.{described-most, described_len}
 use Rattle.edit_laws.proofs.SameLemmas.{InOrder}
 use Rattle.edit_laws.proofs.FillLemmas.{small-widen}
 use Rattle.edit_laws.proofs.ItemLemmas.{Item, IsName, IsItem, IsInside, write_of}
@@ -148,6 +149,14 @@ AreOf list (p ∷ ps) (i ∷ is) = IsOf list p i × AreOf list ps is
 abbrev pub moves_from : List Header → Item → Bool
 moves_from list i = nat_lt (span_of i.header list) (length (octets_of i.element))
 
+-- the number of Voids that an item adds: one, unless it moves
+abbrev pub adds_void : List Header → Item → ℕ
+adds_void list i = if moves_from list i then 0 else 1
+
+-- the limited bytes of an item in its place, or 0 if it moves
+abbrev pub described_there : List Header → Item → ℕ
+described_there list i = if moves_from list i then 0 else described_len i.element
+
 pub of-moves : (list : List Header) (p : Part) (i : Item) → IsOf list p i → moves p ≡ moves_from list i
 of-moves list p i is =
     ap (λ (new : Option Element). option_map_or (λ e. nat_lt p.room (length (octets_of e))) new false) is.new
@@ -155,6 +164,15 @@ of-moves list p i is =
 
 of-stands : (list : List Header) (p : Part) (i : Item) → IsOf list p i → stands p ≡ true
 of-stands list p i is = (let some = is.some in grind (arith, nat_tests))
+
+-- A part that moves is the first of those that move.
+moving-more : (list : List Header) (p : Part) (i : Item) (ps : List Part) → IsOf list p i → moves_from list i ≡ true → elements_moving (p ∷ ps) ≡ i.element ∷ elements_moving ps
+moving-more list p i ps is test =
+    ap (λ (b : Bool). filter_map (λ (q : Part). q.element) (if b then p ∷ moving ps else moving ps)) (of-moves list p i is ∙ test)
+    ∙ ap (λ (new : Option Element). cons_option new (elements_moving ps)) is.new
+
+moving-same : (list : List Header) (p : Part) (i : Item) (ps : List Part) → IsOf list p i → moves_from list i ≡ false → elements_moving (p ∷ ps) ≡ elements_moving ps
+moving-same list p i ps is test = ap (λ (b : Bool). filter_map (λ (q : Part). q.element) (if b then p ∷ moving ps else moving ps)) (of-moves list p i is ∙ test)
 
 pub of-moving : (list : List Header) (ps : List Part) (is : List Item) → AreOf list ps is → elements_moving ps ≡ map (λ (i : Item). i.element) (filter (moves_from list) is)
 of-moving list [] [] are = refl
@@ -259,6 +277,101 @@ few-parts list (p ∷ ps) (i ∷ is) are =
 
     more : (j : Item) → length (octets_of j.element) ≤ length_in_place ps + length (appended ps) → length (octets_of j.element) ≤ length_in_place (p ∷ ps) + length (appended (p ∷ ps))
     more j few = (let both = moved (moves p) refl in let two = both.1 in omega (arith, sum))
+
+-- ---- elements and bytes that items add
+
+-- An item without limited bytes has none in its place.
+pub there-none : (list : List Header) (i : Item) → described_len i.element ≡ 0 → described_there list i ≡ 0
+there-none list i none = of (moves_from list i)
+  where
+    of : (test : Bool) → (if test then 0 else described_len i.element) ≡ 0
+    of true = refl
+    of false = none
+
+-- Each item adds at most one Void.
+pub adds-most : (list : List Header) (is : List Item) → sum_by (adds_void list) is ≤ length is
+adds-most list [] = omega arith
+adds-most list (i ∷ is) =
+    let all = sum_by-cons (adds_void list) i is in let rest = adds-most list is in let one = of (moves_from list i) in omega arith
+  where
+    of : (test : Bool) → (if test then 0 else 1) ≤ 1
+    of true = omega arith
+    of false = omega arith
+
+-- Of two items the second one moves.
+pub adds-moved : (list : List Header) (i j : Item) → span_of j.header list < length (octets_of j.element) → sum_by (adds_void list) (i ∷ j ∷ []) ≤ 1
+adds-moved list i j long =
+    let test : moves_from list j ≡ true = grind (arith, nat_tests) in
+    let here : adds_void list j ≡ 0 = ap (λ (b : Bool). if b then 0 else 1) test in
+    let one = adds-most list (i ∷ []) in
+    let all = sum_by_push (adds_void list) (i ∷ []) j in
+    omega arith
+
+-- An item adds a Void at most, or itself after the old end.
+pub adds-parts : (list : List Header) (ps : List Part) (is : List Item) → AreOf list ps is → sum_by (adds_void list) is + length (elements_moving ps) ≡ length is
+adds-parts list [] [] are = omega arith
+adds-parts list [] (i ∷ is) are = absurd are
+adds-parts list (p ∷ ps) [] are = absurd are
+adds-parts list (p ∷ ps) (i ∷ is) are = of (adds-parts list ps is are.1) (moves_from list i) refl
+  where
+    all : sum_by (adds_void list) (i ∷ is) ≡ adds_void list i + sum_by (adds_void list) is
+    all = sum_by-cons (adds_void list) i is
+
+    of : sum_by (adds_void list) is + length (elements_moving ps) ≡ length is → (test : Bool) → moves_from list i ≡ test → sum_by (adds_void list) (i ∷ is) + length (elements_moving (p ∷ ps)) ≡ length (i ∷ is)
+    of rest true test =
+        let here : adds_void list i ≡ 0 = ap (λ (b : Bool). if b then 0 else 1) test in
+        let more : length (elements_moving (p ∷ ps)) ≡ 1 + length (elements_moving ps) =
+        ap (λ (es : List Element). length es) (moving-more list p i ps are.0 test) ∙ (let one : length (i.element ∷ elements_moving ps) ≡ 1 + length (elements_moving ps) = omega arith in one) in
+        omega (arith, all)
+    of rest false test =
+        let here : adds_void list i ≡ 1 = ap (λ (b : Bool). if b then 0 else 1) test in
+        let same : length (elements_moving (p ∷ ps)) ≡ length (elements_moving ps) = ap (λ (es : List Element). length es) (moving-same list p i ps are.0 test) in
+        omega (arith, all)
+
+-- The limited bytes of the new elements are among the written bytes.
+pub described-parts : (list : List Header) (ps : List Part) (is : List Item) → AreOf list ps is → sum_by (described_there list) is + sum_by described_len (elements_moving ps) ≤ length_in_place ps + length (appended ps)
+described-parts list [] [] are = omega arith
+described-parts list [] (i ∷ is) are = absurd are
+described-parts list (p ∷ ps) [] are = absurd are
+described-parts list (p ∷ ps) (i ∷ is) are = of (described-parts list ps is are.1) (moves_from list i) refl
+  where
+    all : sum_by (described_there list) (i ∷ is) ≡ described_there list i + sum_by (described_there list) is
+    all = sum_by-cons (described_there list) i is
+
+    sum : length_in_place (p ∷ ps) ≡ length (overwrite_or_void p) + length_in_place ps
+    sum = ap (λ (b : Bool). sum_by (λ (q : Part). length (overwrite_or_void q)) (if b then p ∷ filter stands ps else filter stands ps)) (of-stands list p i are.0)
+        ∙ sum_by-cons (λ (q : Part). length (overwrite_or_void q)) p (filter stands ps)
+
+    most : described_len i.element ≤ length (octets_of i.element)
+    most = described-most i.element
+
+    of : sum_by (described_there list) is + sum_by described_len (elements_moving ps) ≤ length_in_place ps + length (appended ps) → (test : Bool) → moves_from list i ≡ test
+        → sum_by (described_there list) (i ∷ is) + sum_by described_len (elements_moving (p ∷ ps)) ≤ length_in_place (p ∷ ps) + length (appended (p ∷ ps))
+    of rest true test =
+        let here : described_there list i ≡ 0 = ap (λ (b : Bool). if b then 0 else described_len i.element) test in
+        let moved = moving-more list p i ps are.0 test in
+        let more : sum_by described_len (elements_moving (p ∷ ps)) ≡ described_len i.element + sum_by described_len (elements_moving ps) = ap (sum_by described_len) moved ∙ sum_by-cons described_len i.element (elements_moving ps) in
+        let bytes : length (appended (p ∷ ps)) ≡ length (octets_of i.element) + length (appended ps) = ap (λ (es : List Element). length (flat_map octets_of es)) moved ∙ length-append (octets_of i.element) (appended ps) in
+        omega (arith, all, sum, most)
+    of rest false test =
+        let here : described_there list i ≡ described_len i.element = ap (λ (b : Bool). if b then 0 else described_len i.element) test in
+        let still = moving-same list p i ps are.0 test in
+        let more : sum_by described_len (elements_moving (p ∷ ps)) ≡ sum_by described_len (elements_moving ps) = ap (sum_by described_len) still in
+        let bytes : length (appended (p ∷ ps)) ≡ length (appended ps) = ap (λ (es : List Element). length (flat_map octets_of es)) still in
+        let fits : length (octets_of i.element) ≤ span_of i.header list = grind (arith, nat_tests) in
+        let room = are.0.room in
+        let long = fitted-long i.element p.room (void_header p.room) (omega arith) in
+        let placed : length (overwrite_or_void p) ≡ length (unwrap_or (fitted i.element p.room) (void_header p.room)) = ap (λ (new : Option Element). length (unwrap_or (option_and_then (λ e. fitted e p.room) new) (void_header p.room))) are.0.new in
+        omega (arith, all, sum, most)
+
+-- There is one item or none.
+pub items-few : (written : Bool) (id : ℕ) (list : List Header) (nodes : List Node) → length (items_of written id list nodes) ≤ 1
+items-few false id list nodes = omega arith
+items-few true id list nodes = of (first_of id list)
+  where
+    of : (first : Option Header) → length (option_map_or (λ h. item_at nodes h ∷ []) first []) ≤ 1
+    of None = omega arith
+    of (Some h) = omega arith
 
 -- Items of Info or Tracks can be rewritten.
 pub items-are : (written : Bool) (id : ℕ) (list : List Header) (nodes : List Node) → IsName id → is_id id ≡ true → All (λ (i : Item). length (octets_of i.element) ≤ 2 ^ 24) (items_of written id list nodes) → All (IsItem list) (items_of written id list nodes)

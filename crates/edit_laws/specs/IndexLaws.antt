@@ -1,14 +1,16 @@
 -- The relation of a file's index to the file: RFC 9559, sections 5.1.5 (Cues Element), 11 (Timestamps) and 16 (Segment Position).
-use Rattle.std.specs.Prelude.{◌≡◌, ◌≤◌, ◌/◌, ℕ, pos, true, List, [], ◌++◌, length, map, filter, filter_map, flat_map, take, None, Some, Ok}
+use Rattle.std.specs.Prelude.{◌≡◌, ◌≤◌, ◌+◌, ◌/◌, ℕ, pos, true, List, [], ◌++◌, length, map, filter, filter_map, flat_map, take, None, Some, Ok}
 use Rattle.std.specs.List.{All, AllZip, Contains}
 use Rattle.std.specs.Option.{option_map}
 use Rattle.ebml_numbers.specs.Number.{AreOctets}
 use Rattle.mkv_schema.specs.declared.ids.TheConstants.{CHAPTERS, CLUSTER, INFO, SEEK_HEAD, TAGS, TRACKS}
+use Rattle.mkv_schema.specs.declared.limits.TheConstants.{MAX_ELEMENTS}
 use Rattle.mkv_io.specs.declared.outside.TheConstants.{LONGEST_FILE}
 use Rattle.mkv_schema.specs.declared.element.Header.{Header}
 use Rattle.mkv_schema.specs.Element.{in_segment, element_at}
 use Rattle.mkv_schema.specs.Outline.{ebml_header, segment_bound, segment_of, segment_run}
 use Rattle.mkv_schema.specs.Value.{body_of, first_of}
+use Rattle.element_reader.specs.Outline.{FileOutline}
 use Rattle.tree_format.specs.Node.{Node, children}
 use Rattle.tree_format.specs.NormalForm.{octets}
 use Rattle.file_format.specs.Info.{file_scale}
@@ -100,7 +102,8 @@ pub record HasSeeksOf (ids : List ℕ) (old new : List ℕ) (was now : Header) :
 
 -- The file `new` with a new index holds the content of `old`. The EBML header, the first Info, Tracks, Chapters and Tags, the attached files with
 -- their data, and the blocks are the old ones, at their places. The Cues has the points `points`, and each points at its block. The SeekHead has a
--- Seek of the first Info, Tracks, Attachments, Cues, Chapters and Tags. There is no damage.
+-- Seek of the first Info, Tracks, Attachments, Cues, Chapters and Tags. There is no damage. The file can be indexed again, if `old` has room for
+-- two more elements at level 1.
 pub record HoldsIndex (old new : List ℕ) (f : EditableFile) (points : List CuePoint) : Type 0 where
   pub segment : Header
   pub ebml : ebml_header new ≡ Ok f.outline.ebml
@@ -118,6 +121,7 @@ pub record HoldsIndex (old new : List ℕ) (f : EditableFile) (points : List Cue
   pub cues : CuesAre new (segment_run new segment).list points
   pub points_at : All (PointsAtBlock (file_scale new segment) new segment) points
   pub seeks : HasSeeksOf index_ids old new f.outline.segment segment
+  pub again : length f.outline.others + 2 ≤ MAX_ELEMENTS → (o : FileOutline) × (indexable new ≡ Ok (record { outline = o; trees = f.trees }))
 
 -- A file whose Cues are rewritten holds its old content and its index.
 abbrev pub NewIndexIsWhole : Type 0

@@ -4,6 +4,7 @@ use Rattle.std.specs.List.{All}
 use Rattle.std.specs.Option.{option_map}
 use Rattle.ebml_numbers.specs.Number.{AreOctets}
 use Rattle.mkv_schema.specs.declared.ids.TheConstants.{INFO, TRACKS, CHAPTERS, TAGS, TIMESTAMP, SIMPLE_BLOCK, BLOCK_GROUP}
+use Rattle.mkv_schema.specs.declared.limits.TheConstants.{MAX_ELEMENTS, MAX_MASTERS_LEN}
 use Rattle.mkv_io.specs.declared.damage.Damage.{Damage}
 use Rattle.mkv_io.specs.declared.outside.TheConstants.{LONGEST_FILE}
 use Rattle.requests.specs.declared.edit.Edit.{Edit}
@@ -11,12 +12,14 @@ use Rattle.mkv_schema.specs.declared.element.Header.{Header}
 use Rattle.mkv_schema.specs.Element.{octets_between}
 use Rattle.mkv_schema.specs.Outline.{ebml_header, segment_of, segment_run}
 use Rattle.mkv_io.specs.Results.{and_then}
+use Rattle.element_reader.specs.Outline.{FileOutline, outline_in}
 use Rattle.tree_format.specs.Node.{Node, master, nodes_of}
 use Rattle.tree_format.specs.NormalForm.{octets}
 use Rattle.block_format.specs.Elements.{Rules}
 use Rattle.block_format.specs.Events.{blocks_of, events_of}
 use Rattle.meta_records.specs.Attached.{AttachedFile, first_attached}
 use Rattle.meta_records.specs.Records.{first_tree}
+use Rattle.edit_changes.specs.declared.refusal.TheConstants.{MAX_WRITTEN}
 use Rattle.edit_changes.specs.declared.trees.Trees.{Trees}
 use Rattle.edit_changes.specs.Change.{edited_trees}
 use Rattle.edit_changes.specs.Records.{EditableFile, editable}
@@ -45,7 +48,8 @@ pub record IsOutside (h : Header) : Type 0 where
   pub group : (h.id == BLOCK_GROUP) ≡ false
 
 -- The edited file `new` holds the content of `old`, with the edited trees `t`. Info and Tracks are the edited ones. The attached files, their
--- data, Chapters and Tags are the old ones, at their places, and so are the blocks, with any scale.
+-- data, Chapters and Tags are the old ones, at their places, and so are the blocks, with any scale. A reader with limits finds its outline, if
+-- `old` has room for three more elements at level 1 and for the bytes of an edit in Info and Tracks.
 pub record HoldsEdited (old new : List ℕ) (f : EditableFile) (t : Trees) : Type 0 where
   pub segment : Header
   pub ebml : ebml_header new ≡ Ok f.outline.ebml
@@ -58,6 +62,7 @@ pub record HoldsEdited (old new : List ℕ) (f : EditableFile) (t : Trees) : Typ
   pub chapters : first_tree CHAPTERS new segment ≡ first_tree CHAPTERS old f.outline.segment
   pub tags : first_tree TAGS new segment ≡ first_tree TAGS old f.outline.segment
   pub blocks : (r : Rules) → blocks_of (events_of r new segment) ≡ blocks_of (events_of r old f.outline.segment)
+  pub within : length f.outline.others + 3 ≤ MAX_ELEMENTS → f.outline.held + MAX_WRITTEN ≤ MAX_MASTERS_LEN → (o : FileOutline) × (outline_in 0 new ≡ Ok o)
 
 -- An edited file holds the content of the old file, except for what the edits change.
 abbrev pub EditsChangeNothingElse : Type 0
