@@ -24,11 +24,10 @@ pub record CanBeRead (id : ℕ) (nodes : List Node) : Type 0 where
   pub short : length (flat_map octets nodes) ≤ longest
   pub few : kept_all (nodes_of nodes) + 1 ≤ MAX_NODES
 
-pub again : (id : ℕ) (nodes : List Node) (new : List ℕ) (p : ℕ) (d : Element) → CanBeRead id nodes → d.id ≡ id → d.body ≡ flat_map octets nodes → HoldsAt new p (octets_of d)
-    → and_then (tree_at new (Some (header_in_place p d))) (λ (n : Option Node). Ok (option_map octets n)) ≡ Ok (Some (octets (master id 0 (nodes_of nodes))))
-again id nodes new p d can own body held =
-    ap (λ (r : Result Node Damage). and_then (and_then r (λ tree. Ok (Some tree))) (λ (n : Option Node). Ok (option_map octets n))) tree_is
-    ∙ ap (λ (o : List ℕ). Ok (Some (kept_octets id o))) (octets_all-placed (nodes_of nodes) g.body)
+-- It is read as it was written, with the places after writing.
+pub again-tree : (id : ℕ) (nodes : List Node) (new : List ℕ) (p : ℕ) (d : Element) → CanBeRead id nodes → d.id ≡ id → d.body ≡ flat_map octets nodes → HoldsAt new p (octets_of d)
+    → tree_at new (Some (header_in_place p d)) ≡ Ok (Some (master id p (placed_all (header_in_place p d).body (nodes_of nodes))))
+again-tree id nodes new p d can own body held = ap (λ (r : Result Node Damage). and_then r (λ tree. Ok (Some tree))) tree_is
   where
     g : Header
     g = header_in_place p d
@@ -48,3 +47,10 @@ again id nodes new p d can own body held =
         ap (λ (o : List ℕ). tree_of d.id p o g.body MAX_NODES) (body_of-read new p d held ∙ body ∙ sym content_is)
         ∙ ap (λ (i : ℕ). tree_of i p (octets_all (nodes_of nodes)) g.body MAX_NODES) own
         ∙ read.read p g.body
+
+-- Its normal form is the written one.
+pub again : (id : ℕ) (nodes : List Node) (new : List ℕ) (p : ℕ) (d : Element) → CanBeRead id nodes → d.id ≡ id → d.body ≡ flat_map octets nodes → HoldsAt new p (octets_of d)
+    → and_then (tree_at new (Some (header_in_place p d))) (λ (n : Option Node). Ok (option_map octets n)) ≡ Ok (Some (octets (master id 0 (nodes_of nodes))))
+again id nodes new p d can own body held =
+    ap (λ (r : Result (Option Node) Damage). and_then r (λ (n : Option Node). Ok (option_map octets n))) (again-tree id nodes new p d can own body held)
+    ∙ ap (λ (o : List ℕ). Ok (Some (kept_octets id o))) (octets_all-placed (nodes_of nodes) (header_in_place p d).body)

@@ -16,6 +16,7 @@ use Rattle.tree_format.specs.declared.limits.TheConstants.{MAX_NODES}
 use Rattle.tree_format.specs.Node.{Node, master, nodes_of}
 use Rattle.tree_format.specs.NormalForm.{octets}
 use Rattle.tree_format.specs.Reading.{tree_of}
+use Rattle.tree_format.specs.Standing.{placed_all}
 use Rattle.block_format.specs.Elements.{Rules}
 use Rattle.block_format.specs.Events.{blocks_of, damages_of, events_among, events_in_run, events_of}
 use Rattle.meta_records.specs.Attached.{AttachedFile, files_at, first_attached}
@@ -27,7 +28,7 @@ use Rattle.edit_laws.proofs.TileLemmas.{run_of, whole}
 use Rattle.edit_laws.proofs.LevelLemmas.{Spot, Edit, new_level, IsSpot, IsListed}
 use Rattle.edit_laws.proofs.ResultLemmas.{blocks-stay, damages-stay, first-stays, held-stays, first-now}
 use Rattle.edit_laws.specs.Laws.{attached_bytes, attached_data, normal_form}
-use Rattle.edit_laws.proofs.AgainLemmas.{CanBeRead, again}
+use Rattle.edit_laws.proofs.AgainLemmas.{CanBeRead, again, again-tree}
 use Rattle.edit_laws.proofs.ItemLemmas.{names}
 
 -- The content `new` has an Element with the ID `id` and the body `body`, which is the first with its ID in `list`.
@@ -71,6 +72,11 @@ pub written-again : (new : List ℕ) (now : Header) (list : List Header) (end : 
 written-again new now list end run id nodes can is =
     ap (λ (o : Option Header). and_then (tree_at new o) (λ (n : Option Node). Ok (option_map octets n))) (ap (λ (r : Run). first_of id r.list) run ∙ is.first)
     ∙ again id nodes new is.place is.element can is.own is.spells is.held
+
+pub tree-again : (new : List ℕ) (now : Header) (list : List Header) (end : ℕ) → segment_run new now ≡ whole list end → (id : ℕ) (nodes : List Node) → CanBeRead id nodes → (w : IsWritten new id (flat_map octets nodes) list)
+    → first_tree id new now ≡ Ok (Some (master id w.place (placed_all (header_in_place w.place w.element).body (nodes_of nodes))))
+tree-again new now list end run id nodes can is =
+    ap (tree_at new) (ap (λ (r : Run). first_of id r.list) run ∙ is.first) ∙ again-tree id nodes new is.place is.element can is.own is.spells is.held
 
 module _ (t : Edit) (listed : IsListed t t.list t.start) (was now : Header)
     (old_run : segment_run t.old was ≡ whole t.list t.last) (new_run : segment_run t.new now ≡ run_of (new_level t) t.start)

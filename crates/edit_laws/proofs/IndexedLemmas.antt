@@ -1,5 +1,5 @@
--- A file that is within the limits, and is read as before, can be indexed again.
-use Rattle.std.proofs.Common.{◌≡◌, ℕ, true, List, [], slice_get, Option, Result, Ok, refl, ◌∙◌, ap}
+-- A file that is within the limits can be indexed or edited again, if its trees are read.
+use Rattle.std.proofs.Common.{◌≡◌, ℕ, true, List, [], slice_get, Option, None, Result, Ok, refl, ◌∙◌, ap}
 use Rattle.mkv_io.specs.declared.damage.Damage.{Damage}
 use Rattle.mkv_schema.specs.declared.ids.TheConstants.{CHAPTERS, INFO, TAGS, TRACKS}
 use Rattle.mkv_schema.specs.declared.element.Header.{Header}
@@ -12,7 +12,7 @@ use Rattle.meta_records.specs.Attached.{AttachedFile, first_attached}
 use Rattle.meta_records.specs.Records.{first_tree, good_info}
 use Rattle.block_format.specs.Events.{damages_of}
 use Rattle.edit_changes.specs.declared.trees.Trees.{Trees}
-use Rattle.edit_changes.specs.Records.{EditableFile, good_tracks, trees_of}
+use Rattle.edit_changes.specs.Records.{EditableFile, editable, good_tracks, trees_of}
 use Rattle.edit_laws.proofs.LimitLemmas.{AreWithin, outline-there}
 use Rattle.reindex.specs.Index.{file_damage, indexable}
 
@@ -26,7 +26,7 @@ pub trees-are : (bytes : List ℕ) (segment : Header)
 unfolding trees_from
 trees-are bytes segment = refl
 
--- the parts of a file that can be indexed
+-- a file with an outline and trees
 abbrev pub file_with : FileOutline → Trees → EditableFile
 file_with o trees = record { outline = o; trees = trees }
 
@@ -38,3 +38,30 @@ indexed-again new ebml now trees first second within read undamaged =
     ap (λ (x : Result FileOutline Damage). and_then x (λ o. and_then (trees_of new o.segment) (λ trees. unless (file_damage new o.segment) (file_with o trees)))) (outline-there new ebml now first second within)
     ∙ ap (λ (x : Result Trees Damage). and_then x (λ trees. unless (file_damage new now) (file_with o trees))) read
     ∙ ap (λ (ds : List Damage). unless (slice_get ds 0) (file_with o trees)) undamaged
+
+-- ---- a file that was edited
+
+abbrev trees_with : Option Node → Node → Result Trees Damage
+trees_with info tracks = Ok (record { info = info; tracks = children tracks })
+
+-- Parts that are read make the trees of a file.
+pub trees-made : (bytes : List ℕ) (segment : Header) (info : Option Node) (tracks : Node) (files : List AttachedFile) (chapters tags : Option Node) → and_then (first_tree INFO bytes segment) good_info ≡ Ok info
+    → and_then (first_tree TRACKS bytes segment) (good_tracks segment) ≡ Ok tracks → first_attached bytes segment ≡ Ok files → first_tree CHAPTERS bytes segment ≡ Ok chapters → first_tree TAGS bytes segment ≡ Ok tags
+    → trees_of bytes segment ≡ Ok (record { info = info; tracks = children tracks })
+trees-made bytes segment info tracks files chapters tags one two three four five =
+    ap (λ (x : Result (Option Node) Damage). and_then x (λ info. and_then (and_then (first_tree TRACKS bytes segment) (good_tracks segment)) (λ tracks. and_then (first_attached bytes segment) (λ files. and_then (first_tree CHAPTERS bytes segment) (λ chapters. and_then (first_tree TAGS bytes segment) (λ tags. trees_with info tracks)))))) one
+    ∙ ap (λ (x : Result Node Damage). and_then x (λ tracks. and_then (first_attached bytes segment) (λ files. and_then (first_tree CHAPTERS bytes segment) (λ chapters. and_then (first_tree TAGS bytes segment) (λ tags. trees_with info tracks))))) two
+    ∙ ap (λ (x : Result (List AttachedFile) Damage). and_then x (λ files. and_then (first_tree CHAPTERS bytes segment) (λ chapters. and_then (first_tree TAGS bytes segment) (λ tags. trees_with info tracks)))) three
+    ∙ ap (λ (x : Result (Option Node) Damage). and_then x (λ chapters. and_then (first_tree TAGS bytes segment) (λ tags. trees_with info tracks))) four
+    ∙ ap (λ (x : Result (Option Node) Damage). and_then x (λ tags. trees_with info tracks)) five
+
+-- A file within the limits can be edited, if its trees are read and level 1 has no damage.
+pub edited-again : (new : List ℕ) (ebml now : Header) (trees : Trees) → ebml_header new ≡ Ok ebml → segment_of new ebml ≡ Ok now → AreWithin (segment_run new now).list → (segment_run new now).damage ≡ None → trees_of new now ≡ Ok trees
+    → (g : EditableFile) × (editable new ≡ Ok g)
+edited-again new ebml now trees first second within whole read =
+    let o : FileOutline = shown new (outlined new ebml now (segment_run new now)) in (
+      file_with o trees,
+      ap (λ (x : Result FileOutline Damage). and_then x (λ o. and_then (unless o.damage o) (λ o. and_then (trees_of new o.segment) (λ trees. Ok (file_with o trees))))) (outline-there new ebml now first second within)
+          ∙ ap (λ (d : Option Damage). and_then (unless d o) (λ o. and_then (trees_of new o.segment) (λ trees. Ok (file_with o trees)))) whole
+          ∙ ap (λ (x : Result Trees Damage). and_then x (λ trees. Ok (file_with o trees))) read,
+    )

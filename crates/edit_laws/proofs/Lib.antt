@@ -23,15 +23,16 @@ mod DepthLemmas
 mod TreeLemmas
 mod AgainLemmas
 mod HeldLemmas
+mod GoodLemmas
 mod SectionLemmas
 mod EndLemmas
 mod RestLemmas
 mod PlannedLemmas
+mod IndexedLemmas
 mod OutcomeLemmas
 mod EditedLemmas
 mod StandLemmas
 mod TickLemmas
 mod PointLemmas
 mod CuesLemmas
-mod IndexedLemmas
 mod AnewLemmas

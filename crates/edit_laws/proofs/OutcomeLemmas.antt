@@ -1,5 +1,5 @@
 -- The content of a file after edits, with or without a moved element.
-use Rattle.std.proofs.Common.{inl, inr, ◌≡◌, ◌⊎◌, ◌<◌, ◌≤◌, ℕ, ◌+◌, ◌^◌, ◌==◌, max, nat_lt, not, Bool, true, false, ◌||◌, if◌then◌else◌, List, [], ◌∷◌, ◌++◌, length, length-append, flat_map, All, Option, Some, None, IfSome, Result, Ok, refl, sym, ◌∙◌, ap, ap₂, subst, arith}
+use Rattle.std.proofs.Common.{inl, inr, ◌≡◌, ◌⊎◌, ◌<◌, ◌≤◌, ℕ, ◌+◌, ◌^◌, ◌==◌, max, nat_lt, not, Bool, true, false, ◌||◌, if◌then◌else◌, List, [], ◌∷◌, ◌++◌, length, length-append, filter, flat_map, All, Option, Some, None, IfSome, Result, Ok, refl, sym, ◌∙◌, ap, ap₂, subst, arith}
 use Rattle.std.specs.List.{list_any}
 use Rattle.std.specs.Prelude.{filter_map, sum_by}
 use Rattle.std.specs.Option.{is_some, option_map, option_map_or}
@@ -8,33 +8,35 @@ use Rattle.std.proofs.lemmas.Bool.Decides.{nat_tests}
 use Rattle.std.proofs.lemmas.List.Elements.{All-nil, All-cons, All-head, All-tail, All-append, All-weaker}
 use Rattle.std.proofs.lemmas.List.Sums.{length-filter, sum_by-append, sum_by-cons}
 use Rattle.ebml_numbers.specs.Number.{AreOctets}
-use Rattle.mkv_schema.specs.declared.ids.TheConstants.{ATTACHMENTS, CHAPTERS, CLUSTER, INFO, SEEK_HEAD, TAGS, TRACKS}
+use Rattle.mkv_schema.specs.declared.ids.TheConstants.{ATTACHMENTS, CHAPTERS, CLUSTER, INFO, SEEK_HEAD, TAGS, TRACKS, TRACK_ENTRY}
 use Rattle.mkv_io.specs.declared.damage.Damage.{Damage}
 use Rattle.mkv_io.specs.declared.outside.TheConstants.{LONGEST_FILE}
 use Rattle.requests.specs.declared.edit.Edit.{Edit}
 use Rattle.mkv_schema.specs.declared.element.Header.{Header}
 use Rattle.mkv_schema.specs.Elements.{Run, ends_cluster}
-use Rattle.mkv_schema.specs.Outline.{outlined, segment_bound, segment_run}
-use Rattle.mkv_io.specs.Results.{and_then}
+use Rattle.mkv_schema.specs.Outline.{segment_bound, segment_run}
+use Rattle.mkv_io.specs.Results.{and_then, unless}
 use Rattle.mkv_schema.specs.Value.{body_of, first_of}
 use Rattle.mkv_schema.proofs.OutlineLemmas.{and_then-ok}
 use Rattle.tree_format.specs.Reading.{tree_of}
 use Rattle.mkv_schema.specs.declared.limits.TheConstants.{MAX_ELEMENTS, MAX_MASTER_LEN, MAX_MASTERS_LEN}
-use Rattle.element_reader.specs.Outline.{shown}
 use Rattle.element_reader.specs.Collected.{others_of}
 use Rattle.element_reader.proofs.OutlineLemmas.{first_in-others}
-use Rattle.output_model.specs.Element.{Element, IsElement, element, headers_in_place, octets_of}
+use Rattle.output_model.specs.Element.{Element, IsElement, element, header_in_place, headers_in_place, octets_of}
 use Rattle.output_model.proofs.ReadLemmas.{length-octets_of}
 use Rattle.tree_format.specs.declared.limits.TheConstants.{MAX_NODES}
-use Rattle.tree_format.specs.Node.{Node, children, master, nodes_of, deepest, depth_all}
+use Rattle.tree_format.specs.Node.{Node, children, id_of, master, nodes_of, deepest, depth_all}
 use Rattle.tree_format.specs.NormalForm.{octets}
-use Rattle.tree_format.specs.Standing.{AllStandIn, kept_all}
-use Rattle.meta_records.specs.Records.{first_tree, tree_at}
+use Rattle.tree_format.specs.Standing.{AllStandIn, kept_all, placed_all}
+use Rattle.file_format.specs.Info.{info_refusal}
+use Rattle.file_format.specs.Tracks.{AreTracks}
+use Rattle.file_format.proofs.TracksLemmas.{refusal-none}
+use Rattle.meta_records.specs.Records.{first_tree, good_info, tree_at}
 use Rattle.sidecar_edit.specs.Writes.{Write, applied}
 use Rattle.edit_changes.specs.declared.trees.Trees.{Trees}
 use Rattle.edit_changes.specs.declared.refusal.TheConstants.{MAX_WRITTEN}
 use Rattle.edit_changes.specs.Change.{are_of_info, are_of_tracks, edited_from}
-use Rattle.edit_changes.specs.Records.{EditableFile}
+use Rattle.edit_changes.specs.Records.{EditableFile, good_tracks, trees_of}
 use Rattle.edit_changes.specs.Plan.{Part, appended, ascending, edit_ids, elements_moving, info_nodes, length_in_place, length_moving, most_nodes, moves, moving, part, part_of, part_writes, parts, seek_head, too_large}
 use Rattle.edit_plan.proofs.PartLemmas.{first-own, info-valid, tracks-valid}
 use Rattle.edit_changes.specs.declared.refusal.Refusal.TheVariants as refusal
@@ -45,9 +47,11 @@ use Rattle.edit_laws.proofs.AmongLemmas.{IsAmong, all-among, among-left, among-r
 use Rattle.edit_laws.proofs.SameLemmas.{InOrder}
 use Rattle.edit_laws.specs.Laws.{HoldsEdited, IsOutside, normal_form, tracks_octets}
 use Rattle.edit_laws.proofs.CountLemmas.{described-most, described_len, undescribed}
-use Rattle.edit_laws.proofs.LimitLemmas.{AreWithin, counts, described-sum, outline-there}
+use Rattle.edit_laws.proofs.LimitLemmas.{AreWithin, counts, described-sum}
 use Rattle.edit_laws.proofs.AgainLemmas.{CanBeRead}
-use Rattle.edit_laws.proofs.HeldLemmas.{IsWritten, first-written, written-again, written-first}
+use Rattle.edit_laws.proofs.GoodLemmas.{AreGood, IsScaled, good-all, info-again, scaled-info, tracks-again}
+use Rattle.edit_laws.proofs.IndexedLemmas.{edited-again, trees-made}
+use Rattle.edit_laws.proofs.HeldLemmas.{IsWritten, first-written, tree-again, written-again, written-first}
 use Rattle.edit_laws.proofs.ItemLemmas.{AreDistinct, IsItem, IsName, Item, names}
 use Rattle.edit_laws.proofs.OpenedLemmas.{IsOpened}
 use Rattle.edit_changes.specs.Span.{span_of}
@@ -144,6 +148,15 @@ part-nodes true id list nodes i is = of (first_of id list) is
     of None is = absurd (cc)
     of (Some h) is = omega arith
 
+-- An Info with a scale isn't refused.
+scaled-good : (n : Option Node) → IfSome n IsScaled → good_info n ≡ Ok n
+scaled-good None scaled = refl
+scaled-good (Some n) scaled = ap (λ (r : Option Damage). unless r (Some n)) (scaled-info n scaled)
+
+-- the TrackEntries among the children of a Tracks
+abbrev entries_among : List Node → List Node
+entries_among ns = filter (λ n. id_of n == TRACK_ENTRY) ns
+
 module _ (bytes : List ℕ) (are_octets : AreOctets bytes) (short : length bytes ≤ LONGEST_FILE) (edits : List Edit) (f : EditableFile) (t : Trees) (ws : List Write)
     (op : IsOpened bytes f.outline) (undamaged : f.outline.damage ≡ None) (first : AreFirst bytes f.outline.segment f.trees) (made : edited_from 0 edits f.trees ≡ Ok t)
     (order : InOrder (length bytes) 0 ws) (outside_all : All IsOutside (segment_run bytes f.outline.segment).list) where
@@ -186,6 +199,10 @@ module _ (bytes : List ℕ) (are_octets : AreOctets bytes) (short : length bytes
   pub are-of : AreOf others ps items
   are-of = of-append others (part_of (are_of_info edits) INFO others (info_nodes t.info)) (part_of (are_of_tracks edits) TRACKS others t.tracks) infos tracks
       (of-part segment.body last others level-stands (are_of_info edits) INFO (info_nodes t.info)) (of-part segment.body last others level-stands (are_of_tracks edits) TRACKS t.tracks)
+
+  -- The edited trees aren't refused.
+  good : AreGood t
+  good = good-all 0 edits f.trees t first.good made
 
   pub distinct : AreDistinct items
   distinct = two-distinct (are_of_info edits) (are_of_tracks edits) INFO TRACKS others (info_nodes t.info) t.tracks refl
@@ -342,6 +359,60 @@ module _ (bytes : List ℕ) (are_octets : AreOctets bytes) (short : length bytes
           section TRACKS t.tracks h refl (can-tracks few nodes h item) (among-right infos tracks (item_at t.tracks h) (subst (λ (is : List Item). IsAmong is (item_at t.tracks h)) (sym item) (inl refl))) found (tracks-spell h item)
     ]
 
+    -- ---- the trees are read again
+
+    -- An Info that was kept, or written, isn't refused.
+    info-read : (i : Option Node) × (and_then (first_tree INFO new rest.segment) good_info ≡ Ok i)
+    info-read = elim (item-cases (are_of_info edits) INFO others (info_nodes t.info)) [
+      | inl (why, none) ↦ (
+        f.trees.info,
+        ap (λ (x : Result (Option Node) Damage). and_then x good_info) (rest.tree INFO (untouched INFO names.info.level refl refl (no-info none)) ∙ first.info) ∙ scaled-good f.trees.info first.good.info,
+      )
+      | inr (h, found, item) ↦ (
+          let there = info-is h found in
+          let scaled : IsScaled there.0 = subst (λ (x : Option Node). IfSome x IsScaled) there.1 good.info in
+          let w = written INFO (info_nodes t.info) h refl (among-left infos tracks (item_at (info_nodes t.info) h) (subst (λ (is : List Item). IsAmong is (item_at (info_nodes t.info) h)) (sym item) (inl refl))) found (info-spells h item) in
+          let read = tree-again new rest.segment rest.list rest.end rest.run INFO (info_nodes t.info) (can-info few nodes there.0 h there.1 item) w in
+          let base : ℕ = (header_in_place w.place w.element).body in
+          let tree : Node = master INFO w.place (placed_all base (nodes_of (info_nodes t.info))) in
+          let same : tree ≡ master INFO w.place (placed_all base (nodes_of (children there.0))) = ap (λ (x : Option Node). master INFO w.place (placed_all base (nodes_of (info_nodes x)))) there.1 in (
+            Some tree,
+            ap (λ (x : Result (Option Node) Damage). and_then x good_info) read
+                ∙ ap (λ (r : Option Damage). unless r (Some tree)) (ap info_refusal same ∙ info-again there.0 INFO w.place base scaled),
+          )
+          )
+    ]
+
+    tracks-read : (n : Node) × (and_then (first_tree TRACKS new rest.segment) (good_tracks rest.segment) ≡ Ok n)
+    tracks-read = elim (item-cases (are_of_tracks edits) TRACKS others t.tracks) [
+      | inl (why, none) ↦ (
+        first.whole,
+        ap (λ (x : Result (Option Node) Damage). and_then x (good_tracks rest.segment)) (rest.tree TRACKS (untouched TRACKS names.tracks.level refl refl (no-tracks none)) ∙ first.tracks)
+            ∙ ap (λ (r : Option Damage). unless r first.whole) ((refusal-none first.whole).1 (subst (λ (ns : List Node). AreTracks (entries_among ns)) first.children first.good.tracks)),
+      )
+      | inr (h, found, item) ↦ (
+          let w = written TRACKS t.tracks h refl (among-right infos tracks (item_at t.tracks h) (subst (λ (is : List Item). IsAmong is (item_at t.tracks h)) (sym item) (inl refl))) found (tracks-spell h item) in
+          let read = tree-again new rest.segment rest.list rest.end rest.run TRACKS t.tracks (can-tracks few nodes h item) w in
+          let base : ℕ = (header_in_place w.place w.element).body in
+          let tree : Node = master TRACKS w.place (placed_all base (nodes_of t.tracks)) in (
+            tree,
+            ap (λ (x : Result (Option Node) Damage). and_then x (good_tracks rest.segment)) read
+                ∙ ap (λ (r : Option Damage). unless r tree) (tracks-again t.tracks TRACKS w.place base good.tracks),
+          )
+          )
+    ]
+
+    trees-read : (u : Trees) × (trees_of new rest.segment ≡ Ok u)
+    trees-read =
+        let info = info-read in
+        let tracks_are = tracks-read in (
+          record { info = info.0; tracks = children tracks_are.0 },
+          trees-made new rest.segment info.0 tracks_are.0 first.files first.chapters first.tags info.1 tracks_are.1
+              (rest.attached first.files (untouched ATTACHMENTS names.attachments.level refl refl (neither ATTACHMENTS refl refl)) first.attached)
+              (rest.tree CHAPTERS (untouched CHAPTERS names.chapters.level refl refl (neither CHAPTERS refl refl)) ∙ first.chapters_read)
+              (rest.tree TAGS (untouched TAGS names.tags.level refl refl (neither TAGS refl refl)) ∙ first.tags_read),
+        )
+
     -- The elements of level 1 are within the limits, if three more are, and as many bytes as an edit may write.
     new-within : length f.outline.others + 3 ≤ MAX_ELEMENTS → f.outline.held + MAX_WRITTEN ≤ MAX_MASTERS_LEN → AreWithin (segment_run new rest.segment).list
     new-within room space =
@@ -367,10 +438,8 @@ module _ (bytes : List ℕ) (are_octets : AreOctets bytes) (short : length bytes
       chapters = rest.tree CHAPTERS (untouched CHAPTERS names.chapters.level refl refl (neither CHAPTERS refl refl));
       tags = rest.tree TAGS (untouched TAGS names.tags.level refl refl (neither TAGS refl refl));
       blocks = rest.blocks;
-      within = λ room space. (
-        shown new (outlined new f.outline.ebml rest.segment (segment_run new rest.segment)),
-        outline-there new f.outline.ebml rest.segment rest.ebml rest.found (new-within room space),
-      );
+      again = λ room space.
+          edited-again new f.outline.ebml rest.segment trees-read.0 rest.ebml rest.found (new-within room space) (ap (λ (r : Run). r.damage) rest.run) trees-read.1;
     }
 
   -- A short element keeps the limit of each.

@@ -19,7 +19,10 @@ use Rattle.tree_format.specs.Reading.{tree_of}
 use Rattle.tree_format.specs.Standing.{AllStandIn, StandsIn}
 use Rattle.tree_format.proofs.FoundLemmas.{tree_of-sound}
 use Rattle.tree_format.proofs.NodeLemmas.{nodes-list}
+use Rattle.file_format.specs.Entry.{entries_of}
 use Rattle.file_format.specs.Refusal.{refusal_of}
+use Rattle.file_format.specs.Tracks.{AreTracks}
+use Rattle.file_format.proofs.TracksLemmas.{refusal-none}
 use Rattle.meta_records.specs.Attached.{AttachedFile, first_attached}
 use Rattle.meta_records.specs.Records.{first_tree, good_info, tree_at}
 use Rattle.file_format.specs.Info.{info_refusal}
@@ -28,11 +31,12 @@ use Rattle.edit_changes.specs.Change.{edited_from, edited_once, numbered}
 use Rattle.edit_changes.specs.Records.{good_tracks, trees_of}
 use Rattle.edit_plan.proofs.PartLemmas.{first-own}
 use Rattle.edit_laws.proofs.DepthLemmas.{tree_of-deep}
+use Rattle.edit_laws.proofs.GoodLemmas.{AreGood, IsScaled, info-scaled}
 use Rattle.edit_laws.proofs.TreeLemmas.{AreFit, IsFit, Once, of_info, of_tracks, numbered-ok, once-is, then-ok}
 
 -- ---- trees that were read
 
--- The trees `t` were read from the first Elements of the Segment.
+-- The trees `t` were read from the first elements of the Segment, and weren't refused.
 pub record AreFirst (bytes : List ℕ) (segment : Header) (t : Trees) : Type 0 where
   pub info : first_tree INFO bytes segment ≡ Ok t.info
   pub whole : Node
@@ -40,6 +44,11 @@ pub record AreFirst (bytes : List ℕ) (segment : Header) (t : Trees) : Type 0 w
   pub children : t.tracks ≡ children whole
   pub files : List AttachedFile
   pub attached : first_attached bytes segment ≡ Ok files
+  pub chapters : Option Node
+  pub chapters_read : first_tree CHAPTERS bytes segment ≡ Ok chapters
+  pub tags : Option Node
+  pub tags_read : first_tree TAGS bytes segment ≡ Ok tags
+  pub good : AreGood t
 
 good-same : (n m : Option Node) → good_info n ≡ Ok m → n ≡ m
 good-same None m is = cc
@@ -48,6 +57,18 @@ good-same (Some n) m is = (unless-ok (info_refusal n) (Some n) m is).1
 tracks-same : (segment : Header) (n : Option Node) (m : Node) → good_tracks segment n ≡ Ok m → n ≡ Some m
 tracks-same segment None m is = absurd (cc)
 tracks-same segment (Some n) m is = ap (λ x. Some x) (unless-ok (refusal_of n) n m is).1
+
+good-scaled : (n m : Option Node) → good_info n ≡ Ok m → IfSome m IsScaled
+good-scaled None m is = let same : None ≡ m = cc in subst (λ (x : Option Node). IfSome x IsScaled) same tt
+good-scaled (Some n) m is =
+    let good = unless-ok (info_refusal n) (Some n) m is in
+    subst (λ (x : Option Node). IfSome x IsScaled) good.1 (info-scaled n good.0)
+
+good-entries : (segment : Header) (n : Option Node) (m : Node) → good_tracks segment n ≡ Ok m → AreTracks (entries_of m)
+good-entries segment None m is = absurd (cc)
+good-entries segment (Some n) m is =
+    let good = unless-ok (refusal_of n) n m is in
+    subst (λ (x : Node). AreTracks (entries_of x)) good.1 ((refusal-none n).0 good.0)
 
 pub trees-first : (bytes : List ℕ) (segment : Header) (t : Trees) → trees_of bytes segment ≡ Ok t → AreFirst bytes segment t
 trees-first bytes segment t is =
@@ -66,6 +87,11 @@ trees-first bytes segment t is =
       children = refl;
       files = files.0;
       attached = files.1.0;
+      chapters = chapters.0;
+      chapters_read = chapters.1.0;
+      tags = tags.0;
+      tags_read = tags.1.0;
+      good = record { info = good-scaled first.0 info.0 first.1.1; tracks = good-entries segment second.0 tracks.0 second.1.1 };
     })
 
 -- A tree that was read has its ID.

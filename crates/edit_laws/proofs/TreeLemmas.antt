@@ -49,7 +49,7 @@ where-is : (test : Bool) (value octets : List ℕ) → where_text test value ≡
 where-is true value octets is = (refl, cc)
 where-is false value octets is = absurd (cc)
 
-number-is : (least most : ℕ) (n : Option ℕ) (octets : List ℕ) → where_number least most n ≡ Some octets → (k : ℕ) × (k ≤ most) × (uint_octets k ≡ octets)
+pub number-is : (least most : ℕ) (n : Option ℕ) (octets : List ℕ) → where_number least most n ≡ Some octets → (k : ℕ) × (k ≤ most) × (uint_octets k ≡ octets)
 number-is least most None octets is = absurd (cc)
 number-is least most (Some n) octets is = of (is_between least most n) refl is
   where

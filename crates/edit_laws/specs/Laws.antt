@@ -12,7 +12,6 @@ use Rattle.mkv_schema.specs.declared.element.Header.{Header}
 use Rattle.mkv_schema.specs.Element.{octets_between}
 use Rattle.mkv_schema.specs.Outline.{ebml_header, segment_of, segment_run}
 use Rattle.mkv_io.specs.Results.{and_then}
-use Rattle.element_reader.specs.Outline.{FileOutline, outline_in}
 use Rattle.tree_format.specs.Node.{Node, master, nodes_of}
 use Rattle.tree_format.specs.NormalForm.{octets}
 use Rattle.block_format.specs.Elements.{Rules}
@@ -48,8 +47,8 @@ pub record IsOutside (h : Header) : Type 0 where
   pub group : (h.id == BLOCK_GROUP) ≡ false
 
 -- The edited file `new` holds the content of `old`, with the edited trees `t`. Info and Tracks are the edited ones. The attached files, their
--- data, Chapters and Tags are the old ones, at their places, and so are the blocks, with any scale. A reader with limits finds its outline, if
--- `old` has room for three more elements at level 1 and for the bytes of an edit in Info and Tracks.
+-- data, Chapters and Tags are the old ones, at their places, and so are the blocks, with any scale. The file can be edited again, if `old` has
+-- room for three more elements at level 1, and for the bytes of an edit in Info and Tracks.
 pub record HoldsEdited (old new : List ℕ) (f : EditableFile) (t : Trees) : Type 0 where
   pub segment : Header
   pub ebml : ebml_header new ≡ Ok f.outline.ebml
@@ -62,7 +61,7 @@ pub record HoldsEdited (old new : List ℕ) (f : EditableFile) (t : Trees) : Typ
   pub chapters : first_tree CHAPTERS new segment ≡ first_tree CHAPTERS old f.outline.segment
   pub tags : first_tree TAGS new segment ≡ first_tree TAGS old f.outline.segment
   pub blocks : (r : Rules) → blocks_of (events_of r new segment) ≡ blocks_of (events_of r old f.outline.segment)
-  pub within : length f.outline.others + 3 ≤ MAX_ELEMENTS → f.outline.held + MAX_WRITTEN ≤ MAX_MASTERS_LEN → (o : FileOutline) × (outline_in 0 new ≡ Ok o)
+  pub again : length f.outline.others + 3 ≤ MAX_ELEMENTS → f.outline.held + MAX_WRITTEN ≤ MAX_MASTERS_LEN → (g : EditableFile) × (editable new ≡ Ok g)
 
 -- An edited file holds the content of the old file, except for what the edits change.
 abbrev pub EditsChangeNothingElse : Type 0
