@@ -1,5 +1,5 @@
 -- The lines of an extraction, one target at a time.
-use Rattle.std.proofs.Common.{◌≡◌, ℕ, zero, suc, ◌+◌, ◌<◌, ◌≤◌, ◌==◌, nat_le, nat_lt, Bool, true, false, not, ◌||◌, ◌&&◌, if◌then◌else◌, List, [], ◌∷◌, ◌++◌, length, take, drop, get_or, map, filter, Option, Some, None, slice_get, Result, Ok, Err, refl, sym, ◌∙◌, ap, subst, arith}
+use Rattle.std.proofs.Common.{◌≡◌, ℕ, nat_eq, zero, suc, ◌+◌, ◌<◌, ◌≤◌, ◌==◌, nat_le, nat_lt, Bool, true, false, not, ◌||◌, ◌&&◌, if◌then◌else◌, List, [], ◌∷◌, ◌++◌, length, take, drop, get_or, map, filter, Option, Some, None, slice_get, Result, Ok, Err, refl, sym, ◌∙◌, ap, subst, arith}
 use Rattle.std.proofs.lemmas.Bool.{eqb-true, lt-ltb, le-ltb}
 use Rattle.std.proofs.lemmas.List.{drop_all, take_more}
 use Rattle.std.proofs.lemmas.List.Folds.{list_any-append}
@@ -21,6 +21,7 @@ use Rattle.extractors.specs.declared.frame_form.UnsupportedTrack.TheVariants.{No
 use Rattle.mkv_extract.specs.Extract.{absent, once}
 use Rattle.mkv_extract.specs.Read.{is_named}
 use Rattle.mkv_extract.specs.Told.{has_absent, written}
+use Rattle.mkv_extract.specs.ToldNumbers.{HasJoined, HasNumbersOf}
 use Rattle.lemmas.proofs.PlainLemmas.{or-true as or_true}
 pub use Rattle.lemmas.proofs.PlainLemmas.{drop-get_or as next-left}
 
@@ -107,6 +108,28 @@ pub absent-ends : (count : ℕ) (targets : List Target) (k : ℕ) (line : ℕ �
 absent-ends count targets k line all =
     ap (λ (rest : List Target). map (line) (absent_left count (take k targets) rest)) (drop_all k targets all)
     ∙ ap (map (line)) (absent_left-none count (take k targets))
+
+-- ---- the numbers that were reported
+
+-- At first no number is.
+pub numbers-none : (count : ℕ) → HasNumbersOf count [] []
+numbers-none count n from = refl
+
+-- A number is among the reported ones exactly if a target before names it.
+pub numbers-told : (count : ℕ) (seen : List Target) (numbers : List ℕ) (n : ℕ) → HasNumbersOf count seen numbers → (nat_le count n && not (list_any (nat_eq n) numbers)) ≡ (nat_le count n && not (is_named seen n))
+numbers-told count seen numbers n has = by (nat_le count n) refl
+  where
+    by : (from : Bool) → nat_le count n ≡ from → (from && not (list_any (nat_eq n) numbers)) ≡ (from && not (is_named seen n))
+    by false is = refl
+    by true is = ap not (has n is)
+
+-- The number of the next target joins them.
+pub numbers-more : (count : ℕ) (targets : List Target) (k : ℕ) (t : Target) (old new : List ℕ) → k < length targets → t ≡ get_or targets k t → HasNumbersOf count (take k targets) old → HasJoined count t.id old new → HasNumbersOf count (take (k + 1) targets) new
+numbers-more count targets k t old new below is has joined n from =
+    joined n from
+    ∙ ap (λ (a : Bool). a || (t.id == n)) (has n from)
+    ∙ sym (seen_more (take k targets) t n)
+    ∙ ap (λ (seen : List Target). is_named seen n) (ap (λ (each : Target). take k targets ++ each ∷ []) is ∙ sym (take_more targets k t below))
 
 -- ---- the existence of such a number
 

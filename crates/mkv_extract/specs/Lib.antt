@@ -5,3 +5,4 @@ pub mod Read
 pub mod Steps
 pub mod Extractions
 pub mod Told
+pub mod ToldNumbers

@@ -1,19 +1,21 @@
 //! Messages of an extraction.
 
-ghost use Rattle.std.specs.Prelude.{◌≡◌, false, ◌&&◌, not, nat_le, nat_lt, length, option_to_list, ◌∷◌, [], List, Ok, IfOk};
+ghost use Rattle.std.specs.Prelude.{◌≡◌, false, ◌&&◌, not, nat_le, nat_lt, nat_eq, length, option_to_list, ◌∷◌, [], List, Ok, IfOk, IfErr, OnOk};
 ghost use Rattle.mkv_io.specs.declared.damage.Damage.{Damage};
 ghost use Rattle.cluster_reader.specs.ToldDamages.{told_damages};
 ghost use Rattle.mkv_lines.specs.Line.{warning_line};
 ghost use Rattle.mkv_lines.specs.Ordinary.{IsOrdinary};
 ghost use Rattle.mkv_lines.specs.Said.{HasSayCause};
 ghost use Rattle.mkv_lines.specs.Command.{SaysTo};
+ghost use Rattle.mkv_lines.specs.declared.status.CommandEnd.TheVariants as ends;
+ghost use Rattle.indexmap.specs.IndexSet.{contains};
 ghost use Rattle.mkv_extract.specs.Extract.{status_of};
-ghost use Rattle.mkv_extract.specs.Read.{is_named};
+ghost use Rattle.mkv_extract.specs.ToldNumbers.{HasJoined};
 ghost use Rattle.mkv_extract.specs.Told.{HasStatusOf, absent_lines, extracted_lines, has_absent, held_lines, line_of, more_line, outline_lines, warnings, wrong_lines, wrote_lines};
 
-use crate::reading::is_named;
 use cluster_reader::Damages;
 use extractors::Extracted;
+use indexmap::IndexSet;
 use mkv_io::{Damage, Report};
 use mkv_lines::{CommandEnd, Line, Status, say};
 use requests::Target;
@@ -47,9 +49,10 @@ pub fn say_absent<P: Report>(
     ensures said { SaysTo P.Report report.old report.new (absent_lines missing name.now count targets.now) result }
     ensures cause { HasSayCause (P.faults report.old) (P.faults report.new) result }
 {
-    for (k, target) in targets.iter().enumerate() {
+    let mut told = IndexSet::new(alloc);
+    for target in targets {
         let number = target.id;
-        if !is_told(&targets[..k], number, count) {
+        if !is_told(&mut told, number, count)? {
             continue;
         }
         say_missing(alloc, missing, name, number, report)?;
@@ -74,12 +77,19 @@ fn say_missing<P: Report>(
     }
 }
 
-/// Checks whether a number is reported after the targets `before`: it isn't below `count`, and no target before names
-/// it.
-fn is_told(before: &[Target], number: u64, count: u64) -> bool
-    ensures { result ≡ (nat_le count number && not (is_named before.now number)) }
+/// Checks whether a number is reported: it isn't below `count`, and it isn't one of `told`, which it then joins.
+fn is_told(told: &mut IndexSet<u64>, number: u64, count: u64) -> Result<bool, CommandEnd>
+    ensures told { IfOk result (λ is_told. is_told ≡ (nat_le count number && not (contains nat_eq told.old number))) }
+    ensures numbers { OnOk result (HasJoined count number told.old.keys told.new.keys) }
+    ensures memory { IfErr result (λ end. end ≡ ends.Memory) }
 {
-    number >= count && !is_named(before, number)
+    if number < count {
+        return Ok(false);
+    }
+    match told.insert(number) {
+        Ok(is_new) => Ok(is_new),
+        Err(_) => Err(CommandEnd::Memory),
+    }
 }
 
 /// Prints the messages of the complete outputs, and warns of problems.
