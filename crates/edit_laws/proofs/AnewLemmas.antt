@@ -57,7 +57,7 @@ use Rattle.edit_laws.proofs.PointLemmas.{IsAtTick, each-has, hidden-none, indexa
 use Rattle.edit_laws.proofs.ItemLemmas.{Item, names}
 use Rattle.edit_laws.proofs.CountLemmas.{described_len, sum-none, undescribed}
 use Rattle.edit_laws.proofs.IndexedLemmas.{indexed-again, trees-are, trees_from}
-use Rattle.edit_laws.proofs.LimitLemmas.{AreWithin, counts, described-sum}
+use Rattle.edit_laws.proofs.LimitLemmas.{AreWithinLimits, counts, described-sum}
 use Rattle.edit_laws.proofs.WriteLemmas.{described_there, there-none}
 
 -- ---- an undamaged file
@@ -221,7 +221,7 @@ module _ (bytes : List ℕ) (f : EditableFile) (is : indexable bytes ≡ Ok f) w
       λ k d below. undescribed (get_or h.added k d) (info.behind k d below) (tracks.behind k d below) (chapters.behind k d below) (tags.behind k d below)
 
   -- The elements of level 1 are within the limits, if two more are.
-  new-within : (new : List ℕ) (h : HoldsCues bytes new f.outline (index_points bytes segment f.trees.tracks)) → length f.outline.others + 2 ≤ MAX_ELEMENTS → AreWithin (segment_run new h.rest.segment).list
+  new-within : (new : List ℕ) (h : HoldsCues bytes new f.outline (index_points bytes segment f.trees.tracks)) → length f.outline.others + 2 ≤ MAX_ELEMENTS → AreWithinLimits (segment_run new h.rest.segment).list
   new-within new h room =
       let items = items-undescribed new h in
       let added = added-undescribed new h in
@@ -239,7 +239,7 @@ module _ (bytes : List ℕ) (f : EditableFile) (is : indexable bytes ≡ Ok f) w
       let nothing : sum_by described_len h.added ≡ 0 = sum-none described_len h.added added in
       let old_count = was.count in
       let old_all = was.all in
-      subst AreWithin (sym (ap (λ (r : Run). r.list) h.rest.run)) (record {
+      subst AreWithinLimits (sym (ap (λ (r : Run). r.list) h.rest.run)) (record {
         count = omega arith;
         each = h.rest.short was.each
             (All-weaker (λ (i : Item). described_len i.element ≡ 0) (λ (i : Item). described_len i.element ≤ MAX_MASTER_LEN) (λ i is. omega arith) h.items items)

@@ -12,7 +12,7 @@ use Rattle.element_reader.specs.Collected.{described_octets}
 use Rattle.output_model.specs.Element.{Element, octets_of, header_in_place, headers_in_place}
 use Rattle.output_model.proofs.ReadLemmas.{length-octets_of}
 use Rattle.edit_laws.proofs.AmongLemmas.{IsAmong}
-use Rattle.edit_laws.proofs.LimitLemmas.{IsShort, counts}
+use Rattle.edit_laws.proofs.LimitLemmas.{KeepsMasterLimit, counts}
 use Rattle.edit_laws.proofs.TileLemmas.{AdvancesIn, Tiles, Way, stands-placed}
 use Rattle.edit_laws.proofs.LevelLemmas.{Becomes, Edit, IsSpot, Spot, Turn, all_now, gone, kept, now}
 
@@ -147,10 +147,10 @@ headers-described p (d ∷ ds) =
     omega arith
 
 -- Each keeps its limit.
-pub headers-short : (p : ℕ) (ds : List Element) → All (λ (d : Element). described_len d ≤ MAX_MASTER_LEN) ds → All IsShort (headers_in_place p ds)
-headers-short p [] short = All-nil IsShort
+pub headers-short : (p : ℕ) (ds : List Element) → All (λ (d : Element). described_len d ≤ MAX_MASTER_LEN) ds → All KeepsMasterLimit (headers_in_place p ds)
+headers-short p [] short = All-nil KeepsMasterLimit
 headers-short p (d ∷ ds) short =
-    All-cons IsShort (header_in_place p d) (headers_in_place (p + length (octets_of d)) ds) (All-head (λ (d : Element). described_len d ≤ MAX_MASTER_LEN) d ds short)
+    All-cons KeepsMasterLimit (header_in_place p d) (headers_in_place (p + length (octets_of d)) ds) (All-head (λ (d : Element). described_len d ≤ MAX_MASTER_LEN) d ds short)
     (headers-short (p + length (octets_of d)) ds (All-tail (λ (d : Element). described_len d ≤ MAX_MASTER_LEN) d ds short))
 
 -- ---- elements that have no limited bytes
@@ -205,7 +205,7 @@ spot-described t s spot =
     omega arith
 
 -- Its elements keep the limit of each if the new element does.
-pub spot-short : (t : Edit) (s : Spot) → IsSpot t s → described_len s.now ≤ MAX_MASTER_LEN → All IsShort (headers_in_place s.header.offset (all_now s))
+pub spot-short : (t : Edit) (s : Spot) → IsSpot t s → described_len s.now ≤ MAX_MASTER_LEN → All KeepsMasterLimit (headers_in_place s.header.offset (all_now s))
 spot-short t s spot short =
     headers-short s.header.offset (all_now s)
     (All-cons (λ (d : Element). described_len d ≤ MAX_MASTER_LEN) s.now s.voids short

@@ -114,15 +114,15 @@ info-safe name p is = not-true (p.id == TIMESTAMP_SCALE) (row-passes (λ (p : Pr
 -- ---- children after a change
 
 -- The node `m` is `n` with a change of the property `p`: other children stay. The property's own ones stay, or are one with the value, or are gone.
-record IsChanged (value : List ℕ) (p : Property) (n m : Node) : Type 0 where
+record HasChange (value : List ℕ) (p : Property) (n m : Node) : Type 0 where
   id : id_of m ≡ id_of n
   others : (id : ℕ) → (p.id == id) ≡ false → part id (children m) ≡ part id (children n)
   own : (part p.id (children m) ≡ part p.id (children n))
       ⊎ (((octets : List ℕ) × (value_of p.kind value ≡ Some octets) × (part p.id (children m) ≡ leaf p.id 0 octets ∷ []))
       ⊎ ((p.deletable ≡ true) × (part p.id (children m) ≡ [])))
 
-same-node : (value : List ℕ) (p : Property) (n m : Node) → n ≡ m → IsChanged value p n m
-same-node value p n m same = subst (IsChanged value p n) same (record { id = refl; others = λ id other. refl; own = inl refl })
+same-node : (value : List ℕ) (p : Property) (n m : Node) → n ≡ m → HasChange value p n m
+same-node value p n m same = subst (HasChange value p n) same (record { id = refl; others = λ id other. refl; own = inl refl })
 
 push-part : (id : ℕ) (ns : List Node) (c : Node) → (id_of c == id) ≡ false → part id (ns ++ c ∷ []) ≡ part id ns
 push-part id ns c other =
@@ -137,30 +137,30 @@ none-found id (n ∷ ns) none = of (none-found id ns) (id_of n == id) none
     of further true none = absurd (cc)
     of further false none = further none
 
-changed-is : (change : Change) (value : List ℕ) (n m : Node) (p : Property) → changed change value n p ≡ Ok m → IsChanged value p n m
+changed-is : (change : Change) (value : List ℕ) (n m : Node) (p : Property) → changed change value n p ≡ Ok m → HasChange value p n m
 changed-is Set value n m p is = of (value_of p.kind value) refl is
   where
-    put : (octets : List ℕ) → value_of p.kind value ≡ Some octets → (n : Node) → with_children n (with_child (leaf p.id 0 octets) (children n)) ≡ m → IsChanged value p n m
+    put : (octets : List ℕ) → value_of p.kind value ≡ Some octets → (n : Node) → with_children n (with_child (leaf p.id 0 octets) (children n)) ≡ m → HasChange value p n m
     put octets some (leaf id at body) same = same-node value p (leaf id at body) m same
     put octets some (master id at kids) same =
         let kids_are : children (master id at (nodes_of (with_child (leaf p.id 0 octets) (list_of kids)))) ≡ with_child (leaf p.id 0 octets) (list_of kids) = list-nodes (with_child (leaf p.id 0 octets) (list_of kids)) in
-        subst (IsChanged value p (master id at kids)) same (record {
+        subst (HasChange value p (master id at kids)) same (record {
           id = refl;
           others = λ i other. ap (part i) kids_are ∙ part-other i (leaf p.id 0 octets) (list_of kids) other;
           own = inr (inl (octets, some, ap (part p.id) kids_are ∙ part-set (leaf p.id 0 octets) (list_of kids)));
         })
 
-    of : (octets : Option (List ℕ)) → value_of p.kind value ≡ octets → set p.id n octets ≡ Ok m → IsChanged value p n m
+    of : (octets : Option (List ℕ)) → value_of p.kind value ≡ octets → set p.id n octets ≡ Ok m → HasChange value p n m
     of None none is = absurd (cc)
     of (Some octets) some is = put octets some n (cc)
 changed-is Add value n m p is = of (value_of p.kind value) refl is
   where
-    put : (octets : List ℕ) → value_of p.kind value ≡ Some octets → (n : Node) → has p.id n ≡ false → with_children n (children n ++ leaf p.id 0 octets ∷ []) ≡ m → IsChanged value p n m
+    put : (octets : List ℕ) → value_of p.kind value ≡ Some octets → (n : Node) → has p.id n ≡ false → with_children n (children n ++ leaf p.id 0 octets ∷ []) ≡ m → HasChange value p n m
     put octets some (leaf id at body) lacks same = same-node value p (leaf id at body) m same
     put octets some (master id at kids) lacks same =
         let kids_are : children (master id at (nodes_of (list_of kids ++ leaf p.id 0 octets ∷ []))) ≡ list_of kids ++ leaf p.id 0 octets ∷ [] = list-nodes (list_of kids ++ leaf p.id 0 octets ∷ []) in
         let own : (p.id == p.id) ≡ true = grind (arith, nat_tests) in
-        subst (IsChanged value p (master id at kids)) same (record {
+        subst (HasChange value p (master id at kids)) same (record {
           id = refl;
           others = λ i other. ap (part i) kids_are ∙ push-part i (list_of kids) (leaf p.id 0 octets) other;
           own = inr (inl (
@@ -172,26 +172,26 @@ changed-is Add value n m p is = of (value_of p.kind value) refl is
           ));
         })
 
-    there : (octets : List ℕ) → value_of p.kind value ≡ Some octets → (b : Bool) → has p.id n ≡ b → (if b then Err why.AlreadyThere else Ok (added_to p.id octets n)) ≡ Ok m → IsChanged value p n m
+    there : (octets : List ℕ) → value_of p.kind value ≡ Some octets → (b : Bool) → has p.id n ≡ b → (if b then Err why.AlreadyThere else Ok (added_to p.id octets n)) ≡ Ok m → HasChange value p n m
     there octets some true own is = absurd (cc)
     there octets some false lacks is = put octets some n lacks (cc)
 
-    of : (octets : Option (List ℕ)) → value_of p.kind value ≡ octets → added p.id n octets ≡ Ok m → IsChanged value p n m
+    of : (octets : Option (List ℕ)) → value_of p.kind value ≡ octets → added p.id n octets ≡ Ok m → HasChange value p n m
     of None none is = absurd (cc)
     of (Some octets) some is = there octets some (has p.id n) refl is
 changed-is Delete value n m p is = of p.deletable refl is
   where
-    put : p.deletable ≡ true → (n : Node) → with_children n (without p.id (children n)) ≡ m → IsChanged value p n m
+    put : p.deletable ≡ true → (n : Node) → with_children n (without p.id (children n)) ≡ m → HasChange value p n m
     put may (leaf id at body) same = same-node value p (leaf id at body) m same
     put may (master id at kids) same =
         let kids_are : children (master id at (nodes_of (without p.id (list_of kids)))) ≡ without p.id (list_of kids) = list-nodes (without p.id (list_of kids)) in
-        subst (IsChanged value p (master id at kids)) same (record {
+        subst (HasChange value p (master id at kids)) same (record {
           id = refl;
           others = λ i other. ap (part i) kids_are ∙ part-without i p.id (list_of kids) other;
           own = inr (inr (may, ap (part p.id) kids_are ∙ part-none p.id (without p.id (list_of kids)) (none-without p.id (list_of kids))));
         })
 
-    of : (may : Bool) → p.deletable ≡ may → (if may then Ok (with_children n (without p.id (children n))) else Err why.Mandatory) ≡ Ok m → IsChanged value p n m
+    of : (may : Bool) → p.deletable ≡ may → (if may then Ok (with_children n (without p.id (children n))) else Err why.Mandatory) ≡ Ok m → HasChange value p n m
     of true may is = put may n (cc)
     of false may is = absurd (cc)
 
@@ -204,7 +204,7 @@ first-is id n ns is = find-filter (λ (k : Node). id_of k == id) (children n) �
 first-same : (id : ℕ) (n m : Node) → part id (children m) ≡ part id (children n) → first_child id m ≡ first_child id n
 first-same id n m same = first-is id m (part id (children n)) same ∙ sym (first-is id n (part id (children n)) refl)
 
-module _ (value : List ℕ) (p : Property) (n m : Node) (is : IsChanged value p n m) where
+module _ (value : List ℕ) (p : Property) (n m : Node) (is : HasChange value p n m) where
   other-same : (id : ℕ) → (p.id == id) ≡ false → first_child id m ≡ first_child id n
   other-same id other = first-same id n m (is.others id other)
 
@@ -324,35 +324,35 @@ abbrev pub IsScaled : Node → Type 0
 IsScaled n = IfSome (integer_in TIMESTAMP_SCALE n) (λ s. 0 < s)
 
 -- The Info isn't refused, and the entries of Tracks are tracks.
-pub record AreGood (t : Trees) : Type 0 where
+pub record AreUnrefused (t : Trees) : Type 0 where
   pub info : IfSome t.info IsScaled
   pub tracks : AreTracks (part TRACK_ENTRY t.tracks)
 
 -- An edit changes a node by a property of its section.
-edited-is : (e : Edit) (n m : Node) → edited_node e n ≡ Ok m → (p : Property) × (property_of (is_info e.place) e.name ≡ Some p) × IsChanged e.value p n m
+edited-is : (e : Edit) (n m : Node) → edited_node e n ≡ Ok m → (p : Property) × (property_of (is_info e.place) e.name ≡ Some p) × HasChange e.value p n m
 edited-is e n m is = of (property_of (is_info e.place) e.name) refl is
   where
-    of : (p : Option Property) → property_of (is_info e.place) e.name ≡ p → named e.change e.value n p ≡ Ok m → (p : Property) × (property_of (is_info e.place) e.name ≡ Some p) × IsChanged e.value p n m
+    of : (p : Option Property) → property_of (is_info e.place) e.name ≡ p → named e.change e.value n p ≡ Ok m → (p : Property) × (property_of (is_info e.place) e.name ≡ Some p) × HasChange e.value p n m
     of None none is = absurd (cc)
     of (Some p) some is = (p, some, changed-is e.change e.value n m p is)
 
-good-once : (e : Edit) (t u : Trees) → AreGood t → Once e t u → AreGood u
+good-once : (e : Edit) (t u : Trees) → AreUnrefused t → Once e t u → AreUnrefused u
 good-once e t u good (of_info own n m at made same) =
     let change = edited-is e n m made in
     let other = info-safe e.name change.0 (ap (λ (b : Bool). property_of b e.name) (sym own) ∙ change.1) in
     let scaled : IsScaled n = subst (λ (x : Option Node). IfSome x IsScaled) at good.info in
-    subst AreGood same (record { info = subst (λ (o : Option ℕ). IfSome o (λ s. 0 < s)) (sym (scale-stays e.value change.0 n m change.2 other)) scaled; tracks = good.tracks })
+    subst AreUnrefused same (record { info = subst (λ (o : Option ℕ). IfSome o (λ s. 0 < s)) (sym (scale-stays e.value change.0 n m change.2 other)) scaled; tracks = good.tracks })
 good-once e t u good (of_tracks other k n m place at made same) =
     let change = edited-is e n m made in
     let safe = track-safe e.name change.0 (ap (λ (b : Bool). property_of b e.name) (sym other) ∙ change.1) in
-    subst AreGood same (record {
+    subst AreUnrefused same (record {
       info = good.info;
       tracks = set-tracks t.tracks k n m at change.2.id (track-stays e.value change.0 n m change.2 safe) (number-stays e.value change.0 n m change.2 safe) good.tracks;
     })
 
 -- Edited trees are good if the old ones are.
-pub good-all : (k : ℕ) (es : List Edit) (t u : Trees) → AreGood t → edited_from k es t ≡ Ok u → AreGood u
-good-all k [] t u good is = subst AreGood (cc) good
+pub good-all : (k : ℕ) (es : List Edit) (t u : Trees) → AreUnrefused t → edited_from k es t ≡ Ok u → AreUnrefused u
+good-all k [] t u good is = subst AreUnrefused (cc) good
 good-all k (e ∷ es) t u good is =
     let made = then-ok (numbered (k + 1) (edited_once e t)) (edited_from (k + 1) es) u is in
     good-all (k + 1) es made.0 u (good-once e t made.0 good (once-is e t made.0 (numbered-ok (k + 1) (edited_once e t) made.0 made.1.0))) made.1.1

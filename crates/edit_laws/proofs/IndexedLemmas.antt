@@ -13,7 +13,7 @@ use Rattle.meta_records.specs.Records.{first_tree, good_info}
 use Rattle.block_format.specs.Events.{damages_of}
 use Rattle.edit_changes.specs.declared.trees.Trees.{Trees}
 use Rattle.edit_changes.specs.Records.{EditableFile, editable, good_tracks, trees_of}
-use Rattle.edit_laws.proofs.LimitLemmas.{AreWithin, outline-there}
+use Rattle.edit_laws.proofs.LimitLemmas.{AreWithinLimits, outline-there}
 use Rattle.reindex.specs.Index.{file_damage, indexable}
 
 -- the trees of a file by its parts
@@ -31,7 +31,7 @@ abbrev pub file_with : FileOutline → Trees → EditableFile
 file_with o trees = record { outline = o; trees = trees }
 
 -- A file within the limits can be indexed, if its trees are read and it has no damage.
-pub indexed-again : (new : List ℕ) (ebml now : Header) (trees : Trees) → ebml_header new ≡ Ok ebml → segment_of new ebml ≡ Ok now → AreWithin (segment_run new now).list → trees_of new now ≡ Ok trees → damages_of (file_events true new now) ≡ []
+pub indexed-again : (new : List ℕ) (ebml now : Header) (trees : Trees) → ebml_header new ≡ Ok ebml → segment_of new ebml ≡ Ok now → AreWithinLimits (segment_run new now).list → trees_of new now ≡ Ok trees → damages_of (file_events true new now) ≡ []
     → indexable new ≡ Ok (file_with (shown new (outlined new ebml now (segment_run new now))) trees)
 indexed-again new ebml now trees first second within read undamaged =
     let o : FileOutline = shown new (outlined new ebml now (segment_run new now)) in
@@ -56,7 +56,7 @@ trees-made bytes segment info tracks files chapters tags one two three four five
     ∙ ap (λ (x : Result (Option Node) Damage). and_then x (λ tags. trees_with info tracks)) five
 
 -- A file within the limits can be edited, if its trees are read and level 1 has no damage.
-pub edited-again : (new : List ℕ) (ebml now : Header) (trees : Trees) → ebml_header new ≡ Ok ebml → segment_of new ebml ≡ Ok now → AreWithin (segment_run new now).list → (segment_run new now).damage ≡ None → trees_of new now ≡ Ok trees
+pub edited-again : (new : List ℕ) (ebml now : Header) (trees : Trees) → ebml_header new ≡ Ok ebml → segment_of new ebml ≡ Ok now → AreWithinLimits (segment_run new now).list → (segment_run new now).damage ≡ None → trees_of new now ≡ Ok trees
     → (g : EditableFile) × (editable new ≡ Ok g)
 edited-again new ebml now trees first second within whole read =
     let o : FileOutline = shown new (outlined new ebml now (segment_run new now)) in (

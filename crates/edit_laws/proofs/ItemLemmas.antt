@@ -113,7 +113,7 @@ pub record CanKeep (a b : List ℕ) (e e' : ℕ) (h : Header) : Type 0 where
   pub closed : is_closed (length b) h ≡ is_closed (length a) h
 
 -- The spot `s` is the filled room of an item.
-pub record IsFrom (t : Edit) (items : List Item) (s : Spot) : Type 0 where
+pub record IsSpotOf (t : Edit) (items : List Item) (s : Spot) : Type 0 where
   pub item : Item
   pub member : IsAmong items item
   pub fill : IsFilled t.new item.header.offset (span_of item.header (others_of t.list)) item.element
@@ -126,7 +126,7 @@ pub record IsAnew (t : Edit) (items : List Item) : Type 0 where
   pub none : (id : ℕ) → All (λ (i : Item). (i.element.id == id) ≡ false) items → All (λ (s : Spot). (s.header.id == id) ≡ false) t.spots
   pub spots : (i : Item) → IsAmong items i → (f : IsFilled t.new i.header.offset (span_of i.header (others_of t.list)) i.element) × IsAmong t.spots (record { header = i.header; now = f.now; voids = f.voids })
   pub single : (s : Spot) → IsAmong t.spots s → All (λ (o : Spot). o.header ≡ s.header → o ≡ s) t.spots
-  pub from : (s : Spot) → IsAmong t.spots s → IsFrom t items s
+  pub from : (s : Spot) → IsAmong t.spots s → IsSpotOf t items s
   pub totals : (x : Spot → ℕ) (g : Item → ℕ)
       → ((i : Item) → IsAmong items i → (f : IsFilled t.new i.header.offset (span_of i.header (others_of t.list)) i.element) → x (record { header = i.header; now = f.now; voids = f.voids }) ≤ g i)
       → sum_by x t.spots ≤ sum_by g items
@@ -261,7 +261,7 @@ module _ (bytes : List ℕ) (size now_size : Size) (start e now_end last : ℕ) 
       (rest.0, inr rest.1)
 
   -- Each spot is an item's.
-  from-in : (is : List Item) (are : All (IsItem others) is) (one : All (λ (i : Item). IsAmong ws (write_of others i)) is) (s : Spot) → IsAmong (spots is are one) s → ((i : Item) → IsAmong is i → IsAmong items i) → IsFrom edit items s
+  from-in : (is : List Item) (are : All (IsItem others) is) (one : All (λ (i : Item). IsAmong ws (write_of others i)) is) (s : Spot) → IsAmong (spots is are one) s → ((i : Item) → IsAmong is i → IsAmong items i) → IsSpotOf edit items s
   from-in [] are one s member in_all = absurd member
   from-in (i ∷ is) are one s (inl same) in_all = record {
     item = i;

@@ -20,14 +20,14 @@ abbrev pub counts : Header → ℕ
 counts h = if not (h.id == CLUSTER) then 1 else 0
 
 -- The element keeps the limit of an Info, Tracks, Chapters or Tags, if it is one.
-abbrev pub IsShort : Header → Type 0
-IsShort h = described_octets h ≤ MAX_MASTER_LEN
+abbrev pub KeepsMasterLimit : Header → Type 0
+KeepsMasterLimit h = described_octets h ≤ MAX_MASTER_LEN
 
--- The elements of level 1 in `list` are within the limits of a reader: their number, except Clusters, the length of each Info, Tracks, Chapters
--- and Tags, and the length of all of these.
-pub record AreWithin (list : List Header) : Type 0 where
+-- The elements of level 1 in `list` are within a reader's limits. Counted are all but Clusters, the bytes of each Info, Tracks, Chapters and Tags,
+-- and their sum.
+pub record AreWithinLimits (list : List Header) : Type 0 where
   pub count : others list ≤ MAX_ELEMENTS
-  pub each : All IsShort list
+  pub each : All KeepsMasterLimit list
   pub all : described list ≤ MAX_MASTERS_LEN
 
 -- The limited bytes of a list are the sum of its elements' limited bytes.
@@ -49,7 +49,7 @@ described-sum (h ∷ hs) = of (described-sum hs) (is_described h.id) refl
 
 -- ---- a list within the limits isn't refused
 
-size-kept : (before : List Header) (h : Header) → IsShort h → described (before ++ h ∷ []) ≤ MAX_MASTERS_LEN → passes_size 0 before h ≡ false
+size-kept : (before : List Header) (h : Header) → KeepsMasterLimit h → described (before ++ h ∷ []) ≤ MAX_MASTERS_LEN → passes_size 0 before h ≡ false
 size-kept before h short all = of (is_described h.id) refl
   where
     of : (test : Bool) → is_described h.id ≡ test → (test && (nat_lt MAX_MASTER_LEN (known h.size) || nat_lt MAX_MASTERS_LEN (0 + described (before ++ h ∷ [])))) ≡ false
@@ -67,22 +67,22 @@ count-kept before h few = of (not (h.id == CLUSTER))
     of false = refl
     of true = le-ltb MAX_ELEMENTS (others (before ++ h ∷ [])) few
 
-limits-kept : (before hs : List Header) → others (before ++ hs) ≤ MAX_ELEMENTS → All IsShort hs → described (before ++ hs) ≤ MAX_MASTERS_LEN → limits_from 0 before hs ≡ None
+limits-kept : (before hs : List Header) → others (before ++ hs) ≤ MAX_ELEMENTS → All KeepsMasterLimit hs → described (before ++ hs) ≤ MAX_MASTERS_LEN → limits_from 0 before hs ≡ None
 limits-kept before [] few each all = refl
 limits-kept before (h ∷ hs) few each all =
     let join : (before ++ h ∷ []) ++ hs ≡ before ++ h ∷ hs = append_assoc before (h ∷ []) hs in
     let number : others (before ++ h ∷ hs) ≡ others (before ++ h ∷ []) + others hs = ap others (sym join) ∙ sum_by-append counts (before ++ h ∷ []) hs in
     let sum : described (before ++ h ∷ hs) ≡ sum_by described_octets (before ++ h ∷ []) + sum_by described_octets hs = ap described (sym join) ∙ described-sum ((before ++ h ∷ []) ++ hs) ∙ sum_by-append described_octets (before ++ h ∷ []) hs in
     let front = described-sum (before ++ h ∷ []) in
-    let size = size-kept before h (All-head IsShort h hs each) (omega arith) in
+    let size = size-kept before h (All-head KeepsMasterLimit h hs each) (omega arith) in
     let count = count-kept before h (omega arith) in
-    let rest = limits-kept (before ++ h ∷ []) hs (subst (λ l. others l ≤ MAX_ELEMENTS) (sym join) few) (All-tail IsShort h hs each) (subst (λ l. described l ≤ MAX_MASTERS_LEN) (sym join) all) in
+    let rest = limits-kept (before ++ h ∷ []) hs (subst (λ l. others l ≤ MAX_ELEMENTS) (sym join) few) (All-tail KeepsMasterLimit h hs each) (subst (λ l. described l ≤ MAX_MASTERS_LEN) (sym join) all) in
     ap (λ (b : Bool). first_refusal (first_damage (where_it b (damage HeaderTooLarge h.id h.offset) ∷ where_it (passes_count before h) (damage TooMany h.id h.offset) ∷ [])) (limits_from 0 (before ++ h ∷ []) hs)) size
     ∙ ap (λ (b : Bool). first_refusal (first_damage (where_it false (damage HeaderTooLarge h.id h.offset) ∷ where_it b (damage TooMany h.id h.offset) ∷ [])) (limits_from 0 (before ++ h ∷ []) hs)) count
     ∙ rest
 
 -- Elements within the limits aren't refused.
-pub within-kept : (list : List Header) → AreWithin list → limits_from 0 [] list ≡ None
+pub within-kept : (list : List Header) → AreWithinLimits list → limits_from 0 [] list ≡ None
 within-kept list is = limits-kept [] list is.count is.each is.all
 
 -- ---- a list that isn't refused is within the limits
@@ -96,7 +96,7 @@ causes-none true two c d none = absurd (cc)
 causes-none false true c d none = absurd (cc)
 causes-none false false c d none = (refl, refl)
 
-size-within : (before : List Header) (h : Header) → passes_size 0 before h ≡ false → described before ≤ MAX_MASTERS_LEN → IsShort h × (described (before ++ h ∷ []) ≤ MAX_MASTERS_LEN)
+size-within : (before : List Header) (h : Header) → passes_size 0 before h ≡ false → described before ≤ MAX_MASTERS_LEN → KeepsMasterLimit h × (described (before ++ h ∷ []) ≤ MAX_MASTERS_LEN)
 size-within before h passes all = of (is_described h.id) refl passes
   where
     more : described (before ++ h ∷ []) ≡ described before + described_octets h
@@ -104,7 +104,7 @@ size-within before h passes all = of (is_described h.id) refl passes
         let one = described-sum before in
         described-sum (before ++ h ∷ []) ∙ sum_by_push described_octets before h ∙ (let is : sum_by described_octets before + described_octets h ≡ described before + described_octets h = omega arith in is)
 
-    of : (test : Bool) → is_described h.id ≡ test → (test && (nat_lt MAX_MASTER_LEN (known h.size) || nat_lt MAX_MASTERS_LEN (0 + described (before ++ h ∷ [])))) ≡ false → IsShort h × (described (before ++ h ∷ []) ≤ MAX_MASTERS_LEN)
+    of : (test : Bool) → is_described h.id ≡ test → (test && (nat_lt MAX_MASTER_LEN (known h.size) || nat_lt MAX_MASTERS_LEN (0 + described (before ++ h ∷ [])))) ≡ false → KeepsMasterLimit h × (described (before ++ h ∷ []) ≤ MAX_MASTERS_LEN)
     of false is none =
         let here : described_octets h ≡ 0 = ap (λ (b : Bool). if b then known h.size else 0) is in
         (omega arith, omega (arith, more))
@@ -133,18 +133,18 @@ count-within before h passes few = of (not (h.id == CLUSTER)) refl passes
     of true is none = grind (arith, nat_tests)
 
 limits-within : (before hs : List Header) → limits_from 0 before hs ≡ None → others before ≤ MAX_ELEMENTS → described before ≤ MAX_MASTERS_LEN
-    → (others (before ++ hs) ≤ MAX_ELEMENTS) × All IsShort hs × (described (before ++ hs) ≤ MAX_MASTERS_LEN)
-limits-within before [] none few all = (subst (λ l. others l ≤ MAX_ELEMENTS) (sym (append-nil before)) few, All-nil IsShort, subst (λ l. described l ≤ MAX_MASTERS_LEN) (sym (append-nil before)) all)
+    → (others (before ++ hs) ≤ MAX_ELEMENTS) × All KeepsMasterLimit hs × (described (before ++ hs) ≤ MAX_MASTERS_LEN)
+limits-within before [] none few all = (subst (λ l. others l ≤ MAX_ELEMENTS) (sym (append-nil before)) few, All-nil KeepsMasterLimit, subst (λ l. described l ≤ MAX_MASTERS_LEN) (sym (append-nil before)) all)
 limits-within before (h ∷ hs) none few all =
     let join : (before ++ h ∷ []) ++ hs ≡ before ++ h ∷ hs = append_assoc before (h ∷ []) hs in
     let both = refusal-none (first_damage (limit_causes 0 before h)) (limits_from 0 (before ++ h ∷ []) hs) none in
     let passes = causes-none (passes_size 0 before h) (passes_count before h) (damage HeaderTooLarge h.id h.offset) (damage TooMany h.id h.offset) both.0 in
     let size = size-within before h passes.0 all in
     let rest = limits-within (before ++ h ∷ []) hs both.1 (count-within before h passes.1 few) size.1 in
-    (subst (λ l. others l ≤ MAX_ELEMENTS) join rest.0, All-cons IsShort h hs size.0 rest.1, subst (λ l. described l ≤ MAX_MASTERS_LEN) join rest.2)
+    (subst (λ l. others l ≤ MAX_ELEMENTS) join rest.0, All-cons KeepsMasterLimit h hs size.0 rest.1, subst (λ l. described l ≤ MAX_MASTERS_LEN) join rest.2)
 
 -- Elements that aren't refused are within the limits.
-pub kept-within : (list : List Header) → limits_from 0 [] list ≡ None → AreWithin list
+pub kept-within : (list : List Header) → limits_from 0 [] list ≡ None → AreWithinLimits list
 kept-within list none =
     let is = limits-within [] list none (omega arith) (omega arith) in
     record { count = is.0; each = is.1; all = is.2 }
@@ -152,7 +152,7 @@ kept-within list none =
 -- ---- the outline
 
 -- A file whose level 1 is within the limits has an outline.
-pub outline-there : (bytes : List ℕ) (ebml segment : Header) → ebml_header bytes ≡ Ok ebml → segment_of bytes ebml ≡ Ok segment → AreWithin (segment_run bytes segment).list
+pub outline-there : (bytes : List ℕ) (ebml segment : Header) → ebml_header bytes ≡ Ok ebml → segment_of bytes ebml ≡ Ok segment → AreWithinLimits (segment_run bytes segment).list
     → outline_in 0 bytes ≡ Ok (shown bytes (outlined bytes ebml segment (segment_run bytes segment)))
 unfolding outline_of
 outline-there bytes ebml segment first second within =

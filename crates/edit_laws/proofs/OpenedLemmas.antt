@@ -5,7 +5,7 @@ use Rattle.mkv_schema.proofs.OutlineLemmas.{and_then-ok, unless-ok}
 use Rattle.element_reader.specs.Collected.{last_element, others_of}
 use Rattle.element_reader.specs.Outline.{FileOutline, outline_in, shown}
 use Rattle.element_reader.proofs.OutlineLemmas.{Outlines-shown}
-use Rattle.edit_laws.proofs.LimitLemmas.{AreWithin, kept-within}
+use Rattle.edit_laws.proofs.LimitLemmas.{AreWithinLimits, kept-within}
 
 pub record IsOpened (bytes : List ℕ) (o : FileOutline) : Type 0 where
   pub ebml : ebml_header bytes ≡ Ok o.ebml
@@ -15,7 +15,7 @@ pub record IsOpened (bytes : List ℕ) (o : FileOutline) : Type 0 where
   pub last : o.last ≡ last_element (segment_run bytes o.segment).list
   pub damage : o.damage ≡ (segment_run bytes o.segment).damage
   pub held : o.held ≡ described (segment_run bytes o.segment).list
-  pub within : AreWithin (segment_run bytes o.segment).list
+  pub within : AreWithinLimits (segment_run bytes o.segment).list
   pub end : o.end ≡ segment_end bytes o.segment (segment_run bytes o.segment)
 
 outlined-is : (bytes : List ℕ) (o : Outlined) → outline_of 0 bytes ≡ Ok o → IsOpened bytes (shown bytes o)

@@ -47,9 +47,9 @@ use Rattle.edit_laws.proofs.AmongLemmas.{IsAmong, all-among, among-left, among-r
 use Rattle.edit_laws.proofs.SameLemmas.{InOrder}
 use Rattle.edit_laws.specs.Laws.{HoldsEdited, IsOutside, normal_form, tracks_octets}
 use Rattle.edit_laws.proofs.CountLemmas.{described-most, described_len, undescribed}
-use Rattle.edit_laws.proofs.LimitLemmas.{AreWithin, counts, described-sum}
+use Rattle.edit_laws.proofs.LimitLemmas.{AreWithinLimits, counts, described-sum}
 use Rattle.edit_laws.proofs.AgainLemmas.{CanBeRead}
-use Rattle.edit_laws.proofs.GoodLemmas.{AreGood, IsScaled, good-all, info-again, scaled-info, tracks-again}
+use Rattle.edit_laws.proofs.GoodLemmas.{AreUnrefused, IsScaled, good-all, info-again, scaled-info, tracks-again}
 use Rattle.edit_laws.proofs.IndexedLemmas.{edited-again, trees-made}
 use Rattle.edit_laws.proofs.HeldLemmas.{IsWritten, first-written, tree-again, written-again, written-first}
 use Rattle.edit_laws.proofs.ItemLemmas.{AreDistinct, IsItem, IsName, Item, names}
@@ -201,7 +201,7 @@ module _ (bytes : List ℕ) (are_octets : AreOctets bytes) (short : length bytes
       (of-part segment.body last others level-stands (are_of_info edits) INFO (info_nodes t.info)) (of-part segment.body last others level-stands (are_of_tracks edits) TRACKS t.tracks)
 
   -- The edited trees aren't refused.
-  good : AreGood t
+  good : AreUnrefused t
   good = good-all 0 edits f.trees t first.good made
 
   pub distinct : AreDistinct items
@@ -414,7 +414,7 @@ module _ (bytes : List ℕ) (are_octets : AreOctets bytes) (short : length bytes
         )
 
     -- The elements of level 1 are within the limits, if three more are, and as many bytes as an edit may write.
-    new-within : length f.outline.others + 3 ≤ MAX_ELEMENTS → f.outline.held + MAX_WRITTEN ≤ MAX_MASTERS_LEN → AreWithin (segment_run new rest.segment).list
+    new-within : length f.outline.others + 3 ≤ MAX_ELEMENTS → f.outline.held + MAX_WRITTEN ≤ MAX_MASTERS_LEN → AreWithinLimits (segment_run new rest.segment).list
     new-within room space =
         let was = op.within in
         let number : length f.outline.others ≡ sum_by counts list = ap (λ (hs : List Header). length hs) op.others ∙ length-filter (λ (k : Header). not (k.id == CLUSTER)) list in
@@ -423,7 +423,7 @@ module _ (bytes : List ℕ) (are_octets : AreOctets bytes) (short : length bytes
         let held = op.held in
         let old_sum = described-sum list in
         let new_sum = described-sum rest.list in
-        subst AreWithin (sym (ap (λ (r : Run). r.list) rest.run)) (record { count = omega arith; each = rest.short was.each all_short added_short; all = omega arith })
+        subst AreWithinLimits (sym (ap (λ (r : Run). r.list) rest.run)) (record { count = omega arith; each = rest.short was.each all_short added_short; all = omega arith })
 
     holds : HoldsEdited bytes new f t
     holds = record {

@@ -43,7 +43,7 @@ use Rattle.edit_laws.proofs.SegmentLemmas.{IsSegment, segment-is, segment-same}
 use Rattle.edit_laws.proofs.BlockLemmas.{AreAlike}
 use Rattle.edit_laws.proofs.TileLemmas.{advances-level, level, run_of, Stands, Tiles, tiled, whole}
 use Rattle.edit_laws.proofs.LevelLemmas.{Edit, Spot, IsSpot, all_now, level-within, new_level}
-use Rattle.edit_laws.proofs.LimitLemmas.{IsShort, counts}
+use Rattle.edit_laws.proofs.LimitLemmas.{KeepsMasterLimit, counts}
 use Rattle.edit_laws.proofs.CountLemmas.{becomes-all, becomes-sum, described_len, headers-count, headers-described, headers-short, passed-most, spot-count, spot-described, spot-short, void-undescribed}
 use Rattle.edit_laws.proofs.ResultLemmas.{cluster-kept, events-skip, first-behind, first-moved, first-skips, first-stays}
 use Rattle.edit_laws.proofs.FillLemmas.{IsFilled, Stands as FillsRoom, small-widen}
@@ -91,7 +91,7 @@ pub record HoldsRest (old new : List ℕ) (o : FileOutline) (was : List Header) 
   pub undamaged : (r : Rules) → damages_of (events_of r old o.segment) ≡ [] → damages_of (events_of r new segment) ≡ []
   pub count : sum_by counts list ≤ sum_by counts was + sum_by (adds_void (others_of was)) items + length added
   pub described : sum_by described_octets list ≤ sum_by described_octets was + sum_by (described_there (others_of was)) items + sum_by described_len added
-  pub short : All IsShort was → All (λ (i : Item). described_len i.element ≤ MAX_MASTER_LEN) items → All (λ (d : Element). described_len d ≤ MAX_MASTER_LEN) added → All IsShort list
+  pub short : All KeepsMasterLimit was → All (λ (i : Item). described_len i.element ≤ MAX_MASTER_LEN) items → All (λ (d : Element). described_len d ≤ MAX_MASTER_LEN) added → All KeepsMasterLimit list
   pub clusters : (h : Header) → (h.id == CLUSTER) ≡ true → IsAmong was h → HoldsCluster old new o.segment segment h
   pub stays : (i : Item) → IsAmong items i → length (octets_of i.element) ≤ span_of i.header (others_of was) → (w : IsWritten new i.element.id i.element.body list) × (w.place ≡ i.header.offset)
   pub moves : (i : Item) → IsAmong items i → span_of i.header (others_of was) < length (octets_of i.element) → number_of i.element.id (others_of was) ≤ 1
@@ -252,10 +252,10 @@ module _ (t : Edit) (o : FileOutline) (items : List Item) (added : List Element)
           cases true = omega arith
           cases false = omega arith
 
-  all-short : All IsShort t.list → All (λ (i : Item). described_len i.element ≤ MAX_MASTER_LEN) items → All (λ (d : Element). described_len d ≤ MAX_MASTER_LEN) added → All IsShort anew.listed.list
+  all-short : All KeepsMasterLimit t.list → All (λ (i : Item). described_len i.element ≤ MAX_MASTER_LEN) items → All (λ (d : Element). described_len d ≤ MAX_MASTER_LEN) added → All KeepsMasterLimit anew.listed.list
   all-short old few more =
-      becomes-all t IsShort (λ s member spot. spot-short t s spot (now-short few s member))
-      (subst (All IsShort) (sym behind) (headers-short (length t.old) added more)) t.list anew.listed.list old anew.listed.becomes
+      becomes-all t KeepsMasterLimit (λ s member spot. spot-short t s spot (now-short few s member))
+      (subst (All KeepsMasterLimit) (sym behind) (headers-short (length t.old) added more)) t.list anew.listed.list old anew.listed.becomes
 
   rest-of : HoldsAt t.new (length t.old) (joined added) → ebml_header t.new ≡ Ok o.ebml → segment_of t.new o.ebml ≡ Ok now → now.body ≡ o.segment.body → HoldsRest t.old t.new o t.list items added
   rest-of held ebml found body = record {

@@ -31,7 +31,7 @@ use Rattle.edit_changes.specs.Change.{edited_from, edited_once, numbered}
 use Rattle.edit_changes.specs.Records.{good_tracks, trees_of}
 use Rattle.edit_plan.proofs.PartLemmas.{first-own}
 use Rattle.edit_laws.proofs.DepthLemmas.{tree_of-deep}
-use Rattle.edit_laws.proofs.GoodLemmas.{AreGood, IsScaled, info-scaled}
+use Rattle.edit_laws.proofs.GoodLemmas.{AreUnrefused, IsScaled, info-scaled}
 use Rattle.edit_laws.proofs.TreeLemmas.{AreFit, IsFit, Once, of_info, of_tracks, numbered-ok, once-is, then-ok}
 
 -- ---- trees that were read
@@ -48,7 +48,7 @@ pub record AreFirst (bytes : List ℕ) (segment : Header) (t : Trees) : Type 0 w
   pub chapters_read : first_tree CHAPTERS bytes segment ≡ Ok chapters
   pub tags : Option Node
   pub tags_read : first_tree TAGS bytes segment ≡ Ok tags
-  pub good : AreGood t
+  pub good : AreUnrefused t
 
 good-same : (n m : Option Node) → good_info n ≡ Ok m → n ≡ m
 good-same None m is = cc

@@ -48,7 +48,7 @@ pub record IsOutside (h : Header) : Type 0 where
 
 -- The edited file `new` holds the content of `old`, with the edited trees `t`. Info and Tracks are the edited ones. The attached files, their
 -- data, Chapters and Tags are the old ones, at their places, and so are the blocks, with any scale. The file can be edited again, if `old` has
--- room for three more elements at level 1, and for the bytes of an edit in Info and Tracks.
+-- room at level 1 for three more elements and for the bytes of an edit.
 pub record HoldsEdited (old new : List ℕ) (f : EditableFile) (t : Trees) : Type 0 where
   pub segment : Header
   pub ebml : ebml_header new ≡ Ok f.outline.ebml
