@@ -23,10 +23,9 @@ use Rattle.mkv_schema.specs.Value.{first_of}
 use Rattle.tree_format.specs.Node.{Node, children}
 use Rattle.tree_format.specs.NormalForm.{octets}
 use Rattle.file_format.specs.FileBlocks.{file_events}
-use Rattle.file_format.specs.Info.{file_scale, info_tree, scale_at, scale_in}
-use Rattle.file_format.specs.declared.scale.TheConstants.{DEFAULT_SCALE}
+use Rattle.file_format.specs.Info.{file_scale}
 use Rattle.meta_records.specs.Attached.{first_attached}
-use Rattle.meta_records.specs.Records.{first_tree, scale_of_info, tree_at}
+use Rattle.meta_records.specs.Records.{first_tree}
 use Rattle.block_format.specs.Block.{Block}
 use Rattle.block_format.specs.Elements.{Rules, with_limits, without_limits}
 use Rattle.block_format.specs.Events.{Event, Found, damages_of, events_among, events_of, events_then, found_in, is_closed}
@@ -56,7 +55,7 @@ use Rattle.edit_laws.proofs.CuesLemmas.{HoldsCues, cues-are, cues-hold, new-own}
 use Rattle.edit_laws.proofs.PointLemmas.{IsAtTick, each-has, hidden-none, indexable-whole, indexed-time}
 use Rattle.edit_laws.proofs.ItemLemmas.{Item, names}
 use Rattle.edit_laws.proofs.CountLemmas.{described_len, sum-none, undescribed}
-use Rattle.edit_laws.proofs.IndexedLemmas.{indexed-again, trees-are, trees_from}
+use Rattle.edit_laws.proofs.IndexedLemmas.{indexed-again, scale-tree, scale_read, trees-are, trees_from}
 use Rattle.edit_laws.proofs.LimitLemmas.{AreWithinLimits, counts, described-sum}
 use Rattle.edit_laws.proofs.WriteLemmas.{described_there, there-none}
 
@@ -130,24 +129,6 @@ before-ahead at (h ∷ hs) c is = of (cluster_before at hs) (before-ahead at hs 
     of (Some k) further test is = inr (further is)
     of None further true is = inl (cc)
     of None further false is = absurd (cc)
-
--- the scale of an Info that was read
-abbrev scale_read : Result (Option Node) Damage → ℕ
-scale_read (Ok info) = scale_of_info info
-scale_read (Err d) = DEFAULT_SCALE
-
--- The scale of a file is the scale of its first Info as a tree.
-scale-tree : (bytes : List ℕ) (segment : Header) → file_scale bytes segment ≡ scale_read (first_tree INFO bytes segment)
-unfolding file_scale
-scale-tree bytes segment = of (first_of INFO (segment_run bytes segment).list)
-  where
-    read : (found : Result Node Damage) → scale_in found ≡ scale_read (and_then found (λ tree. Ok (Some tree)))
-    read (Ok n) = refl
-    read (Err d) = refl
-
-    of : (first : Option Header) → scale_at (info_tree bytes) first ≡ scale_read (tree_at bytes first)
-    of None = refl
-    of (Some h) = read (info_tree bytes h)
 
 -- ---- the law
 

@@ -29,6 +29,7 @@ use Rattle.file_format.specs.Info.{info_refusal}
 use Rattle.file_format.specs.Refusal.{refusal_of, too_long}
 use Rattle.file_format.specs.Tracks.{AreTracks, IsTrack}
 use Rattle.file_format.proofs.TracksLemmas.{refusal-none}
+use Rattle.meta_records.specs.Records.{scale_of_info}
 use Rattle.record_laws.proofs.SameLemmas.{integer-placed, part-placed}
 use Rattle.record_laws.proofs.TrackLemmas.{find-filter, find-map, first_in}
 use Rattle.edit_changes.specs.declared.property.Property.{Property}
@@ -357,6 +358,24 @@ good-all k (e ∷ es) t u good is =
     let made = then-ok (numbered (k + 1) (edited_once e t)) (edited_from (k + 1) es) u is in
     good-all (k + 1) es made.0 u (good-once e t made.0 good (once-is e t made.0 (numbered-ok (k + 1) (edited_once e t) made.0 made.1.0))) made.1.1
 
+-- ---- the scale
+
+scale-once : (e : Edit) (t u : Trees) → Once e t u → scale_of_info u.info ≡ scale_of_info t.info
+scale-once e t u (of_info own n m at made same) =
+    let change = edited-is e n m made in
+    let other = info-safe e.name change.0 (ap (λ (b : Bool). property_of b e.name) (sym own) ∙ change.1) in
+    ap (λ (x : Trees). scale_of_info x.info) (sym same)
+    ∙ ap (λ (o : Option ℕ). unwrap_or o (unwrap_or (uint_default TIMESTAMP_SCALE) 0)) (scale-stays e.value change.0 n m change.2 other)
+    ∙ ap scale_of_info (sym at)
+scale-once e t u (of_tracks other k n m place at made same) = ap (λ (x : Trees). scale_of_info x.info) (sym same)
+
+-- Edits leave the scale of an Info.
+pub scale-all : (k : ℕ) (es : List Edit) (t u : Trees) → edited_from k es t ≡ Ok u → scale_of_info u.info ≡ scale_of_info t.info
+scale-all k [] t u is = let same : t ≡ u = cc in ap (λ (x : Trees). scale_of_info x.info) (sym same)
+scale-all k (e ∷ es) t u is =
+    let made = then-ok (numbered (k + 1) (edited_once e t)) (edited_from (k + 1) es) u is in
+    scale-all (k + 1) es made.0 u made.1.1 ∙ scale-once e t made.0 (once-is e t made.0 (numbered-ok (k + 1) (edited_once e t) made.0 made.1.0))
+
 -- ---- an Info
 
 scale-of : (o : Option Node) → option_and_then (λ (n : Node). where_it (not (not (integer_of n == 0))) (damage BadValue TIMESTAMP_SCALE (offset_of n))) o ≡ None → IfSome (option_map integer_of o) (λ s. 0 < s)
@@ -444,9 +463,12 @@ tracks-again ts id at p are =
     let numbers : map number_of ms ≡ map number_of es = sym (numbers-of ms) ∙ ap (map (λ (f : Facts). f.number)) same ∙ numbers-of es in
     (refusal-none (master id at (placed_all p (nodes_of ts)))).1 (same-numbers es ms numbers (each-by es ms same are.each) are)
 
--- An Info that is read again isn't refused.
+-- An Info that is read again has its scale.
+pub scale-again : (n : Node) (id at p : ℕ) → integer_in TIMESTAMP_SCALE (master id at (placed_all p (nodes_of (children n)))) ≡ integer_in TIMESTAMP_SCALE n
+scale-again n id at p =
+    find-placed TIMESTAMP_SCALE refl (nodes_of (children n)) p ∙ ap (λ (l : List Node). option_map integer_of (find (λ (k : Node). id_of k == TIMESTAMP_SCALE) l)) (list-nodes (children n))
+
+-- It isn't refused.
 pub info-again : (n : Node) (id at p : ℕ) → IsScaled n → info_refusal (master id at (placed_all p (nodes_of (children n)))) ≡ None
 info-again n id at p scaled =
-    scaled-info (master id at (placed_all p (nodes_of (children n))))
-    (subst (λ (o : Option ℕ). IfSome o (λ s. 0 < s))
-    (sym (find-placed TIMESTAMP_SCALE refl (nodes_of (children n)) p ∙ ap (λ (l : List Node). option_map integer_of (find (λ (k : Node). id_of k == TIMESTAMP_SCALE) l)) (list-nodes (children n)))) scaled)
+    scaled-info (master id at (placed_all p (nodes_of (children n)))) (subst (λ (o : Option ℕ). IfSome o (λ s. 0 < s)) (sym (scale-again n id at p)) scaled)

@@ -1,20 +1,41 @@
 -- A file that is within the limits can be indexed or edited again, if its trees are read.
-use Rattle.std.proofs.Common.{◌≡◌, ℕ, true, List, [], slice_get, Option, None, Result, Ok, refl, ◌∙◌, ap}
+use Rattle.std.proofs.Common.{◌≡◌, ℕ, true, List, [], slice_get, Option, Some, None, Result, Ok, Err, refl, ◌∙◌, ap}
 use Rattle.mkv_io.specs.declared.damage.Damage.{Damage}
 use Rattle.mkv_schema.specs.declared.ids.TheConstants.{CHAPTERS, INFO, TAGS, TRACKS}
 use Rattle.mkv_schema.specs.declared.element.Header.{Header}
 use Rattle.mkv_schema.specs.Outline.{ebml_header, outlined, segment_of, segment_run}
+use Rattle.mkv_schema.specs.Value.{first_of}
 use Rattle.mkv_io.specs.Results.{and_then, unless}
 use Rattle.element_reader.specs.Outline.{FileOutline, shown}
 use Rattle.tree_format.specs.Node.{Node, children}
 use Rattle.file_format.specs.FileBlocks.{file_events}
+use Rattle.file_format.specs.Info.{file_scale, info_tree, scale_at, scale_in}
+use Rattle.file_format.specs.declared.scale.TheConstants.{DEFAULT_SCALE}
 use Rattle.meta_records.specs.Attached.{AttachedFile, first_attached}
-use Rattle.meta_records.specs.Records.{first_tree, good_info}
+use Rattle.meta_records.specs.Records.{first_tree, good_info, scale_of_info, tree_at}
 use Rattle.block_format.specs.Events.{damages_of}
 use Rattle.edit_changes.specs.declared.trees.Trees.{Trees}
 use Rattle.edit_changes.specs.Records.{EditableFile, editable, good_tracks, trees_of}
 use Rattle.edit_laws.proofs.LimitLemmas.{AreWithinLimits, outline-there}
 use Rattle.reindex.specs.Index.{file_damage, indexable}
+
+-- the scale of an Info that was read
+abbrev pub scale_read : Result (Option Node) Damage → ℕ
+scale_read (Ok info) = scale_of_info info
+scale_read (Err d) = DEFAULT_SCALE
+
+-- The scale of a file is the scale of its first Info as a tree.
+pub scale-tree : (bytes : List ℕ) (segment : Header) → file_scale bytes segment ≡ scale_read (first_tree INFO bytes segment)
+unfolding file_scale
+scale-tree bytes segment = of (first_of INFO (segment_run bytes segment).list)
+  where
+    read : (found : Result Node Damage) → scale_in found ≡ scale_read (and_then found (λ tree. Ok (Some tree)))
+    read (Ok n) = refl
+    read (Err d) = refl
+
+    of : (first : Option Header) → scale_at (info_tree bytes) first ≡ scale_read (tree_at bytes first)
+    of None = refl
+    of (Some h) = read (info_tree bytes h)
 
 -- the trees of a file by its parts
 pub trees_from : Result (Option Node) Damage → Result Node Damage → Result (List AttachedFile) Damage → Result (Option Node) Damage → Result (Option Node) Damage → Result Trees Damage

@@ -28,11 +28,11 @@ mod SectionLemmas
 mod EndLemmas
 mod RestLemmas
 mod PlannedLemmas
-mod IndexedLemmas
-mod OutcomeLemmas
-mod EditedLemmas
 mod StandLemmas
 mod TickLemmas
 mod PointLemmas
+mod IndexedLemmas
+mod OutcomeLemmas
+mod EditedLemmas
 mod CuesLemmas
 mod AnewLemmas

@@ -2,25 +2,27 @@
 use Rattle.std.proofs.Common.{inl, inr, ◌≡◌, ◌⊎◌, ◌<◌, ◌≤◌, ℕ, ◌+◌, ◌^◌, ◌==◌, max, nat_lt, not, Bool, true, false, ◌||◌, if◌then◌else◌, List, [], ◌∷◌, ◌++◌, length, length-append, filter, flat_map, All, Option, Some, None, IfSome, Result, Ok, refl, sym, ◌∙◌, ap, ap₂, subst, arith}
 use Rattle.std.specs.List.{list_any}
 use Rattle.std.specs.Prelude.{filter_map, sum_by}
-use Rattle.std.specs.Option.{is_some, option_map, option_map_or}
+use Rattle.std.specs.Option.{is_some, option_map, option_map_or, unwrap_or}
 use Rattle.std.proofs.lemmas.Bool.{cases_lt}
 use Rattle.std.proofs.lemmas.Bool.Decides.{nat_tests}
 use Rattle.std.proofs.lemmas.List.Elements.{All-nil, All-cons, All-head, All-tail, All-append, All-weaker}
 use Rattle.std.proofs.lemmas.List.Sums.{length-filter, sum_by-append, sum_by-cons}
 use Rattle.ebml_numbers.specs.Number.{AreOctets}
-use Rattle.mkv_schema.specs.declared.ids.TheConstants.{ATTACHMENTS, CHAPTERS, CLUSTER, INFO, SEEK_HEAD, TAGS, TRACKS, TRACK_ENTRY}
+use Rattle.mkv_schema.specs.declared.ids.TheConstants.{ATTACHMENTS, CHAPTERS, CLUSTER, INFO, SEEK_HEAD, TAGS, TIMESTAMP_SCALE, TRACKS, TRACK_ENTRY}
 use Rattle.mkv_io.specs.declared.damage.Damage.{Damage}
 use Rattle.mkv_io.specs.declared.outside.TheConstants.{LONGEST_FILE}
 use Rattle.requests.specs.declared.edit.Edit.{Edit}
 use Rattle.mkv_schema.specs.declared.element.Header.{Header}
 use Rattle.mkv_schema.specs.Elements.{Run, ends_cluster}
-use Rattle.mkv_schema.specs.Outline.{segment_bound, segment_run}
+use Rattle.mkv_schema.specs.Outline.{outlined, segment_bound, segment_run}
 use Rattle.mkv_io.specs.Results.{and_then, unless}
 use Rattle.mkv_schema.specs.Value.{body_of, first_of}
 use Rattle.mkv_schema.proofs.OutlineLemmas.{and_then-ok}
 use Rattle.tree_format.specs.Reading.{tree_of}
 use Rattle.mkv_schema.specs.declared.limits.TheConstants.{MAX_ELEMENTS, MAX_MASTER_LEN, MAX_MASTERS_LEN}
+use Rattle.mkv_schema.specs.Schema.{uint_default}
 use Rattle.element_reader.specs.Collected.{others_of}
+use Rattle.element_reader.specs.Outline.{shown}
 use Rattle.element_reader.proofs.OutlineLemmas.{first_in-others}
 use Rattle.output_model.specs.Element.{Element, IsElement, element, header_in_place, headers_in_place, octets_of}
 use Rattle.output_model.proofs.ReadLemmas.{length-octets_of}
@@ -28,10 +30,13 @@ use Rattle.tree_format.specs.declared.limits.TheConstants.{MAX_NODES}
 use Rattle.tree_format.specs.Node.{Node, children, id_of, master, nodes_of, deepest, depth_all}
 use Rattle.tree_format.specs.NormalForm.{octets}
 use Rattle.tree_format.specs.Standing.{AllStandIn, kept_all, placed_all}
-use Rattle.file_format.specs.Info.{info_refusal}
+use Rattle.file_format.specs.FileBlocks.{file_events}
+use Rattle.file_format.specs.Info.{file_scale, info_refusal, scale_of}
 use Rattle.file_format.specs.Tracks.{AreTracks}
 use Rattle.file_format.proofs.TracksLemmas.{refusal-none}
-use Rattle.meta_records.specs.Records.{first_tree, good_info, tree_at}
+use Rattle.meta_records.specs.Records.{first_tree, good_info, scale_of_info, tree_at}
+use Rattle.block_format.specs.Elements.{with_limits}
+use Rattle.block_format.specs.Events.{damages_of, events_of}
 use Rattle.sidecar_edit.specs.Writes.{Write, applied}
 use Rattle.edit_changes.specs.declared.trees.Trees.{Trees}
 use Rattle.edit_changes.specs.declared.refusal.TheConstants.{MAX_WRITTEN}
@@ -49,8 +54,9 @@ use Rattle.edit_laws.specs.Laws.{HoldsEdited, IsOutside, normal_form, tracks_oct
 use Rattle.edit_laws.proofs.CountLemmas.{described-most, described_len, undescribed}
 use Rattle.edit_laws.proofs.LimitLemmas.{AreWithinLimits, counts, described-sum}
 use Rattle.edit_laws.proofs.AgainLemmas.{CanBeRead}
-use Rattle.edit_laws.proofs.GoodLemmas.{AreUnrefused, IsScaled, good-all, info-again, scaled-info, tracks-again}
-use Rattle.edit_laws.proofs.IndexedLemmas.{edited-again, trees-made}
+use Rattle.edit_laws.proofs.GoodLemmas.{AreUnrefused, IsScaled, good-all, info-again, scale-again, scale-all, scaled-info, tracks-again}
+use Rattle.edit_laws.proofs.IndexedLemmas.{edited-again, file_with, indexed-again, scale-tree, scale_read, trees-made}
+use Rattle.edit_laws.proofs.PointLemmas.{indexable-whole}
 use Rattle.edit_laws.proofs.HeldLemmas.{IsWritten, first-written, tree-again, written-again, written-first}
 use Rattle.edit_laws.proofs.ItemLemmas.{AreDistinct, IsItem, IsName, Item, names}
 use Rattle.edit_laws.proofs.OpenedLemmas.{IsOpened}
@@ -361,6 +367,34 @@ module _ (bytes : List ℕ) (are_octets : AreOctets bytes) (short : length bytes
 
     -- ---- the trees are read again
 
+    -- A written Info, with the places after writing.
+    info-written : (h : Header) → first_of INFO others ≡ Some h → infos ≡ item_at (info_nodes t.info) h ∷ []
+        → (place : ℕ) × (base : ℕ) × (first_tree INFO new rest.segment ≡ Ok (Some (master INFO place (placed_all base (nodes_of (info_nodes t.info))))))
+    info-written h found item =
+        let there = info-is h found in
+        let w = written INFO (info_nodes t.info) h refl (among-left infos tracks (item_at (info_nodes t.info) h) (subst (λ (is : List Item). IsAmong is (item_at (info_nodes t.info) h)) (sym item) (inl refl))) found (info-spells h item) in
+        (w.place, (header_in_place w.place w.element).body, tree-again new rest.segment rest.list rest.end rest.run INFO (info_nodes t.info) (can-info few nodes there.0 h there.1 item) w)
+
+    -- The scale stays.
+    scale-now : file_scale new rest.segment ≡ file_scale bytes segment
+    scale-now = scale-tree new rest.segment ∙ elim (item-cases (are_of_info edits) INFO others (info_nodes t.info)) [
+      | inl (why, none) ↦ ap scale_read (rest.tree INFO (untouched INFO names.info.level refl refl (no-info none)))
+      | inr (h, found, item) ↦ (
+          let there = info-is h found in
+          let w = info-written h found item in
+          ap scale_read w.2
+          ∙ ap (λ (x : Option Node). scale_of (master INFO w.0 (placed_all w.1 (nodes_of (info_nodes x))))) there.1
+          ∙ ap (λ (o : Option ℕ). unwrap_or o (unwrap_or (uint_default TIMESTAMP_SCALE) 0)) (scale-again there.0 INFO w.0 w.1)
+          ∙ ap scale_of_info (sym there.1)
+          ∙ scale-all 0 edits f.trees t made
+          ∙ sym (ap scale_read first.info)
+          )
+    ] ∙ sym (scale-tree bytes segment)
+
+    -- If the old file has no damage, the new one has none.
+    undamaged-now : damages_of (file_events true bytes segment) ≡ [] → damages_of (file_events true new rest.segment) ≡ []
+    undamaged-now none = subst (λ n. damages_of (events_of (with_limits n) new rest.segment) ≡ []) (sym scale-now) (rest.undamaged (with_limits (file_scale bytes segment)) none)
+
     -- An Info that was kept, or written, isn't refused.
     info-read : (i : Option Node) × (and_then (first_tree INFO new rest.segment) good_info ≡ Ok i)
     info-read = elim (item-cases (are_of_info edits) INFO others (info_nodes t.info)) [
@@ -371,14 +405,12 @@ module _ (bytes : List ℕ) (are_octets : AreOctets bytes) (short : length bytes
       | inr (h, found, item) ↦ (
           let there = info-is h found in
           let scaled : IsScaled there.0 = subst (λ (x : Option Node). IfSome x IsScaled) there.1 good.info in
-          let w = written INFO (info_nodes t.info) h refl (among-left infos tracks (item_at (info_nodes t.info) h) (subst (λ (is : List Item). IsAmong is (item_at (info_nodes t.info) h)) (sym item) (inl refl))) found (info-spells h item) in
-          let read = tree-again new rest.segment rest.list rest.end rest.run INFO (info_nodes t.info) (can-info few nodes there.0 h there.1 item) w in
-          let base : ℕ = (header_in_place w.place w.element).body in
-          let tree : Node = master INFO w.place (placed_all base (nodes_of (info_nodes t.info))) in
-          let same : tree ≡ master INFO w.place (placed_all base (nodes_of (children there.0))) = ap (λ (x : Option Node). master INFO w.place (placed_all base (nodes_of (info_nodes x)))) there.1 in (
+          let w = info-written h found item in
+          let tree : Node = master INFO w.0 (placed_all w.1 (nodes_of (info_nodes t.info))) in
+          let same : tree ≡ master INFO w.0 (placed_all w.1 (nodes_of (children there.0))) = ap (λ (x : Option Node). master INFO w.0 (placed_all w.1 (nodes_of (info_nodes x)))) there.1 in (
             Some tree,
-            ap (λ (x : Result (Option Node) Damage). and_then x good_info) read
-                ∙ ap (λ (r : Option Damage). unless r (Some tree)) (ap info_refusal same ∙ info-again there.0 INFO w.place base scaled),
+            ap (λ (x : Result (Option Node) Damage). and_then x good_info) w.2
+                ∙ ap (λ (r : Option Damage). unless r (Some tree)) (ap info_refusal same ∙ info-again there.0 INFO w.0 w.1 scaled),
           )
           )
     ]
@@ -440,6 +472,10 @@ module _ (bytes : List ℕ) (are_octets : AreOctets bytes) (short : length bytes
       blocks = rest.blocks;
       again = λ room space.
           edited-again new f.outline.ebml rest.segment trees-read.0 rest.ebml rest.found (new-within room space) (ap (λ (r : Run). r.damage) rest.run) trees-read.1;
+      indexed = λ room space could. (
+        file_with (shown new (outlined new f.outline.ebml rest.segment (segment_run new rest.segment))) trees-read.0,
+        indexed-again new f.outline.ebml rest.segment trees-read.0 rest.ebml rest.found (new-within room space) trees-read.1 (undamaged-now (indexable-whole bytes f could).undamaged),
+      );
     }
 
   -- A short element keeps the limit of each.

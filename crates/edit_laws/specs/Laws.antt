@@ -23,6 +23,7 @@ use Rattle.edit_changes.specs.declared.trees.Trees.{Trees}
 use Rattle.edit_changes.specs.Change.{edited_trees}
 use Rattle.edit_changes.specs.Records.{EditableFile, editable}
 use Rattle.edit_changes.specs.Plan.{edited}
+use Rattle.reindex.specs.Index.{indexable}
 
 -- the normal form of the first Element with the ID `id` at level 1, or the damage inside it
 abbrev pub normal_form : ℕ → List ℕ → Header → Result (Option (List ℕ)) Damage
@@ -47,8 +48,8 @@ pub record IsOutside (h : Header) : Type 0 where
   pub group : (h.id == BLOCK_GROUP) ≡ false
 
 -- The edited file `new` holds the content of `old`, with the edited trees `t`. Info and Tracks are the edited ones. The attached files, their
--- data, Chapters and Tags are the old ones, at their places, and so are the blocks, with any scale. The file can be edited again, if `old` has
--- room at level 1 for three more elements and for the bytes of an edit.
+-- data, Chapters and Tags are the old ones, at their places, and so are the blocks, with any scale. Let `old` have room at level 1 for three more
+-- elements and for the bytes of an edit. Then the file can be edited again, and indexed if `old` can be.
 pub record HoldsEdited (old new : List ℕ) (f : EditableFile) (t : Trees) : Type 0 where
   pub segment : Header
   pub ebml : ebml_header new ≡ Ok f.outline.ebml
@@ -62,6 +63,7 @@ pub record HoldsEdited (old new : List ℕ) (f : EditableFile) (t : Trees) : Typ
   pub tags : first_tree TAGS new segment ≡ first_tree TAGS old f.outline.segment
   pub blocks : (r : Rules) → blocks_of (events_of r new segment) ≡ blocks_of (events_of r old f.outline.segment)
   pub again : length f.outline.others + 3 ≤ MAX_ELEMENTS → f.outline.held + MAX_WRITTEN ≤ MAX_MASTERS_LEN → (g : EditableFile) × (editable new ≡ Ok g)
+  pub indexed : length f.outline.others + 3 ≤ MAX_ELEMENTS → f.outline.held + MAX_WRITTEN ≤ MAX_MASTERS_LEN → indexable old ≡ Ok f → (g : EditableFile) × (indexable new ≡ Ok g)
 
 -- An edited file holds the content of the old file, except for what the edits change.
 abbrev pub EditsChangeNothingElse : Type 0
