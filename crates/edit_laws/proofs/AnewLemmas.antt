@@ -201,7 +201,7 @@ module _ (bytes : List ℕ) (f : EditableFile) (is : indexable bytes ≡ Ok f) w
       let tags = h.untouched TAGS names.tags.level refl refl refl in
       λ k d below. undescribed (get_or h.added k d) (info.behind k d below) (tracks.behind k d below) (chapters.behind k d below) (tags.behind k d below)
 
-  -- The elements of level 1 are within the limits, if two more are.
+  -- The Elements of level 1 are within the limits, if two more are.
   new-within : (new : List ℕ) (h : HoldsCues bytes new f.outline (index_points bytes segment f.trees.tracks)) → length f.outline.others + 2 ≤ MAX_ELEMENTS → AreWithinLimits (segment_run new h.rest.segment).list
   new-within new h room =
       let items = items-undescribed new h in

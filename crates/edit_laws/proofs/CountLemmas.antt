@@ -1,4 +1,4 @@
--- The number and the length of the elements of level 1 after some are rewritten.
+-- The number and the length of the Elements of level 1 after some are rewritten.
 use Rattle.std.proofs.Common.{inl, inr, ◌≡◌, ◌<◌, ◌≤◌, ℕ, ◌+◌, ◌==◌, nat_le, not, Bool, true, false, ◌||◌, if◌then◌else◌, List, [], ◌∷◌, length, All, refl, sym, ◌∙◌, ap, subst, arith}
 use Rattle.std.specs.Prelude.{sum_by}
 use Rattle.std.proofs.lemmas.Bool.Decides.{nat_tests}
@@ -26,7 +26,7 @@ at_place x p s = if s.header.offset == p then x s else 0
 abbrev from_place : (Spot → ℕ) → ℕ → Spot → ℕ
 from_place x p s = if nat_le p s.header.offset then x s else 0
 
--- the values of the spots at the places of the elements
+-- the values of the spots at the places of the Elements
 pub passed : (Spot → ℕ) → List Spot → List Header → ℕ
 passed x spots [] = 0
 passed x spots (h ∷ hs) = sum_by (at_place x h.offset) spots + passed x spots hs
@@ -51,7 +51,7 @@ here-least x p (o ∷ os) s (inl own) same =
 here-least x p (o ∷ os) s (inr later) same =
     let all = sum_by-cons (at_place x p) o os in let rest = here-least x p os s later same in omega arith
 
--- A spot counts at most once, since places of elements ascend.
+-- A spot counts at most once, since places of Elements ascend.
 passed-from : (w : Way) → AdvancesIn w → (x : Spot → ℕ) (spots : List Spot) (p q : ℕ) (hs : List Header) → Tiles w p hs q → passed x spots hs ≤ sum_by (from_place x p) spots
 unfolding passed
 passed-from w advances x spots p q [] tiles = omega arith
@@ -70,7 +70,7 @@ passed-from w advances x spots p q (h ∷ hs) (m, stands, rest) =
     of s at on false true false is_here is_later is_all = absurd (let less : m ≤ s.header.offset = grind (arith, nat_tests) in let wrong : nat_le p s.header.offset ≡ true = grind (arith, nat_tests) in cc)
     of s at on false false all is_here is_later is_all = omega arith
 
--- The values at the places of listed elements are at most all values.
+-- The values at the places of listed Elements are at most all values.
 pub passed-most : (w : Way) → AdvancesIn w → (x : Spot → ℕ) (spots : List Spot) (p q : ℕ) (hs : List Header) → Tiles w p hs q → passed x spots hs ≤ sum_by x spots
 passed-most w advances x spots p q hs tiles =
     let some = passed-from w advances x spots p q hs tiles in
@@ -81,9 +81,9 @@ passed-most w advances x spots p q hs tiles =
     of s true = omega arith
     of s false = omega arith
 
--- ---- sums over elements
+-- ---- sums over Elements
 
--- If each rewritten element adds at most the value of its spot, the new elements have at most the sum of all.
+-- If each rewritten Element adds at most the value of its spot, the new Elements have at most the sum of all.
 pub becomes-sum : (t : Edit) (f : Header → ℕ) (x : Spot → ℕ) → ((s : Spot) → IsAmong t.spots s → IsSpot t s → sum_by f (headers_in_place s.header.offset (all_now s)) ≤ f s.header + x s)
     → (hs ns : List Header) → Becomes t hs ns → sum_by f ns ≤ sum_by f hs + passed x t.spots hs + sum_by f t.behind
 unfolding passed
@@ -104,7 +104,7 @@ becomes-sum t f x most (h ∷ hs) ns (ks, turn, rest) = of (becomes-sum t f x mo
         omega (arith, all)
     of further (gone is-gone is) = (let same : sum_by f ns ≡ sum_by f ks = ap (sum_by f) is in omega (arith, all))
 
--- A fact about all old elements, rewritten ones, and those after the old end holds for all new elements.
+-- A fact about all old Elements, rewritten ones, and those after the old end holds for all new Elements.
 pub becomes-all : (t : Edit) (P : Header → Type 0) → ((s : Spot) → IsAmong t.spots s → IsSpot t s → All P (headers_in_place s.header.offset (all_now s))) → All P t.behind
     → (hs ns : List Header) → All P hs → Becomes t hs ns → All P ns
 becomes-all t P each behind [] ns old is = subst (All P) (sym is) behind
@@ -115,9 +115,9 @@ becomes-all t P each behind (h ∷ hs) ns old (ks, turn, rest) = of (becomes-all
     of further (now s member spot own is) = subst (All P) (sym is) (All-append P (headers_in_place s.header.offset (all_now s)) ks (each s member spot) further)
     of further (gone is-gone is) = subst (All P) (sym is) further
 
--- ---- elements in sequence
+-- ---- Elements in sequence
 
--- the limited bytes of a written element
+-- the limited bytes of a written Element
 abbrev pub described_len : Element → ℕ
 described_len d = if is_described d.id then length d.body else 0
 
@@ -153,7 +153,7 @@ headers-short p (d ∷ ds) short =
     All-cons KeepsMasterLimit (header_in_place p d) (headers_in_place (p + length (octets_of d)) ds) (All-head (λ (d : Element). described_len d ≤ MAX_MASTER_LEN) d ds short)
     (headers-short (p + length (octets_of d)) ds (All-tail (λ (d : Element). described_len d ≤ MAX_MASTER_LEN) d ds short))
 
--- ---- elements that have no limited bytes
+-- ---- Elements that have no limited bytes
 
 -- A sum of zeros.
 pub sum-none : {X : Type 0} (f : X → ℕ) (xs : List X) → All (λ x. f x ≡ 0) xs → sum_by f xs ≡ 0
@@ -164,7 +164,7 @@ sum-none f (x ∷ xs) none =
     let rest = sum-none f xs (All-tail (λ x. f x ≡ 0) x xs none) in
     omega arith
 
--- An element whose ID isn't that of Info, Tracks, Chapters or Tags has none.
+-- An Element whose ID isn't that of Info, Tracks, Chapters or Tags has none.
 pub undescribed : (d : Element) → (d.id == INFO) ≡ false → (d.id == TRACKS) ≡ false → (d.id == CHAPTERS) ≡ false → (d.id == TAGS) ≡ false → described_len d ≡ 0
 undescribed d info tracks chapters tags = ap (λ (b : Bool). if b then length d.body else 0) none
   where
@@ -179,7 +179,7 @@ undescribed d info tracks chapters tags = ap (λ (b : Bool). if b then length d.
 pub void-undescribed : (d : Element) → d.id ≡ VOID → described_len d ≡ 0
 void-undescribed d is = ap (λ n. if is_described n then length d.body else 0) is
 
--- The limited bytes of a written element are bytes of it.
+-- The limited bytes of a written Element are bytes of it.
 pub described-most : (d : Element) → described_len d ≤ length (octets_of d)
 described-most d = let all = length-octets_of d in of (is_described d.id) (omega arith)
   where
@@ -196,7 +196,7 @@ spot-count t s spot =
     let own : counts s.header ≡ 1 = ap (λ (b : Bool). if not b then 1 else 0) spot.cluster in
     omega arith
 
--- A spot adds the limited bytes of its new element.
+-- A spot adds the limited bytes of its new Element.
 pub spot-described : (t : Edit) (s : Spot) → IsSpot t s → sum_by described_octets (headers_in_place s.header.offset (all_now s)) ≤ described_octets s.header + described_len s.now
 spot-described t s spot =
     let all = headers-described s.header.offset (all_now s) in
@@ -204,7 +204,7 @@ spot-described t s spot =
     let none = sum-none described_len s.voids (All-weaker (λ (d : Element). d.id ≡ VOID) (λ (d : Element). described_len d ≡ 0) void-undescribed s.voids spot.voids) in
     omega arith
 
--- Its elements keep the limit of each if the new element does.
+-- Its Elements keep the limit of each if the new Element does.
 pub spot-short : (t : Edit) (s : Spot) → IsSpot t s → described_len s.now ≤ MAX_MASTER_LEN → All KeepsMasterLimit (headers_in_place s.header.offset (all_now s))
 spot-short t s spot short =
     headers-short s.header.offset (all_now s)

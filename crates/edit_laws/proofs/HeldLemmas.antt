@@ -1,4 +1,4 @@
--- The elements of level 1 in a content after some are rewritten.
+-- The Elements of level 1 in a content after some are rewritten.
 use Rattle.std.proofs.Common.{◌≡◌, ℕ, ◌+◌, ◌==◌, Bool, true, false, if◌then◌else◌, List, [], ◌∷◌, length, map, flat_map, All, Option, Some, None, Result, Ok, refl, sym, ◌∙◌, ap, subst, arith}
 use Rattle.std.specs.Option.{option_map}
 use Rattle.std.proofs.lemmas.Bool.Decides.{nat_tests}
@@ -139,7 +139,7 @@ module _ (t : Edit) (listed : IsListed t t.list t.start) (was now : Header)
       of None none is = let same : [] ≡ files = cc in subst (λ fs. map (attached_bytes t.new) fs ≡ map (attached_bytes t.old) fs) same refl
       of (Some h) some is = data-stay t.old t.new h files (first-held ATTACHMENTS names.attachments.level refl spots behind h some) is
 
-  -- ---- elements that are rewritten
+  -- ---- Elements that are rewritten
 
   module _ (s : Spot) (member : IsAmong t.spots s) (spot : IsSpot t s) (id : ℕ) (body : List ℕ) (own : s.header.id ≡ id) (level : ends_cluster id ≡ true) (single : All (λ (o : Spot). o.header ≡ s.header → o ≡ s) t.spots) (first : first_of id t.list ≡ Some s.header) where
     -- The Element is in its place.

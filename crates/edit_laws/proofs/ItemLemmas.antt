@@ -119,7 +119,7 @@ pub record IsSpotOf (t : Edit) (items : List Item) (s : Spot) : Type 0 where
   pub fill : IsFilled t.new item.header.offset (span_of item.header (others_of t.list)) item.element
   pub is : record { header = item.header; now = fill.now; voids = fill.voids } ≡ s
 
--- The old elements of level 1 become the new ones, and each rewritten item has its own spot.
+-- The old Elements of level 1 become the new ones, and each rewritten item has its own spot.
 pub record IsAnew (t : Edit) (items : List Item) : Type 0 where
   pub listed : IsListed t t.list t.start
   pub edit : IsEdit t

@@ -1,4 +1,4 @@
--- The limits of level 1, and lists of elements within them.
+-- The limits of level 1, and lists of Elements within them.
 use Rattle.std.proofs.Common.{◌≡◌, ◌≤◌, ℕ, ◌+◌, ◌==◌, nat_lt, not, Bool, true, false, ◌&&◌, ◌||◌, if◌then◌else◌, List, [], ◌∷◌, ◌++◌, append_assoc, append-nil, filter, All, Option, Some, None, Ok, refl, sym, ◌∙◌, ap, subst, le-ltb, arith}
 use Rattle.std.specs.Prelude.{sum_by}
 use Rattle.std.proofs.lemmas.Bool.Decides.{nat_tests}
@@ -19,18 +19,18 @@ use Rattle.element_reader.specs.Outline.{outline_in, shown}
 abbrev pub counts : Header → ℕ
 counts h = if not (h.id == CLUSTER) then 1 else 0
 
--- The element keeps the limit of an Info, Tracks, Chapters or Tags, if it is one.
+-- The Element keeps the limit of an Info, Tracks, Chapters or Tags, if it is one.
 abbrev pub KeepsMasterLimit : Header → Type 0
 KeepsMasterLimit h = described_octets h ≤ MAX_MASTER_LEN
 
--- The elements of level 1 in `list` are within a reader's limits. Counted are all but Clusters, the bytes of each Info, Tracks, Chapters and Tags,
+-- The Elements of level 1 in `list` are within a reader's limits. Counted are all but Clusters, the bytes of each Info, Tracks, Chapters and Tags,
 -- and their sum.
 pub record AreWithinLimits (list : List Header) : Type 0 where
   pub count : others list ≤ MAX_ELEMENTS
   pub each : All KeepsMasterLimit list
   pub all : described list ≤ MAX_MASTERS_LEN
 
--- The limited bytes of a list are the sum of its elements' limited bytes.
+-- The limited bytes of a list are the sum of its Elements' limited bytes.
 pub described-sum : (list : List Header) → described list ≡ sum_by described_octets list
 described-sum [] = refl
 described-sum (h ∷ hs) = of (described-sum hs) (is_described h.id) refl

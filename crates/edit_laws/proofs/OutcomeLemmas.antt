@@ -1,4 +1,4 @@
--- The content of a file after edits, with or without a moved element.
+-- The content of a file after edits, with or without a moved Element.
 use Rattle.std.proofs.Common.{inl, inr, ◌≡◌, ◌⊎◌, ◌<◌, ◌≤◌, ℕ, ◌+◌, ◌^◌, ◌==◌, max, nat_lt, not, Bool, true, false, ◌||◌, if◌then◌else◌, List, [], ◌∷◌, ◌++◌, length, length-append, filter, flat_map, All, Option, Some, None, IfSome, Result, Ok, refl, sym, ◌∙◌, ap, ap₂, subst, arith}
 use Rattle.std.specs.List.{list_any}
 use Rattle.std.specs.Prelude.{filter_map, sum_by}
@@ -445,7 +445,7 @@ module _ (bytes : List ℕ) (are_octets : AreOctets bytes) (short : length bytes
               (rest.tree TAGS (untouched TAGS names.tags.level refl refl (neither TAGS refl refl)) ∙ first.tags_read),
         )
 
-    -- The elements of level 1 are within the limits, if three more are, and as many bytes as an edit may write.
+    -- The Elements of level 1 are within the limits, if three more are, and as many bytes as an edit may write.
     new-within : length f.outline.others + 3 ≤ MAX_ELEMENTS → f.outline.held + MAX_WRITTEN ≤ MAX_MASTERS_LEN → AreWithinLimits (segment_run new rest.segment).list
     new-within room space =
         let was = op.within in
@@ -478,7 +478,7 @@ module _ (bytes : List ℕ) (are_octets : AreOctets bytes) (short : length bytes
       );
     }
 
-  -- A short element keeps the limit of each.
+  -- A short Element keeps the limit of each.
   few-short : (d : Element) → length (octets_of d) ≤ 2 ^ 24 → described_len d ≤ MAX_MASTER_LEN
   few-short d few = let most = described-most d in omega arith
 
@@ -625,7 +625,7 @@ module _ (bytes : List ℕ) (are_octets : AreOctets bytes) (short : length bytes
         let most = small in
         omega arith
 
-    -- The content of the file if an element moves.
+    -- The content of the file if an Element moves.
     pub moved-away : HoldsEdited bytes grown f t
     moved-away =
         holds grown all (moved_first ∷ moved_more) rest-away few-moving nodes-moving untouched-away written-away

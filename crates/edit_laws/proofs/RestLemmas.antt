@@ -71,8 +71,8 @@ pub record HoldsCluster (old new : List ℕ) (was now h : Header) : Type 0 where
   pub found : element_at in_segment new h.offset (segment_bound new now) ≡ Ok h
   pub alike : (r : Rules) → AreAlike (found_in r old (segment_bound old was) h) (found_in r new (segment_bound new now) h)
 
--- The new content holds the rest of the old one. Level 1 is undamaged. Clusters, blocks and other elements that aren't rewritten stay in their
--- places, and no damage is added. A rewritten element is in its place; or, if it is the only one with its ID, after the old end or nowhere. Each adds a
+-- The new content holds the rest of the old one. Level 1 is undamaged. Clusters, blocks and other Elements that aren't rewritten stay in their
+-- places, and no damage is added. A rewritten Element is in its place; or, if it is the only one with its ID, after the old end or nowhere. Each adds a
 -- Void at most.
 pub record HoldsRest (old new : List ℕ) (o : FileOutline) (was : List Header) (items : List Item) (added : List Element) : Type 0 where
   pub segment : Header
@@ -189,12 +189,12 @@ module _ (t : Edit) (o : FileOutline) (items : List Item) (added : List Element)
           ∙ ap (first_of i.element.id) behind
     ]
 
-  -- ---- the number and the length of the new elements
+  -- ---- the number and the length of the new Elements
 
   old-tiles : Tiles (level t.old o.segment.size (segment_bound t.old o.segment)) o.segment.body t.list t.last
   old-tiles = (tiled (level t.old o.segment.size (segment_bound t.old o.segment)) o.segment.body t.last t.list (advances-level t.old o.segment.size (segment_bound t.old o.segment)) old_run).tiles
 
-  -- The sum over the new elements is at most the old sum, what the items add, and the sum over the elements after the old end.
+  -- The sum over the new Elements is at most the old sum, what the items add, and the sum over the Elements after the old end.
   sum-most : (f : Header → ℕ) (x : Spot → ℕ) (g : Item → ℕ) → ((s : Spot) → IsAmong t.spots s → IsSpot t s → sum_by f (headers_in_place s.header.offset (all_now s)) ≤ f s.header + x s)
       → ((i : Item) → IsAmong items i → (fill : IsFilled t.new i.header.offset (span_of i.header (others_of t.list)) i.element) → x (record { header = i.header; now = fill.now; voids = fill.voids }) ≤ g i)
       → sum_by f anew.listed.list ≤ sum_by f t.list + sum_by g items + sum_by f (headers_in_place (length t.old) added)
@@ -205,7 +205,7 @@ module _ (t : Edit) (o : FileOutline) (items : List Item) (added : List Element)
       let tail : sum_by f t.behind ≡ sum_by f (headers_in_place (length t.old) added) = ap (sum_by f) behind in
       omega arith
 
-  -- A filled room has a Void after its element, or a Void alone.
+  -- A filled room has a Void after its Element, or a Void alone.
   fill-count : (i : Item) (fill : IsFilled t.new i.header.offset (span_of i.header (others_of t.list)) i.element) → length fill.voids ≤ adds_void (others_of t.list) i
   fill-count i fill = of (moves_from (others_of t.list) i) refl fill.is
     where
@@ -235,7 +235,7 @@ module _ (t : Edit) (o : FileOutline) (items : List Item) (added : List Element)
       let tail = headers-described (length t.old) added in
       omega arith
 
-  -- A rewritten element keeps the limit if its item does.
+  -- A rewritten Element keeps the limit if its item does.
   now-short : All (λ (i : Item). described_len i.element ≤ MAX_MASTER_LEN) items → (s : Spot) → IsAmong t.spots s → described_len s.now ≤ MAX_MASTER_LEN
   now-short few s member =
       let of = anew.from s member in

@@ -36,7 +36,7 @@ use Rattle.edit_laws.proofs.TreeLemmas.{AreFit, IsFit, Once, of_info, of_tracks,
 
 -- ---- trees that were read
 
--- The trees `t` were read from the first elements of the Segment, and weren't refused.
+-- The trees `t` were read from the first Elements of the Segment, and weren't refused.
 pub record AreFirst (bytes : List ℕ) (segment : Header) (t : Trees) : Type 0 where
   pub info : first_tree INFO bytes segment ≡ Ok t.info
   pub whole : Node

@@ -278,7 +278,7 @@ few-parts list (p ∷ ps) (i ∷ is) are =
     more : (j : Item) → length (octets_of j.element) ≤ length_in_place ps + length (appended ps) → length (octets_of j.element) ≤ length_in_place (p ∷ ps) + length (appended (p ∷ ps))
     more j few = (let both = moved (moves p) refl in let two = both.1 in omega (arith, sum))
 
--- ---- elements and bytes that items add
+-- ---- Elements and bytes that items add
 
 -- An item without limited bytes has none in its place.
 pub there-none : (list : List Header) (i : Item) → described_len i.element ≡ 0 → described_there list i ≡ 0
@@ -328,7 +328,7 @@ adds-parts list (p ∷ ps) (i ∷ is) are = of (adds-parts list ps is are.1) (mo
         let same : length (elements_moving (p ∷ ps)) ≡ length (elements_moving ps) = ap (λ (es : List Element). length es) (moving-same list p i ps are.0 test) in
         omega (arith, all)
 
--- The limited bytes of the new elements are among the written bytes.
+-- The limited bytes of the new Elements are among the written bytes.
 pub described-parts : (list : List Header) (ps : List Part) (is : List Item) → AreOf list ps is → sum_by (described_there list) is + sum_by described_len (elements_moving ps) ≤ length_in_place ps + length (appended ps)
 described-parts list [] [] are = omega arith
 described-parts list [] (i ∷ is) are = absurd are

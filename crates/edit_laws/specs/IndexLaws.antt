@@ -103,7 +103,7 @@ pub record HasSeeksOf (ids : List ℕ) (old new : List ℕ) (was now : Header) :
 -- The file `new` with a new index holds the content of `old`. The EBML header, the first Info, Tracks, Chapters and Tags, and the blocks are the
 -- old ones, at their places. So are the attached files, with their data. The Cues has the points `points`, and each points at its block. The
 -- SeekHead has a Seek of the first Info, Tracks, Attachments, Cues, Chapters and Tags. There is no damage. The file can be indexed again, if `old`
--- has room for two more elements at level 1.
+-- has room for two more Elements at level 1.
 pub record HoldsIndex (old new : List ℕ) (f : EditableFile) (points : List CuePoint) : Type 0 where
   pub segment : Header
   pub ebml : ebml_header new ≡ Ok f.outline.ebml

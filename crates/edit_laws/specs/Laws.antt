@@ -41,7 +41,7 @@ attached_bytes bytes a = octets_between bytes a.at (a.at + a.len)
 abbrev pub attached_data : List ℕ → Header → Result (List (List ℕ)) Damage
 attached_data bytes segment = and_then (first_attached bytes segment) (λ files. Ok (map (attached_bytes bytes) files))
 
--- An element at level 1 is neither a Timestamp nor a block; these belong only into Clusters.
+-- An Element at level 1 is neither a Timestamp nor a block; these belong only into Clusters.
 pub record IsOutside (h : Header) : Type 0 where
   pub timestamp : (h.id == TIMESTAMP) ≡ false
   pub simple : (h.id == SIMPLE_BLOCK) ≡ false
@@ -49,7 +49,7 @@ pub record IsOutside (h : Header) : Type 0 where
 
 -- The edited file `new` holds the content of `old`, with the edited trees `t`. Info and Tracks are the edited ones. The attached files, their
 -- data, Chapters and Tags are the old ones, at their places, and so are the blocks, with any scale. Let `old` have room at level 1 for three more
--- elements and for the bytes of an edit. Then the file can be edited again, and indexed if `old` can be.
+-- Elements and for the bytes of an edit. Then the file can be edited again, and indexed if `old` can be.
 pub record HoldsEdited (old new : List ℕ) (f : EditableFile) (t : Trees) : Type 0 where
   pub segment : Header
   pub ebml : ebml_header new ≡ Ok f.outline.ebml
