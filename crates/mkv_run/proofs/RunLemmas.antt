@@ -1,6 +1,5 @@
 -- The ends of runs, and the reasons.
-use Rattle.std.proofs.Math.Seq.{drop-cons}
-use Rattle.std.proofs.Common.{◌≡◌, ℕ, Bool, true, false, if◌then◌else◌, IsTrue, suc, ◌+◌, ◌<◌, ◌≤◌, length, drop, get_or, add-one, List, [], ◌∷◌, ◌++◌, Result, Ok, Err, inl, inr, Option, Some, None, ◌⊎◌, refl, sym, ◌∙◌, ap, subst, arith}
+use Rattle.std.proofs.Common.{◌≡◌, ℕ, Bool, true, false, if◌then◌else◌, IsTrue, ◌+◌, ◌≤◌, List, [], ◌∷◌, ◌++◌, Result, Ok, Err, inl, inr, Option, Some, None, ◌⊎◌, refl, sym, ◌∙◌, ap, subst, arith}
 use Rattle.mkv_io.specs.Faults.{HasIncreased}
 use Rattle.mkv_io.specs.Lines.{with_lines}
 use Rattle.mkv_io.specs.Names.{Names}
@@ -11,7 +10,7 @@ use Rattle.mkv_disk.specs.Moments.{LeavesOnly}
 use Rattle.mkv_disk.specs.Pair.{IsPairImage}
 use Rattle.mkv_disk.proofs.MomentsLemmas.{stays}
 use Rattle.mkv_disk.specs.declared.disk.Disk as disks
-use Rattle.mkv_lines.specs.Said.{HasSayCause, ReportLines, Says, SaysLast, SaysPart, SaysUpTo}
+use Rattle.mkv_lines.specs.Said.{HasSayCause, ReportLines, Says, SaysLast, SaysPart}
 use Rattle.mkv_lines.specs.Verdict.{Reaches, StopsSaying, Verdict}
 use Rattle.mkv_lines.specs.Ordinary.{IsOrdinary}
 use Rattle.sidecar_edit.proofs.GateLemmas.{both_image}

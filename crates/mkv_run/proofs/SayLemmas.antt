@@ -1,5 +1,5 @@
 -- Texts printed in sequence.
-use Rattle.std.proofs.Common.{◌≡◌, ℕ, ◌+◌, ◌<◌, List, ◌∷◌, map, length, drop, get_or, sym, ap, subst, ◌∙◌, drop-cons, add-one}
+use Rattle.std.proofs.Common.{ℕ, ◌+◌, ◌<◌, List, ◌∷◌, map, length, drop, get_or, sym, ap, subst, ◌∙◌, drop-cons, add-one}
 use Rattle.std.specs.Borrow.{Bor}
 use Rattle.mkv_lines.specs.Said.{ReportLines, SaysUpTo}
 

@@ -1,7 +1,7 @@
 use Rattle.std.proofs.Common.{inl, inr, ap, subst}
 use Rattle.mkv_io.specs.Faults.{HasIncreased}
 use Rattle.mkv_io.specs.Told.{IfVisible}
-use Rattle.mkv_lines.specs.Code.{status_of}
+use Rattle.mkv_lines.specs.declared.status.Status.TheVariants.{NoMemory, Outside}
 use Rattle.mkv_lines.specs.Faults.{Counts}
 use Rattle.mkv_lines.specs.Line.{disk_fault_line, files_fault_line}
 use Rattle.mkv_lines.specs.Said.{SaysPart}
@@ -81,25 +81,25 @@ returns-in-Ok-clause-merged g c =
 
 pub returns-in-Ok-clause-any_moment : goal.returns-in-Ok-clause-any_moment
 returns-in-Ok-clause-any_moment g c = λ rest.
-    touches-moment g.D.Reads g.D.Disk (reach_for c.args.words.now.items) c.args.files.now c.carry_out.new.files c.args.disk.now c.carry_out.new.disk (status_of c.carry_out.result)
-    rest (g.met.D.Disk.only_now c.args.disk.now) c.carry_out.ensures.touches
+    touches-moment g.D.Reads g.D.Disk (reach_for c.args.words.now.items) c.args.files.now c.carry_out.new.files c.args.disk.now c.carry_out.new.disk c.in-Ok.status
+    rest (g.met.D.Disk.only_now c.args.disk.now) c.in-Ok.ensures.touches
 
 pub returns-in-Err-Memory-clause-any_moment : goal.returns-in-Err-Memory-clause-any_moment
 returns-in-Err-Memory-clause-any_moment g c = λ rest.
-    touches-moment g.D.Reads g.D.Disk (reach_for c.args.words.now.items) c.args.files.now c.carry_out.new.files c.args.disk.now c.carry_out.new.disk (status_of c.carry_out.result)
-    rest (g.met.D.Disk.only_now c.args.disk.now) c.carry_out.ensures.touches
+    touches-moment g.D.Reads g.D.Disk (reach_for c.args.words.now.items) c.args.files.now c.carry_out.new.files c.args.disk.now c.carry_out.new.disk NoMemory
+    rest (g.met.D.Disk.only_now c.args.disk.now) (rw c.in-Err-Memory.field-0-is at c.in-Err-Memory.ensures.touches)
 
 pub returns-in-Err-Report-clause-any_moment : goal.returns-in-Err-Report-clause-any_moment
 returns-in-Err-Report-clause-any_moment g c = λ rest.
-    touches-moment g.D.Reads g.D.Disk (reach_for c.args.words.now.items) c.args.files.now c.carry_out.new.files c.args.disk.now c.carry_out.new.disk (status_of c.carry_out.result)
-    rest (g.met.D.Disk.only_now c.args.disk.now) c.carry_out.ensures.touches
+    touches-moment g.D.Reads g.D.Disk (reach_for c.args.words.now.items) c.args.files.now c.carry_out.new.files c.args.disk.now c.carry_out.new.disk Outside
+    rest (g.met.D.Disk.only_now c.args.disk.now) (rw c.in-Err-Report.field-0-is at c.in-Err-Report.ensures.touches)
 
 pub returns-in-Err-Files-clause-any_moment : goal.returns-in-Err-Files-clause-any_moment
 returns-in-Err-Files-clause-any_moment g c = λ rest.
-    touches-moment g.D.Reads g.D.Disk (reach_for c.args.words.now.items) c.args.files.now c.carry_out.new.files c.args.disk.now c.carry_out.new.disk (status_of c.carry_out.result)
-    rest (g.met.D.Disk.only_now c.args.disk.now) c.carry_out.ensures.touches
+    touches-moment g.D.Reads g.D.Disk (reach_for c.args.words.now.items) c.args.files.now c.carry_out.new.files c.args.disk.now c.carry_out.new.disk Outside
+    rest (g.met.D.Disk.only_now c.args.disk.now) (rw c.in-Err-Files.field-0-is at c.in-Err-Files.ensures.touches)
 
 pub returns-in-Err-Disk-clause-any_moment : goal.returns-in-Err-Disk-clause-any_moment
 returns-in-Err-Disk-clause-any_moment g c = λ rest.
-    touches-moment g.D.Reads g.D.Disk (reach_for c.args.words.now.items) c.args.files.now c.carry_out.new.files c.args.disk.now c.carry_out.new.disk (status_of c.carry_out.result)
-    rest (g.met.D.Disk.only_now c.args.disk.now) c.carry_out.ensures.touches
+    touches-moment g.D.Reads g.D.Disk (reach_for c.args.words.now.items) c.args.files.now c.carry_out.new.files c.args.disk.now c.carry_out.new.disk Outside
+    rest (g.met.D.Disk.only_now c.args.disk.now) (rw c.in-Err-Disk.field-0-is at c.in-Err-Disk.ensures.touches)
