@@ -3,7 +3,6 @@ use Rattle.std.proofs.Common.{◌≡◌, ℕ, true, false, Bool, not, ◌&&◌, 
 use Rattle.std.specs.Fmt.{decimal}
 use Rattle.std.proofs.lemmas.List.{append_assoc}
 use Rattle.mkv_io.specs.Kind.{kind_name}
-use Rattle.mkv_io.specs.declared.damage.Damage.{Damage}
 use Rattle.mkv_io.specs.declared.damage.Kind.{Kind}
 use Rattle.mkv_io.specs.declared.damage.Kind.TheVariants as kind
 use Rattle.word_values.specs.Why.{why_name}

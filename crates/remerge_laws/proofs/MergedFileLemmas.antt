@@ -1,9 +1,9 @@
 -- What a run left of a merge is the output of a merge.
-use Rattle.std.proofs.Common.{◌≡◌, ◌∙◌, ℕ, List, [], ◌∷◌, map, Option, Some, sym, ap, subst}
-use Rattle.mkv_io.specs.Names.{Names, changed_at, with_content}
+use Rattle.std.proofs.Common.{◌≡◌, ◌∙◌, ℕ, List, [], ◌∷◌, map, Option, Some, sym, ap}
+use Rattle.mkv_io.specs.Names.{changed_at, with_content}
 use Rattle.mkv_io.proofs.NamesLemmas.{changed_at-same}
 use Rattle.mkv_outputs.specs.Outputs.{with_outputs}
-use Rattle.output_model.specs.Document.{Document, layout}
+use Rattle.output_model.specs.Document.{layout}
 use Rattle.remux_plan.specs.Parts.{PlannedOutput}
 use Rattle.merge_laws.specs.Merge.{laid_out}
 use Rattle.remerge_laws.specs.MergedAgain.{MergedFilesAreOutputs}

@@ -29,12 +29,12 @@ use Rattle.mkv_merge.specs.Merge.{sources_of}
 use Rattle.mkv_merge.specs.Read.{contents_held, inputs_from, numbered}
 use Rattle.mkv_merge.specs.Texts.{listings_at, timed_from, with_listings}
 use Rattle.merge_laws.specs.Laws.{SourcesAreRead}
-use Rattle.merge_laws.specs.Sources.{IsReadSource, IsReadTrack}
-use Rattle.merge_laws.proofs.DocumentLemmas.{all-tracks, title-is, tracks-are}
+use Rattle.merge_laws.specs.Sources.{IsReadSource}
+use Rattle.merge_laws.proofs.DocumentLemmas.{title-is, tracks-are}
 use Rattle.merge_laws.proofs.SourceLemmas.{input-taken, numbered-ok, taken-all, then-ok, were-read}
 use Rattle.remerge_laws.specs.PlainSources.{SourcesArePlain}
 use Rattle.remerge_laws.specs.Repeat.{IsDefault}
-use Rattle.remerge_laws.proofs.RepeatTrackLemmas.{HasUsualCues, IsOfTakenType}
+use Rattle.remerge_laws.proofs.RepeatTrackLemmas.{HasUsualCues}
 
 -- ---- the title
 

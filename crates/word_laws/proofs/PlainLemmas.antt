@@ -1,8 +1,6 @@
 -- A merge without options is read, by either spelling of its output option.
-use Rattle.std.proofs.Common.{◌≡◌, ◌∙◌, ℕ, List, [], ◌∷◌, codes, None, inl, refl, arith}
-use Rattle.std.specs.List.{All}
+use Rattle.std.proofs.Common.{◌∙◌, ℕ, List, [], ◌∷◌, None, inl, refl, arith}
 use Rattle.std.proofs.lemmas.List.Elements.{All-cons, All-nil}
-use Rattle.requests.specs.declared.merge.FileWords.{FileWords}
 use Rattle.requests.specs.declared.merge.MergeWords.{MergeWords}
 use Rattle.requests.specs.Plain.{plain_file, plain_words}
 use Rattle.requests.specs.Sound.{IsSoundFile, IsSoundMerge}
