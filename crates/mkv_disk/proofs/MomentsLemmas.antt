@@ -26,7 +26,7 @@ module _ {D : Type 0} (moment : D → ℕ) (left_since : D → ℕ → List ℕ 
     keeps = λ t m s le left. second.keeps t m s (let a = first.later in omega arith) (first.keeps t m s le left);
   }
 
-  -- The same, if the contents of the second fulfil a stronger `Q`.
+  -- Two sequences, one after another, if the contents of the second fulfil a stronger `Q`.
   pub followed : (old mid new : D) (P Q : List ℕ → List ℕ → Type 0) → ((m s : List ℕ) → Q m s → P m s) → LeavesOnly moment left_since old mid P → LeavesOnly moment left_since mid new Q → LeavesOnly moment left_since old new P
   followed old mid new P Q so first second = joined old mid new P first (weaker mid new Q P so second)
 

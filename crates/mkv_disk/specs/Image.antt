@@ -54,6 +54,6 @@ cut_to len f = record {
   written = f.written;
 }
 
--- the file after it was synced
+-- the file after a sync: a crash leaves what reads return
 abbrev pub all_synced : DiskFile → DiskFile
 all_synced f = clean f.reads

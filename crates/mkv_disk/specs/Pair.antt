@@ -6,6 +6,7 @@ use Rattle.mkv_io.specs.Sources.{IsLive, file_size}
 use Rattle.mkv_io.specs.declared.reads.Reads.{Ghosts}
 use Rattle.mkv_disk.specs.declared.disk.TheConstants.{MEDIA, SIDECAR}
 
+-- the two files of a disk: the file that is edited, and its journal
 pub record Pair : Type 0 where
   pub media : DiskFile
   pub sidecar : DiskFile
@@ -25,7 +26,7 @@ abbrev pub on : ℕ → (DiskFile → DiskFile) → Pair → Pair
 on zero change p = record { media = change p.media; sidecar = p.sidecar }
 on (suc _) change p = record { media = p.media; sidecar = change p.sidecar }
 
--- the pair without pending writes
+-- the two files with these contents, without a write that a crash may undo
 abbrev pub both : List ℕ → List ℕ → Pair
 both media sidecar = record { media = clean media; sidecar = clean sidecar }
 

@@ -22,7 +22,7 @@ pub record KeepsOpen {S : Type 0} (r : reads.Ghosts S) (d : Ghosts S) (old new :
   pub least : r.octets_read old ≤ r.octets_read new
   pub most : r.octets_read new ≤ r.octets_read old + n
 
--- No fault was counted.
+-- No failure of reading or writing was counted between `old` and `new`.
 pub record HasNoFault {S : Type 0} (r : reads.Ghosts S) (d : Ghosts S) (old new : S) : Type 0 where
   pub reading : r.reading_faults new ≡ r.reading_faults old
   pub writing : d.writing_faults new ≡ d.writing_faults old

@@ -10,10 +10,12 @@ use Rattle.mkv_io.specs.declared.outside.TheConstants.{LONGEST_FILE}
 abbrev pub opened_at : List (Option Opened) → ℕ → Option Opened
 opened_at opened file = get_or opened file None
 
+-- the length of an open file, or 0 if it was closed
 abbrev pub size_of : Option Opened → ℕ
 size_of None = 0
 size_of (Some opened) = opened.size
 
+-- the name under which a file was opened, or none if it was closed
 abbrev pub name_of : Option Opened → List ℕ
 name_of None = []
 name_of (Some opened) = opened.name

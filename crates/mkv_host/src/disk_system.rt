@@ -46,6 +46,7 @@ pub fn has_name<R: fs::Files<File = File>>(system: &R, name: &str, node: Node) -
     }
 }
 
+/// Opens the existing file `name` for reading and writing.
 fn open_again<R: fs::Files<File = File>>(system: &R, name: &str) -> io::Result<File> {
     OpenOptions::new().read(true).write(true).open(system, name)
 }
@@ -156,6 +157,7 @@ pub fn settle_folder<R: fs::Files<File = File>>(system: &R, name: &str) -> io::R
     }
 }
 
+/// Checks whether the error means that the file system can't sync a folder.
 fn is_unsynced(kind: ErrorKind) -> bool
     ensures { IsTrue result ↔ IsUnsynced kind }
 {

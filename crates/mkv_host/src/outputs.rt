@@ -50,6 +50,7 @@ pub fn open_or_make<R: fs::Files<File = File>>(
     Ok((above_streams(file)?, is_new))
 }
 
+/// Opens the existing file `name` for reading and writing.
 fn open_again<R: fs::Files<File = File>>(system: &R, name: &str) -> io::Result<File> {
     OpenOptions::new().read(true).write(true).open(system, name)
 }
@@ -222,6 +223,8 @@ fn unless_refused(outcome: io::Result<()>) -> io::Result<()> {
     }
 }
 
+/// Checks whether the error of setting an owner or a mode may be ignored: it isn't permitted, not supported, or not
+/// valid here.
 fn is_refusal(kind: ErrorKind) -> bool {
     matches!(
         kind,

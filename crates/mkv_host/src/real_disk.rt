@@ -197,10 +197,12 @@ impl<'a, R: fs::Files<File = File>> Reads for RealDisk<'a, R> {
 
     ghost short = { λ disk file live. short-of_size disk.pair file };
 
+    /// Returns the length of a file that is open.
     fn size(&self, file: FileId) -> u64 {
         file_of(&self.pair, file).size
     }
 
+    /// Fills `into` with the bytes of the file from the offset `at` on, by reads of the system.
     fn read_at(&mut self, file: FileId, at: u64, into: &mut [u8]) -> Result<(), Failed> {
         let length = into.len() as u64;
         if file_of(&self.pair, file)
@@ -254,6 +256,7 @@ impl<'a, R: fs::Files<File = File>> Disk for RealDisk<'a, R> {
 
     ghost writing_stands = { λ a b same. ap (λ (s : Option OpenPair × ℕ). s.1) same };
 
+    /// Opens the file `name` and its journal, which is made if there is none.
     fn open_pair(&mut self, name: &str) -> Result<(), OpenFault> {
         let (media, sidecar) = names(self.alloc, name)?;
         match open_both(self.system, media, sidecar) {
@@ -269,6 +272,7 @@ impl<'a, R: fs::Files<File = File>> Disk for RealDisk<'a, R> {
         }
     }
 
+    /// Writes `bytes` to the file from the offset `at` on. Fails if its name has become another file.
     fn write_at(&mut self, file: FileId, at: u64, bytes: &[u8]) -> Result<(), Failed> {
         let open = file_of(&self.pair, file);
         let len = bytes.len() as u64;
@@ -289,6 +293,7 @@ impl<'a, R: fs::Files<File = File>> Disk for RealDisk<'a, R> {
         Ok(())
     }
 
+    /// Truncates the file to `len` bytes. Fails if its name has become another file.
     fn cut(&mut self, file: FileId, len: u64) -> Result<(), Failed> {
         if len > LONGEST_FILE
             || !is_as_opened(self.system, &self.pair, file)
@@ -301,6 +306,7 @@ impl<'a, R: fs::Files<File = File>> Disk for RealDisk<'a, R> {
         Ok(())
     }
 
+    /// Syncs the file with the device.
     fn sync(&mut self, file: FileId) -> Result<(), Failed> {
         if file_of(&self.pair, file).file.sync_all().is_err() {
             note_failure(&mut self.writing_faults);

@@ -127,10 +127,12 @@ impl<'a, R: fs::Files<File = File>> Reads for RealFiles<'a, R> {
 
     ghost short = { λ files file live. short-of_size (opened_at files.opened.items file) };
 
+    /// Returns the length of a live file, as it was when it was opened or has grown since.
     fn size(&self, file: FileId) -> u64 {
         open_at(&self.opened, file).size
     }
 
+    /// Fills `into` with the bytes of the live file from the offset `at` on, by reads of the system.
     fn read_at(&mut self, file: FileId, at: u64, into: &mut [u8]) -> Result<(), Failed> {
         let length = into.len() as u64;
         if open_at(&self.opened, file)
@@ -181,6 +183,7 @@ impl<'a, R: fs::Files<File = File>> Files for RealFiles<'a, R> {
 
     ghost asked_stands = { λ a b same. ap (λ (s : List (Option Opened) × ℕ × List Asked). s.2) same };
 
+    /// Opens the file `name` for reading.
     fn open_file(&mut self, name: &str) -> Result<FileId, OpenFault> {
         if self.is_full() {
             note_failure(&mut self.reading_faults);
@@ -207,6 +210,7 @@ impl<'a, R: fs::Files<File = File>> Files for RealFiles<'a, R> {
         }
     }
 
+    /// Opens the file `name` with an empty content, for writing.
     fn create(&mut self, name: &str) -> Result<FileId, MakeFault> {
         if self.is_full() {
             note_failure(&mut self.writing_faults);
@@ -235,6 +239,7 @@ impl<'a, R: fs::Files<File = File>> Files for RealFiles<'a, R> {
         }
     }
 
+    /// Appends `bytes` to the live file, by writes of the system.
     fn append(&mut self, file: FileId, bytes: &[u8]) -> Result<(), MakeFault> {
         let open = open_at(&self.opened, file);
         if bytes.len() as u64 > LONGEST_FILE - open.size {
@@ -250,6 +255,7 @@ impl<'a, R: fs::Files<File = File>> Files for RealFiles<'a, R> {
         Ok(())
     }
 
+    /// Writes `bytes` over the live file from the offset `at` on.
     fn overwrite(&mut self, file: FileId, at: u64, bytes: &[u8]) -> Result<(), Failed> {
         let open = open_at(&self.opened, file);
         if write_from(&mut &open.file, at, bytes) < bytes.len() {
@@ -259,6 +265,7 @@ impl<'a, R: fs::Files<File = File>> Files for RealFiles<'a, R> {
         Ok(())
     }
 
+    /// Closes the live file.
     fn close(&mut self, file: FileId) {
         self.opened[file.n as usize] = None;
     }

@@ -28,6 +28,7 @@ impl<'a, R: Print> Report for RealReport<'a, R> {
 
     ghost faults = { λ report. report.faults };
 
+    // Prints `line` and a line end to standard output.
     fn say(&mut self, line: &str) -> Result<(), Failed> {
         if self.system.println(line).is_err() {
             self.faults = self.faults.saturating_add(1);

@@ -28,6 +28,7 @@ impl<'a> WriteAt for &'a File {
 
     ghost content = { λ _. None };
 
+    /// Writes the first of `bytes` at the offset `at`, and returns their number.
     fn write_at(&mut self, bytes: &[u8], at: u64) -> io::Result<usize> {
         FileExt::write_at(*self, bytes, at)
     }

@@ -16,7 +16,7 @@ asks-added Are added old new isnt is = λ name are unasked.
     subst (IsUnasked name) (sym is) (All-append (λ (other : Asked). other ≢ name) old (added ∷ []) unasked
     (All-cons (λ (other : Asked). other ≢ name) added [] (λ same. isnt (subst Are (sym same) are)) (All-nil (λ (other : Asked). other ≢ name))))
 
--- The same for a call that opens or makes a file.
+-- A call that opens or makes one file asks for none of the names in `Are`, if the name of this file isn't one.
 pub asks-one : {T E : Type 0} (Are : Asked → Type 0) (added : Asked) (old new : List Asked) (result : Result T E) → (Are added → ⊥) → AsksFor added old new result → AsksNone Are old new
 asks-one Are added old new (Ok value) isnt asks = asks-added Are added old new isnt asks
 asks-one Are added old new (Err fault) isnt (inl same) = asks-none Are old new same

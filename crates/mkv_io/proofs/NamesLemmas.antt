@@ -65,7 +65,7 @@ changed_at-twice world name first next = same_world _ _ (λ other. step other (b
     step other true = refl
     step other false = refl
 
--- The same for names that may be invisible to the proof.
+-- Two changes of one name are one change, also if the names are invisible to the proof.
 pub with_change-twice : (names : Names) (name : List ℕ) (first next : Option (List ℕ) → Option (List ℕ)) → with_change (with_change names name first) name next ≡ with_change names name (λ content. next (first content))
 with_change-twice None name first next = refl
 with_change-twice (Some world) name first next = ap Some (changed_at-twice world name first next)
@@ -88,11 +88,11 @@ with_change-mapped names name first next =
 pub with_content-mapped : (names : Names) (name bytes : List ℕ) (change : List ℕ → List ℕ) → with_change (with_content names name bytes) name (option_map change) ≡ with_content names name (change bytes)
 with_content-mapped names name bytes change = with_change-twice names name (λ _. Some bytes) (option_map change)
 
--- The same for bytes that are appended.
+-- A name that gets the content `bytes`, and then `more` appended, has both.
 pub with_content-appended : (names : Names) (name bytes more : List ℕ) → with_change (with_content names name bytes) name (with_appended more) ≡ with_content names name (bytes ++ more)
 with_content-appended names name bytes more = with_content-mapped names name bytes (λ each. each ++ more)
 
--- The same for bytes that are overwritten.
+-- A name that gets the content `bytes`, which is then overwritten in part, has the overwritten content.
 pub with_content-overwritten : (names : Names) (name bytes : List ℕ) (at : ℕ) (now : List ℕ) → with_change (with_content names name bytes) name (with_overwritten at now) ≡ with_content names name (overwritten bytes at now)
 with_content-overwritten names name bytes at now = with_content-mapped names name bytes (λ each. overwritten each at now)
 

@@ -6,12 +6,15 @@ use Prim.Native.String.{String}
 abbrev pub char : String → ℕ
 char text = slice_index (codes text) 0
 
+-- the horizontal tab of ASCII
 abbrev pub TAB : ℕ
 TAB = 0x09
 
+-- the line feed of ASCII
 abbrev pub LINE_FEED : ℕ
 LINE_FEED = 0x0A
 
+-- the space of ASCII
 abbrev pub SPACE : ℕ
 SPACE = 0x20
 

@@ -11,8 +11,10 @@ overwritten bytes at now = take at bytes ++ (now ++ drop (at + length now) bytes
 
 -- ---- the same changes for a content that may be invisible to the proof, or absent
 
+-- the content with the bytes `more` after it, if it is visible to the proof
 abbrev pub with_appended : List ℕ → Option (List ℕ) → Option (List ℕ)
 with_appended more content = option_map (λ bytes. bytes ++ more) content
 
+-- the content with the bytes `now` from the offset `at` on, if it is visible to the proof
 abbrev pub with_overwritten : ℕ → List ℕ → Option (List ℕ) → Option (List ℕ)
 with_overwritten at now content = option_map (λ bytes. overwritten bytes at now) content

@@ -1,7 +1,7 @@
 -- The lines of a report, each a list of bytes, if they are visible to the proof.
 use Rattle.std.specs.Prelude.{◌≡◌, ◌⊎◌, ℕ, List, [], ◌∷◌, ◌++◌, Option, Some, None}
 
--- the lines with `more` appended
+-- the lines of a report with `more` appended, if they are visible to the proof
 abbrev pub with_lines : Option (List (List ℕ)) → List (List ℕ) → Option (List (List ℕ))
 with_lines None more = None
 with_lines (Some lines) more = Some (lines ++ more)

@@ -29,7 +29,7 @@ pub record ChangesFile (old new : LiveFiles) (old_names new_names : Names) (file
   pub content : new.content file ≡ change (old.content file)
   pub names : new_names ≡ with_change old_names holder change
 
--- The bytes `more` are appended to the file `file`.
+-- The bytes `more` are appended to the live file `file`, and to the content of its name `holder`.
 abbrev pub Appends : LiveFiles → LiveFiles → Names → Names → ℕ → List ℕ → List ℕ → Type 0
 Appends old new old_names new_names file holder more =
     ChangesFile old new old_names new_names file holder (old.size file + length more) (with_appended more)

@@ -32,6 +32,7 @@ IsAnother given holder name file = (file < given) × (holder file ≢ name)
 abbrev pub AddsOctets : {S : Type 0} → Ghosts S → (S → Names) → (S → ℕ → List ℕ) → S → S → FileId → List ℕ → Type 0
 AddsOctets r names holder old new file more = Appends (live_files r old) (live_files r new) (names old) (names new) file.n (holder old file.n) more
 
+-- A prefix of the bytes `more` is appended to the live file `file` and to the content of its name.
 abbrev pub AddsFirst : {S : Type 0} → Ghosts S → (S → Names) → (S → ℕ → List ℕ) → S → S → FileId → List ℕ → Type 0
 AddsFirst r names holder old new file more = AppendsPart (live_files r old) (live_files r new) (names old) (names new) file.n (holder old file.n) more
 
@@ -39,6 +40,7 @@ AddsFirst r names holder old new file more = AppendsPart (live_files r old) (liv
 abbrev pub Puts : {S : Type 0} → Ghosts S → (S → Names) → (S → ℕ → List ℕ) → S → S → FileId → ℕ → List ℕ → Type 0
 Puts r names holder old new file at now = Overwrites (live_files r old) (live_files r new) (names old) (names new) file.n (holder old file.n) at now
 
+-- Any bytes, as many as `now` has, are written over the live file `file` and the content of its name, from the offset `at` on.
 abbrev pub PutsSome : {S : Type 0} → Ghosts S → (S → Names) → (S → ℕ → List ℕ) → S → S → FileId → ℕ → List ℕ → Type 0
 PutsSome r names holder old new file at now = OverwritesWithin (live_files r old) (live_files r new) (names old) (names new) file.n (holder old file.n) at (length now)
 

@@ -21,6 +21,7 @@ impl<T> Model for List<T> {
 }
 
 impl<T: Drop> List<T> {
+    /// Returns an empty list. Doesn't allocate.
     pub fn new(alloc: Global) -> Self
         ensures { result ≡ [] }
     {
@@ -43,12 +44,14 @@ impl<T: Drop> List<T> {
         self.items
     }
 
+    /// Returns the number of values.
     pub fn len(&self) -> usize
         ensures { result ≡ length self.now }
     {
         self.items.len()
     }
 
+    /// Checks whether there is no value.
     pub fn is_empty(&self) -> bool
         ensures { IsTrue result ↔ (self.now ≡ []) }
     {
@@ -62,6 +65,7 @@ impl<T: Drop> List<T> {
         self.items.get(k)
     }
 
+    /// Returns a reference to the values.
     pub fn as_slice(&self) -> &[T]
         ensures { result.now ≡ self.now }
     {

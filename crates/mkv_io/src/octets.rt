@@ -22,6 +22,7 @@ impl Model for Bytes {
 }
 
 impl Bytes {
+    /// Returns no bytes. Doesn't allocate.
     pub fn new(alloc: Global) -> Self
         ensures { result ≡ [] }
     {
@@ -61,12 +62,14 @@ impl Bytes {
         self.octets.len()
     }
 
+    /// Checks whether there are no bytes.
     pub fn is_empty(&self) -> bool
         ensures { IsTrue result ↔ (self.now ≡ []) }
     {
         self.octets.is_empty()
     }
 
+    /// Returns a reference to the bytes.
     pub fn as_slice(&self) -> &[u8]
         ensures { result.now ≡ self.now }
     {
@@ -121,6 +124,7 @@ impl Model for Text {
 }
 
 impl Text {
+    /// Returns an empty text. Doesn't allocate.
     pub fn new(alloc: Global) -> Self
         ensures { result ≡ [] }
     {
@@ -144,12 +148,14 @@ impl Text {
         self.text.len()
     }
 
+    /// Checks whether the text is empty.
     pub fn is_empty(&self) -> bool
         ensures { IsTrue result ↔ (self.now ≡ []) }
     {
         self.text.is_empty()
     }
 
+    /// Returns a reference to the text.
     pub fn as_str(&self) -> &str
         ensures same { result.now ≡ self.now }
         ensures utf8 { IsUtf8 self.now }

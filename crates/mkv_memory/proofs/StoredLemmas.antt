@@ -126,7 +126,7 @@ IsSound-changed world now name change opened changed sound fits stays =
       there = AreThere-changed world name change opened stays sound.there;
     })
 
--- So does a call that changes or leaves the contents.
+-- A call that changes one content, or leaves all, keeps the contents valid.
 pub IsSound-either : {T E : Type 0} (result : Result T E) (world now : World) (name : List ℕ) (change : Option (List ℕ) → Option (List ℕ)) (opened : List (Option (List ℕ))) → OnOk result (now ≡ changed_at name change world) → OnErr result (now ≡ world) → IsSound world opened → length (unwrap_or (change (world name)) []) ≤ LONGEST_FILE → (is_some (world name) ≡ true → is_some (change (world name)) ≡ true) → IsSound now opened
 IsSound-either (Ok value) world now name change opened changed same sound fits stays = IsSound-changed world now name change opened changed sound fits stays
 IsSound-either (Err fault) world now name change opened changed same sound fits stays =

@@ -13,6 +13,7 @@ pub data Change : Type 0 where
   cut : ℕ → Change
   synced : Change
 
+-- the file `f` after a change
 abbrev pub changed_by : Change → DiskFile → DiskFile
 changed_by (written at bytes) f = written_at at bytes f
 changed_by (cut len) f = cut_to len f
@@ -47,6 +48,7 @@ pub record Made : Type 0 where
   pub file : ℕ
   pub change : Change
 
+-- the two files after the change `m` of one of them
 abbrev pub step : Made → Pair → Pair
 step m p = on m.file (changed_by m.change) p
 
@@ -71,10 +73,11 @@ pub record History : Type 0 where
   pub sidecar : List ℕ
   pub made : List Made
 
+-- the two files at first, before any change
 abbrev pub first_pair : History → Pair
 first_pair h = both h.media h.sidecar
 
--- the two files now
+-- the two files after all changes of the history
 abbrev pub pair_of : History → Pair
 pair_of h = replay h.made (first_pair h)
 

@@ -13,7 +13,7 @@ abbrev pub lines_between : List ℕ → List ℕ → List (List ℕ)
 lines_between text [] = []
 lines_between text (start ∷ ends) = lines_from text start ends
 
--- Each offset is a character boundary.
+-- Each of the offsets is a boundary between characters of the text.
 abbrev pub AreBoundaries : List ℕ → List ℕ → Type 0
 AreBoundaries text cuts = (k : ℕ) → k < length cuts → IsCharBoundary text (get_or cuts k 0)
 

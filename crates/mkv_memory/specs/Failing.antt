@@ -7,6 +7,7 @@ pub record Failures : Type 0 where
   pub to_fail : ℕ → Bool
   pub calls : ℕ
 
+-- The call number `call` is at or after the first call of a stop, if there is a stop.
 abbrev pub is_stopped : Option ℕ → ℕ → Bool
 is_stopped None call = false
 is_stopped (Some stop) call = nat_le stop call
@@ -15,14 +16,15 @@ is_stopped (Some stop) call = nat_le stop call
 abbrev pub failures : (ℕ → Bool) → Option ℕ → ℕ → Failures
 failures single stop calls = record { to_fail = λ call. single call || is_stopped stop call; calls = calls }
 
+-- the state before any call, if no call must fail
 abbrev pub no_failures : Failures
 no_failures = record { to_fail = λ _. false; calls = 0 }
 
--- the same with the call number `call`
+-- the calls that must fail, and the call number `call`
 abbrev pub with_failure : Failures → ℕ → Failures
 with_failure old call = record old { to_fail = λ other. (other == call) || old.to_fail other }
 
--- the same with the call number `call` and all later ones
+-- the calls that must fail, and the call number `call` and all later ones
 abbrev pub with_stop : Failures → ℕ → Failures
 with_stop old call = record old { to_fail = λ other. nat_le call other || old.to_fail other }
 

@@ -25,6 +25,7 @@ blotted f = ff_where (is_written f.written) f.reads
 abbrev pub mixed : DiskFile → List ℕ
 mixed f = mix f.least f.reads f.synced
 
+-- the content of the file `f` after a crash, in the way that a test chooses
 abbrev pub image_of : CrashImage → DiskFile → List ℕ
 image_of AsRead f = f.reads
 image_of AsSynced f = f.synced

@@ -24,6 +24,7 @@ change_of (Wrote at len) octets = written at (take len octets)
 change_of (Cut len) octets = cut len
 change_of Synced octets = synced
 
+-- the change that the call `call` made, if `octets` begins with the bytes that it wrote
 abbrev pub made_by : Call → List ℕ → Made
 made_by call octets = record { file = call.file.n; change = change_of call.done octets }
 
@@ -45,13 +46,15 @@ abbrev pub octets_by : List Call → ℕ
 octets_by [] = 0
 octets_by (call ∷ calls) = octets_done call.done + octets_by calls
 
--- Both numbers name the same file.
+-- Both numbers name the edited file (0), or both its journal (another number).
 abbrev pub is_same : ℕ → ℕ → Bool
 is_same zero zero = true
 is_same zero (suc m) = false
 is_same (suc n) zero = false
 is_same (suc n) (suc m) = true
 
+-- the observable state of a log, from the contents of the two files at first and the calls since. `octets` has the bytes that the calls wrote,
+-- and `room` the calls that are left.
 abbrev pub logged : List ℕ → List ℕ → List Call → List ℕ → CallBudget → Logged
 logged media sidecar calls octets room = record {
   history = record { media = media; sidecar = sidecar; made = made_in calls octets };

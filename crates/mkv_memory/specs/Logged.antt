@@ -8,7 +8,7 @@ pub record Logged : Type 0 where
   pub history : History
   pub room : CallBudget
 
--- two files without changes
+-- two files with these contents, without changes, and with this room for calls
 abbrev pub unchanged : List ℕ → List ℕ → CallBudget → Logged
 unchanged media sidecar room = record { history = record { media = media; sidecar = sidecar; made = [] }; room = room }
 
@@ -16,6 +16,6 @@ unchanged media sidecar room = record { history = record { media = media; sideca
 abbrev pub has_room : Logged → ℕ → Bool
 has_room l octets = nat_lt (length l.history.made) l.room.calls && nat_le (octets_in l.history.made + octets) l.room.octets
 
--- the same with one more change
+-- the two files after one more change of the file with the number `file`
 abbrev pub and_then : Logged → ℕ → Change → Logged
 and_then l file change = record l { history = with_change l.history file change }

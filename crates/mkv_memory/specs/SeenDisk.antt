@@ -33,6 +33,7 @@ pair_in d = pair_of d.logged.history
 abbrev pub reads_in : SeenDisk → ℕ → List ℕ
 reads_in d n = (file_of n (pair_in d)).reads
 
+-- the budget of `calls` calls that write, and of `octets` bytes
 abbrev pub room_for : ℕ → ℕ → CallBudget
 room_for calls octets = record { calls = calls; octets = octets }
 
@@ -72,6 +73,7 @@ is_live (Some name) zero = true
 is_live (Some name) (suc zero) = true
 is_live (Some name) (suc (suc n)) = false
 
+-- the content of the edited file (number 0) or of its journal (number 1), as reads return it
 abbrev pub content_in : Pair → ℕ → Option (List ℕ)
 content_in p zero = Some p.media.reads
 content_in p (suc zero) = Some p.sidecar.reads
@@ -81,6 +83,7 @@ content_in p (suc (suc n)) = None
 abbrev pub size_in : Pair → ℕ → ℕ
 size_in p n = length (unwrap_or (content_in p n) [])
 
+-- the live files of a disk, whose edited file was opened under a name or not
 abbrev pub live_in : Option (List ℕ) → Pair → LiveFiles
 live_in opened p = record {
   live = is_live opened;

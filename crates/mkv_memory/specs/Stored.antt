@@ -32,9 +32,11 @@ pub record Stored : Type 0 where
 abbrev pub name_of_file : List (Option (List ℕ)) → ℕ → Option (List ℕ)
 name_of_file opened file = get_or opened file None
 
+-- the content of the live file with the number `file`, or None if it was closed
 abbrev pub content_of_file : Stored → ℕ → Option (List ℕ)
 content_of_file stored file = option_and_then stored.world (name_of_file stored.opened file)
 
+-- the live files of a store, with their lengths and contents
 abbrev pub files_of : Stored → LiveFiles
 files_of stored = record {
   live = λ file. is_some (name_of_file stored.opened file);
@@ -99,7 +101,7 @@ pub content-live : (world : World) (name : Option (List ℕ)) → is_some name �
 content-live world None live = cc
 content-live world (Some name) live = refl
 
--- The same for a visible world.
+-- A live file's content is the content of its name in a world that is visible to the proof.
 pub content-told : (told world : World) (name : Option (List ℕ)) → is_some name ≡ true → Some told ≡ Some world → option_and_then told name ≡ world (unwrap_or name [])
 content-told told world name live same =
     let is : told ≡ world = cc in
@@ -110,7 +112,7 @@ pub there-live : (world : World) (name : Option (List ℕ)) → is_some name ≡
 there-live world None live there = cc
 there-live world (Some name) live there = there
 
--- The same for a visible world.
+-- The name of a live file has a content in a world that is visible to the proof.
 pub there-told : (told world : World) (name : Option (List ℕ)) → is_some name ≡ true → is_there told name ≡ true → Some told ≡ Some world → is_some (world (unwrap_or name [])) ≡ true
 there-told told world name live there same =
     let is : told ≡ world = cc in

@@ -162,10 +162,12 @@ impl Reads for MemDisk {
 
     ghost short = { λ d n live. short-of_sound (pair_of d.files.history) n d.media_sound d.sidecar_sound };
 
+    /// Returns the length of a live file.
     fn size(&self, file: FileId) -> u64 {
         self.files.reads(file).len() as u64
     }
 
+    /// Fills `into` with the bytes of the file from the offset `at` on, or fails if the call must fail.
     fn read_at(&mut self, file: FileId, at: u64, into: &mut [u8]) -> Result<(), Failed>
         requires live { IsTrue (is_live (seen self.old).opened file.n) }
         requires range { at + length into.old ≤ size_in (pair_in (seen self.old)) file.n }
@@ -222,6 +224,7 @@ impl Disk for MemDisk {
 
     ghost writing_stands = { λ a b same. ap (λ (s : Option (List ℕ) × Logged × ℕ). s.2) same };
 
+    /// Opens the edited file and its journal under `name`.
     fn open_pair(&mut self, name: &str) -> Result<(), OpenFault>
         ensures exact { OpensPair (seen self.old) name.now result (seen self.new) }
         ensures cause { HasCause is_open_failure (seen self.old).reading_faults (seen self.new).reading_faults result }
@@ -236,6 +239,7 @@ impl Disk for MemDisk {
         Ok(())
     }
 
+    /// Writes `bytes` over the file from the offset `at` on. Until the file is synced, a crash may undo this.
     fn write_at(&mut self, file: FileId, at: u64, bytes: &[u8]) -> Result<(), Failed>
         requires live { IsTrue (is_live (seen self.old).opened file.n) }
         requires inside { at ≤ length (reads_in (seen self.old) file.n) }
@@ -246,6 +250,7 @@ impl Disk for MemDisk {
         self.make(file, Done::Wrote { at, len }, bytes)
     }
 
+    /// Truncates the file to `len` bytes. Until the file is synced, a crash may undo this.
     fn cut(&mut self, file: FileId, len: u64) -> Result<(), Failed>
         requires live { IsTrue (is_live (seen self.old).opened file.n) }
         requires inside { len ≤ length (reads_in (seen self.old) file.n) }
@@ -255,6 +260,7 @@ impl Disk for MemDisk {
         self.make(file, Done::Cut { len }, &[])
     }
 
+    /// Makes all changes of the file permanent.
     fn sync(&mut self, file: FileId) -> Result<(), Failed>
         requires { IsTrue (is_live (seen self.old).opened file.n) }
         ensures exact { MakesChange (seen self.old) file.n synced result (seen self.new) }

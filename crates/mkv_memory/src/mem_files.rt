@@ -122,10 +122,12 @@ impl Reads for MemFiles {
 
     ghost short = { λ m file live. short-of_names (stored_in m.store).world (name_of_file (stored_in m.store).opened file) m.store.short };
 
+    /// Returns the length of a live file.
     fn size(&self, file: FileId) -> u64 {
         self.store.octets(file).len() as u64
     }
 
+    /// Fills `into` with the bytes of the file from the offset `at` on, or fails if the call must fail.
     fn read_at(&mut self, file: FileId, at: u64, into: &mut [u8]) -> Result<(), Failed>
         requires live { IsTrue ((files_of (seen self.old).stored).live file.n) }
         requires range { at + length into.old ≤ (files_of (seen self.old).stored).size file.n }
@@ -182,6 +184,7 @@ impl Files for MemFiles {
 
     ghost asked_stands = { λ a b same. ap (λ (s : Stored × ℕ × List Asked). s.2) same };
 
+    /// Opens the file with the name `name` for reading.
     fn open_file(&mut self, name: &str) -> Result<FileId, OpenFault>
         ensures exact { OpensName (seen self.old) name.now result (seen self.new) }
         ensures cause { HasCause is_open_failure (seen self.old).reading_faults (seen self.new).reading_faults result }
@@ -200,6 +203,7 @@ impl Files for MemFiles {
         Ok(file)
     }
 
+    /// Opens the file `name` with an empty content, whatever it had before.
     fn create(&mut self, name: &str) -> Result<FileId, MakeFault>
         ensures exact { CreatesName (seen self.old) name.now result (seen self.new) }
         ensures cause { HasCause is_make_failure (seen self.old).writing_faults (seen self.new).writing_faults result }
@@ -215,6 +219,7 @@ impl Files for MemFiles {
         Ok(file)
     }
 
+    /// Appends `bytes` to the file; a call that must fail appends a prefix of them.
     fn append(&mut self, file: FileId, bytes: &[u8]) -> Result<(), MakeFault>
         requires { IsTrue ((files_of (seen self.old).stored).live file.n) }
         ensures exact { AppendsTo (seen self.old) file.n bytes.now result (seen self.new) }
@@ -236,6 +241,7 @@ impl Files for MemFiles {
         }
     }
 
+    /// Writes `bytes` over the file from the offset `at` on; a failed call leaves the file as it was.
     fn overwrite(&mut self, file: FileId, at: u64, bytes: &[u8]) -> Result<(), Failed>
         requires live { IsTrue ((files_of (seen self.old).stored).live file.n) }
         requires range { at + length bytes.now ≤ (files_of (seen self.old).stored).size file.n }
@@ -250,6 +256,7 @@ impl Files for MemFiles {
         Ok(())
     }
 
+    /// Closes the file.
     fn close(&mut self, file: FileId)
         requires { IsTrue ((files_of (seen self.old).stored).live file.n) }
         ensures { ClosesFile (seen self.old) file.n (seen self.new) }

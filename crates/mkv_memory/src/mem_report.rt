@@ -69,7 +69,7 @@ impl MemReport {
         Some(&self.text.as_str()[self.cuts[k]..self.cuts[k + 1]])
     }
 
-    /// Adds `line`, which has room.
+    /// Adds `line`, for which there is room in memory.
     fn add_line(&mut self, line: &str)
         requires lines { 0 < (seen self.old).lines_left }
         requires octets { length line.now ≤ (seen self.old).octets_left }
@@ -92,6 +92,7 @@ impl Report for MemReport {
 
     ghost faults = { λ r. r.faults };
 
+    /// Adds `line` to the report, or fails if the call must fail or there is no room.
     fn say(&mut self, line: &str) -> Result<(), Failed>
         ensures exact { SaysLine (seen self.old) line.now result (seen self.new) }
         ensures cause { HasCause is_failure (seen self.old).faults (seen self.new).faults result }

@@ -43,7 +43,7 @@ impl Pending {
     ghost use Rattle.mkv_memory.specs.Images.{ff_where, image_of, mix};
     ghost use Rattle.mkv_memory.specs.Shows.{IsChanged, Shows, is_noted};
 
-    /// Returns a file without pending writes.
+    /// Returns a file with the content `octets` and no write that a crash may undo.
     pub fn new(alloc: Global, octets: &[u8]) -> Result<Pending, AllocError>
         ensures { IfOk result (λ file. Shows file (clean octets.now)) }
     {
@@ -55,7 +55,8 @@ impl Pending {
         })
     }
 
-    /// Makes the effect `done` on the file.
+    /// Changes the file by `done`: writes `bytes`, truncates it, or syncs it. Until a sync, it notes the changes that
+    /// a crash may undo.
     pub fn make(&mut self, done: Done, bytes: &[u8]) -> Result<(), AllocError>
         requires count { length bytes.now ≡ octets_done done }
         requires inside { CanChange (change_of done bytes.now) self.old.reads.items }
@@ -99,6 +100,7 @@ impl Pending {
             .any(|span| span.from <= k && k < span.to)
     }
 
+    /// Returns the content as read, with the byte FF at each offset that was written since the last sync.
     fn blotted(&self, alloc: Global) -> Result<Vec<u8>, AllocError>
         ensures { IfOk result (λ octets. octets.items ≡ ff_where (is_noted self.now.written.items) self.now.reads.items) }
     {
@@ -113,6 +115,8 @@ impl Pending {
             .collect(alloc)
     }
 
+    /// Returns the content with the least length since the last sync: bytes at odd offsets are as at that sync, the
+    /// others as read.
     fn mixed(&self, alloc: Global) -> Result<Vec<u8>, AllocError>
         ensures { IfOk result (λ octets. octets.items ≡ mix self.now.least self.now.reads.items self.now.synced.items) }
     {

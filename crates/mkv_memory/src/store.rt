@@ -27,6 +27,7 @@ pub struct Store {
 impl Store {
     ghost use Rattle.mkv_memory.specs.StoreIn.{stored_in};
 
+    /// Returns a store without names and open files.
     pub fn new(alloc: Global) -> Store
         ensures { stored_in result ≡ record { world = λ _. None; opened = [] } }
     {
@@ -44,7 +45,7 @@ impl Store {
         self.opened.len() as u64 == u64::MAX
     }
 
-    /// Returns the content of `name`.
+    /// Returns the content of the name `name`, if it has one.
     pub fn content(&self, name: &str) -> Option<&[u8]>
         ensures { option_map (λ (bytes : Bor (List ℕ)). bytes.now) result ≡ (stored_in self.now).world name.now }
     {

@@ -134,7 +134,7 @@ is_ended live file (f ∷ fs) ended = step (is_ended live file fs (λ k d below.
 
 -- ---- outputs stay open
 
--- The same files, all live as before.
+-- Outputs stay open if their files are the same and all live as before.
 pub AreOpen-kept : {S : Type 0} (r : Ghosts S) (old new : S) (sinks later : List Sink) → AreOpen r old sinks → ids_of later ≡ ids_of sinks → ((file : ℕ) → (live_files r new).live file ≡ (live_files r old).live file) → AreOpen r new later
 AreOpen-kept r old new sinks later outputs same alive = record {
   live = subst (AreLive (live_files r new).live) (sym same) (AreLive-on (live_files r old).live (live_files r new).live (ids_of sinks) outputs.live alive);

@@ -105,7 +105,7 @@ HaveBeenGiven-passes (Ok done) old mid new live holder later sinks k d next more
 HaveBeenGiven-passes (Err fault) old mid new live holder later sinks k d next more given has below same are kept passes =
     (tt, HaveBeenGiven-part old new later _ _ (HaveBeenGiven-on old mid new live holder later sinks k d (record { file = (get_or sinks k d).file; waiting = passes.left }) more given has below refl are kept passes.passed))
 
--- The same for the output number `k`, before and after.
+-- The output number `k` gets more bytes, or a part of them is written.
 pub HaveBeenGiven-wrote : {T E : Type 0} (result : Result T E) (old mid new : Names) (live : ℕ → Bool) (holder later : ℕ → List ℕ) (sinks : List Sink) (k : ℕ) (was next : Sink) (more : List ℕ) (given : List Output) → was ≡ get_or sinks k was → next.file ≡ was.file → k < length sinks → AreLive live (ids_of sinks) → KeepsHolders live holder later → Passes mid new (holder was.file.n) (was.waiting ++ more) next.waiting result → HaveBeenGiven old mid holder sinks given → OnOk result (HaveBeenGiven old new later (set sinks k next) (with_more k more given)) × OnErr result (ArePrefixes old new (with_more k more given))
 HaveBeenGiven-wrote result old mid new live holder later sinks k was next more given is same below are kept passes has =
     HaveBeenGiven-passes result old mid new live holder later sinks k was next more given has below (same ∙ ap (λ (s : Sink). s.file) is) are kept

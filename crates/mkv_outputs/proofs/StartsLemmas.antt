@@ -15,7 +15,7 @@ IsStart-then a b c one two = record {
 pub IsBegun-whole : (o : Output) → IsBegun o o
 IsBegun-whole o = record { name = refl; content = record { rest = []; whole = sym (append-nil o.content) } }
 
--- The same for outputs.
+-- A list of prefixes of prefixes is a list of prefixes.
 pub AreBegun-then : (a b c : List Output) → AreBegun a b → AreBegun b c → AreBegun a c
 AreBegun-then [] b c one two = tt
 AreBegun-then (o ∷ os) [] c one two = absurd one
@@ -48,6 +48,6 @@ AreBegun-before [] all more begun = tt
 AreBegun-before (o ∷ os) [] more begun = absurd begun
 AreBegun-before (o ∷ os) (whole ∷ all) more begun = (begun.0, AreBegun-before os all more begun.1)
 
--- The same for their files.
+-- Files with prefixes of outputs have prefixes of a longer list of outputs.
 pub ArePrefixes-before : (old new : Names) (all more : List Output) → ArePrefixes old new all → ArePrefixes old new (all ++ more)
 ArePrefixes-before old new all more stands = record { stand = stands.stand; begun = AreBegun-before stands.stand all more stands.begun; names = stands.names }

@@ -25,6 +25,7 @@ patched bytes (p ∷ ps) = patched (overwritten bytes p.at p.octets) ps
 abbrev pub output_of : Draft → Output
 output_of d = record { name = d.name; content = patched d.appended d.patches }
 
+-- the outputs that drafts become
 abbrev pub outputs_of : List Draft → List Output
 outputs_of drafts = map output_of drafts
 

@@ -8,6 +8,6 @@ use Rattle.mkv_outputs.specs.declared.sink.TheConstants.{ROOM}
 abbrev pub WaitFew : Sink → Type 0
 WaitFew s = length s.waiting ≤ ROOM
 
--- The same for each of the outputs.
+-- For each output, no more bytes wait than its buffer may hold.
 abbrev pub EachWaitsFew : List Sink → Type 0
 EachWaitsFew sinks = All WaitFew sinks

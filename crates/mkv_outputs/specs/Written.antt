@@ -22,7 +22,7 @@ abbrev pub Passes : {T E : Type 0} → Names → Names → List ℕ → List ℕ
 Passes old new holder octets left (Ok _) = PassesOn old new holder octets left
 Passes old new holder octets left (Err _) = PassesSome old new holder octets
 
--- The same for the name of a live file.
+-- The bytes `octets` were passed to the name of the live file `file`, and `left` wait, unless the call failed.
 abbrev pub PassesTo : {S T E : Type 0} → Ghosts S → FileId → S → S → List ℕ → List ℕ → Result T E → Type 0
 PassesTo f file old new octets left result = Passes (f.names old) (f.names new) (f.holder old file.n) octets left result
 

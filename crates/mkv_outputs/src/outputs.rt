@@ -91,7 +91,7 @@ impl Outputs {
         flush(&mut self.sinks[k], files)
     }
 
-    /// Writes all waiting bytes.
+    /// Writes the bytes that wait for any of the outputs to their files.
     pub fn flush<F: Files>(&mut self, files: &mut F) -> Result<(), MakeFault>
         requires { AreOpen F.Reads files.old self.old }
         ensures finishes { Finishes F.Files.own files.old files.new self.old result }

@@ -19,7 +19,7 @@ pub struct Sink {
     pub waiting: Bytes,
 }
 
-/// Writes the waiting bytes.
+/// Writes the bytes that wait for an output to its file.
 pub fn flush<F: Files>(sink: &mut Sink, files: &mut F) -> Result<(), MakeFault>
     requires live { IsLive F.Reads files.old sink.old.file }
     requires few { WaitFew sink.old }
@@ -37,7 +37,7 @@ pub fn flush<F: Files>(sink: &mut Sink, files: &mut F) -> Result<(), MakeFault>
     Ok(())
 }
 
-/// Writes `bytes`, which may wait.
+/// Adds `bytes` to an output. They wait in memory if there is room; otherwise the waiting bytes and they are written.
 pub fn write<F: Files>(sink: &mut Sink, files: &mut F, bytes: &[u8]) -> Result<(), MakeFault>
     requires live { IsLive F.Reads files.old sink.old.file }
     requires few { WaitFew sink.old }
