@@ -34,6 +34,7 @@ nanoseconds scale ticks = ticks *ℤ pos scale
 abbrev pub time_of : ℕ → ℕ → Content → ℤ
 time_of scale timestamp content = nanoseconds scale (pos timestamp +ℤ content.relative)
 
+-- A time in nanoseconds is too large for a block: its size is at least the limit.
 abbrev pub is_too_large : ℤ → Bool
 is_too_large time = nat_le TOO_LARGE_TIME (nat_abs time)
 

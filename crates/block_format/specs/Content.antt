@@ -25,15 +25,17 @@ track_in octets = vint_data (announced octets) octets
 abbrev pub relative_in : List ℕ → ℤ
 relative_in octets = int_of (take 2 (drop (announced octets) octets))
 
+-- the flags of a Block or SimpleBlock with the body `octets`: the byte after its track number and its relative timestamp
 abbrev pub flags_in : List ℕ → ℕ
 flags_in octets = slice_index octets (announced octets + 2)
 
--- the bytes after the header
+-- the bytes of a Block or SimpleBlock after its header
 abbrev pub data_in : List ℕ → List ℕ
 data_in octets = drop (header_len octets) octets
 
 -- ---- the flags
 
+-- The flags `flags` have one of the bits of `flag`.
 abbrev pub has_flag : ℕ → ℕ → Bool
 has_flag flag flags = not (bit_and flags flag == 0)
 
@@ -49,6 +51,7 @@ is_invisible flags = has_flag 0x08 flags
 abbrev pub is_discardable : ℕ → Bool
 is_discardable flags = has_flag 0x01 flags
 
+-- the kind of lacing that the two bits of the flags give
 abbrev pub lace_of_bits : ℕ → Lace
 lace_of_bits bits =
     if bits == 0x00 then lace.None else
@@ -93,6 +96,7 @@ pub record Content : Type 0 where
   pub flags : ℕ
   pub frames : List (List ℕ)
 
+-- the content of a Block or SimpleBlock with the body `octets`, given its frames, or the kind of damage in them
 abbrev pub content_with : List ℕ → Result (List (List ℕ)) Kind → Result Content Kind
 content_with octets (Err kind) = Err kind
 content_with octets (Ok frames) = Ok (record { track = track_in octets; relative = relative_in octets; flags = flags_in octets; frames = frames })

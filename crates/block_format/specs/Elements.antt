@@ -23,6 +23,7 @@ pub record Rules : Type 0 where
   pub limits : Bool
   pub scale : ℕ
 
+-- the rules for a reader with limits and `scale` nanoseconds per tick
 abbrev pub with_limits : ℕ → Rules
 with_limits scale = record { limits = true; scale = scale }
 
@@ -65,6 +66,7 @@ simple_block r bytes timestamp h =
 
 -- ---- a BlockGroup
 
+-- the children of the BlockGroup `h`, up to the first damage
 abbrev pub group_run : List ℕ → Header → Run
 group_run bytes h = children_in in_master bytes h.body (stated_end h)
 
@@ -72,6 +74,7 @@ group_run bytes h = children_in in_master bytes h.body (stated_end h)
 abbrev pub group_refusal : List ℕ → Run → Option Damage
 group_refusal bytes run = first_damage (bad_value bytes BLOCK_GROUP run.list ∷ run.damage ∷ [])
 
+-- the children of the BlockGroup `h`, or the first damage among them
 abbrev pub group_children : List ℕ → Header → Result (List Header) Damage
 group_children bytes h = unless (group_refusal bytes (group_run bytes h)) (group_run bytes h).list
 
@@ -93,6 +96,7 @@ too_many_references r children =
 abbrev pub duration_of : ℕ → List ℕ → List Header → Option ℕ
 duration_of scale bytes children = option_map (λ (c : Header). uint_of (body_of bytes c) * scale) (first_of BLOCK_DURATION children)
 
+-- the ReferenceBlocks among the children of a BlockGroup, in nanoseconds
 abbrev pub references_of : ℕ → List ℕ → List Header → List ℤ
 references_of scale bytes children = map (λ (c : Header). nanoseconds scale (int_of (body_of bytes c))) (references_among children)
 
@@ -100,6 +104,7 @@ references_of scale bytes children = map (λ (c : Header). nanoseconds scale (in
 abbrev pub left_out : List ℕ
 left_out = BLOCK ∷ BLOCK_DURATION ∷ REFERENCE_BLOCK ∷ VOID ∷ CRC_32 ∷ SLICES ∷ []
 
+-- The output gets a copy of each child of a BlockGroup with the ID `id`.
 abbrev pub is_kept : ℕ → Bool
 is_kept id = not (list_any (λ other. id == other) left_out)
 

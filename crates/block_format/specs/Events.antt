@@ -15,7 +15,7 @@ use Rattle.block_format.specs.Elements.{Rules, simple_block, block_group}
 
 -- ---- inside a Cluster
 
--- a block, or a damage
+-- the result of reading a child of a Cluster: a block, or damage
 abbrev pub Found : Type 0
 Found = Result Block Damage
 
@@ -42,7 +42,7 @@ found_among r bytes timestamp [] = []
 found_among r bytes timestamp (h ∷ hs) =
     found_at r bytes timestamp h ++ found_among r bytes (timestamp_behind bytes timestamp h) hs
 
--- the damage that ends the children
+-- the damage that ends the children of a Cluster, if any, as a list
 abbrev pub found_behind : Option Damage → List Found
 found_behind None = []
 found_behind (Some d) = Err d ∷ []
@@ -123,11 +123,11 @@ stop_in (block b) = []
 stop_in (damaged d) = []
 stop_in (stopped d) = d ∷ []
 
--- the blocks among the events
+-- the blocks among `events`, in order
 abbrev pub blocks_of : List Event → List Block
 blocks_of events = flat_map block_in events
 
--- all damage among the events
+-- all damage among `events`, in order
 abbrev pub damages_of : List Event → List Damage
 damages_of events = flat_map damage_in events
 

@@ -9,7 +9,7 @@ use Rattle.ebml_numbers.specs.declared.number.SizeRead.{SizeRead}
 use Rattle.ebml_numbers.specs.declared.number.NumFault.{NumFault}
 use Rattle.ebml_numbers.specs.declared.number.NumFault.TheVariants.{More, Bad}
 
--- The numbers in `octets` are bytes.
+-- Each number in `octets` is a byte: below 256.
 abbrev pub AreOctets : List ℕ → Type 0
 AreOctets octets = (i : ℕ) → slice_index octets i < 256
 

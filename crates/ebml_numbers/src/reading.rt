@@ -60,6 +60,7 @@ pub fn read_int(bytes: &[u8]) -> i64
     }
 }
 
+// Reads the ID at the start of `bytes`; fails with the number of bytes that are missing, or if there is none.
 #[tactic(auto, unfolding(crate::specs::Number::id_at))]
 fn first_id(bytes: &[u8]) -> Result<IdRead, NumFault>
     ensures { result ≡ id_at bytes.now }
@@ -77,6 +78,7 @@ fn first_id(bytes: &[u8]) -> Result<IdRead, NumFault>
     id_of_width(bytes, width)
 }
 
+// Reads the size at the start of `bytes`; fails with the number of bytes that are missing, or if there is none.
 #[tactic(auto, unfolding(crate::specs::Number::size_at))]
 fn first_size(bytes: &[u8]) -> Result<SizeRead, NumFault>
     ensures { result ≡ size_at bytes.now }
@@ -132,6 +134,7 @@ fn is_id_data(width: u8, value: u64) -> bool
     (least..all_ones(width)).contains(&value)
 }
 
+// Returns the size with the data `value` in `width` bytes: unknown if all bits of the data are 1.
 fn size_of_data(width: u8, value: u64) -> Size
     requires { width ≤ 8 }
     ensures { result ≡ size_of_data width value }

@@ -16,11 +16,11 @@ number_of entry = uint_in TRACK_NUMBER entry
 abbrev pub uid_of : Node → ℕ
 uid_of entry = uint_in TRACK_UID entry
 
--- the TrackType
+-- the TrackType of a TrackEntry
 abbrev pub type_of : Node → ℕ
 type_of entry = uint_in TRACK_TYPE entry
 
--- the CodecID
+-- the CodecID of a TrackEntry
 abbrev pub codec_of : Node → List ℕ
 codec_of entry = unwrap_or (text_in CODEC_ID entry) []
 

@@ -17,6 +17,7 @@ use Rattle.file_format.specs.Refusal.{refusal_of}
 abbrev pub tracks_tree : List ℕ → Header → Result Node Damage
 tracks_tree bytes h = tree_of h.id h.offset (body_of bytes h) h.body MAX_NODES
 
+-- a Tracks Element of a content as a tree, or the first damage in it, for a reader without limits
 abbrev pub tracks_without_limits : List ℕ → Header → Result Node Damage
 tracks_without_limits bytes h = tree_without_limits h.id h.offset (body_of bytes h) h.body
 
@@ -33,7 +34,7 @@ entries_at read (Some h) = and_then (read h) entries_in
 unfoldable pub file_entries : List ℕ → Header → Result (List Node) Damage
 file_entries bytes segment = entries_at (tracks_tree bytes) (first_of TRACKS (segment_run bytes segment).list)
 
--- the same without a reader's limits on nodes and on nested masters
+-- the TrackEntries of the first Tracks of a content with the Segment `segment`, for a reader without limits on nodes and nested masters
 unfoldable pub entries_without_limits : List ℕ → Header → Result (List Node) Damage
 entries_without_limits bytes segment = entries_at (tracks_without_limits bytes) (first_of TRACKS (segment_run bytes segment).list)
 

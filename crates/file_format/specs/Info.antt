@@ -33,6 +33,7 @@ first_info bytes segment = first_of INFO (segment_run bytes segment).list
 abbrev pub info_tree : List ℕ → Header → Result Node Damage
 info_tree bytes h = tree_of h.id h.offset (body_of bytes h) h.body MAX_NODES
 
+-- an Info of a content as a tree, or the first damage in it, for a reader without limits
 abbrev pub info_without_limits : List ℕ → Header → Result Node Damage
 info_without_limits bytes h = tree_without_limits h.id h.offset (body_of bytes h) h.body
 
@@ -50,7 +51,7 @@ scale_at read (Some h) = scale_in (read h)
 unfoldable pub file_scale : List ℕ → Header → ℕ
 file_scale bytes segment = scale_at (info_tree bytes) (first_info bytes segment)
 
--- the same without a reader's limits
+-- the nanoseconds per tick by the first Info of a content with the Segment `segment`, for a reader without limits
 unfoldable pub scale_without_limits : List ℕ → Header → ℕ
 scale_without_limits bytes segment = scale_at (info_without_limits bytes) (first_info bytes segment)
 

@@ -61,7 +61,7 @@ first_repeated numbers = find (is_repeated numbers) (range_with_len 0 (length nu
 abbrev pub repeated_number : List Node → Option Damage
 repeated_number entries = option_and_then (told_at entries (damage RepeatedTrack TRACK_NUMBER)) (first_repeated (map number_of entries))
 
--- the maximum number of entries
+-- the maximum number of TrackEntries in a file that is read
 abbrev pub most_tracks : ℕ
 most_tracks = 1024
 

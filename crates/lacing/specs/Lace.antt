@@ -48,7 +48,7 @@ explicit_sizes [] = []
 explicit_sizes (size ∷ []) = []
 explicit_sizes (size ∷ (next ∷ sizes)) = size ∷ explicit_sizes (next ∷ sizes)
 
--- The sizes are equal.
+-- All sizes in the list are equal.
 abbrev pub AreEqual : List ℕ → Type 0
 AreEqual [] = ⊤
 AreEqual (size ∷ sizes) = All (λ other. other ≡ size) sizes
@@ -78,7 +78,7 @@ abbrev pub HasNoLace : Lace → ℕ → List ℕ → Type 0
 HasNoLace kind frames octets =
     (head rest sizes : List ℕ) → octets ≡ head ++ rest → length sizes ≡ frames → IsLace kind head sizes (length octets) → ⊥
 
--- Lists of the same number of sizes, with the same kind, head and total, are equal.
+-- A head determines the sizes. Lists `a` and `b` of the same length, with the same kind, head and total number of bytes, are equal.
 abbrev pub HeadSettlesSizes : Type 0
 HeadSettlesSizes =
     (kind : Lace) (head a b : List ℕ) (total : ℕ) → length a ≡ length b → IsLace kind head a total → IsLace kind head b total → a ≡ b

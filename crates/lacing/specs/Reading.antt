@@ -62,17 +62,17 @@ size_in kind before octets = fitting (length octets) (any_size kind before octet
 
 -- ---- the sizes of a lace, and the length of its head
 
--- the size `size` of `len` bytes before others
+-- the sizes that were found, and the length of their head, with the size `size` of `len` bytes before them
 abbrev pub with_size : ℕ → ℕ → Option (List ℕ × ℕ) → Option (List ℕ × ℕ)
 with_size size len None = None
 with_size size len (Some (sizes, head)) = Some (size ∷ sizes, len + head)
 
--- a size, and the others that it leaves
+-- a size that was found, and the sizes that `others` finds after it
 abbrev pub size_then : Option (ℕ × ℕ) → (ℕ → ℕ → Option (List ℕ × ℕ)) → Option (List ℕ × ℕ)
 size_then None others = None
 size_then (Some (size, len)) others = with_size size len (others size len)
 
--- `n` sizes in sequence
+-- the first `n` sizes of a head, after the size `before` if any, and the number of bytes that encode them
 unfoldable pub sizes_in : Lace → ℕ → Option ℕ → List ℕ → Option (List ℕ × ℕ)
 sizes_in kind zero before octets = Some ([], 0)
 sizes_in kind (suc n) before octets =
@@ -105,7 +105,8 @@ abbrev pub IsReadBack : Lace → List ℕ → List ℕ → Type 0
 IsReadBack kind sizes head =
     (frames : List ℕ) → length frames ≡ sum sizes → lace_in kind (length sizes) (head ++ frames) ≡ Some (sizes, length head)
 
--- A reader finds the lace at the start of the bytes, and finds one only if there is one.
+-- A reader finds exactly the lace that there is: `lace_in` finds `sizes` and `head` if and only if all of `octets` is such a lace. It has `count`
+-- frames with these sizes, and a head of `head` bytes.
 abbrev pub ReadsTheLace : Type 0
 ReadsTheLace =
     (kind : Lace) (count : ℕ) (octets sizes : List ℕ) (head : ℕ) → AreOctets octets → (lace_in kind count octets ≡ Some (sizes, head)) ↔ FindsLace kind count octets sizes head
@@ -116,7 +117,7 @@ Splits found sizes (Ok head) = found ≡ Some (sizes, head)
 Splits found sizes (Err Bad) = (found ≡ None) × (sizes ≡ [])
 Splits found sizes (Err Memory) = ⊤
 
--- The same for a reader with enough room.
+-- A reader that has enough room in memory has written the sizes that were found, or has found none.
 abbrev pub Gives : Option (List ℕ × ℕ) → List ℕ → Option ℕ → Type 0
 Gives found sizes (Some head) = found ≡ Some (sizes, head)
 Gives found sizes None = found ≡ None

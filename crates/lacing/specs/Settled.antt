@@ -1,4 +1,4 @@
--- Laces that their first bytes settle: RFC 9559, section 10.3 (Block Lacing).
+-- Laces that are known from their first bytes: RFC 9559, section 10.3 (Block Lacing).
 use Rattle.std.specs.Prelude.{◌≡◌, ℕ, ◌-◌, ◌≤◌, nat_le, Bool, true, false, List, ◌++◌, length, take, replicate, Option, Some, None}
 use Rattle.ebml_numbers.specs.Number.{AreOctets}
 use Rattle.lacing.specs.declared.kind.Lace.{Lace}
@@ -9,17 +9,18 @@ use Rattle.lacing.specs.Reading.{lace_in, sizes_in, with_last}
 abbrev pub with_zeros : List ℕ → ℕ → List ℕ
 with_zeros front len = front ++ replicate (len - length front) 0
 
--- There is a lace, and its head lies in `front`.
+-- `found` is the result of reading a lace: there is a lace, and its head lies in `front`.
 abbrev pub has_head_within : List ℕ → Option (List ℕ × ℕ) → Bool
 has_head_within front None = false
 has_head_within front (Some (sizes, head)) = nat_le head (length front)
 
--- The first bytes `front` settle that `len` bytes are a lace of `count` frames. With zeros after them they are a lace, and its head lies in
--- `front`.
+-- The first bytes `front` are enough to know that `len` bytes are a lace of `count` frames. With zeros after `front` they are a lace, and its
+-- head lies in `front`.
 abbrev pub is_settled : Lace → ℕ → List ℕ → ℕ → Bool
 is_settled kind count front len = has_head_within front (lace_in kind count (with_zeros front len))
 
--- The first bytes `front` settle all sizes of `count` frames except the last, and leave the last one a size of 0 or more.
+-- The first bytes `front` are enough to know all sizes of `count` frames except the last. They leave the last one a size of 0 or more in `len`
+-- bytes.
 abbrev pub settles_sizes : Lace → ℕ → List ℕ → ℕ → Bool
 settles_sizes kind count front len = has_head_within front (with_last len (sizes_in kind (count - 1) None (with_zeros front len)))
 
@@ -31,7 +32,7 @@ pub record HasLace (kind : Lace) (frames : ℕ) (front octets : List ℕ) : Type
   pub finds : FindsLace kind frames octets sizes head
   pub read : lace_in kind frames octets ≡ Some (sizes, head)
 
--- Bytes whose first bytes settle that they are a lace are one, whatever follows.
+-- If `is_settled` is true for the first bytes `front` of `octets`, then `octets` are a lace of `count` frames, whatever follows `front`.
 abbrev pub FrontSettlesLace : Type 0
 FrontSettlesLace =
     (kind : Lace) (count : ℕ) (front octets : List ℕ) → AreOctets front → front ≡ take (length front) octets

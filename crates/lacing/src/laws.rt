@@ -3,17 +3,20 @@ ghost use Rattle.lacing.specs.Lace.{HeadSettlesSizes};
 ghost use Rattle.lacing.specs.Reading.{ReadsTheLace};
 ghost use Rattle.lacing.specs.Settled.{FrontSettlesLace};
 
-/// Law: lists of the same number of sizes, with the same kind, head and total, are equal.
+/// Law: the kind of a lace, its head, its number of frames and its total number of bytes determine the sizes of its
+/// frames.
 pub fn head_settles_sizes()
     ensures { HeadSettlesSizes }
 {}
 
-/// Law: a reader finds the lace at the start of the bytes, and finds one only if there is one.
+/// Law: the definition that a reader follows finds frame sizes in bytes if and only if all these bytes are a lace
+/// with these sizes.
 pub fn the_lace_is_read()
     ensures { ReadsTheLace }
 {}
 
-/// Law: if the first bytes settle that there is a lace, there is one, whatever follows them.
+/// Law: if `is_settled` is true for the first bytes of a block's data, the data are a lace, whatever follows these
+/// bytes.
 pub fn the_front_settles_the_lace()
     ensures { FrontSettlesLace }
 {}

@@ -30,7 +30,7 @@ pub fn split(
     ensures memory { result ≡ Err LaceEnd.Memory → 8 < count }
     ensures capacity { sizes.old.capacity ≤ sizes.new.capacity }
 
-    // The same result as a function.
+    // The result and the sizes, as a function of the bytes.
     ensures read { Splits (lace_in kind count bytes.now) sizes.new.items result }
 {
     if !is_frame_count(count) {
@@ -48,6 +48,7 @@ pub fn split(
     }
 }
 
+/// Checks whether a block may have `count` frames, which is 1 to 256.
 pub(crate) fn is_frame_count(count: u16) -> bool
     ensures { result ≡ is_frame_count count }
 {
@@ -92,6 +93,8 @@ fn frames(
     }
 }
 
+// Appends the size of the one frame of a block without lacing to `sizes`. Returns the length of the head, which is 0,
+// or None if the block states another number of frames.
 fn one_frame(count: usize, bytes: &[u8], sizes: &mut SmallVec<u32, 8, Global>) -> Option<u32>
     requires short { length bytes.now ≤ 2 ^ 25 }
     requires some { 1 ≤ count }
@@ -107,6 +110,8 @@ fn one_frame(count: usize, bytes: &[u8], sizes: &mut SmallVec<u32, 8, Global>) -
     Some(0)
 }
 
+// Appends the sizes of `count` frames of equal size. Returns the length of the head, which is 0, or None if the bytes
+// can't be divided by `count`.
 fn equal_frames(count: usize, bytes: &[u8], sizes: &mut SmallVec<u32, 8, Global>) -> Option<u32>
     requires short { length bytes.now ≤ 2 ^ 25 }
     requires some { 1 ≤ count }

@@ -1,12 +1,12 @@
-//! Laces that their first bytes settle: RFC 9559, section 10.3 (Block Lacing).
+//! Laces that are known from their first bytes: RFC 9559, section 10.3 (Block Lacing).
 ghost use Rattle.std.specs.Prelude.{◌≡◌, ◌^◌, ◌≤◌, length};
 ghost use Rattle.lacing.specs.Settled.{is_settled, settles_sizes};
 
 use crate::kind::Lace;
 use crate::reading::{fitting_size, is_frame_count};
 
-/// Checks whether `front`, the first of `len` bytes, settles that these are a lace of `count` frames. It does if the
-/// lace's head lies in `front`. Doesn't allocate.
+/// Checks whether `front`, the first of `len` bytes, is enough to know that the bytes are a lace of `count` frames.
+/// It is if the head of the lace lies in `front` and leaves the last frame a size of 0 or more. Doesn't allocate.
 pub fn is_settled(kind: Lace, count: u16, front: &[u8], len: usize) -> bool
     requires inside { length front.now ≤ len }
     requires short { len ≤ 2 ^ 25 }
@@ -22,7 +22,8 @@ pub fn is_settled(kind: Lace, count: u16, front: &[u8], len: usize) -> bool
     }
 }
 
-// Checks whether `front` settles all sizes except the last, and leaves the last one a size of 0 or more.
+// Checks whether `front`, the first of `len` bytes, contains all sizes of `count` frames except the last. They must
+// leave the last one a size of 0 or more.
 fn settles_sizes(kind: Lace, count: usize, front: &[u8], len: usize) -> bool
     requires inside { length front.now ≤ len }
     requires short { len ≤ 2 ^ 25 }

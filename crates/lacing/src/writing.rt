@@ -39,6 +39,7 @@ fn explicit_sizes(sizes: &[u32]) -> &[u32]
     &sizes[..sizes.len() - 1]
 }
 
+// Returns the length of the written sizes in bytes.
 fn spelled_len(kind: Lace, sizes: &[u32]) -> u32
     requires { length (octets_of_sizes kind None sizes.now) < 2 ^ 32 }
     ensures { result ≡ length (octets_of_sizes kind None sizes.now) }
@@ -52,6 +53,7 @@ fn spelled_len(kind: Lace, sizes: &[u32]) -> u32
     len
 }
 
+// Writes sizes in sequence to `out`, which has their length.
 fn put_spelled(kind: Lace, sizes: &[u32], out: &mut [u8])
     requires { length out.old ≡ length (octets_of_sizes kind None sizes.now) }
     ensures { out.new ≡ octets_of_sizes kind None sizes.now }
@@ -98,6 +100,7 @@ fn put_spelling(kind: Lace, before: Option<u32>, size: u32, out: &mut [u8]) -> u
     }
 }
 
+// Writes a size in Xiph lacing to the start of `out`, and returns the number of its bytes.
 fn put_xiph(size: u32, out: &mut [u8]) -> usize
     requires { length (octets_of_size Lace.Xiph None size) ≤ length out.old }
     ensures len { result ≡ length (octets_of_size Lace.Xiph None size) }
@@ -109,6 +112,8 @@ fn put_xiph(size: u32, out: &mut [u8]) -> usize
     run + 1
 }
 
+// Writes a size in EBML lacing to the start of `out`, after the previous size `before` if any. Returns the number of
+// its bytes.
 fn put_ebml(before: Option<u32>, size: u32, out: &mut [u8]) -> usize
     requires { length (ebml_octets before size) ≤ length out.old }
     ensures len { result ≡ length (ebml_octets before size) }
@@ -131,6 +136,7 @@ fn ebml_octets(before: Option<u32>, size: u32) -> Octets
     }
 }
 
+// Returns the bytes of the difference from the size `before` to `size`, as few as possible.
 fn difference_octets(before: u32, size: u32) -> Octets
     ensures octets { octets_of result ≡ difference_octets before size }
     ensures len { result.len ≡ length (difference_octets before size) }

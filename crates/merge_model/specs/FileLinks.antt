@@ -25,6 +25,7 @@ use Rattle.merge_model.specs.declared.link.TextLink.{TextLink}
 abbrev pub octets_in : LiveFiles → ℕ → List ℕ
 octets_in f file = unwrap_or (f.content file) []
 
+-- the part of a link that decides where its blocks are in the output: delay, append offset, default duration and prefix of frames
 abbrev pub placing_of : TrackLink → Placing
 placing_of t = record { delay = t.delay; shift = t.shift; default_duration = t.default_duration; prefix = t.prefix }
 
@@ -40,7 +41,7 @@ timed_given times k g = record g { blocks = timed times k g.blocks }
 abbrev pub track_with : TrackLink → List Event → Given
 track_with t events = timed_given (listing_of t) 0 (track_given (placing_of t) t.number events)
 
--- the events of a track's file
+-- the blocks and damage of the file of the track `t`
 abbrev pub track_events : LiveFiles → TrackLink → List Event
 track_events f t = events_of (with_limits t.scale) (octets_in f t.file.n) t.outline.value.segment
 
@@ -48,7 +49,7 @@ track_events f t = events_of (with_limits t.scale) (octets_in f t.file.n) t.outl
 abbrev pub text_with : TextLink → List Entry → Given
 text_with e entries = text_given e.delay e.shift entries
 
--- the source of a link
+-- the blocks and damaged places that a link gives to its output track
 abbrev pub given_in : LiveFiles → Link → Given
 given_in f (Track t) = track_with t (track_events f t)
 given_in f (Entries e) = text_with e e.entries
@@ -65,6 +66,7 @@ pub record IsOpenTrack (f : LiveFiles) (t : TrackLink) : Type 0 where
   pub size : f.size t.file.n ≡ t.outline.value.total
   pub scale : 1 ≤ t.scale
 
+-- The file of a link is live and has the length of its outline; a text needs no file.
 abbrev pub IsOpenLink : LiveFiles → Link → Type 0
 IsOpenLink f (Track t) = IsOpenTrack f t
 IsOpenLink f (Entries e) = ⊤
@@ -74,7 +76,7 @@ abbrev pub IsToldLink : LiveFiles → Link → Type 0
 IsToldLink f (Track t) = f.content t.file.n ≡ Some (octets_in f t.file.n)
 IsToldLink f (Entries e) = ⊤
 
--- The link's file is the same as before.
+-- The file of a link has the same length and content in `new` as in `old`.
 abbrev pub KeepsLink : LiveFiles → LiveFiles → Link → Type 0
 KeepsLink old new (Track t) = IsSameFile old new t.file.n
 KeepsLink old new (Entries e) = ⊤
@@ -92,6 +94,7 @@ pub record IsSmallEntry (e : Entry) : Type 0 where
   pub duration : e.duration < TOO_LARGE_TIME
   pub text : length e.text ≤ 2 ^ 24
 
+-- The delay, the append offset and the prefix of the track `t` are within their limits.
 pub record IsSmallTrack (t : TrackLink) : Type 0 where
   pub moves : CanMove t.delay t.shift
   pub prefix : length t.prefix ≤ MAX_PREFIX_LEN

@@ -15,7 +15,7 @@ floor_div (negsuc t) n = negsuc (t / n)
 abbrev pub tick_of : ℕ → ℕ → ℕ
 tick_of scale t = (t + scale / 2) / scale
 
--- the same for a time that may be before the start
+-- the tick nearest to the time `t`, which may be before the start, and the later one of two
 abbrev pub tick_near : ℕ → ℤ → ℤ
 tick_near scale t = floor_div (t +ℤ pos (scale / 2)) scale
 

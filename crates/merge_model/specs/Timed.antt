@@ -14,7 +14,7 @@ abbrev pub timed : Option Listing → ℕ → List Block → List Block
 timed None k bs = bs
 timed (Some l) k bs = retimed l k bs
 
--- the timestamp of one block
+-- the timestamp of the frame number `k` by a listing, or the block's own time without one
 abbrev pub time_for : Option Listing → ℕ → ℤ → ℤ
 time_for None k own = own
 time_for (Some l) k own = time_at l k

@@ -66,7 +66,7 @@ element_at-placed s bytes p e h before_end found =
     let octets = length-octets_between bytes p e in
     element_in-placed s (octets_between bytes p e) (length bytes) p e h (omega arith) found
 
--- The same for the result, whatever it is.
+-- The Element that is read, if any, is at its place, in its parent.
 pub element_in-is_placed : (s : Setting) (octets : List ℕ) (total p e : ℕ) → p + length octets ≤ e → IfOk (element_in s octets total p e) (StandsAt p e)
 element_in-is_placed s octets total p e inside =
     IfOk-each (StandsAt p e) (element_in s octets total p e) (λ h found. element_in-placed s octets total p e h inside found)
@@ -114,7 +114,7 @@ pub element_in-whole : (s : Setting) (octets : List ℕ) (total p e : ℕ) (h : 
 unfolding element_in
 element_in-whole s octets total p e h found = whole_id s octets total p e h (id_in s octets) found
 
--- The same for the result, whatever it is.
+-- The Element that is read, if any, is whole in its setting.
 pub element_in-is_whole : (s : Setting) (octets : List ℕ) (total p e : ℕ) → IfOk (element_in s octets total p e) (IsWhole s e)
 element_in-is_whole s octets total p e = IfOk-each (IsWhole s e) (element_in s octets total p e) (λ h found. element_in-whole s octets total p e h found)
 

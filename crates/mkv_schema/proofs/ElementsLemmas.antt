@@ -108,7 +108,7 @@ end_of_more n s stops next bytes p e advances further = split (nat_lt p e) refl
     split false past = rw (within-end (suc n) s stops next bytes p e past) (omega arith)
     split true inside = rw (within-more n s stops next bytes p e inside) (stopped (stops (id_of (element_at s bytes p e))) (grind arith))
 
--- So does a run with any bound.
+-- A run with any bound ends at or after its start.
 end-within : (n : ℕ) (s : Setting) (stops : ℕ → Bool) (next : Next) (bytes : List ℕ) (p e : ℕ) → Advances s next bytes e → p ≤ (elements_within n s stops next bytes p e).end
 end-within zero s stops next bytes p e advances = rw (within-zero s stops next bytes p e) (omega arith)
 end-within (suc n) s stops next bytes p e advances =
@@ -153,7 +153,7 @@ ascend_of_more n s stops next bytes p e advances further = split (nat_lt p e) re
     split false past = rw (within-end (suc n) s stops next bytes p e past) tt
     split true inside = rw (within-more n s stops next bytes p e inside) (stopped (stops (id_of (element_at s bytes p e))) (grind arith))
 
--- So does a run with any bound.
+-- A run with any bound has its Elements in ascending order.
 ascend-within : (n : ℕ) (s : Setting) (stops : ℕ → Bool) (next : Next) (bytes : List ℕ) (p e : ℕ) → Advances s next bytes e → AscendFrom p (elements_within n s stops next bytes p e).list
 ascend-within zero s stops next bytes p e advances = rw (within-zero s stops next bytes p e) tt
 ascend-within (suc n) s stops next bytes p e advances =
@@ -176,7 +176,7 @@ Advances-known s bytes e = record {
       grind arith;
 }
 
--- So does an Element of a Segment, which may be a Cluster of unknown size.
+-- The end of an Element of a Segment is after its start, also for a Cluster of unknown size.
 pub Advances-segment : (bytes : List ℕ) (e : ℕ) → Advances in_segment (behind_in_segment bytes e) bytes e
 Advances-segment bytes e = record {
   on = λ p h q before_end found goes.

@@ -40,6 +40,7 @@ damage_by_place s total e h =
     if may_be_open h.id then damage_of_misplaced total e h else
     damage_of_other total e h
 
+-- In the setting `s` the damage of each body is the one that `damage_by_place` gives by the place of the Element.
 abbrev pub IsByPlace : Setting → Type 0
 IsByPlace s = (total e : ℕ) (h : Header) → body_damage s total e h ≡ damage_by_place s total e h
 

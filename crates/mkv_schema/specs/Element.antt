@@ -57,6 +57,7 @@ display_read = Ok (record { id = CHAPTER_DISPLAY; len = 1 })
 abbrev pub id_in : Setting → List ℕ → Result IdRead NumFault
 id_in s octets = if s.display && slice_index octets 0 == CHAPTER_DISPLAY then display_read else id_at octets
 
+-- The size is unknown: all its data bits are 1.
 abbrev pub is_unknown : Size → Bool
 is_unknown (Known n) = false
 is_unknown Unknown = true
@@ -70,12 +71,13 @@ known Unknown = 0
 abbrev pub stated_end : Header → ℕ
 stated_end h = h.body + known h.size
 
--- the same for a Segment or a Cluster that the end of the file may cut
+-- the offset after an Element's last byte, at most `e`: the end of a Segment or Cluster that the end of the file may cut
 abbrev pub end_in : ℕ → Header → ℕ
 end_in e h = min (stated_end h) e
 
 -- ---- its damage, in a file of `total` bytes
 
+-- damage of this kind in the Element `id` at the offset `offset`
 abbrev pub damage : Kind → ℕ → ℕ → Damage
 damage kind id offset = record { kind = kind; id = id; offset = offset }
 
@@ -113,10 +115,13 @@ body_damage s total e h =
 
 -- ---- the Element, or the first damage of its place
 
+-- the header `h`, or damage of its Element if there is a kind of damage
 abbrev pub with_body : Header → Option Kind → Result Header Damage
 with_body h None = Ok h
 with_body h (Some kind) = Err (damage kind h.id h.offset)
 
+-- the Element `id` at the offset `p`, given the result of reading its size at the offset `at`, or its damage. Its setting is `s`, `total` is the
+-- length of the file, and `e` its parent's end.
 abbrev pub with_size : Setting → ℕ → ℕ → ℕ → ℕ → ℕ → Result SizeRead NumFault → Result Header Damage
 with_size s total p e id at (Err (fault.More n)) = Err (cut_header s total id p (at + n))
 with_size s total p e id at (Err fault.Bad) = Err (damage BadSize id p)
@@ -124,6 +129,8 @@ with_size s total p e id at (Ok size) =
     let h : Header = record { id = id; offset = p; body = at + size.len; size = size.size } in
     with_body h (body_damage s total e h)
 
+-- the Element at the offset `p`, given the result of reading its ID at the start of `octets`, or its damage. Its setting is `s`, `total` is the
+-- length of the file, and `e` its parent's end.
 abbrev pub with_id : Setting → List ℕ → ℕ → ℕ → ℕ → Result IdRead NumFault → Result Header Damage
 with_id s octets total p e (Err fault.Bad) = Err (damage BadId 0 p)
 with_id s octets total p e (Err (fault.More n)) = Err (cut_header s total 0 p (p + n + 1))

@@ -34,10 +34,13 @@ id_of (Err d) = d.id
 abbrev pub Next : Type 0
 Next = Header → Result ℕ Damage
 
+-- the run of the Element `h` at the offset `p`, and of the Elements `rest` after its end. If there is damage inside `h`, it ends the run.
 abbrev pub behind : ℕ → Header → Result ℕ Damage → (ℕ → Run) → Run
 behind p h (Ok q) rest = in_front h (rest q)
 behind p h (Err d) rest = in_front h (breaks_at p d)
 
+-- the run of the Element at the offset `p` and the Elements `rest` after it, or only the damage if it isn't read. `next` gives the end of an
+-- Element.
 abbrev pub step : ℕ → Next → Result Header Damage → (ℕ → Run) → Run
 step p next (Err d) rest = breaks_at p d
 step p next (Ok h) rest = behind p h (next h) rest
@@ -71,9 +74,11 @@ children_in s bytes p e = elements s never (λ h. Ok (end_in e h)) bytes p e
 abbrev pub ends_cluster : ℕ → Bool
 ends_cluster id = is_level1 id || is_level0 id
 
+-- the children of a Cluster of unknown size from the offset `p` on; `e` is its parent's end
 abbrev pub open_cluster : List ℕ → ℕ → ℕ → Run
 open_cluster bytes p e = elements in_master ends_cluster (λ h. Ok (end_in e h)) bytes p e
 
+-- the offset of the end of a run, or its damage
 abbrev pub end_of_run : Run → Option Damage → Result ℕ Damage
 end_of_run run None = Ok run.end
 end_of_run run (Some d) = Err d
@@ -87,6 +92,6 @@ abbrev pub ends_segment : Size → ℕ → Bool
 ends_segment (Known n) id = false
 ends_segment Unknown id = is_level0 id
 
--- the Elements of level 1
+-- the Elements of level 1 in a Segment of the size `size`, from the offset `p` on. `e` is the greatest offset that the Segment may reach.
 abbrev pub level_1 : List ℕ → Size → ℕ → ℕ → Run
 level_1 bytes size p e = elements in_segment (ends_segment size) (behind_in_segment bytes e) bytes p e

@@ -56,6 +56,8 @@ abbrev pub is_doc_type : Option (List ℕ) → Bool
 is_doc_type None = false
 is_doc_type (Some text) = bytes_eq text (codes "matroska") || bytes_eq text (codes "webm")
 
+-- the damage DocType, if the children `list` of the EBML header have no document type that is read. It is at the offset of the DocType element.
+-- `bytes` is the content of the file.
 abbrev pub wrong_doc_type : List ℕ → List Header → Option Damage
 wrong_doc_type bytes list = where_it (not (is_doc_type (text_in bytes DOC_TYPE list))) (damage DocType DOC_TYPE (place_of DOC_TYPE list))
 
@@ -135,9 +137,12 @@ passes_size held before h =
     is_described h.id
     && (nat_lt MAX_MASTER_LEN (known h.size) || nat_lt MAX_MASTERS_LEN (held + described (before ++ h ∷ [])))
 
+-- The Element `h` passes the limit on the number of Elements of level 1 that aren't Clusters. `before` has the Elements before it.
 abbrev pub passes_count : List Header → Header → Bool
 passes_count before h = not (h.id == CLUSTER) && nat_lt MAX_ELEMENTS (others (before ++ h ∷ []))
 
+-- the damage of the Element `h` because of the limits of level 1, by size and by count. `before` are the Elements before it. Earlier inputs have
+-- `held` bytes of limited Elements.
 abbrev pub limit_causes : ℕ → List Header → Header → List (Option Damage)
 limit_causes held before h =
     where_it (passes_size held before h) (damage HeaderTooLarge h.id h.offset) ∷
@@ -149,6 +154,8 @@ abbrev pub first_refusal : Option Damage → Option Damage → Option Damage
 first_refusal None later = later
 first_refusal (Some d) later = Some d
 
+-- the first refusal by a limit among the Elements `h ∷ hs` of level 1, after the Elements `before`. Earlier inputs have `held` bytes of limited
+-- Elements.
 abbrev pub limits_from : ℕ → List Header → List Header → Option Damage
 limits_from held before [] = None
 limits_from held before (h ∷ hs) =
@@ -170,6 +177,7 @@ segment_end bytes segment run =
     if is_unknown segment.size then option_map_or (λ (d : Damage). length bytes) run.damage run.end
     else end_in (length bytes) segment
 
+-- the outline of a file with this EBML header and Segment, whose Elements of level 1 are `run`
 abbrev pub outlined : List ℕ → Header → Header → Run → Outlined
 outlined bytes ebml segment run = record {
   ebml = ebml;
@@ -179,6 +187,8 @@ outlined bytes ebml segment run = record {
   end = segment_end bytes segment run;
 }
 
+-- the outline of a file with this EBML header and Segment, or the refusal of an Element of level 1 by a limit. Earlier inputs have `held` bytes
+-- of limited Elements.
 abbrev pub within_limits : ℕ → List ℕ → Header → Header → Result Outlined Damage
 within_limits held bytes ebml segment =
     let run = segment_run bytes segment in

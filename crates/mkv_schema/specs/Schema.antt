@@ -12,16 +12,19 @@ use Rattle.mkv_schema.specs.Table.{Entry, Default, number_value, text_value, tab
 abbrev pub table_ids : List ℕ
 table_ids = map (λ e. e.id) table
 
--- the row of `id`
+-- the row of the ID `id` in the table, if it has one
 unfoldable pub entry_of : ℕ → Option Entry
 entry_of id = find (λ e. e.id == id) table
 
+-- the name of the Element `id`, if the table has it
 abbrev pub name_of : ℕ → Option (List ℕ)
 name_of id = option_map (λ e. e.name) (entry_of id)
 
+-- the kind of value of the Element `id`, if the table has it
 abbrev pub kind_of : ℕ → Option ElementKind
 kind_of id = option_map (λ e. e.kind) (entry_of id)
 
+-- Elements of this kind are masters.
 abbrev pub is_master_kind : ElementKind → Bool
 is_master_kind Master = true
 is_master_kind _ = false
@@ -32,6 +35,7 @@ is_master id = option_map_or (λ e. is_master_kind e.kind) (entry_of id) false
 
 -- ---- Parents
 
+-- Elements with these parents are at level 0.
 abbrev pub is_root : Parents → Bool
 is_root Root = true
 is_root _ = false
@@ -40,6 +44,7 @@ is_root _ = false
 abbrev pub is_level0 : ℕ → Bool
 is_level0 id = option_map_or (λ e. is_root e.parents) (entry_of id) false
 
+-- Elements with these parents are children of `parent` only.
 abbrev pub is_child_of : ℕ → Parents → Bool
 is_child_of parent (ChildOf own) = parent == own
 is_child_of parent _ = false
@@ -48,7 +53,7 @@ is_child_of parent _ = false
 abbrev pub is_level1 : ℕ → Bool
 is_level1 id = option_map_or (λ e. is_child_of SEGMENT e.parents) (entry_of id) false
 
--- The ID `parent` is one of the parents of the Element `id`.
+-- The ID `parent` is one of the parents `parents` of the Element `id`.
 abbrev pub allows : Parents → ℕ → ℕ → Bool
 allows Root id parent = false
 allows AnyMaster id parent = is_master parent
@@ -65,10 +70,12 @@ kind_under id parent = if may_stand id parent then kind_of id else None
 
 -- ---- Defaults
 
+-- the number of a default, if it is one
 abbrev pub number_in : Default → Option ℕ
 number_in (number_value n) = Some n
 number_in (text_value t) = None
 
+-- the bytes of the text of a default, if it is one
 abbrev pub text_in : Default → Option (List ℕ)
 text_in (number_value n) = None
 text_in (text_value t) = Some t

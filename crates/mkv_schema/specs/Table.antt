@@ -12,7 +12,7 @@ pub data Default : Type 0 where
   number_value : ℕ → Default
   text_value : List ℕ → Default
 
--- a row of the table
+-- a row of the table: an Element's name, ID, kind of value, parents and default
 pub record Entry : Type 0 where
   pub name : List ℕ
   pub id : ℕ
@@ -20,16 +20,20 @@ pub record Entry : Type 0 where
   pub parents : Parents
   pub default : Option Default
 
+-- the row of an Element with the name `name`
 abbrev pub element : String → ℕ → ElementKind → Parents → Option Default → Entry
 element name id kind parents default =
     record { name = codes name; id = id; kind = kind; parents = parents; default = default }
 
+-- no default, as a row has it
 abbrev pub none : Option Default
 none = None
 
+-- the number `n` as the default of a row
 abbrev pub number : ℕ → Option Default
 number n = Some (number_value n)
 
+-- the text `t` as the default of a row
 abbrev pub text : String → Option Default
 text t = Some (text_value (codes t))
 

@@ -7,10 +7,12 @@ use Rattle.mkv_schema.specs.declared.table.DefaultValue.{DefaultValue}
 use Rattle.mkv_schema.specs.declared.table.DefaultValue.TheVariants.{Number, Text}
 use Rattle.mkv_schema.specs.Table.{Entry, Default, number_value, text_value}
 
+-- a default of the code's table as a default of the definition's
 abbrev pub shown_default : DefaultValue → Default
 shown_default (Number n) = number_value n
 shown_default (Text t) = text_value t.now
 
+-- an entry of the code's table as a row of the definition's
 abbrev pub shown : CodeEntry → Entry
 shown e = record { name = e.row.name.now; id = e.row.id; kind = e.row.kind; parents = e.parents; default = option_map shown_default e.default }
 

@@ -11,7 +11,7 @@ pub between-take : (bytes : List ℕ) (p n m : ℕ) → n ≤ m → octets_betwe
 between-take bytes p n m less =
     drop-take p n bytes ∙ sym (ap (take n) (drop-take p m bytes) ∙ take-take n m (drop p bytes) less)
 
--- And the others.
+-- The bytes between two offsets without the first ones.
 pub between-drop : (bytes : List ℕ) (p n e : ℕ) → octets_between bytes (p + n) e ≡ drop n (octets_between bytes p e)
 between-drop bytes p n e = sym (drop-drop n p (take e bytes))
 

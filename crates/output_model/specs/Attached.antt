@@ -12,7 +12,7 @@ abbrev pub octets_told : Option (List ℕ) → ℕ → ℕ → List ℕ
 octets_told None at n = replicate n 0
 octets_told (Some bytes) at n = octets_from bytes at n
 
--- the data of an attached file
+-- the data of the attachment `a`, from the live file that has them
 abbrev pub data_of : LiveFiles → Attachment → List ℕ
 data_of files a = octets_told (files.content a.file.n) a.at a.len
 
@@ -20,6 +20,6 @@ data_of files a = octets_told (files.content a.file.n) a.at a.len
 abbrev pub with_data : List ℕ → Node → Node
 with_data bytes entry = with_children entry (with_child (leaf FILE_DATA 0 bytes) (children entry))
 
--- the AttachedFile with its data
+-- the AttachedFile of the attachment `a`, with its data
 abbrev pub attached_file : LiveFiles → Attachment → Node
 attached_file files a = with_data (data_of files a) a.entry

@@ -11,6 +11,7 @@ use Rattle.output_model.specs.OutputBlock.{OutputBlock}
 
 -- ---- the flags
 
+-- the flag with the value `value` if it is set, and 0 otherwise
 abbrev pub flag : ℕ → Bool → ℕ
 flag value set = if set then value else 0
 
@@ -29,6 +30,7 @@ block_flags b = flag 0x08 b.invisible + lace_bits b.lace
 abbrev pub simple_block_flags : OutputBlock → ℕ
 simple_block_flags b = flag 0x80 b.key + flag 0x01 b.discardable + block_flags b
 
+-- the byte of flags of a block, which is in a BlockGroup or a SimpleBlock
 abbrev pub flags_of : OutputBlock → ℕ
 flags_of b = if b.group then block_flags b else simple_block_flags b
 
@@ -45,6 +47,7 @@ lace_octets lace.Xiph sizes = count_and_head lace.Xiph sizes
 lace_octets lace.Fixed sizes = count_and_head lace.Fixed sizes
 lace_octets lace.Ebml sizes = count_and_head lace.Ebml sizes
 
+-- the bytes of a block after its header: the lace, and then the frames
 abbrev pub frame_octets : Lace → List (List ℕ) → List ℕ
 frame_octets kind frames = lace_octets kind (map length frames) ++ concat frames
 
@@ -58,15 +61,18 @@ relative_to timestamp b = pos b.tick -ℤ pos timestamp
 abbrev pub block_header : ℕ → OutputBlock → List ℕ
 block_header timestamp b = (0x80 + b.lane) ∷ int_octets_in 2 (relative_to timestamp b) ++ flags_of b ∷ []
 
+-- the body of a Block or SimpleBlock in a Cluster with the Timestamp `timestamp`
 abbrev pub block_octets : ℕ → OutputBlock → List ℕ
 block_octets timestamp b = block_header timestamp b ++ frame_octets b.lace b.frames
 
 -- ---- the Element of a block
 
+-- the BlockDuration with this number of ticks, or nothing if there is none
 abbrev pub duration_elements : Option ℕ → List Element
 duration_elements None = []
 duration_elements (Some ticks) = uint_element BLOCK_DURATION ticks ∷ []
 
+-- the ReferenceBlock that refers to a block `ticks` ticks after this one, or before it if `ticks` is negative
 abbrev pub reference_element : ℤ → Element
 reference_element ticks = element REFERENCE_BLOCK (int_octets ticks)
 
@@ -75,11 +81,11 @@ abbrev pub group_elements : ℕ → OutputBlock → List Element
 group_elements timestamp b =
     element BLOCK (block_octets timestamp b) ∷ duration_elements b.duration ++ map reference_element b.references
 
--- the body of the group: these Elements, then the copied bytes of its other Elements
+-- the body of a BlockGroup: its Block, BlockDuration and ReferenceBlocks, then the copied bytes of its other Elements
 abbrev pub group_octets : ℕ → OutputBlock → List ℕ
 group_octets timestamp b = joined (group_elements timestamp b) ++ b.kept
 
--- a BlockGroup or a SimpleBlock
+-- the Element of a block in a Cluster with the Timestamp `timestamp`: a BlockGroup or a SimpleBlock
 abbrev pub block_element : ℕ → OutputBlock → Element
 block_element timestamp b =
     if b.group then element BLOCK_GROUP (group_octets timestamp b) else element SIMPLE_BLOCK (block_octets timestamp b)

@@ -14,6 +14,7 @@ pub record OutputCluster : Type 0 where
 
 -- ---- its bytes
 
+-- the Timestamp of a Cluster, in ticks
 abbrev pub timestamp_element : ℕ → Element
 timestamp_element timestamp = uint_element TIMESTAMP timestamp
 
@@ -21,13 +22,15 @@ timestamp_element timestamp = uint_element TIMESTAMP timestamp
 abbrev pub block_elements : ℕ → List OutputBlock → List Element
 block_elements timestamp blocks = map (block_element timestamp) blocks
 
--- the Timestamp, then the blocks
+-- the children of a Cluster: its Timestamp, then its blocks
 abbrev pub cluster_elements : OutputCluster → List Element
 cluster_elements c = timestamp_element c.timestamp ∷ block_elements c.timestamp c.blocks
 
+-- the bytes of a Cluster's children
 abbrev pub cluster_body : OutputCluster → List ℕ
 cluster_body c = joined (cluster_elements c)
 
+-- a Cluster as an Element with a known size
 abbrev pub cluster_element : OutputCluster → Element
 cluster_element c = element CLUSTER (cluster_body c)
 
@@ -41,15 +44,15 @@ begun b = record { timestamp = b.tick; blocks = b ∷ [] }
 abbrev pub with_block : OutputCluster → OutputBlock → OutputCluster
 with_block c b = record { timestamp = c.timestamp; blocks = c.blocks ++ b ∷ [] }
 
--- A Cluster may have `blocks` blocks.
+-- A Cluster may have `blocks` blocks: that is within the limits.
 abbrev pub has_room_for : ClusterLimits → ℕ → Bool
 has_room_for limits blocks = nat_le blocks limits.blocks
 
--- The difference between the Timestamp and the tick fits sixteen bits with a sign.
+-- The difference between a Cluster's Timestamp and the tick of a block fits sixteen bits with a sign.
 abbrev pub is_near : ℕ → ℕ → Bool
 is_near timestamp tick = nat_le timestamp (tick + 32768) && nat_le tick (timestamp + 32767)
 
--- A block at the tick `tick` is within the longest time from the Timestamp. A block before the Timestamp always is.
+-- A block at the tick `tick` isn't later after the Cluster's Timestamp than the limits allow. A block before the Timestamp never is.
 abbrev pub keeps_span : ClusterLimits → ℕ → ℕ → Bool
 keeps_span limits timestamp tick = nat_le ((tick - timestamp) * limits.scale) limits.span
 
@@ -62,7 +65,7 @@ abbrev pub may_have : ClusterLimits → ℕ → ℕ → ℕ → ℕ → Bool
 may_have limits timestamp blocks tick octets =
     has_room_for limits blocks && is_near timestamp tick && keeps_span limits timestamp tick && keeps_size octets
 
--- The block joins the Cluster, which may have it too.
+-- The block `b` may be appended to the Cluster `c`, which stays within the limits.
 abbrev pub joins : ClusterLimits → OutputCluster → OutputBlock → Bool
 joins limits c b = may_have limits c.timestamp (length (with_block c b).blocks) b.tick (length (cluster_body (with_block c b)))
 

@@ -11,6 +11,7 @@ use Rattle.output_model.specs.Document.{Front, Document, cues_for}
 use Rattle.output_model.specs.declared.rule.CueRule.{CueRule}
 use Rattle.output_model.specs.declared.rule.CueRule.TheVariants.{Never, Key, All}
 
+-- A block gets a cue point by the rule of its output track; `key` is true if it is a keyframe.
 abbrev pub is_cue_by : CueRule → Bool → Bool
 is_cue_by Never key = false
 is_cue_by Key key = key

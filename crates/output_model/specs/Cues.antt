@@ -35,10 +35,12 @@ points_from cued cluster (c ∷ cs) = cluster_points cued cluster c ++ points_fr
 
 -- ---- their bytes
 
+-- the CueTrackPositions of a cue point: its output track, and the offsets of its Cluster and its block
 abbrev pub positions_element : CuePoint → Element
 positions_element p = master_element CUE_TRACK_POSITIONS
     (uint_element CUE_TRACK p.lane ∷ uint_element CUE_CLUSTER_POSITION p.cluster ∷ uint_element CUE_RELATIVE_POSITION p.relative ∷ [])
 
+-- the CuePoint of a cue point: its tick and its CueTrackPositions
 abbrev pub point_element : CuePoint → Element
 point_element p = master_element CUE_POINT (uint_element CUE_TIME p.tick ∷ positions_element p ∷ [])
 

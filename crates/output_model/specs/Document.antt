@@ -31,9 +31,11 @@ pub record Document : Type 0 where
 
 -- ---- the EBML header
 
+-- the DocType of an output, WebM or Matroska
 abbrev pub doc_type : Bool → List ℕ
 doc_type webm = if webm then codes "webm" else codes "matroska"
 
+-- the EBML header of an output; `webm` is true for WebM
 abbrev pub ebml_element : Bool → Element
 ebml_element webm = master_element EBML (
     uint_element EBML_VERSION 1 ∷ uint_element EBML_READ_VERSION 1
@@ -42,10 +44,11 @@ ebml_element webm = master_element EBML (
 
 -- ---- the Elements in the Segment after the area
 
--- a tree in its normal form
+-- a tree as an Element in its normal form
 abbrev pub tree_element : Node → Element
 tree_element n = element (id_of n) (content n)
 
+-- a tree as an Element, or nothing if there is none
 abbrev pub tree_elements : Option Node → List Element
 tree_elements None = []
 tree_elements (Some n) = tree_element n ∷ []
@@ -59,22 +62,26 @@ attachments_elements (n ∷ ns) = master_element ATTACHMENTS (map tree_element (
 abbrev pub front_elements : Front → List Element
 front_elements f = tree_element f.info ∷ tree_element f.tracks ∷ attachments_elements f.attachments
 
+-- the Clusters of an output as Elements
 abbrev pub clusters_elements : List OutputCluster → List Element
 clusters_elements cs = map cluster_element cs
 
--- the Elements after the Clusters; the end of a part is known then, and limits its Chapters
+-- the Elements after the Clusters: Cues, Chapters and Tags, each only if present. They come last because the end of a part, which limits its
+-- Chapters, is known only then.
 abbrev pub back_with : List CuePoint → Option Node → Option Node → List Element
 back_with cues chapters tags = cues_elements cues ++ (tree_elements chapters ++ tree_elements tags)
 
+-- the Elements of the document `d` after its Clusters
 abbrev pub back_elements : Document → List Element
 back_elements d = back_with d.cues d.chapters d.tags
 
+-- the Elements of the document `d` after the area that is reserved for its SeekHead
 abbrev pub elements_behind_area : Document → List Element
 elements_behind_area d = front_elements d.front ++ (clusters_elements d.clusters ++ back_elements d)
 
 -- ---- offsets in bytes in the Segment
 
--- the offset of the first Cluster
+-- the offset of the first Cluster in the Segment
 abbrev pub clusters_at : Front → ℕ
 clusters_at f = AREA + length (joined (front_elements f))
 
@@ -104,7 +111,7 @@ segment_size rest = size_octets (AREA + rest) 8
 abbrev pub unknown_size : List ℕ
 unknown_size = size_octets (all_ones 8) 8
 
--- the bytes of an output
+-- the bytes of an output: its EBML header, and its Segment
 abbrev pub layout : Document → List ℕ
 layout d =
     let rest = joined (elements_behind_area d) in
@@ -114,6 +121,7 @@ layout d =
 abbrev pub opened_with : Front → List ℕ → List ℕ
 opened_with f rest = file_with f.webm unknown_size open_area (joined (front_elements f) ++ rest)
 
--- the same with all Clusters and the Elements after them, before the Segment's size and the area are overwritten
+-- an output that is complete except for its Segment's size and its SeekHead. All Clusters and the Elements after them are written, the size is
+-- unknown, and the area is one Void.
 abbrev pub opened : Document → List ℕ
 opened d = opened_with d.front (joined (clusters_elements d.clusters) ++ joined (back_elements d))

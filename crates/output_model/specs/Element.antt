@@ -17,10 +17,11 @@ pub record Element : Type 0 where
 abbrev pub header_of : Element → List ℕ
 header_of e = id_octets e.id ++ size_octets (length e.body) e.width
 
+-- the bytes of an Element: its header and its body
 abbrev pub octets_of : Element → List ℕ
 octets_of e = header_of e ++ e.body
 
--- Elements in sequence
+-- the bytes of Elements in sequence
 abbrev pub joined : List Element → List ℕ
 joined es = flat_map octets_of es
 
@@ -33,14 +34,15 @@ pub record IsElement (e : Element) : Type 0 where
 
 -- ---- Elements with the shortest header
 
+-- the Element with this ID and body, with the shortest size
 abbrev pub element : ℕ → List ℕ → Element
 element id body = record { id = id; width = least_size_width (length body); body = body }
 
--- an unsigned integer in its fewest bytes
+-- the Element `id` with an unsigned integer in its fewest bytes
 abbrev pub uint_element : ℕ → ℕ → Element
 uint_element id value = element id (uint_octets value)
 
--- a master with the children `children`
+-- the master `id` with the children `children`
 abbrev pub master_element : ℕ → List Element → Element
 master_element id children = element id (joined children)
 

@@ -11,6 +11,7 @@ use Rattle.output_model.specs.declared.places.Seek.{Seek}
 abbrev pub seek_element : Seek → Element
 seek_element s = master_element SEEK (element SEEK_ID (id_octets s.id) ∷ element SEEK_POSITION (big_bytes 8 s.position) ∷ [])
 
+-- the SeekHead with these Seeks
 abbrev pub seek_head : List Seek → Element
 seek_head seeks = master_element SEEK_HEAD (map seek_element seeks)
 

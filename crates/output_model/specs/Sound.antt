@@ -67,6 +67,7 @@ abbrev pub BeginsAt : ℕ → List OutputBlock → Type 0
 BeginsAt timestamp [] = ⊥
 BeginsAt timestamp (b ∷ bs) = timestamp ≡ b.tick
 
+-- The Cluster is valid in an output with `lanes` output tracks. Its Timestamp is the tick of its first block, and all its blocks are valid.
 pub record IsSoundCluster (lanes : ℕ) (c : OutputCluster) : Type 0 where
   pub begins : BeginsAt c.timestamp c.blocks
   pub blocks : All (IsSoundIn lanes c.timestamp) c.blocks
@@ -97,6 +98,7 @@ pub record AreTracks (tracks : Node) : Type 0 where
   pub numbers : CountFrom 1 (map number_of (entries_of tracks))
   pub few : length (entries_of tracks) ≤ MAX_LANES
 
+-- the number of output tracks of a document
 abbrev pub lanes_of : Document → ℕ
 lanes_of d = length (entries_of d.front.tracks)
 

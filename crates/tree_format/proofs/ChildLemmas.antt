@@ -50,7 +50,7 @@ stand-get parent [] i n stand inside is = absurd (omega arith)
 stand-get parent (m ∷ ns) zero n stand inside is = let P : Node → Type 0 = StandsIn parent in subst P (sym is) stand.0
 stand-get parent (m ∷ ns) (suc i) n stand inside is = stand-get parent ns i n stand.1 (omega arith) is
 
--- So is each of them.
+-- Each child of a valid master may be a child of it.
 pub child-stands : (tree n : Node) (ns : List Node) (i : ℕ) → IsSound tree → ns ≡ children tree → i < length ns → n ≡ get_or ns i n → StandsIn (id_of tree) n
 child-stands tree n ns i sound are inside is =
     let P : List Node → Type 0 = λ ms. AllStandIn (id_of tree) (nodes_of ms) in

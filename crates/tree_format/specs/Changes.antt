@@ -24,7 +24,7 @@ HasChild id ns = IsSome (position (λ m. id_of m == id) ns)
 abbrev pub AreTooLong : List Node → Type 0
 AreTooLong ns = longest < length (flat_map octets ns)
 
--- the children with the ID `id`
+-- the children with the ID `id`, in order
 abbrev pub part : ℕ → List Node → List Node
 part id ns = filter (λ n. id_of n == id) ns
 

@@ -23,7 +23,8 @@ LimitsChangeNoTree =
     (id offset : ℕ) (body : List ℕ) (base nodes : ℕ) (n : Node) → tree_of id offset body base nodes ≡ Ok n
     → tree_without_limits id offset body base ≡ Ok n
 
--- A valid master that keeps the limits is read back without limits from its written bytes.
+-- The written bytes of a valid master `n` are read back without limits. Its content must fit a size of eight bytes, and it must not be nested too
+-- deep.
 abbrev pub SoundTreesAreReadAgain : Type 0
 SoundTreesAreReadAgain = (n : Node) → IsMaster n → IsSound n → KeepsLimits n → IsReadWithoutLimits n
 

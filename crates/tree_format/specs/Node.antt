@@ -8,26 +8,32 @@ mutual
     leaf : ℕ → ℕ → List ℕ → Node
     master : ℕ → ℕ → Nodes → Node
 
+  -- the children of a master, as a list
   pub data Nodes : Type 0 where
     none : Nodes
     node : Node → Nodes → Nodes
 
+-- the children `ns` as a list that a node may contain
 abbrev pub nodes_of : List Node → Nodes
 nodes_of [] = none
 nodes_of (n ∷ ns) = node n (nodes_of ns)
 
+-- the children of a node as an ordinary list
 abbrev pub list_of : Nodes → List Node
 list_of none = []
 list_of (node n ns) = n ∷ list_of ns
 
+-- the ID of an Element
 abbrev pub id_of : Node → ℕ
 id_of (leaf id at body) = id
 id_of (master id at kids) = id
 
+-- the offset of an Element's header in its file, or 0 for a new Element
 abbrev pub offset_of : Node → ℕ
 offset_of (leaf id at body) = at
 offset_of (master id at kids) = at
 
+-- The Element is a leaf: it has a value, and no children.
 abbrev pub is_leaf : Node → Bool
 is_leaf (leaf id at body) = true
 is_leaf (master id at kids) = false
@@ -46,7 +52,7 @@ abbrev pub children : Node → List Node
 children (leaf id at body) = []
 children (master id at kids) = list_of kids
 
--- the master with the children `ns`
+-- the master with the ID and offset of the given one, and the children `ns` instead of its own; a leaf stays as it is
 abbrev pub with_children : Node → List Node → Node
 with_children (leaf id at body) ns = leaf id at body
 with_children (master id at kids) ns = master id at (nodes_of ns)

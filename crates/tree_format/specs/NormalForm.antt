@@ -12,7 +12,7 @@ is_filler id = id == VOID || id == CRC_32
 abbrev pub header_octets : ℕ → ℕ → List ℕ
 header_octets id size = id_octets id ++ size_octets size (least_size_width size)
 
--- an Element with the body `body`
+-- the bytes of the Element `id` with the body `body`, with the shortest size
 abbrev pub element_octets : ℕ → List ℕ → List ℕ
 element_octets id body = header_octets id (length body) ++ body
 

@@ -54,7 +54,8 @@ elements_within zero parent p (o ∷ octets) = record { trees = []; damage = Non
 elements_within (suc n) parent p (o ∷ octets) =
     listed_from (elements_within n) parent p (o ∷ octets) (header_at parent p (o ∷ octets))
 
--- the same with a bound that is large enough, since each Element has at least one byte
+-- the Elements of a body in sequence, each master with its contents, up to the first damage. `length octets` bounds their number, since each has
+-- at least one byte.
 unfoldable pub elements_in : Listing
 elements_in parent p octets = elements_within (length octets) parent p octets
 
@@ -111,7 +112,8 @@ tree_in_order id offset body base nodes =
     let tree = master id offset (nodes_of all.trees) in
     unless (first_refusal (first_refused nodes 0 (in_order 0 0 tree)) all.damage) tree
 
--- the same without a reader's limits on the number of nodes and on nested masters
+-- the tree of a master with the ID `id`, its header at `offset` and its body at `base`, or its first damage. There is no limit on the number of
+-- nodes or on nested masters.
 abbrev pub tree_without_limits : ℕ → ℕ → List ℕ → ℕ → Result Node Damage
 tree_without_limits id offset body base =
     let all = elements_in id base body in

@@ -15,10 +15,11 @@ use Rattle.tree_format.specs.Node.{Node, leaf, master, nodes_of, deepest}
 abbrev pub header_at : ℕ → ℕ → List ℕ → Result Header Damage
 header_at parent p octets = element_in (in_tree parent) octets (p + length octets) p (p + length octets)
 
--- the bytes of the Element's body, and the bytes after the Element
+-- the bytes of the body of the Element with the header `h`; `octets` begin with this Element, at the offset `p`
 abbrev pub inside : ℕ → Header → List ℕ → List ℕ
 inside p h octets = take (known h.size) (drop (h.body - p) octets)
 
+-- the bytes after the Element with the header `h`; `octets` begin with this Element, at the offset `p`
 abbrev pub behind : ℕ → Header → List ℕ → List ℕ
 behind p h octets = drop (stated_end h - p) octets
 
@@ -36,6 +37,7 @@ pub record Grove : Type 0 where
   pub trees : List Node
   pub left : ℕ
 
+-- the refusal of a tree because of damage: its kind, and the ID and offset of its Element
 abbrev pub refused : {A : Type 0} → Kind → ℕ → ℕ → Result A Damage
 refused kind id p = Err (damage kind id p)
 
@@ -44,6 +46,7 @@ refused kind id p = Err (damage kind id p)
 abbrev pub Reader : Type 0
 Reader = ℕ → ℕ → ℕ → ℕ → List ℕ → Result Grove Damage
 
+-- the master with the header `h` and the children `g`, which are read, and the number of nodes that may follow
 abbrev pub as_master : Header → Grove → Result Grown Damage
 as_master h g = Ok (record { tree = master h.id h.offset (nodes_of g.trees); left = g.left })
 
@@ -57,6 +60,7 @@ grown read room left parent h body =
     else if is_known_value parent h.id body then Ok (record { tree = leaf h.id h.offset body; left = left - 1 })
     else refused BadValue h.id h.offset
 
+-- the Elements `g` with the tree `n` before them
 abbrev pub with_first : Node → Grove → Result Grove Damage
 with_first n g = Ok (record { trees = n ∷ g.trees; left = g.left })
 
@@ -73,10 +77,11 @@ grove_within zero room left parent p (o ∷ octets) = Ok (record { trees = []; l
 grove_within (suc n) room left parent p (o ∷ octets) =
     and_then (header_at parent p (o ∷ octets)) (first_then (grove_within n) room left parent p (o ∷ octets))
 
--- the same with a bound that is large enough, since each Element has at least one byte
+-- the Elements of a body in sequence, or the first damage in their order; `length octets` bounds their number, since each has at least one byte
 unfoldable pub grove : Reader
 grove room left parent p octets = grove_within (length octets) room left parent p octets
 
+-- the master with this ID and offset, and the children `g`, without the number of nodes that may follow
 abbrev pub as_root : ℕ → ℕ → Grove → Result Node Damage
 as_root id offset g = Ok (master id offset (nodes_of g.trees))
 

@@ -55,7 +55,8 @@ abbrev mutual
   placed_all p none = none
   placed_all p (node n ns) = if is_filler (id_of n) then placed_all p ns else node (placed p n) (placed_all (p + length (octets n)) ns)
 
--- the same for a master with its header at `offset` and its body at `base`
+-- the master as it is read back with its header at `offset` and its body at `base`. Void and CRC-32 are left out, and each Element has its own
+-- offset.
 abbrev pub placed_in : ℕ → ℕ → Node → Node
 placed_in offset base (leaf id at body) = leaf id offset body
 placed_in offset base (master id at kids) = master id offset (placed_all base kids)
@@ -70,6 +71,7 @@ pub record KeepsLimits (n : Node) : Type 0 where
 pub record IsReadAgain (nodes : ℕ) (n : Node) : Type 0 where
   pub read : (offset base : ℕ) → tree_of (id_of n) offset (content n) base nodes ≡ Ok (placed_in offset base n)
 
--- The same without a reader's limits, which don't apply to a written file.
+-- The written bytes of a master's body are read back by a reader without limits on nodes and nesting. The result is the same tree, without Void
+-- and CRC-32, and each Element with its own offset.
 pub record IsReadWithoutLimits (n : Node) : Type 0 where
   pub read : (offset base : ℕ) → tree_without_limits (id_of n) offset (content n) base ≡ Ok (placed_in offset base n)

@@ -4,16 +4,20 @@ use Rattle.std.specs.Coded.{Coded, coded_ℕ, coded_list}
 use base.Stored.{Gv, gnil, gnum, gcons}
 use Rattle.tree_format.specs.Node.{Node, Nodes, leaf, master, none, node}
 
+-- the first of the pair `g`, or the empty code if `g` isn't a pair. `Gv` is the logic's type for stored values: numbers (`gnum`), nested pairs
+-- (`gcons`) and one empty code (`gnil`).
 abbrev head : Gv → Gv
 head gnil = gnil
 head (gnum n) = gnil
 head (gcons a b) = a
 
+-- the second of the pair `g`, or the empty code if `g` isn't a pair
 abbrev tail : Gv → Gv
 tail gnil = gnil
 tail (gnum n) = gnil
 tail (gcons a b) = b
 
+-- Pairs that begin with different numbers `m` and `n` aren't equal.
 apart : (m n : ℕ) {a b : Gv} → gcons (gnum m) a ≡ gcons (gnum n) b → m ≢ n → ⊥
 apart m n p other = other (cc)
 
@@ -43,5 +47,6 @@ mutual
   nodes_inj (node m ms) (node n ns) p =
       λ i. node (node_inj m n (ap (λ g. head (tail g)) p) i) (nodes_inj ms ns (ap (λ g. tail (tail g)) p) i)
 
+-- the encoding of trees as codes, with the proof that different trees have different codes
 abbrev pub coded_node : Coded Node
 coded_node = record { code = node_code; inj = node_inj }

@@ -11,17 +11,18 @@ pub fn trees_are_in_order()
     ensures { TreesAreInOrder }
 {}
 
-/// Law: a tree that a reader with limits returns is the tree without limits.
+/// Law: if a reader with limits returns a tree, a reader without limits returns the same tree.
 pub fn limits_change_no_tree()
     ensures { LimitsChangeNoTree }
 {}
 
-/// Law: a valid master that is written is read back, whatever a reader's limit on nodes.
+/// Law: the written bytes of a valid master are read back as this master by a reader without limits. The master must
+/// keep the limits on its length and on nested masters.
 pub fn sound_trees_are_read_again()
     ensures { SoundTreesAreReadAgain }
 {}
 
-/// Law: a child that is set is the only one of its ID, and the children of every other ID stay.
+/// Law: a child that is set is the only one with its ID, and the children with every other ID stay.
 pub fn children_change()
     ensures { ChildrenChange }
 {}
