@@ -16,7 +16,7 @@ pub record Buffered : Type 0 where
   pub references : List ℤ
   pub kept : List ℕ
 
--- the block in the buffer `b`
+-- the block that the buffer `b` holds, as the definitions have it
 abbrev pub block_of : Buffered → Block
 block_of b = record {
   track = b.head.track;

@@ -1,4 +1,4 @@
--- Facts that the first bytes of a SimpleBlock's body settle: RFC 9559, sections 10.2 (SimpleBlock Structure) and 10.3 (Block Lacing).
+-- Facts that are known from the first bytes of a SimpleBlock's body: RFC 9559, sections 10.2 (SimpleBlock Structure) and 10.3 (Block Lacing).
 use Rattle.std.specs.Prelude.{◌≡◌, ℕ, ◌+◌, ◌-◌, if◌then◌else◌, List, [], ◌∷◌, length, Option, Some, None, Result, Ok}
 use Rattle.std.specs.Option.{option_map}
 use Rattle.lacing.specs.declared.kind.Lace.{Lace}
@@ -17,12 +17,13 @@ use Rattle.block_reader.specs.Spelled.{header_in}
 
 -- ---- number of frames
 
--- the number of frames in a lace of `len` bytes, if its first bytes settle that it is valid. The first byte is this number minus one
+-- the number of frames in a lace of `len` bytes, if its first bytes `front` are enough to know that it is valid. The first byte is this number
+-- minus one.
 abbrev pub laced_count : Lace → List ℕ → ℕ → Option ℕ
 laced_count kind [] len = None
 laced_count kind (less_one ∷ front) len = if is_settled kind (less_one + 1) front (len - 1) then Some (less_one + 1) else None
 
--- the number of frames in the `len` bytes after a header, if the bytes `front` at their start settle it; 1 without lacing
+-- the number of frames in the `len` bytes after a header, if the bytes `front` at their start are enough to know it; 1 without lacing
 abbrev pub frame_count : Lace → List ℕ → ℕ → Option ℕ
 frame_count lace.None front len = Some 1
 frame_count lace.Xiph front len = laced_count lace.Xiph front len
@@ -56,12 +57,13 @@ abbrev pub block_in_front : ℕ → ℕ → ℕ → List ℕ → Block
 block_in_front scale timestamp offset front =
     simple_block_with scale timestamp offset (record { track = track_in front; relative = relative_in front; flags = flags_in front; frames = [] })
 
--- the head of `b` with `frames` frames, if the number is settled and the time isn't too large
+-- the head of `b` with `frames` frames, if this number is known and the time isn't too large
 abbrev pub head_with : Block → Option ℕ → Option BlockPreview
 head_with b None = None
 head_with b (Some frames) = if has_too_large_time b then None else Some (record { head = head_of b; frames = frames })
 
--- the head and frame count of a SimpleBlock with the header `h` whose body begins with `front`, if `front` settles that the block is valid
+-- the head and frame count of a SimpleBlock with the header `h` whose body begins with `front`. There is none if `front` isn't enough to know
+-- that the block is valid.
 abbrev pub front_head : ℕ → ℕ → Header → List ℕ → Option BlockPreview
 front_head scale timestamp h front =
     if has_no_header front then None else

@@ -59,7 +59,7 @@ lent octets p = record {
   kept = p.gathered.kept.items;
 }
 
--- The parts `p` have no block.
+-- The buffer's parts `p` hold no block.
 pub record IsEmpty (p : Parts) : Type 0 where
   pub start : p.start ≡ 0
   pub end : p.end ≡ 0

@@ -86,7 +86,7 @@ pub fn header_in(octets: &[u8]) -> Option<BlockHeader>
     })
 }
 
-// Takes all bytes as one frame.
+// Notes all of `octets` as the size of one frame, and returns the length of the lace's head, which is 0.
 fn one_frame(octets: &[u8], sizes: &mut SmallVec<u32, 8, Global>) -> Result<usize, AllocError>
     requires short { length octets.now ≤ MAX_BLOCK_LEN }
     requires empty { sizes.old.items ≡ [] }

@@ -1,5 +1,5 @@
-//! Facts that the first bytes of a SimpleBlock's body settle: RFC 9559, sections 10.2 (SimpleBlock Structure) and
-//! 10.3 (Block Lacing).
+//! Facts that are known from the first bytes of a SimpleBlock's body: RFC 9559, sections 10.2 (SimpleBlock Structure)
+//! and 10.3 (Block Lacing).
 
 ghost use Rattle.std.specs.Prelude.{◌≡◌, ◌≤◌, length, IfSome};
 ghost use Rattle.mkv_schema.specs.Element.{known};
@@ -25,8 +25,8 @@ pub struct BlockPreview {
     pub frames: u16,
 }
 
-// Returns the number of frames in a lace of `len` bytes that begins with `front`, or nothing if `front` doesn't
-// settle it.
+// Returns the number of frames in a lace of `len` bytes that begins with `front`, or nothing if `front` isn't enough
+// to know it.
 fn laced_count(kind: Lace, front: &[u8], len: usize) -> Option<u16>
     requires inside { length front.now ≤ len }
     requires short { len ≤ MAX_BLOCK_LEN }
@@ -42,8 +42,8 @@ fn laced_count(kind: Lace, front: &[u8], len: usize) -> Option<u16>
     }
 }
 
-// Returns the number of frames in the `len` bytes after a header, which begin with `front`, or nothing if `front`
-// doesn't settle it.
+// Returns the number of frames in the `len` bytes after a block's header, which begin with `front`. Returns None if
+// `front` is too short to know it, or the bytes can't be such frames.
 fn frame_count(kind: Lace, front: &[u8], len: usize) -> Option<u16>
     requires inside { length front.now ≤ len }
     requires short { len ≤ MAX_BLOCK_LEN }
@@ -64,8 +64,8 @@ pub fn front_track(front: &[u8]) -> Option<u64>
     Some(header.track)
 }
 
-/// Returns the head and frame count of a SimpleBlock whose body begins with `front`. Returns nothing if `front`
-/// doesn't settle that the block is valid. The Cluster's Timestamp is `timestamp` ticks of `scale` nanoseconds.
+/// Returns the head and frame count of a SimpleBlock whose body begins with `front`. Returns nothing if `front` isn't
+/// enough to know that the block is valid. The Cluster's Timestamp is `timestamp` ticks of `scale` nanoseconds.
 pub fn front_head(scale: u64, timestamp: u64, header: &Header, front: &[u8]) -> Option<BlockPreview>
     requires few { known header.now.size ≤ MAX_BLOCK_LEN }
     requires front { length front.now ≤ known header.now.size }

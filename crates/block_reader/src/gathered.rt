@@ -71,6 +71,7 @@ enum Part {
     LeftOut,
 }
 
+// Returns the part of a BlockGroup that a child with the ID `id` is.
 fn part_of(id: u32) -> Part
     ensures { IsPart id result }
 {

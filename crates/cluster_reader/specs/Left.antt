@@ -25,10 +25,12 @@ left_at_level_1 r bytes size at end = events_in_run r bytes end (level_1 bytes s
 abbrev pub place_behind : OpenCluster → Run → ℕ
 place_behind c children = if c.unknown then children.end else c.end
 
+-- the events from a place inside the Cluster `c` on: the blocks of its remaining children `children`, and then the events after it
 abbrev pub left_inside : Rules → List ℕ → Size → ℕ → OpenCluster → Run → List Event
 left_inside r bytes size end c children =
     events_then c.closed (found_in_run r bytes c.timestamp children) (left_at_level_1 r bytes size (place_behind c children) end)
 
+-- the events from the place `p` on, which is inside a Cluster or at level 1
 abbrev pub left_in : Rules → List ℕ → Place → Option OpenCluster → List Event
 left_in r bytes p None = left_at_level_1 r bytes p.size p.at p.end
 left_in r bytes p (Some c) = left_inside r bytes p.size p.end c (children_from bytes p.at c)

@@ -40,6 +40,7 @@ pub record IsInCluster (p e : ℕ) (c : OpenCluster) : Type 0 where
   pub within : c.end ≤ e
   pub closed : c.closed ≡ true → c.unknown ≡ false
 
+-- The offset `p` is at most the end of the current Cluster, if there is one.
 abbrev pub IsInAny : ℕ → ℕ → Option OpenCluster → Type 0
 IsInAny p e None = ⊤
 IsInAny p e (Some c) = IsInCluster p e c
@@ -51,6 +52,7 @@ pub record IsPlace (p : Place) : Type 0 where
 
 -- ---- number of turns that are left
 
+-- the number of turns for leaving the current Cluster: 1, or 0 if there is none
 abbrev pub turns_to_leave : Option OpenCluster → ℕ
 turns_to_leave None = 0
 turns_to_leave (Some c) = 1

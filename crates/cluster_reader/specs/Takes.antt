@@ -60,7 +60,8 @@ abbrev pub unless_wanted : BlockFilter → Option BlockPreview → Option BlockP
 unless_wanted takes None = None
 unless_wanted takes (Some front) = if wants takes front.head.track then None else Some front
 
--- the head and frame count of a SimpleBlock that isn't wanted, if the first bytes of its body settle them
+-- the head and frame count of a SimpleBlock that the filter `takes` doesn't want. There is none if the first bytes `front` of its body aren't
+-- enough to know them.
 abbrev pub settled_by : BlockFilter → ℕ → ℕ → Header → List ℕ → Option BlockPreview
 settled_by takes scale ticks h front = unless_wanted takes (front_head scale ticks h front)
 
@@ -68,7 +69,8 @@ settled_by takes scale ticks h front = unless_wanted takes (front_head scale tic
 abbrev pub held_front : ReadAhead → Header → List ℕ
 held_front w h = take (min (known h.size) MAX_PREVIEW_LEN) (front_from w h.body)
 
--- the head and frame count of a child that is a SimpleBlock and isn't wanted, if the bytes in the window `w` settle them
+-- the head and frame count of a child that is a SimpleBlock, if the filter `takes` doesn't want it. There is none if the bytes in the window `w`
+-- aren't enough to know them.
 abbrev pub settled_in : BlockFilter → ℕ → ℕ → Header → ReadAhead → Option BlockPreview
 settled_in takes scale ticks h w = if h.id == SIMPLE_BLOCK then settled_by takes scale ticks h (held_front w h) else None
 
@@ -78,7 +80,7 @@ pub record IsPassed (front : BlockPreview) (lent : Buffered) (answer : Bool) : T
   pub head : lent.head ≡ front.head
   pub frames : lent.frames ≡ front.frames
 
--- A block was skipped exactly if its head and frame count are settled, and the buffer has them then.
+-- A block was skipped exactly if its head and frame count are known from its first bytes. The buffer has them then.
 abbrev pub IsPassedWhere : Option BlockPreview → Buffered → Bool → Type 0
 IsPassedWhere None lent passed = passed ≡ false
 IsPassedWhere (Some front) lent passed = IsPassed front lent passed

@@ -69,7 +69,7 @@ abbrev pub PassesIn : {S : Type 0} → Ghosts S → S → Walk → Walk → ℕ 
 PassesIn r src old new ticks h takes passed =
     IsTrue passed → IfTold r src old.file (λ bytes. MakesBlock takes new.block (simple_block (with_limits old.scale) bytes (Some ticks) h))
 
--- The bytes in the window settle that `front` is the head and frame count of the SimpleBlock with the header `h`.
+-- In each file with the bytes of the window, `front` is the head and frame count of the SimpleBlock with the header `h`.
 abbrev pub SettlesHeld : ℕ → ℕ → Header → ReadAhead → BlockPreview → Type 0
 SettlesHeld scale ticks h window front = (bytes : List ℕ) → length (body_of bytes h) ≡ known h.size → Holds bytes window
     → HasHead front (simple_block (with_limits scale) bytes (Some ticks) h)
@@ -106,6 +106,7 @@ abbrev pub TurnsOn : Place → Place → Option Step → Type 0
 TurnsOn old new None = (turns_left new < turns_left old) × (old.at ≤ new.at)
 TurnsOn old new (Some step) = GoesOn step old.at new.at
 
+-- By the result of a turn, its block can be written if there is one and the filter `takes` wants it.
 abbrev pub LendsForTurn : BlockFilter → Option Step → Buffered → Type 0
 LendsForTurn takes None b = ⊤
 LendsForTurn takes (Some step) b = LendsWanted takes step b
@@ -170,13 +171,14 @@ FindsForAll r src old new timestamp h found = (takes : BlockFilter) → FindsIn 
 abbrev pub GivesIn : {S : Type 0} → Ghosts S → S → BlockFilter → Walk → Walk → Result Step ReadEnd → Type 0
 GivesIn r src takes old new result = IfTold r src old.file (λ bytes. GivesWanted takes bytes (shown old) (shown new) result)
 
--- the walk after damage in the Cluster `c`, and the walk at its end
+-- the walk after damage in the Cluster `c`; reading stops there unless the Cluster states its end
 abbrev pub broken_off : OpenCluster → Walk → Walk
 broken_off c w = record w { place = behind_damage w.place c; stopped = not c.closed }
 
+-- the walk at the end of its Segment, where reading stops
 abbrev pub ended : Walk → Walk
 ended w = record w { place = at_end w.place; stopped = true }
 
--- A block is skipped exactly if it isn't wanted, and the bytes in the walk's window settle its head and frame count.
+-- A block is skipped exactly if the filter doesn't want it and the bytes in the walk's window are enough to know its head and frame count.
 abbrev pub PassesWhereSettled : BlockFilter → ℕ → Header → Walk → Walk → Bool → Type 0
 PassesWhereSettled takes ticks h old new passed = IsPassedWhere (settled_in takes old.scale ticks h new.window) new.block passed

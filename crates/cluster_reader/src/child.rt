@@ -120,7 +120,8 @@ fn wants(takes: BlockFilter, track: u64) -> bool
     }
 }
 
-// Returns the head and frame count of a SimpleBlock that isn't wanted, if the held bytes of its body settle them.
+// Returns the head and frame count of a SimpleBlock that the filter doesn't want. Returns None if the bytes of its
+// body that the window holds aren't enough to know them.
 fn settled(
     window: &Window,
     scale: u64,
@@ -144,8 +145,8 @@ fn settled(
     }
 }
 
-// Skips the frames of a SimpleBlock that isn't wanted, if its first bytes settle that it is valid. Returns true if it
-// did.
+// Skips the frames of a SimpleBlock that the filter doesn't want, if its first bytes are enough to know that it is
+// valid. Returns true if it did.
 fn passes<R: Reads>(
     walk: &mut Walk,
     src: &mut R,

@@ -103,7 +103,7 @@ impl Place {
     }
 }
 
-// Returns the maximum end of an element in a parent that ends at `end`.
+// Returns the greatest offset that an element may reach, in a parent that ends at `end`.
 fn bound_in(header: &Header, end: u64) -> u64
     ensures { result ≡ bound_in end header.now }
 {

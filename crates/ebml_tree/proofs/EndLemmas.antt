@@ -23,7 +23,7 @@ pub reads-holds : (P : Node → Type 0) (result : Result Node TreeEnd) (read : R
 reads-holds P (Ok n) read reads holds = holds n reads
 reads-holds P (Err end) read reads holds = tt
 
--- The same with another property of the result.
+-- A property of each tree of the definition holds for the result, given a property of the result that is known.
 pub reads-holds_with : (P Q : Node → Type 0) (result : Result Node TreeEnd) (read : Result Node Harm) → ReadsTree result read → IfOk result Q → ((n : Node) → read ≡ Ok n → Q n → P n) → IfOk result P
 reads-holds_with P Q (Ok n) read reads known holds = holds n reads known
 reads-holds_with P Q (Err end) read reads known holds = tt

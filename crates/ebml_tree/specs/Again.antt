@@ -10,6 +10,7 @@ use Rattle.tree_format.specs.Standing.{IsReadAgain, IsSound, StandsIn, kept}
 abbrev pub HasUint : {E : Type 0} → ℕ → List ℕ → Result Node E → Type 0
 HasUint id octets result = (value : ℕ) → value < 2 ^ 64 → octets ≡ uint_octets value → IfOk result (λ tree. uint_value id (body_of tree) ≡ value)
 
+-- If the bytes encode a signed integer, this is the value of the leaf.
 abbrev pub HasInt : {E : Type 0} → List ℕ → Result Node E → Type 0
 HasInt octets result = (value : ℤ) → magnitude value < 2 ^ 63 → octets ≡ int_octets value → IfOk result (λ tree. int_of (body_of tree) ≡ value)
 
@@ -17,7 +18,7 @@ HasInt octets result = (value : ℤ) → magnitude value < 2 ^ 63 → octets ≡
 abbrev pub IsReadWhole : Node → Type 0
 IsReadWhole tree = (nodes : ℕ) → IsMaster tree → IsSound tree → kept tree ≤ nodes → IsReadAgain nodes tree
 
--- The same is true of the tree `new`, which has the valid child `child` more than `old`.
+-- The tree `new` has the valid child `child` more than `old`. Its written bytes are read back by a reader that allows enough nodes.
 abbrev pub StaysReadable : Node → Node → Node → Type 0
 StaysReadable old child new = (nodes : ℕ) → IsSound old → StandsIn (id_of old) child → kept new ≤ nodes → IsReadAgain nodes new
 

@@ -20,5 +20,6 @@ ReadsTree (Err end) read = Refuses end read
 abbrev pub GivesTree : Result Grown Harm → ℕ → Node → Type 0
 GivesTree read left tree = read ≡ Ok (record { tree = tree; left = left })
 
+-- The definition reads the trees `trees` and leaves room for `left` nodes.
 abbrev pub GivesTrees : Result Grove Harm → ℕ → List Node → Type 0
 GivesTrees read left trees = read ≡ Ok (record { trees = trees; left = left })

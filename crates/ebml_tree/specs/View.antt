@@ -6,10 +6,12 @@ use Rattle.tree_format.specs.NormalForm.{octets, longest}
 use Rattle.ebml_tree.specs.declared.tree.content.Content.{Content}
 use Rattle.ebml_tree.specs.declared.tree.content.Content.TheVariants.{Body, Children}
 
+-- a tree of the code, by its fields, as a tree of the definitions
 abbrev pub node_of : ℕ → ℕ → Content → Node
 node_of id at (Body body) = leaf id at body.items
 node_of id at (Children trees) = master id at (nodes_of trees.items)
 
+-- the children that a tree of the code has; none for a leaf
 abbrev pub kids_of : Content → List Node
 kids_of (Body body) = []
 kids_of (Children trees) = trees.items
@@ -19,7 +21,7 @@ abbrev pub content_of : Content → List ℕ
 content_of (Body body) = body.items
 content_of (Children trees) = flat_map octets trees.items
 
--- the number of nested masters
+-- the number of nested masters in the content of a tree
 abbrev pub depth_of : Content → ℕ
 depth_of (Body body) = 0
 depth_of (Children trees) = depth_all (nodes_of trees.items) + 1
@@ -32,7 +34,7 @@ pub record Measured (id written' depth' : ℕ) (c : Content) : Type 0 where
   pub deep : depth' ≡ depth_of c
   pub not_too_deep : depth' ≤ deepest
 
--- The content is children, possibly none.
+-- The tree is a master, whose content is children, possibly none.
 abbrev pub IsKids : Content → Type 0
 IsKids (Body body) = ⊥
 IsKids (Children trees) = Unit {0}
@@ -42,7 +44,7 @@ abbrev pub HasKids : Content → List Node → Type 0
 HasKids (Body body) ns = ⊥
 HasKids (Children trees) ns = trees.items ≡ ns
 
--- the bytes of a leaf
+-- the bytes of a leaf; none for a master
 abbrev pub octets_in : Content → List ℕ
 octets_in (Body body) = body.items
 octets_in (Children trees) = []

@@ -22,7 +22,7 @@ pub fn integer_in(tree: &Tree, id: u32) -> Option<u64>
     Some(child.uint())
 }
 
-/// Returns the same, or the table's default, or 0.
+/// Returns the unsigned integer `id` among the children, or the table's default if it is absent, or 0.
 pub fn uint_in(tree: &Tree, id: u32) -> u64
     requires sound { IsSound tree.now }
     requires uint { HasUint (id_of tree.now) id }

@@ -45,6 +45,7 @@ OfKept kept P = (held : ℕ) (list : List Header) → Keeps held list kept → P
 abbrev pub KeepsAlso : Header → Collected → Collected → Option Damage → Type 0
 KeepsAlso h old new refusal = refusal ≡ None → OfKept old (λ held list. Keeps held (list ++ h ∷ []) new)
 
+-- An Element `h` without a refusal is added to the list of Elements that aren't Clusters, unless it is one.
 abbrev pub AddsOther : Header → Collected → Collected → Option Damage → Type 0
 AddsOther h old new refusal = refusal ≡ None → new.others.items ≡ old.others.items ++ unless_cluster h
 

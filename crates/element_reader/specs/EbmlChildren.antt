@@ -44,6 +44,7 @@ IfSound base total body P = (bytes : List ℕ) → IsBody bytes base total body 
 abbrev pub value_refusal : List ℕ → Run → Option Damage
 value_refusal bytes run = first_damage (value_causes bytes run.list)
 
+-- the document type among the children `run` of an EBML header, or the table's default
 abbrev pub doc_type_in : List ℕ → Run → Option (List ℕ)
 doc_type_in bytes run = text_in bytes DOC_TYPE run.list
 

@@ -4,6 +4,7 @@ use Rattle.mkv_io.specs.declared.outside.ReadEnd.TheVariants as read_end
 use Rattle.element_reader.specs.declared.outline_end.OutlineEnd.{OutlineEnd}
 use Rattle.element_reader.specs.declared.outline_end.OutlineEnd.TheVariants as outline_end
 
+-- the end of a call that reads a file, as the end of a call that reads its outline
 abbrev pub end_of : ReadEnd → OutlineEnd
 end_of read_end.ReadFault = outline_end.ReadFault
 end_of read_end.Memory = outline_end.Memory

@@ -11,7 +11,7 @@ IsHead found (Ok h) = found ≡ Ok h
 IsHead found (Err (head_end.Damage d)) = found ≡ Err d
 IsHead found (Err head_end.ReadFault) = ⊤
 
--- The end is a failed read.
+-- Reading the EBML header and the Segment ended with a failed read.
 abbrev pub is_head_fault : HeadEnd → Bool
 is_head_fault (head_end.Damage d) = false
 is_head_fault head_end.ReadFault = true

@@ -22,7 +22,7 @@ pub record Listing : Type 0 where
   pub end : ℕ
   pub ahead : ReadAhead
 
--- the Elements that are left
+-- the Elements of level 1 in the content `bytes` that the walk has left
 abbrev pub left : List ℕ → Listing → List Header
 left bytes p = (level_1 bytes p.size p.at p.end).list
 
@@ -47,7 +47,7 @@ abbrev pub Gives : Option Header → List Header → List Header → Type 0
 Gives (Some h) old new = old ≡ h ∷ new
 Gives None old new = (old ≡ []) × (new ≡ [])
 
--- The same for the Elements of a content.
+-- The result is the first Element that `old` has left in the content `bytes`, or there is none. `new` has the others left.
 abbrev pub GivesNext : List ℕ → Listing → Listing → Option Header → Type 0
 GivesNext bytes old new found = Gives found (left bytes old) (left bytes new)
 

@@ -21,7 +21,7 @@ limit_of id =
 abbrev pub too_large : Header → Option Damage
 too_large h = option_map_or (λ limit. over limit h) (limit_of h.id) None
 
--- The end is a failed read.
+-- Reading an Element into memory ended with a failed read.
 abbrev pub is_load_fault : LoadEnd → Bool
 is_load_fault (load_end.TooLarge d) = false
 is_load_fault load_end.ReadFault = true

@@ -52,7 +52,7 @@ IsOutline found (Err (outline_end.Refused d)) = found ≡ Err d
 IsOutline found (Err outline_end.ReadFault) = ⊤
 IsOutline found (Err outline_end.Memory) = ⊤
 
--- The end is a failed read.
+-- Reading an outline ended with a failed read.
 abbrev pub is_outline_fault : OutlineEnd → Bool
 is_outline_fault (outline_end.Refused d) = false
 is_outline_fault outline_end.ReadFault = true

@@ -10,6 +10,7 @@ use Rattle.mkv_io.specs.Results.{and_then, unless}
 abbrev pub segment_or_damage : List ℕ → Run → Result Header Damage
 segment_or_damage bytes run = and_then (unless run.damage run) (segment_behind bytes)
 
+-- the Segment that follows the offset `from`, or the damage that refuses the file before it
 abbrev pub segment_from : List ℕ → ℕ → Result Header Damage
 segment_from bytes from = segment_or_damage bytes (before_segment bytes from)
 

@@ -101,6 +101,7 @@ impl Collected {
         None
     }
 
+    // Checks whether the element passes a limit of size, by itself or with the elements before it.
     fn passes_size(&self, header: &Header) -> bool
         ensures exact { OfKept self.now (λ held list. result ≡ passes_size held list header.now) }
         ensures room { result ≡ false → self.now.held + described_octets header.now < 2 ^ 64 }
@@ -110,6 +111,7 @@ impl Collected {
         is_described(header.id) && (size > MAX_MASTER_LEN || held > MAX_MASTERS_LEN)
     }
 
+    // Checks whether the element passes the limit on the number of elements of level 1 that aren't Clusters.
     fn passes_count(&self, header: &Header) -> bool
         ensures { (held : ℕ) (list : List Placed) → Keeps held list self.now → result ≡ passes_count list header.now }
     {

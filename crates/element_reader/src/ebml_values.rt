@@ -68,7 +68,8 @@ fn place_of(body: &[u8], base: u64, total: u64, id: u32) -> u64
     }
 }
 
-/// Returns the damage that refuses the document type.
+/// Returns the damage that refuses a file whose document type is neither `matroska` nor `webm`. `body` is the body of
+/// its EBML header at the offset `base`, and `total` the length of the file.
 pub fn wrong_doc_type(body: &[u8], base: u64, total: u64) -> Option<Damage>
     requires { base + length body.now ≤ LONGEST_FILE }
     ensures { IfBody base total body.now (λ bytes. result ≡ wrong_doc_type bytes (in_body bytes base body.now).list) }

@@ -45,6 +45,7 @@ fn limit_of(id: u32) -> Option<u64>
     }
 }
 
+// Returns the damage of an element that is longer than a tree may be.
 fn too_large(header: &Header) -> Option<Damage>
     ensures { result ≡ too_large header.now }
 {

@@ -111,14 +111,14 @@ impl Outline {
         self.total
     }
 
-    /// Returns the EBML header.
+    /// Returns the header of the EBML header.
     pub fn ebml(&self) -> Header
         ensures { result ≡ self.now.ebml }
     {
         self.ebml
     }
 
-    /// Returns the Segment.
+    /// Returns the header of the Segment.
     pub fn segment(&self) -> Header
         ensures exact { result ≡ self.now.segment }
         ensures inside { result.body ≤ self.now.total }

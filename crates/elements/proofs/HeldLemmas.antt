@@ -25,7 +25,7 @@ last-held buf rest end (suc k) d within is =
     ∙ take_at (take (suc k) (drop d buf)) rest (suc k) here
     ∙ sym (ap (λ n. drop d (take n buf)) whole ∙ drop-take d (suc k) buf)
 
--- The same for the bytes that are kept, or none.
+-- The last bytes of the buffer are the kept ones, or there are none.
 pub last-kept : (none : Bool) (buf rest : List ℕ) (end k d : ℕ) → end ≤ length buf → k ≡ length (if none then [] else drop d (take end buf))
     → take k (take (end - (end - k)) (drop (end - k) buf) ++ rest) ≡ (if none then [] else drop d (take end buf))
 last-kept true buf rest end k d within is = ap (λ n. take n (take (end - (end - k)) (drop (end - k) buf) ++ rest)) is

@@ -22,6 +22,7 @@ abbrev pub LooksIn : {S T E : Type 0} → Ghosts S → FileId → ℕ → ℕ �
 LooksIn g file at len old buffer new now_buffer before now result =
     Looks g file (length buffer) at len (held_in old buffer) (held_in new now_buffer) before now result
 
+-- A call moves the buffer to the offset `at`, if it hasn't passed it, and its bytes are counted as for a window.
 abbrev pub GoesIn : {S T E : Type 0} → Ghosts S → FileId → ℕ → BufferedRange → List ℕ → BufferedRange → List ℕ → S → S → Result T E → Type 0
 GoesIn g file at old buffer new now_buffer before now result =
     Goes g file at (λ _. at) (held_in old buffer) (held_in new now_buffer) before now result

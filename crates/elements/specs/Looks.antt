@@ -70,6 +70,6 @@ LooksThrough g ahead file room at len old new before now result = Looks g file r
 abbrev pub GoesBody : {S T E W : Type 0} → Ghosts S → (W → ReadAhead) → FileId → Header → (T → ℕ) → W → W → S → S → Result T E → Type 0
 GoesBody g ahead file h to old new before now result = GoesThrough g ahead file h.body to old new before now result
 
--- The same for the move through the body of `h`.
+-- The window has moved from the body of `h` to its end. The move pays for the bytes that were read.
 abbrev pub GoesOver : {S T E : Type 0} → Ghosts S → FileId → Header → ReadAhead → ReadAhead → S → S → Result T E → Type 0
 GoesOver g file h old new before now result = GoesTo g file h.body (stated_end h) old new before now result

@@ -3,6 +3,7 @@ use Rattle.mkv_schema.specs.Element.{Setting, at_level_0, in_segment, in_master,
 use Rattle.elements.specs.declared.parent.Parent.{Parent}
 use Rattle.elements.specs.declared.parent.Parent.TheVariants.{File, Segment, Master, Tree, Any}
 
+-- the setting of an Element's place, by the parent that the code knows
 abbrev pub setting_of : Parent → Setting
 setting_of File = at_level_0
 setting_of Segment = in_segment

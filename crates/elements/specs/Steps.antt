@@ -37,7 +37,7 @@ pub record IsStep (step : Level1Step) (at end : ℕ) : Type 0 where
   pub further : IsFurther step at end
   pub whole : IsWholeStep step end
 
--- the offset after a step
+-- the offset after a step of a walk over level 1
 abbrev pub place_behind : ℕ → ℕ → Level1Step → ℕ
 place_behind at end (Element header next) = place_or end next
 place_behind at end (Damaged d) = at

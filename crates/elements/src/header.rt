@@ -31,6 +31,8 @@ pub fn read_header(
     first_header(octets, parent, total, at, end)
 }
 
+// Reads the header at the start of `octets`, or returns its damage. The bytes are at the offset `at` of a file of
+// `total` bytes, and reach to the end `end` of the parent.
 #[tactic(auto, unfolding(mkv_schema::specs::Element::element_in))]
 fn first_header(
     octets: &[u8],

@@ -42,7 +42,7 @@ impl SmallWindow {
         }
     }
 
-    /// Empties the window.
+    /// Empties the window, so that the next look-up reads the file.
     pub fn forget(&mut self)
         ensures { self.new ≡ nothing_at 0 }
     {
@@ -57,6 +57,8 @@ impl Lookahead for SmallWindow {
 
     ghost room = { LITTLE };
 
+    // Reads the header of the element at the offset `at`, in a parent that ends at `end`, through the window, or
+    // returns its damage.
     fn element<R: Reads>(
         &mut self,
         src: &mut R,

@@ -13,6 +13,7 @@ pub fn text_of(body: &[u8]) -> &[u8]
     &body[..text_len(body)]
 }
 
+// Returns the number of bytes of a text before its first zero byte.
 fn text_len(body: &[u8]) -> usize
     ensures value { result ≡ prefix_len (λ octet. not (octet == 0)) body.now }
     ensures within { result ≤ length body.now }

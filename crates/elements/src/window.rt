@@ -167,7 +167,7 @@ impl Window {
         into[..len].copy_from_slice(self.octets_at(at, len));
     }
 
-    /// Empties the window.
+    /// Empties the window, so that the next look-up reads the file.
     pub fn forget(&mut self)
         ensures { self.new ≡ nothing_at 0 }
     {
@@ -183,7 +183,8 @@ impl Window {
         self.held.front_at(at, most, &self.buffer)
     }
 
-    // Copies the bytes that are held from the offset `at` of a file of `total` bytes, and returns their number.
+    // Copies the bytes that the window holds from the offset `at` of a file of `total` bytes on to `into`, and
+    // returns their number.
     fn copy_held(&self, at: u64, total: u64, into: &mut [u8]) -> usize
         requires inside { at ≤ total }
         requires room { length (kept_from self.now total at) ≤ length into.old }
@@ -246,6 +247,8 @@ impl Lookahead for Window {
 
     ghost room = { WINDOW };
 
+    // Reads the header of the element at the offset `at`, in a parent that ends at `end`, through the window, or
+    // returns its damage.
     fn element<R: Reads>(
         &mut self,
         src: &mut R,

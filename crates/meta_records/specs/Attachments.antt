@@ -43,6 +43,7 @@ counted_of h = if h.id == FILE_DATA then header_len h else header_len h + known 
 abbrev pub part_of : List ℕ → Header → ScannedElement
 part_of bytes h = record { header = h; counted = counted_of h; fits = is_known_value ATTACHED_FILE h.id (body_of bytes h) }
 
+-- The child of Attachments with the header `h` is an AttachedFile.
 abbrev pub is_attached : Header → Bool
 is_attached h = h.id == ATTACHED_FILE
 
@@ -73,7 +74,7 @@ at_child bytes h = Ok (child_of h) ∷ (if is_attached h then parts_in bytes h e
 
 -- ---- refusals
 
--- damage at an element
+-- damage of this kind at the element `h`
 abbrev pub told_at : Kind → Header → Damage
 told_at kind h = damage kind h.id h.offset
 
@@ -81,7 +82,7 @@ told_at kind h = damage kind h.id h.offset
 abbrev pub too_large : ℕ → Header → Option Damage
 too_large octets h = where_it (nat_lt MAX_ATTACHMENTS_LEN octets) (told_at HeaderTooLarge h)
 
--- the damage if `nodes` elements before `h` are the maximum
+-- the damage TooMany of the element `h`, if the `nodes` elements before it are already the maximum
 abbrev pub one_too_many : ℕ → Header → Option Damage
 one_too_many nodes h = where_it (nat_le MAX_NODES nodes) (told_at TooMany h)
 

@@ -50,7 +50,7 @@ tree_at bytes (Some h) = and_then (tree_of h.id h.offset (body_of bytes h) h.bod
 abbrev pub first_tree : ℕ → List ℕ → Header → Result (Option Node) Damage
 first_tree id bytes segment = tree_at bytes (first_of id (segment_run bytes segment).list)
 
--- an Info, or its damage
+-- the Info if its values are valid, or its damage
 abbrev pub good_info : Option Node → Result (Option Node) Damage
 good_info None = Ok None
 good_info (Some info) = unless (info_refusal info) (Some info)

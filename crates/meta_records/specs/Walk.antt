@@ -34,7 +34,7 @@ ReadsAs found (Err (Refused d)) = found ≡ Err d
 ReadsAs found (Err ReadFault) = ⊤
 ReadsAs found (Err Memory) = ⊤
 
--- The failure is a failed read.
+-- Reading attached files ended with a failed read.
 abbrev pub is_attachments_fault : MetaEnd → Bool
 is_attachments_fault (Refused d) = false
 is_attachments_fault ReadFault = true
@@ -62,10 +62,11 @@ abbrev pub met_at : (Header → List (Result ScannedElement Damage)) → Result 
 met_at at (Ok h) = at h
 met_at at (Err d) = Err d ∷ []
 
--- the elements scanned at the offset `at` of a master that ends at `end`: an AttachedFile, or an Attachments element
+-- the elements scanned at the offset `at` of an AttachedFile that ends at `end`: one child, or damage
 abbrev pub part_met : List ℕ → ℕ → ℕ → List (Result ScannedElement Damage)
 part_met bytes at end = met_at (at_part bytes) (element_at in_master bytes at end)
 
+-- the elements scanned at the offset `at` of an Attachments element that ends at `end`: one child with the children of an AttachedFile, or damage
 abbrev pub child_met : List ℕ → ℕ → ℕ → List (Result ScannedElement Damage)
 child_met bytes at end = met_at (at_child bytes) (element_at in_master bytes at end)
 
@@ -115,10 +116,11 @@ pub record IsAttachedIn (file : FileId) (end : ℕ) (a : Attachment) : Type 0 wh
 abbrev pub AreAttachedIn : FileId → ℕ → AttachmentScan → Type 0
 AreAttachedIn file end found = All (IsAttachedIn file end) found.attachments
 
--- `a` is the attached file with the header `h` in `bytes`; and the damage is the one reported if it has no data.
+-- `a` is the attached file with the header `h` in `bytes`.
 abbrev pub IsAttachedOf : FileId → Header → Attachment → List ℕ → Type 0
 IsAttachedOf file h a bytes = a ≡ attachment_of bytes file h
 
+-- `missing` is the damage of the AttachedFile `h` that has no data, or None if it has data.
 abbrev pub IsMissingOf : Header → Option Damage → List ℕ → Type 0
 IsMissingOf h missing bytes = missing ≡ missing_data bytes h
 
@@ -182,6 +184,7 @@ Pays from to end old new before now (Err e) = IsSpent (end - from) old new befor
 abbrev pub PaysUpTo : ℕ → ℕ → Counts → Counts → ℕ → ℕ → Result ℕ MetaEnd → Type 0
 PaysUpTo from end = Pays from (λ next. next) end
 
+-- The bytes read in the Element `h` are bounded by the length of its body, also after an error.
 abbrev pub PaysInside : {T : Type 0} → Header → Counts → Counts → ℕ → ℕ → Result T MetaEnd → Type 0
 PaysInside h = Pays h.body (λ _. stated_end h) (stated_end h)
 

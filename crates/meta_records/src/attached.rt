@@ -84,7 +84,8 @@ fn uid_of(entry: &Tree) -> u64
     }
 }
 
-// Returns the offset of the data, or 0 if there is none.
+// Returns the offset of an attached file's data in the file, or 0 if there is none. `first` is the header of the
+// first FileData.
 fn place_of(first: Option<Header>) -> u64
     ensures { result ≡ option_map_or (λ (h : HeaderSeen). h.body) first 0 }
 {

@@ -19,7 +19,7 @@ pub struct Info {
     pub scale: u64,
 }
 
-// Returns the nanoseconds per tick.
+// Returns the nanoseconds per tick that an Info gives.
 fn scale_of(info: &Tree) -> u64
     requires { IsSoundOf INFO_ID info.now }
     ensures { result ≡ scale_of info.now }

@@ -40,7 +40,7 @@ fn counted_of(part: &Header) -> u64
     }
 }
 
-// Reads the body of an element.
+// Reads the body of the element with this header into memory.
 fn body_of<R: Reads>(
     alloc: Global,
     src: &mut R,

@@ -89,7 +89,7 @@ pub fn scale_of(info: &Option<Tree>) -> u64
     }
 }
 
-/// Returns the Info, or its damage.
+/// Returns the Info if its values are valid, or its damage.
 pub fn good_info(info: Option<Tree>) -> Result<Option<Tree>, Damage>
     requires { IfSome info (IsSoundOf INFO_ID) }
     ensures { result ≡ good_info info }

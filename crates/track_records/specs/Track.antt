@@ -7,7 +7,7 @@ use Rattle.file_format.specs.Entry.{entries_of, number_of, uid_of, type_of, code
 use Rattle.file_format.specs.Refusal.{refusal_of}
 use Rattle.track_records.specs.declared.track.Track.{Track}
 
--- the track of a TrackEntry
+-- the facts of a track that its TrackEntry has
 abbrev pub track_of : Node → Track
 track_of entry = record {
   number = number_of entry;

@@ -28,6 +28,7 @@ fn octets_at<'a>(entry: &'a Tree, field: &Field) -> Option<&'a [u8]>
     }
 }
 
+// Checks whether two optional values are equal, or both are absent.
 fn are_alike(p: Option<&[u8]>, q: Option<&[u8]>) -> bool
     ensures { result ≡ are_alike (option_copied p.entry) (option_copied q.entry) }
 {

@@ -39,6 +39,7 @@ const ONE_IN_8: [u8; 8] = [0x3F, 0xF0, 0, 0, 0, 0, 0, 0];
 
 // ---- one ContentEncoding
 
+// Returns the ContentCompAlgo of a ContentEncoding, or the default.
 fn algorithm_of(encoding: &Tree) -> u64
     requires { IsSoundOf ENCODING_ID encoding.now }
     ensures { result ≡ algorithm_of encoding.now }
@@ -49,6 +50,7 @@ fn algorithm_of(encoding: &Tree) -> u64
     }
 }
 
+// Returns the ContentCompSettings of a ContentEncoding, or no bytes.
 fn settings_of(encoding: &Tree) -> &[u8]
     ensures { result.now ≡ settings_of encoding.now }
 {
@@ -75,6 +77,7 @@ fn strips_headers(encoding: &Tree) -> bool
 
 // ---- a track
 
+// Checks whether the encodings of a track can be undone: there is none, or one that strips headers from frames.
 fn can_be_undone(encodings: &Tree) -> bool
     requires { IsSoundOf ENCODINGS_ID encodings.now }
     ensures { result ≡ can_be_undone (encodings_of encodings.now) }

@@ -22,6 +22,7 @@ pub(crate) fn number_of(entry: &Tree) -> u64
     uint_in(entry, TRACK_NUMBER)
 }
 
+// Returns a copy of a text.
 fn as_text(alloc: Global, text: &str) -> Result<Text, AllocError>
     ensures { IfOk result (λ copy. copy ≡ text.now) }
 {
@@ -30,7 +31,7 @@ fn as_text(alloc: Global, text: &str) -> Result<Text, AllocError>
     Ok(copy)
 }
 
-/// Returns the track of a TrackEntry.
+/// Returns the facts of a track that its TrackEntry has.
 #[tactic(auto, using(crate::proofs::EntryLemmas::known))]
 pub(crate) fn track_of(alloc: Global, entry: &Tree) -> Result<Track, AllocError>
     requires { IsEntry entry.now }

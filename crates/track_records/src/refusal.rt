@@ -67,6 +67,7 @@ fn bad_value(entry: &Tree) -> Option<Damage>
     None
 }
 
+// Checks whether an entry has no child with the ID `id`.
 fn lacks(entry: &Tree, id: u32) -> bool
     ensures { result ≡ is_none (first_child id entry.now) }
 {
@@ -114,7 +115,7 @@ fn first_missing_child(tracks: &Tree) -> Option<Damage>
     None
 }
 
-// Returns the TrackNumbers of the entries.
+// Returns the TrackNumbers of the entries of a Tracks.
 fn numbers_of(alloc: Global, tracks: &Tree) -> Result<Vec<u64>, AllocError>
     requires { IsSound tracks.now }
     ensures { IfOk result (λ numbers. numbers.items ≡ map number_of (entries_of tracks.now)) }

@@ -17,7 +17,7 @@ use mkv_io::List;
 use mkv_schema::ids::TRACK_ENTRY;
 use std::alloc::{AllocError, Global};
 
-// Returns the entries as tracks.
+// Returns the tracks of a Tracks, in its order.
 fn tracks_in(alloc: Global, tracks: &Tree) -> Result<List<Track>, AllocError>
     requires { IsSound tracks.now }
     ensures exact { IfOk result (λ list. list ≡ map track_of (entries_of tracks.now)) }

@@ -32,6 +32,7 @@ fn bare(alloc: Global, entry: &Tree, language: &Option<Text>) -> Result<Tree, Al
     Ok(bare)
 }
 
+// Sets the integer `id` of an entry to `value`.
 fn set_uint(alloc: Global, entry: &mut Tree, id: u32, value: u64) -> Result<(), AllocError>
     requires id { IsUintIn TRACK_ENTRY id }
     requires whole { IsWholeEntry entry.old }

@@ -21,6 +21,7 @@ pub(super) enum Content {
 impl Content {
     ghost use Rattle.ebml_tree.specs.View.{kids_of, octets_in, IsKids, HasKids};
 
+    /// Returns the children; none for a leaf.
     pub(super) fn kids(&self) -> &[Tree]
         ensures { result.now ≡ kids_of self.now }
     {
@@ -30,6 +31,7 @@ impl Content {
         }
     }
 
+    /// Returns the children by value; none for a leaf.
     pub(super) fn into_kids(self) -> Vec<Tree>
         ensures { result.items ≡ kids_of self }
     {
@@ -39,6 +41,7 @@ impl Content {
         }
     }
 
+    /// Returns the bytes of a leaf; none for a master.
     pub(super) fn body(&self) -> &[u8]
         ensures { result.now ≡ octets_in self.now }
     {
@@ -48,6 +51,7 @@ impl Content {
         }
     }
 
+    /// Returns the allocator that the content uses.
     pub(super) fn alloc(&self) -> Global {
         match self {
             Content::Body(body) => *body.allocator(),
@@ -55,6 +59,7 @@ impl Content {
         }
     }
 
+    /// Appends a child to a master. If memory runs out, the children stay as they were.
     pub(super) fn push(&mut self, child: Tree) -> Result<(), AllocError>
         requires { IsKids self.old }
         ensures ok { OnOk result (HasKids self.new (kids_of self.old ++ child ∷ [])) }
@@ -69,6 +74,8 @@ impl Content {
         }
     }
 
+    /// Puts `child` in the place of the first child with its ID and removes the others with this ID, or appends it.
+    /// It fails only if memory runs out for appending; the children then stay as they were.
     pub(super) fn set(&mut self, child: Tree) -> Result<(), AllocError>
         requires { IsKids self.old }
         ensures ok { OnOk result (HasKids self.new (with_child child (kids_of self.old))) }
@@ -81,6 +88,7 @@ impl Content {
         }
     }
 
+    /// Removes all children with the ID `id` from a master.
     pub(super) fn remove(&mut self, id: u32)
         requires { IsKids self.old }
         ensures { HasKids self.new (without id (kids_of self.old)) }
@@ -110,6 +118,7 @@ fn set_in(trees: &mut Vec<Tree>, child: Tree) -> Result<(), AllocError>
     }
 }
 
+// Returns the index of the first tree with the ID `id`.
 fn place_of(trees: &[Tree], id: u32) -> Option<usize>
     ensures exact { result ≡ position (λ n. id_of n == id) trees.now }
     ensures inside { MatchOption result (Unit {0}) (λ k. k < length trees.now) }
@@ -117,6 +126,7 @@ fn place_of(trees: &[Tree], id: u32) -> Option<usize>
     trees.iter().position(|tree| tree.id() == id)
 }
 
+// Replaces the tree at the index `k` by `child`, and removes all later trees with its ID.
 fn put_at(trees: &mut Vec<Tree>, k: usize, child: Tree)
     requires { k < length trees.old.items }
     ensures { trees.new.items ≡ placed_at child trees.old.items (Some k) }
@@ -141,6 +151,7 @@ fn remove_from(trees: &mut Vec<Tree>, from: usize, id: u32)
     trees.truncate(kept);
 }
 
+// Removes all trees with the ID `id`.
 fn remove_all(trees: &mut Vec<Tree>, id: u32)
     ensures { trees.new.items ≡ without id trees.old.items }
 {
@@ -160,7 +171,7 @@ pub(super) fn written_together(trees: &[Tree]) -> u64
     sum
 }
 
-// Returns the same for the trees with another ID than `id`.
+// Returns the number of bytes that the trees take in the normal form, without the trees with the ID `id`.
 #[tactic(auto, using(crate::proofs::LoopLemmas::others))]
 pub(super) fn written_without(id: u32, trees: &[Tree]) -> u64
     requires { length (flat_map octets trees.now) ≤ longest }
@@ -210,6 +221,7 @@ pub(super) fn first_of(trees: &[Tree], id: u32) -> Option<&Tree>
     trees.iter().find(|tree| tree.id() == id)
 }
 
+/// Returns the tree at the index `k`, if there is one.
 pub(super) fn tree_at(trees: &[Tree], k: usize) -> Option<&Tree>
     ensures { option_copied result ≡ slice_get trees.now k }
 {

@@ -121,6 +121,7 @@ impl Tree {
     }
 }
 
+// Returns the refusal of a tree with too many nodes or nested masters, at this Element.
 fn too_many(id: u32, offset: u64) -> TreeEnd
     ensures { result ≡ TreeEnd.Damage (record { kind = Kind.TooMany; id = id; offset = offset }) }
 {
@@ -131,6 +132,7 @@ fn too_many(id: u32, offset: u64) -> TreeEnd
     })
 }
 
+// Checks whether the table has `id` as a master under `parent`.
 fn is_master_in(parent: u32, id: u32) -> bool
     ensures { result ≡ is_master_in parent id }
 {
@@ -214,7 +216,7 @@ fn front_header(parent: u32, at: u64, rest: &[u8]) -> Result<Header, Damage>
     read_header(rest, Parent::Tree(parent), end, at, end)
 }
 
-// Returns the same, with the length of its body.
+// Returns the header of the Element at the start of `rest`, the unread bytes of a master, and the length of its body.
 fn header_in(parent: u32, at: u64, rest: &[u8]) -> Result<(Header, u64), Damage>
     requires { at + length rest.now ≤ 2 ^ 63 }
     ensures ok { IfOk result (λ found. header_at parent at rest.now ≡ Ok found.0) }

@@ -14,7 +14,7 @@ pub returns-then-id-eq-CLUSTER-clause-exact : goal.returns-then-id-eq-CLUSTER-cl
 returns-then-id-eq-CLUSTER-clause-exact c = λ bytes o same.
     ap (λ (v : FileOutline). v.cluster) (c.self.view_is ∙ same) ∙ ap (λ id. first_of id o.list) (sym c.if-id-eq-CLUSTER.true)
 
--- So are the others.
+-- The first Element of another ID is found among the kept ones.
 pub returns-clause-exact : goal.returns-clause-exact
 returns-clause-exact c = λ bytes o same.
     let other : (c.args.id == CLUSTER) ≡ false = grind (arith, nat_tests, c.if-id-eq-CLUSTER.false) in
