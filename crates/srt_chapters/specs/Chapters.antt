@@ -22,6 +22,7 @@ edition cs = master EDITION_ENTRY 0 (nodes_of (uint_leaf EDITION_UID 0 ∷ map a
 abbrev pub chapters_of : List Chapter → Node
 chapters_of cs = master CHAPTERS 0 (nodes_of (edition cs ∷ []))
 
+-- the Chapters with these chapters, or the number of the first bad line
 abbrev pub as_tree : Result (List Chapter) ℕ → Result Node ℕ
 as_tree (Ok cs) = Ok (chapters_of cs)
 as_tree (Err n) = Err n

@@ -15,6 +15,7 @@ start_of atom = option_map_or integer_of (first_child CHAPTER_TIME_START atom) 0
 abbrev pub name_in : Node → List ℕ
 name_in display = option_map_or (λ s. text_of (body_of s)) (first_child CHAP_STRING display) []
 
+-- the name of an atom: the one in its first display, or nothing
 abbrev pub name_of : Node → List ℕ
 name_of atom = option_map_or name_in (first_child CHAPTER_DISPLAY atom) []
 
@@ -22,6 +23,7 @@ name_of atom = option_map_or name_in (first_child CHAPTER_DISPLAY atom) []
 abbrev pub atoms_in : List Node → List Node
 atoms_in ns = filter (λ n. id_of n == CHAPTER_ATOM) ns
 
+-- the atoms directly in the first edition of Chapters
 abbrev pub top_atoms : Node → List Node
 top_atoms chapters = option_map_or (λ edition. atoms_in (children edition)) (first_child EDITION_ENTRY chapters) []
 

@@ -28,6 +28,7 @@ fn empty_master(alloc: Global, id: u32) -> Result<Tree, AllocError>
     }
 }
 
+// Makes a ChapterDisplay with the name `name`.
 #[tactic(auto, using(crate::proofs::ChaptersLemmas::known))]
 fn display(alloc: Global, name: &str) -> Result<Tree, AllocError>
     ensures { IfOk result (λ tree. tree ≡ spec.display name.now) }
@@ -38,6 +39,7 @@ fn display(alloc: Global, name: &str) -> Result<Tree, AllocError>
     Ok(display)
 }
 
+// Makes the ChapterAtom of a simple chapter.
 #[tactic(auto, using(crate::proofs::ChaptersLemmas::known, crate::proofs::SoundLemmas::stands))]
 fn atom(alloc: Global, chapter: &Chapter) -> Result<Tree, AllocError>
     ensures exact { IfOk result (λ tree. tree ≡ spec.atom chapter.now) }
@@ -50,6 +52,7 @@ fn atom(alloc: Global, chapter: &Chapter) -> Result<Tree, AllocError>
     Ok(atom)
 }
 
+// Makes the EditionEntry of simple chapters.
 #[tactic(auto, using(crate::proofs::ChaptersLemmas::known))]
 fn edition(alloc: Global, chapters: &[Chapter]) -> Result<Tree, AllocError>
     ensures exact { IfOk result (λ tree. tree ≡ spec.edition chapters.now) }

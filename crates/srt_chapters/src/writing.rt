@@ -14,6 +14,7 @@ use mkv_schema::ids::{
 use std::alloc::AllocError;
 use text_formats::put_pair;
 
+// Returns the start of an atom in nanoseconds.
 fn start_of(atom: &Tree) -> u64
     requires { IsSoundOf ids.CHAPTER_ATOM atom.now }
     ensures { result ≡ spec.start_of atom.now }
@@ -24,6 +25,7 @@ fn start_of(atom: &Tree) -> u64
     }
 }
 
+// Returns the name in the first display of an atom, or no bytes.
 fn name_of(atom: &Tree) -> &[u8]
     ensures { result.now ≡ spec.name_of atom.now }
 {
@@ -49,6 +51,7 @@ pub fn put_simple(chapters: &Tree, out: &mut Bytes) -> Result<(), AllocError>
     }
 }
 
+// Appends the atoms of an edition as simple chapters, numbered from 1. If memory runs out, nothing is appended.
 fn put_atoms(edition: &Tree, out: &mut Bytes) -> Result<(), AllocError>
     requires { IsSoundOf ids.EDITION_ENTRY edition.now }
     ensures ok { OnOk result (out.new ≡ out.old ++ spec.put_atoms 1 (spec.atoms_in (children edition.now))) }

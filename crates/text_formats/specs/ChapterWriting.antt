@@ -5,6 +5,7 @@ use Rattle.text_formats.specs.declared.pieces.Piece.{Piece}
 use Rattle.text_formats.specs.declared.pieces.Piece.TheVariants.{Time}
 use Rattle.text_formats.specs.Pieces.{two_or_more, stamp}
 
+-- a time of `ms` milliseconds with a point before its milliseconds
 abbrev pub time : ℕ → Piece
 time ms = Time POINT ms
 

@@ -9,9 +9,11 @@ use Rattle.text_formats.specs.declared.pieces.Piece.TheVariants.{Octets, Number,
 abbrev pub digit : ℕ → ℕ
 digit n = DIGIT_0 + n % 10
 
+-- the last two decimal digits of a number
 abbrev pub two_digits : ℕ → List ℕ
 two_digits n = digit (n / 10) ∷ digit n ∷ []
 
+-- the last three decimal digits of a number
 abbrev pub three_digits : ℕ → List ℕ
 three_digits n = digit (n / 100) ∷ digit (n / 10) ∷ digit n ∷ []
 
@@ -24,7 +26,7 @@ unfoldable pub stamp : ℕ → ℕ → List ℕ
 stamp point ms =
     two_or_more (ms / 3600000) ++ (COLON ∷ (two_digits (ms / 60000 % 60) ++ (COLON ∷ (two_digits (ms / 1000 % 60) ++ (point ∷ three_digits (ms % 1000))))))
 
--- the bytes of a piece
+-- the bytes that a piece of a written text has
 abbrev pub octets_of : Piece → List ℕ
 octets_of (Octets octets) = octets.now
 octets_of (Number n) = decimal n

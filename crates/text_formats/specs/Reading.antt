@@ -11,7 +11,7 @@ use Rattle.text_formats.specs.Srt.{head, before_head, entry, entries}
 use Rattle.text_formats.specs.Walk.{Second, Behind, bad_from}
 use Rattle.text_formats.specs.declared.times.Times.{Times}
 
--- the entries from a head on
+-- the entries of a SubRip file from a head on, which was read
 abbrev pub entries_at : Option Head → List Entry
 entries_at None = []
 entries_at (Some h) = entry h.times (before_head (lines h.rest.now)) ∷ entries (lines h.rest.now)

@@ -40,6 +40,7 @@ text_of ls = join_with_byte LINE_FEED (trimmed ls)
 abbrev pub entry : Times → List (List ℕ) → Entry
 entry t ls = record { start = t.start; duration = t.end - t.start; text = text_of ls }
 
+-- the entries `es` with the entry of the times before them, if there are times; `ls` are its text lines
 abbrev pub onto_entries : Option Times → List (List ℕ) → List Entry → List Entry
 onto_entries None ls es = es
 onto_entries (Some t) ls es = entry t ls ∷ es
@@ -87,9 +88,11 @@ first_bad ls = option_map (λ k. k + 1) (find (is_bad ls) (range_with_len 0 (len
 
 -- ---- the order of entries
 
+-- the entries in order of their starts
 abbrev pub by_start : List Entry → List Entry
 by_start es = sorted_by (λ (e : Entry). e.start) es
 
+-- the entries, or the number of the first bad line if there is one
 abbrev pub unless_bad : Option ℕ → List Entry → Result (List Entry) ℕ
 unless_bad None es = Ok es
 unless_bad (Some n) es = Err n

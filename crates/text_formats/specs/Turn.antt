@@ -34,6 +34,7 @@ pairs ((b ∷ bs) ∷ ls) n (Some due) = after_second n due.start (second_line d
 abbrev pub timed_of : FirstLine → Timed
 timed_of f = record { number = f.number.now; start = f.start }
 
+-- a first line that was read, if there is one, in the form of the definitions
 abbrev pub timed_in : Option FirstLine → Option Timed
 timed_in None = None
 timed_in (Some f) = Some (timed_of f)

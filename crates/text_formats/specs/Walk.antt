@@ -11,7 +11,7 @@ pub data Place : Type 0 where
   Second : Times → Place
   Behind : Place
 
--- the place of the next line
+-- the place of the next line, after a line with these times, if any
 abbrev pub next : Place → Option Times → Place
 next place (Some t) = Second t
 next Front None = Front

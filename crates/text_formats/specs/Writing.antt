@@ -11,6 +11,7 @@ abbrev pub milliseconds : ℤ → ℕ
 milliseconds (pos t) = t / 1000000
 milliseconds (negsuc t) = 0
 
+-- a time of `ms` milliseconds with a comma before its milliseconds
 abbrev pub time : ℕ → Piece
 time ms = Time COMMA ms
 

@@ -27,6 +27,7 @@ pub fn put_pair(number: u64, start: u64, name: &[u8], out: &mut Bytes) -> Result
     put_pieces(&pieces, out)
 }
 
+// Returns a time as simple chapters have it, with a point before its milliseconds.
 fn time(milliseconds: u64) -> Piece<'static>
     ensures { result ≡ spec.time milliseconds }
 {

@@ -58,6 +58,7 @@ fn put_piece(piece: &Piece<'_>, out: &mut Bytes) -> Result<(), AllocError>
     }
 }
 
+// Appends a number in decimal. If memory runs out, nothing is appended.
 fn put_number(n: u64, out: &mut Bytes) -> Result<(), AllocError>
     ensures ok { OnOk result (out.new ≡ out.old ++ decimal n) }
     ensures err { OnErr result (out.new ≡ out.old) }
@@ -65,6 +66,7 @@ fn put_number(n: u64, out: &mut Bytes) -> Result<(), AllocError>
     out.append(Buffer::new().format(n).as_bytes())
 }
 
+// Appends a number in decimal, with at least two digits. If memory runs out, nothing is appended.
 fn put_two_or_more(n: u64, out: &mut Bytes) -> Result<(), AllocError>
     ensures ok { OnOk result (out.new ≡ out.old ++ spec.two_or_more n) }
     ensures err { OnErr result (out.new ≡ out.old) }
@@ -76,6 +78,8 @@ fn put_two_or_more(n: u64, out: &mut Bytes) -> Result<(), AllocError>
     }
 }
 
+// Appends a time of `ms` milliseconds as hours, minutes, seconds and milliseconds, with `point` before the last. If
+// memory runs out, a part may be appended.
 #[tactic(auto, using(crate::proofs::PiecesLemmas::joins), unfolding(crate::specs::Pieces::stamp))]
 fn put_time(point: u8, ms: u64, out: &mut Bytes) -> Result<(), AllocError>
     ensures ok { OnOk result (out.new ≡ out.old ++ spec.stamp point ms) }
@@ -89,12 +93,14 @@ fn put_time(point: u8, ms: u64, out: &mut Bytes) -> Result<(), AllocError>
     Ok(())
 }
 
+// Returns the last two decimal digits of a number.
 fn two_digits(n: u64) -> [u8; 2]
     ensures { result ≡ spec.two_digits n }
 {
     [digit(n / 10), digit(n)]
 }
 
+// Returns the last three decimal digits of a number.
 fn three_digits(n: u64) -> [u8; 3]
     ensures { result ≡ spec.three_digits n }
 {

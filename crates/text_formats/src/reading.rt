@@ -25,6 +25,7 @@ struct Head<'a> {
     number: u64,
 }
 
+// Checks whether a line of a SubRip file has the arrow between two times.
 fn has_arrow(line: &[u8]) -> bool
     ensures { result ≡ spec.has_arrow line.now }
 {
@@ -75,7 +76,7 @@ fn read_head<'a>(line: &[u8], after: &'a [u8], number: u64) -> Result<Option<Hea
     }))
 }
 
-// Reads up to the first head.
+// Reads the empty lines before the first entry, and the head of that entry; returns None if there is no entry.
 fn skip_front(text: &[u8]) -> Result<Option<Head<'_>>, TextEnd>
     ensures ok { IfOk result (GoesOn (first_bad (lines text.now)) (lines text.now)) }
     ensures err { IfErr result (λ e. Blames e (first_bad (lines text.now))) }
@@ -101,7 +102,7 @@ fn skip_front(text: &[u8]) -> Result<Option<Head<'_>>, TextEnd>
     Ok(None)
 }
 
-// Appends `count` line feeds and `line`.
+// Appends `count` line feeds and then `line` to the text of an entry.
 fn add_line(text: &mut Text, count: u64, line: &str) -> Result<(), AllocError>
     ensures { OnOk result (text.new ≡ text.old ++ (breaks count ++ line.now)) }
 {

@@ -66,6 +66,7 @@ pub(crate) fn times_of(line: &[u8]) -> Option<Times>
     }
 }
 
+/// Checks whether the rest of a line after an end time is empty or begins with a space.
 fn is_tail(word: &[u8]) -> bool
     ensures { result ≡ spec.is_tail word.now }
 {
@@ -84,12 +85,14 @@ pub(crate) fn is_number(line: &[u8]) -> bool
     all_blank(&line[n..])
 }
 
+/// Checks whether all bytes are spaces or tabs.
 fn all_blank(word: &[u8]) -> bool
     ensures { result ≡ list_all spec.is_blank word.now }
 {
     word.iter().all(|b| *b == b' ' || *b == b'\t')
 }
 
+/// Returns the number of digits at the start of the line.
 fn digits_in_front(line: &[u8]) -> usize
     ensures same { result ≡ prefix_len is_ascii_digit line.now }
     ensures within { result ≤ length line.now }

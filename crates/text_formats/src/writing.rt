@@ -35,6 +35,7 @@ pub fn put_srt(
     put_pieces(&pieces, out)
 }
 
+// Returns a time as SubRip has it, with a comma before its milliseconds.
 fn time(milliseconds: u64) -> Piece<'static>
     ensures { result ≡ spec.time milliseconds }
 {
