@@ -21,10 +21,11 @@ pub record Gathered : Type 0 where
 
 -- ---- the Cluster in the buffer
 
--- the contents before the first block
+-- the contents of a buffer before the first block of a Cluster, with these limits
 abbrev pub empty_with : ClusterLimits → ℕ → Gathered
 empty_with limits spare = record { limits = limits; timestamp = None; count = 0; elements = []; spare = spare }
 
+-- the contents of a Cluster with the blocks up to now, or the contents before the first block
 abbrev pub gathered_with : ClusterLimits → ℕ → Option OutputCluster → Gathered
 gathered_with limits spare None = empty_with limits spare
 gathered_with limits spare (Some c) =
@@ -66,6 +67,7 @@ abbrev pub IsSmall : Option ℕ → ℕ → List ℕ → Type 0
 IsSmall None count elements = ⊤
 IsSmall (Some timestamp) count elements = ((count ≡ 1) × (length elements ≤ 2 ^ 27)) ⊎ (size_with timestamp elements ≤ MAX_CLUSTER_LEN)
 
+-- The Cluster in memory is small: it has one block of at most 128 MiB, or a body of at most 1 MiB.
 abbrev pub HoldsSmall : Gathered → Type 0
 HoldsSmall g = IsSmall g.timestamp g.count g.elements
 
@@ -80,6 +82,7 @@ abbrev pub joins_at : ClusterLimits → Option ℕ → ℕ → List ℕ → ℕ 
 joins_at limits None count elements tick len = true
 joins_at limits (Some timestamp) count elements tick len = may_have limits timestamp (count + 1) tick (size_with timestamp elements + len)
 
+-- A block at `tick`, with an element of `len` bytes, can join the Cluster in memory.
 abbrev pub has_place : Gathered → ℕ → ℕ → Bool
 has_place g tick len = joins_at g.limits g.timestamp g.count g.elements tick len
 

@@ -22,9 +22,11 @@ prefixed_sizes prefix sizes = map (λ size. prefix + size) sizes
 abbrev pub block_len : Lace → List ℕ → ℕ
 block_len kind sizes = 4 + length (lace_octets kind sizes) + sum sizes
 
+-- the length of the BlockDuration in bytes, or 0 without one
 abbrev pub duration_len : Option ℕ → ℕ
 duration_len duration = length (joined (duration_elements duration))
 
+-- the length of the ReferenceBlocks in bytes
 abbrev pub references_len : List ℤ → ℕ
 references_len references = length (joined (map reference_element references))
 
@@ -36,6 +38,7 @@ whole_len id len = length (header_octets id len) + len
 abbrev pub behind_len : Option ℕ → List ℤ → ℕ → ℕ
 behind_len duration references kept = duration_len duration + references_len references + kept
 
+-- the length of a BlockGroup's body, with a Block of `block` bytes and `kept` bytes of copied children
 abbrev pub group_len : OutHead → ℕ → List ℤ → ℕ → ℕ
 group_len head block references kept = whole_len BLOCK block + behind_len head.duration references kept
 

@@ -12,6 +12,7 @@ abbrev pub lent : OutHead → List ℕ → List ℕ → List ℕ → List ℤ �
 lent head prefix body sizes references kept =
     record { head = head; prefix = prefix; body = body; sizes = sizes; references = references; kept = kept }
 
+-- the block that a reference refers to, from its parts
 abbrev pub lent_of : BlockRef → Lent
 lent_of b = lent b.head.now b.prefix.now b.body.now b.sizes.now b.references.now b.kept.now
 
@@ -19,6 +20,7 @@ lent_of b = lent b.head.now b.prefix.now b.body.now b.sizes.now b.references.now
 abbrev pub block_put : ℕ → ℕ → Lent → OutputBlock
 block_put lane tick l = in_output lane tick (lent_block l)
 
+-- the block that a reference refers to, in its output track and at its tick
 abbrev pub block_of : BlockRef → OutputBlock
 block_of b = block_put b.lane b.tick (lent_of b)
 

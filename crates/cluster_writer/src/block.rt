@@ -37,6 +37,7 @@ fn prefixed_total(prefix: u32, sizes: &[u32]) -> u64
     u64::from(prefix) * sizes.len() as u64 + total(sizes)
 }
 
+// Returns the sum of frame sizes in bytes.
 fn total(sizes: &[u32]) -> u64
     requires { sum sizes.now ≤ 2 ^ 26 }
     ensures { result ≡ sum sizes.now }
@@ -50,12 +51,14 @@ fn total(sizes: &[u32]) -> u64
 
 // ---- the header of a Block
 
+// Returns the flag `value` if it is set, and 0 otherwise.
 fn flag(value: u8, set: bool) -> u8
     ensures { result ≡ flag value set }
 {
     if set { value } else { 0 }
 }
 
+// Returns the two bits of a kind of lacing in the flags of a block.
 fn lace_bits(kind: Lace) -> u8
     ensures exact { result ≡ lace_bits kind }
     ensures most { result ≤ 0x06 }

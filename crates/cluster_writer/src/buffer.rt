@@ -50,7 +50,7 @@ impl Model for ClusterBuf {
 }
 
 impl ClusterBuf {
-    /// Returns a buffer without a block.
+    /// Returns a buffer without a block, which fills Clusters within `limits`.
     pub fn new(alloc: Global, limits: ClusterLimits) -> Result<ClusterBuf, AllocError>
         ensures empty { IfOk result (Holds None) }
         ensures limits { IfOk result (λ b. b.limits ≡ limits) }
@@ -85,7 +85,7 @@ impl ClusterBuf {
         }
     }
 
-    /// Reserves room for `len` more bytes.
+    /// Reserves memory for `len` more bytes, so that the next block is added without allocating.
     pub fn reserve(&mut self, len: u64) -> Result<(), AllocError>
         ensures ok { OnOk result (len ≤ self.new.spare) }
         ensures same { self.new ≡ record self.old { spare = self.new.spare } }

@@ -25,6 +25,7 @@ pub(crate) fn group_len(head: &OutHead, block: u64, references: &[i64], kept: u6
     element_len(BLOCK, block) + duration_len(head.duration) + references_len(references) + kept
 }
 
+// Returns the length of a BlockDuration in bytes, or 0 without a duration.
 #[tactic(auto, unfolding(ebml_numbers::specs::Number::is_id))]
 fn duration_len(duration: Option<u64>) -> u64
     ensures exact { result ≡ duration_len duration }
@@ -57,6 +58,7 @@ fn add_duration(out: &mut Vec<u8>, duration: Option<u64>)
     }
 }
 
+// Returns the length in bytes of a ReferenceBlock of `ticks` ticks.
 #[tactic(auto, unfolding(ebml_numbers::specs::Number::is_id))]
 fn reference_len(ticks: i64) -> u64
     ensures exact { result ≡ length (octets_of (reference_element ticks)) }
@@ -65,6 +67,7 @@ fn reference_len(ticks: i64) -> u64
     element_len(REFERENCE_BLOCK, u64::from(put_int(ticks).len))
 }
 
+// Appends a ReferenceBlock of `ticks` ticks to `out`, which has room for it.
 #[tactic(auto, unfolding(ebml_numbers::specs::Number::is_id))]
 fn add_reference(out: &mut Vec<u8>, ticks: i64)
     requires { HasRoom out.old (length (octets_of (reference_element ticks))) }
@@ -75,6 +78,7 @@ fn add_reference(out: &mut Vec<u8>, ticks: i64)
     add(out, octets.as_slice());
 }
 
+// Returns the length in bytes of all ReferenceBlocks of a group.
 fn references_len(references: &[i64]) -> u64
     requires { length references.now ≤ 64 }
     ensures exact { result ≡ references_len references.now }

@@ -39,6 +39,7 @@ pub(crate) fn lace_octets_len(kind: Lace, prefix: u32, sizes: &[u32]) -> u64
     }
 }
 
+// Returns the length in bytes of the head of a lace; each frame is `prefix` bytes longer than its size in `sizes`.
 fn head_len(kind: Lace, prefix: u32, sizes: &[u32]) -> u32
     requires { CanLace kind (prefixed_sizes prefix sizes.now) }
     ensures exact { result ≡ length (lace_head kind (prefixed_sizes prefix sizes.now)) }
@@ -72,6 +73,8 @@ pub(crate) fn add_lace(out: &mut Vec<u8>, kind: Lace, prefix: u32, sizes: &[u32]
     }
 }
 
+// Appends the frame count and the head of a lace to `out`, which has room for them. Each frame is `prefix` bytes
+// longer than its size in `sizes`.
 fn add_laced(out: &mut Vec<u8>, kind: Lace, prefix: u32, sizes: &[u32])
     requires can { CanLace kind (prefixed_sizes prefix sizes.now) }
     requires room { HasRoom out.old (length (count_and_head kind (prefixed_sizes prefix sizes.now))) }
@@ -83,6 +86,7 @@ fn add_laced(out: &mut Vec<u8>, kind: Lace, prefix: u32, sizes: &[u32])
     add_prefixed(out, kind, prefix, sizes);
 }
 
+// Appends the frame count and the head of a lace of frames with a prefix, whose sizes are first computed.
 fn add_prefixed(out: &mut Vec<u8>, kind: Lace, prefix: u32, sizes: &[u32])
     requires can { CanLace kind (prefixed_sizes prefix sizes.now) }
     requires room { HasRoom out.old (length (count_and_head kind (prefixed_sizes prefix sizes.now))) }
@@ -101,6 +105,7 @@ fn add_count_and_head(out: &mut Vec<u8>, kind: Lace, sizes: &[u32])
     add_head(out, kind, sizes);
 }
 
+// Appends the head of a lace with the frame sizes `sizes` to `out`, which has room for it.
 fn add_head(out: &mut Vec<u8>, kind: Lace, sizes: &[u32])
     requires can { CanLace kind sizes.now }
     requires room { HasRoom out.old (length (lace_head kind sizes.now)) }
@@ -111,6 +116,7 @@ fn add_head(out: &mut Vec<u8>, kind: Lace, sizes: &[u32])
     fill_head(out, at, kind, sizes);
 }
 
+// Writes the head of a lace with the frame sizes `sizes` over `out` from the offset `at` on.
 fn fill_head(out: &mut [u8], at: usize, kind: Lace, sizes: &[u32])
     requires can { CanLace kind sizes.now }
     requires room { length out.old ≡ at + length (lace_head kind sizes.now) }

@@ -69,6 +69,8 @@ pub fn element_len(head: &OutHead, prefix: usize, sizes: &[u32], refs: &[i64], e
     lengths_of(head, prefix, sizes, refs, extra).whole
 }
 
+// Returns the lengths of a block's element and its parts. The frames have the sizes `sizes`, without a prefix of
+// `prefix` bytes each, and `kept` bytes are copied children.
 #[tactic(auto, unfolding(ebml_numbers::specs::Number::is_id))]
 fn lengths_of(
     head: &OutHead,

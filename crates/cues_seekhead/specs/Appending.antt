@@ -33,10 +33,11 @@ pub record AppendsOnly {S T : Type 0} (r : Ghosts S) (f : writing.Ghosts S) (fil
 abbrev pub AppendsAttachment : {S T : Type 0} → Ghosts S → writing.Ghosts S → FileId → Attachment → S → S → Result T RemuxEnd → Type 0
 AppendsAttachment r f file a old new result = AppendsOnly r f file (octets_of (tree_element (attached_file (live_files r old) a))) a.len old new result
 
--- the bytes of all AttachedFiles; and the length of their data
+-- the bytes of all AttachedFiles with their data
 abbrev pub attached_octets : LiveFiles → List Attachment → List ℕ
 attached_octets files attachments = joined (map tree_element (map (attached_file files) attachments))
 
+-- the length of the data of all attachments
 abbrev pub data_octets : List Attachment → ℕ
 data_octets attachments = sum_by (λ (a : Attachment). a.len) attachments
 

@@ -10,11 +10,12 @@ use Rattle.output_model.specs.declared.attachment.Attachment.{Attachment}
 use Rattle.output_model.specs.Attached.{data_of}
 use Rattle.output_model.specs.declared.places.Seek.{Seek}
 
--- the index of the first FileData among the children, or their number if there is none
+-- the place of the data in an AttachedFile with the children `ns`: the index of its first FileData, or the length of `ns` without one. The writer
+-- appends the data there, and leaves out all other FileData.
 abbrev pub data_place : List Node → ℕ
 data_place ns = position_or_len (λ n. id_of n == FILE_DATA) ns
 
--- the length of the AttachedFile's body
+-- the length of the body of an AttachedFile with its data
 abbrev pub attached_body : Attachment → ℕ
 attached_body a = length (flat_map octets (without FILE_DATA (children a.entry))) + (length (header_octets FILE_DATA a.len) + a.len)
 
@@ -32,12 +33,14 @@ abbrev pub attachments_seeks : ℕ → List Attachment → List Seek
 attachments_seeks position [] = []
 attachments_seeks position (a ∷ attachments) = record { id = ATTACHMENTS; position = position } ∷ []
 
--- the bytes before the data; and the bytes after them
+-- the bytes of the attachment `a` before its data: the header of the AttachedFile, its children before the first FileData, and the header of
+-- FileData
 abbrev pub before_data : Attachment → List ℕ
 before_data a =
     header_octets ATTACHED_FILE (attached_body a)
     ++ (flat_map octets (take (data_place (children a.entry)) (children a.entry)) ++ header_octets FILE_DATA a.len)
 
+-- the bytes of the attachment `a` after its data: its children after the first FileData, without any other FileData
 abbrev pub behind_data : Attachment → List ℕ
 behind_data a = flat_map octets (without FILE_DATA (drop (data_place (children a.entry)) (children a.entry)))
 

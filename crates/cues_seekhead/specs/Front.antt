@@ -14,6 +14,7 @@ use Rattle.cues_seekhead.specs.declared.front.Opening.{Opening}
 abbrev pub body_start : Bool → ℕ
 body_start webm = if webm then 48 else 52
 
+-- the Info and the Tracks of an output as Elements
 abbrev pub records_of : given.Front → List Element
 records_of f = tree_element f.info ∷ tree_element f.tracks ∷ []
 
@@ -21,6 +22,7 @@ records_of f = tree_element f.info ∷ tree_element f.tracks ∷ []
 abbrev pub front_head : given.Front → List ℕ
 front_head f = joined (records_of f) ++ attachments_header f.attachments
 
+-- the Seeks of the Elements before the Clusters: Info, Tracks, and Attachments if there are any
 abbrev pub front_seeks : given.Front → List Seek
 front_seeks f = seeks_from AREA (records_of f) ++ attachments_seeks (AREA + length (joined (records_of f))) f.attachments
 

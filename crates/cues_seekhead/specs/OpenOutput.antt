@@ -72,6 +72,7 @@ pub record CanAttach {S : Type 0} (r : Ghosts S) (f : writing.Ghosts S) (files :
 abbrev pub BeginsOutput : {S : Type 0} → Ghosts S → writing.Ghosts S → List ℕ → GivenFront → S → S → OpenOutput → Type 0
 BeginsOutput r f name front old new out = StandsOpen r f (f.names old) name (front_with (live_files r old) front) [] new out
 
+-- An output with the name `name` was begun and its creation failed: some prefix of the elements before its Clusters may be there.
 abbrev pub BeginsInPart : {S : Type 0} → Ghosts S → writing.Ghosts S → List ℕ → GivenFront → S → S → Type 0
 BeginsInPart r f name front old new =
     ArePrefixes (f.names old) (f.names new) (record { name = name; content = opened_with (front_with (live_files r old) front) [] } ∷ [])

@@ -13,6 +13,7 @@ use mkv_schema::ids::{SEEK, SEEK_HEAD, SEEK_ID, SEEK_POSITION, VOID};
 use output_model::{AREA, Seek};
 use std::alloc::{AllocError, Global};
 
+// Appends the Seek of an element, with its position in eight bytes.
 #[tactic(auto, unfolding(ebml_numbers::specs::Number::is_id))]
 fn put_seek(out: &mut Bytes, seek: &Seek) -> Result<(), AllocError>
     requires { IsTrue (is_id seek.now.id) }
@@ -52,6 +53,7 @@ fn id_len(id: u32) -> u64
     u64::from(put_id(id).len)
 }
 
+// Returns the length of a Seek in bytes.
 #[tactic(auto, unfolding(ebml_numbers::specs::Number::is_id))]
 fn seek_len(seek: &Seek) -> u64
     requires { IsTrue (is_id seek.now.id) }
@@ -65,6 +67,7 @@ fn seek_len(seek: &Seek) -> u64
     )
 }
 
+// Returns the length of Seeks in bytes.
 fn seeks_len(seeks: &[Seek]) -> u64
     requires few { length seeks.now ≤ 6 }
     requires ids { AreIds seeks.now }
@@ -105,6 +108,7 @@ fn put_filled(out: &mut Bytes, len: u64, width: u8) -> Result<(), AllocError>
     put_zeros(out, len)
 }
 
+// Appends `count` zero bytes.
 fn put_zeros(out: &mut Bytes, count: u64) -> Result<(), AllocError>
     requires { count ≤ AREA }
     ensures ok { OnOk result (out.new ≡ out.old ++ replicate count 0) }

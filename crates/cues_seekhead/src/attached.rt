@@ -15,7 +15,8 @@ use mkv_schema::ids::{ATTACHED_FILE, FILE_DATA};
 use output_model::Attachment;
 use std::alloc::{AllocError, Global};
 
-// Returns the index of the first FileData among the children, if any.
+// Returns the index of the first FileData in `children`, the children of an AttachedFile, or None if it has none. The
+// writer puts the data at this index.
 fn first_data(children: &[Tree]) -> Option<usize>
     ensures exact { result ≡ position (λ n. id_of n == FILE_DATA_ID) children.now }
     ensures inside { MatchOption result (Unit {0}) (λ k. k < length children.now) }
@@ -49,6 +50,7 @@ fn others_len(children: &[Tree]) -> Result<u64, AllocError>
     Ok(total)
 }
 
+// Appends trees in their normal form.
 fn put_children(out: &mut Bytes, children: &[Tree]) -> Result<(), AllocError>
     ensures { OnOk result (out.new ≡ out.old ++ flat_map octets children.now) }
 {
@@ -58,7 +60,7 @@ fn put_children(out: &mut Bytes, children: &[Tree]) -> Result<(), AllocError>
     Ok(())
 }
 
-// Appends the children without FileData.
+// Appends the children of an AttachedFile except FileData.
 fn put_others(out: &mut Bytes, children: &[Tree]) -> Result<(), AllocError>
     ensures { OnOk result (out.new ≡ out.old ++ flat_map octets (without FILE_DATA_ID children.now)) }
 {

@@ -18,7 +18,8 @@ use std::alloc::Global;
 // Number of bytes of data that are copied at once
 const CHUNK: usize = 65_536;
 
-/// Appends an AttachedFile with its data.
+/// Appends the AttachedFile of `attachment` to the output `file`. Its data are copied from their own file through
+/// `buffer`.
 fn add_attachment<F: Files>(
     alloc: Global,
     files: &mut F,

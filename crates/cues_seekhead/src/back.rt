@@ -17,6 +17,7 @@ use mkv_schema::ids::CUES;
 use output_model::{CuePoint, Seek};
 use std::alloc::{AllocError, Global};
 
+// Appends the Cues of `points`, if there are any, and its Seek. `out` begins `at` bytes inside the Segment.
 fn add_cues(
     out: &mut Bytes,
     seeks: &mut Vec<Seek>,
@@ -34,6 +35,7 @@ fn add_cues(
     Ok(())
 }
 
+// Appends a tree with the ID `id`, if there is one, and its Seek. `out` begins `at` bytes inside the Segment.
 fn add_tree_of(
     out: &mut Bytes,
     seeks: &mut Vec<Seek>,

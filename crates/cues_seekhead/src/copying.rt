@@ -7,7 +7,7 @@ ghost use Rattle.cues_seekhead.specs.Appending.{AppendsCopy, AppendsOnly};
 
 use mkv_io::{FileId, Files, Reads, RemuxEnd as OutEnd};
 
-/// Appends `octets` to a file.
+/// Appends `octets` to the live file `file`.
 pub fn append<F: Files>(files: &mut F, file: FileId, octets: &[u8]) -> Result<(), OutEnd>
     requires { IsLive F.Reads files.old file }
     ensures { AppendsOnly F.Reads F.Files.own file octets.now 0 files.old files.new result }

@@ -33,6 +33,7 @@ fn point_body_len(point: &CuePoint) -> u64
     uint_len(CUE_TIME, point.tick) + element_len(CUE_TRACK_POSITIONS, positions_len(point))
 }
 
+// Returns the length of a CuePoint in bytes.
 #[tactic(auto, unfolding(ebml_numbers::specs::Number::is_id))]
 fn point_len(point: &CuePoint) -> u64
     ensures exact { result ≡ length (octets_of (point_element point.now)) }
@@ -41,6 +42,7 @@ fn point_len(point: &CuePoint) -> u64
     element_len(CUE_POINT, point_body_len(point))
 }
 
+// Appends the CueTrackPositions of a cue point.
 #[tactic(auto, unfolding(ebml_numbers::specs::Number::is_id))]
 fn put_positions(out: &mut Bytes, point: &CuePoint) -> Result<(), AllocError>
     ensures ok { OnOk result (out.new ≡ out.old ++ octets_of (positions_element point.now)) }
@@ -52,6 +54,7 @@ fn put_positions(out: &mut Bytes, point: &CuePoint) -> Result<(), AllocError>
     Ok(())
 }
 
+// Appends a CuePoint.
 #[tactic(auto, unfolding(ebml_numbers::specs::Number::is_id))]
 fn put_point(out: &mut Bytes, point: &CuePoint) -> Result<(), AllocError>
     ensures ok { OnOk result (out.new ≡ out.old ++ octets_of (point_element point.now)) }
@@ -62,6 +65,7 @@ fn put_point(out: &mut Bytes, point: &CuePoint) -> Result<(), AllocError>
     Ok(())
 }
 
+// Returns the length of CuePoints in bytes.
 fn points_len(points: &[CuePoint]) -> u64
     requires { length points.now ≤ 2 ^ 20 }
     ensures exact { result ≡ length (joined (map point_element points.now)) }
@@ -74,6 +78,7 @@ fn points_len(points: &[CuePoint]) -> u64
     total
 }
 
+// Appends CuePoints in sequence.
 fn put_points(out: &mut Bytes, points: &[CuePoint]) -> Result<(), AllocError>
     ensures ok { OnOk result (out.new ≡ out.old ++ joined (map point_element points.now)) }
 {

@@ -49,6 +49,7 @@ const SEGMENT_HEADER: [u8; 12] = [
     0x18, 0x53, 0x80, 0x67, 0x01, 0xFF, 0xFF, 0xFF, 0xFF, 0xFF, 0xFF, 0xFF,
 ];
 
+// Appends the EBML header of a WebM or Matroska file.
 #[tactic(auto, unfolding(ebml_numbers::specs::Number::uint_width, ebml_numbers::specs::Number::least_size_width))]
 fn put_ebml(out: &mut Bytes, webm: bool) -> Result<(), AllocError>
     ensures ok { OnOk result (out.new ≡ out.old ++ octets_of (ebml_element webm)) }
@@ -61,6 +62,7 @@ fn put_ebml(out: &mut Bytes, webm: bool) -> Result<(), AllocError>
     Ok(())
 }
 
+// Appends the ID of a Segment and an unknown size in eight bytes, over which the size is written at the end.
 #[tactic(auto, unfolding(ebml_numbers::specs::Number::uint_width))]
 fn put_segment(out: &mut Bytes) -> Result<(), AllocError>
     ensures ok { OnOk result (out.new ≡ out.old ++ (id_octets SEGMENT ++ unknown_size)) }
@@ -77,7 +79,7 @@ pub fn body_start(webm: bool) -> u64
     (ebml + SEGMENT_HEADER.len()) as u64
 }
 
-// Returns the length of the AttachedFiles.
+// Returns the length of all AttachedFiles with their data.
 fn attachments_len(attachments: &[Attachment]) -> Result<u64, AllocError>
     ensures exact { IfOk result (λ len. len ≡ sum_by attached_total attachments.now) }
     ensures most { IfOk result (λ len. len ≤ longest) }

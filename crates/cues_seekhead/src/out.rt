@@ -111,7 +111,7 @@ impl OutFile {
         Ok(())
     }
 
-    /// Appends the bytes of a Cluster.
+    /// Appends a Cluster, whose bytes are `bytes`, to the output.
     pub fn cluster<F: Files>(&mut self, files: &mut F, bytes: &[u8]) -> Result<(), OutEnd>
         requires { IsOpen F.Reads files.old self.old }
         ensures appended { AppendsToLive F.Files.own self.old.file bytes.now files.old files.new result }

@@ -34,6 +34,7 @@ pub(crate) fn element_len(id: u32, len: u64) -> u64
     u64::from(put_id(id).len) + u64::from(size_width(len)) + len
 }
 
+/// Returns the length of the element `id` with the unsigned integer `value` in its fewest bytes.
 pub(crate) fn uint_len(id: u32, value: u64) -> u64
     requires { IsTrue (is_id id) }
     ensures exact { result ≡ length (octets_of (uint_element id value)) }
@@ -42,6 +43,7 @@ pub(crate) fn uint_len(id: u32, value: u64) -> u64
     element_len(id, u64::from(put_uint(value).len))
 }
 
+/// Appends the element `id` with the unsigned integer `value` in its fewest bytes.
 pub(crate) fn put_uint_element(out: &mut Bytes, id: u32, value: u64) -> Result<(), AllocError>
     requires { IsTrue (is_id id) }
     ensures ok { OnOk result (out.new ≡ out.old ++ octets_of (uint_element id value)) }

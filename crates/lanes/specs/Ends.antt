@@ -14,6 +14,7 @@ use Rattle.merge_model.specs.declared.link.TrackLink.{TrackLink}
 
 -- ---- one block
 
+-- the duration of a block of `frames` frames in nanoseconds: its own, or else the track's default for each frame, or 0
 abbrev pub lasting_for : Option ℕ → Option ℕ → ℕ → ℕ
 lasting_for duration default_duration frames = unwrap_or duration (frames * unwrap_or default_duration 0)
 
@@ -21,6 +22,7 @@ lasting_for duration default_duration frames = unwrap_or duration (frames * unwr
 abbrev pub track_end : TrackLink → ℕ → Block → ℕ
 track_end t k b = if b.track == t.number then block_end (placing_of t) (at_time t k b) else 0
 
+-- the end of the block `b` in a link, after `k` frames of its track; 0 for a text, which has no such block
 abbrev pub link_end : Block → ℕ → Link → ℕ
 link_end b k (Track t) = track_end t k b
 link_end b k (Entries e) = 0
@@ -57,6 +59,7 @@ pub record IsTimedTrack (t : TrackLink) : Type 0 where
   pub moves : CanMove t.delay t.shift
   pub default : IfSome t.default_duration (λ d. d < 2 ^ 48)
 
+-- The times of a link are within their limits, so that the end of its file can be computed.
 abbrev pub IsTimed : Link → Type 0
 IsTimed (Track t) = IsTimedTrack t
 IsTimed (Entries e) = IsSmallText e

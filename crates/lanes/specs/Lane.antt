@@ -76,6 +76,7 @@ pub record Starts (f : LiveFiles) (scale : ℕ) (links : List Link) (l : LaneSee
   pub ready : All (IsOpenLink f) links → IsReady f l
   pub due : walks.due f l.links l.walk ≡ walks.files_length f links
 
+-- The output track `l` has the links `chain` and `ticks` nanoseconds per tick, and has returned no block.
 pub record Begins (ticks : ℕ) (chain : List Link) (l : LaneSeen) : Type 0 where
   pub links : l.links ≡ chain
   pub scale : l.scale ≡ ticks
@@ -98,6 +99,7 @@ pub record Gives (f : LiveFiles) (old new : LaneSeen) (result : Result LaneStep 
 abbrev pub GivesIfTold : LiveFiles → LaneSeen → LaneSeen → Result LaneStep ReadEnd → Type 0
 GivesIfTold f old new result = IsTold f old → Gives f old new result
 
+-- the number of blocks that a call returned, by its result
 abbrev pub given_by : Result LaneStep ReadEnd → ℕ
 given_by (Ok Block) = 1
 given_by (Ok End) = 0
@@ -121,6 +123,7 @@ pub record Ends (old new : LaneSeen) : Type 0 where
   pub on : way new ≤ way old
   pub ended : IsEnded new
 
+-- By its result, a call has returned a block that can be written, or has ended the output track. Nothing is promised after an error.
 abbrev pub Steps : LaneSeen → LaneSeen → Result LaneStep ReadEnd → Type 0
 Steps old new (Ok Block) = StepsTo old new
 Steps old new (Ok End) = Ends old new
@@ -135,10 +138,11 @@ pub record Moves (old new : LaneSeen) (result : Result LaneStep ReadEnd) : Type 
 
 -- ---- bytes that are read
 
--- the bytes that may still be read; and the lengths of its links' files
+-- the number of bytes that may still be read for an output track
 abbrev pub due : LiveFiles → LaneSeen → ℕ
 due f l = walks.due f l.links l.walk
 
+-- the sum of the lengths of the files of an output track's links
 abbrev pub files_length : LiveFiles → LaneSeen → ℕ
 files_length f l = walks.files_length f l.links
 

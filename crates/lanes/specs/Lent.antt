@@ -18,8 +18,8 @@ use Rattle.lanes.specs.declared.place.Placed.{Placed}
 abbrev pub lent_ordered : Lent → Ordered
 lent_ordered l = record { order = l.head.order; block = lent_block l }
 
--- The tick of `p` is below 2^63 if a tick has at least two nanoseconds, and not after the latest time, rounded. Its duration and references are
--- below 2^56 ticks.
+-- The tick of the placed block `p` is below 2^63 if a tick has at least two nanoseconds, and not after the latest time, rounded. Its duration and
+-- references are below 2^56 ticks.
 pub record HasFewTicks (scale : ℕ) (p : Placed) : Type 0 where
   pub tick : 2 ≤ scale → p.head.tick < 2 ^ 63
   pub early : p.head.tick * scale ≤ most_time + scale / 2

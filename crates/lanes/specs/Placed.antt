@@ -31,6 +31,6 @@ entry_placed scale t e = placed scale (text_with t []).placing (entry_block e)
 abbrev pub text_lent : List ℕ → Placed → Lent
 text_lent text p = record { head = p.head; prefix = []; body = text; sizes = p.one_size; references = p.references.items; kept = [] }
 
--- the visible parts without a block
+-- the visible parts of the placement `p` before any block
 abbrev pub nothing_lent : Placed → Lent
 nothing_lent p = record { head = p.head; prefix = []; body = []; sizes = []; references = p.references.items; kept = [] }

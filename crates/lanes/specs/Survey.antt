@@ -23,11 +23,12 @@ pub record IsSameFile (t other : TrackLink) : Type 0 where
   pub segment : other.outline.value.segment ≡ t.outline.value.segment
   pub scale : other.scale ≡ t.scale
 
+-- A link is a track of the same file as `t`, or a text.
 abbrev pub IsOfFile : TrackLink → Link → Type 0
 IsOfFile t (Track other) = IsSameFile t other
 IsOfFile t (Entries e) = ⊤
 
--- All tracks are of one file.
+-- All tracks among the links are of one file, with one Segment and scale.
 abbrev pub AreOfOneFile : List Link → Type 0
 AreOfOneFile links = (t : TrackLink) → first_track links ≡ Some t → All (IsOfFile t) links
 
@@ -50,5 +51,6 @@ abbrev pub length_of : LiveFiles → Option TrackLink → ℕ
 length_of f None = 0
 length_of f (Some t) = f.size t.file.n
 
+-- the length of the file of `links`, which all have the same one, or 0 if all are texts
 abbrev pub surveyed_length : LiveFiles → List Link → ℕ
 surveyed_length f links = length_of f (first_track links)

@@ -29,6 +29,7 @@ damages_from number (t ∷ ts) = map (of_link number) t.first ++ damages_from (s
 abbrev pub link_damages : List ToldDamages → List LinkDamage
 link_damages ts = damages_from 0 ts
 
+-- the number of damaged places beyond those that are reported each, or 0 if there is no report
 abbrev pub more_in : Option ToldDamages → ℕ
 more_in None = 0
 more_in (Some t) = t.more

@@ -37,6 +37,7 @@ pub record LendsBlock (scale : ℕ) (links : List Link) (w : Walk) : Type 0 wher
   pub ticks : HasFewTicks scale w.placed
   pub order : w.placed.head.order ≡ w.greatest
 
+-- By the result of a turn, its block can be written if there is one.
 abbrev pub LendsFor : ℕ → List Link → Walk → Option LaneStep → Type 0
 LendsFor scale links w None = ⊤
 LendsFor scale links w (Some Block) = LendsBlock scale links w

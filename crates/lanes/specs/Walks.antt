@@ -30,7 +30,7 @@ abbrev pub track_left : LiveFiles → TrackLink → ℕ → Bool → Option Read
 track_left f t k stopped None = given_in f (Track t)
 track_left f t k stopped (Some c) = track_behind t k stopped (left_of (octets_in f t.file.n) c)
 
--- the rest of the current link
+-- the blocks and damaged places that the current link of the walk `w` has left
 abbrev pub here_left : LiveFiles → Walk → Link → Given
 here_left f w (Track t) = track_left f t w.frames w.stopped w.cursor
 here_left f w (Entries e) = text_with e (drop w.next e.entries)
@@ -40,6 +40,7 @@ abbrev pub links_from : LiveFiles → Walk → List Link → List Given
 links_from f w [] = []
 links_from f w (link ∷ links) = here_left f w link ∷ map (given_in f) links
 
+-- the blocks and damaged places that the links have left, from the current link of the walk `w` on
 abbrev pub links_left : LiveFiles → List Link → Walk → List Given
 links_left f links w = links_from f w (drop w.at links)
 
@@ -58,6 +59,7 @@ abbrev pub lent_by_track : Placed → TrackLink → Option Reading → Lent
 lent_by_track p t None = nothing_lent p
 lent_by_track p t (Some c) = track_lent t c.block p
 
+-- the text of an entry, or no bytes if there is no entry
 abbrev pub text_of : Option Entry → List ℕ
 text_of None = []
 text_of (Some e) = e.text
@@ -98,7 +100,7 @@ pub record IsReady (f : LiveFiles) (links : List Link) (w : Walk) : Type 0 where
 abbrev pub behind_link : ℕ → Walk → Walk
 behind_link count w = record w { at = if w.stopped then count else w.at + 1; cursor = None; next = 0; frames = 0; stopped = false }
 
--- All links were left.
+-- The walk `w` has left all of `links`.
 abbrev pub IsEnded : List Link → Walk → Type 0
 IsEnded links w = length links ≤ w.at
 
@@ -109,22 +111,27 @@ abbrev pub way_of : Link → ℕ
 way_of (Track t) = t.outline.value.total + 2
 way_of (Entries e) = length e.entries + 1
 
+-- an upper bound on the turns of links in sequence
 abbrev pub way_all : List Link → ℕ
 way_all [] = 0
 way_all (link ∷ links) = way_of link + way_all links
 
+-- an upper bound on the turns that are left of a track, by the place of its cursor if it has one
 abbrev pub track_way : TrackLink → Option Reading → ℕ
 track_way t None = t.outline.value.total + 2
 track_way t (Some c) = (c.place.end - c.place.at) + 1
 
+-- an upper bound on the turns that are left of the current link
 abbrev pub here_way : Walk → Link → ℕ
 here_way w (Track t) = track_way t w.cursor
 here_way w (Entries e) = (length e.entries - w.next) + 1
 
+-- an upper bound on the turns that are left, if the links from the current one on are given
 abbrev pub way_from : Walk → List Link → ℕ
 way_from w [] = 0
 way_from w (link ∷ links) = here_way w link + way_all links
 
+-- an upper bound on the turns that the walk `w` over `links` has left
 abbrev pub way : List Link → Walk → ℕ
 way links w = way_from w (drop w.at links)
 
@@ -135,6 +142,7 @@ abbrev pub file_length : LiveFiles → Link → ℕ
 file_length f (Track t) = f.size t.file.n
 file_length f (Entries e) = 0
 
+-- the sum of the lengths of the links' files
 abbrev pub files_length : LiveFiles → List Link → ℕ
 files_length f [] = 0
 files_length f (link ∷ links) = file_length f link + files_length f links
@@ -144,13 +152,16 @@ abbrev pub track_due : LiveFiles → TrackLink → Option Reading → ℕ
 track_due f t None = f.size t.file.n
 track_due f t (Some c) = f.size t.file.n - read_to c
 
+-- the number of bytes of the current link's file that may still be read
 abbrev pub here_due : LiveFiles → Walk → Link → ℕ
 here_due f w (Track t) = track_due f t w.cursor
 here_due f w (Entries e) = 0
 
+-- the number of bytes that may still be read, if the links from the current one on are given
 abbrev pub due_from : LiveFiles → Walk → List Link → ℕ
 due_from f w [] = 0
 due_from f w (link ∷ links) = here_due f w link + files_length f links
 
+-- the number of bytes that the walk `w` over `links` may still read
 abbrev pub due : LiveFiles → List Link → Walk → ℕ
 due f links w = due_from f w (drop w.at links)

@@ -161,7 +161,7 @@ impl Lane {
         &self.walk.placed.head
     }
 
-    /// Returns the last block.
+    /// Returns the last block, with the head that it has in the output.
     pub fn lent(&self) -> LaneBlock<'_>
         ensures exact { as_lent result ≡ lent self.now }
         ensures few { HasFew result }

@@ -35,7 +35,7 @@ pub struct Placed {
 }
 
 impl Placed {
-    /// Returns the placement of no block.
+    /// Returns the placement before the first block.
     pub fn nothing() -> Placed {
         let head = OutHead {
             tick: 0,
@@ -55,7 +55,7 @@ impl Placed {
     }
 }
 
-// Writes references in ticks to `into`.
+// Writes the references of a block at the time `t`, in ticks instead of nanoseconds, to `into`.
 fn put_references(scale: u64, t: u64, references: &[i64], into: &mut ArrayVec<i64, 64>)
     requires scale { 1 ≤ scale }
     requires early { t < most_time }
@@ -70,7 +70,7 @@ fn put_references(scale: u64, t: u64, references: &[i64], into: &mut ArrayVec<i6
     }
 }
 
-// Returns a duration in ticks.
+// Returns the duration in ticks of a block at the time `t`, if it has a duration.
 fn duration_ticks(scale: u64, t: u64, duration: Option<u64>) -> Option<u64>
     requires scale { 1 ≤ scale }
     requires early { t < most_time }

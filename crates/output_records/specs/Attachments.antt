@@ -10,6 +10,7 @@ use Rattle.output_records.specs.declared.inputs.InputRecords.{InputRecords}
 abbrev pub files_of : List InputRecords → List Attachment
 files_of inputs = flat_map (λ (i : InputRecords). i.attachments) inputs
 
+-- the FileUIDs of attached files
 abbrev pub file_uids : List Attachment → List ℕ
 file_uids files = map (λ (a : Attachment). a.uid) files
 
@@ -17,6 +18,7 @@ file_uids files = map (λ (a : Attachment). a.uid) files
 abbrev pub with_uid : ℕ → Attachment → Attachment
 with_uid uid a = record { uid = uid; file = a.file; at = a.at; len = a.len; entry = set_in (uint_leaf FILE_UID uid) a.entry }
 
+-- the attached files `files` with the FileUIDs `uids`, also in their entries
 abbrev pub with_uids : List ℕ → List Attachment → List Attachment
 with_uids [] files = []
 with_uids (uid ∷ uids) [] = []

@@ -23,10 +23,11 @@ chapters_in i = children_in (option_map (later i.shift) i.chapters)
 abbrev pub joined_chapters : List InputRecords → Node
 joined_chapters inputs = master CHAPTERS 0 (nodes_of (flat_map chapters_in inputs))
 
--- the output's EditionUIDs; and its ChapterUIDs
+-- the output's EditionUIDs for the editions of all inputs
 abbrev pub edition_numbers : List InputRecords → List ℕ
 edition_numbers inputs = renumbered (edition_uids (joined_chapters inputs))
 
+-- the output's ChapterUIDs for the chapters of all inputs
 abbrev pub chapter_numbers : List InputRecords → List ℕ
 chapter_numbers inputs = renumbered (chapter_uids (joined_chapters inputs))
 

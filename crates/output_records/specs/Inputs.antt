@@ -17,11 +17,12 @@ pub record IsInput (i : InputRecords) : Type 0 where
   pub chapters : IfSome i.chapters (IsRead CHAPTERS)
   pub tags : IfSome i.tags (IsRead TAGS)
 
--- the children of a record if it is present; and the identifiers in it
+-- the children of a record, or none if it is absent
 abbrev pub children_in : Option Node → List Node
 children_in None = []
 children_in (Some n) = children n
 
+-- the identifiers that `f` finds in a record, or none if it is absent
 abbrev pub uids_in : {A : Type 0} → (Node → List A) → Option Node → List A
 uids_in f None = []
 uids_in f (Some n) = f n
@@ -31,5 +32,6 @@ abbrev pub unless_empty : Node → List Node → Option Node
 unless_empty n [] = None
 unless_empty n (child ∷ others) = Some n
 
+-- the record `n`, or nothing if it has no children
 abbrev pub with_some : Node → Option Node
 with_some n = unless_empty n (children n)

@@ -24,7 +24,7 @@ pub(crate) fn file_numbers(alloc: Global, inputs: &[InputRecords]) -> Result<Lis
     renumber(alloc, uids.as_slice())
 }
 
-// Returns `file` with the FileUID `uid`.
+// Returns a copy of the attached file `file` with the FileUID `uid`, also in its entry.
 fn with_uid(alloc: Global, uid: u64, file: &Attachment) -> Result<Attachment, AllocError>
     requires { IsAttached file.now }
     ensures exact { IfOk result (λ written. written ≡ with_uid uid file.now) }

@@ -58,7 +58,7 @@ pub(crate) fn joined_chapters(alloc: Global, inputs: &[InputRecords]) -> Result<
     Ok(joined)
 }
 
-/// Returns the output's EditionUIDs.
+/// Returns the output's EditionUIDs; `joined` has the Chapters of all inputs.
 pub(crate) fn edition_numbers(alloc: Global, joined: &Tree) -> Result<List<u64>, AllocError>
     requires { IsRead CHAPTERS_ID joined.now }
     ensures { IfOk result (λ numbers. numbers ≡ renumbered (edition_uids joined.now)) }
@@ -68,7 +68,7 @@ pub(crate) fn edition_numbers(alloc: Global, joined: &Tree) -> Result<List<u64>,
     renumber(alloc, uids.as_slice())
 }
 
-/// Returns the output's ChapterUIDs.
+/// Returns the output's ChapterUIDs; `joined` has the Chapters of all inputs.
 pub(crate) fn chapter_numbers(alloc: Global, joined: &Tree) -> Result<List<u64>, AllocError>
     requires { IsRead CHAPTERS_ID joined.now }
     ensures { IfOk result (λ numbers. numbers ≡ renumbered (chapter_uids joined.now)) }

@@ -8,6 +8,7 @@ use crate::record_limits::is_too_large;
 use ebml_tree::Tree;
 use mkv_schema::ids::{CHAPTERS, TAGS, TRACKS};
 
+// Returns `id` if there is a tree that is longer than a reader accepts.
 fn too_large(id: u32, tree: &Option<Tree>) -> Option<u32>
     requires { IfSome tree.now IsMaster }
     ensures { result ≡ too_large id tree.now }

@@ -31,7 +31,7 @@ pub(crate) fn push_file_uids(files: &[Attachment], uids: &mut List<u64>) -> Resu
     Ok(())
 }
 
-/// Returns the identifiers in an input.
+/// Returns the UIDs of the editions, chapters and attached files of an input.
 pub(crate) fn uids_of(alloc: Global, input: &InputRecords) -> Result<Uids, AllocError>
     requires { IsInput input.now }
     ensures { IfOk result (λ uids. uids ≡ uids_of input.now) }

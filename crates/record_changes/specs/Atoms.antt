@@ -22,10 +22,11 @@ abbrev mutual
   atoms_among none = []
   atoms_among (node n ns) = atoms_at n ++ atoms_among ns
 
--- the atoms of an edition; and the atoms of all editions
+-- the atoms of an edition, nested ones included
 abbrev pub atoms_inside : Node → List Node
 atoms_inside edition = atoms_among (nodes_of (children edition))
 
+-- the atoms of all editions of Chapters, nested ones included
 abbrev pub atoms_of : Node → List Node
 atoms_of chapters = flat_map atoms_inside (editions_of chapters)
 
@@ -35,16 +36,18 @@ atoms_of chapters = flat_map atoms_inside (editions_of chapters)
 abbrev pub value_in : ℕ → Node → ℕ
 value_in id n = option_map_or integer_of (first_child id n) 0
 
--- the identifiers of a child of Chapters, if it is an edition: its own; and the identifiers of its atoms
+-- the EditionUID of a child of Chapters, if it is an edition
 abbrev pub own_uids : Node → List ℕ
 own_uids child = map (value_in EDITION_UID) (part EDITION_ENTRY (child ∷ []))
 
+-- the ChapterUIDs in a child of Chapters, if it is an edition
 abbrev pub inner_uids : Node → List ℕ
 inner_uids child = map (value_in CHAPTER_UID) (flat_map atoms_inside (part EDITION_ENTRY (child ∷ [])))
 
--- the identifiers of all editions; and the identifiers of all their atoms
+-- the EditionUIDs of all editions
 abbrev pub edition_uids : Node → List ℕ
 edition_uids chapters = map (value_in EDITION_UID) (editions_of chapters)
 
+-- the ChapterUIDs of all atoms of Chapters
 abbrev pub chapter_uids : Node → List ℕ
 chapter_uids chapters = map (value_in CHAPTER_UID) (atoms_of chapters)

@@ -27,6 +27,7 @@ within s time = up_to s.to (max time s.from) - s.from
 
 -- ---- one atom
 
+-- the start of an atom in nanoseconds
 abbrev pub start_of : Node → ℕ
 start_of atom = value_in CHAPTER_TIME_START atom
 
@@ -38,10 +39,11 @@ next_start ns = option_map start_of (find (λ n. id_of n == CHAPTER_ATOM) ns)
 abbrev pub end_of : Node → Option ℕ → Option ℕ
 end_of atom next = option_or (integer_in CHAPTER_TIME_END atom) next
 
--- the end of an atom limited to the period, if present; and its start and end
+-- the ChapterTimeEnd `end`, if present, limited to the period `s`
 abbrev pub end_within : Stretch → Option ℕ → List Node
 end_within s end = given (λ time. uint_leaf CHAPTER_TIME_END (within s time)) end
 
+-- the start and the end, if present, of an atom limited to the period `s`
 abbrev pub times_within : Stretch → Node → List Node
 times_within s atom = uint_leaf CHAPTER_TIME_START (within s (start_of atom)) ∷ end_within s (integer_in CHAPTER_TIME_END atom)
 

@@ -14,6 +14,7 @@ later by time = min (time + by) (2 ^ 64 - 1)
 abbrev pub is_time : ℕ → Bool
 is_time id = id == CHAPTER_TIME_START || id == CHAPTER_TIME_END
 
+-- a child of an atom: later by `by` if it is a start or an end, otherwise unchanged
 abbrev pub later_time : ℕ → Node → Node
 later_time by n = if is_time (id_of n) then uint_leaf (id_of n) (later by (integer_of n)) else n
 
@@ -21,6 +22,7 @@ later_time by n = if is_time (id_of n) then uint_leaf (id_of n) (later by (integ
 abbrev pub has_start : List Node → Bool
 has_start ns = list_any (λ n. id_of n == CHAPTER_TIME_START) ns
 
+-- a start at 0, later by `by`, for an atom with the children `ns` that has none
 abbrev pub missing_start : ℕ → List Node → List Node
 missing_start by ns = if has_start ns then [] else uint_leaf CHAPTER_TIME_START by ∷ []
 
@@ -35,10 +37,11 @@ abbrev mutual
   shifted_parts by none = []
   shifted_parts by (node n ns) = shifted_part by n ∷ shifted_parts by ns
 
--- a child of an edition; and a child of a Chapters element
+-- a child of an edition, with all times in it later by `by` if it is an atom
 abbrev pub shifted_in_edition : ℕ → Node → Node
 shifted_in_edition by n = if id_of n == CHAPTER_ATOM then shifted_part by n else n
 
+-- a child of Chapters, with all times in it later by `by` if it is an edition
 abbrev pub shifted_edition : ℕ → Node → Node
 shifted_edition by n = if id_of n == EDITION_ENTRY then with_children n (map (shifted_in_edition by) (children n)) else n
 

@@ -32,6 +32,7 @@ written_target numbers n = if is_target n then given (uint_leaf (id_of n)) (numb
 abbrev pub written_part : (ℕ → ℕ → Option ℕ) → Node → Node
 written_part numbers n = if id_of n == TARGETS then with_children n (flat_map (written_target numbers) (children n)) else n
 
+-- a Tag as it is written to the output, with the output's UIDs in its Targets
 abbrev pub written_tag : (ℕ → ℕ → Option ℕ) → Node → Node
 written_tag numbers tag = with_children tag (map (written_part numbers) (children tag))
 

@@ -20,7 +20,7 @@ use mkv_schema::ids::{
 };
 use std::alloc::{AllocError, Global};
 
-// Returns the start of an atom.
+// Returns the start of an atom in nanoseconds, or 0 if it has none.
 pub(crate) fn start_of(atom: &Tree) -> u64
     requires { IsRead ids.CHAPTER_ATOM atom.now }
     ensures { result ≡ start_of atom.now }
@@ -37,6 +37,7 @@ fn own_end(atom: &Tree) -> Option<u64>
     Some(end.uint())
 }
 
+// Returns the first ChapterAtom among `trees`.
 fn first_atom(trees: &[Tree]) -> Option<&Tree>
     ensures { option_copied result ≡ find (λ n. id_of n == ids.CHAPTER_ATOM) trees.now }
 {
@@ -64,6 +65,7 @@ fn end_of(atom: &Tree, behind: &[Tree]) -> Option<u64>
     }
 }
 
+// Sets the time `id` of an atom to `time` nanoseconds.
 fn set_time(alloc: Global, atom: &mut Tree, id: u32, time: u64) -> Result<(), AllocError>
     requires id { IsUintIn ids.CHAPTER_ATOM id }
     requires read { IsRead ids.CHAPTER_ATOM atom.old }
@@ -137,6 +139,7 @@ fn cut_inside(alloc: Global, parent: &Tree, stretch: Stretch) -> Result<Tree, Al
     Ok(written)
 }
 
+// Checks whether an edition has a ChapterAtom.
 fn has_atom(edition: &Tree) -> bool
     ensures { result ≡ has_atom edition.now }
 {

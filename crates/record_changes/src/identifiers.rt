@@ -9,6 +9,7 @@ use indexmap::IndexSet;
 use mkv_io::List;
 use std::alloc::{AllocError, Global};
 
+// Checks whether `number` is an identifier in the inputs (`source`) or was given to another item (`given`).
 fn is_taken(source: &IndexSet<u64>, given: &IndexSet<u64>, number: u64) -> bool
     ensures { result ≡ is_taken source.now given.now number }
 {

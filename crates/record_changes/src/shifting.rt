@@ -14,12 +14,14 @@ use mkv_schema::ids::{
 };
 use std::alloc::{AllocError, Global};
 
+// Checks whether the ID is the start or the end of an atom.
 fn is_time(id: u32) -> bool
     ensures { result ≡ is_time id }
 {
     id == CHAPTER_TIME_START || id == CHAPTER_TIME_END
 }
 
+// Checks whether an atom has a ChapterTimeStart.
 fn has_start(atom: &Tree) -> bool
     ensures { result ≡ has_start (children atom.now) }
 {

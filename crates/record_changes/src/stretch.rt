@@ -37,6 +37,7 @@ impl Stretch {
     }
 }
 
+// Checks whether `time` is before `limit`; it is if there is no limit.
 fn is_before(time: u64, limit: Option<u64>) -> bool
     ensures { result ≡ is_before limit time }
 {

@@ -15,6 +15,8 @@ use ebml_tree::{Tree, empty};
 use mkv_schema::ids::{TAG, TAGS};
 use std::alloc::{AllocError, Global};
 
+// Checks whether a Tag with the targets `aims` is kept. `keep` must ask for its kind, of a track or not. If it has
+// targets, the output must have one of them.
 fn are_kept(keep: TagKeep, aims: TagTargets) -> bool
     ensures { result ≡ are_kept keep aims }
 {

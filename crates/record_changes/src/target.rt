@@ -15,6 +15,7 @@ use ebml_tree::{Tree, uint_leaf};
 use mkv_schema::ids::{TAG_ATTACHMENT_UID, TAG_CHAPTER_UID, TAG_EDITION_UID, TAG_TRACK_UID};
 use std::alloc::{AllocError, Global};
 
+// Checks whether the ID is the UID of a track, edition, chapter or attached file in a Targets element.
 fn is_target_id(id: u32) -> bool
     ensures { result ≡ is_target_id id }
 {

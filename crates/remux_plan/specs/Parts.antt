@@ -91,6 +91,7 @@ pub record PlannedOutput : Type 0 where
 abbrev pub spec_at : OutputSpec → ℕ → OutputSpec
 spec_at o number = record o { front = front_of o.uuids o.link o.front number }
 
+-- the output of the part `part` with the number `number`: its name, blocks and document
 abbrev pub output_in : LiveFiles → OutputSpec → ℕ → Part → PlannedOutput
 output_in f o number part = record { name = name_of o.split o.name number; blocks = part.blocks; document = document_with f (spec_at o number) part }
 

@@ -35,10 +35,11 @@ count_to (n ∷ ns) = max (suc n) (count_to ns)
 abbrev pub linked_inputs : List PlannedLane → List ℕ
 linked_inputs lanes = range_with_len 0 (count_to (flat_map (λ (l : PlannedLane). l.inputs) lanes))
 
--- the first hundred damaged places of an input; and the number of the others, if any
+-- the first hundred damaged places of the input number `input`
 abbrev pub first_damages : ℕ → ToldDamages → List InputDamage
 first_damages input told = map (λ damage. record { input = input; damage = damage }) told.first
 
+-- the number of damaged places of an input beyond the ones that are reported each, if there are any
 abbrev pub more_damages : ℕ → ToldDamages → List MoreDamage
 more_damages input told = if told.more == 0 then [] else record { input = input; count = told.more } ∷ []
 

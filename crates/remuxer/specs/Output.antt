@@ -59,6 +59,8 @@ abbrev pub IsUnwrittenLink : (ℕ → List ℕ) → Bool → List ℕ → Link �
 IsUnwrittenLink holder split output (Track t) = may_be_written split output (holder t.file.n) ≡ false
 IsUnwrittenLink holder split output (Entries e) = ⊤
 
+-- No file of the merge `m` was opened with a name that may be written. `holder` has the name of each file, and `output` is the name on the
+-- command line.
 abbrev pub IsUnwritten : (ℕ → List ℕ) → Bool → List ℕ → MergeSeen → Type 0
 IsUnwritten holder split output m = All (λ (q : Queue). All (IsUnwrittenLink holder split output) q.lane.links) m.queues
 
@@ -71,7 +73,7 @@ pub record CanWrite {S : Type 0} (r : Ghosts S) (f : writing.Ghosts S) (files : 
   pub apart : IsApart (f.holder files) (name ∷ []) b.merge
   pub records : HasRecords r f files name o.front o.chapters o.tags
 
--- the length of the attachments' data
+-- the length of the data of the attachments of an output
 abbrev pub data_of : OutputSpec → ℕ
 data_of o = sum_by (λ (a : Attachment). a.len) o.front.attachments
 
@@ -178,10 +180,11 @@ abbrev pub FindsFirst : {S : Type 0} → Ghosts S → S → S → PlacedBlocks �
 FindsFirst r old new b b' result =
     IfOk result (FindsPart (live_files r old) (live_files r new) (way b.merge + 1) (parts (split_in b) (left (live_files r old) b.merge)) b b')
 
--- the name of the output `number`, counted from 1; and its specification with its own identifiers
+-- the name of the output `number`, counted from 1
 abbrev pub own_name : OutputSpec → ℕ → List ℕ
 own_name o number = name_of o.split o.name number
 
+-- the specification of the output `number`, counted from 1, with its own identifiers
 abbrev pub own_spec : OutputSpec → ℕ → OutputSpec
 own_spec o number = record o { front = record o.front { info = with_uuids (uuids_at o.uuids o.link number) o.front.info } }
 
@@ -193,9 +196,11 @@ own_output f o number part = record { name = own_name o number; blocks = part.bl
 abbrev pub next_name : OutputSpec → List Written → List ℕ
 next_name o written = own_name o (length written + 1)
 
+-- the specification of the output after those in `written`
 abbrev pub next_spec : OutputSpec → List Written → OutputSpec
 next_spec o written = own_spec o (length written + 1)
 
+-- the output after those in `written`, with the blocks of the part `part`
 abbrev pub next_output : LiveFiles → OutputSpec → List Written → Part → PlannedOutput
 next_output f o written part = own_output f o (length written + 1) part
 
@@ -252,6 +257,7 @@ pub record FindsNext (o o' : OutputSpec) (b b' : PlacedBlocks) (written written'
 abbrev pub drafts_of : List PlannedOutput → List Draft
 drafts_of outputs = map (λ (o : PlannedOutput). draft_of o.name o.document) outputs
 
+-- an output with its finished content
 abbrev pub laid_out : PlannedOutput → Output
 laid_out o = record { name = o.name; content = layout o.document }
 

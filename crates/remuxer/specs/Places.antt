@@ -63,6 +63,7 @@ abbrev pub ahead_at : MergeSeen → Option Ahead → List OutputBlock
 ahead_at m None = []
 ahead_at m (Some a) = lent_at m a.lane
 
+-- the block ahead, which was read and placed but isn't written yet, if there is one
 abbrev pub lent_ahead : PlacedBlocks → List OutputBlock
 lent_ahead b = ahead_at b.merge b.ahead
 
@@ -76,12 +77,13 @@ abbrev pub lane_within : Option Ahead → Option ℕ
 lane_within None = None
 lane_within (Some a) = if is_same a.place then Some a.lane else None
 
+-- A block is ahead, and it is in the current part.
 abbrev pub is_within : Option Ahead → Bool
 is_within ahead = is_some (lane_within ahead)
 
 -- ---- blocks that are left
 
--- the split of the blocks
+-- the split that decides the places of the blocks
 abbrev pub split_in : PlacedBlocks → Split
 split_in b = record { spec = b.cuts.spec; size = b.cuts.size; scale = b.cuts.scale; drives = drives_by b.drives }
 
@@ -115,6 +117,7 @@ abbrev pub turns_with : ℕ → Option Ahead → ℕ
 turns_with way None = way
 turns_with way (Some a) = way + 1
 
+-- an upper bound on the blocks that are left: the one ahead, and one for each turn of the merge
 abbrev pub turns : PlacedBlocks → ℕ
 turns b = turns_with (way b.merge) b.ahead
 
@@ -157,11 +160,12 @@ pub record IsAhead (m : MergeSeen) (c : CutsSeen) (a : Ahead) : Type 0 where
   pub place : a.place ≡ place_at (is_kept c) begins (start_of c)
   pub counts : begins ≡ true → c.load ≡ counted c.size (octets_taken (block_lent a.lane lends.queue.lane))
 
--- Such a block is ahead, or all output tracks have ended.
+-- The block ahead is the last one that was placed; or there is none, and all output tracks have ended.
 abbrev pub StandsAt : MergeSeen → CutsSeen → Option Ahead → Type 0
 StandsAt m c None = IsEnded m
 StandsAt m c (Some a) = IsAhead m c a
 
+-- The block ahead of the part is the last one that was placed; or there is none, and all output tracks have ended.
 abbrev pub StandsAhead : PlacedBlocks → Type 0
 StandsAhead b = StandsAt b.merge b.cuts b.ahead
 

@@ -49,13 +49,14 @@ IsToldPlan f p = All (λ (l : PlannedLane). All (IsToldLink f) l.spec.links) p.l
 abbrev pub inputs_length : LiveFiles → MergePlan → ℕ
 inputs_length f p = sum_by (λ (l : PlannedLane). files_length f l.spec.links) p.lanes
 
--- the length of the attachments' data
+-- the length of the data of the attachments of a plan
 abbrev pub data_length : MergePlan → ℕ
 data_length p = sum_by (λ (a : Attachment). a.len) p.front.attachments
 
 -- ---- effect
 
--- The links' files are read once, and at most once more if a read fails, and the attachments' data.
+-- At most twice the lengths of the links' files, and once the data of the attachments, were read between the states `old` and `new`. A file
+-- counts once for each link of the plan `p` that reads it.
 abbrev pub ReadsFew : {S : Type 0} → Ghosts S → S → S → MergePlan → Type 0
 ReadsFew r old new p = r.octets_read new ≤ r.octets_read old + 2 * inputs_length (live_files r old) p + data_length p
 

@@ -22,6 +22,7 @@ abbrev pub cut_on : ClusterLimits → Option OutputCluster → List OutputBlock 
 cut_on limits None left = clusters limits left
 cut_on limits (Some c) left = cut_from limits c left
 
+-- the Cluster in the buffer, if there is one
 abbrev pub clusters_held : Option OutputCluster → List OutputCluster
 clusters_held None = []
 clusters_held (Some c) = c ∷ []

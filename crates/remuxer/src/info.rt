@@ -38,7 +38,7 @@ fn add_uuid(alloc: Global, info: &mut Tree, id: u32, uuid: Option<u128>) -> Resu
     info.push(Tree::leaf(alloc, id, &uuid.to_be_bytes())?)
 }
 
-// Appends the identifiers of an output.
+// Adds the identifiers of an output to its Info: SegmentUUID, PrevUUID and NextUUID, each if present.
 fn add_uuids(alloc: Global, info: &mut Tree, uuids: PartUuids) -> Result<(), AllocError>
     requires { IsMaster info.old }
     ensures added { OnOk result (info.new ≡ with_more info.old (uuid_elements uuids)) }

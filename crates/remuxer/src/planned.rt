@@ -43,7 +43,7 @@ impl StartedLanes {
         Ok(started)
     }
 
-    // Starts one more output track.
+    // Starts one more output track as planned, with its rule for cue points.
     fn add(&mut self, alloc: Global, planned: PlannedLane, scale: u64) -> Result<(), AllocError>
         requires scale { 1 ≤ scale }
         requires lane { CanStart planned }

@@ -38,7 +38,7 @@ fn told_of<'a>(inputs: &[List<usize>], merge: &'a Merge, input: usize) -> Option
     None
 }
 
-// Appends the damaged places of an input.
+// Appends the damaged places `told` of the input number `input` to the summary.
 fn add_damages(summary: &mut Summary, input: usize, told: &Damages) -> Result<(), AllocError>
     ensures { OnOk result (AddsDamages input told.now summary.old summary.new) }
 {

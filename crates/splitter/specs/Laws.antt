@@ -76,6 +76,7 @@ pub record AreSections (s : Split) (blocks : List OutputBlock) (xs : List Sectio
   pub whole : flat_map (λ (x : Section). x.blocks) xs ≡ blocks
   pub cut : AreCutApart s xs
 
+-- The sections of a split make the whole list of blocks, and cuts are exactly between them.
 abbrev pub SectionsAreCut : Type 0
 SectionsAreCut = (s : Split) (blocks : List OutputBlock) → AreSections s blocks (sections s blocks)
 

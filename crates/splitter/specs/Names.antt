@@ -15,7 +15,7 @@ abbrev pub stem_len : List ℕ → ℕ
 stem_len [] = 0
 stem_len (b ∷ bs) = if b == POINT && list_all is_plain bs then 0 else suc (stem_len bs)
 
--- the name without its extension
+-- the name of an output without its extension
 abbrev pub stem : List ℕ → List ℕ
 stem name = take (stem_len name) name
 

@@ -20,15 +20,16 @@ pub record CutsSeen : Type 0 where
 abbrev pub new_cuts : SplitSpec → Option ℕ → ℕ → CutsSeen
 new_cuts spec size scale = record { spec = spec; size = size; scale = scale; start = None; load = 0 }
 
--- the start of the last block's section, or of the one at the start of the output
+-- the tick at the start of the last block's section, or 0 before the first block
 abbrev pub start_of : CutsSeen → ℕ
 start_of c = unwrap_or c.start 0
 
--- This section is written.
+-- The section of the last block is written; before the first block, the section that starts at tick 0.
 abbrev pub is_kept : CutsSeen → Bool
 is_kept c = keeps c.spec (start_of c * c.scale)
 
--- This section is full, or over at the tick `tick`.
+-- The section of the last block must end at the tick `tick`, if a cut is possible there. Its load has reached the limit, if there is one, or its
+-- time is over.
 abbrev pub is_over_at : CutsSeen → ℕ → Bool
 is_over_at c tick = is_full c.size c.load || is_over c.spec (start_of c * c.scale) (tick * c.scale)
 
@@ -39,21 +40,22 @@ counted (Some limit) octets = min octets (2 ^ 64 - 1)
 
 -- ---- one step
 
--- A cut is before a block at `tick`, if one may be.
+-- A cut is before the next block, which is at the tick `tick`. `may` is true if this block may begin a part.
 abbrev pub is_cut : CutsSeen → Bool → ℕ → Bool
 is_cut c may tick = may && is_over_at c tick
 
--- the state after a block at `tick` of `len` bytes
+-- the state after one more block, which is at the tick `tick` and has `len` bytes. `may` is true if this block may begin a part.
 abbrev pub stepped : CutsSeen → Bool → ℕ → ℕ → CutsSeen
 stepped c may tick len = record c {
   start = Some (if is_cut c may tick then tick else start_of c);
   load = counted c.size ((if is_cut c may tick then 0 else c.load) + len);
 }
 
--- the place of a block in a section that is written or not, as its first block or not
+-- the place of a block in a section; `kept` is true if the section is written, and `first` if the block is its first
 abbrev pub place_at : Bool → Bool → ℕ → Place
 place_at kept first start = if kept then (if first then Next start else Same) else Out
 
--- the place of the next block; it begins a section if a cut is before it, or if it is the first block
+-- the place of the next block, which is at the tick `tick`. It begins a section if a cut is before it, or if it is the first block. `may` is true
+-- if this block may begin a part.
 abbrev pub place_of : CutsSeen → Bool → ℕ → Place
 place_of c may tick = place_at (is_kept (stepped c may tick 0)) (is_cut c may tick || is_none c.start) (start_of (stepped c may tick 0))

@@ -58,8 +58,8 @@ impl Cuts {
         }
     }
 
-    /// Checks whether the last block's section is written. Before the first block this is the section at the start of
-    /// the output. If it is written, it is a part even without blocks.
+    /// Checks whether the last block's section is written. Before the first block this is the section at tick 0; if
+    /// an output without blocks has no other, it is a part without blocks.
     pub fn is_kept(&self) -> bool
         ensures { result ≡ is_kept self.now }
     {
@@ -76,7 +76,7 @@ impl Cuts {
         self.start = Some(start);
     }
 
-    // Checks whether the section is over at the tick `tick`.
+    // Checks whether the time of the last block's section is over at the tick `tick`.
     fn is_over(&self, tick: u64) -> bool
         ensures { result ≡ is_over_at self.now tick }
     {

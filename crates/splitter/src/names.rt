@@ -7,7 +7,8 @@ ghost use Rattle.splitter.specs.Names.{are_digits, before, behind, extension, is
 use mkv_io::Text;
 use std::alloc::{AllocError, Global};
 
-// Splits a name before its extension.
+// Splits the name of an output before its extension, which begins at the last point after the last slash; it may be
+// empty.
 fn cut(name: &str) -> (&str, &str)
     ensures stem { result.0.now ≡ stem name.now }
     ensures extension { result.1.now ≡ extension name.now }

@@ -27,6 +27,7 @@ fn starts_at(alloc: Global, starts: &[u64], numbers: &[u64]) -> Result<List<u64>
     Ok(List::from_vec(at.collect(alloc)?))
 }
 
+// Returns the split at the times `at`, in nanoseconds.
 fn times(alloc: Global, at: &[u64]) -> Result<SplitSpec, AllocError>
     ensures { IfOk result (λ s. s ≡ spec.Times at.now) }
 {
