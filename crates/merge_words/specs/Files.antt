@@ -23,12 +23,12 @@ ids_of_select (These ids) = ids
 ids_of_select (AllBut ids) = ids
 ids_of_select Off = []
 
--- the track, if there is one
+-- the number as a list, or an empty list if there is none
 abbrev pub one : Option ℕ → List ℕ
 one None = []
 one (Some id) = id ∷ []
 
--- the tracks that a value names
+-- the track numbers that the value of an option names
 abbrev pub ids_of : Value → List ℕ
 ids_of (Tracks select) = ids_of_select select
 ids_of value = one (track_in value)
@@ -37,15 +37,15 @@ ids_of value = one (track_in value)
 abbrev pub tracks_in : Subject → List Item → Select
 tracks_in subject items = unwrap_or (option_and_then tracks_of (value_in subject items)) All
 
--- the delays of tracks
+-- the delays that the options of a file give, by track number
 abbrev pub delays_in : List Item → List (ℕ × ℤ)
 delays_in items = said_about delay_of subject.Sync items
 
--- the names of tracks
+-- the names that the options of a file give, by track number
 abbrev pub names_in : List Item → List (ℕ × List ℕ)
 names_in items = said_about track_text_of subject.TrackName items
 
--- the languages of tracks
+-- the languages that the options of a file give, by track number
 abbrev pub languages_in : List Item → List (ℕ × List ℕ)
 languages_in items = said_about track_language_of subject.Language items
 
@@ -57,11 +57,11 @@ flags_in subject items = said_about track_flag_of subject items
 abbrev pub cues_in : List Item → List (ℕ × CueWord)
 cues_in items = said_about track_cues_of subject.Cues items
 
--- the timestamp files of tracks
+-- the timestamp files that the options of a file give, by track number
 abbrev pub times_in : List Item → List (ℕ × List ℕ)
 times_in items = said_about track_file_of subject.Times items
 
--- the selection of tracks of each type
+-- the selected tracks of each type that the options of a file give
 abbrev pub choice_in : List Item → Choice
 choice_in items = record {
   video = tracks_in subject.Video items;
@@ -69,11 +69,11 @@ choice_in items = record {
   subtitles = tracks_in subject.Subtitles items;
 }
 
--- the names and languages of tracks, and their timestamp files
+-- the names and languages of tracks, and their timestamp files, that the options of a file give
 abbrev pub texts_in : List Item → Texts
 texts_in items = record { names = names_in items; languages = languages_in items; times = times_in items }
 
--- the delays, flags and cue points of tracks
+-- the delays, flags and cue points of tracks that the options of a file give
 abbrev pub marks_in : List Item → Marks
 marks_in items = record {
   syncs = delays_in items;
@@ -82,7 +82,7 @@ marks_in items = record {
   cues = cues_in items;
 }
 
--- the numbers except `id`
+-- the track numbers except `id`
 abbrev pub without : ℕ → List ℕ → List ℕ
 without id ids = filter (λ k. not (k == id)) ids
 
@@ -100,7 +100,7 @@ with_new list (id ∷ ids) = with_new (if list_any (λ k. k == id) list then lis
 unfoldable pub named_in : List Item → List ℕ
 named_in items = once (flat_map (λ (i : Item). ids_of i.value) items)
 
--- the name in a file's item
+-- the file name of the item that ends the options of a file
 abbrev pub file_name : Value → List ℕ
 file_name value = unwrap_or (file_of value) []
 

@@ -32,7 +32,7 @@ files_in items = count_by is_file items
 unfoldable pub since_file : List Item → List Item
 since_file items = after_last is_file items
 
--- An item has this subject.
+-- One of the items is an option with this subject.
 abbrev pub stands : Subject → List Item → Bool
 stands subject items = list_any (λ i. same i.subject subject) items
 
@@ -46,7 +46,7 @@ track_in (TrackCues id cues) = Some id
 track_in (TrackFile id name) = Some id
 track_in _ = None
 
--- The track is `id`.
+-- The optional track number is `id`.
 abbrev pub is_track : ℕ → Option ℕ → Bool
 is_track id None = false
 is_track id (Some k) = k == id

@@ -56,11 +56,11 @@ abbrev pub wrong_at : Option ℕ → Why → Result (Unit {0}) Usage
 wrong_at None why = Ok tt
 wrong_at (Some word) why = wrong word why
 
--- the first option for a file
+-- the number of the first option for a file that no file follows, if there is one
 abbrev pub dangling : List Item → Option ℕ
 dangling items = option_map (λ (i : Item). i.at) (find (λ i. not (sameb the_type i.scope scope.Output)) items)
 
--- the option that links parts
+-- the number of the option `--link`, if it is given
 abbrev pub linking : List Item → Option ℕ
 linking items = option_map (λ (i : Item). i.at) (find (λ i. same i.subject subject.Link) items)
 

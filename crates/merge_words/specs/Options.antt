@@ -22,6 +22,7 @@ pub record Row : Type 0 where
   pub scope : Scope
   pub form : ValueForm
 
+-- the row of an option
 abbrev pub option : List ℕ → List ℕ → Subject → Scope → ValueForm → Row
 option short long subject scope form = record { short = short; long = long; subject = subject; scope = scope; form = form }
 
@@ -64,6 +65,7 @@ shown r = record { short = r.0.now; long = r.1.now; subject = r.2; scope = r.3; 
 abbrev pub spelled : List ℕ → Row → Bool
 spelled word r = bytes_eq r.short word || bytes_eq r.long word
 
+-- the meaning of an option's row, without its spellings
 abbrev pub meaning : Row → Meaning
 meaning r = record { subject = r.subject; scope = r.scope; form = r.form }
 
@@ -75,6 +77,6 @@ meaning_among rows word = option_map meaning (find (spelled word) rows)
 unfoldable pub meaning_of : List ℕ → Option Meaning
 meaning_of word = if is_option word then meaning_among table word else None
 
--- Both subjects are the same.
+-- Both options have the same subject.
 abbrev pub same : Subject → Subject → Bool
 same a b = sameb the_type a b

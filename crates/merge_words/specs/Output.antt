@@ -37,7 +37,7 @@ split_in items = option_and_then split_of (value_in subject.Split items)
 abbrev pub uuids_in : List Item → List ℕ
 uuids_in items = unwrap_or (option_and_then uuids_of (value_in subject.Uuids items)) []
 
--- the request of the items
+-- the merge that the parsed arguments `items` ask for
 unfoldable pub merge_words : List Item → MergeWords
 merge_words items = record {
   output = output_in items;

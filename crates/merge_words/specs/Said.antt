@@ -19,12 +19,12 @@ abbrev pub file_of : Value → Option (List ℕ)
 file_of (File name) = Some name
 file_of _ = None
 
--- a text
+-- the text that a value has, if it is one
 abbrev pub text_of : Value → Option (List ℕ)
 text_of (Text text) = Some text
 text_of _ = None
 
--- the nanoseconds in a tick
+-- the nanoseconds per tick that a value has, if it is such a number
 abbrev pub scale_of : Value → Option ℕ
 scale_of (Scale scale) = Some scale
 scale_of _ = None
@@ -39,17 +39,17 @@ abbrev pub span_of : Value → Option ℕ
 span_of (Span span) = Some span
 span_of _ = None
 
--- the split of the output
+-- the split that a value has, if it is one
 abbrev pub split_of : Value → Option SplitWords
 split_of (Split split) = Some split
 split_of _ = None
 
--- the SegmentUUIDs of the parts
+-- the SegmentUUIDs that a value has, if it is a list of them
 abbrev pub uuids_of : Value → Option (List ℕ)
 uuids_of (Uuids uuids) = Some uuids
 uuids_of _ = None
 
--- the selection of tracks
+-- the selection of tracks that a value has, if it is one
 abbrev pub tracks_of : Value → Option Select
 tracks_of (Tracks select) = Some select
 tracks_of _ = None
@@ -59,17 +59,17 @@ abbrev pub delay_of : Value → Option (ℕ × ℤ)
 delay_of (TrackDelay id delay) = Some (id, delay)
 delay_of _ = None
 
--- the track and its name
+-- the track number and the name that a value has, if it is such a pair
 abbrev pub track_text_of : Value → Option (ℕ × List ℕ)
 track_text_of (TrackText id text) = Some (id, text)
 track_text_of _ = None
 
--- the track and its language
+-- the track number and the language that a value has, if it is such a pair
 abbrev pub track_language_of : Value → Option (ℕ × List ℕ)
 track_language_of (TrackLanguage id language) = Some (id, language)
 track_language_of _ = None
 
--- the track and its flag
+-- the track number and the flag that a value has, if it is such a pair
 abbrev pub track_flag_of : Value → Option (ℕ × Bool)
 track_flag_of (TrackFlag id flag) = Some (id, flag)
 track_flag_of _ = None

@@ -83,6 +83,7 @@ fn file(alloc: Global, items: &[Item], name: &Value) -> Result<FileWords, AllocE
     })
 }
 
+/// Returns the selected tracks of each type that the options of a file give.
 fn choice_in(alloc: Global, items: &[Item]) -> Result<Choice, AllocError>
     ensures { IfOk result (λ choice. choice ≡ spec.choice_in items.now) }
 {
@@ -93,6 +94,7 @@ fn choice_in(alloc: Global, items: &[Item]) -> Result<Choice, AllocError>
     })
 }
 
+/// Returns the names and languages of tracks, and their timestamp files, that the options of a file give.
 fn texts_in(alloc: Global, items: &[Item]) -> Result<Texts, AllocError>
     ensures { IfOk result (λ texts. texts ≡ spec.texts_in items.now) }
 {
@@ -103,6 +105,7 @@ fn texts_in(alloc: Global, items: &[Item]) -> Result<Texts, AllocError>
     })
 }
 
+/// Returns the delays, flags and cue points of tracks that the options of a file give.
 fn marks_in(alloc: Global, items: &[Item]) -> Result<Marks, AllocError>
     ensures { IfOk result (λ marks. marks ≡ spec.marks_in items.now) }
 {
@@ -114,6 +117,7 @@ fn marks_in(alloc: Global, items: &[Item]) -> Result<Marks, AllocError>
     })
 }
 
+/// Returns the name of the file that ends its options.
 fn file_name(alloc: Global, value: &Value) -> Result<Text, AllocError>
     ensures { IfOk result (λ name. name ≡ spec.file_name value.now) }
 {
@@ -133,6 +137,7 @@ fn tracks_in(alloc: Global, subject: Subject, items: &[Item]) -> Result<Select, 
     }
 }
 
+/// Returns a copy of a selection of tracks.
 fn select_copy(alloc: Global, select: &Select) -> Result<Select, AllocError>
     ensures { IfOk result (λ copy. copy ≡ select.now) }
 {
@@ -148,6 +153,7 @@ fn select_copy(alloc: Global, select: &Select) -> Result<Select, AllocError>
     }
 }
 
+/// Returns the delays of tracks that the options of a file give, by track number.
 fn delays_in(alloc: Global, items: &[Item]) -> Result<List<(u64, i64)>, AllocError>
     ensures { IfOk result (λ list. list ≡ spec.delays_in items.now) }
 {
@@ -162,6 +168,7 @@ fn delays_in(alloc: Global, items: &[Item]) -> Result<List<(u64, i64)>, AllocErr
     Ok(list)
 }
 
+/// Returns the names of tracks that the options of a file give, by track number.
 fn names_in(alloc: Global, items: &[Item]) -> Result<List<(u64, Text)>, AllocError>
     ensures { IfOk result (λ list. list ≡ spec.names_in items.now) }
 {
@@ -176,6 +183,7 @@ fn names_in(alloc: Global, items: &[Item]) -> Result<List<(u64, Text)>, AllocErr
     Ok(list)
 }
 
+/// Returns the languages of tracks that the options of a file give, by track number.
 fn languages_in(alloc: Global, items: &[Item]) -> Result<List<(u64, Text)>, AllocError>
     ensures { IfOk result (λ list. list ≡ spec.languages_in items.now) }
 {
@@ -190,6 +198,7 @@ fn languages_in(alloc: Global, items: &[Item]) -> Result<List<(u64, Text)>, Allo
     Ok(list)
 }
 
+/// Returns the timestamp files that the options of a file give, by track number.
 fn times_in(alloc: Global, items: &[Item]) -> Result<List<(u64, Text)>, AllocError>
     ensures { IfOk result (λ list. list ≡ spec.times_in items.now) }
 {
@@ -204,6 +213,7 @@ fn times_in(alloc: Global, items: &[Item]) -> Result<List<(u64, Text)>, AllocErr
     Ok(list)
 }
 
+/// Returns the flags of the subject `subject` that the options of a file give, by track number.
 fn flags_in(
     alloc: Global,
     subject: Subject,
@@ -222,6 +232,7 @@ fn flags_in(
     Ok(list)
 }
 
+/// Returns the choices of cue points that the options of a file give, by track number.
 fn cues_in(alloc: Global, items: &[Item]) -> Result<List<(u64, CueWord)>, AllocError>
     ensures { IfOk result (λ list. list ≡ spec.cues_in items.now) }
 {

@@ -118,6 +118,7 @@ pub fn meaning_of(word: &str) -> Option<Meaning>
     meaning_among(merge_options(), word)
 }
 
+// Returns the meaning of the first option in `rows` that is spelled `word`.
 fn meaning_among(rows: &[OptionRow], word: &str) -> Option<Meaning>
     ensures { result ≡ spec.meaning_among (map spec.shown rows.now) word.now }
 {

@@ -18,7 +18,7 @@ const DEFAULT_BLOCKS: u32 = 65_535;
 
 const DEFAULT_SPAN: u64 = 5_000_000_000;
 
-/// Returns the request of the items.
+/// Returns the merge that the parsed arguments `items` ask for.
 #[tactic(auto, unfolding(crate::specs::Output::merge_words))]
 pub(crate) fn merge_words(alloc: Global, items: &[Item]) -> Result<MergeWords, AllocError>
     ensures { IfOk result (λ words. words ≡ spec.merge_words items.now) }
@@ -38,6 +38,7 @@ pub(crate) fn merge_words(alloc: Global, items: &[Item]) -> Result<MergeWords, A
     })
 }
 
+// Returns the name of the output.
 fn output_in(alloc: Global, items: &[Item]) -> Result<Text, AllocError>
     ensures { IfOk result (λ name. name ≡ spec.output_in items.now) }
 {
@@ -47,6 +48,7 @@ fn output_in(alloc: Global, items: &[Item]) -> Result<Text, AllocError>
     }
 }
 
+// Returns the title of the output, if an option gives it.
 fn title_in(alloc: Global, items: &[Item]) -> Result<Option<Text>, AllocError>
     ensures { IfOk result (λ title. title ≡ spec.title_in items.now) }
 {
@@ -56,6 +58,7 @@ fn title_in(alloc: Global, items: &[Item]) -> Result<Option<Text>, AllocError>
     }
 }
 
+// Returns the nanoseconds per tick of the output, or the default.
 fn scale_in(items: &[Item]) -> u64
     ensures { result ≡ spec.scale_in items.now }
 {
@@ -65,6 +68,7 @@ fn scale_in(items: &[Item]) -> u64
     }
 }
 
+// Returns the maximum number of blocks in a Cluster, or the default.
 fn blocks_in(items: &[Item]) -> u32
     ensures { result ≡ spec.blocks_in items.now }
 {
@@ -74,6 +78,7 @@ fn blocks_in(items: &[Item]) -> u32
     }
 }
 
+// Returns the maximum duration of a Cluster in nanoseconds, or the default.
 fn span_in(items: &[Item]) -> u64
     ensures { result ≡ spec.span_in items.now }
 {
@@ -83,6 +88,7 @@ fn span_in(items: &[Item]) -> u64
     }
 }
 
+// Returns the values of `--segment-uid`.
 fn uuids_in(alloc: Global, items: &[Item]) -> Result<List<u128>, AllocError>
     ensures { IfOk result (λ uuids. uuids ≡ spec.uuids_in items.now) }
 {
@@ -92,6 +98,7 @@ fn uuids_in(alloc: Global, items: &[Item]) -> Result<List<u128>, AllocError>
     }
 }
 
+// Returns the split of the output, if an option gives it.
 fn split_in(alloc: Global, items: &[Item]) -> Result<Option<SplitWords>, AllocError>
     ensures { IfOk result (λ split. split ≡ spec.split_in items.now) }
 {
@@ -101,6 +108,7 @@ fn split_in(alloc: Global, items: &[Item]) -> Result<Option<SplitWords>, AllocEr
     }
 }
 
+// Returns a copy of a split.
 fn split_copy(alloc: Global, split: &SplitWords) -> Result<SplitWords, AllocError>
     ensures { IfOk result (λ copy. copy ≡ split.now) }
 {

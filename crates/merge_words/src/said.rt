@@ -32,6 +32,7 @@ pub(crate) fn file_in(
     }
 }
 
+/// Returns a copy of a list of numbers.
 pub(crate) fn numbers_copy(alloc: Global, numbers: &List<u64>) -> Result<List<u64>, AllocError>
     ensures { IfOk result (λ copy. copy ≡ numbers.now) }
 {

@@ -358,7 +358,7 @@ command-sound words c is = sound c (command-asked words c is)
     sound (command_is.Generate n prefix) asked = blocks_at-sound words 1 n asked
     sound _ asked = tt
 
--- So is the command that the code returns for it.
+-- The command that the code returns for a command line is within its limits.
 pub told-sound : (words : List (List ℕ)) (r : Result Command ArgsEnd) → Tells r (command words) → IfOk r IsSound
 told-sound words (Ok c) is = command-sound words c is
 told-sound words (Err end) is = tt

@@ -10,6 +10,7 @@ pub record Entry (T : Type 0) : Type 0 where
   pub long : List ℕ
   pub means : T
 
+-- the word of a table with these spellings and this meaning
 abbrev pub entry : {T : Type 0} → List ℕ → List ℕ → T → Entry T
 entry short long means = record { short = short; long = long; means = means }
 

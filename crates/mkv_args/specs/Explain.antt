@@ -25,29 +25,36 @@ lines_of page = map (λ (line : Bor (List ℕ)). line.now) page.now
 abbrev pub shown : Bor (List ℕ) × Bor (List (Bor (List ℕ))) → Topic
 shown t = record { name = t.0.now; lines = lines_of t.1 }
 
--- The topics of each group: words of the command line, reasons why a run or an edit is refused, damage, warnings, results, and general words.
+-- the topics of the group 'command line': reasons why arguments are refused. Each group has a constant of its own, since the prover refuses a
+-- single table: its limit is 50 million steps for a task.
 unfoldable pub word_topics : List Topic
 word_topics = map (λ t. record { name = t.0.now; lines = map (λ line. line.now) t.1.now }) WORD_TOPICS
 
+-- the topics of the group 'refused': reasons why a run ends before it writes an output
 unfoldable pub refusal_topics : List Topic
 refusal_topics = map (λ t. record { name = t.0.now; lines = map (λ line. line.now) t.1.now }) REFUSAL_TOPICS
 
+-- the topics of the group 'edits': reasons why an edit in place or a new index is refused
 unfoldable pub edit_topics : List Topic
 edit_topics = map (λ t. record { name = t.0.now; lines = map (λ line. line.now) t.1.now }) EDIT_TOPICS
 
+-- the topics of the group 'in a file': kinds of damage
 unfoldable pub damage_topics : List Topic
 damage_topics = map (λ t. record { name = t.0.now; lines = map (λ line. line.now) t.1.now }) DAMAGE_TOPICS
 
+-- the topics of the group 'warnings': words of warnings and of notes to a message
 unfoldable pub warning_topics : List Topic
 warning_topics = map (λ t. record { name = t.0.now; lines = map (λ line. line.now) t.1.now }) WARNING_TOPICS
 
+-- the topics of the group 'results': words of the messages about what a run has done
 unfoldable pub result_topics : List Topic
 result_topics = map (λ t. record { name = t.0.now; lines = map (λ line. line.now) t.1.now }) RESULT_TOPICS
 
+-- the topics of the group 'general': words that begin messages, and the exit status
 unfoldable pub general_topics : List Topic
 general_topics = map (λ t. record { name = t.0.now; lines = map (λ line. line.now) t.1.now }) GENERAL_TOPICS
 
--- all topics
+-- the topics of all groups; a name is looked up in this order
 abbrev pub topics : List Topic
 topics = word_topics ++ refusal_topics ++ edit_topics ++ damage_topics ++ warning_topics ++ result_topics ++ general_topics
 
@@ -80,5 +87,6 @@ explain_named (Some word) words = do
   _ ← end_at words 2
   Ok (commands.Explain (Some word))
 
+-- the command that the arguments `words` ask for; word 0 is `explain`, and word 1, if present, the name to explain
 unfoldable pub explain : List (List ℕ) → Result Command Usage
 explain words = explain_named (slice_get words 1) words

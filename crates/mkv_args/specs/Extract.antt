@@ -69,7 +69,7 @@ simple words = do
   _ ← end_at words 5
   Ok (jobs.Chapters out)
 
--- `--simple OUT`
+-- the job that the arguments `--simple OUT` of the mode `chapters` ask for
 unfoldable pub chapters : List (List ℕ) → Result Job Usage
 chapters words = do
   word ← due_at words 3
@@ -105,7 +105,7 @@ job_of (Some mode.Chapters) words = chapters words
 unfoldable pub job : List ℕ → List (List ℕ) → Result Job Usage
 job word words = job_of (meant modes word) words
 
--- `extract FILE MODE ARGS`
+-- the command that the arguments `extract FILE MODE ARGS` ask for
 unfoldable pub extract : List (List ℕ) → Result Command Usage
 extract words = do
   file ← file_at words 1

@@ -20,16 +20,18 @@ abbrev pub identified : List ℕ → Option (List ℕ) → Result Command Usage
 identified file None = Ok (command.Identify file)
 identified file (Some extra) = beside 3 extra
 
--- `merge -J FILE`
+-- the command that the arguments `merge -J FILE` ask for
 unfoldable pub identify : List (List ℕ) → Result Command Usage
 identify words = do
   file ← due_at words 2
   if bytes_eq file (codes "+") || is_option file then beside 2 file else identified file (slice_get words 3)
 
+-- The argument is present and is spelled `spelled`.
 abbrev pub is_word : List ℕ → Option (List ℕ) → Bool
 is_word spelled None = false
 is_word spelled (Some word) = bytes_eq word spelled
 
+-- the command `merge` for the meaning of its arguments, or the first wrong argument
 abbrev pub merged_by : Result MergeWords Usage → Result Command Usage
 merged_by said = do
   words ← said

@@ -136,12 +136,13 @@ edits_in place [] = []
 edits_in place (says.Section next ∷ more) = edits_in next more
 edits_in place (says.Change change name value ∷ more) = record { place = place; change = change; name = name; value = value } ∷ edits_in place more
 
--- the section in argument `at`
+-- the section that the argument number `at` names
 abbrev pub section_at : List (List ℕ) → ℕ → Result Selector Usage
 section_at words at = do
   word ← due_at words at
   read_value at (selector word)
 
+-- the section that follows the option `--edit` in argument 2; another argument there is refused
 abbrev pub section_behind : Option EditOptionKind → List (List ℕ) → Result Selector Usage
 section_behind (Some step.Section) words = section_at words 3
 section_behind _ words = wrong 2 UnknownOption

@@ -43,6 +43,7 @@ pub record AreEdits (edits : List Edit) : Type 0 where
   pub some : 0 < length edits
   pub each : All (λ (e : Edit). IsSoundPlace e.place) edits
 
+-- The numbers and lists of a command are within the limits that a parsed command line keeps.
 abbrev pub IsSound : Command → Type 0
 IsSound (command.Help about) = ⊤
 IsSound command.Version = ⊤

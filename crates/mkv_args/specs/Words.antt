@@ -25,25 +25,25 @@ only_file words = do
   _ ← end_at words 2
   Ok file
 
--- `command`, named by the only word
+-- the command `command`, if its name is the only argument
 unfoldable pub alone : Command → List (List ℕ) → Result Command Usage
 alone command words = do
   _ ← end_at words 1
   Ok command
 
--- `info FILE`
+-- the command that the arguments `info FILE` ask for
 unfoldable pub info : List (List ℕ) → Result Command Usage
 info words = do
   file ← only_file words
   Ok (commands.Info file)
 
--- `recover FILE`
+-- the command that the arguments `recover FILE` ask for
 unfoldable pub recover : List (List ℕ) → Result Command Usage
 recover words = do
   file ← only_file words
   Ok (commands.Recover file)
 
--- `reindex FILE`
+-- the command that the arguments `reindex FILE` ask for
 unfoldable pub reindex : List (List ℕ) → Result Command Usage
 reindex words = do
   file ← only_file words
@@ -82,7 +82,7 @@ unfoldable pub first_command : List (List ℕ) → Result Command Usage
 first_command [] = wrong 0 NoCommand
 first_command (first ∷ rest) = command_named (meant verbs first) (first ∷ rest)
 
--- `-h` is the only word.
+-- The only argument is `-h`.
 abbrev pub is_short_help : List (List ℕ) → Bool
 is_short_help words = is_word (codes "-h") (slice_get words 0) && is_none (slice_get words 1)
 

@@ -35,7 +35,7 @@ static COMMANDS: [Entry<Verb>; 10] = [
     Entry("", "--version", Verb::Version),
 ];
 
-/// Returns the names of all commands.
+/// Returns the commands with their names.
 #[tactic(auto, unfolding(crate::specs::Commands::commands))]
 pub(crate) fn commands() -> &'static [Entry<Verb>]
     ensures { map words.shown result.now ≡ spec.commands }

@@ -26,6 +26,7 @@ pub fn explained(name: Option<&str>) -> &'static [&'static str]
     }
 }
 
+/// Returns the list of all names that `explain` knows.
 #[tactic(auto, unfolding(crate::specs::Explain::topic_list))]
 fn topic_list() -> &'static [&'static str]
     ensures { map (λ line. line.now) result.now ≡ spec.topic_list }
@@ -46,6 +47,7 @@ fn page_of(name: &str) -> Option<&'static [&'static str]>
         .or(page_among(general_topics(), name))
 }
 
+/// Returns the lines of the page with the name `name`, in upper or lower case, among `topics`.
 fn page_among(topics: &[Topic], name: &str) -> Option<&'static [&'static str]>
     ensures { option_map spec.lines_of result ≡ spec.page_among (map spec.shown topics.now) name.now }
 {
@@ -64,6 +66,7 @@ fn is_same_name(a: &str, b: &str) -> bool
     a.eq_ignore_ascii_case(b)
 }
 
+/// Returns the topics of the group 'command line'. Each group has a function, since the prover refuses one for all.
 #[tactic(auto, unfolding(crate::specs::Explain::word_topics))]
 fn word_topics() -> &'static [Topic]
     ensures { map spec.shown result.now ≡ spec.word_topics }
@@ -71,6 +74,7 @@ fn word_topics() -> &'static [Topic]
     &WORD_TOPICS
 }
 
+/// Returns the topics of the group 'refused'.
 #[tactic(auto, unfolding(crate::specs::Explain::refusal_topics))]
 fn refusal_topics() -> &'static [Topic]
     ensures { map spec.shown result.now ≡ spec.refusal_topics }
@@ -78,6 +82,7 @@ fn refusal_topics() -> &'static [Topic]
     &REFUSAL_TOPICS
 }
 
+/// Returns the topics of the group 'edits'.
 #[tactic(auto, unfolding(crate::specs::Explain::edit_topics))]
 fn edit_topics() -> &'static [Topic]
     ensures { map spec.shown result.now ≡ spec.edit_topics }
@@ -85,6 +90,7 @@ fn edit_topics() -> &'static [Topic]
     &EDIT_TOPICS
 }
 
+/// Returns the topics of the group 'in a file'.
 #[tactic(auto, unfolding(crate::specs::Explain::damage_topics))]
 fn damage_topics() -> &'static [Topic]
     ensures { map spec.shown result.now ≡ spec.damage_topics }
@@ -92,6 +98,7 @@ fn damage_topics() -> &'static [Topic]
     &DAMAGE_TOPICS
 }
 
+/// Returns the topics of the group 'warnings'.
 #[tactic(auto, unfolding(crate::specs::Explain::warning_topics))]
 fn warning_topics() -> &'static [Topic]
     ensures { map spec.shown result.now ≡ spec.warning_topics }
@@ -99,6 +106,7 @@ fn warning_topics() -> &'static [Topic]
     &WARNING_TOPICS
 }
 
+/// Returns the topics of the group 'results'.
 #[tactic(auto, unfolding(crate::specs::Explain::result_topics))]
 fn result_topics() -> &'static [Topic]
     ensures { map spec.shown result.now ≡ spec.result_topics }
@@ -106,6 +114,7 @@ fn result_topics() -> &'static [Topic]
     &RESULT_TOPICS
 }
 
+/// Returns the topics of the group 'general'.
 #[tactic(auto, unfolding(crate::specs::Explain::general_topics))]
 fn general_topics() -> &'static [Topic]
     ensures { map spec.shown result.now ≡ spec.general_topics }
@@ -113,7 +122,7 @@ fn general_topics() -> &'static [Topic]
     &GENERAL_TOPICS
 }
 
-/// Reads `explain [NAME]`.
+/// Parses the arguments of `explain [NAME]`.
 #[tactic(auto, unfolding(crate::specs::Explain::explain))]
 pub(crate) fn explain(alloc: Global, words: &[String]) -> Result<Command, ArgsEnd>
     ensures { Tells result (spec.explain (texts words.now)) }

@@ -17,7 +17,7 @@ use word_values::{
     ArgsEnd, Why, due_at, end_at, file_at, is_option, name, refused, track_and_rest, word_at,
 };
 
-/// Reads `extract FILE MODE ARGS`.
+/// Parses the arguments of `extract FILE MODE ARGS`.
 #[tactic(auto, unfolding(crate::specs::Extract::extract))]
 pub(crate) fn extract(alloc: Global, words: &[String]) -> Result<Command, ArgsEnd>
     ensures { Tells result (spec.extract (texts words.now)) }
@@ -50,7 +50,7 @@ static MODES: [Entry<Mode>; 5] = [
     Entry("", "chapters", Mode::Chapters),
 ];
 
-/// Returns the modes of `extract`.
+/// Returns the modes of `extract` with their names.
 #[tactic(auto, unfolding(crate::specs::Extract::modes))]
 pub(crate) fn modes() -> &'static [Entry<Mode>]
     ensures { map entry.shown result.now ≡ spec.modes }
@@ -109,7 +109,7 @@ fn tracks(alloc: Global, words: &[String]) -> Result<Job, ArgsEnd>
     }
 }
 
-/// Reads `--simple OUT`.
+/// Parses `--simple OUT`, the arguments after the mode `chapters`.
 #[tactic(auto, unfolding(crate::specs::Extract::chapters))]
 fn chapters(alloc: Global, words: &[String]) -> Result<Job, ArgsEnd>
     ensures { Tells result (spec.chapters (texts words.now)) }

@@ -143,7 +143,7 @@ static STEPS: [Entry<EditOptionKind>; 4] = [
     Entry("-d", "--delete", EditOptionKind::Edit(Change::Delete)),
 ];
 
-/// Returns the options of `propedit`.
+/// Returns the options of `propedit` with their spellings.
 #[tactic(auto, unfolding(crate::specs::Propedit::steps))]
 pub(crate) fn steps() -> &'static [Entry<EditOptionKind>]
     ensures { map entry.shown result.now ≡ spec.steps }
@@ -219,6 +219,8 @@ fn selector(word: &[u8]) -> Option<Selector>
     }
 }
 
+/// Returns the selector that follows `track:`: a position, a letter of a type and a position, `=` and a TrackUID, or
+/// `@` and a TrackNumber.
 #[tactic(auto, unfolding(crate::specs::Propedit::track))]
 fn track(word: &[u8]) -> Option<Selector>
     ensures { result ≡ spec.track word.now }
@@ -235,6 +237,7 @@ fn track(word: &[u8]) -> Option<Selector>
     }
 }
 
+/// Returns the selector of the track with the TrackType `kind` whose position, counted from 1, is in `word`.
 #[tactic(auto, unfolding(crate::specs::Propedit::typed))]
 fn typed(kind: u64, word: &[u8]) -> Option<Selector>
     ensures { result ≡ spec.typed kind word.now }
@@ -245,7 +248,7 @@ fn typed(kind: u64, word: &[u8]) -> Option<Selector>
     })
 }
 
-/// Reads a position, counted from 1.
+/// Reads a position among the tracks, counted from 1.
 #[tactic(auto, unfolding(crate::specs::Propedit::place))]
 fn place(word: &[u8]) -> Option<u64>
     ensures { result ≡ spec.place word.now }

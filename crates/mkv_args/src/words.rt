@@ -28,6 +28,7 @@ pub fn read_words(alloc: Global, words: &Vec<String>) -> Result<Command, ArgsEnd
     command(alloc, words.as_slice())
 }
 
+/// Parses the arguments, or returns the first wrong one with the reason.
 #[tactic(auto, unfolding(crate::specs::Words::command))]
 fn command(alloc: Global, words: &[String]) -> Result<Command, ArgsEnd>
     ensures { Tells result (spec.command (texts words.now)) }
@@ -89,7 +90,7 @@ fn first_command(alloc: Global, words: &[String]) -> Result<Command, ArgsEnd>
     }
 }
 
-/// Reads `--help`.
+/// Parses the arguments of `--help`, which may name a command.
 #[tactic(auto, unfolding(crate::specs::Words::alone))]
 fn help(words: &[String]) -> Result<Command, ArgsEnd>
     ensures { Tells result (spec.alone (Command.Help None) (texts words.now)) }
@@ -98,7 +99,7 @@ fn help(words: &[String]) -> Result<Command, ArgsEnd>
     Ok(Command::Help { about: None })
 }
 
-/// Reads `--version`.
+/// Parses the arguments of `--version`, which takes none.
 #[tactic(auto, unfolding(crate::specs::Words::alone))]
 fn version(words: &[String]) -> Result<Command, ArgsEnd>
     ensures { Tells result (spec.alone Command.Version (texts words.now)) }
@@ -107,7 +108,7 @@ fn version(words: &[String]) -> Result<Command, ArgsEnd>
     Ok(Command::Version)
 }
 
-/// Reads `info FILE`.
+/// Parses the arguments of `info FILE`.
 #[tactic(auto, unfolding(crate::specs::Words::info))]
 fn info(alloc: Global, words: &[String]) -> Result<Command, ArgsEnd>
     ensures { Tells result (spec.info (texts words.now)) }
@@ -118,7 +119,7 @@ fn info(alloc: Global, words: &[String]) -> Result<Command, ArgsEnd>
     })
 }
 
-/// Reads `recover FILE`.
+/// Parses the arguments of `recover FILE`.
 #[tactic(auto, unfolding(crate::specs::Words::recover))]
 fn recover(alloc: Global, words: &[String]) -> Result<Command, ArgsEnd>
     ensures { Tells result (spec.recover (texts words.now)) }
@@ -129,7 +130,7 @@ fn recover(alloc: Global, words: &[String]) -> Result<Command, ArgsEnd>
     })
 }
 
-/// Reads `reindex FILE`.
+/// Parses the arguments of `reindex FILE`.
 #[tactic(auto, unfolding(crate::specs::Words::reindex))]
 fn reindex(alloc: Global, words: &[String]) -> Result<Command, ArgsEnd>
     ensures { Tells result (spec.reindex (texts words.now)) }
@@ -154,6 +155,7 @@ fn generate(alloc: Global, words: &[String]) -> Result<Command, ArgsEnd>
     })
 }
 
+/// Returns the number of blocks in the argument `at` of `generate`.
 #[tactic(auto, unfolding(crate::specs::Words::blocks_at))]
 fn blocks_at(words: &[String], at: usize) -> Result<u32, ArgsEnd>
     ensures { Tells result (spec.blocks_at (texts words.now) at) }

@@ -22,6 +22,7 @@ abbrev pub read_stop : ReadEnd → CommandEnd
 read_stop read_end.ReadFault = stop.Files
 read_stop read_end.Memory = stop.Memory
 
+-- the reason why a command stops after a merge of blocks ended early
 abbrev pub stop_of : RemuxEnd → CommandEnd
 stop_of remux_end.ReadFault = stop.Files
 stop_of remux_end.WriteFault = stop.Files

@@ -10,11 +10,11 @@ pub record Counts : Type 0 where
   pub writing : ℕ
   pub report : ℕ
 
--- The files failed.
+-- The count of failed reads, or of failed writes, of files has increased.
 abbrev pub FilesRose : Counts → Counts → Type 0
 FilesRose old new = HasIncreased old.reading new.reading ⊎ HasIncreased old.writing new.writing
 
--- The report failed.
+-- The count of lines that couldn't be printed has increased.
 abbrev pub ReportRose : Counts → Counts → Type 0
 ReportRose old new = HasIncreased old.report new.report
 
@@ -26,7 +26,8 @@ HasStopCause old new (Err stop.Files) = FilesRose old new × (new.report ≡ old
 HasStopCause old new (Err stop.Disk) = ⊥
 HasStopCause old new (Err stop.Report) = ReportRose old new × (new ≡ record old { report = new.report })
 
--- The same for a call that only reads and prints lines, with the counts of reading and of the report.
+-- The reason why a call that only reads and prints lines stops. It is a fault only if the count of failed reads, or of failed prints, increased.
+-- The other count is unchanged.
 abbrev pub HasReadStop : {T : Type 0} → ℕ → ℕ → ℕ → ℕ → Result T CommandEnd → Type 0
 HasReadStop reading now report_was report (Ok _) = (now ≡ reading) × (report ≡ report_was)
 HasReadStop reading now report_was report (Err stop.Memory) = (now ≡ reading) × (report ≡ report_was)

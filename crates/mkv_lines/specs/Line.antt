@@ -8,47 +8,47 @@ use Rattle.mkv_lines.specs.Shown.{damage_text, element_text, level_0_name, level
 use Rattle.mkv_lines.specs.declared.line.Line.{Line}
 use Rattle.mkv_lines.specs.declared.line.Line.TheVariants.{Level0, Level1, Track, Refused, Warned, MoreDamages, MoreBadFrames, NoTrack, NoAttachment, NoExtractor, BadConfig, Missing, BadText, TextTooLarge, PendingEdit, OutputIsInput, AppendDiffers, NoLane, TooManyLanes, NotWebm, TooLarge, Wrote, WroteBlocks, Generated, UuidCount, Edited, Reindexed, EditRefused, NoRoom, EditTooLarge, Recovered, NothingToRecover, BadSidecar, Foreign, Word, FilesFault}
 
--- an Element at the top level of a file
+-- the line of `info` for an Element at the top level of a file
 abbrev pub level_0_line : Header → List ℕ
 level_0_line h = level_0_name h.id ++ place_text h
 
--- an Element of the Segment
+-- the line of `info` for an Element of the Segment
 abbrev pub level_1_line : Header → List ℕ
 level_1_line h = codes "  " ++ (level_1_name h.id ++ place_text h)
 
 -- ---- shapes of lines
 
--- a line with `head`, the name of a file, and its damage
+-- a line with `head`, the name of a file, and the damage `d`
 abbrev pub damaged_line : List ℕ → List ℕ → Damage → List ℕ
 damaged_line head name d = head ++ (shown_text name ++ (codes ": " ++ damage_text d))
 
--- a warning about a file with a count
+-- a warning about the file `name`, with the count `count` and the words `what` after it
 abbrev pub counted_line : List ℕ → ℕ → List ℕ → List ℕ
 counted_line name count what = codes "warning: " ++ (shown_text name ++ (codes ": " ++ (decimal count ++ what)))
 
--- a line with `head`, the name of a file, `what`, and a number
+-- a line with `head`, the name of a file, the words `what`, and a number
 abbrev pub numbered_line : List ℕ → List ℕ → List ℕ → ℕ → List ℕ
 numbered_line head name what number = head ++ (shown_text name ++ (what ++ decimal number))
 
--- a refusal of a file because of the Element `id`
+-- the line that refuses the file `name` for the reason `why` because of the Element `id`
 abbrev pub refused_element_line : List ℕ → List ℕ → ℕ → List ℕ
 refused_element_line name why id = codes "error: " ++ (shown_text name ++ (codes ": " ++ (why ++ element_text id)))
 
 -- ---- each line
 
--- the refusal of a file because of damage
+-- the line that refuses the file `name` because of the damage `d`
 abbrev pub refusal_line : List ℕ → Damage → List ℕ
 refusal_line name d = damaged_line (codes "error: ") name d
 
--- the warning of a damaged place
+-- the warning of the damaged place `d` in the file `name`
 abbrev pub warning_line : List ℕ → Damage → List ℕ
 warning_line name d = damaged_line (codes "warning: ") name d
 
--- the number of a file's damaged places beyond those that are reported each
+-- the warning that the file `name` has `more` damaged places beyond the ones that are reported each
 abbrev pub more_damages_line : List ℕ → ℕ → List ℕ
 more_damages_line name more = codes "warning: " ++ (shown_text name ++ (codes ": " ++ (decimal more ++ codes " more damages")))
 
--- the number of a file's frames that aren't written, beyond those that are reported each
+-- the warning that `more` frames of the file `name`, beyond the ones that are reported each, aren't written
 abbrev pub more_bad_frames_line : List ℕ → ℕ → List ℕ
 more_bad_frames_line name more = codes "warning: " ++ (shown_text name ++ (codes ": " ++ (decimal more ++ codes " more bad frames")))
 
@@ -64,137 +64,141 @@ damage_lines name first more = map (warning_line name) first ++ more_lines name 
 abbrev pub more_bad_lines : List ℕ → ℕ → List (List ℕ)
 more_bad_lines name more = if more == 0 then [] else more_bad_frames_line name more ∷ []
 
+-- a warning for each of the first frames that aren't written, and the line with the number of the others, if there are any
 abbrev pub bad_frame_lines : List ℕ → List Damage → ℕ → List (List ℕ)
 bad_frame_lines name first more = map (warning_line name) first ++ more_bad_lines name more
 
--- a file has no track with this index, counted from 0
+-- the warning that the file `name` has no track with the index `number`, counted from 0
 abbrev pub no_track_line : List ℕ → ℕ → List ℕ
 no_track_line name number = codes "warning: " ++ (shown_text name ++ (codes ": no track " ++ decimal number))
 
--- a file has no attached file with this number, counted from 1
+-- the warning that the file `name` has no attached file with the number `number`, counted from 1
 abbrev pub no_attachment_line : List ℕ → ℕ → List ℕ
 no_attachment_line name number = codes "warning: " ++ (shown_text name ++ (codes ": no attachment " ++ decimal number))
 
--- the codec of a track, counted from 0, has no known form of its own
+-- the line that refuses an extraction because the codec of the track `number`, counted from 0, has no form in a file of its own
 abbrev pub no_extractor_line : List ℕ → ℕ → List ℕ
 no_extractor_line name number = codes "error: " ++ (shown_text name ++ (codes ": NoExtractor, track " ++ decimal number))
 
--- the configuration that a track's codec needs is missing or invalid; tracks are counted from 0
+-- the line that refuses an extraction because the track `number`, counted from 0, lacks a valid configuration of its codec
 abbrev pub bad_config_line : List ℕ → ℕ → List ℕ
 bad_config_line name number = codes "error: " ++ (shown_text name ++ (codes ": BadConfig, track " ++ decimal number))
 
--- a file doesn't exist
+-- the line that refuses a run because the file `name` doesn't exist
 abbrev pub missing_line : List ℕ → List ℕ
 missing_line name = codes "error: " ++ (shown_text name ++ codes ": Missing")
 
--- a text file breaks its grammar in this line, or is too long
+-- the line that refuses the text file `name` because its line number `line` breaks the grammar
 abbrev pub bad_text_line : List ℕ → ℕ → List ℕ
 bad_text_line name line = codes "error: " ++ (shown_text name ++ (codes ": BadText, line " ++ decimal line))
 
+-- the line that refuses the text file `name` because it is too long
 abbrev pub text_too_large_line : List ℕ → List ℕ
 text_too_large_line name = codes "error: " ++ (shown_text name ++ codes ": TextTooLarge")
 
--- a file has a pending edit
+-- the line that refuses a run because the file `name` has a pending edit
 abbrev pub pending_edit_line : List ℕ → List ℕ
 pending_edit_line name = codes "error: " ++ (shown_text name ++ codes ": PendingEdit, run recover")
 
--- an output has the name of its own input
+-- the line that refuses a run because the output `name` has the name of a file that is read
 abbrev pub output_is_input_line : List ℕ → List ℕ
 output_is_input_line name = codes "error: " ++ (shown_text name ++ codes ": OutputIsInput")
 
--- a track of an appended input differs from the first track of its output track
+-- the line that refuses a merge because a track of the appended file `name` can't continue its output track; they differ in the Element `id`
 abbrev pub append_differs_line : List ℕ → ℕ → List ℕ
 append_differs_line name id = codes "error: " ++ (shown_text name ++ (codes ": " ++ (codes "AppendDiffers" ++ element_text id)))
 
--- an output would have no track, or too many
+-- the line that refuses a merge because its output would have no track
 abbrev pub no_lane_line : List ℕ
 no_lane_line = codes "error: NoLane"
 
+-- the line that refuses a merge because its output would have too many tracks
 abbrev pub too_many_lanes_line : List ℕ
 too_many_lanes_line = codes "error: TooManyLanes"
 
--- a codec isn't allowed in WebM
+-- the line that refuses a merge because WebM doesn't allow the codec `codec`
 abbrev pub not_webm_line : List ℕ → List ℕ
 not_webm_line codec = codes "error: NotWebm, " ++ shown_text codec
 
--- an Element would be too large in an output
+-- the line that refuses a merge because the Element `id` of the output `name` would be too large
 abbrev pub too_large_line : List ℕ → ℕ → List ℕ
 too_large_line name id = codes "error: " ++ (shown_text name ++ (codes ": " ++ (codes "HeaderTooLarge" ++ element_text id)))
 
--- an output is complete
+-- the line that reports that the output `name` is complete
 abbrev pub wrote_line : List ℕ → List ℕ
 wrote_line name = codes "wrote " ++ shown_text name
 
--- an output is complete and has this number of blocks
+-- the line that reports that the output `name` is complete and has `blocks` blocks
 abbrev pub wrote_blocks_line : List ℕ → ℕ → List ℕ
 wrote_blocks_line name blocks = wrote_line name ++ (codes ": " ++ (decimal blocks ++ codes " blocks"))
 
--- the files generated from `n`, and the counts of a merge of two: blocks, Clusters and cue points, and the parts of its split
+-- the line about the files that `generate n` has written: the blocks, Clusters and cue points of the merged file, and the number of its parts
 abbrev pub generated_line : ℕ → ℕ → ℕ → ℕ → ℕ → List ℕ
 generated_line n blocks clusters cues parts =
     codes "generated "
     ++ (decimal n ++ (codes ": " ++ (decimal blocks ++ (codes " blocks, " ++ (decimal clusters ++ (codes " clusters, "
     ++ (decimal cues ++ (codes " cues, " ++ (decimal parts ++ codes " parts")))))))))
 
--- the number of segment identifiers isn't the number of outputs
+-- the warning that `uuids` segment identifiers are given for `outputs` outputs
 abbrev pub uuid_count_line : ℕ → ℕ → List ℕ
 uuid_count_line uuids outputs = codes "warning: " ++ (decimal uuids ++ (codes " segment identifiers, " ++ (decimal outputs ++ codes " parts")))
 
--- the properties of a file are edited
+-- the line that reports that the properties of the file `name` are edited
 abbrev pub edited_line : List ℕ → List ℕ
 edited_line name = codes "edited " ++ shown_text name
 
--- the index of a file is rewritten, with `cues` cue points
+-- the line that reports that the file `name` has a new index with `cues` cue points
 abbrev pub reindexed_line : List ℕ → ℕ → List ℕ
 reindexed_line name cues = codes "reindexed " ++ (shown_text name ++ (codes ": " ++ (decimal cues ++ codes " cues")))
 
--- an edit of a file, counted from 1, is refused
+-- the line that refuses the edit number `edit`, counted from 1, of the file `name` for the reason `why`
 abbrev pub edit_refused_line : List ℕ → List ℕ → ℕ → List ℕ
 edit_refused_line name why edit = codes "error: " ++ (shown_text name ++ (codes ": " ++ (why ++ (codes ", edit " ++ decimal edit))))
 
--- the edits of a file need more room of one kind than it has
+-- the line that refuses edits of the file `name` for lack of room of the kind `why`: they need `need`, and there is `have`
 abbrev pub no_room_line : List ℕ → List ℕ → ℕ → ℕ → List ℕ
 no_room_line name why need have =
     codes "error: "
     ++ (shown_text name ++ (codes ": NoRoom, " ++ (why ++ (codes ", need " ++ (decimal need ++ (codes ", have " ++ decimal have))))))
 
--- the edits of a file would write too much
+-- the line that refuses edits of the file `name` which would write too much: `length` bytes, or `nodes` Elements in one
 abbrev pub edit_too_large_line : List ℕ → ℕ → ℕ → List ℕ
 edit_too_large_line name length nodes =
     codes "error: "
     ++ (shown_text name ++ (codes ": EditTooLarge, length " ++ (decimal length ++ (codes ", nodes " ++ decimal nodes))))
 
--- an interrupted edit of a file is completed
+-- the line that reports that the pending edit of the file `name` is completed
 abbrev pub recovered_line : List ℕ → List ℕ
 recovered_line name = codes "recovered " ++ shown_text name
 
--- a file has no pending edit
+-- the line that reports that the file `name` has no pending edit
 abbrev pub nothing_line : List ℕ → List ℕ
 nothing_line name = codes "nothing to recover in " ++ shown_text name
 
--- the journal of a file is invalid from a byte on
+-- the line that refuses the journal of the file `name`, which is invalid at the offset `offset`
 abbrev pub bad_sidecar_line : List ℕ → ℕ → List ℕ
 bad_sidecar_line name offset = codes "error: " ++ (shown_text name ++ (codes ": BadSidecar, offset " ++ decimal offset))
 
--- the journal belongs to another file
+-- the line that refuses the journal of the file `name` because it belongs to another file. They differ in the length or in a byte (`mark`), with
+-- the value `kept` in the journal and `found` in the file.
 abbrev pub foreign_line : List ℕ → Mark → ℕ → ℕ → List ℕ
 foreign_line name mark kept found =
     codes "error: "
     ++ (shown_text name ++ (codes ": Foreign, " ++ (mark_text mark ++ (codes ", kept " ++ (decimal kept ++ (codes ", found " ++ decimal found))))))
 
--- an argument is refused
+-- the line that refuses the argument number `word` for the reason `why`
 abbrev pub word_line : ℕ → List ℕ → List ℕ
 word_line word why = codes "error: word " ++ (decimal word ++ (codes ": " ++ why))
 
--- a fault of the files
+-- the line that reports that a read or a write of a file failed
 abbrev pub files_fault_line : List ℕ
 files_fault_line = codes "fault: files"
 
--- a fault of the disk
+-- the line that reports that a call on the edited file or its journal failed
 abbrev pub disk_fault_line : List ℕ
 disk_fault_line = codes "fault: disk"
 
--- the text of a message
+-- the text of the message `line`, as it is printed
 abbrev pub text_of : Line → List ℕ
 text_of (Level0 header) = level_0_line header
 text_of (Level1 header) = level_1_line header

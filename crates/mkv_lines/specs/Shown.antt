@@ -57,6 +57,7 @@ level_0_name id = unwrap_or (name_of id) (unknown_name id)
 abbrev pub level_1_name : ℕ → List ℕ
 level_1_name id = if may_stand id SEGMENT then unwrap_or (name_of id) (unknown_name id) else unknown_name id
 
+-- the size of an Element's body in decimal, or the word for an unknown size
 abbrev pub size_text : Size → List ℕ
 size_text (Known n) = decimal n
 size_text Unknown = codes "unknown"
@@ -65,6 +66,7 @@ size_text Unknown = codes "unknown"
 abbrev pub place_text : Header → List ℕ
 place_text h = codes " at " ++ (decimal h.offset ++ (codes " size " ++ size_text h.size))
 
+-- the kind, the Element and the offset of damage, as a message prints them
 abbrev pub damage_text : Damage → List ℕ
 damage_text d = kind_name d.kind ++ (codes ", element " ++ (damaged_id d.id ++ (codes ", offset " ++ decimal d.offset)))
 

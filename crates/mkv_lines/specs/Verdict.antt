@@ -17,10 +17,12 @@ pub data WrittenOutputs : Type 0 where
   at_once : List Output → WrittenOutputs
   in_turn : List Draft → WrittenOutputs
 
+-- the outputs as a list of names and contents
 abbrev pub list_of : WrittenOutputs → List Output
 list_of (at_once all) = all
 list_of (in_turn all) = outputs_of all
 
+-- the outputs of a run that writes none
 abbrev pub nothing : WrittenOutputs
 nothing = at_once []
 

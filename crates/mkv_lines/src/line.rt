@@ -274,6 +274,7 @@ impl fmt::Display for Line<'_> {
     }
 }
 
+// Writes the line of an element of level 0.
 fn level_0<W: fmt::Write>(f: &mut fmt::Formatter<W>, header: Header) -> fmt::Result
     ensures { WritesOnOk W.write_str_gives f.old result (level_0_line header) f.new }
 {
@@ -281,6 +282,7 @@ fn level_0<W: fmt::Write>(f: &mut fmt::Formatter<W>, header: Header) -> fmt::Res
     write!(f, "{name}{place}")
 }
 
+// Writes the line of an element of level 1.
 fn level_1<W: fmt::Write>(f: &mut fmt::Formatter<W>, header: Header) -> fmt::Result
     ensures { WritesOnOk W.write_str_gives f.old result (level_1_line header) f.new }
 {
@@ -288,6 +290,7 @@ fn level_1<W: fmt::Write>(f: &mut fmt::Formatter<W>, header: Header) -> fmt::Res
     write!(f, "  {name}{place}")
 }
 
+// Writes a line about damage of the file `name`; `head` is the start of the line.
 fn damaged<W: fmt::Write>(
     f: &mut fmt::Formatter<W>,
     head: &str,
@@ -300,6 +303,7 @@ fn damaged<W: fmt::Write>(
     write!(f, "{head}{name}: {damage}")
 }
 
+// Writes the line that warns of `count` further places of the kind `what` in the file `name`.
 fn counted<W: fmt::Write>(
     f: &mut fmt::Formatter<W>,
     name: &str,
@@ -312,6 +316,8 @@ fn counted<W: fmt::Write>(
     write!(f, "warning: {name}: {count}{what}")
 }
 
+// Writes a line about the item number `number` of the file `name`. `head` is the start of the line, and `what` the
+// words before the number.
 fn numbered<W: fmt::Write>(
     f: &mut fmt::Formatter<W>,
     head: &str,
@@ -325,6 +331,7 @@ fn numbered<W: fmt::Write>(
     write!(f, "{head}{name}{what}{number}")
 }
 
+// Writes a line about the file `name`, with `head` before the name and `tail` after it.
 fn named<W: fmt::Write>(
     f: &mut fmt::Formatter<W>,
     head: &str,
@@ -337,6 +344,7 @@ fn named<W: fmt::Write>(
     write!(f, "{head}{name}{tail}")
 }
 
+// Writes a line that ends with the name `name`, with `head` before it.
 fn headed<W: fmt::Write>(f: &mut fmt::Formatter<W>, head: &str, name: &str) -> fmt::Result
     ensures { WritesOnOk W.write_str_gives f.old result (head.now ++ shown_text name.now) f.new }
 {
@@ -344,6 +352,7 @@ fn headed<W: fmt::Write>(f: &mut fmt::Formatter<W>, head: &str, name: &str) -> f
     write!(f, "{head}{name}")
 }
 
+// Writes the line of a refusal because of the element `id` in the file `name`.
 fn of_element<W: fmt::Write>(
     f: &mut fmt::Formatter<W>,
     name: &str,
@@ -356,6 +365,7 @@ fn of_element<W: fmt::Write>(
     write!(f, "error: {name}: {why}{element}")
 }
 
+// Writes the line about the complete output `name` with its number of blocks.
 fn wrote_blocks<W: fmt::Write>(f: &mut fmt::Formatter<W>, name: &str, blocks: u64) -> fmt::Result
     ensures { WritesOnOk W.write_str_gives f.old result (wrote_blocks_line name.now blocks) f.new }
 {
@@ -363,6 +373,7 @@ fn wrote_blocks<W: fmt::Write>(f: &mut fmt::Formatter<W>, name: &str, blocks: u6
     write!(f, "wrote {name}: {blocks} blocks")
 }
 
+// Writes the line about the file `name`, which has a new index of `cues` cue points.
 fn reindexed<W: fmt::Write>(f: &mut fmt::Formatter<W>, name: &str, cues: u64) -> fmt::Result
     ensures { WritesOnOk W.write_str_gives f.old result (reindexed_line name.now cues) f.new }
 {
@@ -370,6 +381,8 @@ fn reindexed<W: fmt::Write>(f: &mut fmt::Formatter<W>, name: &str, cues: u64) ->
     write!(f, "reindexed {name}: {cues} cues")
 }
 
+// Writes the line about the files of `generate n`: the blocks, Clusters and cue points of the merged file, and its
+// number of parts.
 fn generated<W: fmt::Write>(
     f: &mut fmt::Formatter<W>,
     n: u32,
@@ -386,12 +399,14 @@ fn generated<W: fmt::Write>(
     )
 }
 
+// Writes the warning that the number of segment identifiers isn't the number of outputs.
 fn uuid_count<W: fmt::Write>(f: &mut fmt::Formatter<W>, uuids: u64, outputs: u64) -> fmt::Result
     ensures { WritesOnOk W.write_str_gives f.old result (uuid_count_line uuids outputs) f.new }
 {
     write!(f, "warning: {uuids} segment identifiers, {outputs} parts")
 }
 
+// Writes the line that refuses the edit number `edit` of the file `name`.
 fn edit_refused<W: fmt::Write>(
     f: &mut fmt::Formatter<W>,
     name: &str,
@@ -404,6 +419,8 @@ fn edit_refused<W: fmt::Write>(
     write!(f, "error: {name}: {why}, edit {edit}")
 }
 
+// Writes the line that refuses an edit of the file `name` for lack of room of the kind `why`. It needs `need`, and
+// there is `have`.
 fn no_room<W: fmt::Write>(
     f: &mut fmt::Formatter<W>,
     name: &str,
@@ -417,6 +434,7 @@ fn no_room<W: fmt::Write>(
     write!(f, "error: {name}: NoRoom, {why}, need {need}, have {have}")
 }
 
+// Writes the line that refuses an edit of the file `name` with too many bytes or elements to write.
 fn edit_too_large<W: fmt::Write>(
     f: &mut fmt::Formatter<W>,
     name: &str,
@@ -432,6 +450,7 @@ fn edit_too_large<W: fmt::Write>(
     )
 }
 
+// Writes the line that refuses a journal of the file `name` which was made for another file.
 fn foreign<W: fmt::Write>(
     f: &mut fmt::Formatter<W>,
     name: &str,

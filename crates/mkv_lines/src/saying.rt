@@ -38,7 +38,7 @@ pub fn say_text<R: Report>(report: &mut R, text: &str) -> Result<(), CommandEnd>
     }
 }
 
-/// Prints `why` and returns the status of a refusal.
+/// Prints the reason `why` of a refusal, and returns the status `Refused`.
 pub fn refuse<R: Report>(alloc: Global, why: &Line, report: &mut R) -> Result<Status, CommandEnd>
     ensures verdict { SaysVerdict (R.lines report.old) (R.lines report.new) result (refused (text_of why.now)) }
     ensures ordinary { IfOk result IsOrdinary }
@@ -49,7 +49,7 @@ pub fn refuse<R: Report>(alloc: Global, why: &Line, report: &mut R) -> Result<St
     Ok(Status::Refused)
 }
 
-/// Prints that the files failed. It takes no memory.
+/// Prints the message `fault: files`: a read or a write of a file failed. It takes no memory.
 pub fn say_files_fault<R: Report>(report: &mut R) -> Result<(), CommandEnd>
     ensures said { Says (R.lines report.old) (R.lines report.new) (files_fault_line ∷ []) result }
     ensures memory { result ≡ Err CommandEnd.Memory → ⊥ }
@@ -58,7 +58,8 @@ pub fn say_files_fault<R: Report>(report: &mut R) -> Result<(), CommandEnd>
     say_text(report, "fault: files")
 }
 
-/// Prints that the disk failed. It takes no memory.
+/// Prints the message `fault: disk`: a call on the file that is edited in place, or on its journal, failed. `run`
+/// prints it before it ends with the status of an I/O failure. It takes no memory.
 pub fn say_disk_fault<R: Report>(report: &mut R) -> Result<(), CommandEnd>
     ensures said { Says (R.lines report.old) (R.lines report.new) (disk_fault_line ∷ []) result }
     ensures memory { result ≡ Err CommandEnd.Memory → ⊥ }

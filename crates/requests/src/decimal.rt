@@ -23,7 +23,7 @@ pub fn whole(word: &[u8]) -> Option<u64>
     Some(value)
 }
 
-/// Reads 1 to 18 digits.
+/// Reads a decimal number of 1 to 18 digits.
 #[tactic(auto, using(crate::proofs::DecimalLemmas::whole_short), unfolding(crate::specs::Decimal::number))]
 pub fn number(word: &[u8]) -> Option<u64>
     ensures { result ≡ spec.number word.now }

@@ -19,6 +19,7 @@ TellsOf view (Ok x) meant = meant ≡ Ok (view x)
 TellsOf view (Err (args_end.Usage usage)) meant = meant ≡ Err usage
 TellsOf view (Err args_end.Memory) meant = Unit {0}
 
+-- The result of parsing is the meaning `meant` of the command line, or its first wrong argument with the reason.
 abbrev pub Tells : {X : Type 0} → Result X ArgsEnd → Result X Usage → Type 0
 Tells {X} result meant = TellsOf (λ (x : X). x) result meant
 
@@ -32,6 +33,7 @@ refuses word why = Err (args_end.Usage (record { word = word; why = why }))
 
 -- the next step, if nothing was wrong before
 infixl 10 ◌>>=◌
+-- the next step `f` on a value, if nothing was wrong before
 abbrev pub ◌>>=◌ : {A B : Type 0} → Result A Usage → (A → Result B Usage) → Result B Usage
 (Ok x) >>= f = f x
 (Err e) >>= f = Err e

@@ -14,7 +14,7 @@ use Rattle.word_values.specs.Numbers.{from, size, time, uuid}
 use Rattle.requests.specs.Decimal.{number}
 pub use Rattle.requests.specs.Lists.{ascend, ends_before, follow, differ}
 
--- the parts between the commas
+-- the parts of an argument between its commas
 abbrev pub pieces : List ℕ → List (List ℕ)
 pieces word = slice_split (λ b. b == COMMA) word
 
@@ -34,7 +34,7 @@ abbrev pub passing : {X : Type 0} → (X → Bool) → Option X → Option X
 passing test None = None
 passing test (Some x) = if test x then Some x else None
 
--- numbers, at least one
+-- the numbers in an argument, one or more, with commas between them
 unfoldable pub numbers : List ℕ → Option (List ℕ)
 numbers word = each number (pieces word)
 
@@ -42,11 +42,11 @@ numbers word = each number (pieces word)
 unfoldable pub ids : List ℕ → Option Select
 ids word = if slice_index word 0 == char "!" then option_map AllBut (numbers (drop 1 word)) else option_map These (numbers word)
 
--- times, each above the previous one
+-- the times in an argument, each above the previous one
 unfoldable pub times : List ℕ → Option (List ℕ)
 times word = passing ascend (each time (pieces word))
 
--- `a-b`, or `a-` for a time span without end
+-- the time span whose start and end are the two parts of an argument; an empty end means that there is none
 abbrev pub span_of : List ℕ × List ℕ → Option SpanWords
 span_of (start, []) = option_map (λ s. record { start = s; end = None }) (time start)
 span_of (start, e ∷ es) = do
@@ -54,6 +54,7 @@ span_of (start, e ∷ es) = do
   t ← time (e ∷ es)
   Some (record { start = s; end = Some t })
 
+-- the time span that the argument `a-b`, or `a-` without an end, gives
 unfoldable pub span : List ℕ → Option SpanWords
 span word = cut DASH word >>= span_of
 
@@ -61,15 +62,15 @@ span word = cut DASH word >>= span_of
 unfoldable pub spans : List ℕ → Option (List SpanWords)
 spans word = passing (follow 0) (each span (pieces word))
 
--- identifiers, 1 to 1024, all different
+-- the identifiers in an argument, 1 to 1024, all different
 unfoldable pub uuids : List ℕ → Option (List ℕ)
 uuids word = passing (λ us. nat_le (length us) 1024 && differ us) (each uuid (pieces word))
 
--- a time above 0
+-- the split into parts of the duration that an argument gives, above 0
 unfoldable pub duration : List ℕ → Option SplitWords
 duration word = option_map Duration (from 1 (time word))
 
--- `all`, or the numbers of chapters
+-- the split at all chapters (`all`), or at the chapters whose numbers an argument gives
 unfoldable pub chapters : List ℕ → Option SplitWords
 chapters word = if bytes_eq word (codes "all") then Some AllChapters else option_map Chapters (numbers word)
 
@@ -83,6 +84,6 @@ split_of kind rest =
     else if bytes_eq kind (codes "size") then option_map Size (size rest)
     else None
 
--- the value of `--split`
+-- the split that the value of `--split` gives
 unfoldable pub split : List ℕ → Option SplitWords
 split word = cut COLON word >>= (λ p. split_of p.0 p.1)

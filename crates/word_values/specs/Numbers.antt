@@ -13,17 +13,17 @@ abbrev pub from : ℕ → Option ℕ → Option ℕ
 from least None = None
 from least (Some n) = if nat_le least n then Some n else None
 
--- milliseconds, as nanoseconds below 2^55
+-- the size of a delay in nanoseconds, below 2^55, that an argument gives in milliseconds
 unfoldable pub delay_size : List ℕ → Option ℕ
 delay_size word = below (2 ^ 55) (option_map (λ n. n * 1000000) (number word))
 
--- milliseconds with or without `-`
+-- the delay in nanoseconds that an argument gives in milliseconds, with or without `-`
 unfoldable pub delay : List ℕ → Option ℤ
 delay word =
     if slice_index word 0 == DASH then option_map (λ n. neg_ℤ (pos n)) (delay_size (drop 1 word))
     else option_map pos (delay_size word)
 
--- two digits, below 60
+-- the number of minutes or seconds in two digits, below 60
 unfoldable pub minutes_or_seconds : List ℕ → Option ℕ
 minutes_or_seconds word = if length word == 2 then below 60 (whole word) else None
 
@@ -39,6 +39,7 @@ second_parts word (Some p) = do
   f ← fraction p.1
   Some (n * 1000000000 + f)
 
+-- the number of nanoseconds that the argument SS, or SS.n, gives
 unfoldable pub seconds : List ℕ → Option ℕ
 seconds word = second_parts word (cut POINT word)
 

@@ -23,7 +23,7 @@ flag_of form.Flag = Some Flag
 flag_of form.Exclusion = Some (Tracks select.Off)
 flag_of _ = None
 
--- a word without a zero byte
+-- the text of an argument without a zero byte
 unfoldable pub text : List ℕ → Option (List ℕ)
 text word = if list_any (λ b. b == 0) word then None else Some word
 
@@ -31,7 +31,7 @@ text word = if list_any (λ b. b == 0) word then None else Some word
 abbrev pub is_language : List ℕ → Bool
 is_language word = length word == 3 && list_all is_ascii_lowercase word
 
--- a word of three lower-case letters
+-- the language code of three lower-case letters in an argument
 unfoldable pub language : List ℕ → Option (List ℕ)
 language word = if is_language word then Some word else None
 

@@ -34,6 +34,7 @@ impl Piece for NumberPiece {
 
     ghost spelled = { numbers.number };
 
+    /// Reads a number.
     fn read(word: &[u8]) -> Option<u64> {
         number(word)
     }
@@ -46,6 +47,7 @@ impl Piece for TimePiece {
 
     ghost spelled = { numbers.time };
 
+    /// Reads a time in nanoseconds.
     fn read(word: &[u8]) -> Option<u64> {
         time(word)
     }
@@ -58,6 +60,7 @@ impl Piece for UuidPiece {
 
     ghost spelled = { numbers.uuid };
 
+    /// Reads an identifier of 32 hexadecimal digits.
     fn read(word: &[u8]) -> Option<u128> {
         uuid(word)
     }
@@ -70,6 +73,7 @@ impl Piece for SpanPiece {
 
     ghost spelled = { spec.span };
 
+    /// Reads a time span.
     fn read(word: &[u8]) -> Option<SpanWords> {
         span(word)
     }
@@ -95,7 +99,7 @@ fn list_of<P: Piece>(alloc: Global, word: &[u8]) -> Result<List<P::Value>, Value
     Ok(list)
 }
 
-/// Reads numbers, at least one.
+/// Reads a list of one or more numbers with commas between them.
 #[tactic(auto, unfolding(crate::specs::Lists::numbers))]
 pub(crate) fn numbers(alloc: Global, word: &[u8]) -> Result<List<u64>, ValueEnd>
     ensures { ReadsValue result (spec.numbers word.now) }
@@ -249,7 +253,7 @@ pub(crate) fn split(alloc: Global, word: &str) -> Result<SplitWords, ValueEnd>
     }
 }
 
-/// Reads a time above 0.
+/// Reads a duration above 0, as a split into parts of this length.
 #[tactic(auto, unfolding(crate::specs::Lists::duration))]
 fn duration(word: &[u8]) -> Option<SplitWords>
     ensures { result ≡ spec.duration word.now }

@@ -53,6 +53,7 @@ pub(crate) fn delay(word: &[u8]) -> Option<i64>
     }
 }
 
+/// Reads a delay in milliseconds, without its sign, and returns it in nanoseconds. It must be below the limit.
 #[tactic(auto, unfolding(crate::specs::Numbers::delay_size))]
 fn delay_size(word: &[u8]) -> Option<u64>
     ensures same { result ≡ spec.delay_size word.now }
@@ -74,6 +75,7 @@ pub(crate) fn time(word: &[u8]) -> Option<u64>
     if time < TIME_LIMIT { Some(time) } else { None }
 }
 
+/// Reads hours, minutes and seconds with colons between them, and returns nanoseconds.
 #[tactic(auto, unfolding(crate::specs::Numbers::clock))]
 fn clock(word: &[u8]) -> Option<u64>
     ensures { result ≡ below (2 ^ 64) (spec.clock word.now) }
@@ -90,7 +92,7 @@ fn clock(word: &[u8]) -> Option<u64>
         .checked_add(rest)
 }
 
-/// Reads two digits, below 60.
+/// Reads two digits of minutes or seconds, which are below 60.
 #[tactic(auto, unfolding(crate::specs::Numbers::minutes_or_seconds))]
 fn minutes_or_seconds(word: &[u8]) -> Option<u64>
     ensures same { result ≡ spec.minutes_or_seconds word.now }

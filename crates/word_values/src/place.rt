@@ -19,6 +19,7 @@ pub fn word_at(words: &[String], at: usize) -> Option<&str>
     }
 }
 
+// Returns the argument at the index `at`, if there is one.
 fn text_at(words: &[String], at: usize) -> Option<&str>
     ensures { option_map (λ w. w.now) result ≡ slice_get (texts words.now) at }
 {
@@ -56,7 +57,7 @@ pub fn end_at(words: &[String], at: usize) -> Result<(), ArgsEnd>
     Ok(())
 }
 
-/// Refuses the argument with number `word`.
+/// Returns the refusal of the argument number `word` for the reason `why`.
 pub fn refused<T>(word: usize, why: Why) -> Result<T, ArgsEnd>
     ensures { result ≡ refuses word why }
 {

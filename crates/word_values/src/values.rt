@@ -161,7 +161,7 @@ fn text(alloc: Global, word: &str) -> Result<Text, ValueEnd>
     Ok(name(alloc, word)?)
 }
 
-/// Reads three lower-case letters.
+/// Reads a language code of three lower-case letters.
 #[tactic(auto, unfolding(crate::specs::Values::language))]
 fn language(alloc: Global, word: &str) -> Result<Text, ValueEnd>
     ensures { ReadsValue result (spec.language word.now) }
@@ -172,19 +172,21 @@ fn language(alloc: Global, word: &str) -> Result<Text, ValueEnd>
     Ok(name(alloc, word)?)
 }
 
+/// Checks whether a value is a language code of three lower-case letters.
 fn is_language(word: &[u8]) -> bool
     ensures { result ≡ spec.is_language word.now }
 {
     word.len() == 3 && are_lowercase(word)
 }
 
+/// Checks whether all bytes are lower-case letters of ASCII.
 fn are_lowercase(word: &[u8]) -> bool
     ensures { result ≡ list_all is_ascii_lowercase word.now }
 {
     word.iter().all(|b| b.is_ascii_lowercase())
 }
 
-/// Reads the nanoseconds in a tick.
+/// Reads the number of nanoseconds in a tick.
 #[tactic(auto, unfolding(crate::specs::Values::scale))]
 fn scale(word: &[u8]) -> Option<Value>
     ensures { result ≡ spec.scale word.now }
@@ -234,6 +236,7 @@ fn track_flag(word: &str) -> Option<Value>
     }
 }
 
+/// Returns the choice of cue points that an argument spells.
 #[tactic(auto, unfolding(crate::specs::Values::cue_word))]
 fn cue_word(word: &str) -> Option<CueWord>
     ensures { result ≡ spec.cue_word word.now }
