@@ -85,7 +85,7 @@ numbers_upto-at k [] d n blocks b below = absurd (omega arith)
 numbers_upto-at zero (o ∷ os) d n blocks b below = refl
 numbers_upto-at (suc k) (o ∷ os) d n blocks b below = numbers_upto-at k os d n blocks b (omega arith)
 
--- The same holds for the numbers in memory.
+-- The number of output `k` in memory is the number after its blocks.
 pub numbers-at : (numbers : List ℕ) (k n : ℕ) (list : List TrackOutput) (o : TrackOutput) (blocks : List Block) (b : Block) → numbers ≡ numbers_upto k list blocks b → k < length list → o ≡ get_or list k o → n ≡ get_or numbers k n → n ≡ number_after blocks o
 numbers-at numbers k n list o blocks b are below is at =
     at ∙ ap (λ (ns : List ℕ). get_or ns k n) are ∙ numbers_upto-at k list o n blocks b below ∙ ap (number_after blocks) (sym is)

@@ -127,7 +127,7 @@ entries_left-next o number step time duration sizes body i at size n f below is 
     stands : (m : ℕ) → n ≡ counted m → counted m ≡ counted n
     stands m same = omega (arith, same)
 
--- The same holds for the frame and the time that a loop computes.
+-- The next entry is the first of the rest, for the frame and the time that a loop computes.
 pub entries_left-found : (o : TrackOutput) (number : ℕ) (time : ℤ) (duration : ℕ) (sizes body : List ℕ) (i at n : ℕ) (found : ℤ) → i < length sizes → n ≡ counted (number + i) → SFits w64 found → found ≡ time +ℤ pos (i * o.step) → entries_left o number o.step time duration sizes body i at ≡ entry_of o n (framed (take ((at + get_or sizes i 0) - at) (drop at body)) (to_z w64 (of_z w64 found)) duration) ++ entries_left o number o.step time duration sizes body (i + 1) (at + get_or sizes i 0)
 entries_left-found o number time duration sizes body i at n found below named fits is =
     entries_left-next o number o.step time duration sizes body i at (get_or sizes i 0) n (framed (take ((at + get_or sizes i 0) - at) (drop at body)) (to_z w64 (of_z w64 found)) duration) below refl named
@@ -188,7 +188,7 @@ times_left-next step time i n below = ap (times_left step time i) (one n i below
     one : (n i : ℕ) → i < n → n - i ≡ suc (n - (i + 1))
     one n i below = omega (arith, below)
 
--- The same holds for the time that a loop computes.
+-- The next line is the first of the rest, for the time that a loop computes.
 pub times_left-found : (step : ℕ) (time : ℤ) (i n : ℕ) (found : ℤ) → i < n → SFits w64 found → found ≡ time +ℤ pos (i * step) → times_left step time i (n - i) ≡ time_line (to_z w64 (of_z w64 found)) ++ times_left step time (i + 1) (n - (i + 1))
 times_left-found step time i n found below fits is =
     times_left-next step time i n below ∙ ap (λ (t : ℤ). time_line t ++ times_left step time (i + 1) (n - (i + 1))) (sym (to_z-of_z w64 found fits ∙ is))

@@ -77,7 +77,7 @@ made-next list k o below is =
     ∙ ap (λ (last : Output). outputs_of (take k list) [] ++ last ∷ []) (sym (output_of-none o))
     ∙ sym (outputs_of-next list k o below is)
 
--- The same holds for the bytes of its name and head.
+-- A further output is created with its first bytes, if its name and head are known by their bytes.
 pub made-next-as : (list : List TrackOutput) (k : ℕ) (o : TrackOutput) (name head : List ℕ) → k < length list → o ≡ get_or list k o → name ≡ o.name → head ≡ o.head → with_more k head (with_empty name (outputs_of (take k list) [])) ≡ outputs_of (take (k + 1) list) []
 made-next-as list k o name head below is named headed =
     ap (λ (n : List ℕ). with_more k head (with_empty n (outputs_of (take k list) []))) named

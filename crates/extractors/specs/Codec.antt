@@ -24,12 +24,15 @@ times_head = codes "# timestamp format v2\n"
 
 -- ---- the codecs
 
+-- the CodecID of SubRip subtitles
 abbrev pub subrip_codec : List ℕ
 subrip_codec = codes "S_TEXT/UTF8"
 
+-- the CodecID of H.264 video
 abbrev pub avc_codec : List ℕ
 avc_codec = codes "V_MPEG4/ISO/AVC"
 
+-- the CodecID of AAC audio
 abbrev pub aac_codec : List ℕ
 aac_codec = codes "A_AAC"
 
@@ -38,7 +41,7 @@ abbrev pub avc_coding : Option Avc → Result Coding UnsupportedTrack
 avc_coding None = Err BadConfig
 avc_coding (Some avc) = Ok (record { head = byte_stream avc.sets; form = form.AnnexB avc.length_size })
 
--- each frame after its header
+-- the form of frames of AAC, each after its header, or the reason why the configuration can't be used
 abbrev pub aac_coding : Option Aac → Result Coding UnsupportedTrack
 aac_coding None = Err BadConfig
 aac_coding (Some aac) = Ok (record { head = []; form = form.Adts aac })

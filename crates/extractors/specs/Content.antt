@@ -46,14 +46,14 @@ entries_of o frames = entries_from o 1 frames
 abbrev pub content_of : TrackOutput → List Block → List ℕ
 content_of o blocks = o.head ++ entries_of o (frames_of o.step o.track blocks)
 
--- the complete output
+-- the complete output of the track that `o` takes, if the file has `blocks`
 abbrev pub output_of : TrackOutput → List Block → Output
 output_of o blocks = record { name = o.name; content = content_of o blocks }
 
--- the complete outputs
+-- the complete outputs of `list`, if the file has `blocks`
 abbrev pub outputs_of : List TrackOutput → List Block → List Output
 outputs_of list blocks = map (λ (o : TrackOutput). output_of o blocks) list
 
--- the names of the outputs
+-- the names of the outputs in `list`
 abbrev pub names_in : List TrackOutput → List (List ℕ)
 names_in list = map (λ (o : TrackOutput). o.name) list

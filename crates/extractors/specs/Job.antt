@@ -43,7 +43,7 @@ names_for (jobs.Attachments list) = names_of list
 names_for (jobs.Cues list) = names_of list
 names_for (jobs.Chapters name) = name ∷ []
 
--- Attached files are counted from 1.
+-- The targets of a job for attached files have numbers of at least 1.
 abbrev pub AreNumbered : Job → Type 0
 AreNumbered (jobs.Tracks form list) = ⊤
 AreNumbered (jobs.Attachments list) = All (λ (t : Target). 1 ≤ t.id) list
@@ -106,6 +106,7 @@ output_for kind t (Some entry) = track_output t.name entry (coding_of kind entry
 abbrev pub outputs_for : Form → List Target → List Node → List TrackOutput
 outputs_for kind targets entries = flat_map (λ (t : Target). output_for kind t (slice_get entries t.id)) targets
 
+-- the outputs of the targets in the form that a job asks for; none for a job that doesn't write frames
 abbrev pub outputs_taken : Option Form → List Target → List Node → List TrackOutput
 outputs_taken None targets entries = []
 outputs_taken (Some kind) targets entries = outputs_for kind targets entries
@@ -119,5 +120,6 @@ abbrev pub refusal_taken : Option Form → List Target → List Node → Option 
 refusal_taken None targets entries = None
 refusal_taken (Some kind) targets entries = refusal_of (first_unfit NoExtractor kind targets entries) (first_unfit BadConfig kind targets entries)
 
+-- the refusal of a job for one of the tracks that it names, if any
 abbrev pub job_refusal : Job → List Node → Option Refusal
 job_refusal job entries = refusal_taken (form_of job) (targets_of job) entries

@@ -12,7 +12,7 @@ abbrev pub number_or_dash : Option ℕ → List ℕ
 number_or_dash None = codes "-"
 number_or_dash (Some n) = decimal n
 
--- a name, followed by a number
+-- a label, followed by a number, or by `-` if there is none
 abbrev pub labelled : List ℕ → Option ℕ → List ℕ
 labelled name number = name ++ number_or_dash number
 
@@ -31,7 +31,7 @@ cue_line time place =
 abbrev pub place_lines : Option ℕ → ℕ → Node → List ℕ
 place_lines time track place = if option_map_or (λ own. own == track) (integer_in CUE_TRACK place) false then cue_line time place else []
 
--- the lines of one cue point
+-- the lines of one CuePoint, one for each position of the track
 abbrev pub point_lines : ℕ → ℕ → Node → List ℕ
 point_lines scale track point = flat_map (place_lines (point_time scale point) track) (part CUE_TRACK_POSITIONS (children point))
 

@@ -55,5 +55,6 @@ IsUsable entry = first_damage (usable_causes entry) ≡ None
 abbrev pub AreUsableOf : List Node → List Target → Type 0
 AreUsableOf entries targets = All (λ (t : Target). IfSome (slice_get entries t.id) IsUsable) targets
 
+-- The frames of the targets' tracks in the source `s` can be used.
 abbrev pub AreUsable : Source → List Target → Type 0
 AreUsable s targets = AreUsableOf (entries_in s) targets

@@ -44,7 +44,7 @@ pub record IsEnoughFor (o : TrackOutput) (b : Block) (lent : Buffered) : Type 0 
   pub track : b.track ≡ lent.head.track
   pub own : lent.head.track ≡ o.track → IsEnough o.form b lent
 
--- The same holds for each output of the list.
+-- The track of block `b` is known, and for each output of `list` that takes this track, enough of the block is known.
 pub record IsEnoughForAll (list : List TrackOutput) (b : Block) (lent : Buffered) : Type 0 where
   pub track : b.track ≡ lent.head.track
   pub each : All (λ (o : TrackOutput). IsEnoughFor o b lent) list

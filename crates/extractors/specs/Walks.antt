@@ -92,7 +92,7 @@ CountsTimes o n c result = (b : Block) → IsKnownByHead b c.block → IfOk resu
 abbrev pub AddsPart : {S T E : Type 0} → writing.Ghosts S → TrackOutput → ℕ → Reading → S → S → List Sink → List Sink → ℕ → Result T E → Type 0
 AddsPart f o n c old new sinks later k result = (b : Block) → IsEnoughFor o b c.block → Adds f old new sinks later k (piece o n b) result
 
--- The result is the number of the next frame of the output.
+-- The result is the number of the output's next frame after a block, if it was `n` before it.
 abbrev pub CountsPiece : {E : Type 0} → TrackOutput → ℕ → Reading → Result ℕ E → Type 0
 CountsPiece o n c result = (b : Block) → IsEnoughFor o b c.block → IfOk result (λ next. next ≡ counted (n + count_in o b))
 
@@ -102,10 +102,11 @@ TellsBad list c old new = (b : Block) → IsEnoughForAll list b c.block → Tell
 
 -- ---- many blocks
 
--- the number of the next frame of an output that has these blocks
+-- the number of the next frame of the output `o` after it has been given `blocks`; the first frame has the number 1
 abbrev pub number_after : List Block → TrackOutput → ℕ
 number_after blocks o = counted (1 + length (frames_of o.step o.track blocks))
 
+-- the numbers of the next frames of the outputs `list` after `blocks`, one for each output
 abbrev pub numbers_after : List TrackOutput → List Block → List ℕ
 numbers_after list blocks = map (number_after blocks) list
 
@@ -114,16 +115,18 @@ pub record HaveBlocks {S : Type 0} (f : writing.Ghosts S) (since : Names) (list 
   pub given : HaveBeenGiven since (f.names files) (f.holder files) sinks (outputs_of list blocks)
   pub next : numbers ≡ numbers_after list blocks
 
--- Block `b` was added to the outputs, whatever blocks they had before. After a failure it is there in part.
+-- Block `b` was added to the outputs `list`, whatever blocks they had before. `before` and `after` have the number of each output's next frame,
+-- before and after the call. After a failure the block is there in part.
 abbrev pub WritesBlock : {S T E : Type 0} → writing.Ghosts S → List TrackOutput → S → S → List Sink → List Sink → List ℕ → List ℕ → Block → Result T E → Type 0
 WritesBlock f list old new sinks later before after b (Ok _) = (since : Names) (blocks : List Block) → HaveBlocks f since list old sinks before blocks → HaveBlocks f since list new later after (blocks ++ b ∷ [])
 WritesBlock f list old new sinks later before after b (Err _) = (since : Names) (blocks : List Block) → HaveBlocks f since list old sinks before blocks → ArePrefixes since (f.names new) (outputs_of list (blocks ++ b ∷ []))
 
--- A block was added to all outputs; the cursor has enough of the block.
+-- The cursor's block was added to all outputs of `list`, if the cursor has read enough of it. `before` and `after` have the number of each
+-- output's next frame, before and after the call.
 abbrev pub GivesLent : {S T E : Type 0} → writing.Ghosts S → List TrackOutput → Reading → S → S → List Sink → List Sink → List ℕ → List ℕ → Result T E → Type 0
 GivesLent f list c old new sinks later before after result = (b : Block) → IsEnoughForAll list b c.block → WritesBlock f list old new sinks later before after b result
 
--- All blocks were added to outputs that had none. After a failure they are there in part.
+-- The blocks `all` were added to the outputs `list`, which had none. After a failure they are there in part.
 abbrev pub GivesBlocks : {S T E : Type 0} → writing.Ghosts S → List TrackOutput → S → S → List Sink → List Sink → List Block → Result T E → Type 0
 GivesBlocks f list old new sinks later all (Ok _) = (since : Names) → HaveBeenGiven since (f.names old) (f.holder old) sinks (outputs_of list []) → HaveBeenGiven since (f.names new) (f.holder new) later (outputs_of list all)
 GivesBlocks f list old new sinks later all (Err _) = (since : Names) → HaveBeenGiven since (f.names old) (f.holder old) sinks (outputs_of list []) → ArePrefixes since (f.names new) (outputs_of list all)
@@ -139,7 +142,8 @@ pub record WritesAndReads {S : Type 0} (r : Ghosts S) (f : writing.Ghosts S) (ol
   pub outputs : AreOpen r new later
   pub kept : KeepsOthers r f (names_under f old sinks) old new
 
--- No byte of a file is read twice, unless the call fails.
+-- While a call worked on a file of `size` bytes, the count of bytes read rose from `before` to `now`. That is by at most `size` if the call
+-- succeeded, and by at most twice `size` if it failed.
 abbrev pub ReadsFew : {T E : Type 0} → ℕ → ℕ → ℕ → Result T E → Type 0
 ReadsFew size before now (Ok _) = now ≤ before + size
 ReadsFew size before now (Err _) = now ≤ before + 2 * size
@@ -158,7 +162,8 @@ WritesLeft r f list c old new result = IfTold r old c.file (λ bytes. AreWritten
 abbrev pub TellsLeft : {S E : Type 0} → Ghosts S → List TrackOutput → Reading → S → Result Extracted E → Type 0
 TellsLeft r list c old result = IfTold r old c.file (λ bytes. IfOk result (λ extracted. extracted ≡ told_of list (left_of bytes c)))
 
--- No byte of the file is read twice, unless the call fails.
+-- A call has read at most the length of the file `file`, in bytes, or twice that length if it failed. `old` and `new` are the states before and
+-- after the call.
 abbrev pub ReadsFewOf : {S T E : Type 0} → Ghosts S → FileId → S → S → Result T E → Type 0
 ReadsFewOf r file old new result = ReadsFew (file_size r old file) (r.octets_read old) (r.octets_read new) result
 

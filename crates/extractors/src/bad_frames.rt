@@ -20,8 +20,8 @@ use mkv_io::{Damage, Kind};
 use mkv_schema::ids::{BLOCK, SIMPLE_BLOCK};
 use std::alloc::{AllocError, Global};
 
-/// Reports the bad frames of the cursor's block, each once even if several outputs take the track: all take it in one
-/// form.
+/// Adds a damaged place to `bad` for each frame of the cursor's block that its codec has no written form for. Each
+/// frame is added once, even if several of the outputs `list` take its track: all of them write it in the same form.
 pub fn add_bad_frames(
     list: &[TrackOutput],
     cursor: &Cursor,
@@ -37,14 +37,15 @@ pub fn add_bad_frames(
     }
 }
 
-/// Returns the first output of track `track`.
+/// Returns the first output in `list` that takes the track `track`.
 fn first_of(list: &[TrackOutput], track: u64) -> Option<&TrackOutput>
     ensures { option_copied result ≡ find (λ (o : OutputSeen). o.track == track) list.now }
 {
     list.iter().find(|output| output.track == track)
 }
 
-/// Reports the bad frames of the cursor's block for `output`, which takes them.
+/// Adds a damaged place to `bad` for each frame of the cursor's block that `output`, which takes its track, can't
+/// write.
 fn add_bad_of(
     output: &TrackOutput,
     cursor: &Cursor,
@@ -65,7 +66,7 @@ fn add_bad_of(
     Ok(())
 }
 
-/// Reports `damage`, if `is_one` holds.
+/// Adds `damage` to the damaged places `told` if `is_one` is true.
 fn add_if(is_one: bool, damage: Damage, told: &mut Damages)
     ensures { told.new ≡ (if is_one then with_damage told.old damage else told.old) }
 {
@@ -74,7 +75,7 @@ fn add_if(is_one: bool, damage: Damage, told: &mut Damages)
     }
 }
 
-/// Makes the report of a bad frame of the cursor's block.
+/// Returns the damaged place of a bad frame: the block at the cursor, with the kind BadFrame.
 fn bad_frame(cursor: &Cursor) -> Damage
     ensures { result ≡ bad_frame (block_of cursor.now.block) }
 {
@@ -86,7 +87,8 @@ fn bad_frame(cursor: &Cursor) -> Damage
     }
 }
 
-/// Checks whether a frame with the bytes `octets` can't be written.
+/// Checks whether a frame with the bytes `octets` can't be written in the form of `output`. The scratch memory holds
+/// a frame while it is checked.
 fn is_bad(output: &TrackOutput, octets: &[u8], scratch: &mut Scratch) -> Result<bool, AllocError>
     requires { CanWrite output.now.form }
     ensures { IfOk result (λ bad. bad ≡ is_bad output.now octets.now) }

@@ -103,7 +103,7 @@ fn private_of(track: &Track) -> &[u8]
     }
 }
 
-/// Copies `octets`.
+/// Returns a copy of `octets`.
 pub fn bytes_of(alloc: Global, octets: &[u8]) -> Result<Bytes, AllocError>
     ensures { IfOk result (λ bytes. bytes ≡ octets.now) }
 {

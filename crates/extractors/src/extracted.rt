@@ -16,7 +16,7 @@ pub struct Extracted {
 }
 
 impl Extracted {
-    /// Makes an empty report.
+    /// Returns a report without damage and bad frames.
     pub(crate) fn new(alloc: Global) -> Result<Extracted, AllocError>
         ensures { IfOk result (λ extracted. extracted ≡ told_of [] []) }
     {

@@ -85,7 +85,8 @@ fn write_tracks<F: Files>(
     ended
 }
 
-/// Creates the outputs and writes them. They stay open in any case.
+/// Creates the outputs `list`, and writes to each its part of the blocks that `cursor` has left. The outputs stay
+/// open in any case.
 fn write_all<F: Files>(
     alloc: Global,
     list: &[TrackOutput],

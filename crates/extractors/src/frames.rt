@@ -40,6 +40,7 @@ pub struct Scratch {
 }
 
 impl Scratch {
+    /// Makes buffers without content, which take no memory yet.
     pub fn new(alloc: Global) -> Scratch {
         Scratch {
             line: String::new(alloc),

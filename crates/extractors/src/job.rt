@@ -158,7 +158,7 @@ fn unfit_of(
     Ok(read.err())
 }
 
-/// Copies `text`.
+/// Returns a copy of `text`.
 fn text_of(alloc: Global, text: &str) -> Result<Text, AllocError>
     ensures { IfOk result (λ copy. copy ≡ text.now) }
 {

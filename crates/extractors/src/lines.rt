@@ -70,7 +70,7 @@ fn put_place(
     }
 }
 
-/// Appends the line of `place`.
+/// Appends the line of a cue point: its time, and the positions in `place`, a CueTrackPositions.
 fn put_line(time: Option<u128>, place: &Tree, out: &mut String) -> Result<(), AllocError>
     requires { IsSoundOf ids.CUE_TRACK_POSITIONS place.now }
     ensures { OnOk result (string_bytes out.new ≡ string_bytes out.old ++ spec.cue_line time place.now) }

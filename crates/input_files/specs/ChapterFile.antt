@@ -29,6 +29,7 @@ abbrev pub octets_with : Option (List ℕ) → ℕ
 octets_with None = 0
 octets_with (Some bytes) = octets_within MAX_CHAPTERS_LEN (length bytes)
 
+-- the number of bytes that are read of the chapter file, if the command line names one
 abbrev pub chapter_octets : (List ℕ → Option (List ℕ)) → Option (List ℕ) → ℕ
 chapter_octets world None = 0
 chapter_octets world (Some name) = octets_with (world name)

@@ -21,7 +21,7 @@ use Rattle.mkv_io.specs.Writing.{IfByNames}
 abbrev pub file_names : List FileWords → List (List ℕ)
 file_names words = map (λ (w : FileWords). w.name) words
 
--- the contents of the files `ids`
+-- the contents of the live files `ids`, as far as they are visible to the proof
 abbrev pub contents_of : (ℕ → Option (List ℕ)) → List FileId → List (Option (List ℕ))
 contents_of content ids = map (λ (f : FileId). content f.n) ids
 

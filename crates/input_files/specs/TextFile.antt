@@ -23,10 +23,11 @@ unless_bad (Err line) = Err (Bad line)
 abbrev pub text_file : {A : Type 0} → ℕ → (List ℕ → Result A ℕ) → List ℕ → Result A TextRefusal
 text_file most grammar bytes = if nat_lt most (length bytes) then Err TooLarge else unless_bad (grammar bytes)
 
--- the meaning of a SubRip file; and of a simple chapter file
+-- the entries of a SubRip file with the content `bytes`, or its refusal
 abbrev pub srt_text : List ℕ → Result (List Entry) TextRefusal
 srt_text bytes = text_file MAX_SRT_LEN srt bytes
 
+-- the Chapters that a file of simple chapters describes, or its refusal
 abbrev pub chapter_text : List ℕ → Result Node TextRefusal
 chapter_text bytes = text_file MAX_CHAPTERS_LEN simple_chapters bytes
 
@@ -44,7 +45,7 @@ abbrev pub end_of : TextEnd → TextFileEnd
 end_of (text_end.Bad line) = Refused (Bad line)
 end_of text_end.Memory = Memory
 
--- The failure is a failed read.
+-- Reading a text file ended with a failed read.
 abbrev pub is_text_fault : TextFileEnd → Bool
 is_text_fault (Refused why) = false
 is_text_fault ReadFault = true

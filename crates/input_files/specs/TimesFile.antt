@@ -41,6 +41,7 @@ abbrev pub given_with : ℕ → Option (List ℕ) → TimesGiven
 given_with room None = Missing
 given_with room (Some bytes) = given_by (text_file (min room MAX_TIMES_LEN) listing bytes)
 
+-- the number of bytes of a content, or 0 if there is none
 abbrev pub size_with : Option (List ℕ) → ℕ
 size_with None = 0
 size_with (Some bytes) = length bytes
@@ -62,5 +63,6 @@ abbrev pub octets_with : Option (List ℕ) → ℕ
 octets_with None = 0
 octets_with (Some bytes) = octets_within MAX_TIMES_LEN (length bytes)
 
+-- an upper bound on the bytes that are read of all timestamp files
 abbrev pub times_octets : (List ℕ → Option (List ℕ)) → List FileWords → ℕ
 times_octets world words = sum_by (λ (n : TimesName). octets_with (world n.name)) (times_named words)

@@ -27,7 +27,7 @@ pub enum ChapterFile {
     Read(Tree),
 }
 
-// Reads the chapter file `name`.
+// Reads the chapter file `name`, unless it is missing or refused.
 fn read_named<F: Files>(alloc: Global, name: &str, files: &mut F) -> Result<ChapterFile, ReadEnd>
     ensures exact { IfVisible (F.names files.old) (λ world. IfOk result (λ given. given ≡ file_with (world name.now))) }
     ensures written { IfOk result CanBeWritten }

@@ -15,7 +15,7 @@ use mkv_schema::track_type::SUBTITLE_TRACK;
 use std::alloc::{AllocError, Global};
 use track_records::{Track, read_tracks};
 
-/// Returns the TrackEntry of a text.
+/// Returns the TrackEntry that a SubRip file gets in an output.
 fn text_entry(alloc: Global) -> Result<Tree, AllocError>
     ensures exact { IfOk result (λ entry. entry ≡ text_entry) }
     ensures whole { IfOk result IsWholeEntry }

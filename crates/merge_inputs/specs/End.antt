@@ -20,7 +20,7 @@ text_end_of (text_end.Refused why) = input_end.Refused (Text why)
 text_end_of text_end.ReadFault = input_end.ReadFault
 text_end_of text_end.Memory = input_end.Memory
 
--- The failure is a failed read.
+-- Reading an input ended with a failed read.
 abbrev pub is_input_fault : InputEnd → Bool
 is_input_fault (input_end.Refused why) = false
 is_input_fault input_end.ReadFault = true

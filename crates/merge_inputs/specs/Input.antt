@@ -45,8 +45,10 @@ pub data BlocksRead : Type 0 where
   Clusters : Header → ℕ → BlocksRead
   Entries : List Entry → BlocksRead
 
--- the input's blocks, title, bytes of records, number of tracks, and copied tracks. It also has the kept attached files, Chapters and Tags, the
--- append offset, if any, and frame times from timestamp files.
+-- the result of reading an input of a merge. `held` is the number of bytes of its Info, Tracks, Chapters and Tags, which a limit counts. `count`
+-- is the number of its tracks, and `taken` the ones that are copied. `attachments`, `chapters` and `tags` are the ones that are kept, and `keep`
+-- is the choice of Tags. `shift` is the append offset in nanoseconds, 0 until it is known, or None if the input isn't appended. `times` has the
+-- frame times of timestamp files, by track number.
 pub record InputRead : Type 0 where
   pub blocks : BlocksRead
   pub title : List ℕ
@@ -67,7 +69,7 @@ abbrev pub found_then : {A B : Type 0} → Result A Damage → (A → Result B I
 found_then (Ok x) more = more x
 found_then (Err d) more = Err (Damaged d)
 
--- the input, or its refusal
+-- the input that was read, or its refusal, if there is one
 abbrev pub input_or_refusal : Option InputRefusal → InputRead → Result InputRead InputRefusal
 input_or_refusal None input = Ok input
 input_or_refusal (Some why) input = Err why
@@ -120,20 +122,23 @@ abbrev pub text_then : Result (List Entry) TextRefusal → (List Entry → Input
 text_then (Ok entries) more = Ok (more entries)
 text_then (Err why) more = Err (Text why)
 
+-- the input of a SubRip file with the content `bytes`, or its refusal
 abbrev pub text_read : FileWords → List ℕ → Result InputRead InputRefusal
 text_read words bytes = text_then (srt_text bytes) (text_with words)
 
--- the input with the content `bytes`, or its refusal: a text, or a file with Clusters
+-- the input with the content `bytes`, or its refusal: a text, or a file with Clusters. `words` has its name and options, `webm` is true if the
+-- output is WebM, and earlier inputs have `held` bytes of limited Elements.
 abbrev pub input_of : FileWords → Bool → ℕ → List ℕ → Result InputRead InputRefusal
 input_of words webm held bytes = if is_srt words.name bytes then text_read words bytes else file_read words webm held bytes
 
 -- ---- an input that was read
 
--- the source of the blocks; and the bytes of its records
+-- the source of an opened input's blocks, without the data that the code keeps of the file
 abbrev pub blocks_in : Blocks → BlocksRead
 blocks_in (held_by.Clusters outline scale) = Clusters outline.value.segment scale
 blocks_in (held_by.Entries entries) = Entries entries
 
+-- the number of bytes of an input's Info, Tracks, Chapters and Tags, by the source of its blocks
 abbrev pub held_in : Blocks → ℕ
 held_in (held_by.Clusters outline scale) = outline.value.held
 held_in (held_by.Entries entries) = 0
@@ -147,7 +152,7 @@ total_in (held_by.Entries entries) = 0
 abbrev pub listings_in : List TrackTimes → List (ℕ × Listing)
 listings_in times = map (λ (t : TrackTimes). (t.id, t.times.value)) times
 
--- the input as it was read
+-- an opened input, as the definitions have it
 abbrev pub read_in : Input → InputRead
 read_in i = record {
   blocks = blocks_in i.blocks;
@@ -168,6 +173,7 @@ abbrev pub events_by : BlocksRead → List ℕ → List Event
 events_by (Clusters segment scale) bytes = events_of (with_limits scale) bytes segment
 events_by (Entries entries) bytes = []
 
+-- the blocks and damage of the input `i`, whose file has the content `bytes`
 abbrev pub events_in : InputRead → List ℕ → List Event
 events_in i bytes = events_by i.blocks bytes
 

@@ -9,7 +9,7 @@ use Rattle.mkv_schema.specs.declared.track_type.TheConstants.{VIDEO_TRACK, AUDIO
 
 -- ---- tracks
 
--- The ID is in the list.
+-- The track number `id` is in the list.
 abbrev pub is_among : ℕ → List ℕ → Bool
 is_among id ids = list_any (λ k. k == id) ids
 
@@ -30,10 +30,11 @@ is_taken words id type =
 
 -- ---- other kept parts
 
--- Attached files are kept unless the command line leaves them out or the output is WebM; and chapters likewise.
+-- Attached files are kept unless the command line leaves them out or the output is WebM.
 abbrev pub keeps_attachments : FileWords → Bool → Bool
 keeps_attachments words webm = words.attachments && not webm
 
+-- Chapters are kept unless the command line leaves them out or the output is WebM.
 abbrev pub keeps_chapters : FileWords → Bool → Bool
 keeps_chapters words webm = words.chapters && not webm
 
@@ -41,6 +42,7 @@ keeps_chapters words webm = words.chapters && not webm
 abbrev pub keeps_tags : FileWords → Bool
 keeps_tags words = words.track_tags || words.global_tags
 
+-- the choice of Tags that the command line makes for a file
 abbrev pub keep_of : FileWords → TagKeep
 keep_of words = record { tracks = words.track_tags; global = words.global_tags }
 
@@ -48,11 +50,12 @@ keep_of words = record { tracks = words.track_tags; global = words.global_tags }
 abbrev pub unmoved : FileWords → Option ℕ
 unmoved words = if words.appended then Some 0 else None
 
--- the list if it is kept; and an element if it is kept
+-- the list if it is kept, and otherwise an empty one
 abbrev pub kept_list : {T : Type 0} → Bool → List T → List T
 kept_list true list = list
 kept_list false list = []
 
+-- the element if it is kept, and otherwise none
 abbrev pub kept_one : {T : Type 0} → Bool → Option T → Option T
 kept_one true one = one
 kept_one false one = None

@@ -12,7 +12,7 @@ use Rattle.requests.specs.declared.merge.FileWords.{FileWords}
 use Rattle.merge_inputs.specs.Select.{is_taken}
 use Rattle.merge_inputs.specs.declared.taken.TakenTrack.{TakenTrack}
 
--- the first value for an ID
+-- the value of the first entry for the track `id` in a list of an option's values
 abbrev pub value_for : {T : Type 0} → ℕ → List (ℕ × T) → Option T
 value_for id [] = None
 value_for id (pair ∷ pairs) = if pair.0 == id then Some pair.1 else value_for id pairs
@@ -30,7 +30,7 @@ taken_track words id t = record {
   cues = value_for id words.cues;
 }
 
--- the track if it is copied
+-- the track number `id` of a file as a copied track, if the command line selects it
 abbrev pub taken_one : FileWords → ℕ → Track → List TakenTrack
 taken_one words id t = if is_taken words id t.kind then taken_track words id t ∷ [] else []
 

@@ -52,7 +52,7 @@ pub fn keeps_tags(words: &FileWords) -> bool
     words.track_tags || words.global_tags
 }
 
-/// Returns the choice of kept tags.
+/// Returns the choice of Tags that the options of a file make.
 pub fn keep_of(words: &FileWords) -> TagKeep
     ensures { result ≡ keep_of words.now }
 {

@@ -15,11 +15,12 @@ first_differing [] taken = None
 first_differing (lane ∷ lanes) [] = None
 first_differing (lane ∷ lanes) (t ∷ taken) = option_or (first_difference lane.track.entry t.track.entry) (first_differing lanes taken)
 
--- the same, or TrackEntry if the numbers of tracks differ
+-- the first difference of appended tracks to the tracks of the output, as the ID of an element. It is TrackEntry if the numbers of tracks differ.
 abbrev pub differing : List TakenTrack → List TakenTrack → Option ℕ
 differing lanes taken = if length lanes == length taken then first_differing lanes taken else Some TRACK_ENTRY
 
--- the same for an input that is appended to output tracks that `before` began; none for an input that isn't appended
+-- the first difference of the tracks of the input `i` to the output tracks that `before` began, as the ID of an element. An input that isn't
+-- appended has none.
 abbrev pub difference_at : List TakenTrack → InputRead → Option ℕ
 difference_at before i = if is_appended i then differing before i.taken else None
 
@@ -27,6 +28,7 @@ difference_at before i = if is_appended i then differing before i.taken else Non
 abbrev pub lane_tracks : List TakenTrack → InputRead → List TakenTrack
 lane_tracks before i = if is_appended i then before else i.taken
 
+-- the refusal because the track `id` of the appended input number `input` can't continue an output track
 abbrev pub differs_at : ℕ → ℕ → AppendDiffers
 differs_at input id = record { input = input; id = id }
 

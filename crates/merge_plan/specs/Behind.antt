@@ -19,7 +19,7 @@ use Rattle.mkv_io.specs.declared.reads.Reads.{Ghosts}
 abbrev pub EndsAt : LiveFiles → Input → ℕ → Type 0
 EndsAt f i time = IsToldInput f i → time ≡ end_of (source_in f i)
 
--- the last input
+-- the last of the inputs, if there is one
 abbrev pub last_in : List Input → Option Input
 last_in inputs = slice_get inputs (length inputs - 1)
 
@@ -36,6 +36,7 @@ abbrev pub walked_in : Blocks → ℕ → ℕ
 walked_in (Clusters outline scale) size = size
 walked_in (Entries entries) size = 0
 
+-- the number of bytes walked over to find the end of an input's file; none for a text
 abbrev pub walked_of : LiveFiles → Input → ℕ
 walked_of f i = walked_in i.blocks (f.size i.file.n)
 

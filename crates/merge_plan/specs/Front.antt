@@ -13,7 +13,7 @@ use Rattle.merge_inputs.specs.Input.{InputRead}
 use Rattle.merge_plan.specs.Plan.{Source}
 use Rattle.merge_plan.specs.Records.{info_of, tracks_of_output}
 
--- the records of the inputs
+-- the results of reading, without the contents of the sources
 abbrev pub reads_of : List Source → List InputRead
 reads_of sources = map (λ (s : Source). s.1) sources
 
@@ -31,6 +31,7 @@ files_in s = map (λ (a : AttachedFile). (a, octets_from s.0 a.at a.len)) s.1.at
 abbrev pub attached : ℕ → AttachedFile × List ℕ → Node
 attached uid f = with_data f.1 (set_in (uint_leaf FILE_UID uid) f.0.entry)
 
+-- the AttachedFiles of an output, with the FileUIDs `uids` and the data of the inputs
 abbrev pub attached_from : List ℕ → List (AttachedFile × List ℕ) → List Node
 attached_from [] files = []
 attached_from (uid ∷ uids) [] = []
@@ -46,6 +47,7 @@ attached_length reads = sum_by (λ (i : InputRead). sum_by (λ (a : AttachedFile
 
 -- ---- the front
 
+-- the Elements before the Clusters of an output, without identifiers of Segments
 abbrev pub front_of : MergeWords → List Source → Front
 front_of words sources = record {
   webm = words.webm;

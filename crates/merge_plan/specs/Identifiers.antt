@@ -23,7 +23,7 @@ identifiers_of reads = record {
   files = file_numbers (records_of reads);
 }
 
--- Identifiers have 64 bits.
+-- The TrackUIDs and other identifiers `ids` have 64 bits.
 pub record Have64Bits (ids : Identifiers) : Type 0 where
   pub tracks : All (λ n. n < 2 ^ 64) ids.tracks
   pub editions : All (λ n. n < 2 ^ 64) ids.editions

@@ -25,5 +25,6 @@ abbrev pub walked_behind : LiveFiles → ℕ → List Input → ℕ
 walked_behind f before [] = 0
 walked_behind f before (i ∷ is) = walked_for i.shift before + walked_behind f (walked_of f i) is
 
+-- the number of bytes walked over to find the ends of `inputs`
 abbrev pub walked_length : LiveFiles → List Input → ℕ
 walked_length f inputs = walked_behind f 0 inputs

@@ -68,6 +68,7 @@ inputs_given input reads = lanes_by (λ (each : ℕ × InputRead). is_appended e
 
 -- ---- Clusters and cue points
 
+-- the limits of a Cluster that the command line gives
 abbrev pub limits_of : MergeWords → ClusterLimits
 limits_of words = record { blocks = words.blocks; span = words.span; scale = words.scale }
 
@@ -75,27 +76,32 @@ limits_of words = record { blocks = words.blocks; span = words.span; scale = wor
 abbrev pub default_rule : ℕ → CueRule
 default_rule type = if type == VIDEO_TRACK || type == SUBTITLE_TRACK then rule.Key else rule.Never
 
+-- the rule for cue points of a track of this type: the one of its option, or else the default rule
 abbrev pub rule_for : Option CueWord → ℕ → CueRule
 rule_for (Some Never) type = rule.Never
 rule_for (Some Key) type = rule.Key
 rule_for (Some All) type = rule.All
 rule_for None type = default_rule type
 
+-- the rule for cue points of a copied track
 abbrev pub rule_of : TakenTrack → CueRule
 rule_of t = rule_for t.cues t.track.kind
 
+-- the rules for cue points of all output tracks, in their order
 abbrev pub rules_given : List InputRead → List CueRule
 rules_given reads = map rule_of (tracks_taken reads)
 
 -- ---- the split of the output
 
+-- The copied track is a video track.
 abbrev pub is_video : TakenTrack → Bool
 is_video t = t.track.kind == VIDEO_TRACK
 
--- for each output track, whether it is a driver; `videos` holds for the video tracks
+-- for each output track, whether its keyframes allow a cut; `videos` has for each track whether it is a video track
 abbrev pub drivers_by : List Bool → List Bool
 drivers_by videos = map (is_driver videos) (range_with_len 0 (length videos))
 
+-- for each output track, whether its keyframes allow a cut
 abbrev pub drives_given : List InputRead → List Bool
 drives_given reads = drivers_by (map is_video (tracks_taken reads))
 
@@ -103,5 +109,6 @@ drives_given reads = drivers_by (map is_video (tracks_taken reads))
 abbrev pub starts_in : Option Node → List ℕ
 starts_in chapters = option_map_or top_starts chapters []
 
+-- the times of the split that the command line asks for; chapters count if it cuts at them
 abbrev pub split_given : MergeWords → List InputRead → SplitSpec
 split_given words reads = spec_of words.split (starts_in (chapters_of reads))

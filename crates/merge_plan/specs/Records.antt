@@ -46,6 +46,7 @@ change_of number uid t = record {
   flag_forced = t.flag_forced;
 }
 
+-- the entry of the track `t` in the output, on the output track `number` with the TrackUID `uid`
 abbrev pub entry_of : ℕ → ℕ → TakenTrack → Node
 entry_of number uid t = written_entry (change_of number uid t) t.track.entry
 
@@ -55,9 +56,11 @@ entries_from number [] taken = []
 entries_from number (uid ∷ uids) [] = []
 entries_from number (uid ∷ uids) (t ∷ taken) = entry_of number uid t ∷ entries_from (number + 1) uids taken
 
+-- the entries of the output tracks, numbered from 1
 abbrev pub entries_of : List TakenTrack → List Node
 entries_of taken = entries_from 1 (uids_of taken) taken
 
+-- the Tracks of the output
 abbrev pub tracks_of_output : List InputRead → Node
 tracks_of_output reads = output_tracks (entries_of (tracks_taken reads))
 
@@ -68,7 +71,7 @@ abbrev pub title_or : List ℕ → List ℕ → List ℕ
 title_or [] other = other
 title_or (octet ∷ octets) other = octet ∷ octets
 
--- the first title that isn't empty
+-- the first title of an input that isn't empty, or an empty one
 abbrev pub first_title : List InputRead → List ℕ
 first_title [] = []
 first_title (i ∷ is) = title_or i.title (first_title is)
@@ -77,6 +80,7 @@ first_title (i ∷ is) = title_or i.title (first_title is)
 abbrev pub title_of : MergeWords → List InputRead → List ℕ
 title_of words reads = unwrap_or words.title (first_title reads)
 
+-- the Info of the output
 abbrev pub info_of : MergeWords → List InputRead → Node
 info_of words reads = output_info words.scale (title_of words reads)
 
@@ -103,6 +107,7 @@ records_in numbers k = record {
 abbrev pub uids_at : List ℕ → List ℕ → InputRead → List ℕ
 uids_at before left i = if is_appended i then before else take (length i.taken) left
 
+-- the TrackUIDs of `left` after the ones of the input `i`; an appended input has none of its own
 abbrev pub uids_behind : List ℕ → InputRead → List ℕ
 uids_behind left i = if is_appended i then left else drop (length i.taken) left
 
@@ -119,6 +124,7 @@ kept_in i = (i.attachments, read_in i)
 abbrev pub anywhere : AttachedFile → Attachment
 anywhere a = record { uid = a.uid; file = record { n = 0 }; at = a.at; len = a.len; entry = a.entry }
 
+-- the attached files of an input, whichever live files have their data
 abbrev pub kept_anywhere : InputRead → Kept
 kept_anywhere i = (map anywhere i.attachments, i)
 
@@ -126,8 +132,10 @@ kept_anywhere i = (map anywhere i.attachments, i)
 abbrev pub records_of : List InputRead → List InputRecords
 records_of reads = records_from [] (uids_of (tracks_taken reads)) (map kept_anywhere reads)
 
+-- the Chapters of the output, before they are limited to a part
 abbrev pub chapters_of : List InputRead → Option Node
 chapters_of reads = merged_chapters (records_of reads)
 
+-- the Tags of the output
 abbrev pub tags_of : List InputRead → Option Node
 tags_of reads = merged_tags (records_of reads)

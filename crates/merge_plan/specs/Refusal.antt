@@ -28,10 +28,11 @@ too_many_lanes taken = where_so (nat_lt MAX_LANES (length taken)) TooManyLanes
 abbrev pub other_codec : List TakenTrack → Option (List ℕ)
 other_codec taken = option_map (λ (t : TakenTrack). t.track.codec) (find (λ (t : TakenTrack). not (is_webm_codec t.track.codec)) taken)
 
+-- the refusal of a WebM output because of the first track with another codec; `webm` is true if the output is WebM
 abbrev pub not_webm : Bool → List TakenTrack → Option PlanRefusal
 not_webm webm taken = if webm then option_map NotWebm (other_codec taken) else None
 
--- the refusal of the selected tracks
+-- the refusal of a plan because of its tracks: none, too many, or a codec that WebM doesn't allow
 abbrev pub lanes_refusal : Bool → List TakenTrack → Option PlanRefusal
 lanes_refusal webm taken = option_or (no_lane taken) (option_or (too_many_lanes taken) (not_webm webm taken))
 

@@ -39,6 +39,7 @@ pub record Spot : Type 0 where
   pub input : Input
   pub track : TakenTrack
 
+-- the copied track `t` of the input `i`, which has the number `number`
 abbrev pub spot : ℕ → Input → TakenTrack → Spot
 spot number i t = record { number = number; input = i; track = t }
 
@@ -93,9 +94,11 @@ IsLinkBy i (held_by.Clusters outline scale) t (Entries text) = ⊥
 IsLinkBy i (held_by.Entries entries) t (Track link) = ⊥
 IsLinkBy i (held_by.Entries entries) t (Entries text) = IsTextOf i entries t text
 
+-- The link is the track `t` of the input `i`.
 abbrev pub IsLink : Input → TakenTrack → Link → Type 0
 IsLink i t link = IsLinkBy i i.blocks t link
 
+-- The link is the copied track `s`.
 abbrev pub IsLinkAt : Spot → Link → Type 0
 IsLinkAt s link = IsLink s.input s.track link
 
@@ -123,6 +126,7 @@ pub record IsLaneOf (spots : List Spot) (l : PlannedLane) : Type 0 where
   pub inputs : l.inputs ≡ map (λ (s : Spot). s.number) spots
   pub rule : l.cues ≡ rule_at spots
 
+-- The planned output tracks `lanes` consist of the copied tracks of `inputs`.
 abbrev pub AreLanesOf : List Input → List PlannedLane → Type 0
 AreLanesOf inputs lanes = AllZip IsLaneOf (spots_from 0 inputs) lanes
 

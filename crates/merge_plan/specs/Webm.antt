@@ -7,5 +7,6 @@ use Rattle.std.specs.Str.{bytes_eq}
 abbrev pub webm_codecs : List (List ℕ)
 webm_codecs = codes "V_VP8" ∷ codes "V_VP9" ∷ codes "V_AV1" ∷ codes "A_VORBIS" ∷ codes "A_OPUS" ∷ []
 
+-- WebM allows tracks with the CodecID `codec`.
 unfoldable pub is_webm_codec : List ℕ → Bool
 is_webm_codec codec = list_any (λ allowed. bytes_eq allowed codec) webm_codecs

@@ -103,7 +103,7 @@ fn track_of(
     })
 }
 
-/// Copies `entries`.
+/// Returns a copy of the entries of a text.
 fn copies(alloc: Global, entries: &[Entry]) -> Result<List<Entry>, AllocError>
     ensures { IfOk result (λ copies. copies ≡ entries.now) }
 {
@@ -134,7 +134,7 @@ fn text_of(
     })
 }
 
-/// Makes the link of a track.
+/// Makes the link of the track `taken` of an input, which is a file with Clusters or a text.
 fn link_of(alloc: Global, input: &Input, taken: &TakenTrack) -> Result<Link, AllocError>
     requires { IsTaken taken.now }
     ensures { IfOk result (IsLink input.now taken.now) }
@@ -194,8 +194,8 @@ fn go_on(
     Ok(())
 }
 
-/// Makes the output track that a track of input `number`, counted from 0, begins. Track `place` of each input
-/// appended to it continues it. `drives` is whether it is a driver.
+/// Makes the output track that a track of the input number `number`, counted from 0, begins. The track at `place` of
+/// each input in `behind`, the ones appended to it, continues it. `drives` is true if its keyframes allow a cut.
 fn lane_of(
     alloc: Global,
     number: usize,

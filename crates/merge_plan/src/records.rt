@@ -14,7 +14,7 @@ use output_model::Attachment;
 use output_records::InputRecords;
 use std::alloc::{AllocError, Global};
 
-// Copies the attached files.
+// Returns a copy of attached files, without their data.
 fn copies(alloc: Global, files: &[Attachment]) -> Result<List<Attachment>, AllocError>
     ensures { IfOk result (λ copies. copies ≡ files.now) }
 {
@@ -31,7 +31,7 @@ fn copies(alloc: Global, files: &[Attachment]) -> Result<List<Attachment>, Alloc
     Ok(copies)
 }
 
-// Copies a record, if it exists.
+// Returns a copy of a record, if there is one.
 fn copy_of(alloc: Global, tree: &Option<Tree>) -> Result<Option<Tree>, AllocError>
     ensures { IfOk result (λ copy. copy ≡ tree.now) }
 {
@@ -64,7 +64,7 @@ fn records_in(alloc: Global, numbers: &[u64], input: &Input) -> Result<InputReco
     })
 }
 
-// Returns the first `count` numbers.
+// Returns the first `count` of the numbers, or all if there are fewer.
 fn first(numbers: &[u64], count: usize) -> &[u64]
     ensures { result.now ≡ take count numbers.now }
 {

@@ -41,7 +41,7 @@ pub(crate) fn split_of(
     split_spec(alloc, &words.split, starts.as_slice())
 }
 
-/// Checks whether a track is video.
+/// Checks whether a copied track is a video track.
 fn is_video(taken: &TakenTrack) -> bool
     ensures { result ≡ is_video taken.now }
 {

@@ -18,13 +18,14 @@ most_of_cues job octets = 0
 abbrev pub most_before : Job → ℕ → ℕ
 most_before job octets = 6 * octets + min (16 * octets) (2 * MAX_ATTACHMENTS_LEN) + most_of_cues job octets
 
--- the limit for blocks and attached data: twice the file for any number of tracks, and the file for each attached file
+-- the number of bytes that may be read of the content that a job extracts, in a file of `octets` bytes. For frames it is twice the file, for any
+-- number of tracks, and for attached files the file for each of them.
 abbrev pub most_of_content : Job → ℕ → ℕ
 most_of_content (jobs.Tracks form list) octets = 2 * octets
 most_of_content (jobs.Attachments list) octets = length list * octets
 most_of_content job octets = 0
 
--- the limit for the whole file
+-- the number of bytes that a job may read of a file of `octets` bytes
 abbrev pub most_of_file : Job → ℕ → ℕ
 most_of_file job octets = most_before job octets + most_of_content job octets
 

@@ -37,7 +37,7 @@ abbrev pub once : List ℕ → List ℕ
 once [] = []
 once (n ∷ ns) = n ∷ filter (λ m. not (n == m)) (once ns)
 
--- the numbers from `count` on that targets name, each once: items that a file lacks
+-- the numbers of at least `count` that targets name, each once: items that a file lacks. `count` is the first number that the file lacks.
 abbrev pub absent : ℕ → List Target → List ℕ
 absent count targets = filter (λ n. nat_le count n) (once (map (λ (t : Target). t.id) targets))
 
@@ -74,7 +74,7 @@ frames_taken name job file events = record {
 abbrev pub taken_whole : FileRead → List (List ℕ) → List Output → Taken
 taken_whole file missing outputs = record { missing = missing; outputs = outputs; damages = option_to_list file.damage; bad_frames = [] }
 
--- the attached files
+-- the content that is extracted for targets that name attached files
 abbrev pub attached_taken : List ℕ → List Target → List ℕ → FileRead → Taken
 attached_taken name targets bytes file = taken_whole file (missing_attachments name file targets) (attached_outputs bytes targets file.attachments)
 
@@ -83,7 +83,7 @@ abbrev pub cues_taken : List ℕ → List Target → FileRead → Taken
 cues_taken name targets file =
     taken_whole file (missing_tracks name file targets) (cues_outputs (scale_of_info file.info) file.cues targets (entries_of file))
 
--- the chapters
+-- the content that is extracted as simple chapters, to the output `out`
 abbrev pub chapters_taken : List ℕ → FileRead → Taken
 chapters_taken out file = taken_whole file [] (chapters_output out file.chapters ∷ [])
 

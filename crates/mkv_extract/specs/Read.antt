@@ -30,11 +30,12 @@ is_named targets k = list_any (λ (t : Target). t.id == k) targets
 abbrev pub causes_of : List Target → ℕ → Track → List (Option Damage)
 causes_of targets k t = if is_named targets k then usable_causes t.entry else []
 
--- the same for tracks in their order, numbered from `k`
+-- the reasons why the frames of named tracks can't be used, for tracks in sequence, the first with the number `k`
 abbrev pub causes_from : List Target → ℕ → List Track → List (Option Damage)
 causes_from targets k [] = []
 causes_from targets k (t ∷ ts) = causes_of targets k t ++ causes_from targets (k + 1) ts
 
+-- the damage of the first track that a target names and that can't be used
 abbrev pub first_unusable : List Target → List Track → Option Damage
 first_unusable targets tracks = first_damage (causes_from targets 0 tracks)
 
@@ -48,7 +49,7 @@ pub record FileRead : Type 0 where
   pub chapters : Option Node
   pub cues : Option Node
 
--- the data of a source
+-- the data of an opened source, as the definitions have them
 abbrev pub read_in : Source → FileRead
 read_in s = record {
   segment = s.outline.segment;

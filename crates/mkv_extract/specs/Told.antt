@@ -14,7 +14,8 @@ use Rattle.mkv_extract.specs.declared.telling.Missing.TheVariants as missing
 use Rattle.mkv_extract.specs.declared.telling.WarningKind.{WarningKind}
 use Rattle.mkv_extract.specs.declared.telling.WarningKind.TheVariants as wrong
 
--- A target names an item that a file lacks: its number is at least `count`.
+-- A target names an item that a file lacks, since its number is at least `count`. For tracks, which are numbered from 0, `count` is their number.
+-- For attached files, which are numbered from 1, it is their number plus 1.
 abbrev pub has_absent : ℕ → List Target → Bool
 has_absent count targets = list_any (λ (t : Target). nat_le count t.id) targets
 
@@ -33,7 +34,7 @@ abbrev pub more_line : WarningKind → List ℕ → ℕ → List ℕ
 more_line wrong.File name more = more_damages_line name more
 more_line wrong.Frames name more = more_bad_frames_line name more
 
--- this line, if there are more
+-- the line with the number `more` of damaged places that aren't reported each, or nothing if it is 0
 abbrev pub others : WarningKind → List ℕ → ℕ → List (List ℕ)
 others what name more = if more == 0 then [] else more_line what name more ∷ []
 
@@ -41,22 +42,22 @@ others what name more = if more == 0 then [] else more_line what name more ∷ [
 abbrev pub warnings : WarningKind → List ℕ → ToldDamages → List (List ℕ)
 warnings what name d = map (warning_line name) d.first ++ others what name d.more
 
--- the names of the targets with numbers below `count`
+-- the output names of the targets with numbers below `count`, the first number that the file lacks
 abbrev pub written : ℕ → List Target → List (List ℕ)
 written count [] = []
 written count (t ∷ ts) = (if nat_lt t.id count then t.name ∷ [] else []) ++ written count ts
 
 -- ---- the lines of the calls
 
--- a line for each number from `count` on that targets name: the file lacks the item
+-- a line for each number that targets name and that the file `name` lacks, each number once: `count` is the first number that it lacks
 abbrev pub absent_lines : Missing → List ℕ → ℕ → List Target → List (List ℕ)
 absent_lines what name count targets = map (line_of what name) (absent count targets)
 
--- a line for each output, that is, for each target with a number below `count`
+-- a line for each output, that is, for each target with a number below `count`, the first number that the file lacks
 abbrev pub wrote_lines : ℕ → List Target → List (List ℕ)
 wrote_lines count targets = map wrote_line (written count targets)
 
--- the lines of the outputs, and then of damage at level 1
+-- the lines of the outputs, and then of damage at level 1; `count` is the first number that the file `name` lacks
 abbrev pub held_lines : List ℕ → ℕ → List Target → Option Damage → List (List ℕ)
 held_lines name count targets damage = wrote_lines count targets ++ outline_lines name damage
 
@@ -64,7 +65,7 @@ held_lines name count targets damage = wrote_lines count targets ++ outline_line
 abbrev pub wrong_lines : List ℕ → Extracted → List (List ℕ)
 wrong_lines name e = told_lines name e.damages ++ told_bad name e.bad_frames
 
--- the lines of the outputs, and then of the damage and the frames
+-- the lines of the outputs, and then of the damage and of the frames that aren't written. `count` is the first number that the file `name` lacks.
 abbrev pub extracted_lines : List ℕ → ℕ → List Target → Extracted → List (List ℕ)
 extracted_lines name count targets e = wrote_lines count targets ++ wrong_lines name e
 

@@ -37,7 +37,8 @@ pub enum WarningKind {
     Frames,
 }
 
-/// Warns of the numbers from `count` on that targets name, each once: the file lacks these items.
+/// Warns of each item that targets name and that the file `name` lacks, once: its number is at least `count`. For
+/// tracks `count` is their number, and for attached files, which are numbered from 1, their number plus 1.
 pub fn say_absent<P: Report>(
     alloc: Global,
     missing: Missing,
@@ -131,7 +132,8 @@ fn warn_all<P: Report>(
     )
 }
 
-/// Prints a line for each output, that is, for each target with a number below `count`.
+/// Prints a line for each output, that is, for each target with a number below `count`, the first number that the
+/// file lacks.
 pub fn say_wrote<P: Report>(
     alloc: Global,
     targets: &[Target],
@@ -173,7 +175,7 @@ fn warn<P: Report>(
     Ok(())
 }
 
-/// Prints the number of the others.
+/// Prints the number `more` of damaged places that aren't reported each, unless it is 0. `what` is their kind.
 fn say_more<P: Report>(
     alloc: Global,
     what: WarningKind,
@@ -190,7 +192,9 @@ fn say_more<P: Report>(
     }
 }
 
-/// Prints the messages of the complete outputs of targets, and warns of damage at level 1.
+/// Prints a line for each complete output and warns of damage at level 1. Returns the status of the extraction. It is
+/// a warning if there is damage or if a target names a missing item. `count` is the first number that the file `name`
+/// lacks.
 pub fn tell_held<P: Report>(
     alloc: Global,
     name: &str,
@@ -246,7 +250,8 @@ fn warn_of<P: Report>(
     say(alloc, report, &Line::Warned { name, damage })
 }
 
-/// Returns the status: a warning is printed for a missing track, for damage, or for a frame that isn't written.
+/// Returns the status of an extraction. It is a warning if the file lacks a named item, whose number is at least
+/// `count`. It is one too if there is damage, or a frame that isn't written.
 fn status_of(targets: &[Target], count: u64, extracted: &Extracted) -> Status
     ensures value { HasStatusOf extracted.now (has_absent count targets.now) (Ok result) }
     ensures ordinary { IsOrdinary result }
@@ -270,7 +275,8 @@ fn is_any(told: &Damages) -> bool
     !told.first().is_empty()
 }
 
-/// Checks whether a target names a number from `count` on.
+/// Checks whether a target names an item that the file lacks: its number is at least `count`. For tracks `count` is
+/// their number, and for attached files, which are numbered from 1, their number plus 1.
 pub fn has_absent(targets: &[Target], count: u64) -> bool
     ensures { result ≡ has_absent count targets.now }
 {

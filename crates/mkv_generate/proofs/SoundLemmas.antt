@@ -35,7 +35,7 @@ parts-sound names = record {
   each = All-cons IsSoundFile (plain_file names.both) [] (file-sound names.both) (All-nil IsSoundFile);
 }
 
--- The same for an equal command line.
+-- A command line that equals a valid one is valid.
 pub sound-as : (words these : MergeWords) → words ≡ these → IsSoundMerge these → IsSoundMerge words
 sound-as words these same sound = subst IsSoundMerge (sym same) sound
 

@@ -32,6 +32,7 @@ simple_block time key kind sizes octets = record {
 abbrev pub picture_size : ℕ → ℕ
 picture_size i = 8 + 37 * i % 101
 
+-- the picture number `i` as a block
 abbrev pub picture : ℕ → OutputBlock
 picture i = simple_block (40 * i) (i % 25 == 0) lace.None (picture_size i ∷ []) (counting i (picture_size i))
 
@@ -42,6 +43,7 @@ sound i =
     if i % 3 == 0 then simple_block (20 * i) true lace.Xiph (4 ∷ 6 ∷ []) (counting (3 * i) 10)
     else simple_block (20 * i) true lace.None (5 ∷ []) (counting (3 * i) 5)
 
+-- the block number `i` of the file of pictures or of sounds
 abbrev pub block_of : MediaKind → ℕ → OutputBlock
 block_of Pictures i = picture i
 block_of Sounds i = sound i
@@ -51,6 +53,6 @@ abbrev pub count_of : MediaKind → ℕ → ℕ
 count_of Pictures n = n
 count_of Sounds n = 2 * n
 
--- all blocks of a file
+-- all `n` blocks of the file of pictures or of sounds
 abbrev pub blocks_of : MediaKind → ℕ → List OutputBlock
 blocks_of medium n = map (block_of medium) (range_with_len 0 (count_of medium n))

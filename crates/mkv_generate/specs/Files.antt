@@ -17,11 +17,12 @@ use Rattle.mkv_generate.specs.declared.blocks.MediaKind.{MediaKind}
 use Rattle.mkv_generate.specs.declared.blocks.MediaKind.TheVariants.{Pictures, Sounds}
 use Rattle.mkv_generate.specs.Blocks.{blocks_of}
 
--- the TrackType of the file's track; `codec_of` is its CodecID
+-- the TrackType of the file's track
 abbrev pub type_of : MediaKind → ℕ
 type_of Pictures = 1
 type_of Sounds = 2
 
+-- the CodecID of the file's track
 abbrev pub codec_of : MediaKind → List ℕ
 codec_of Pictures = codes "V_TEST"
 codec_of Sounds = codes "A_TEST"

@@ -33,6 +33,7 @@ use Rattle.mkv_generate.specs.Files.{file_of}
 
 -- ---- names
 
+-- the names of the outputs that `generate` writes, all with the prefix that the command line gives
 abbrev pub names_of : List ℕ → Names
 names_of prefix = record {
   pictures = prefix ++ codes "-a.mkv";
@@ -43,9 +44,11 @@ names_of prefix = record {
 
 -- ---- the two files
 
+-- the output `name` of pictures or of sounds with `n` blocks
 abbrev pub made_file : MediaKind → ℕ → List ℕ → PlannedOutput
 made_file medium n name = record { name = name; blocks = blocks_of medium n; document = file_of medium n }
 
+-- the two files that are merged, of pictures and of sounds, with `n` blocks each
 abbrev pub two_files : ℕ → Names → List PlannedOutput
 two_files n names = made_file Pictures n names.pictures ∷ made_file Sounds n names.sounds ∷ []
 
@@ -65,6 +68,7 @@ pub record MergeMade : Type 0 where
   pub warned : List (List ℕ)
   pub damaged : Bool
 
+-- the result of a merge of `sources`
 abbrev pub made_of : MergeWords → List Source → MergeMade
 made_of words sources = record {
   outputs = outputs_of words sources;
@@ -88,6 +92,7 @@ abbrev pub first_written : List Written → Written
 first_written [] = record { name = []; blocks = 0; clusters = 0; cues = 0 }
 first_written (file ∷ more) = file
 
+-- the line that `generate` prints about the merged file `both`, made of files with `n` blocks, and its number of parts
 abbrev pub line_for : ℕ → Written → ℕ → List ℕ
 line_for n both parts = generated_line n both.blocks both.clusters both.cues parts
 
@@ -107,6 +112,7 @@ abbrev pub with_both : ℕ → Names → List PlannedOutput → Result MergeMade
 with_both n names files (Ok both) = with_parts n names files both (merge_of (parts_words names) both.outputs)
 with_both n names files (Err why) = comes_to Refused files (line_of (both_words names) why ∷ [])
 
+-- the result of `generate` with `n` blocks in each of the two files
 abbrev pub verdict_of : ℕ → Names → Verdict
 verdict_of n names = with_both n names (two_files n names) (merge_of (both_words names) (two_files n names))
 
@@ -119,6 +125,6 @@ abbrev pub MakesNamed : {F P : Type 0} → ReadsGhosts F → FilesGhosts F → R
 MakesNamed r f p files files' report report' result n names =
     IfVisible (f.names files) (λ world. Fulfils r f p files files' report report' result (verdict_of n names))
 
--- `MakesNamed` holds for `generate N PREFIX`.
+-- If the names are visible to the proof, `generate N PREFIX` ends with its result, or was stopped on the way.
 abbrev pub Generates : {F P : Type 0} → ReadsGhosts F → FilesGhosts F → ReportGhosts P → F → F → P → P → Result Status CommandEnd → ℕ → List ℕ → Type 0
 Generates r f p files files' report report' result n prefix = MakesNamed r f p files files' report report' result n (names_of prefix)

@@ -25,7 +25,7 @@ pub record HasParts (own : OutHead) (all parts : List ℕ) (m : Made) : Type 0 w
   pub octets : m.octets.items ≡ all
   pub sizes : m.sizes.items ≡ parts
 
--- the block by reference
+-- a generated block, as a block that an output track hands out
 abbrev pub lent_made : Made → Lent
 lent_made m = lent m.head [] m.octets.items m.sizes.items [] []
 

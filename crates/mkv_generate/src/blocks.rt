@@ -41,6 +41,7 @@ impl Made {
         }
     }
 
+    /// Checks whether the block is a keyframe.
     pub(crate) fn is_key(&self) -> bool
         ensures { result ≡ self.now.head.key }
     {
@@ -65,7 +66,7 @@ fn simple_head(time: u32, key: bool, lace: Lace) -> OutHead
     }
 }
 
-// Returns a block of one frame.
+// Returns a block with the header `head` and one frame, the first `size` of `octets`.
 fn single(head: OutHead, octets: ArrayVec<u8, MAX_COUNTING>, size: u32) -> Made
     ensures { HasParts head octets.items (size ∷ []) result }
 {
@@ -78,7 +79,7 @@ fn single(head: OutHead, octets: ArrayVec<u8, MAX_COUNTING>, size: u32) -> Made
     }
 }
 
-// Returns a block of two frames.
+// Returns a block with the header `head` and two frames of the sizes `first` and `second`, in sequence in `octets`.
 fn laced(head: OutHead, octets: ArrayVec<u8, MAX_COUNTING>, first: u32, second: u32) -> Made
     ensures { HasParts head octets.items (first ∷ second ∷ []) result }
 {

@@ -38,7 +38,8 @@ fn rule_of(medium: MediaKind) -> CueRule
     }
 }
 
-// Adds the block number `i`.
+// Adds the block number `i` of the file to the Cluster in `buffer`, and writes this Cluster first if the block can't
+// join it.
 fn add_one<F: Files>(
     files: &mut F,
     out: &mut OutFile,

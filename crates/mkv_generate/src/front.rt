@@ -15,7 +15,7 @@ use std::alloc::{AllocError, Global};
 /// Nanoseconds per tick.
 pub(crate) const SCALE: u64 = 1_000_000;
 
-// Returns the TrackType of `medium`.
+// Returns the TrackType of the file of pictures or of sounds.
 fn type_of(medium: MediaKind) -> u64
     ensures { result ≡ type_of medium }
 {
@@ -25,7 +25,7 @@ fn type_of(medium: MediaKind) -> u64
     }
 }
 
-// Returns the CodecID of `medium`.
+// Returns the CodecID of the file of pictures or of sounds.
 fn codec_of(medium: MediaKind) -> &'static str
     ensures { result.now ≡ codec_of medium }
 {

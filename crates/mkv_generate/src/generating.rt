@@ -57,7 +57,8 @@ fn say_all<P: Report>(
     warn(alloc, &parts.words, &parts.summary, report)
 }
 
-// Prints the lines about all files.
+// Prints the line about all files and the warnings of both merges. Returns the status: a warning if a merge met
+// damage.
 fn tell_all<P: Report>(
     alloc: Global,
     n: u32,

@@ -39,7 +39,7 @@ pub enum Outcome {
     Made { both: Done, parts: Done },
 }
 
-// Writes the two files.
+// Writes the two files that are merged later, of pictures and of sounds, with `n` blocks each.
 fn write_files<F: Files>(
     alloc: Global,
     n: u32,
@@ -89,7 +89,7 @@ fn merge_parts<F: Files>(
     }
 }
 
-// Splits the merged file.
+// Merges the merged file again, split into parts. `both` is the result of the first merge.
 fn make_parts<F: Files>(
     alloc: Global,
     names: &Names,

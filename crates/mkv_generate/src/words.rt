@@ -13,7 +13,7 @@ use std::alloc::{AllocError, Global};
 /// Duration of a part, in nanoseconds.
 const PART: u64 = 10_000_000_000;
 
-// Returns an input of a merge without options.
+// Returns the input `name` of a merge, without options.
 fn plain_file(alloc: Global, name: &Text) -> Result<FileWords, AllocError>
     ensures { IfOk result (λ file. file ≡ plain_file name.now) }
 {

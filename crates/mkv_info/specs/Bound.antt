@@ -13,6 +13,7 @@ most_to_list octets = 4 * octets
 abbrev pub most_to_identify : ℕ → ℕ
 most_to_identify octets = 6 * octets + min (16 * octets) (2 * MAX_ATTACHMENTS_LEN)
 
+-- the limit for a command that prints a file of `octets` bytes in this form
 abbrev pub most_of_form : Form → ℕ → ℕ
 most_of_form Lines octets = most_to_list octets
 most_of_form Json octets = most_to_identify octets

@@ -14,6 +14,7 @@ entries_value n = array_of (if n == 0 then [] else object_of (given "num_entries
 abbrev pub top_atoms : List Node → List Node
 top_atoms ns = flat_map (λ e. part CHAPTER_ATOM (children e)) (part EDITION_ENTRY ns)
 
+-- the number of ChapterAtoms directly in the EditionEntries of the Chapters, or 0 without Chapters
 abbrev pub chapter_count : Option Node → ℕ
 chapter_count None = 0
 chapter_count (Some chapters) = length (top_atoms (children chapters))

@@ -26,6 +26,7 @@ container_properties info = object_of (
     if_there "title" (option_map string (title_of info)) ∷
     [])
 
+-- the value of the key `container`: that the file is Matroska, and its properties
 abbrev pub container_value : Option Node → Data
 container_value info = object_of (
     given "properties" (container_properties info) ∷
@@ -46,6 +47,7 @@ told_of name file =
     given "tracks" (tracks_value file.tracks) ∷
     []
 
+-- the JSON object that `merge -J` prints for the file `name` with these records
 unfoldable pub identification : List ℕ → FileRecords → Data
 identification name file = object_of (told_of name file)
 

@@ -13,7 +13,7 @@ abbrev pub identified : List ℕ → Result Described Damage → Verdict
 identified name (Ok file) = only_said (status_with file.damage) (identification_line name file.records ∷ warnings name file.damage)
 identified name (Err d) = refused (refusal_line name d)
 
--- the same for a file that was read
+-- the identification of a file that was read, and then a warning of damage at level 1
 abbrev pub identified_of : List ℕ → FileRead → Verdict
 identified_of name read = identified name (Ok (read_in read))
 

@@ -12,9 +12,11 @@ whole n = number (unsigned n)
 abbrev pub Member : Type 0
 Member = List ℕ × Option Data
 
+-- a member of an object with the key `key` and this value
 abbrev pub given : String → Data → Member
 given key value = (codes key, Some value)
 
+-- a member of an object with the key `key`, which is left out if there is no value
 abbrev pub if_there : String → Option Data → Member
 if_there key value = (codes key, value)
 
@@ -23,6 +25,7 @@ abbrev pub with_first : List ℕ → Option Data → Members → Members
 with_first key None ms = ms
 with_first key (Some value) ms = member key value ms
 
+-- the members of an object, without the ones that are left out
 abbrev pub members_of : List Member → Members
 members_of [] = no_members
 members_of (m ∷ ms) = with_first m.0 m.1 (members_of ms)

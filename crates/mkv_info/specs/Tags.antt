@@ -15,6 +15,7 @@ use Rattle.mkv_info.specs.Json.{array_of, given, numbered, object_of, whole}
 abbrev pub named_among : List Node → List ℕ
 named_among ns = filter (λ uid. not (uid == 0)) (map integer_of (part TAG_TRACK_UID ns))
 
+-- the TrackUIDs that a Targets element names
 abbrev pub named_in : Node → List ℕ
 named_in targets = named_among (children targets)
 
@@ -31,6 +32,7 @@ is_counted (Track uid) tag = list_any (λ own. own == uid) (tracks_named tag)
 abbrev pub simple_tags : Scope → List Node → List Node
 simple_tags scope ns = flat_map (λ t. part SIMPLE_TAG (children t)) (filter (is_counted scope) (part TAG ns))
 
+-- the number of SimpleTags directly in the Tags of this scope, or 0 without Tags
 abbrev pub tag_count : Scope → Option Node → ℕ
 tag_count scope None = 0
 tag_count scope (Some tags) = length (simple_tags scope (children tags))

@@ -53,6 +53,6 @@ track_value id t = object_of (
     given "type" (string (type_name t.kind)) ∷
     [])
 
--- the tracks in the order of the file, numbered from 0
+-- the JSON array of the tracks, in the order of the file and numbered from 0
 abbrev pub tracks_value : List Track → Data
 tracks_value list = array_of (numbered (λ id t. track_value id t ∷ []) 0 list)

@@ -28,6 +28,7 @@ pub(crate) fn container_value(alloc: Global, info: &Option<Tree>) -> Result<Valu
     })
 }
 
+// Makes the properties of the whole file: TimestampScale and Title.
 fn container_properties(alloc: Global, info: &Option<Tree>) -> Result<Value, AllocError>
     requires { IfSome info.now IsGoodInfo }
     ensures { IfOk result (λ value. view value ≡ container_properties info.now) }

@@ -70,6 +70,7 @@ pub(crate) fn tag_count(tags: &Option<Tree>, scope: Scope) -> Result<usize, Allo
     Ok(count)
 }
 
+// Checks whether a Tag is counted in this scope, which is the whole file or its tracks.
 fn is_counted(tag: &Tree, scope: Scope) -> bool
     requires { IsSoundOf TAG_ID tag.now }
     ensures { result ≡ is_counted scope tag.now }

@@ -48,6 +48,7 @@ fn track_value(alloc: Global, id: usize, track: &Track) -> Result<Value, AllocEr
     })
 }
 
+// Makes the properties of a track, as `merge -J` prints them.
 #[tactic(auto, using(crate::proofs::ValueLemmas::known))]
 fn properties_of(alloc: Global, track: &Track) -> Result<Value, AllocError>
     requires { IsEntry track.now.entry }

@@ -72,7 +72,7 @@ fn shown<'a>(index: usize, track: &'a Track) -> ShownTrack<'a>
     }
 }
 
-/// Prints a line for each track.
+/// Prints a line for each track, numbered from 0.
 pub fn say_tracks<P: Report>(
     alloc: Global,
     tracks: &List<Track>,

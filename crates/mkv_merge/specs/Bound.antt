@@ -19,6 +19,7 @@ use Rattle.mkv_merge.specs.declared.refusal.Refusal.{Refusal}
 abbrev pub files_size : LiveFiles → List FileId → ℕ
 files_size f list = sum_by (λ (file : FileId). f.size file.n) list
 
+-- the sum of the lengths of the live files in `list` among `files`; a file counts as often as `list` has it
 abbrev pub live_size : {S : Type 0} → Ghosts S → S → List FileId → ℕ
 live_size r files list = files_size (live_files r files) list
 

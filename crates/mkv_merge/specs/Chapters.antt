@@ -29,10 +29,11 @@ chapters_refusal (file.Read chapters) = None
 
 -- ---- Chapters of the file
 
--- an input with the Chapters `chapters`; `with_chapters` is the same for the result of reading it
+-- the opened input `i` with the Chapters `chapters`
 abbrev pub with_tree : Option Node → Input → Input
 with_tree chapters i = record i { chapters = chapters }
 
+-- the input `i`, as it was read, with the Chapters `chapters`
 abbrev pub with_chapters : Option Node → InputRead → InputRead
 with_chapters chapters i = record i { chapters = chapters }
 

@@ -33,21 +33,23 @@ IsQuiet (Stopped stop.Files) = ⊥
 IsQuiet (Stopped stop.Disk) = ⊥
 IsQuiet (Stopped stop.Report) = ⊥
 
--- the end of a merge whose inputs aren't opened; `unplanned` is the end of a merge that isn't planned
+-- the end of a merge whose inputs can't be opened
 abbrev pub unopened : InputsEnd → MergeEnd
 unopened (inputs_end.Missing input) = Refused (Missing input)
 unopened inputs_end.Failed = Stopped stop.Files
 unopened inputs_end.Memory = Stopped stop.Memory
 
+-- the end of a merge that can't be planned
 abbrev pub unplanned : PlanEnd → MergeEnd
 unplanned (plan_end.Refused why) = Refused (Plan why)
 unplanned plan_end.Memory = Stopped stop.Memory
 
--- the end of a merge that prints, by the end of its writing; `as_remuxed` is the end of a merge that prints nothing
+-- the end of a merge that prints messages while it writes, by the end of its writing
 abbrev pub as_written : Result Status CommandEnd → Result Status MergeEnd
 as_written (Ok s) = Ok s
 as_written (Err why) = Err (Stopped why)
 
+-- the end of a merge that prints nothing, by the end of its writing
 abbrev pub as_remuxed : Result Summary RemuxEnd → Result Summary MergeEnd
 as_remuxed (Ok s) = Ok s
 as_remuxed (Err end) = Err (Stopped (stop_of end))

@@ -32,7 +32,7 @@ use Rattle.mkv_merge.specs.declared.refusal.MergeEnd.{MergeEnd}
 use Rattle.mkv_merge.specs.declared.refusal.Refusal.{Refusal}
 use Rattle.mkv_merge.specs.declared.refusal.Refusal.TheVariants.{Missing, OutputIsInput}
 
--- no text file
+-- the text files of a merge that has none
 abbrev pub no_texts : TextFiles
 no_texts = record { chapters = Absent; times = [] }
 
@@ -78,7 +78,7 @@ Merges old new words found (Ok (Written s)) = HasMerged old new words found s
 Merges old new words found (Ok (Refused why)) = (found ≡ Err why) × (new ≡ old)
 Merges old new words found (Err stop) = AreWrittenInOrder old new (drafts_of (outputs_found words found))
 
--- the result of a merge that prints nothing
+-- the end of a merge that prints nothing: its summary, or its refusal
 abbrev pub as_merged : Result Summary MergeEnd → Result Merged CommandEnd
 as_merged result = end_as Written Refused result
 
@@ -86,6 +86,7 @@ as_merged result = end_as Written Refused result
 abbrev pub MergesLive : {S : Type 0} → Ghosts S → writing.Ghosts S → S → S → MergeWords → List FileId → Result Merged CommandEnd → Type 0
 MergesLive r f old new words list result = IfAllTold r old list (λ contents. Merges (f.names old) (f.names new) words (sources_unless [] words no_texts contents) result)
 
+-- `Merges` holds for the files that `words` names, if the names and their contents are visible to the proof.
 abbrev pub MergesAlone : {S : Type 0} → writing.Ghosts S → S → S → MergeWords → Result Merged CommandEnd → Type 0
 MergesAlone f old new words result = IfVisible (f.names old) (λ world. Merges (f.names old) (f.names new) words (sources_alone world words) result)
 

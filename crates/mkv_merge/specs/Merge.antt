@@ -67,7 +67,8 @@ refusals_read words texts contents =
     ∷ option_map Plan (plan_refusal words (reads_of (sources_in words texts contents)))
     ∷ []
 
--- the sources of a merge whose inputs have the contents `contents`, or the first refusal that holds: one of `causes`, or else one after reading
+-- the sources of a merge whose inputs have the contents `contents`, or its first refusal. `causes` are the refusals that are checked before the
+-- inputs are read.
 abbrev pub sources_unless : List (Option Refusal) → MergeWords → TextFiles → List (List ℕ) → Result (List Source) Refusal
 sources_unless causes words texts contents = unless (first_cause (causes ++ refusals_read words texts contents)) (sources_in words texts contents)
 
@@ -107,6 +108,7 @@ front_for words number front = record front {
   attachments = if number == 1 then front.attachments else [];
 }
 
+-- the Elements before the Clusters of the part `number` of this merge
 abbrev pub front_at : MergeWords → List Source → ℕ → Front
 front_at words sources number = front_for words number (front_of words sources)
 
@@ -129,16 +131,19 @@ outputs_of words sources = map (output_at words sources) (enumerate_from 1 (part
 
 -- ---- warnings
 
--- the tracks that the command line names for a file, each once, and that the file doesn't have; it has `count` tracks
+-- the tracks that the command line names for a file, each once, and that the file, with `count` tracks, doesn't have
 abbrev pub absent_of : FileWords → ℕ → List ℕ
 absent_of file count = filter (λ n. nat_le count n) file.named
 
+-- the tracks that the command line names for an input and that it doesn't have
 abbrev pub absent : FileWords × InputRead → List ℕ
 absent f = absent_of f.0 f.1.count
 
+-- a warning for each track that the command line names for a file and that the file, with `count` tracks, doesn't have
 abbrev pub lines_absent : FileWords → ℕ → List (List ℕ)
 lines_absent file count = map (no_track_line file.name) (absent_of file count)
 
+-- a warning for each track that the command line names for an input and that it doesn't have
 abbrev pub absent_lines : FileWords × InputRead → List (List ℕ)
 absent_lines f = lines_absent f.0 f.1.count
 
@@ -163,34 +168,38 @@ damages_warned name damages = let told = told_damages damages in damage_lines na
 abbrev pub warnings : List Source → ℕ × FileWords → List (List ℕ)
 warnings sources each = damages_warned each.1.name (damages_met sources each.0)
 
--- some input lacks a track that the command line names
+-- Some input lacks a track that the command line names.
 abbrev pub has_absent : MergeWords → List InputRead → Bool
 has_absent words reads = list_any (λ f. is_some_of (absent f)) (zip words.files reads)
 
--- some source has damage
+-- Some source has damage that is met while its blocks are merged.
 abbrev pub has_damage : List Source → Bool
 has_damage sources = list_any (λ k. is_some_of (damages_met sources k)) (range_with_len 0 (length sources))
 
--- segment identifiers are given, but not one for each of `count` outputs
+-- The command line gives segment identifiers, but not one for each of the `count` outputs.
 abbrev pub has_other_count : MergeWords → ℕ → Bool
 has_other_count words count = not (length words.uuids == 0) && not (length words.uuids == count)
 
+-- the warning about the number of segment identifiers, if it isn't the number `count` of outputs
 abbrev pub uuid_lines : MergeWords → ℕ → List (List ℕ)
 uuid_lines words count = if has_other_count words count then uuid_count_line (length words.uuids) count ∷ [] else []
 
 -- ---- result
 
+-- the status of a merge that isn't refused; the argument is true if it has a warning
 abbrev pub warned_if : Bool → Status
 warned_if true = Warned
 warned_if false = Done
 
--- the lines before the outputs; `lines_behind` has the lines of the outputs and all later lines
+-- the lines before the outputs are written: warnings of tracks that inputs lack
 abbrev pub lines_before : MergeWords → List InputRead → List (List ℕ)
 lines_before words reads = flat_map absent_lines (zip words.files reads)
 
+-- the line about a complete output, with its number of blocks
 abbrev pub output_line : PlannedOutput → List ℕ
 output_line o = wrote_blocks_line o.name (counted 0 (length o.blocks))
 
+-- the lines after the outputs are written: one for each output, warnings of damage by input, and a warning of the number of segment identifiers
 abbrev pub lines_behind : MergeWords → List Source → List (List ℕ)
 lines_behind words sources =
     map output_line (outputs_of words sources) ++ flat_map (warnings sources) (enumerate_from 0 words.files) ++ uuid_lines words (length (outputs_of words sources))
@@ -204,6 +213,7 @@ merged_verdict words sources = record {
   outputs = in_turn (drafts_of (outputs_of words sources));
 }
 
+-- the result of a merge, given its sources or its refusal
 abbrev pub verdict_of : MergeWords → Result (List Source) Refusal → Verdict
 verdict_of words (Ok sources) = merged_verdict words sources
 verdict_of words (Err why) = refused (line_of words why)

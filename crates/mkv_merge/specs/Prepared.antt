@@ -49,13 +49,15 @@ ReadsAs shown found (Ok x) = found ≡ Ok (shown x)
 ReadsAs shown found (Err (Refused why)) = found ≡ Err why
 ReadsAs shown found (Err (Stopped stop)) = ⊤
 
+-- the results of reading, without what the code keeps of each opened file
 abbrev pub reads_in : List Input → List InputRead
 reads_in inputs = map read_in inputs
 
--- The input number `input` with the content `bytes` was read as expected; `ReadsEach` states it for all inputs of a merge.
+-- The input number `input` with the content `bytes` was read as expected, or refused.
 abbrev pub ReadsOne : ℕ → FileWords → Bool → ℕ → List ℕ → Result Input MergeEnd → Type 0
 ReadsOne input words webm held bytes result = ReadsAs read_in (numbered input (input_of words webm held bytes)) result
 
+-- The inputs with the contents `contents` were read as expected, or the first refusal was found.
 abbrev pub ReadsEach : MergeWords → List (List ℕ) → Result (List Input) MergeEnd → Type 0
 ReadsEach words contents result = ReadsAs reads_in (inputs_of words contents) result
 

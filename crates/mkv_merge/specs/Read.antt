@@ -31,14 +31,15 @@ read_names words =
     file_names words.files ++ (option_to_list words.chapters ++ (times_names (times_named words.files)
     ++ (map sidecar_of (file_names words.files) ++ map sidecar_of (times_names (times_named words.files)))))
 
+-- The merge is split into parts.
 abbrev pub is_split : MergeWords → Bool
 is_split words = is_some words.split
 
--- `name` is the output's name on the command line
+-- `name` is the output's name on the command line.
 abbrev pub is_output : MergeWords → List ℕ → Bool
 is_output words name = bytes_eq name words.output
 
--- `name` could be the name of a part
+-- `name` could be the name of a part of the output.
 abbrev pub is_part : MergeWords → List ℕ → Bool
 is_part words name = is_split words && is_part_name words.output name
 
@@ -54,10 +55,11 @@ pub record IsApartMerge (words : MergeWords) : Type 0 where
 
 -- ---- contents
 
--- the contents of the inputs; below, the contents of the text files
+-- the contents of the inputs in `world`, in the order of the command line
 abbrev pub contents_held : (List ℕ → Option (List ℕ)) → MergeWords → List (List ℕ)
 contents_held world words = map (λ name. unwrap_or (world name) []) (file_names words.files)
 
+-- the contents of the chapter file and of the timestamp files in `world`
 abbrev pub texts_held : (List ℕ → Option (List ℕ)) → MergeWords → TextFiles
 texts_held world words = text_files world words.chapters words.files
 
@@ -88,6 +90,7 @@ inputs_from webm input held (file ∷ files) =
     and_then (inputs_from webm (suc input) (counted held read.held) files) (λ reads.
     Ok (read ∷ reads)))
 
+-- the results of reading inputs with the contents `contents`, or the first refusal of one
 abbrev pub inputs_of : MergeWords → List (List ℕ) → Result (List InputRead) Refusal
 inputs_of words contents = inputs_from words.webm 0 0 (zip words.files contents)
 
@@ -96,6 +99,7 @@ abbrev pub found_in : Result (List InputRead) Refusal → List InputRead
 found_in (Ok reads) = reads
 found_in (Err why) = []
 
--- the same with the text files applied: the Chapters of the chapter file and the timestamps of the timestamp files
+-- the results of reading inputs, with the Chapters of the chapter file and the timestamps of the timestamp files applied. There are none if an
+-- input is refused.
 abbrev pub reads_with : MergeWords → TextFiles → List (List ℕ) → List InputRead
 reads_with words texts contents = timed_from texts.times 0 (chaptered with_chapters words.webm texts.chapters (found_in (inputs_of words contents)))

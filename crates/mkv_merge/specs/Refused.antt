@@ -28,6 +28,7 @@ first_cause (Some why ∷ causes) = Some why
 abbrev pub name_of : MergeWords → ℕ → List ℕ
 name_of words input = option_map_or (λ (file : FileWords). file.name) (slice_get words.files input) []
 
+-- the line that reports why a plan is refused; `output` is the name of the output
 abbrev pub plan_line : List ℕ → PlanRefusal → List ℕ
 plan_line output NoLane = no_lane_line
 plan_line output TooManyLanes = too_many_lanes_line
@@ -38,15 +39,17 @@ plan_line output (HeaderTooLarge id) = too_large_line output id
 abbrev pub chapters_name : MergeWords → List ℕ
 chapters_name words = unwrap_or words.chapters []
 
+-- the line that reports why the text file `name` is refused
 abbrev pub text_line : List ℕ → TextRefusal → List ℕ
 text_line name TooLarge = text_too_large_line name
 text_line name (Bad line) = bad_text_line name line
 
+-- the line that reports why the input `name` is refused
 abbrev pub input_line : List ℕ → InputRefusal → List ℕ
 input_line name (Damaged damage) = refusal_line name damage
 input_line name (Text why) = text_line name why
 
--- the line that reports a refusal
+-- the line that reports the refusal of a merge
 abbrev pub line_of : MergeWords → Refusal → List ℕ
 line_of words (OutputIsInput name) = output_is_input_line name
 line_of words (Missing input) = missing_line (name_of words input)

@@ -52,6 +52,7 @@ EndsShort r f files words list inputs result = IfVisible (f.names files) (λ wor
 abbrev pub refusals_begun : (List ℕ → Option (List ℕ)) → MergeWords → TextFiles → List (Option Refusal)
 refusals_begun world words texts = missing_text texts ∷ pending_of world words ∷ []
 
+-- the first refusal of a merge before its inputs are read, if all inputs exist: a missing text file, or a pending edit
 abbrev pub begun_refusal : (List ℕ → Option (List ℕ)) → MergeWords → TextFiles → Option Refusal
 begun_refusal world words texts = option_or (missing_text texts) (pending_of world words)
 
@@ -71,13 +72,15 @@ pub record MergesTo {F P : Type 0} (r : Ghosts F) (f : writing.Ghosts F) (p : Re
   pub readable : EndsReadable words found (as_command result)
   pub octets : ReadsUpTo r files files' most
 
--- `MergesTo` holds for the live files `list`.
+-- A merge of the live files `list` ends with its result or its refusal, or was stopped on the way. Its outputs can be read again, and it reads no
+-- more bytes than it may.
 abbrev pub MergesThere : {F P : Type 0} → Ghosts F → writing.Ghosts F → ReportGhosts P → F → F → P → P → MergeWords → TextFiles → List FileId → Result Status MergeEnd → Type 0
 MergesThere r f p files files' report report' words texts list result = IfVisible (f.names files) (λ world. IfAllTold r files list (λ contents.
     let found = sources_unless (refusals_begun world words texts) words texts contents in
     MergesTo r f p files files' report report' words found (most_of found (live_size r files list) + most_looked words) result))
 
--- `MergesTo` holds for the files that `words` names.
+-- A merge of the files that `words` names ends with its result or its refusal, or was stopped on the way. Its outputs can be read again, and it
+-- reads no more bytes than it may.
 abbrev pub MergesNamed : {F P : Type 0} → Ghosts F → writing.Ghosts F → ReportGhosts P → F → F → P → P → MergeWords → Result Status MergeEnd → Type 0
 MergesNamed r f p files files' report report' words result = IfVisible (f.names files) (λ world.
     MergesTo r f p files files' report report' words (sources_of world words) (most_read world words) result)

@@ -16,10 +16,11 @@ use Rattle.mkv_merge.specs.declared.refusal.Refusal.TheVariants.{MissingTimes, T
 
 -- ---- refusals
 
--- the first timestamp file for which `why` is a refusal; `refusal_of_first` is that refusal
+-- the first timestamp file for which `why` has a refusal
 abbrev pub first_refusing : (TimesFile → Option Refusal) → List TimesFile → Option TimesFile
 first_refusing why files = find (λ (f : TimesFile). is_some (why f)) files
 
+-- the first refusal that `why` has for one of the timestamp files
 abbrev pub refusal_of_first : (TimesFile → Option Refusal) → List TimesFile → Option Refusal
 refusal_of_first why files = option_and_then why (first_refusing why files)
 
@@ -29,10 +30,11 @@ missing_given name given.Missing = Some (MissingTimes name)
 missing_given name (given.Refused why) = None
 missing_given name (given.Read times) = None
 
--- the refusal because a timestamp file is missing; `missing_times` is the first for a list of files
+-- the refusal because a timestamp file is missing
 abbrev pub missing_by : TimesFile → Option Refusal
 missing_by f = missing_given f.named.name f.given
 
+-- the refusal because of the first missing timestamp file
 abbrev pub missing_times : List TimesFile → Option Refusal
 missing_times files = refusal_of_first missing_by files
 
@@ -46,10 +48,11 @@ given_refusal name given.Missing = None
 given_refusal name (given.Refused why) = Some (Times name why)
 given_refusal name (given.Read times) = None
 
--- the refusal because a timestamp file is refused; `times_refusal` is the first for a list of files
+-- the refusal because a timestamp file is refused
 abbrev pub refusal_by : TimesFile → Option Refusal
 refusal_by f = given_refusal f.named.name f.given
 
+-- the refusal because of the first refused timestamp file
 abbrev pub times_refusal : List TimesFile → Option Refusal
 times_refusal files = refusal_of_first refusal_by files
 

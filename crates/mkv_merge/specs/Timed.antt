@@ -14,23 +14,27 @@ pub record Listed : Type 0 where
   pub id : ℕ
   pub times : Listing
 
+-- the timestamps that the code shares, without their owner
 abbrev pub listed_of : SharedTimes → Listed
 listed_of s = record { input = s.input; id = s.id; times = s.times.value }
 
--- the timestamps of one file, and below of several files
+-- the timestamps for the track `pair.0` of the input number `input`
 abbrev pub given_listed : ℕ → ℕ × Listing → Listed
 given_listed input pair = record { input = input; id = pair.0; times = pair.1 }
 
+-- the timestamps that one timestamp file lists, if it was read
 abbrev pub listed_by : TimesFile → List Listed
 listed_by f = map (given_listed f.named.input) (given_listing f.named.id f.given)
 
+-- the timestamps that several timestamp files list
 abbrev pub listed_in : List TimesFile → List Listed
 listed_in files = flat_map listed_by files
 
--- the timestamps for the input number `input`
+-- the timestamps `l` with the ID of their track, if they are for the input number `input`
 abbrev pub at_input : ℕ → Listed → List (ℕ × Listing)
 at_input input l = if l.input == input then (l.id, l.times) ∷ [] else []
 
+-- the shared timestamps for the input number `input`, each with the ID of its track
 abbrev pub shared_at : ℕ → List SharedTimes → List (ℕ × Listing)
 shared_at input shared = flat_map (λ (s : SharedTimes). at_input input (listed_of s)) shared
 

@@ -11,20 +11,23 @@ use Rattle.remux_plan.specs.declared.summary.MoreDamage.{MoreDamage}
 use Rattle.remux_plan.specs.declared.summary.Summary.{Summary}
 use Rattle.remux_plan.specs.declared.summary.Written.{Written}
 
--- the damage of the input number `input`; `more_at` is the same for the counts of further damage
+-- the damage of the input number `input` that is reported each
 abbrev pub damages_at : ℕ → List InputDamage → List InputDamage
 damages_at input damages = filter (λ (d : InputDamage). d.input == input) damages
 
+-- the counts of further damage of the input number `input`
 abbrev pub more_at : ℕ → List MoreDamage → List MoreDamage
 more_at input more = filter (λ (m : MoreDamage). m.input == input) more
 
--- the warnings about an input `name`: its first damaged places, and the number of the others
+-- a warning for each damaged place of the input `name` that is reported
 abbrev pub damage_warnings : List ℕ → ℕ → List InputDamage → List (List ℕ)
 damage_warnings name input damages = map (λ (d : InputDamage). warning_line name d.damage) (damages_at input damages)
 
+-- the warning of the number of other damaged places of the input `name`, if there are any
 abbrev pub more_warnings : List ℕ → ℕ → List MoreDamage → List (List ℕ)
 more_warnings name input more = map (λ (m : MoreDamage). more_damages_line name m.count) (more_at input more)
 
+-- the warnings about the input number `input` with the name `name`
 abbrev pub input_warnings : Summary → ℕ → List ℕ → List (List ℕ)
 input_warnings s input name = damage_warnings name input s.damages ++ more_warnings name input s.more
 
@@ -37,14 +40,15 @@ warnings_from s input (file ∷ files) = input_warnings s input file.name ++ war
 abbrev pub is_warned : Bool → Summary → Bool
 is_warned absent s = absent || is_some_of s.damages
 
--- the lines of completed outputs
+-- a line for each complete output, with its number of blocks
 abbrev pub wrote_lines : List Written → List (List ℕ)
 wrote_lines outputs = map (λ (w : Written). wrote_blocks_line w.name w.blocks) outputs
 
--- the lines of the outputs and then the warnings about the inputs; `told_summary` adds the warning about the number of identifiers
+-- the lines of the outputs, and then the warnings about the inputs
 abbrev pub told_outputs : MergeWords → Summary → List (List ℕ)
 told_outputs words s = wrote_lines s.outputs ++ warnings_from s 0 words.files
 
+-- the lines after the outputs are written: the outputs, the warnings about the inputs, and the one about the number of identifiers
 abbrev pub told_summary : MergeWords → Summary → List (List ℕ)
 told_summary words s = told_outputs words s ++ uuid_lines words (length s.outputs)
 

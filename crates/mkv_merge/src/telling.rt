@@ -31,6 +31,7 @@ fn name_of(words: &MergeWords, input: usize) -> &str
     }
 }
 
+/// Returns the line that reports why the text file `name` is refused.
 fn text_line<'a>(name: &'a str, why: &TextRefusal) -> Line<'a>
     ensures { text_of result ≡ text_line name.now why.now }
 {
@@ -40,6 +41,7 @@ fn text_line<'a>(name: &'a str, why: &TextRefusal) -> Line<'a>
     }
 }
 
+/// Returns the line that reports why the input `name` is refused.
 fn input_line<'a>(name: &'a str, why: &InputRefusal) -> Line<'a>
     ensures { text_of result ≡ input_line name.now why.now }
 {
@@ -52,6 +54,7 @@ fn input_line<'a>(name: &'a str, why: &InputRefusal) -> Line<'a>
     }
 }
 
+/// Returns the line that reports why a plan is refused; `name` is the name of the output.
 fn plan_line<'a>(name: &'a str, why: &'a PlanRefusal) -> Line<'a>
     ensures { text_of result ≡ plan_line name.now why.now }
 {
@@ -108,7 +111,7 @@ fn line_of<'a>(words: &'a MergeWords, why: &'a Refusal) -> Line<'a>
     }
 }
 
-/// Prints the refusal `why`.
+/// Prints the line that reports the refusal `why` of a merge, and returns the status of a refusal.
 pub fn refuse<P: Report>(
     alloc: Global,
     words: &MergeWords,
