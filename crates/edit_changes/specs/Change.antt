@@ -56,6 +56,7 @@ place_of selector tracks = nth_place (fits selector) (turn_of selector) 0 tracks
 abbrev pub added_to : ℕ → List ℕ → Node → Node
 added_to id value n = with_children n (children n ++ leaf id 0 value ∷ [])
 
+-- Node `n` has a child with the ID `id`.
 abbrev pub has : ℕ → Node → Bool
 has id n = is_some (first_child id n)
 
@@ -64,6 +65,7 @@ abbrev pub set : ℕ → Node → Option (List ℕ) → Result Node EditRefusal
 set id n None = Err BadPropertyValue
 set id n (Some value) = Ok (set_in (leaf id 0 value) n)
 
+-- node `n` with the property `id` and its value added. A bad value is refused first, and then a property that exists.
 abbrev pub added : ℕ → Node → Option (List ℕ) → Result Node EditRefusal
 added id n None = Err BadPropertyValue
 added id n (Some value) = if has id n then Err AlreadyThere else Ok (added_to id value n)
@@ -72,6 +74,7 @@ added id n (Some value) = if has id n then Err AlreadyThere else Ok (added_to id
 abbrev pub deleted : Property → Node → Result Node EditRefusal
 deleted p n = if p.deletable then Ok (removed_in p.id n) else Err Mandatory
 
+-- node `n` after a change of its property `p`: set to a value, added with a value, or deleted
 abbrev pub changed : Change → List ℕ → Node → Property → Result Node EditRefusal
 changed Set value n p = set p.id n (value_of p.kind value)
 changed Add value n p = added p.id n (value_of p.kind value)
@@ -88,22 +91,26 @@ edited_node e n = named e.change e.value n (property_of (is_info e.place) e.name
 
 -- ---- the edits of a file in sequence
 
+-- the trees `t` after edit `e` of the Info, if there is one
 abbrev pub in_info : Edit → Trees → Option Node → Result Trees EditRefusal
 in_info e t None = Err NoInfo
 in_info e t (Some n) = and_then (edited_node e n) (λ m. Ok (record { info = Some m; tracks = t.tracks }))
 
+-- the trees `t` after edit `e` of the TrackEntry with the index `k`, if there is one
 abbrev pub in_entry : Edit → Trees → ℕ → Option Node → Result Trees EditRefusal
 in_entry e t k None = Err NoSuchTrack
 in_entry e t k (Some n) = and_then (edited_node e n) (λ m. Ok (record { info = t.info; tracks = slice_set t.tracks k m }))
 
+-- the trees `t` after edit `e` of the TrackEntry with the index that was found, if any
 abbrev pub in_tracks : Edit → Trees → Option ℕ → Result Trees EditRefusal
 in_tracks e t None = Err NoSuchTrack
 in_tracks e t (Some k) = in_entry e t k (slice_get t.tracks k)
 
--- the trees after one edit
+-- the trees `t` after the edit `e`, or its refusal
 abbrev pub edited_once : Edit → Trees → Result Trees EditRefusal
 edited_once e t = if is_info e.place then in_info e t t.info else in_tracks e t (place_of e.place t.tracks)
 
+-- the result of an edit, with its number `k` on the command line in a refusal
 abbrev pub numbered : {A : Type 0} → ℕ → Result A EditRefusal → Result A Refusal
 numbered k (Ok x) = Ok x
 numbered k (Err why) = Err (refusal.Edit k why)
@@ -113,12 +120,14 @@ abbrev pub edited_from : ℕ → List Edit → Trees → Result Trees Refusal
 edited_from k [] t = Ok t
 edited_from k (e ∷ es) t = and_then (numbered (k + 1) (edited_once e t)) (edited_from (k + 1) es)
 
+-- the trees `t` after all edits, in sequence, or the first refusal
 abbrev pub edited_trees : List Edit → Trees → Result Trees Refusal
 edited_trees edits t = edited_from 0 edits t
 
--- An edit is about Info (or about Tracks). Such an Element is rewritten even if it doesn't change.
+-- One of the edits changes Info, which is then rewritten even if it doesn't change.
 abbrev pub are_of_info : List Edit → Bool
 are_of_info edits = list_any (λ (e : Edit). is_info e.place) edits
 
+-- One of the edits changes Tracks, which is then rewritten even if it doesn't change.
 abbrev pub are_of_tracks : List Edit → Bool
 are_of_tracks edits = list_any (λ (e : Edit). not (is_info e.place)) edits

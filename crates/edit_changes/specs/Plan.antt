@@ -59,6 +59,7 @@ part list nodes h = record {
 abbrev pub part_of : Bool → ℕ → List Header → List Node → List Part
 part_of written id list nodes = if written then option_map_or (λ h. part list nodes h ∷ []) (first_of id list) [] else []
 
+-- the children of the Info, or none if there is no Info
 abbrev pub info_nodes : Option Node → List Node
 info_nodes info = option_map_or children info []
 
@@ -71,10 +72,11 @@ parts list edits t =
 abbrev pub moves : Part → Bool
 moves p = option_map_or (λ e. nat_lt p.room (length (octets_of e))) p.element false
 
--- An old Element exists.
+-- The part replaces an Element that exists in the file.
 abbrev pub stands : Part → Bool
 stands p = nat_lt 0 p.room
 
+-- the parts that move to the end of the file
 abbrev pub moving : List Part → List Part
 moving ps = filter moves ps
 
@@ -82,6 +84,7 @@ moving ps = filter moves ps
 abbrev pub overwrite_or_void : Part → List ℕ
 overwrite_or_void p = unwrap_or (option_and_then (λ e. fitted e p.room) p.element) (void_header p.room)
 
+-- the Elements that move to the end of the file
 abbrev pub elements_moving : List Part → List Element
 elements_moving ps = filter_map (λ p. p.element) (moving ps)
 
@@ -115,10 +118,11 @@ seeks_beside moved o ps ids = filter_map (seek_for moved o ps) ids
 abbrev pub seeks : List ℕ → FileOutline → List Part → List Seek
 seeks ids o ps = seeks_beside (seeks_from (o.total - o.segment.body) (elements_moving ps)) o ps ids
 
--- the bytes of a SeekHead and the Voids after it, or 0 if there is no SeekHead
+-- the number of bytes of a SeekHead and the Voids after it, or 0 if there is no SeekHead
 abbrev pub room_of : Option SeekHeadAt → List Header → ℕ
 room_of head list = option_map_or (λ s. span_of s.header list) head 0
 
+-- the offset of a SeekHead, or 0 if there is none
 abbrev pub place_of : Option SeekHeadAt → ℕ
 place_of head = option_map_or (λ s. s.header.offset) head 0
 
@@ -130,6 +134,7 @@ seek_head ids o ps head = seek_head_with ids (seeks ids o ps) (option_map_or (λ
 abbrev pub size_width : Header → ℕ
 size_width segment = segment.body - segment.offset - length (id_octets SEGMENT)
 
+-- the fewest bytes that can express the size of a Segment that ends at the offset `end`
 abbrev pub size_need : Header → ℕ → ℕ
 size_need segment end = least_size_width (end - segment.body)
 
@@ -139,6 +144,7 @@ size_need segment end = least_size_width (end - segment.body)
 abbrev pub other_end : ℕ → Header → Option ℕ
 other_end total h = if is_unknown h.size || stated_end h == total then None else Some (stated_end h)
 
+-- the end that the last Element of level 1 states, if it is a Cluster and this isn't `total`, the end of the file
 abbrev pub cluster_end : ℕ → Option Header → Option ℕ
 cluster_end total None = None
 cluster_end total (Some h) = if h.id == CLUSTER then other_end total h else None
@@ -152,6 +158,7 @@ wrong_end o =
     (option_or (cluster_end o.total o.last)
     (if o.end == o.total then None else Some o.end))
 
+-- the number of Elements with this ID in `list`
 abbrev pub number_of : ℕ → List Header → ℕ
 number_of id list = count_by (λ h. h.id == id) list
 
@@ -159,6 +166,7 @@ number_of id list = count_by (λ h. h.id == id) list
 abbrev pub lacks : Room → ℕ → ℕ → Option Refusal
 lacks why need have = if nat_lt have need then Some (NoRoom why need have) else None
 
+-- the refusal to append to a file whose Segment or last Cluster states another end than the file's
 abbrev pub tail_refusal : FileOutline → Option Refusal
 tail_refusal o = option_map (λ end. NoRoom Tail end o.total) (wrong_end o)
 
@@ -171,12 +179,14 @@ abbrev pub twin_refusal : List Header → List Part → Option Refusal
 twin_refusal list [] = None
 twin_refusal list (p ∷ ps) = option_or (twin_of list p.id) (twin_refusal list ps)
 
+-- the refusal of a Segment that ends at `end`, if its size is known and has too few bytes for this end
 abbrev pub size_refusal : Header → ℕ → Option Refusal
 size_refusal segment end =
     if is_unknown segment.size then None else lacks SegmentSize (size_need segment end) (size_width segment)
 
 -- ---- the writes
 
+-- the write of the bytes `octets` at the offset `place`
 abbrev pub write : ℕ → List ℕ → Write
 write place octets = record { at = place; bytes = octets }
 
@@ -185,6 +195,7 @@ abbrev pub inserted : Write → List Write → List Write
 inserted w [] = w ∷ []
 inserted w (v ∷ vs) = if nat_le w.at v.at then w ∷ v ∷ vs else v ∷ inserted w vs
 
+-- the writes in order of their places
 abbrev pub ascending : List Write → List Write
 ascending [] = []
 ascending (w ∷ ws) = inserted w (ascending ws)
@@ -262,7 +273,7 @@ writes_moving ids o ps head =
     let room = room_of head o.others in
     unless (first_refusal (moving_refusals o ps seeks room)) (moving_writes o ps seeks (place_of head) room)
 
--- The writes of parts: with the SeekHead if something moves or if `always` holds.
+-- The writes of parts, or the first refusal: together with the SeekHead if something moves or if `always` holds.
 abbrev pub writes_of_parts : List ℕ → Bool → List ℕ → FileOutline → List Part → Result (List Write) Refusal
 writes_of_parts ids always bytes o ps =
     if always || list_any moves ps then writes_moving ids o ps (seek_head_of bytes o) else writes_in_place ps
@@ -273,6 +284,7 @@ writes_of_parts ids always bytes o ps =
 abbrev pub edit_ids : List ℕ
 edit_ids = INFO ∷ TRACKS ∷ []
 
+-- the value, or the refusal because of damage in the file
 abbrev pub if_editable : {A : Type 0} → Result A Damage → Result A Refusal
 if_editable (Ok x) = Ok x
 if_editable (Err d) = Err (Damaged d)
@@ -290,6 +302,7 @@ plan_of bytes edits =
 abbrev pub edited : List ℕ → List Edit → Result (List ℕ) Refusal
 edited bytes edits = and_then (plan_of bytes edits) (λ ws. Ok (applied bytes ws))
 
+-- the offset and the length of a write
 abbrev pub place : Write → Place
 place w = record { at = w.at; len = length w.bytes }
 

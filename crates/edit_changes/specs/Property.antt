@@ -19,9 +19,11 @@ pub record Row : Type 0 where
   pub name : List ℕ
   pub property : Property
 
+-- the row of a property with its name, its ID, its kind of value, and whether it may be deleted
 abbrev pub row : List ℕ → ℕ → ValueKind → Bool → Row
 row name id kind deletable = record { name = name; property = record { id = id; kind = kind; deletable = deletable } }
 
+-- the properties of Info that can be edited
 abbrev pub info_table : List Row
 info_table =
     row (codes "title") TITLE Words true ∷
@@ -29,6 +31,7 @@ info_table =
     row (codes "muxing-application") MUXING_APP Words false ∷
     row (codes "writing-application") WRITING_APP Words false ∷ []
 
+-- the properties of a TrackEntry that can be edited
 abbrev pub track_table : List Row
 track_table =
     row (codes "name") NAME Words true ∷
@@ -45,7 +48,7 @@ track_table =
     row (codes "flag-original") FLAG_ORIGINAL Flag true ∷
     row (codes "flag-commentary") FLAG_COMMENTARY Flag true ∷ []
 
--- The section is Info.
+-- The selector names Info, and not a track.
 abbrev pub is_info : Selector → Bool
 is_info Info = true
 is_info (Nth n) = false
@@ -53,6 +56,7 @@ is_info (Typed kind n) = false
 is_info (Uid uid) = false
 is_info (Number number) = false
 
+-- the properties of Info if `info` is true, and of a TrackEntry otherwise
 abbrev pub table_of : Bool → List Row
 table_of info = if info then info_table else track_table
 
@@ -60,23 +64,29 @@ table_of info = if info then info_table else track_table
 abbrev pub in_table : List ℕ → List Row → Option Property
 in_table name rows = option_map (λ r. r.property) (find (λ r. bytes_eq name r.name) rows)
 
+-- the property with the name `name` of Info if `info` is true, and of a TrackEntry otherwise
 unfoldable pub property_of : Bool → List ℕ → Option Property
 property_of info name = in_table name (table_of info)
 
 -- ---- values
 
+-- The number `n` is at least `least` and at most `most`.
 abbrev pub is_between : ℕ → ℕ → ℕ → Bool
 is_between least most n = nat_le least n && nat_le n most
 
+-- The byte is a lower-case letter of ASCII.
 abbrev pub is_lower : ℕ → Bool
 is_lower c = is_between 0x61 0x7A c
 
+-- The byte is a letter of ASCII.
 abbrev pub is_letter : ℕ → Bool
 is_letter c = is_lower c || is_between 0x41 0x5A c
 
+-- The byte may be in a language tag of RFC 5646: an ASCII letter or digit, or a hyphen.
 abbrev pub is_in_tag : ℕ → Bool
 is_in_tag c = is_letter c || is_between 0x30 0x39 c || c == 0x2D
 
+-- The byte is a printable character of ASCII, or a space.
 abbrev pub is_printable : ℕ → Bool
 is_printable c = is_between 0x20 0x7E c
 
@@ -84,6 +94,7 @@ is_printable c = is_between 0x20 0x7E c
 abbrev pub is_short : (ℕ → Bool) → List ℕ → Bool
 is_short passes octets = is_between 1 63 (length octets) && list_all passes octets
 
+-- the bytes of a value, if it passes a test
 abbrev pub where_text : Bool → List ℕ → Option (List ℕ)
 where_text test octets = if test then Some octets else None
 
@@ -96,6 +107,7 @@ where_number least most (Some n) = if is_between least most n then Some (uint_oc
 abbrev pub number_in : ℕ → ℕ → List ℕ → Option (List ℕ)
 number_in least most octets = where_number least most (number octets)
 
+-- The byte isn't zero.
 abbrev pub is_not_zero : ℕ → Bool
 is_not_zero c = not (c == 0)
 

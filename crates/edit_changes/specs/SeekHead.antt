@@ -26,10 +26,12 @@ pub record SeekHeadAt : Type 0 where
   pub header : Header
   pub seeks : List Node
 
+-- the SeekHead with the header `h`, if it was read without damage
 abbrev pub if_read : Header → Result Node Damage → Option SeekHeadAt
 if_read h (Ok n) = Some (record { header = h; seeks = children n })
 if_read h (Err d) = None
 
+-- the SeekHead with the header `h`, unless it is longer than a tree may be or has damage; `bytes` is the content of the file
 abbrev pub if_sound : List ℕ → Header → Option SeekHeadAt
 if_sound bytes h =
     if nat_lt MAX_MASTER_LEN (known h.size) then None
@@ -60,5 +62,6 @@ stays ids n = not (list_any (λ id. is_seek_of id n) ids)
 abbrev pub seek_head_body : List ℕ → List Seek → List Node → List ℕ
 seek_head_body ids seeks old = joined (map seek_element seeks) ++ flat_map octets (filter (stays ids) old)
 
+-- a SeekHead with `seeks`, the Seeks of `ids`, and the children of the old one that stay
 abbrev pub seek_head_with : List ℕ → List Seek → List Node → Element
 seek_head_with ids seeks old = element SEEK_HEAD (seek_head_body ids seeks old)

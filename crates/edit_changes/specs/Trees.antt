@@ -24,13 +24,13 @@ pub record AreSound (t : Trees) : Type 0 where
   pub info : IfSome t.info (IsRead INFO)
   pub tracks : All (StandsIn TRACKS) t.tracks
 
--- Child `k` is a TrackEntry.
+-- The child `k` of a Tracks with the children `ns` is a TrackEntry.
 pub record IsEntryAt (ns : List Node) (k : ℕ) : Type 0 where
   pub entry : Node
   pub at : slice_get ns k ≡ Some entry
   pub id : id_of entry ≡ TRACK_ENTRY
 
--- the Info after edit `e`
+-- the Info after the edit `e`, or its refusal
 abbrev pub info_edited : Edit → Option Node → Result (Option Node) EditRefusal
 info_edited e None = Err NoInfo
 info_edited e (Some n) = and_then (edited_node e n) (λ m. Ok (Some m))
@@ -40,6 +40,7 @@ abbrev pub entry_edited : Edit → List Node → ℕ → Option Node → Result 
 entry_edited e ns k None = Err NoSuchTrack
 entry_edited e ns k (Some n) = and_then (edited_node e n) (λ m. Ok (slice_set ns k m))
 
+-- the children `ns` of Tracks after edit `e` of the child with the index that was found, if any
 abbrev pub tracks_edited_at : Edit → List Node → Option ℕ → Result (List Node) EditRefusal
 tracks_edited_at e ns None = Err NoSuchTrack
 tracks_edited_at e ns (Some k) = entry_edited e ns k (slice_get ns k)

@@ -29,7 +29,7 @@ pub enum EditsEnd {
     Memory,
 }
 
-/// Makes an edit of Info.
+/// Makes the edit `edit` of the Info. Fails if there is no Info, or if the edit is refused.
 fn edit_info(alloc: Global, info: &mut Option<Tree>, edit: &Edit) -> Result<(), EditEnd>
     requires section { is_info edit.now.place ≡ true }
     requires info { IfSome info.old (IsRead INFO) }
@@ -66,7 +66,7 @@ fn edit_track(alloc: Global, tracks: &mut Vec<Tree>, edit: &Edit) -> Result<(), 
     edit_entry(alloc, tracks, k, edit)
 }
 
-/// Returns the reason of edit `k + 1`, which isn't made.
+/// Returns the end of the edits because the edit number `k + 1` isn't made: its refusal, or that memory ran out.
 fn numbered(end: EditEnd, k: usize) -> EditsEnd
     requires { k + 1 < 2 ^ 64 }
     ensures { result ≡ numbered k end }

@@ -164,7 +164,7 @@ fn table(info: bool) -> &'static [Row]
     if info { &INFO_TABLE } else { &TRACK_TABLE }
 }
 
-/// Returns the property with this name.
+/// Returns the property with the name `name` in a table.
 fn row_of(rows: &[Row], name: &str) -> Option<Property>
     ensures { result ≡ spec.in_table name.now (map shown rows.now) }
 {

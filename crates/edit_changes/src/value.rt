@@ -15,72 +15,84 @@ use mkv_io::Text;
 use requests::number;
 use std::alloc::{AllocError, Global};
 
+/// Checks whether `n` is from `least` to `most`.
 fn is_between(least: u64, most: u64, n: u64) -> bool
     ensures { result ≡ spec.is_between least most n }
 {
     least <= n && n <= most
 }
 
+/// Checks whether a byte is a lower-case letter of ASCII.
 fn is_lower(octet: u8) -> bool
     ensures { result ≡ spec.is_lower octet }
 {
     octet.is_ascii_lowercase()
 }
 
+/// Checks whether a byte may be in a language tag: a letter, a digit or a hyphen.
 fn is_in_tag(octet: u8) -> bool
     ensures { result ≡ spec.is_in_tag octet }
 {
     octet.is_ascii_alphanumeric() || octet == b'-'
 }
 
+/// Checks whether a byte is printable ASCII or a space.
 fn is_printable(octet: u8) -> bool
     ensures { result ≡ spec.is_printable octet }
 {
     0x20 <= octet && octet <= 0x7E
 }
 
+/// Checks whether no byte is zero.
 fn has_no_zero(octets: &[u8]) -> bool
     ensures { result ≡ list_all spec.is_not_zero octets.now }
 {
     octets.iter().all(|&octet| octet != 0)
 }
 
+/// Checks whether all bytes are lower-case letters of ASCII.
 fn are_lower(octets: &[u8]) -> bool
     ensures { result ≡ list_all spec.is_lower octets.now }
 {
     octets.iter().all(|&octet| is_lower(octet))
 }
 
+/// Checks whether all bytes may be in a language tag.
 fn are_in_tag(octets: &[u8]) -> bool
     ensures { result ≡ list_all spec.is_in_tag octets.now }
 {
     octets.iter().all(|&octet| is_in_tag(octet))
 }
 
+/// Checks whether all bytes are printable ASCII or spaces.
 fn are_printable(octets: &[u8]) -> bool
     ensures { result ≡ list_all spec.is_printable octets.now }
 {
     octets.iter().all(|&octet| is_printable(octet))
 }
 
+/// Checks whether a value is a text without a zero byte.
 fn is_words(value: &str) -> bool
     ensures { result ≡ spec.is_words value.now }
 {
     has_no_zero(value.as_bytes())
 }
 
+/// Checks whether a value is a language code of three lower-case letters.
 fn is_language(octets: &[u8]) -> bool
     ensures { result ≡ spec.is_language octets.now }
 {
     octets.len() == 3 && are_lower(octets)
 }
 
+/// Checks whether a value is a language tag of 1 to 63 letters, digits and hyphens.
 fn is_tag(octets: &[u8]) -> bool
     ensures { result ≡ spec.is_short spec.is_in_tag octets.now }
 {
     is_between(1, 63, octets.len() as u64) && are_in_tag(octets)
 }
 
+/// Checks whether a value may be a CodecID: 1 to 63 printable bytes.
 fn is_codec(octets: &[u8]) -> bool
     ensures { result ≡ spec.is_short spec.is_printable octets.now }
 {

@@ -25,7 +25,7 @@ pub length-bytes_of : (ws : List Write) → length (bytes_of ws) ≡ sum_of (map
 length-bytes_of [] = refl
 length-bytes_of (w ∷ ws) = length-append w.bytes (bytes_of ws) ∙ ap (λ n. length w.bytes + n) (length-bytes_of ws)
 
--- The same holds for places and bytes that were made of the writes.
+-- The sum over the places of writes is the number of their bytes.
 pub places-octets : (ws : List Write) (ps : List Place) (octets : List ℕ) → ps ≡ map place ws → octets ≡ bytes_of ws → sum_of ps ≡ length octets
 places-octets ws ps octets places bytes = ap sum_of places ∙ sym (ap length bytes ∙ length-bytes_of ws)
 

@@ -28,7 +28,7 @@ Answers found (Err (end.Refused r)) = found ≡ Err r
 Answers found (Err end.ReadFault) = ⊤
 Answers found (Err end.Memory) = ⊤
 
--- A read failed.
+-- The end of planning is a failed read.
 abbrev pub is_plan_fault : PlanEnd → Bool
 is_plan_fault (end.Refused r) = false
 is_plan_fault end.ReadFault = true
@@ -49,6 +49,6 @@ AnswersWrites r src file rewriting outline parts result = IfTold r src file (λ 
 abbrev pub ReadsTrees : {S : Type 0} → Ghosts S → S → FileId → FileOutline → Result Trees OutlineEnd → Type 0
 ReadsTrees r src file outline result = IfOutlined r src file outline (λ bytes. ReadsAs (trees_of bytes outline.segment) result)
 
--- The same, with the refusal in the form for edits.
+-- The result is the editable parts of a file with this outline, or the refusal of its edits. The content must be visible to the proof.
 abbrev pub AnswersTrees : {S : Type 0} → Ghosts S → S → FileId → FileOutline → Result Trees PlanEnd → Type 0
 AnswersTrees r src file outline result = IfOutline r src file outline (λ bytes. Gives (if_editable (trees_of bytes outline.segment)) result)

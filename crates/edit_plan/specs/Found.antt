@@ -7,6 +7,7 @@ use Rattle.mkv_io.specs.declared.reads.Reads.{Ghosts}
 use Rattle.mkv_io.specs.declared.outside.FileId.{FileId}
 use Rattle.element_reader.specs.Outline.{FileOutline}
 
+-- a SeekHead of the code, as the definitions of edits have it
 abbrev pub found : SeekHead → spec.SeekHeadAt
 found s = record { header = s.header; seeks = s.seeks }
 

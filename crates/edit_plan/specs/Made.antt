@@ -17,7 +17,7 @@ use Rattle.edit_plan.specs.declared.write.Write.{Write}
 use Rattle.edit_plan.specs.Found.{found}
 use Rattle.edit_plan.specs.Shown.{shown, written}
 
--- The parts `more` are appended.
+-- The list `new` of parts is `old` with the parts `more` appended.
 abbrev pub AddsParts : List spec.Part → List Part → List Part → Type 0
 AddsParts more old new = map shown new ≡ map shown old ++ more
 
@@ -45,6 +45,7 @@ writes_moving ids o ps head = spec.writes_moving ids o (map shown ps) (option_ma
 abbrev pub tail_refused : FileOutline → List spec.Part → Option Refusal
 tail_refused o ps = if list_any spec.moves ps then spec.tail_refusal o else None
 
+-- the refusal of a Segment's size that is too short after `added` bytes are appended, if a part moves to the end of the file
 abbrev pub size_refused : FileOutline → List spec.Part → ℕ → Option Refusal
 size_refused o ps added = if list_any spec.moves ps then spec.size_refusal o.segment (o.total + added) else None
 

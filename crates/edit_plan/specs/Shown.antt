@@ -10,7 +10,7 @@ use Rattle.edit_plan.specs.declared.part.Part.{Part}
 use Rattle.edit_plan.specs.declared.seek_rule.Rewriting.{Rewriting}
 use Rattle.edit_plan.specs.declared.write.Write.{Write}
 
--- an Element that is rewritten
+-- an Element of the code that is rewritten, as the definitions have it
 abbrev pub shown : Part → spec.Part
 shown p = record { id = p.id; place = p.place; room = p.room; nodes = p.nodes; element = option_map (element p.id) p.body }
 

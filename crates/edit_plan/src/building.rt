@@ -78,7 +78,7 @@ fn add_part(
     Ok(())
 }
 
-/// Returns the children of Info.
+/// Returns the children of the Info; none if there is no Info.
 fn info_nodes(trees: &Trees) -> &[Tree]
     ensures { result.now ≡ spec.info_nodes trees.now.info }
 {

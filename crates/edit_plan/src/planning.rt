@@ -75,7 +75,7 @@ fn open_trees<R: Reads>(
     }
 }
 
-/// Makes the edits.
+/// Makes the edits in sequence, or returns the first refusal.
 fn edit_trees(alloc: Global, trees: Trees, edits: &List<Edit>) -> Result<Trees, PlanEnd>
     requires { AreSound trees }
     ensures exact { Gives (change.edited_trees edits.now trees) result }

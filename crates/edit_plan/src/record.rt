@@ -23,7 +23,7 @@ use requests::Edit;
 use sidecar_edit::{KEPT, MAX_OCTETS, MAX_WRITES, Place, Plan, read_first};
 use std::alloc::{AllocError, Global};
 
-/// Returns the places of the writes.
+/// Returns the offset and length of each write.
 fn places_of(alloc: Global, writes: &[Write]) -> Result<Vec<Place>, AllocError>
     ensures { IfOk result (λ places. places.items ≡ map spec.place (map written writes.now)) }
 {

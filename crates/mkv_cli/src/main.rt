@@ -6,6 +6,7 @@ use mkv_host::{RealDisk, RealFiles, RealReport};
 use mkv_run::{program, words_of};
 use std::process::ExitCode;
 
+// Runs the program on the system's files, and returns its exit status.
 fn main(rt: HostRuntime) -> ExitCode {
     let words = words_of(&rt);
     let mut files = RealFiles::new(rt.alloc(), &rt);

@@ -164,7 +164,7 @@ module _ {D : Type 0} (d : Ghosts D) (found : List ℕ → Result (List Write) R
     any_moment = λ told. left-moment s old new (rest told) (run told);
   }
 
-  -- The same holds for a disk that isn't touched.
+  -- An edit that doesn't touch the disk leaves the pair as it was.
   pub edit-still : (old : D) (s : Status) → AtRest d old → ((M S : List ℕ) (p : Pair) → p ≡ both M S → LeavesEdited s found M S p) → ((m t : List ℕ) → IsTrue d.told → d.left_since old (d.moment old) m t → IsPairImage (d.pair old) m t) → IsEdit d found old old s
   edit-still old s rest leaves only =
       edit-none old old s rest leaves (λ told. refl) (λ told. stays d.moment d.left_since old (IsPairImage (d.pair old)) (λ m t left. only m t told left))

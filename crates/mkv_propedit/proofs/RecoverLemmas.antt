@@ -158,7 +158,7 @@ module _ {D : Type 0} (d : Ghosts D) where
     any_moment = λ told. opened-moment s old new (rest told) (run told);
   }
 
-  -- The same holds for a disk that isn't touched.
+  -- A recovery that doesn't touch the disk leaves the pair as it was.
   pub recovery-still : (old : D) (s : Status) → AtRest d old → ((M S : List ℕ) (p : Pair) → p ≡ both M S → LeavesPair s M S p) → ((m t : List ℕ) → IsTrue d.told → d.left_since old (d.moment old) m t → IsPairImage (d.pair old) m t) → IsRecovery d old old s
   recovery-still old s rest leaves only =
       recovery-none old old s rest leaves (λ told. refl) (λ told. stays d.moment d.left_since old (IsPairImage (d.pair old)) (λ m t left. only m t told left))

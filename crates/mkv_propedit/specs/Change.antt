@@ -43,21 +43,22 @@ change_verdict is_there name change media sidecar = file_verdict is_there name s
 abbrev pub SaysOfChange : {D P : Type 0} → Ghosts D → ReportGhosts P → D → P → P → Result Status CommandEnd → List ℕ → FileChange → Type 0
 SaysOfChange d p disk report report' result name change = SaysOfDisk d p disk report report' result (change_verdict (d.is_there disk name) name change)
 
--- The same after the file and its journal are open.
+-- A change of the file `name`, which is open with its journal, prints its result, if the disk is visible to the proof.
 abbrev pub SaysOfOpened : {D P : Type 0} → Ghosts D → ReportGhosts P → D → P → P → Result Status CommandEnd → List ℕ → FileChange → Type 0
 SaysOfOpened d p disk report report' result name change = SaysOfDisk d p disk report report' result (λ M S. unless_begun name (state S) (change_told name change M))
 
--- The same if no edit of the file is pending.
+-- A change of the file `name`, which is open and has no pending edit, prints its result, if the disk is visible to the proof.
 abbrev pub SaysOfQuiet : {D P : Type 0} → Ghosts D → ReportGhosts P → D → P → P → Result Status CommandEnd → List ℕ → FileChange → Type 0
 SaysOfQuiet d p disk report report' result name change = SaysOfDisk d p disk report report' result (λ M S. change_told name change M)
 
 -- ---- the bytes that are read
 
--- the limits for planning a change of a file of `octets` bytes, and for making it in place
+-- the limit on the bytes that are read for planning a change of a file of `octets` bytes
 abbrev pub most_to_plan_change : FileChange → ℕ → ℕ
 most_to_plan_change (Edits edits) octets = most_to_plan octets
 most_to_plan_change Index octets = most_to_index octets
 
+-- the limit on the bytes that are read for making a change of a file of `octets` bytes in place
 abbrev pub most_to_change : FileChange → ℕ → ℕ
 most_to_change change octets = HEAD + most_to_plan_change change octets
 

@@ -75,7 +75,7 @@ pub record IsEdit {D : Type 0} (d : Ghosts D) (found : List ℕ → Result (List
   pub pair : OfReads d old (λ M S. LeavesEdited s found M S (d.pair new))
   pub any_moment : AnyMoment d old new (LeftByEdit s found)
 
--- The same for a name: the pair is open under it, or couldn't be opened.
+-- An edit of the file `name` has left the two files as `IsEdit` describes, and they are open under this name or couldn't be opened.
 pub record IsEditOf {D : Type 0} (r : reads.Ghosts D) (d : Ghosts D) (name : List ℕ) (found : List ℕ → Result (List Write) Refusal) (old new : D) (s : Status) : Type 0 where
   pub leaves : IsEdit d found old new s
   pub opened : (d.opened new ≡ Some name) ⊎ IsUnopened r d name old new s
@@ -85,7 +85,7 @@ pub record StaysOpen {D : Type 0} (r : reads.Ghosts D) (d : Ghosts D) (old new :
   pub opened : d.opened new ≡ d.opened old
   pub octets : r.octets_read new ≤ r.octets_read old + most
 
--- The same, with a limit for the length that the file had.
+-- The pair stays open under its name, and the bytes that are read are bounded by `most` of the length that the file had.
 abbrev pub StaysOpenOf : {D : Type 0} → reads.Ghosts D → Ghosts D → D → D → (ℕ → ℕ) → Type 0
 StaysOpenOf r d old new most = StaysOpen r d old new (most (file_size r old MEDIA))
 

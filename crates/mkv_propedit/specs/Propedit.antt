@@ -22,6 +22,7 @@ use Rattle.mkv_propedit.specs.Command.{SaysOfDisk}
 
 -- ---- the names of refusals in a message
 
+-- the name of the reason why an edit is refused, as a message prints it
 abbrev pub why_name : EditRefusal → List ℕ
 why_name NoInfo = codes "NoInfo"
 why_name NoSuchTrack = codes "NoSuchTrack"
@@ -30,12 +31,14 @@ why_name BadPropertyValue = codes "BadPropertyValue"
 why_name AlreadyThere = codes "AlreadyThere"
 why_name Mandatory = codes "Mandatory"
 
+-- the name of the kind of room that is missing, as a message prints it
 abbrev pub room_name : Room → List ℕ
 room_name Tail = codes "Tail"
 room_name Twin = codes "Twin"
 room_name SeekHead = codes "SeekHead"
 room_name SegmentSize = codes "SegmentSize"
 
+-- the line that reports why a plan for the file `name` is refused
 abbrev pub refusal_text : List ℕ → Refusal → List ℕ
 refusal_text name (refusal.Damaged damage) = refusal_line name damage
 refusal_text name (refusal.Edit edit why) = edit_refused_line name (why_name why) edit

@@ -29,7 +29,7 @@ recover_verdict is_there name media sidecar = if is_there then told name (recove
 abbrev pub SaysOfRecover : {D P : Type 0} → Ghosts D → ReportGhosts P → D → P → P → Result Status CommandEnd → List ℕ → Type 0
 SaysOfRecover d p disk report report' result name = SaysOfDisk d p disk report report' result (recover_verdict (d.is_there disk name) name)
 
--- The same after the file and its journal are open.
+-- The recovery of the file `name`, which is open with its journal, prints its result, if the disk is visible to the proof.
 abbrev pub SaysOfRecovery : {D P : Type 0} → Ghosts D → ReportGhosts P → D → P → P → Result Status CommandEnd → List ℕ → Type 0
 SaysOfRecovery d p disk report report' result name = SaysOfDisk d p disk report report' result (λ M S. told name (recovery M S))
 

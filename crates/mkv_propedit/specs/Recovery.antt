@@ -46,7 +46,7 @@ pub record IsUnopened {D : Type 0} (r : reads.Ghosts D) (d : Ghosts D) (name : L
   pub not_done : s ≢ status.Done
   pub missing : s ≡ status.Refused → IsTrue d.told → d.is_there old name ≡ false
 
--- The same for a name: the pair is open under it.
+-- A recovery of the file `name` has left the two files as `IsRecovery` describes, and they are open under this name or couldn't be opened.
 pub record IsRecoveryOf {D : Type 0} (r : reads.Ghosts D) (d : Ghosts D) (name : List ℕ) (old new : D) (s : Status) : Type 0 where
   pub leaves : IsRecovery d old new s
   pub opened : (d.opened new ≡ Some name) ⊎ IsUnopened r d name old new s

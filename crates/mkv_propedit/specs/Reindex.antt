@@ -44,5 +44,6 @@ reindex_on world name = reindex_verdict (world.is_there name) name world.media w
 abbrev pub most_to_index : ℕ → ℕ
 most_to_index octets = 26 * octets + KEPT
 
+-- the limit on the bytes that are read for writing a new index into a file of `octets` bytes
 abbrev pub most_to_reindex : ℕ → ℕ
 most_to_reindex octets = HEAD + most_to_index octets

@@ -42,7 +42,7 @@ pub fn tell<R: Report>(
     }
 }
 
-/// Returns the message of a refusal.
+/// Returns the message that reports why an edit or a new index of the file `name` is refused.
 pub fn refusal_line(name: &str, refusal: Refusal) -> Line<'_>
     ensures { text_of result ≡ spec.refusal_text name.now refusal }
 {
@@ -67,6 +67,7 @@ pub fn refusal_line(name: &str, refusal: Refusal) -> Line<'_>
     }
 }
 
+// Returns the name of the reason why an edit is refused, as a message prints it.
 fn why_name(why: EditRefusal) -> &'static str
     ensures { result.now ≡ spec.why_name why }
 {
@@ -80,6 +81,7 @@ fn why_name(why: EditRefusal) -> &'static str
     }
 }
 
+// Returns the name of the kind of room that is missing, as a message prints it.
 fn room_name(room: Room) -> &'static str
     ensures { result.now ≡ spec.room_name room }
 {

@@ -54,6 +54,7 @@ abbrev pub verdict_after : Names → Option DiskWorld → Result Command Usage �
 verdict_after names disk (Ok command) = verdict_of names disk command
 verdict_after names disk (Err usage) = Some (refused (usage_line usage))
 
+-- the result of the command line `words` for the files `names` and the disk `disk`, if they are visible to the proof
 abbrev pub verdict_in : Names → Option DiskWorld → List (List ℕ) → Option Verdict
 verdict_in names disk words = verdict_after names disk (command words)
 
@@ -79,6 +80,7 @@ abbrev pub ReadsWithinAfter : Names → Option DiskWorld → Result Command Usag
 ReadsWithinAfter names disk (Ok command) before now = ReadsWithin names disk command before now
 ReadsWithinAfter names disk (Err usage) before now = now ≡ before
 
+-- The number of bytes read, from `before` to `now`, is within the bound of the command line `words`; a refused one reads nothing.
 abbrev pub ReadsWithinIn : Names → Option DiskWorld → List (List ℕ) → ℕ → ℕ → Type 0
 ReadsWithinIn names disk words before now = ReadsWithinAfter names disk (command words) before now
 

@@ -53,6 +53,7 @@ fn print_lines<R: Report>(lines: &[&str], report: &mut R) -> Result<Status, Comm
     Ok(Status::Done)
 }
 
+// Prints each text as a line, up to the first failure.
 fn say_texts<R: Report>(texts: &[&str], report: &mut R) -> Result<(), CommandEnd>
     ensures said { Says (R.lines report.old) (R.lines report.new) (map (λ text. text.now) texts.now) result }
     ensures cause { HasSayCause (R.faults report.old) (R.faults report.new) result }

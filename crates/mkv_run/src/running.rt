@@ -129,7 +129,7 @@ fn carry_out<F: Files, D: Disk, R: Report>(
     }
 }
 
-// Does what `command` asks for.
+// Carries out a command whose arguments are parsed, over the files and the disk, and prints to the report.
 fn execute<F: Files, D: Disk, R: Report>(
     alloc: Global,
     command: &Command,

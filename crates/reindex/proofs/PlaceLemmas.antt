@@ -177,7 +177,7 @@ found-between r bytes e h inside q goes = split (is_unknown h.size) goes
         let within = stands.within body in
         of (children_in in_master bytes h.body (end_in e h)) stands.between (omega arith)
 
--- The same holds if damage ends the Elements.
+-- Each block or damage that is found in an Element is at some place in it.
 pub found-somewhere : (r : Rules) (bytes : List ℕ) (e : ℕ) (h : Header) → (q : ℕ) × FoundBetween h.body q (found_in r bytes e h)
 found-somewhere r bytes e h = split (is_unknown h.size)
   where

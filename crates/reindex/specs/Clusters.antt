@@ -21,12 +21,13 @@ abbrev pub in_front : Option Header → List Header → List Header
 in_front None rest = rest
 in_front (Some h) rest = h ∷ rest
 
--- the Elements that aren't passed yet
+-- the Elements of level 1 that the walk hasn't passed yet
 abbrev pub due : List ℕ → Clusters → List Header
 due bytes c = in_front c.next (left bytes c.level)
 
 -- ---- the remaining steps
 
+-- the number of Clusters that are looked at: 1, or 0 if there is none
 abbrev pub looked_at : Option Header → ℕ
 looked_at None = 0
 looked_at (Some h) = 1

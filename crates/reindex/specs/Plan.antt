@@ -72,5 +72,6 @@ index_of bytes =
 abbrev pub indexed : List ℕ → Index → Indexed
 indexed bytes x = record { plan = recorded bytes x.writes; cues = length x.points }
 
+-- the record of the writes that give a file with the content `bytes` a new index, and the number of its points, or the refusal
 abbrev pub indexed_of : List ℕ → Result Indexed Refusal
 indexed_of bytes = and_then (index_of bytes) (λ x. Ok (indexed bytes x))

@@ -30,6 +30,7 @@ use Rattle.reindex.specs.declared.point.Point.{Point}
 abbrev pub cue_of : Point → CuePoint
 cue_of p = record { tick = p.tick; lane = p.track; cluster = p.cluster; relative = p.relative }
 
+-- the points in the form that is written
 abbrev pub cues_of : List Point → List CuePoint
 cues_of points = map cue_of points
 

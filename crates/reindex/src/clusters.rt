@@ -54,7 +54,7 @@ impl Clusters {
         Ok(self.next)
     }
 
-    // Passes the Element that was read.
+    // Passes the Element with the header `header`, which was read, and keeps it if it is a Cluster.
     fn pass(&mut self, header: Header)
         ensures { self.new ≡ passed header self.old }
     {

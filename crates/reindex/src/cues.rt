@@ -32,6 +32,7 @@ fn put_element(out: &mut Bytes, id: u32, body: &[u8]) -> Result<(), AllocError>
     Ok(())
 }
 
+// Appends the element `id` with the unsigned integer `value` in its fewest bytes.
 fn put_uint_element(out: &mut Bytes, id: u32, value: u64) -> Result<(), AllocError>
     requires { IsTrue (is_id id) }
     ensures { OnOk result (out.new ≡ out.old ++ octets_of (uint_element id value)) }
@@ -63,6 +64,7 @@ fn point_body(alloc: Global, point: &Point) -> Result<Bytes, AllocError>
     Ok(body)
 }
 
+// Appends the CuePoint of a point of the index.
 #[tactic(auto, unfolding(ebml_numbers::specs::Number::is_id))]
 fn put_point(alloc: Global, out: &mut Bytes, point: &Point) -> Result<(), AllocError>
     ensures { OnOk result (out.new ≡ out.old ++ octets_of (point_element (cue_of point.now))) }
@@ -71,6 +73,7 @@ fn put_point(alloc: Global, out: &mut Bytes, point: &Point) -> Result<(), AllocE
     put_element(out, CUE_POINT, body.as_slice())
 }
 
+// Returns the CuePoints of points in sequence.
 fn points_body(alloc: Global, points: &[Point]) -> Result<Bytes, AllocError>
     ensures { IfOk result (λ body. body ≡ joined (map point_element (cues_of points.now))) }
 {

@@ -30,6 +30,7 @@ fn since_start(time: i64) -> u64
     if time < 0 { 0 } else { time as u64 }
 }
 
+// Checks whether a time in nanoseconds is before the start of the file.
 fn is_before_start(time: i64) -> bool
     ensures { result ≡ not (is_some (since_start time)) }
 {

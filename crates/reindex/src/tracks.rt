@@ -15,6 +15,7 @@ use mkv_schema::ids::{TRACK_ENTRY, TRACK_NUMBER, TRACK_TYPE};
 use mkv_schema::track_type::{SUBTITLE_TRACK, VIDEO_TRACK};
 use std::alloc::{AllocError, Global};
 
+// Returns the TrackType of a TrackEntry.
 #[tactic(auto, using(track_records::proofs::EntryLemmas::known))]
 fn type_of(track: &Tree) -> u64
     requires { IsEntry track.now }
@@ -23,6 +24,7 @@ fn type_of(track: &Tree) -> u64
     uint_in(track, TRACK_TYPE)
 }
 
+// Returns the TrackNumber of a TrackEntry.
 #[tactic(auto, using(track_records::proofs::EntryLemmas::known))]
 fn number_of(track: &Tree) -> u64
     requires { IsEntry track.now }

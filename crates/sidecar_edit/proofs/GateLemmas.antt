@@ -47,7 +47,7 @@ behind_image body s image is =
     let zero_is : slice_index s 0 ≡ 0 = image.elsewhere 0 (omega arith) (⊎_elim (λ (here : (1 ≤ 0) × (0 < 1 + length body)). let low = here.0 in absurd (omega arith)) (λ (none : ⊥). none)) in
     omega (arith, zero_is, is)
 
--- The same for a pair without pending writes.
+-- A crash leaves a pair without pending writes as it is read.
 
 pub both_image : (p : Pair) (m s : List ℕ) → IsSynced p → IsPairImage p m s → (m ≡ p.media.reads) × (s ≡ p.sidecar.reads)
 both_image p m s synced image =

@@ -63,7 +63,7 @@ state-one = refl
 state-short : state (0xA5 ∷ name) ≡ Bad 8
 state-short = refl
 
--- So is a file without the record's last byte.
+-- A file without the record's last byte is bad at its end.
 state-cut : state (record_of 0xA5 163 6 1 2 (two_places ++ 7 ∷ 8 ∷ [])) ≡ Bad 162
 unfolding number_at
 state-cut = refl

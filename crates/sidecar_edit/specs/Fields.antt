@@ -20,7 +20,7 @@ use Rattle.sidecar_edit.specs.Writes.{Write}
 use Rattle.sidecar_edit.specs.declared.place.TheConstants.{HEAD, HEAD_1, KEPT, MAX_OCTETS, MAX_WRITES}
 use Rattle.mkv_io.specs.declared.outside.TheConstants.{LONGEST_FILE}
 
--- MKVEDIT
+-- the bytes `MKVEDIT` at the start of a journal, after its gate
 abbrev pub magic : List ℕ
 magic = 77 ∷ 75 ∷ 86 ∷ 69 ∷ 68 ∷ 73 ∷ 84 ∷ []
 
@@ -30,15 +30,19 @@ magic = 77 ∷ 75 ∷ 86 ∷ 69 ∷ 68 ∷ 73 ∷ 84 ∷ []
 unfoldable pub number_at : List ℕ → ℕ → ℕ
 number_at s at = big_number 8 (drop at s)
 
+-- the length of the record in bytes, including the gate, as the journal states
 abbrev pub total_in : List ℕ → ℕ
 total_in s = number_at s 8
 
+-- the length of the edited file, as the journal states
 abbrev pub new_len_in : List ℕ → ℕ
 new_len_in s = number_at s 16
 
+-- the version of the journal
 abbrev pub version_in : List ℕ → ℕ
 version_in s = slice_index s 24
 
+-- the number of writes, as the journal states
 abbrev pub count_in : List ℕ → ℕ
 count_in s = slice_index s 25
 
@@ -46,18 +50,21 @@ count_in s = slice_index s 25
 abbrev pub place_in : List ℕ → ℕ → Place
 place_in s k = record { at = number_at s (32 + 16 * k); len = number_at s (40 + 16 * k) }
 
+-- all eight places of writes in the journal, used or not
 abbrev pub places_in : List ℕ → List Place
 places_in s =
     place_in s 0 ∷ place_in s 1 ∷ place_in s 2 ∷ place_in s 3
     ∷ place_in s 4 ∷ place_in s 5 ∷ place_in s 6 ∷ place_in s 7 ∷ []
 
--- the places that are used
+-- the places of the writes that the journal uses
 abbrev pub used_in : List ℕ → List Place
 used_in s = take (count_in s) (places_in s)
 
+-- the length of the file before the edit, as the journal states
 abbrev pub old_len_in : List ℕ → ℕ
 old_len_in s = number_at s 160
 
+-- the first bytes of the file before the edit, as the journal keeps them
 abbrev pub first_in : List ℕ → List ℕ
 first_in s = octets_from s 168 KEPT
 
@@ -82,6 +89,7 @@ writes_in sidecar =
 
 -- ---- writing: the bytes after the gate
 
+-- a place that isn't used: all zeros
 abbrev pub no_place : Place
 no_place = record { at = 0; len = 0 }
 
@@ -132,6 +140,7 @@ pub record IsMadeFor (h : Head) (file : List ℕ) : Type 0 where
   pub len : h.old_len ≡ length file
   pub first : h.first ≡ take KEPT file
 
+-- `n` bytes of zero
 abbrev pub zeros : ℕ → List ℕ
 zeros n = replicate n 0
 
@@ -145,7 +154,7 @@ abbrev pub slots : ℕ → List Place → List ℕ
 slots zero ps = []
 slots (suc n) ps = slots n ps ++ slot ps n
 
--- the bytes that identify the file
+-- the bytes of a journal of version 2 that identify the file for which it was made: its length and its first bytes
 abbrev pub mark_octets : ℕ → List ℕ → List ℕ
 mark_octets old_len first = big_bytes 8 old_len ++ (first ++ zeros (KEPT - length first))
 
@@ -160,6 +169,7 @@ pub record Planned : Type 0 where
   pub head : Head
   pub payload : List ℕ
 
+-- the writes of a plan, each with its own bytes
 abbrev pub writes_of : Planned → List Write
 writes_of p = cut_up p.head.places p.payload
 

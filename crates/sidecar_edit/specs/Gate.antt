@@ -19,6 +19,7 @@ abbrev pub first_breach : List Rule → Option ℕ
 first_breach [] = None
 first_breach (r ∷ rs) = if r.kept then first_breach rs else Some r.octet
 
+-- All bytes are zero.
 abbrev pub are_zeros : List ℕ → Bool
 are_zeros octets = list_all (λ octet. octet == 0) octets
 
@@ -59,9 +60,11 @@ IsUnusedBreach s breach = (old : Option ℕ) (from : ℕ) →
 abbrev pub is_padded : List ℕ → Bool
 is_padded s = not ((version_in s == 2) && nat_le HEAD (length s)) || are_zeros (drop (old_len_in s) (first_in s))
 
+-- `version` is a version of the journal that is read: 1 or 2.
 abbrev pub is_version : ℕ → Bool
 is_version version = (version == 1) || (version == 2)
 
+-- A journal may have `count` writes: 1 to 8.
 abbrev pub is_count : ℕ → Bool
 is_count count = nat_le 1 count && nat_le count 8
 

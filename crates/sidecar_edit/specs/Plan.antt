@@ -4,7 +4,7 @@ use Rattle.sidecar_edit.specs.declared.place.Place.{Place}
 use Rattle.sidecar_edit.specs.declared.place.TheConstants.{HEAD}
 use Rattle.sidecar_edit.specs.Fields.{IsPlan, Planned, body_of}
 
--- the plan with these parts
+-- the plan of an edit with these lengths, first bytes, places and bytes of writes
 abbrev pub planned : ℕ → ℕ → List ℕ → List Place → List ℕ → Planned
 planned old_len new_len first places payload = record {
   head = record { old_len = old_len; new_len = new_len; first = first; places = places };

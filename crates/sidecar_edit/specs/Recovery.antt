@@ -29,6 +29,8 @@ abbrev pub differs : List ℕ → List ℕ → ℕ → Bool
 differs head media k =
     nat_lt k (old_len_in head) && not (is_touched (used_in head) k) && not (slice_index media k == slice_index head (168 + k))
 
+-- the refusal of a journal that was made for another file. At the offset `k`, if there is one, the byte of the file differs from the byte in the
+-- record.
 abbrev pub octet_mark : List ℕ → List ℕ → Option ℕ → Option RecoverEnd
 octet_mark head media None = None
 octet_mark head media (Some k) = Some (Foreign (Octet k) (slice_index head (168 + k)) (slice_index media k))
@@ -61,6 +63,7 @@ is_disk_fault DiskFault = true
 abbrev pub applied_unless : Option RecoverEnd → Result Recovered RecoverEnd
 applied_unless why = unless why Applied
 
+-- the result of recovery by the state of the journal: a quiet one has nothing to do, and a bad one is refused
 abbrev pub if_live : Gate → List ℕ → ℕ → List ℕ → Result Recovered RecoverEnd
 if_live Quiet head size media = Ok Nothing
 if_live (Bad offset) head size media = Err (BadSidecar offset)
@@ -70,6 +73,7 @@ if_live Live head size media = applied_unless (unfit head size media)
 abbrev pub recovery : List ℕ → List ℕ → Result Recovered RecoverEnd
 recovery media sidecar = if_live (state sidecar) (head_of sidecar) (length media) (take KEPT media)
 
+-- the content of the file after recovery, by its result: `edited` if the edit is applied, and otherwise `media`
 abbrev pub when_applied : Result Recovered RecoverEnd → List ℕ → List ℕ → List ℕ
 when_applied (Ok Applied) media edited = edited
 when_applied (Ok Nothing) media edited = media
@@ -82,10 +86,10 @@ recovered media sidecar = when_applied (recovery media sidecar) media (applied m
 
 -- ---- contents that a crash may leave during an edit
 
--- The gate is closed.
+-- The gate, byte 0 of the journal, is closed.
 abbrev pub IsClosed : List ℕ → Type 0
 IsClosed s = slice_index s 0 ≢ OPEN
 
--- The journal has no pending edit, and needs none.
+-- The journal has no pending edit: its gate is closed, or it has at most this one byte.
 abbrev pub IsQuiet : List ℕ → Type 0
 IsQuiet s = IsClosed s ⊎ (length s ≤ 1)

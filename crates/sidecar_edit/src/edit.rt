@@ -17,7 +17,7 @@ use crate::plan::Plan;
 use mkv_disk::{Disk, MEDIA, SIDECAR};
 use mkv_io::Failed;
 
-/// Writes the record of `plan` after the gate of a settled journal, and syncs it.
+/// Writes the record of `plan` after the closed gate of a journal without a pending edit, and syncs it.
 fn write_record<D: Disk>(plan: &Plan, disk: &mut D) -> Result<(), Failed>
     requires live { IsLive D.Reads disk.old SIDECAR }
     requires settled { IsTrue D.told → D.pair disk.old ≡ both (D.pair disk.old).media.reads (0 ∷ []) }
@@ -50,8 +50,8 @@ fn write_media<D: Disk>(plan: &Plan, disk: &mut D) -> Result<(), Failed>
     disk.sync(MEDIA)
 }
 
-/// Makes the edit of `plan` with a settled journal. A crash at any moment leaves two files that recover to the file
-/// before or after the edit. If the journal has a pending edit then, it is exactly the plan's.
+/// Makes the edit of `plan` with a journal that has no pending edit. A crash at any moment leaves two files that
+/// recover to the file before or after the edit. If the journal has a pending edit then, it is exactly the plan's.
 pub fn commit<D: Disk>(plan: &Plan, disk: &mut D) -> Result<(), DiskFault>
     requires live { (IsLive D.Reads disk.old MEDIA) × (IsLive D.Reads disk.old SIDECAR) }
     requires settled { IsTrue D.told → D.pair disk.old ≡ both (D.pair disk.old).media.reads (0 ∷ []) }

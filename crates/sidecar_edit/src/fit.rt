@@ -49,7 +49,8 @@ fn differs(head: &[u8], media: &[u8], k: usize) -> bool
         && octet_at(media, k) != head[168 + k]
 }
 
-/// Returns the refusal for the first byte that differs from the record, if any.
+/// Returns the refusal for the first byte of the file that differs from the record, if any. `head` has the journal's
+/// fields, and `media` the first bytes of the file.
 fn octet_mark(head: &[u8], media: &[u8]) -> Option<RecoverEnd>
     requires head { length head.now ≡ HEAD }
     requires few { count_in head.now ≤ MAX_WRITES }

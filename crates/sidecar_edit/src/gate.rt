@@ -12,7 +12,7 @@ ghost use Rattle.sidecar_edit.specs.Leaves.{IsGated};
 use mkv_disk::{Disk, SIDECAR};
 use mkv_io::Failed;
 
-/// Writes the gate, and syncs it.
+/// Writes the gate, byte 0 of the journal, and syncs the journal.
 pub fn set_gate<D: Disk>(disk: &mut D, gate: u8) -> Result<(), Failed>
     requires live { IsLive D.Reads disk.old SIDECAR }
     requires at_rest { AtRest D.Disk.own disk.old }

@@ -73,6 +73,7 @@ fn end_in(head: &[u8]) -> u128
     end
 }
 
+/// Checks whether all bytes are zero.
 fn are_zeros(octets: &[u8]) -> bool
     ensures { result ≡ are_zeros octets.now }
 {

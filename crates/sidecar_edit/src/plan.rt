@@ -67,7 +67,7 @@ impl Plan {
         })
     }
 
-    /// Returns the number of writes.
+    /// Returns the number of writes of the plan.
     pub fn count(&self) -> usize
         ensures { result ≡ length self.now.head.places }
     {

@@ -146,7 +146,7 @@ returns-in-Propedit-clause-touches g c =
     subst (λ (asked : Command). Touches g.D.Reads d (reach_of asked) c.args.files.now c.args.files.now a b s) (sym c.in-Propedit.is)
     (refl, is, edit-keeps d edits a b s c.edits_change_nothing_else.ensures is.leaves)
 
--- So does a new index.
+-- A new index keeps the rest of the file.
 pub returns-in-Reindex-clause-touches : goal.returns-in-Reindex-clause-touches
 returns-in-Reindex-clause-touches g c =
     let d = g.D.Disk in let a = c.args.disk.now in let b = c.reindex_of.new.disk in let s = status_of c.reindex_of.result in
