@@ -164,7 +164,7 @@ behind-children r a b timestamp h children shared = of (first_of BLOCK children)
     of None is = refl
     of (Some block) is = among-same a b children shared r timestamp h.offset block (all-among (IsShared a b) children block shared (first-among (λ c. c.id == BLOCK) children block is).0)
 
--- The same with the children of a run, or its damage.
+-- The block of a group depends only on the children of a run, or on its damage.
 children-alike : (r : Rules) (a b : List ℕ) (timestamp : ℕ) (h : Header) (x y : Run) → AreAlikeRuns x y → All (IsShared a b) x.list
     → IsAlike (and_then (unless (group_refusal a x) x.list) (λ children. and_then (block_or h (first_of BLOCK children)) (group_among r a timestamp h.offset children)))
     (and_then (unless (group_refusal b y) y.list) (λ children. and_then (block_or h (first_of BLOCK children)) (group_among r b timestamp h.offset children)))

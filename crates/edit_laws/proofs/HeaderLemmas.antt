@@ -116,7 +116,7 @@ id_in-same may_open may_open' o total p e h found =
 pub id-same : (may_open may_open' : ℕ → Bool) (bytes : List ℕ) (p e : ℕ) (h : Header) → element_at (outside may_open) bytes p e ≡ Ok h → id_of (element_at (outside may_open') bytes p e) ≡ h.id
 id-same may_open may_open' bytes p e h found = id_in-same may_open may_open' (octets_between bytes p e) (length bytes) p e h found
 
--- The same for the ID at a damaged place.
+-- The ID at a place doesn't depend on the IDs that may be open, even if the place is damaged.
 id_in-either : (may_open may_open' : ℕ → Bool) (o : List ℕ) (total p e : ℕ) → id_of (element_in (outside may_open') o total p e) ≡ id_of (element_in (outside may_open) o total p e)
 unfolding element_in
 id_in-either may_open may_open' o total p e = of-id (id_at o)

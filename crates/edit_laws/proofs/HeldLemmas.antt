@@ -40,7 +40,7 @@ pub record IsWritten (new : List ℕ) (id : ℕ) (body : List ℕ) (list : List 
   pub own : element.id ≡ id
   pub spells : element.body ≡ body
 
--- The same for each list whose first Element with the ID is this one.
+-- The Element is also the first of its ID in each list with the same first Element of this ID.
 pub written-first : (new : List ℕ) (id : ℕ) (body : List ℕ) (hs ns : List Header) → first_of id ns ≡ first_of id hs → IsWritten new id body hs → IsWritten new id body ns
 written-first new id body hs ns same is = record { place = is.place; element = is.element; first = same ∙ is.first; held = is.held; own = is.own; spells = is.spells }
 

@@ -143,7 +143,7 @@ pub record IsListed (t : Edit) (hs : List Header) (q : ℕ) : Type 0 where
   pub run : run_of (new_level t) q ≡ whole list end
   pub becomes : Becomes t hs list
 
--- The same after a Cluster of unknown size, which contains the Elements that no longer end it.
+-- The Elements after a Cluster of unknown size become the listed ones; the Cluster contains the Elements that no longer end it.
 pub record IsInside (t : Edit) (hs : List Header) (q : ℕ) : Type 0 where
   pub more : List Header
   pub end : ℕ

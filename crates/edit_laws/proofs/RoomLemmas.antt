@@ -81,7 +81,7 @@ module _ (bytes : List ℕ) (size : Size) (e : ℕ) where
       on : p < m
       on = (stands-placed (level bytes size e) p m h (advances-level bytes size e) stands).1
 
-      -- The same after the first Element.
+      -- An Element after the first one is a Void in the room.
       later : (m ≤ x → IsAmong hs g → x ≤ g.offset → g.offset < behind_voids x (others_of hs) → IsVoidIn (behind_voids x (others_of hs)) g)
           → IsAmong (h ∷ hs) g → (h.offset == x) ≡ false → g.offset < behind_voids x (others_of hs) → IsVoidIn (behind_voids x (others_of hs)) g
       later further (inl same) other inside =

@@ -15,7 +15,7 @@ use Rattle.edit_laws.proofs.AmongLemmas.{IsAmong}
 abbrev pub AreSame : List ℕ → List ℕ → ℕ → ℕ → Type 0
 AreSame a b p q = octets_between b p q ≡ octets_between a p q
 
--- The same for places between them.
+-- Contents with the same bytes between two places have the same bytes between places inside.
 pub same-part : (a b : List ℕ) (p q s t : ℕ) → p ≤ s → s ≤ t → t ≤ q → AreSame a b p q → AreSame a b s t
 same-part a b p q s t from between to same = part b ∙ ap (λ l. take (t - s) (drop (s - p) l)) same ∙ sym (part a)
   where

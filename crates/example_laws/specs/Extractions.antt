@@ -41,12 +41,13 @@ abbrev pub output : FrameForm → ℕ → List ℕ → List ℕ → TrackOutput
 output kind step head prefix =
     record { name = codes "r"; track = 1; step = step; head = head; prefix = prefix; form = kind }
 
--- two blocks of one frame, a block of a lace of two, and one of another track
+-- two blocks of one frame, of track 1, and one of track 2 between them
 abbrev pub two_blocks : List Block
 two_blocks =
     block 1 (pos 0) ((0xAA ∷ []) ∷ []) ∷ block 2 (pos 0) ((0xCC ∷ []) ∷ []) ∷
     block 1 (pos 20000000) ((0xBB ∷ []) ∷ []) ∷ []
 
+-- a block of track 1 with a lace of two frames
 abbrev pub lace_of_two : List Block
 lace_of_two = block 1 (pos 0) ((0xAA ∷ []) ∷ (0xBB ∷ 0xCC ∷ []) ∷ []) ∷ []
 
@@ -72,16 +73,19 @@ pub record AreTimes : Type 0 where
 
 -- ---- codecs
 
--- the configuration of AVC with two parameter sets; below, of AAC with two channels of 44,100 Hz
+-- the configuration of AVC with two parameter sets
 abbrev pub avc : List ℕ
 avc = 1 ∷ 0x42 ∷ 0 ∷ 0x1E ∷ 0xFF ∷ 0xE1 ∷ 0 ∷ 2 ∷ 0x67 ∷ 0x42 ∷ 1 ∷ 0 ∷ 2 ∷ 0x68 ∷ 0xCE ∷ []
 
+-- the configuration of AAC with two channels of 44,100 Hz
 abbrev pub aac : Aac
 aac = record { profile = 1; rate = 4; channels = 2 }
 
+-- a unit of H.264 after a start code
 abbrev pub start_code : List ℕ → List ℕ
 start_code unit = 0 ∷ 0 ∷ 0 ∷ 1 ∷ unit
 
+-- the parameter sets of `avc`, each after a start code
 abbrev pub sets : List ℕ
 sets = start_code (0x67 ∷ 0x42 ∷ []) ++ start_code (0x68 ∷ 0xCE ∷ [])
 
@@ -117,26 +121,31 @@ pub record AreCoded : Type 0 where
 
 -- ---- records
 
--- a cue point with these children
+-- a CuePoint with these children
 abbrev pub point : List Node → Node
 point children = master 0xBB 0 (nodes_of children)
 
+-- a CueTrackPositions with these children
 abbrev pub place : List Node → Node
 place children = master 0xB7 0 (nodes_of children)
 
+-- a Cues with these points
 abbrev pub cues : List Node → Node
 cues points = master 0x1C53BB6B 0 (nodes_of points)
 
+-- a CueTrackPositions of this track, in a Cluster at 318 and at 3 in the Cluster
 abbrev pub place_of : ℕ → Node
 place_of track = place (leaf 0xF7 0 (track ∷ []) ∷ leaf 0xF1 0 (1 ∷ 0x3E ∷ []) ∷ leaf 0xF0 0 (3 ∷ []) ∷ [])
 
--- an atom with these children; below, Chapters with editions of atoms
+-- a ChapterAtom with these children
 abbrev pub atom : List Node → Node
 atom children = master 0xB6 0 (nodes_of children)
 
+-- a ChapterDisplay with this name
 abbrev pub name : List ℕ → Node
 name text = master 0x80 0 (nodes_of (leaf 0x85 0 text ∷ []))
 
+-- a Chapters with these editions, each a list of atoms
 abbrev pub chapters : List (List Node) → Option Node
 chapters editions = Some (master 0x1043A770 0 (nodes_of (map (λ atoms. master 0x45B9 0 (nodes_of atoms)) editions)))
 

@@ -19,9 +19,11 @@ use Rattle.mkv_info.specs.ToldTracks.{dimensions_of, track_value}
 abbrev pub ebml : ℕ → List ℕ
 ebml octet = 0x1A ∷ 0x45 ∷ 0xDF ∷ 0xA3 ∷ 0x8B ∷ 0x42 ∷ 0x82 ∷ 0x88 ∷ octet ∷ codes "atroska"
 
+-- a Segment with this body
 abbrev pub segment : List ℕ → List ℕ
 segment body = 0x18 ∷ 0x53 ∷ 0x80 ∷ 0x67 ∷ (0x80 + length body) ∷ body
 
+-- a Matroska file whose Segment has this body
 abbrev pub file : List ℕ → List ℕ
 file body = ebml 0x6D ++ segment body
 
@@ -31,12 +33,13 @@ tracks first number =
     first ∷ 0x54 ∷ 0xAE ∷ 0x6B ∷ 0x94 ∷ 0xAE ∷ 0x92 ∷ 0xD7 ∷ 0x81 ∷ number ∷
     0x73 ∷ 0xC5 ∷ 0x81 ∷ 5 ∷ 0x83 ∷ 0x81 ∷ 2 ∷ 0x86 ∷ 0x86 ∷ codes "A_OPUS"
 
--- two blocks after a Timestamp; below, a Cluster of them
+-- a Timestamp and two blocks of track 1
 abbrev pub blocks : List ℕ
 blocks =
     0xE7 ∷ 0x81 ∷ 0 ∷ 0xA3 ∷ 0x85 ∷ 0x81 ∷ 0 ∷ 0 ∷ 0x80 ∷ 0xAA ∷
     0xA3 ∷ 0x85 ∷ 0x81 ∷ 0 ∷ 0x14 ∷ 0x80 ∷ 0xBB ∷ []
 
+-- a Cluster of two blocks
 abbrev pub cluster : List ℕ
 cluster = 0x1F ∷ 0x43 ∷ 0xB6 ∷ 0x75 ∷ 0x91 ∷ blocks
 
@@ -60,16 +63,19 @@ endless =
 
 -- ---- listed files
 
--- a line for the EBML header; below, one for the track
+-- the line of the EBML header
 abbrev pub header_line : List ℕ
 header_line = codes "EBML at 0 size 11"
 
+-- the line of the track
 abbrev pub track_line : List ℕ
 track_line = codes "track 0: audio A_OPUS number 1 uid 5 language eng"
 
+-- `info` prints these lines for a file with the content `bytes`.
 abbrev pub lists : List ℕ → List (List ℕ) → Type 0
 lists bytes lines = listed_verdict (codes "s1.mkv") bytes ≡ done lines
 
+-- `info` refuses a file with the content `bytes` with this line.
 abbrev pub refuses : List ℕ → List ℕ → Type 0
 refuses bytes line = listed_verdict (codes "s1.mkv") bytes ≡ refused line
 
@@ -99,6 +105,7 @@ pub record AreListed : Type 0 where
 
 -- ---- files as JSON
 
+-- the JSON of a file with one track
 abbrev pub identified_as : List ℕ
 identified_as =
     codes "{\"attachments\":[],\"chapters\":[],\"container\":{\"properties\":{\"timestamp_scale\":1000000}," ++
@@ -108,24 +115,29 @@ identified_as =
     codes "\"default_track\":true,\"enabled_track\":true,\"forced_track\":false,\"language\":\"eng\"," ++
     codes "\"number\":1,\"uid\":5},\"type\":\"audio\"}]}"
 
--- an Info; below, an entry with a Video, an edition of one atom with another inside, and a Tag that names this track
+-- an Info with these children
 abbrev pub info : List Node → Option Node
 info children = Some (master 0x1549A966 0 (nodes_of children))
 
+-- a TrackEntry with a Video with these children
 abbrev pub video : List Node → Node
 video pixels = master 0xAE 0 (nodes_of (master 0xE0 0 (nodes_of pixels) ∷ []))
 
+-- an EditionEntry of one ChapterAtom with another one inside
 abbrev pub edition : Node
 edition = master 0x45B9 0 (nodes_of (master 0xB6 0 (nodes_of (master 0xB6 0 (nodes_of []) ∷ [])) ∷ []))
 
+-- a Chapters with two such editions
 abbrev pub two_editions : Option Node
 two_editions = Some (master 0x1043A770 0 (nodes_of (edition ∷ edition ∷ [])))
 
+-- a Tag for the track with this TrackUID, with a SimpleTag that contains another one
 abbrev pub tag : ℕ → Node
 tag uid =
     master 0x7373 0 (nodes_of (master 0x63C0 0 (nodes_of (leaf 0x63C5 0 (uid ∷ []) ∷ [])) ∷
     master 0x67C8 0 (nodes_of (master 0x67C8 0 (nodes_of []) ∷ [])) ∷ []))
 
+-- a Tags with a Tag for each TrackUID in `uids`
 abbrev pub tags : List ℕ → Option Node
 tags uids = Some (master 0x1254C367 0 (nodes_of (map tag uids)))
 

@@ -30,7 +30,7 @@ entry uid type codec = master 0xAE 0 (nodes_of (
     leaf 0xD7 0 (3 ∷ []) ∷ leaf 0x73C5 0 (uid ∷ []) ∷ leaf 0x83 0 (type ∷ []) ∷
     leaf 0x6D80 0 [] ∷ leaf 0x86 0 codec ∷ []))
 
--- the selected track, with a delay, and with the option for its cue points
+-- a selected track with this TrackUID, TrackType and CodecID, with a delay, and with the option for its cue points
 abbrev pub taken : ℕ → ℕ → List ℕ → ℤ → Option CueWord → TakenTrack
 taken uid type codec later word = record {
   id = 0;
@@ -52,12 +52,15 @@ taken uid type codec later word = record {
   cues = word;
 }
 
+-- a selected video track without options
 abbrev pub video : ℕ → TakenTrack
 video uid = taken uid 1 (codes "V_VP8") (pos 0) None
 
+-- a selected audio track without options
 abbrev pub audio : ℕ → TakenTrack
 audio uid = taken uid 2 (codes "A_OPUS") (pos 0) None
 
+-- a selected subtitle track without options
 abbrev pub subtitles : ℕ → TakenTrack
 subtitles uid = taken uid 17 (codes "S_TEXT/UTF8") (pos 0) None
 
@@ -77,13 +80,15 @@ input entries title begin tracks = record {
   times = [];
 }
 
--- an input with these tracks; below, one that is appended
+-- an input with these tracks
 abbrev pub first : List TakenTrack → InputRead
 first tracks = input [] [] None tracks
 
+-- an appended input with these tracks
 abbrev pub behind : List TakenTrack → InputRead
 behind tracks = input [] [] (Some 0) tracks
 
+-- an input with this title and no track
 abbrev pub titled : List ℕ → InputRead
 titled title = input [] title None []
 
@@ -123,6 +128,7 @@ example_text = record { start = 1000000000; duration = 1500000000; text = codes 
 abbrev pub text : ℤ → Option ℕ → Source
 text later begin = ([], input (example_text ∷ []) [] begin (taken 0 17 (codes "S_TEXT/UTF8") later None ∷ []))
 
+-- the append offsets of inputs, or None for inputs that aren't appended
 abbrev pub begins : List Source → List (Option ℕ)
 begins sources = map (λ (s : Source). s.1.shift) (in_place sources)
 

@@ -51,7 +51,7 @@ then-some : {A B : Type 0} (Q : A → Type 0) (P : B → Type 0) (o : Option A) 
 then-some Q P None f is more = tt
 then-some Q P (Some x) f is more = more x is
 
--- The same, if the fact holds for any value.
+-- A fact about every value gives a fact about its result.
 then-any : {A B : Type 0} (P : B → Type 0) (o : Option A) (f : A → Option B) → ((x : A) → IfSome (f x) P) → IfSome (option_and_then f o) P
 then-any P None f more = tt
 then-any P (Some x) f more = more x

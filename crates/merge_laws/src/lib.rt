@@ -5,7 +5,7 @@
 
 ghost use Rattle.merge_laws.specs.Laws.{LayoutsHoldOutputs, MergedDocumentsAreSound, SelectedBlocksAreSound, SourcesAreRead, WholeMergesAreOne};
 
-/// Inputs of a merge, as they are read, can be written.
+/// Law: the sources of a merge, as they are read, consist of bytes, and their tracks can be written.
 pub fn sources_are_read()
     ensures { SourcesAreRead }
 {}

@@ -65,7 +65,7 @@ below-quotient x s least =
 tick-small : (s t : ℕ) → LEAST_SCALE ≤ s → t < 2 ^ 65 → tick_of s t < 2 ^ 61
 tick-small s t least low = let q = quotient t s least in omega arith
 
--- The same for a time that may be before the start.
+-- The tick of a time that may be before the start is small in size.
 near-small : (s : ℕ) (z : ℤ) → LEAST_SCALE ≤ s → nat_abs z < 2 ^ 65 → nat_abs (tick_near s z) < 2 ^ 61
 near-small s (pos n) least low = tick-small s n least low
 near-small s (negsuc n) least low = split (negsuc n +ℤ pos (s / 2)) refl

@@ -25,7 +25,7 @@ half s some = omega arith
 tick-whole : (s n : ℕ) → 1 ≤ s → tick_of s (n * s) ≡ n
 tick-whole s n some = div-mul-add n s (s / 2) (half s some)
 
--- The same for ticks that may be before the start.
+-- The tick nearest to a whole number of ticks, which may be before the start, is this number.
 near-whole : (s : ℕ) (z : ℤ) → 1 ≤ s → tick_near s (z *ℤ pos s) ≡ z
 near-whole s (pos n) some = ap (λ k. pos k) (tick-whole s n some)
 near-whole s (negsuc n) some =

@@ -39,6 +39,7 @@ lanes_read scale number (suc n) events =
 abbrev pub block_read : ℕ → Block → List OutputBlock
 block_read scale b = map (in_lane b.track) (placed scale as_it_stands b)
 
+-- the blocks of `events` as blocks of an output with `scale` nanoseconds per tick
 abbrev pub blocks_read : ℕ → List Event → List OutputBlock
 blocks_read scale events = flat_map (block_read scale) (blocks_of events)
 

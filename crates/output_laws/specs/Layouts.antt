@@ -10,7 +10,7 @@ use Rattle.output_laws.specs.Reading.{IsReadAs}
 abbrev pub LayoutsAreRead : Type 0
 LayoutsAreRead = (d : Document) → IsSoundDocument d → IsReadAs d (layout d)
 
--- the bytes after the area
+-- the bytes of a document after the area for its SeekHead
 abbrev pub behind_area : Document → List ℕ
 behind_area d = joined (elements_behind_area d)
 

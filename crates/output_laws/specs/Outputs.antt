@@ -40,6 +40,7 @@ pub record SegmentIsRead (scale : ℕ) (bytes : List ℕ) (s : OutputSegment) (p
   pub unbroken : (segment_run bytes (header_in_place p (segment_element s))).damage ≡ None
   pub events : events_of (without_limits scale) bytes (header_in_place p (segment_element s)) ≡ block_events (segment_blocks scale p s)
 
+-- A valid Segment `s` at the offset `p` of the content `bytes` is read as it was written.
 abbrev pub SegmentsAreRead : Type 0
 SegmentsAreRead =
     (scale : ℕ) (bytes : List ℕ) (s : OutputSegment) (p : ℕ) → IsSoundSegment s → HoldsAt bytes p (octets_of (segment_element s))

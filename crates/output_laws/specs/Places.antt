@@ -73,6 +73,7 @@ pub record OutputSegment : Type 0 where
   pub clusters : List OutputCluster
   pub behind : List Element
 
+-- the children of a Segment: Elements, then Clusters, then Elements
 abbrev pub segment_elements : OutputSegment → List Element
 segment_elements s = s.front ++ (clusters_elements s.clusters ++ s.behind)
 

@@ -33,6 +33,7 @@ segment_of_document d = record {
   behind = back_elements d;
 }
 
+-- the header of the EBML header of a document
 abbrev pub header_of_ebml : Document → Header
 header_of_ebml d = header_in_place 0 (ebml_element d.front.webm)
 
@@ -40,10 +41,11 @@ header_of_ebml d = header_in_place 0 (ebml_element d.front.webm)
 abbrev pub segment_place : Document → ℕ
 segment_place d = length (octets_of (ebml_element d.front.webm))
 
+-- the header of the Segment of a document
 abbrev pub header_of_segment : Document → Header
 header_of_segment d = header_in_place (segment_place d) (segment_element (segment_of_document d))
 
--- the Elements of level 1
+-- the headers of level 1 of a document, at their places in its bytes
 abbrev pub level_1_of : Document → List Header
 level_1_of d = headers_in_place (header_of_segment d).body (segment_elements (segment_of_document d))
 

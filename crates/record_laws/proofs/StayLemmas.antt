@@ -20,7 +20,7 @@ use Rattle.record_laws.proofs.NumberLemmas.{count-numbered, numbered-atom, numbe
 abbrev pub Stays : List ℕ → ℕ → Node → Type 0
 Stays uids k n = (p : ℕ) → octets (numbered uids k (placed p n)) ≡ octets n
 
--- The same for Elements in sequence.
+-- Elements in sequence stay: each is written as it was after it is read.
 abbrev pub AllStay : List ℕ → ℕ → List Node → Type 0
 AllStay uids k [] = ⊤
 AllStay uids k (n ∷ ns) = Stays uids k n × AllStay uids (k + length (atoms_at n)) ns

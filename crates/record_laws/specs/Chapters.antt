@@ -8,10 +8,11 @@ use Rattle.record_changes.specs.Identifiers.{renumbered}
 use Rattle.record_changes.specs.Atoms.{chapter_uids, edition_uids, editions_of}
 use Rattle.record_changes.specs.ChapterIdentifiers.{with_identifiers}
 
--- the EditionUIDs that a merge gives to chapters; `chapter_numbers` are the ChapterUIDs
+-- the EditionUIDs that a merge gives to the editions of Chapters
 abbrev pub edition_numbers : Node → List ℕ
 edition_numbers chapters = renumbered (edition_uids chapters)
 
+-- the ChapterUIDs that a merge gives to the atoms of Chapters
 abbrev pub chapter_numbers : Node → List ℕ
 chapter_numbers chapters = renumbered (chapter_uids chapters)
 

@@ -24,6 +24,7 @@ with_numbers [] files = []
 with_numbers (uid ∷ uids) [] = []
 with_numbers (uid ∷ uids) (file ∷ files) = set_in (uint_leaf FILE_UID uid) file ∷ with_numbers uids files
 
+-- attached files with the FileUIDs that a merge gives to them
 abbrev pub settled : List Node → List Node
 settled files = with_numbers (file_numbers files) files
 

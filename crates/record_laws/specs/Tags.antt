@@ -11,7 +11,7 @@ use Rattle.record_changes.specs.declared.uid_map.TagKeep.{TagKeep}
 abbrev pub keep_all : TagKeep
 keep_all = record { tracks = true; global = true }
 
--- the targets in all Tags
+-- all targets in the Tags of a record
 abbrev pub targets_of : Node → List Node
 targets_of tags = flat_map (λ (tag : Node). flat_map targets_in (children tag)) (children tags)
 
@@ -19,7 +19,7 @@ targets_of tags = flat_map (λ (tag : Node). flat_map targets_in (children tag))
 abbrev pub KeepsTarget : (ℕ → ℕ → Option ℕ) → Node → Type 0
 KeepsTarget numbers target = number_of numbers target ≡ Some (integer_of target)
 
--- The numbers have 64 bits.
+-- The numbers that a map gives to targets have 64 bits.
 abbrev pub AreSmall : (ℕ → ℕ → Option ℕ) → Type 0
 AreSmall numbers = (id uid : ℕ) → IfSome (numbers id uid) (λ n. n < 2 ^ 64)
 

@@ -97,7 +97,7 @@ mutual
     | inr other ↦ rw other (ap₂ (λ (a b : ℕ). a + b) (count-placed p n) (count-placed_all (p + length (octets n)) ns))
   ]
 
--- The same at any two places.
+-- The number of nodes of a tree that is read back at any two places is the number of Elements that are written.
 count-placed_in : (offset base : ℕ) (n : Node) → count (placed_in offset base n) ≡ kept n
 count-placed_in offset base (leaf id at body) = refl
 count-placed_in offset base (master id at kids) = ap (λ (k : ℕ). k + 1) (count-placed_all base kids)

@@ -18,8 +18,8 @@ pub record HaveFiles (sources : List Source) : Type 0 where
   pub filled : All IsFilled (attachments_of sources)
   pub small : All (λ n. n < 2 ^ 64) (file_uids (reads_of sources))
 
--- Each attached file has one FileUID, and these are settled. Files that are read from a content are written as they were if it is merged by
--- itself.
+-- Each attached file of a merge has one FileUID, which a further merge keeps. Files that are read from an output are written as they were if it
+-- is merged by itself.
 pub record AttachedFilesStay : Type 0 where
   pub numbered : (sources : List Source) → HaveFiles sources → All IsNumbered (attachments_of sources)
   pub uids : (sources : List Source) → HaveFiles sources → map (uint_in FILE_UID) (attachments_of sources) ≡ file_uids (reads_of sources)

@@ -29,6 +29,6 @@ pub record AreAlikeDocuments (d e : Document) : Type 0 where
   pub chapters : MayBeAlike d.chapters e.chapters
   pub tags : MayBeAlike d.tags e.tags
 
--- Such documents have the same bytes.
+-- Documents whose parts are written alike have the same bytes.
 abbrev pub AlikeDocumentsAreOne : Type 0
 AlikeDocumentsAreOne = (d e : Document) → AreAlikeDocuments d e → layout d ≡ layout e

@@ -41,7 +41,8 @@ LimitsLeaveBlocks =
     → AreShortBlocks bytes segment → All IsReadable (blocks_of (events_of (without_limits scale) bytes segment))
     → events_of (with_limits scale) bytes segment ≡ events_of (without_limits scale) bytes segment
 
--- The same for an output, whose Info can then be read with limits, too.
+-- Limits don't change the blocks of an output whose Info keeps a reader's limits. Its blocks must be short, and a reader must be able to read
+-- each.
 abbrev pub OutputBlocksAreRead : Type 0
 OutputBlocksAreRead =
     (d : Document) → IsSoundDocument d → KeepsReaderLimits d.front.info → AreShortBlocks (layout d) (header_of_segment d) → All IsReadable (blocks_of_document d)

@@ -44,7 +44,8 @@ pub record IsWrittenAgain (world : List ℕ → Option (List ℕ)) (out name byt
   pub outputs : map laid_out (outputs_of (plain_merge out name) sources) ≡ record { name = out; content = bytes } ∷ []
   pub done : (merge_verdict world (plain_merge out name)).status ≡ Done
 
--- The output of a merge that keeps a reader's limits is written again, under any name, if nothing refuses the merge before reading.
+-- `bytes` is the output of a merge with default options and keeps a reader's limits. A merge of the file `name` that has this content, without
+-- options and to `out`, writes it again byte for byte. Nothing may refuse this merge before it reads the file.
 abbrev pub OutputsAreWrittenAgain : Type 0
 OutputsAreWrittenAgain =
     (world : List ℕ → Option (List ℕ)) (out name bytes : List ℕ) → CanBegin world (plain_merge out name) bytes → IsMergeOutput bytes → IsWithinLimits bytes
@@ -60,15 +61,15 @@ MergedFilesAreOutputs =
 
 -- ---- a run
 
--- the fact that a run writes an output again. Its command line merges, without other files and options, a file that a merge wrote and that keeps
--- a reader's limits. Nothing refuses the merge before reading, the names are visible to the proof, and all contents are bytes.
+-- The statement `Stands` holds for a run that merges, without other files and options, a file that is the output of a merge. This file keeps a
+-- reader's limits, and nothing refuses the merge before reading. The names are visible to the proof, and all contents are bytes.
 abbrev pub WhereMergedAgain : Names → List (List ℕ) → ((List ℕ → Option (List ℕ)) → List ℕ → List ℕ → Type 0) → Type 0
 WhereMergedAgain old line Stands =
     IfVisible old (λ world. HoldsOctets world → (out name bytes : List ℕ) → command line ≡ Ok (Merge (plain_merge out name)) → CanBegin world (plain_merge out name) bytes
     → IsMergeOutput bytes → IsWithinLimits bytes → Stands world out bytes)
 
--- Such a run isn't refused and has no warning. If it ends by itself, its output has the content of the file, byte for byte, and no other name has
--- changed.
+-- A run that merges the output of a merge by itself isn't refused and has no warning. If it ends by itself, its output has the content of the
+-- file, byte for byte, and no other name has changed.
 abbrev pub MergesAgain : Names → List (List ℕ) → Names → Status → Type 0
 MergesAgain old line new Done = WhereMergedAgain old line (λ world out bytes. new ≡ with_content (Some world) out bytes)
 MergesAgain old line new Warned = WhereMergedAgain old line (λ world out bytes. ⊥)

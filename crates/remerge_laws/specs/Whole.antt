@@ -17,7 +17,7 @@ whole_document words sources =
     document_of (limits_of words) (rules_given (reads_of sources)) (front_of words sources) (chapters_of (reads_of sources)) (tags_of (reads_of sources))
     (blocks_of words sources)
 
--- Such a merge has this one output.
+-- A merge that isn't split, and whose output gets no identifier, has one output, with all blocks and the document `whole_document`.
 abbrev pub WholeMergesHaveOneDocument : Type 0
 WholeMergesHaveOneDocument =
     (words : MergeWords) (sources : List Source) → words.split ≡ None → words.uuids ≡ []

@@ -114,8 +114,9 @@ pub fn merged_files_are_outputs()
     whole_merges_have_one_document();
 }
 
-/// The output of a merge with default options is written again as it was, byte for byte, if it is merged by itself
-/// and without options.
+/// Law: the output of a merge with default options is written again byte for byte if it is merged by itself and
+/// without options. Its records must keep a reader's limits, and nothing may refuse the second merge before it reads
+/// the file. `run` cites this law.
 pub fn outputs_are_written_again()
     ensures { OutputsAreWrittenAgain }
 {

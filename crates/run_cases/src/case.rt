@@ -47,6 +47,7 @@ pub struct Case {
 }
 
 impl Case {
+    /// Returns a case without a name, which expects the status 0 and no line.
     pub fn new(alloc: Global) -> Case {
         Case {
             name: String::new(alloc),
@@ -72,6 +73,7 @@ impl Case {
         !self.disk.is_empty()
     }
 
+    /// Checks whether the case expects an output with the name `name`.
     pub fn is_output(&self, name: &str) -> bool {
         self.outputs
             .iter()

@@ -26,10 +26,12 @@ fn holds(files: &MemFiles, name: &str, octets: &Option<Vec<u8>>) -> bool {
 }
 
 impl Output {
+    /// Checks whether the file has the bytes of the complete output.
     pub fn is_whole(&self, files: &MemFiles) -> bool {
         files.bytes(self.name.as_str()) == Some(self.whole.as_slice())
     }
 
+    /// Checks whether the file is as it was before the run.
     pub fn is_untouched(&self, files: &MemFiles) -> bool {
         holds(files, self.name.as_str(), &self.before)
     }
@@ -56,10 +58,12 @@ impl Output {
     }
 }
 
+/// Checks whether all files have the bytes of the complete outputs.
 pub fn are_whole(outputs: &[Output], files: &MemFiles) -> bool {
     outputs.iter().all(|output| output.is_whole(files))
 }
 
+/// Checks whether all files are as they were before the run.
 pub fn are_untouched(outputs: &[Output], files: &MemFiles) -> bool {
     outputs.iter().all(|output| output.is_untouched(files))
 }

@@ -47,6 +47,7 @@ pub struct Reading {
 }
 
 impl Reading {
+    /// Returns the state before the first line.
     pub fn new(alloc: Global) -> Reading {
         Reading {
             alloc,

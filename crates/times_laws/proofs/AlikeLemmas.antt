@@ -32,7 +32,7 @@ all-same (s ∷ ss) = (record { bare = refl; given = λ shift. refl }, all-same 
 
 -- ---- sources with append offsets
 
--- The same for sources that begin at the time `time`.
+-- Alike sources that begin at the time `time` give the same blocks.
 begun-alike : (time : ℕ) (new old : Source) → IsAlike new old → given_of (begun_at time new) ≡ given_of (begun_at time old)
 begun-alike time new old is =
     ap (λ (s : Source). map (given_from new.1.times (append_offset (begun_at time s).1) new.1.blocks new.0) new.1.taken) is.bare ∙ is.given (append_offset (begun_at time old).1)

@@ -48,7 +48,7 @@ module _ (name out : List ℕ) (id : ℕ) (content : List ℕ) where
   abbrev Writes : Verdict → Type 0
   Writes v = v.outputs ≡ at_once (output out content ∷ [])
 
-  -- The same for a file that was read.
+  -- The frames taken from a file that was read have only this output.
   abbrev Takes : List ℕ → FileRead → Type 0
   Takes bytes file = at_once (frames_taken name (times_job id out) file (file_events true bytes file.segment)).outputs ≡ at_once (output out content ∷ [])
 

@@ -100,7 +100,7 @@ tracks-said bytes segment r is =
 abbrev pub StandsAt : List Track → TakenTrack → Type 0
 StandsAt all t = slice_get all t.id ≡ Some t.track
 
--- The same for the tracks after the first `k`.
+-- The selected tracks after the first `k` are at the places of their IDs.
 stand-from : (words : FileWords) (all : List Track) (k : ℕ) (ts : List Track) → ((j : ℕ) → slice_get all (k + j) ≡ slice_get ts j) → All (StandsAt all) (taken_from words k ts)
 stand-from words all k [] are = All-nil (StandsAt all)
 stand-from words all k (t ∷ ts) are =

@@ -30,5 +30,6 @@ pub record ChangesNothing (o : TrackOutput) (blocks : List Block) : Type 0 where
   pub read : listing (content_of o blocks) ≡ Ok times
   pub same : timed (Some times) 0 (of_track o.track blocks) ≡ of_track o.track blocks
 
+-- The timestamps that are extracted from a track are a timestamp file, with which each block of the track keeps its timestamp.
 abbrev pub OwnTimesChangeNothing : Type 0
 OwnTimesChangeNothing = (o : TrackOutput) (blocks : List Block) → IsOfTimes o → All IsTimedBlock blocks → ChangesNothing o blocks

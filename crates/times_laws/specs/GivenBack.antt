@@ -60,11 +60,11 @@ with_input number new words = record words { files = set_input number new words.
 
 -- ---- the file
 
--- `extract FILE timestamps_v2 ID:OUT`
+-- the job of `extract FILE timestamps_v2 ID:OUT`
 abbrev pub times_job : ℕ → List ℕ → Job
 times_job id out = Tracks Times (record { id = id; name = out } ∷ [])
 
--- The command writes the content `content`.
+-- `extract FILE timestamps_v2 ID:OUT`, for the track `id` of the file `file` in `world`, writes `content` to some output.
 abbrev pub WritesTimes : World → List ℕ → ℕ → List ℕ → Type 0
 WritesTimes world file id content = (out : List ℕ) × ((extract_verdict world file (times_job id out)).outputs ≡ at_once (output out content ∷ []))
 

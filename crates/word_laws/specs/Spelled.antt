@@ -35,7 +35,7 @@ verb_word verb.Version = codes "--version"
 
 -- ---- extract
 
--- `ID:OUT`
+-- the argument `ID:OUT` of a target
 abbrev pub target_word : Target → List ℕ
 target_word t = with_number t.id t.name
 
@@ -59,7 +59,7 @@ job_words (jobs.Chapters name) = codes "chapters" ∷ codes "--simple" ∷ name 
 abbrev pub type_letter : ℕ → List ℕ
 type_letter kind = if kind == VIDEO_TRACK then codes "v" else if kind == AUDIO_TRACK then codes "a" else codes "s"
 
--- `info`, or a track
+-- the argument that names a section: `info`, or a track
 abbrev pub section_word : Selector → List ℕ
 section_word selector.Info = codes "info"
 section_word (selector.Nth n) = codes "track:" ++ decimal n
@@ -67,7 +67,7 @@ section_word (selector.Typed kind n) = codes "track:" ++ (type_letter kind ++ de
 section_word (selector.Uid uid) = codes "track:=" ++ decimal uid
 section_word (selector.Number number) = codes "track:@" ++ decimal number
 
--- the option of an edit
+-- the option of an edit, by its kind
 abbrev pub change_word : Change → List ℕ
 change_word change.Set = codes "--set"
 change_word change.Add = codes "--add"

@@ -28,14 +28,14 @@ length_word blocks span =
     if blocks == 65535 then option_map (λ t. decimal (t / 1000000) ++ codes "ms") (unusual 5000000000 span)
     else Some (decimal blocks)
 
--- the selected tracks of one type
+-- the arguments that select tracks of one type
 abbrev pub select_words : List ℕ → List ℕ → Select → List (List ℕ)
 select_words taken none select.All = []
 select_words taken none (select.These ids) = taken ∷ numbers_word ids ∷ []
 select_words taken none (select.AllBut ids) = taken ∷ (codes "!" ++ numbers_word ids) ∷ []
 select_words taken none select.Off = none ∷ []
 
--- an option for each track
+-- the arguments of an option that is given for each track in a list
 abbrev pub for_tracks : {X : Type 0} → List ℕ → (X → List ℕ) → List (ℕ × X) → List (List ℕ)
 for_tracks {X} option word list = flat_map (λ (p : ℕ × X). option ∷ with_number p.0 (word p.1) ∷ []) list
 

@@ -42,7 +42,7 @@ abbrev pub end_word : Option ℕ → List ℕ
 end_word None = []
 end_word (Some t) = time_word t
 
--- a period of time
+-- a time span as an argument has it
 abbrev pub span_word : SpanWords → List ℕ
 span_word span = time_word span.start ++ (codes "-" ++ end_word span.end)
 
@@ -78,7 +78,7 @@ abbrev pub delay_word : ℤ → List ℕ
 delay_word (pos n) = decimal (n / 1000000)
 delay_word earlier = codes "-" ++ decimal (nat_abs earlier / 1000000)
 
--- `1` or `0`
+-- a flag as an argument has it: `1` or `0`
 abbrev pub flag_word : Bool → List ℕ
 flag_word flag = if flag then codes "1" else codes "0"
 
